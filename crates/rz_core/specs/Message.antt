@@ -1,0 +1,58 @@
+-- The message line of a fault.
+use Rattle.std.specs.Prelude.{◌≡◌, ℕ, ℤ, ◌<◌, ◌==◌, if◌then◌else◌, List, [], ◌∷◌, ◌++◌, length, get_or, codes, IfSome, unwrap_or}
+use Rattle.std.specs.declared.option.Option.{Option}
+use Rattle.std.specs.declared.option.Option.TheVariants.{Some, None}
+use Rattle.std.specs.Fmt.{decimal, signed_decimal}
+use Rattle.rz_core.specs.Numbers.{be}
+use Rattle.rz_core.specs.Quoted.{quoted}
+use Rattle.rz_core.specs.declared.fault.Fault.{Fault}
+use Rattle.rz_core.specs.declared.fault.Mark.{Mark}
+use Rattle.rz_core.specs.declared.fault.Kept.{Kept}
+use Rattle.rz_core.specs.declared.fault.Kept.TheVariants as kept
+
+-- a number in decimal
+unfoldable pub decimal_of : ℕ → List ℕ
+decimal_of number = decimal number
+
+-- a number in decimal, with a minus sign where it is negative
+unfoldable pub signed_of : ℤ → List ℕ
+signed_of number = signed_decimal number
+
+-- the table of faults: each number and its name
+abbrev pub fault_name : ℕ → Option (List ℕ)
+fault_name number =
+    if number == 101 then Some (codes "MissingFile")
+    else if number == 201 then Some (codes "Syntax")
+    else if number == 302 then Some (codes "DataFull")
+    else if number == 303 then Some (codes "MapFull")
+    else if number == 304 then Some (codes "NamesFull")
+    else None
+
+-- the mark's file is one of these files
+abbrev pub IsMarked : Option Mark → List (List ℕ) → Type 0
+IsMarked mark files = IfSome mark (λ mark. mark.file < length files)
+
+-- the file and the line, where there is a mark
+abbrev pub place_text : List (List ℕ) → Option Mark → List ℕ
+place_text files None = []
+place_text files (Some mark) = get_or files mark.file [] ++ codes ":" ++ decimal_of mark.line ++ codes ": "
+
+-- a resource type as a literal
+abbrev pub literal_text : ℕ → List ℕ
+literal_text code = quoted 39 (be 4 code)
+
+-- what a fault keeps, behind a colon
+abbrev pub kept_text : Kept → List ℕ
+kept_text kept.Nothing = []
+kept_text (kept.Number number) = codes ": " ++ signed_of number
+kept_text (kept.Pair first second) = codes ": " ++ signed_of first ++ codes " " ++ signed_of second
+kept_text (kept.Check check stored computed) =
+    codes ": " ++ decimal_of check ++ codes " " ++ decimal_of stored ++ codes " " ++ decimal_of computed
+kept_text (kept.Name name) = codes ": " ++ quoted 34 name
+kept_text (kept.Key kind id) = codes ": " ++ literal_text kind.code ++ codes " " ++ signed_of id
+
+-- the whole line
+unfoldable pub fault_line : List (List ℕ) → Fault → List ℕ
+fault_line files fault =
+    codes "rezkit: " ++ place_text files fault.mark ++ codes "error " ++ decimal_of fault.number ++ codes " "
+    ++ unwrap_or (fault_name fault.number) [] ++ kept_text fault.kept ++ codes "\n"

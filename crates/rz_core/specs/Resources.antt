@@ -1,0 +1,27 @@
+-- Lists of resources and the keys of resources.
+use Rattle.std.specs.Prelude.{◌≡◌, ℕ, ◌^◌, ◌<◌, ◌==◌, ◌&&◌, Bool, false, if◌then◌else◌, List, [], ◌∷◌, ◌++◌, fold}
+use Rattle.std.specs.List.{list_any}
+use Rattle.std.specs.Int.{cast_unsigned, w16}
+use Rattle.rz_core.specs.declared.resource.Resource.{Resource}
+
+-- the 16 bits of a resource's id
+abbrev pub id_bits : Resource → ℕ
+id_bits r = cast_unsigned w16 r.id
+
+-- the two resources have the same type and the same id
+abbrev pub same_key : Resource → Resource → Bool
+same_key a b = (a.kind.code == b.kind.code) && (id_bits a == id_bits b)
+
+-- the pairs of type and id differ, from each other and from those of the resources before
+abbrev pub KeysDiffer : List Resource → List Resource → Type 0
+KeysDiffer before [] = Unit {0}
+KeysDiffer before (r ∷ rs) = (list_any (λ b. same_key b r) before ≡ false) × KeysDiffer (before ++ r ∷ []) rs
+
+-- the list with a resource put into it: in the place of the one that has its type and id, else at the end
+abbrev pub put : List Resource → Resource → List Resource
+put [] r = r ∷ []
+put (x ∷ xs) r = if same_key r x then r ∷ xs else x ∷ put xs r
+
+-- the list after each of these is put into it, in order
+abbrev pub put_all : List Resource → List Resource → List Resource
+put_all list rs = fold put list rs

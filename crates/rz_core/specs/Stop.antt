@@ -1,0 +1,11 @@
+-- What a call answers, against what it is to answer.
+use Rattle.std.specs.Prelude.{◌≡◌, Ok, Err}
+use Rattle.std.specs.declared.result.Result.{Result}
+use Rattle.rz_core.specs.declared.stop.Stop.{Stop}
+use Rattle.rz_core.specs.declared.stop.Stop.TheVariants.{Refused, NoMemory}
+
+-- the call gave exactly this value or exactly this fault, or memory was refused
+abbrev pub Gives : {X F : Type 0} → Result X F → Result X (Stop F) → Type 0
+Gives answer (Ok value) = answer ≡ Ok value
+Gives answer (Err (Refused fault)) = answer ≡ Err fault
+Gives answer (Err NoMemory) = Unit {0}

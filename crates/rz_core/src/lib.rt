@@ -1,0 +1,23 @@
+//! The values that every part of rezkit shares: bytes and lists, resource types, attributes, moments,
+//! faults with their message lines, and the quoted form of bytes.
+#![tactic(auto)]
+
+mod attr;
+mod fault;
+mod file_names;
+mod list;
+mod message;
+mod moment;
+mod quoted;
+mod resource;
+mod stop;
+
+pub use attr::Attr;
+pub use fault::{Fault, Kept, Mark};
+pub use file_names::FileNames;
+pub use list::{Bytes, Listing};
+pub use message::write_fault;
+pub use moment::Moment;
+pub use quoted::write_quoted;
+pub use resource::{OsType, Resource, Resources, Word, Words};
+pub use stop::{NoMemory, Stop};

@@ -1,0 +1,28 @@
+ghost use Rattle.std.specs.Prelude.{◌≡◌, ◌↔◌, IsSome, IfSome};
+ghost use Rattle.rz_core.specs.Moment.{IsInRange};
+
+/// A moment in the years 1904 to 2039, the range of the Macintosh's clock and of the tools' dates.
+#[derive(Clone, Copy, Debug)]
+pub struct Moment {
+    /// Seconds since the first second of 1970 in UTC.
+    pub unix: i64,
+    ghost in_range: { IsInRange unix },
+}
+
+const FIRST: i64 = -2_082_844_800;
+
+const LAST: i64 = 2_208_988_799;
+
+impl Moment {
+    /// The moment so many seconds after the first second of 1970 in UTC. `None` comes exactly outside
+    /// the years 1904 to 2039.
+    pub fn of_unix(seconds: i64) -> Option<Moment>
+        ensures some { IsSome result ↔ IsInRange seconds }
+        ensures unix { IfSome result (λ moment. moment.unix ≡ seconds) }
+    {
+        if seconds < FIRST || seconds > LAST {
+            return None;
+        }
+        Some(Moment { unix: seconds })
+    }
+}

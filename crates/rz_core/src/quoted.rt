@@ -1,0 +1,56 @@
+ghost use Rattle.std.specs.Prelude.{◌≡◌, ◌<◌, ◌++◌, OnOk, OnErr};
+ghost use Rattle.rz_core.specs.Quoted.{quoted, shown_byte, hex_digit};
+
+use crate::{Bytes, NoMemory};
+
+/// Appends the bytes between two such quote marks, as literals and texts are shown: bytes from 20 to 7E
+/// as they are, with a backslash before a backslash and before the quote mark, and every other byte as
+/// `\0x` and two upper-case hex digits. The quote is `"` or `'`. Where memory is refused `into` is
+/// unchanged.
+pub fn write_quoted(bytes: &[u8], quote: u8, into: &mut Bytes) -> Result<(), NoMemory>
+    ensures ok { OnOk result (into.new ≡ into.old ++ quoted quote bytes.now) }
+    ensures err { OnErr result (into.new ≡ into.old) }
+{
+    let mut text = Bytes::new(into.allocator());
+    append_quoted(bytes, quote, &mut text)?;
+    into.append(text.as_slice())?;
+    Ok(())
+}
+
+fn append_quoted(bytes: &[u8], quote: u8, into: &mut Bytes) -> Result<(), NoMemory>
+    ensures { OnOk result (into.new ≡ into.old ++ quoted quote bytes.now) }
+{
+    into.push(quote)?;
+    for &byte in bytes {
+        append_byte(byte, quote, into)?;
+    }
+    into.push(quote)?;
+    Ok(())
+}
+
+fn append_byte(byte: u8, quote: u8, into: &mut Bytes) -> Result<(), NoMemory>
+    ensures { OnOk result (into.new ≡ into.old ++ shown_byte quote byte) }
+{
+    if byte < 0x20 || byte > 0x7E {
+        into.append(b"\\0x")?;
+        into.push(hex_digit(byte / 16))?;
+        into.push(hex_digit(byte % 16))?;
+    } else if byte == quote || byte == b'\\' {
+        into.push(b'\\')?;
+        into.push(byte)?;
+    } else {
+        into.push(byte)?;
+    }
+    Ok(())
+}
+
+fn hex_digit(digit: u8) -> u8
+    requires { digit < 16 }
+    ensures { result ≡ hex_digit digit }
+{
+    if digit < 10 {
+        b'0' + digit
+    } else {
+        b'A' + (digit - 10)
+    }
+}

@@ -1,0 +1,43 @@
+ghost use Rattle.std.specs.Prelude.{◌≡◌};
+ghost use Rattle.rz_core.specs.declared.stop.Stop.TheVariants.{NoMemory as no_memory};
+
+use std::alloc::{AllocError, AllocFailed};
+
+/// Memory was refused. It is never merged with another answer.
+#[derive(Clone, Copy, Debug, PartialEq, Eq)]
+pub struct NoMemory;
+
+impl From<AllocError> for NoMemory {
+    fn from(_: AllocError) -> Self {
+        NoMemory
+    }
+}
+
+impl<T: Drop> From<AllocFailed<T>> for NoMemory {
+    fn from(_: AllocFailed<T>) -> Self {
+        NoMemory
+    }
+}
+
+/// Why a call gave no answer: a rule is broken, or memory was refused.
+#[derive(Clone, Copy, Debug, Drop, PartialEq, Eq)]
+pub enum Stop<F> {
+    Refused(F),
+    NoMemory,
+}
+
+impl<F: Drop> From<NoMemory> for Stop<F> {
+    ghost from_gives = { λ _ stop. stop ≡ no_memory };
+
+    fn from(_: NoMemory) -> Self {
+        Stop::NoMemory
+    }
+}
+
+impl<F: Drop> From<AllocError> for Stop<F> {
+    ghost from_gives = { λ _ stop. stop ≡ no_memory };
+
+    fn from(_: AllocError) -> Self {
+        Stop::NoMemory
+    }
+}
