@@ -2,6 +2,7 @@ pub mod formers
 pub mod Stop
 pub mod Lists
 pub mod Numbers
+pub mod Decimal
 pub mod Quoted
 pub mod Message
 pub mod Moment

@@ -1,22 +1,14 @@
 -- The message line of a fault.
-use Rattle.std.specs.Prelude.{◌≡◌, ℕ, ℤ, ◌<◌, ◌==◌, if◌then◌else◌, List, [], ◌∷◌, ◌++◌, length, get_or, codes, IfSome, unwrap_or}
+use Rattle.std.specs.Prelude.{ℕ, ◌<◌, ◌==◌, if◌then◌else◌, List, [], ◌++◌, get_or, codes, IfSome, IsSome, unwrap_or}
 use Rattle.std.specs.declared.option.Option.{Option}
 use Rattle.std.specs.declared.option.Option.TheVariants.{Some, None}
-use Rattle.std.specs.Fmt.{decimal, signed_decimal}
+use Rattle.rz_core.specs.Decimal.{decimal_of, signed_of}
 use Rattle.rz_core.specs.Numbers.{be}
 use Rattle.rz_core.specs.Quoted.{quoted}
 use Rattle.rz_core.specs.declared.fault.Fault.{Fault}
 use Rattle.rz_core.specs.declared.fault.Mark.{Mark}
 use Rattle.rz_core.specs.declared.fault.Kept.{Kept}
 use Rattle.rz_core.specs.declared.fault.Kept.TheVariants as kept
-
--- a number in decimal
-unfoldable pub decimal_of : ℕ → List ℕ
-decimal_of number = decimal number
-
--- a number in decimal, with a minus sign where it is negative
-unfoldable pub signed_of : ℤ → List ℕ
-signed_of number = signed_decimal number
 
 -- the table of faults: each number and its name
 abbrev pub fault_name : ℕ → Option (List ℕ)
@@ -28,9 +20,14 @@ fault_name number =
     else if number == 304 then Some (codes "NamesFull")
     else None
 
--- the mark's file is one of these files
-abbrev pub IsMarked : Option Mark → List (List ℕ) → Type 0
-IsMarked mark files = IfSome mark (λ mark. mark.file < length files)
+-- the mark's file is one of so many files
+abbrev pub IsMarked : ℕ → Option Mark → Type 0
+IsMarked files mark = IfSome mark (λ mark. mark.file < files)
+
+-- a message can name the fault: the table has its number, and its mark is of one of so many files
+pub record IsNameable (files : ℕ) (fault : Fault) : Type 0 where
+  pub number : IsSome (fault_name fault.number)
+  pub place : IsMarked files fault.mark
 
 -- the file and the line, where there is a mark
 abbrev pub place_text : List (List ℕ) → Option Mark → List ℕ

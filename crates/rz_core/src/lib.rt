@@ -3,6 +3,8 @@
 #![tactic(auto)]
 
 mod attr;
+mod decimal;
+mod facts;
 mod fault;
 mod file_names;
 mod list;
@@ -13,11 +15,13 @@ mod resource;
 mod stop;
 
 pub use attr::Attr;
+pub use decimal::{write_decimal, write_signed};
+pub use facts::Facts;
 pub use fault::{Fault, Kept, Mark};
 pub use file_names::FileNames;
 pub use list::{Bytes, Listing};
 pub use message::write_fault;
 pub use moment::Moment;
-pub use quoted::write_quoted;
+pub use quoted::{write_hex, write_quoted, write_shown};
 pub use resource::{OsType, Resource, Resources, Word, Words};
 pub use stop::{NoMemory, Stop};

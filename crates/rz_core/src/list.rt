@@ -32,6 +32,21 @@ impl<T: Drop> Listing<T> {
         }
     }
 
+    /// The list of these items. It takes no memory.
+    pub fn from_vec(items: Vec<T>) -> Listing<T>
+        ensures { result ≡ items.items }
+    {
+        Listing { items }
+    }
+
+    /// The items, given back. It takes no memory.
+    pub fn into_vec(self) -> Vec<T>
+        ensures { result.items ≡ self }
+    {
+        let Listing { items } = self;
+        items
+    }
+
     /// Appends an item. Where memory is refused the list is unchanged, and the item is dropped.
     pub fn push(&mut self, item: T) -> Result<(), NoMemory>
         ensures ok { OnOk result (self.new ≡ self.old ++ item ∷ []) }

@@ -1,16 +1,18 @@
-ghost use Rattle.std.specs.Prelude.{◌≡◌, ◌++◌, IsSome, OnOk, OnErr};
+ghost use Rattle.std.specs.Prelude.{◌≡◌, ◌++◌, length, OnOk, OnErr};
 ghost use Rattle.std.specs.Option.{option_copied};
-ghost use Rattle.rz_core.specs.Message.{decimal_of, signed_of, fault_name, place_text, kept_text, fault_line, literal_text, IsMarked};
+ghost use Rattle.rz_core.specs.Message.{fault_name, place_text, kept_text, fault_line, literal_text, IsMarked, IsNameable};
 
-use crate::{Bytes, Fault, FileNames, Kept, Mark, NoMemory, OsType, write_quoted};
+use crate::{
+    Bytes, Fault, FileNames, Kept, Mark, NoMemory, OsType, write_decimal, write_quoted,
+    write_signed,
+};
 
 /// Appends the message line of a fault: `rezkit: FILE:LINE: error NUMBER NAME: KEPT` and a line end.
 /// `FILE:LINE: ` is absent without a mark, and `: KEPT` where nothing is kept. The mark's file must be a
 /// position of `files`, and the number one that the table of faults has. Where memory is refused `into`
 /// is unchanged.
 pub fn write_fault(fault: &Fault, files: &FileNames, into: &mut Bytes) -> Result<(), NoMemory>
-    requires numbered { IsSome (fault_name fault.now.number) }
-    requires marked { IsMarked fault.now.mark files.now }
+    requires { IsNameable (length files.now) fault.now }
     ensures ok { OnOk result (into.new ≡ into.old ++ fault_line files.now fault.now) }
     ensures err { OnErr result (into.new ≡ into.old) }
 {
@@ -22,14 +24,13 @@ pub fn write_fault(fault: &Fault, files: &FileNames, into: &mut Bytes) -> Result
 
 #[tactic(auto, unfolding(crate::specs::Message::fault_line))]
 fn append_line(fault: &Fault, files: &FileNames, line: &mut Bytes) -> Result<(), NoMemory>
-    requires numbered { IsSome (fault_name fault.now.number) }
-    requires marked { IsMarked fault.now.mark files.now }
+    requires { IsNameable (length files.now) fault.now }
     ensures { OnOk result (line.new ≡ line.old ++ fault_line files.now fault.now) }
 {
     line.append(b"rezkit: ")?;
     append_place(&fault.mark, files, line)?;
     line.append(b"error ")?;
-    append_decimal(u64::from(fault.number), line)?;
+    write_decimal(u64::from(fault.number), line)?;
     line.append(b" ")?;
     line.append(fault_name(fault.number).unwrap())?;
     append_kept(&fault.kept, line)?;
@@ -37,18 +38,14 @@ fn append_line(fault: &Fault, files: &FileNames, line: &mut Bytes) -> Result<(),
     Ok(())
 }
 
-fn append_place(
-    mark: &Option<Mark>,
-    files: &FileNames,
-    line: &mut Bytes,
-) -> Result<(), NoMemory>
-    requires { IsMarked mark.now files.now }
+fn append_place(mark: &Option<Mark>, files: &FileNames, line: &mut Bytes) -> Result<(), NoMemory>
+    requires { IsMarked (length files.now) mark.now }
     ensures { OnOk result (line.new ≡ line.old ++ place_text files.now mark.now) }
 {
     if let Some(mark) = mark {
         line.append(files.at(mark.file).as_bytes())?;
         line.append(b":")?;
-        append_decimal(u64::from(mark.line), line)?;
+        write_decimal(u64::from(mark.line), line)?;
         line.append(b": ")?;
     }
     Ok(())
@@ -62,24 +59,24 @@ fn append_kept(kept: &Kept, line: &mut Bytes) -> Result<(), NoMemory>
     }
     match kept {
         Kept::Nothing => {}
-        Kept::Number(number) => append_signed(*number, line)?,
+        Kept::Number(number) => write_signed(*number, line)?,
         Kept::Pair(first, second) => {
-            append_signed(*first, line)?;
+            write_signed(*first, line)?;
             line.append(b" ")?;
-            append_signed(*second, line)?;
+            write_signed(*second, line)?;
         }
         Kept::Check(check, stored, computed) => {
-            append_decimal(u64::from(*check), line)?;
+            write_decimal(u64::from(*check), line)?;
             line.append(b" ")?;
-            append_decimal(u64::from(*stored), line)?;
+            write_decimal(u64::from(*stored), line)?;
             line.append(b" ")?;
-            append_decimal(u64::from(*computed), line)?;
+            write_decimal(u64::from(*computed), line)?;
         }
         Kept::Name(name) => write_quoted(name.as_slice(), b'"', line)?,
         Kept::Key(kind, id) => {
             append_type(*kind, line)?;
             line.append(b" ")?;
-            append_signed(i64::from(*id), line)?;
+            write_signed(i64::from(*id), line)?;
         }
     }
     Ok(())
@@ -90,24 +87,6 @@ fn append_type(kind: OsType, line: &mut Bytes) -> Result<(), NoMemory>
     ensures { OnOk result (line.new ≡ line.old ++ literal_text kind.code) }
 {
     write_quoted(&kind.code.to_be_bytes(), b'\'', line)?;
-    Ok(())
-}
-
-#[tactic(auto, unfolding(crate::specs::Message::decimal_of))]
-fn append_decimal(number: u64, line: &mut Bytes) -> Result<(), NoMemory>
-    ensures { OnOk result (line.new ≡ line.old ++ decimal_of number) }
-{
-    let text = number.to_string(line.allocator())?;
-    line.append(text.as_bytes())?;
-    Ok(())
-}
-
-#[tactic(auto, unfolding(crate::specs::Message::signed_of))]
-fn append_signed(number: i64, line: &mut Bytes) -> Result<(), NoMemory>
-    ensures { OnOk result (line.new ≡ line.old ++ signed_of number) }
-{
-    let text = number.to_string(line.allocator())?;
-    line.append(text.as_bytes())?;
     Ok(())
 }
 

@@ -1,5 +1,5 @@
 ghost use Rattle.std.specs.Prelude.{◌≡◌, ◌<◌, ◌++◌, OnOk, OnErr};
-ghost use Rattle.rz_core.specs.Quoted.{quoted, shown_byte, hex_digit};
+ghost use Rattle.rz_core.specs.Quoted.{quoted, shown_byte, hex_byte, hex_digit};
 
 use crate::{Bytes, NoMemory};
 
@@ -22,26 +22,38 @@ fn append_quoted(bytes: &[u8], quote: u8, into: &mut Bytes) -> Result<(), NoMemo
 {
     into.push(quote)?;
     for &byte in bytes {
-        append_byte(byte, quote, into)?;
+        write_shown(byte, quote, into)?;
     }
     into.push(quote)?;
     Ok(())
 }
 
-fn append_byte(byte: u8, quote: u8, into: &mut Bytes) -> Result<(), NoMemory>
-    ensures { OnOk result (into.new ≡ into.old ++ shown_byte quote byte) }
+/// Appends a byte as it is shown between such quote marks. Where memory is refused `into` is unchanged.
+pub fn write_shown(byte: u8, quote: u8, into: &mut Bytes) -> Result<(), NoMemory>
+    ensures ok { OnOk result (into.new ≡ into.old ++ shown_byte quote byte) }
+    ensures err { OnErr result (into.new ≡ into.old) }
 {
     if byte < 0x20 || byte > 0x7E {
-        into.append(b"\\0x")?;
-        into.push(hex_digit(byte / 16))?;
-        into.push(hex_digit(byte % 16))?;
+        into.append(&[
+            b'\\',
+            b'0',
+            b'x',
+            hex_digit(byte / 16),
+            hex_digit(byte % 16),
+        ])
     } else if byte == quote || byte == b'\\' {
-        into.push(b'\\')?;
-        into.push(byte)?;
+        into.append(&[b'\\', byte])
     } else {
-        into.push(byte)?;
+        into.push(byte)
     }
-    Ok(())
+}
+
+/// Appends a byte as two upper-case hex digits. Where memory is refused `into` is unchanged.
+pub fn write_hex(byte: u8, into: &mut Bytes) -> Result<(), NoMemory>
+    ensures ok { OnOk result (into.new ≡ into.old ++ hex_byte byte) }
+    ensures err { OnErr result (into.new ≡ into.old) }
+{
+    into.append(&[hex_digit(byte / 16), hex_digit(byte % 16)])
 }
 
 fn hex_digit(digit: u8) -> u8

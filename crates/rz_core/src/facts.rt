@@ -1,0 +1,13 @@
+use crate::{Attr, Bytes, Moment, OsType};
+
+/// What is known of a resource beside its bytes while it is compiled or shown.
+#[derive(Debug, Drop)]
+pub struct Facts {
+    pub kind: OsType,
+    pub id: i16,
+    /// The name in Mac Roman; empty: no name.
+    pub name: Bytes,
+    pub attr: Attr,
+    /// The moment of the run.
+    pub moment: Moment,
+}

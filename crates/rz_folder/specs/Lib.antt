@@ -1,0 +1,9 @@
+pub mod Counts
+pub mod Folder
+pub mod Sink
+pub mod FolderState
+pub mod Entries
+pub mod MemFolder
+pub mod SinkState
+pub mod MemSink
+pub mod RealFaults

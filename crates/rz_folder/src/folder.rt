@@ -1,0 +1,79 @@
+ghost use Rattle.std.specs.Prelude.{◌≡◌, ◌<◌, ◌≤◌, ◌^◌, ℕ, length};
+ghost use Rattle.std.specs.declared.option.Option.{Option};
+ghost use Rattle.rz_folder.specs.Counts.{Rose};
+ghost use Rattle.rz_folder.specs.Folder.{Files, Reads, Writes};
+
+use rz_core::Bytes;
+use std::alloc::Global;
+
+/// What a read of a file gave.
+#[derive(Debug, Drop)]
+pub enum Read {
+    /// The whole contents, fewer than 2^32 bytes.
+    Bytes(Bytes),
+    /// No file has the name.
+    Missing,
+    /// The file could not be read. The folder counted a read fault.
+    Failed,
+    /// Memory for the contents was refused. It is no fault, and nothing counts it.
+    NoMemory,
+}
+
+/// How a write of a file ended.
+#[derive(Clone, Copy, Debug, PartialEq, Eq)]
+pub enum Written {
+    /// The bytes were written, whole.
+    Done,
+    /// The write failed, and the file may hold anything or be gone. The folder counted a write fault.
+    Failed,
+}
+
+/// Files by name, with a count of the reads that failed and one of the writes that failed. Both
+/// counts start where the folder was made, never fall, and stop at 2^64 - 1.
+///
+/// Some folders tell what their files hold, as one in memory does, and some tell nothing, as the
+/// host's. A folder that tells it goes on telling it.
+pub trait Folder {
+    /// What each name holds, where the folder tells it.
+    ghost files: { Self → Option Files };
+
+    /// The number of reads that failed.
+    ghost read_faults: { Self → ℕ };
+
+    /// The number of writes that failed.
+    ghost write_faults: { Self → ℕ };
+
+    /// Reads the whole file of that name into memory of the allocator. No file changes.
+    ///
+    /// - `Bytes` has fewer than 2^32 bytes: what the name holds, where the folder tells it.
+    /// - `Missing` comes only where the name holds nothing, where the folder tells it.
+    /// - `Failed` comes only where `read_faults` rose in this call or stands at its last value.
+    /// - `NoMemory` may come whenever memory is refused.
+    fn read(&mut self, alloc: Global, name: &str) -> Read
+        ensures told { Reads name.now (files self.old) result }
+        ensures unchanged { files self.new ≡ files self.old }
+        ensures counted { read_faults self.old ≤ read_faults self.new }
+        ensures cause { result ≡ Read.Failed → Rose (read_faults self.old) (read_faults self.new) }
+        ensures other_count { write_faults self.new ≡ write_faults self.old };
+
+    /// Makes the file of that name hold these bytes, of which there are fewer than 2^32. It takes
+    /// no memory.
+    ///
+    /// After `Done` that file alone is set. `Failed` comes only where `write_faults` rose in this
+    /// call or stands at its last value; then the name may hold anything or nothing, and every
+    /// other file is as before.
+    fn write(&mut self, name: &str, bytes: &[u8]) -> Written
+        requires { length bytes.now < 2 ^ 32 }
+        ensures told { Writes name.now bytes.now (files self.old) (files self.new) result }
+        ensures counted { write_faults self.old ≤ write_faults self.new }
+        ensures cause { result ≡ Written.Failed → Rose (write_faults self.old) (write_faults self.new) }
+        ensures other_count { read_faults self.new ≡ read_faults self.old };
+
+    /// The number of reads that failed, which stops at 2^64 - 1.
+    fn read_faults(&self) -> u64
+        ensures { result ≡ read_faults self.now };
+
+    /// The number of writes that failed, which stops at 2^64 - 1.
+    fn write_faults(&self) -> u64
+        ensures { result ≡ write_faults self.now };
+}

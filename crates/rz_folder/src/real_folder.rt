@@ -1,0 +1,131 @@
+ghost use Rattle.std.specs.Prelude.{◌≡◌, ◌≤◌, ◌<◌, ◌^◌, None, IfOk, length};
+ghost use Rattle.rz_folder.specs.Counts.{Rose};
+ghost use Rattle.rz_folder.specs.Folder.{IsShort};
+
+use crate::{Folder, Read, Written};
+use rz_core::Bytes;
+use std::alloc::Global;
+use std::io::ErrorKind;
+use std::marker::Model;
+use std::rt::Files;
+use std::{fs, io};
+
+// The first length that is too long for a file.
+const LENGTH_LIMIT: u64 = 1 << 32;
+
+/// The host's files, by their paths. This is the trusted edge: it tells nothing of what the files
+/// hold, and what its calls do to them rests on the host and on std, not on a proof. What is proved
+/// is that a read gives fewer than 2^32 bytes, that each call ends, and that the counts of faults
+/// are kept as their clauses say. Contracts see the two counts.
+#[derive(Drop)]
+pub struct RealFolder<R> {
+    runtime: R,
+    read_faults: u64,
+    write_faults: u64,
+}
+
+impl<R> Model for RealFolder<R> {
+    ghost use Rattle.rz_folder.specs.RealFaults.{RealFaults};
+
+    ghost Value = { RealFaults };
+
+    ghost view = { λ folder. record { reads = folder.read_faults; writes = folder.write_faults } };
+}
+
+impl<R: Files + Drop> RealFolder<R> {
+    /// The files that the runtime gives, with no faults so far.
+    pub fn new(rt: R) -> RealFolder<R>
+        ensures { result ≡ record { reads = 0; writes = 0 } }
+    {
+        RealFolder {
+            runtime: rt,
+            read_faults: 0,
+            write_faults: 0,
+        }
+    }
+}
+
+impl<R: Files + Drop> Folder for RealFolder<R> {
+    ghost use Rattle.rz_folder.specs.RealFaults.{after_read, after_write};
+
+    ghost files = { λ _. None };
+
+    ghost read_faults = { λ folder. folder.reads };
+
+    ghost write_faults = { λ folder. folder.writes };
+
+    /// Reads the host's file of that path. `Missing` is the host's 'not found', and `NoMemory` that
+    /// memory for the contents, or the host's own, was refused. `Failed` is every other error of
+    /// the host's, and a file of 2^32 bytes or more; exactly then the count of read faults rises,
+    /// unless it stands at 2^64 - 1.
+    fn read(&mut self, alloc: Global, name: &str) -> Read
+        ensures short { IsShort result }
+        ensures counted { self.old.reads ≤ self.new.reads }
+        ensures cause { result ≡ Read.Failed → Rose self.old.reads self.new.reads }
+        ensures other_count { self.new.writes ≡ self.old.writes }
+        ensures after { self.new ≡ after_read self.old result }
+    {
+        match read_file(&self.runtime, alloc, name) {
+            Ok(bytes) => Read::Bytes(bytes),
+            Err(error) => match error.kind() {
+                ErrorKind::NotFound => Read::Missing,
+                ErrorKind::OutOfMemory => Read::NoMemory,
+                _ => {
+                    self.read_faults = self.read_faults.saturating_add(1);
+                    Read::Failed
+                }
+            },
+        }
+    }
+
+    /// Creates the host's file of that path, or empties it, and then writes the bytes. `Failed` is
+    /// every error of the host's; exactly then the count of write faults rises, unless it stands at
+    /// 2^64 - 1. The file may then be empty or hold a front of the bytes.
+    fn write(&mut self, name: &str, bytes: &[u8]) -> Written
+        requires { length bytes.now < 2 ^ 32 }
+        ensures counted { self.old.writes ≤ self.new.writes }
+        ensures cause { result ≡ Written.Failed → Rose self.old.writes self.new.writes }
+        ensures other_count { self.new.reads ≡ self.old.reads }
+        ensures after { self.new ≡ after_write self.old result }
+    {
+        if fs::write(&self.runtime, name, bytes).is_ok() {
+            return Written::Done;
+        }
+        self.write_faults = self.write_faults.saturating_add(1);
+        Written::Failed
+    }
+
+    fn read_faults(&self) -> u64
+        ensures { result ≡ self.now.reads }
+    {
+        self.read_faults
+    }
+
+    fn write_faults(&self) -> u64
+        ensures { result ≡ self.now.writes }
+    {
+        self.write_faults
+    }
+}
+
+// Reads to the end of the file. Each turn takes at least one byte or is the last.
+fn read_file<R: Files>(rt: &R, alloc: Global, name: &str) -> io::Result<Bytes>
+    ensures { IfOk result (λ bytes. length bytes < 2 ^ 32) }
+{
+    let mut file = fs::File::open(rt, name)?;
+    let mut bytes = Bytes::new(alloc);
+    let mut piece = [0; 8192];
+    for _ in 0..LENGTH_LIMIT {
+        let count = io::Read::read(&mut file, &mut piece)?;
+        if count == 0 {
+            return Ok(bytes);
+        }
+        if bytes.len() + count as u64 >= LENGTH_LIMIT {
+            break;
+        }
+        if bytes.append(&piece[..count]).is_err() {
+            return Err(io::Error::from(ErrorKind::OutOfMemory));
+        }
+    }
+    Err(io::Error::from(ErrorKind::FileTooLarge))
+}

@@ -1,0 +1,4 @@
+pub mod Grouping
+pub mod Lengths
+pub mod Order
+pub mod Regroup

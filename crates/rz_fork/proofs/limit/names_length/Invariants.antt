@@ -1,0 +1,12 @@
+use Rattle.std.proofs.Common.{◌≡◌, ◌+◌, ◌-◌, ◌^◌, ◌≤◌, length, drop}
+use Rattle.rz_core.specs.Numbers.{kept_length}
+use Rattle.rz_fork.specs.Image.{name_list, AreNamed}
+use Rattle.rz_fork.proofs.Order.{shown}
+use Rattle.rz_fork.proofs.limit.names_length.Given as goal
+
+abbrev pub invariant-loop-resource : goal.invariant-loop-resource
+invariant-loop-resource l = record {
+  so_far : kept_length (l.total + length (name_list (shown (drop l.resource-index l.order)))) ≡ kept_length (length (name_list (shown l.order)));
+  bound : l.total ≤ 2 ^ 63 - 1;
+  named : AreNamed (shown (drop l.resource-index l.order));
+}

@@ -1,0 +1,5 @@
+pub mod Admit
+pub mod Contents
+pub mod Groups
+pub mod Image
+pub mod Layout

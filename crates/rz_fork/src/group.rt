@@ -1,0 +1,46 @@
+ghost use Rattle.std.specs.Prelude.{◌≡◌, map, IfOk};
+ghost use Rattle.std.specs.List.{flat_map};
+ghost use Rattle.rz_fork.specs.Groups.{members_of, AreGroups};
+
+use indexmap::IndexSet;
+use rz_core::{NoMemory, Resource};
+use std::alloc::Global;
+
+/// The resources of one type, in their order.
+#[derive(Drop)]
+pub struct Group<'a> {
+    pub code: u32,
+    pub members: Vec<&'a Resource>,
+}
+
+/// The resources by type, the types in the order of their first resources. The time is linear in the
+/// number of resources.
+pub fn groups_in<'a>(alloc: Global, list: &'a [Resource]) -> Result<Vec<Group<'a>>, NoMemory>
+    ensures { IfOk result (λ groups. AreGroups list.now groups.items) }
+{
+    let mut kinds = IndexSet::new(alloc);
+    let mut groups = Vec::new(alloc);
+    for resource in list {
+        let code = resource.kind.code;
+        let (place, added) = kinds.insert_full(code)?;
+        if added {
+            groups.push(Group {
+                code,
+                members: Vec::new(alloc),
+            })?;
+        }
+        groups[place].members.push(resource)?;
+    }
+    Ok(groups)
+}
+
+/// The resources of all groups, one group behind the other.
+pub fn in_order<'a>(alloc: Global, groups: &[Group<'a>]) -> Result<Vec<&'a Resource>, NoMemory>
+    ensures { IfOk result (λ order. map (λ r. r.now) order.items ≡ flat_map members_of groups.now) }
+{
+    let mut order = Vec::new(alloc);
+    for group in groups {
+        order.extend_from_slice(&group.members)?;
+    }
+    Ok(order)
+}

@@ -1,0 +1,4 @@
+pub mod Puts
+pub mod Limits
+pub mod Said
+pub mod Output

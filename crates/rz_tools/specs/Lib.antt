@@ -1,0 +1,7 @@
+pub mod Outcome
+pub mod Command
+pub mod Message
+pub mod ResourceList
+pub mod Answer
+pub mod Rez
+pub mod Program

@@ -1,0 +1,70 @@
+ghost use Rattle.std.specs.Prelude.{◌≡◌, map};
+ghost use Rattle.std.specs.String.{string_bytes};
+ghost use Rattle.std.specs.Str.{bytes_eq};
+ghost use Rattle.rz_tools.specs.Command.{IsRead, command_of, is_file, stands};
+
+use crate::UsageFault;
+
+/// The words of `rez FILE -o NAME`.
+#[derive(Clone, Copy)]
+pub struct RezWords<'a> {
+    /// The name of the source.
+    pub file: &'a str,
+    /// The name of the file to write.
+    pub output: &'a str,
+}
+
+/// What the words ask for.
+#[derive(Clone, Copy)]
+pub enum Command<'a> {
+    Rez(RezWords<'a>),
+}
+
+/// The command, or the position of the first word that can't stand where it stands.
+pub fn read_words(words: &[String]) -> Result<Command<'_>, UsageFault>
+    ensures { IsRead (command_of (map string_bytes words.now)) result }
+{
+    if !stands_at(words, 0, "rez") {
+        return Err(UsageFault { position: 1 });
+    }
+    if !file_at(words, 1) {
+        return Err(UsageFault { position: 2 });
+    }
+    if !stands_at(words, 2, "-o") {
+        return Err(UsageFault { position: 3 });
+    }
+    if words.len() < 4 {
+        return Err(UsageFault { position: 4 });
+    }
+    if words.len() > 4 {
+        return Err(UsageFault { position: 5 });
+    }
+    Ok(Command::Rez(RezWords {
+        file: words[1].as_str(),
+        output: words[3].as_str(),
+    }))
+}
+
+/// Whether this word stands at that place, from 0.
+fn stands_at(words: &[String], place: usize, word: &str) -> bool
+    ensures { result ≡ stands (map string_bytes words.now) place (bytes_eq word.now) }
+{
+    place < words.len() && word == words[place].as_str()
+}
+
+/// Whether a file stands at that place, from 0.
+fn file_at(words: &[String], place: usize) -> bool
+    ensures { result ≡ stands (map string_bytes words.now) place is_file }
+{
+    place < words.len() && is_file(words[place].as_str())
+}
+
+/// Whether a word can be a file: it doesn't begin with `-`.
+fn is_file(word: &str) -> bool
+    ensures { result ≡ is_file word.now }
+{
+    match word.as_bytes() {
+        [first, ..] => *first != b'-',
+        [] => true,
+    }
+}

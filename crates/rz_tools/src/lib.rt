@@ -1,0 +1,12 @@
+//! The commands of rezkit: what the words ask for, and the run that does it.
+#![tactic(auto)]
+
+mod command;
+mod message;
+mod outcome;
+mod program;
+mod resource_list;
+mod rez;
+
+pub use outcome::{Outcome, UsageFault};
+pub use program::run;
