@@ -18,6 +18,16 @@ fault_name number =
     else if number == 302 then Some (codes "DataFull")
     else if number == 303 then Some (codes "MapFull")
     else if number == 304 then Some (codes "NamesFull")
+    else if number == 401 then Some (codes "ShortHeader")
+    else if number == 402 then Some (codes "DataAreaOutside")
+    else if number == 403 then Some (codes "MapOutside")
+    else if number == 404 then Some (codes "ShortMap")
+    else if number == 405 then Some (codes "TypeListOutside")
+    else if number == 406 then Some (codes "TypesOutside")
+    else if number == 407 then Some (codes "ReferencesOutside")
+    else if number == 408 then Some (codes "DataOutside")
+    else if number == 409 then Some (codes "NameOutside")
+    else if number == 410 then Some (codes "Repeated")
     else None
 
 -- the mark's file is one of so many files

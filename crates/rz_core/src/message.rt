@@ -100,6 +100,16 @@ fn fault_name(number: u16) -> Option<&'static [u8]>
         302 => Some(b"DataFull"),
         303 => Some(b"MapFull"),
         304 => Some(b"NamesFull"),
+        401 => Some(b"ShortHeader"),
+        402 => Some(b"DataAreaOutside"),
+        403 => Some(b"MapOutside"),
+        404 => Some(b"ShortMap"),
+        405 => Some(b"TypeListOutside"),
+        406 => Some(b"TypesOutside"),
+        407 => Some(b"ReferencesOutside"),
+        408 => Some(b"DataOutside"),
+        409 => Some(b"NameOutside"),
+        410 => Some(b"Repeated"),
         _ => None,
     }
 }

@@ -1,10 +1,11 @@
 -- Which bytes are a fork: the rules of admission, each tested over the whole fork before the next. The offset of
 -- a fault counts from the start of the fork.
-use Rattle.std.specs.Prelude.{◌≡◌, ℕ, ◌+◌, ◌*◌, ◌^◌, ◌<◌, ◌≤◌, ◌==◌, ◌||◌, nat_lt, nat_le, Bool, if◌then◌else◌, List, [], ◌∷◌, length, Ok, Err}
+use Rattle.std.specs.Prelude.{◌≡◌, ℕ, ◌+◌, ◌*◌, ◌^◌, ◌<◌, ◌≤◌, ◌==◌, ◌||◌, nat_lt, nat_le, Bool, if◌then◌else◌, List, [], ◌∷◌, length, Ok, Err, IsSome}
 use Rattle.std.specs.List.{list_any, sum_by}
 use Rattle.std.specs.declared.option.Option.{Option}
 use Rattle.std.specs.declared.option.Option.TheVariants.{Some, None}
 use Rattle.std.specs.declared.result.Result.{Result}
+use Rattle.rz_core.specs.Message.{fault_name}
 use Rattle.rz_core.specs.Lists.{or_else, first_of, first_in}
 use Rattle.rz_fork.specs.declared.fault.ForkFault.{ForkFault}
 use Rattle.rz_fork.specs.declared.layout.Header.{Header}
@@ -14,7 +15,7 @@ use Rattle.rz_fork.specs.declared.layout.Reference.{Reference}
 use Rattle.rz_fork.specs.declared.rules.ReferenceRule.{ReferenceRule}
 use Rattle.rz_fork.specs.declared.rules.ReferenceRule.TheVariants.{Data, Name, Id}
 use Rattle.rz_fork.specs.declared.read.ForkList.{ForkList}
-use Rattle.rz_fork.specs.Layout.{number, header_of, types_of, outline_of, the_outline, types_place, entries, references}
+use Rattle.rz_fork.specs.Layout.{number, header_of, types_of, the_outline, types_place, entries, references}
 use Rattle.rz_fork.specs.Contents.{data_place, name_at, contents}
 
 abbrev pub fault : ℕ → ℕ → ℕ → ForkFault
@@ -55,14 +56,14 @@ types_outside o =
 -- the first broken rule on the header and the map
 unfoldable pub map_broken : List ℕ → Header → ℕ → Outline → Option ForkFault
 map_broken bytes h types o = first_of (
-  short_header bytes
-  ∷ data_area_outside bytes h
-  ∷ map_outside bytes h
-  ∷ short_map h
-  ∷ type_list_outside h types
-  ∷ types_outside o
-  ∷ []
-)
+    short_header bytes
+    ∷ data_area_outside bytes h
+    ∷ map_outside bytes h
+    ∷ short_map h
+    ∷ type_list_outside h types
+    ∷ types_outside o
+    ∷ []
+    )
 
 -- The rules on types and references.
 
@@ -119,13 +120,13 @@ in_types rule bytes o ts = first_in (λ before t. in_type rule bytes o t) [] ts
 -- the first broken rule on types and references
 unfoldable pub lists_broken : List ℕ → Outline → Option ForkFault
 lists_broken bytes o = first_of (
-  first_in (list_rule o) [] (entries bytes o)
-  ∷ in_types Data bytes o (entries bytes o)
-  ∷ in_types Name bytes o (entries bytes o)
-  ∷ first_in type_rule [] (entries bytes o)
-  ∷ in_types Id bytes o (entries bytes o)
-  ∷ []
-)
+    first_in (list_rule o) [] (entries bytes o)
+    ∷ in_types Data bytes o (entries bytes o)
+    ∷ in_types Name bytes o (entries bytes o)
+    ∷ first_in type_rule [] (entries bytes o)
+    ∷ in_types Id bytes o (entries bytes o)
+    ∷ []
+    )
 
 -- The whole.
 
@@ -147,6 +148,11 @@ unless_broken (Some fault) x = Err fault
 -- what the bytes hold, or their first broken rule
 abbrev pub admitted : List ℕ → Result ForkList ForkFault
 admitted bytes = unless_broken (inadmissible bytes) (contents bytes)
+
+-- a fault that a message can say: the table of faults has its number, and its offset is less than 2^63
+pub record IsSayable (fault : ForkFault) : Type 0 where
+  pub number : IsSome (fault_name fault.number)
+  pub offset : fault.offset < 2 ^ 63
 
 -- What the rules give.
 

@@ -1,12 +1,17 @@
-//! Resource forks of the classic Macintosh: a list of resources as the bytes of a fork.
+//! Resource forks of the classic Macintosh: a list of resources as the bytes of a fork, and back.
 #![tactic(auto)]
 
+mod admit;
 mod fault;
 mod group;
+mod layout;
 mod limit;
 mod number;
 mod parts;
+mod read;
+mod rules;
 mod write;
 
-pub use fault::LimitFault;
+pub use fault::{ForkFault, LimitFault};
+pub use read::{ForkList, read_fork};
 pub use write::write_fork;

@@ -1,5 +1,6 @@
-ghost use Rattle.std.specs.Prelude.{◌≡◌, ◌<◌, ◌≤◌, ◌+◌, ◌^◌, ◌++◌, OnOk};
+ghost use Rattle.std.specs.Prelude.{◌≡◌, ◌<◌, ◌≤◌, ◌+◌, ◌^◌, ◌++◌, length, drop, OnOk};
 ghost use Rattle.rz_core.specs.Numbers.{be};
+ghost use Rattle.rz_fork.specs.Layout.{number};
 
 use byteorder::{BigEndian, ByteOrder};
 use rz_core::{Bytes, NoMemory};
@@ -43,4 +44,48 @@ pub fn append_count(out: &mut Bytes, count: usize) -> Result<(), NoMemory>
 {
     append_u16(out, ((count + 65_535) % 65_536) as u16)?;
     Ok(())
+}
+
+/// The bytes from a place on.
+pub fn rest_at(bytes: &[u8], place: usize) -> &[u8]
+    requires { place ≤ length bytes.now }
+    ensures { result.now ≡ drop place bytes.now }
+{
+    bytes.split_at(place).1
+}
+
+/// The byte at a place.
+#[tactic(auto, unfolding(crate::specs::Layout::number))]
+pub fn u8_at(bytes: &[u8], place: usize) -> u8
+    requires { place + 1 ≤ length bytes.now }
+    ensures { result ≡ number 1 bytes.now place }
+{
+    rest_at(bytes, place)[0]
+}
+
+/// The number in 2 bytes at a place.
+#[tactic(auto, unfolding(crate::specs::Layout::number))]
+pub fn u16_at(bytes: &[u8], place: usize) -> u16
+    requires { place + 2 ≤ length bytes.now }
+    ensures { result ≡ number 2 bytes.now place }
+{
+    BigEndian::read_u16(rest_at(bytes, place))
+}
+
+/// The number in 3 bytes at a place.
+#[tactic(auto, unfolding(crate::specs::Layout::number))]
+pub fn u24_at(bytes: &[u8], place: usize) -> u32
+    requires { place + 3 ≤ length bytes.now }
+    ensures { result ≡ number 3 bytes.now place }
+{
+    BigEndian::read_u24(rest_at(bytes, place))
+}
+
+/// The number in 4 bytes at a place.
+#[tactic(auto, unfolding(crate::specs::Layout::number))]
+pub fn u32_at(bytes: &[u8], place: usize) -> u32
+    requires { place + 4 ≤ length bytes.now }
+    ensures { result ≡ number 4 bytes.now place }
+{
+    BigEndian::read_u32(rest_at(bytes, place))
 }

@@ -4,11 +4,9 @@ ghost use Rattle.rz_fork.specs.Groups.{members_of, group_entries};
 ghost use Rattle.rz_fork.specs.Image.{data_area, stored_name, name_list, reference_to, reference_lists, entry_of, AreNamed};
 
 use crate::group::Group;
+use crate::layout::NO_NAME;
 use crate::number::{append_count, append_u16, append_u24, append_u32};
 use rz_core::{Bytes, NoMemory, Resource};
-
-/// The name offset of a resource without a name.
-const NO_NAME: u16 = 0xFFFF;
 
 /// Appends so many zeros.
 pub fn append_zeros(out: &mut Bytes, count: usize) -> Result<(), NoMemory>

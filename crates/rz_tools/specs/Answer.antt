@@ -24,3 +24,7 @@ ended named outcome files = record { outcome = outcome; target = None; files = f
 -- the run writes this file, with these bytes
 abbrev pub written : List ℕ → List ℕ → Files → Answer
 written name bytes files = record { outcome = Done; target = Some name; files = map.insert files name bytes; out = []; err = [] }
+
+-- the run writes this text to the output
+abbrev pub shown : List ℕ → Files → Answer
+shown text files = record { outcome = Done; target = None; files = files; out = text; err = [] }

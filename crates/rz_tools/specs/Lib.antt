@@ -4,4 +4,5 @@ pub mod Message
 pub mod ResourceList
 pub mod Answer
 pub mod Rez
+pub mod DeRez
 pub mod Program

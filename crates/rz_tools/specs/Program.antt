@@ -7,8 +7,9 @@ use Rattle.std.specs.FinMap as map
 use Rattle.rz_core.specs.declared.moment.Moment.{Moment}
 use Rattle.rz_folder.specs.Counts.{Rose}
 use Rattle.rz_folder.specs.Folder.{Files}
-use Rattle.rz_tools.specs.Command.{Asked, Rez, command_of}
+use Rattle.rz_tools.specs.Command.{Asked, Rez, DeRez, command_of}
 use Rattle.rz_tools.specs.Answer.{Answer, ended}
+use Rattle.rz_tools.specs.DeRez.{derez_answer, MeansAgain}
 use Rattle.rz_tools.specs.Rez.{rez_answer}
 use Rattle.rz_tools.specs.Outcome.{IsNoUsage}
 use Rattle.rz_tools.specs.declared.outcome.Outcome.{Outcome}
@@ -18,6 +19,7 @@ use Rattle.rz_tools.specs.declared.outcome.Outcome.TheVariants.{Done, Usage, Ref
 abbrev pub answer_to : Result Asked ℕ → Files → Moment → Answer
 answer_to (Err position) files moment = ended [] (Usage (record { position = position })) files
 answer_to (Ok (Rez file output)) files moment = rez_answer file output files
+answer_to (Ok (DeRez file)) files moment = derez_answer file files
 
 -- the answer to a list of words, where each name holds this, at this moment
 abbrev pub answer : List (List ℕ) → Files → Moment → Answer
@@ -109,3 +111,9 @@ RefusesAll wanted result read_failed = Unit {0}
 abbrev pub Completes : Outcome → Outcome → Type 0 → Type 0
 Completes Done result failed = (result ≡ Done) ⊎ (result ≡ NoMemory) ⊎ failed
 Completes wanted result failed = Unit {0}
+
+-- where `derez` is Done, the text of a fork that a source can say today means the fork's resources again
+abbrev pub ReadsAgain : Result Asked ℕ → Files → Outcome → Type 0
+ReadsAgain (Err position) files result = Unit {0}
+ReadsAgain (Ok (Rez file output)) files result = Unit {0}
+ReadsAgain (Ok (DeRez file)) files result = MeansAgain (map.get files file) result

@@ -1,7 +1,7 @@
 ghost use Rattle.std.specs.Prelude.{◌≡◌, map};
 ghost use Rattle.std.specs.String.{string_bytes};
 ghost use Rattle.std.specs.Str.{bytes_eq};
-ghost use Rattle.rz_tools.specs.Command.{IsRead, command_of, is_file, stands};
+ghost use Rattle.rz_tools.specs.Command.{IsRead, command_of, derez_command, is_file, rez_command, stands};
 
 use crate::UsageFault;
 
@@ -14,19 +14,36 @@ pub struct RezWords<'a> {
     pub output: &'a str,
 }
 
+/// The words of `derez FILE`.
+#[derive(Clone, Copy)]
+pub struct DeRezWords<'a> {
+    /// The name of the fork.
+    pub file: &'a str,
+}
+
 /// What the words ask for.
 #[derive(Clone, Copy)]
 pub enum Command<'a> {
     Rez(RezWords<'a>),
+    DeRez(DeRezWords<'a>),
 }
 
 /// The command, or the position of the first word that can't stand where it stands.
 pub fn read_words(words: &[String]) -> Result<Command<'_>, UsageFault>
     ensures { IsRead (command_of (map string_bytes words.now)) result }
 {
-    if !stands_at(words, 0, "rez") {
-        return Err(UsageFault { position: 1 });
+    if stands_at(words, 0, "rez") {
+        read_rez(words)
+    } else if stands_at(words, 0, "derez") {
+        read_derez(words)
+    } else {
+        Err(UsageFault { position: 1 })
     }
+}
+
+fn read_rez(words: &[String]) -> Result<Command<'_>, UsageFault>
+    ensures { IsRead (rez_command (map string_bytes words.now)) result }
+{
     if !file_at(words, 1) {
         return Err(UsageFault { position: 2 });
     }
@@ -42,6 +59,20 @@ pub fn read_words(words: &[String]) -> Result<Command<'_>, UsageFault>
     Ok(Command::Rez(RezWords {
         file: words[1].as_str(),
         output: words[3].as_str(),
+    }))
+}
+
+fn read_derez(words: &[String]) -> Result<Command<'_>, UsageFault>
+    ensures { IsRead (derez_command (map string_bytes words.now)) result }
+{
+    if !file_at(words, 1) {
+        return Err(UsageFault { position: 2 });
+    }
+    if words.len() > 2 {
+        return Err(UsageFault { position: 3 });
+    }
+    Ok(Command::DeRez(DeRezWords {
+        file: words[1].as_str(),
     }))
 }
 

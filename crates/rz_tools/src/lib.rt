@@ -2,6 +2,7 @@
 #![tactic(auto)]
 
 mod command;
+mod derez;
 mod message;
 mod outcome;
 mod program;

@@ -5,10 +5,11 @@ ghost use Rattle.rz_core.specs.Message.{IsNameable};
 ghost use Rattle.rz_tools.specs.Command.{command_of, files_named};
 ghost use Rattle.rz_tools.specs.Message.{message};
 ghost use Rattle.rz_tools.specs.Outcome.{IfRefused};
-ghost use Rattle.rz_tools.specs.Program.{answer, Completes, EndsAs, IsUsageExactly, KeepsOutput, LeavesFiles, LeavesOutput, RefusesAll, Says, SaysAnswer, StaysSo};
+ghost use Rattle.rz_tools.specs.Program.{answer, Completes, EndsAs, IsUsageExactly, KeepsOutput, LeavesFiles, LeavesOutput, ReadsAgain, RefusesAll, Says, SaysAnswer, StaysSo};
 
 use crate::Outcome;
 use crate::command::{Command, read_words};
+use crate::derez::run_derez;
 use crate::message::message_of;
 use crate::rez::run_rez;
 use rz_core::{FileNames, Moment};
@@ -58,6 +59,7 @@ pub fn run<F: Folder, O: Sink, E: Sink>(
     ensures kept_output { KeepsOutput result (O.written out.old) (O.written out.new) }
     ensures err { Says (message (files_named (command_of (map string_bytes words.now))) result)
         (E.written err.old) (E.written err.new) (E.faults err.old) (E.faults err.new) }
+    ensures again { IfSome (F.files folder.old) (λ files. ReadsAgain (command_of (map string_bytes words.now)) files result) }
     ensures err_answered { IfSome (F.files folder.old) (λ files.
         SaysAnswer (answer (map string_bytes words.now) files moment) result
             (E.written err.old) (E.written err.new) (E.faults err.old) (E.faults err.new)) }
@@ -70,6 +72,13 @@ pub fn run<F: Folder, O: Sink, E: Sink>(
                 return say(alloc, Outcome::NoMemory, &named, err);
             }
             let outcome = run_rez(alloc, folder, asked);
+            say(alloc, outcome, &named, err)
+        }
+        Ok(Command::DeRez(asked)) => {
+            if named.push(asked.file).is_err() {
+                return say(alloc, Outcome::NoMemory, &named, err);
+            }
+            let outcome = run_derez(alloc, folder, out, asked);
             say(alloc, outcome, &named, err)
         }
     }

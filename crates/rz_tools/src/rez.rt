@@ -59,7 +59,7 @@ pub fn run_rez<F: Folder>(alloc: Global, folder: &mut F, words: RezWords<'_>) ->
 }
 
 /// The fault of a file that is not there.
-fn missing_file(alloc: Global, name: &str) -> Result<Fault, NoMemory>
+pub fn missing_file(alloc: Global, name: &str) -> Result<Fault, NoMemory>
     ensures { IfOk result (λ fault. fault ≡ missing_file name.now) }
 {
     Ok(Fault {

@@ -1,0 +1,30 @@
+use Rattle.std.proofs.Common.{◌≡◌, sym, ap, ◌∙◌, arith, take, Some, None}
+use Rattle.rz_core.specs.Lists.{first_in_more, first_in_stop, first_in_end}
+use Rattle.rz_fork.specs.Layout.{entries}
+use Rattle.rz_fork.specs.Admit.{list_rule, references_outside}
+use Rattle.rz_fork.proofs.Items.{length-entries, count_more}
+use Rattle.rz_fork.proofs.admit.lists_outside.Goals as goal
+
+pub returns-in-Some-clause-rule : goal.returns-in-Some-clause-rule
+returns-in-Some-clause-rule c =
+    let ts = entries c.args.bytes.now c.args.o in
+    let breaks : list_rule c.args.o (take c.loop-k.k ts) c.entry-t.result ≡ Some c.in-Some.fault =
+    ap (λ n. references_outside c.args.o n c.entry-t.result) (sym c.loop-k.invariant.so_far) ∙ sym c.in-Some.ensures.rule in
+    sym (first_in_stop (list_rule c.args.o) ts c.loop-k.k c.entry-t.result c.entry-t.ensures.entry c.in-Some.fault breaks) ∙ c.loop-k.invariant.rest
+
+pub loop-k-preserved : goal.loop-k-preserved
+loop-k-preserved c =
+    let ts = entries c.args.bytes.now c.args.o in
+    let holds : list_rule c.args.o (take c.loop-k.k ts) c.entry-t.result ≡ None =
+    ap (λ n. references_outside c.args.o n c.entry-t.result) (sym c.loop-k.invariant.so_far) ∙ sym c.in_default.ensures.rule in
+    let more = count_more ts c.loop-k.k c.entry-t.result c.entry-t.ensures.entry in
+    record {
+      so_far = omega (arith, more);
+      few = omega (arith, c.in_default.ensures.so_far);
+      rest = first_in_more (list_rule c.args.o) ts c.loop-k.k c.entry-t.result c.entry-t.ensures.entry holds ∙ c.loop-k.invariant.rest;
+    }
+
+pub returns-clause-rule : goal.returns-clause-rule
+returns-clause-rule c =
+    let ts = entries c.args.bytes.now c.args.o in
+    sym (first_in_end (list_rule c.args.o) ts c.loop-k.k (omega (arith, length-entries c.args.bytes.now c.args.o))) ∙ c.loop-k.invariant.rest

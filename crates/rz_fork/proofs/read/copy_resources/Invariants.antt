@@ -1,0 +1,8 @@
+use Rattle.std.proofs.Common.{◌≡◌, take}
+use Rattle.std.specs.List.{flat_map}
+use Rattle.rz_fork.specs.Layout.{entries}
+use Rattle.rz_fork.specs.Contents.{resources_of}
+use Rattle.rz_fork.proofs.read.copy_resources.Given as goal
+
+abbrev pub invariant-loop-k : goal.invariant-loop-k
+invariant-loop-k l = l.list ≡ flat_map (resources_of l.bytes l.o) (take l.k (entries l.bytes l.o))

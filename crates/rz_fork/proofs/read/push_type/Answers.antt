@@ -1,0 +1,28 @@
+use Rattle.std.proofs.Common.{◌++◌, ◌∷◌, [], map, take, ap, ◌∙◌, arith, append_assoc, List}
+use Rattle.std.proofs.lemmas.Grind.{common_steps}
+use Rattle.std.proofs.lemmas.List.{take_all}
+use Rattle.rz_core.specs.declared.resource.Resource.{Resource}
+use Rattle.rz_fork.specs.declared.layout.Reference.{Reference}
+use Rattle.rz_fork.specs.Layout.{references}
+use Rattle.rz_fork.specs.Contents.{resource_of}
+use Rattle.rz_fork.proofs.Holding.{data_within, name_within}
+use Rattle.rz_fork.proofs.Items.{map_more, length-references}
+use Rattle.rz_fork.proofs.read.push_type.Goals as goal
+
+pub copy_resource-requires-clause-area : goal.copy_resource-requires-clause-area
+copy_resource-requires-clause-area c = data_within _ _ c.args.t c.loop-j.j _ c.requires.areas c.reference-r.ensures.reference
+
+pub copy_resource-requires-clause-names : goal.copy_resource-requires-clause-names
+copy_resource-requires-clause-names c = name_within _ _ c.args.t c.loop-j.j _ c.requires.name_lists c.reference-r.ensures.reference
+
+pub loop-j-preserved : goal.loop-j-preserved
+loop-j-preserved c =
+    let f : Reference → Resource = resource_of c.args.bytes.now c.args.o c.args.t in
+    let more = map_more f (references c.args.bytes.now c.args.t) c.loop-j.j c.reference-r.result c.reference-r.ensures.reference in
+    let assoc = append_assoc c.args.list.now (map f (take c.loop-j.j (references c.args.bytes.now c.args.t))) (f c.reference-r.result ∷ []) in
+    grind (arith, common_steps, more, assoc)
+
+pub returns : goal.returns
+returns c =
+    c.loop-j.invariant
+    ∙ ap (λ (rs : List Reference). c.args.list.now ++ map (resource_of c.args.bytes.now c.args.o c.args.t) rs) (take_all _ (references c.args.bytes.now c.args.t) (omega (arith, length-references c.args.bytes.now c.args.t)))

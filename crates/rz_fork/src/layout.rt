@@ -1,0 +1,138 @@
+ghost use Rattle.std.specs.Prelude.{◌≡◌, ◌<◌, ◌≤◌, ◌+◌, ◌^◌, length};
+ghost use Rattle.rz_fork.specs.Layout.{count_at, header_of, types_of, outline_of, types_place, entry_at, reference_at};
+ghost use Rattle.rz_fork.specs.Admit.{HasMap};
+
+use crate::number::{u8_at, u16_at, u24_at, u32_at};
+
+/// The name offset of a resource without a name.
+pub const NO_NAME: u16 = 0xFFFF;
+
+/// The header: where the data area and the map begin in the fork, and their lengths, in bytes.
+#[derive(Clone, Copy)]
+pub struct Header {
+    pub data_at: usize,
+    pub map_at: usize,
+    pub data_length: usize,
+    pub map_length: usize,
+}
+
+/// Where the parts of a fork lie: where the type list and the name list begin in the map, in bytes,
+/// and how many types there are.
+#[derive(Clone, Copy)]
+pub struct Outline {
+    pub header: Header,
+    pub types: usize,
+    pub names: usize,
+    pub count: usize,
+}
+
+/// An entry of the type list: where it stands, its type, how many references it has, and where they
+/// begin, in bytes from the start of the fork.
+#[derive(Clone, Copy)]
+pub struct TypeEntry {
+    pub place: usize,
+    pub code: u32,
+    pub count: usize,
+    pub list: usize,
+}
+
+/// A reference: where it stands in the fork, its id's 16 bits, its name's offset in the name list, its
+/// attributes and its data's offset in the data area.
+#[derive(Clone, Copy)]
+pub struct Reference {
+    pub place: usize,
+    pub id: u16,
+    pub name: u16,
+    pub attr: u8,
+    pub data_at: u32,
+}
+
+/// The header of a fork.
+#[tactic(auto, unfolding(crate::specs::Layout::header_of))]
+pub fn read_header(bytes: &[u8]) -> Header
+    requires { 16 ≤ length bytes.now }
+    ensures header { result ≡ header_of bytes.now }
+    ensures area { result.data_at + result.data_length < 2 ^ 33 }
+    ensures area_length { result.data_length < 2 ^ 32 }
+    ensures map { result.map_at < 2 ^ 32 }
+    ensures map_length { result.map_length < 2 ^ 32 }
+{
+    Header {
+        data_at: u32_at(bytes, 0) as usize,
+        map_at: u32_at(bytes, 4) as usize,
+        data_length: u32_at(bytes, 8) as usize,
+        map_length: u32_at(bytes, 12) as usize,
+    }
+}
+
+/// Where the type list begins in the map.
+#[tactic(auto, unfolding(crate::specs::Layout::types_of))]
+pub fn types(bytes: &[u8], h: Header) -> usize
+    requires { HasMap bytes.now h }
+    ensures types { result ≡ types_of bytes.now h }
+    ensures small { result < 2 ^ 16 }
+{
+    u16_at(bytes, h.map_at + 24) as usize
+}
+
+/// A count that is stored less one, modulo 65,536.
+fn count(bytes: &[u8], place: usize) -> usize
+    requires { place + 2 ≤ length bytes.now }
+    ensures count { result ≡ count_at bytes.now place }
+    ensures small { result < 2 ^ 16 }
+{
+    (u16_at(bytes, place) as usize + 1) % 65_536
+}
+
+/// The outline of a fork whose type list begins there in the map.
+#[tactic(auto, unfolding(crate::specs::Layout::outline_of))]
+pub fn read_outline(bytes: &[u8], h: Header, types: usize) -> Outline
+    requires map { HasMap bytes.now h }
+    requires types { types + 2 ≤ h.map_length }
+    ensures outline { result ≡ outline_of bytes.now h types }
+    ensures header { result.header ≡ h }
+    ensures types { result.types ≡ types }
+    ensures count { result.count < 2 ^ 16 }
+    ensures names { result.names < 2 ^ 16 }
+{
+    Outline {
+        header: h,
+        types,
+        names: u16_at(bytes, h.map_at + 26) as usize,
+        count: count(bytes, h.map_at + types),
+    }
+}
+
+/// The entry of the type list at a place.
+#[tactic(auto, unfolding(crate::specs::Layout::entry_at))]
+pub fn entry_at(bytes: &[u8], o: Outline, place: usize) -> TypeEntry
+    requires within { place + 8 ≤ length bytes.now }
+    requires small { types_place o < 2 ^ 34 }
+    ensures entry { result ≡ entry_at bytes.now o place }
+    ensures place { result.place ≡ place }
+    ensures count { result.count < 2 ^ 16 }
+    ensures list { result.list < 2 ^ 35 }
+{
+    TypeEntry {
+        place,
+        code: u32_at(bytes, place),
+        count: count(bytes, place + 4),
+        list: o.header.map_at + o.types + u16_at(bytes, place + 6) as usize,
+    }
+}
+
+/// The reference at a place.
+#[tactic(auto, unfolding(crate::specs::Layout::reference_at))]
+pub fn reference_at(bytes: &[u8], place: usize) -> Reference
+    requires { place + 12 ≤ length bytes.now }
+    ensures reference { result ≡ reference_at bytes.now place }
+    ensures place { result.place ≡ place }
+{
+    Reference {
+        place,
+        id: u16_at(bytes, place),
+        name: u16_at(bytes, place + 2),
+        attr: u8_at(bytes, place + 4),
+        data_at: u24_at(bytes, place + 5),
+    }
+}

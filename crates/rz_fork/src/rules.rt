@@ -1,0 +1,178 @@
+ghost use Rattle.std.specs.Prelude.{◌≡◌, ◌<◌, ◌≤◌, ◌+◌, ◌*◌, ◌^◌, length, IfNone, IfSome};
+ghost use Rattle.rz_fork.specs.Layout.{types_place};
+ghost use Rattle.rz_fork.specs.Admit.{short_header, data_area_outside, map_outside, short_map, type_list_outside, types_outside, references_outside, data_outside, name_outside, IsSayable};
+
+use crate::fault::ForkFault;
+use crate::layout::{Header, NO_NAME, Outline, Reference, TypeEntry};
+use crate::number::{u8_at, u32_at};
+
+/// The offsets of data have 24 bits.
+const DATA_END: usize = 16_777_216;
+
+const MAX_TYPES: usize = 8_192;
+
+const MAX_REFERENCES: usize = 16_384;
+
+/// A rule of which each reference is tested.
+#[derive(Clone, Copy)]
+pub enum ReferenceRule {
+    Data,
+    Name,
+    Id,
+}
+
+pub fn fault(number: u16, offset: usize, value: u32) -> ForkFault
+    ensures { result ≡ record { number = number; offset = offset; value = value } }
+{
+    ForkFault {
+        number,
+        offset: offset as u64,
+        value,
+    }
+}
+
+/// ShortHeader.
+#[tactic(auto, unfolding(crate::specs::Admit::short_header))]
+pub fn short_header(bytes: &[u8]) -> Option<ForkFault>
+    ensures rule { result ≡ short_header bytes.now }
+    ensures within { IfNone result (16 ≤ length bytes.now) }
+    ensures sayable { IfSome result IsSayable }
+{
+    if bytes.len() < 16 {
+        return Some(fault(401, 0, bytes.len() as u32));
+    }
+    None
+}
+
+/// DataAreaOutside.
+#[tactic(auto, unfolding(crate::specs::Admit::data_area_outside))]
+pub fn data_area_outside(bytes: &[u8], h: Header) -> Option<ForkFault>
+    requires small { h.data_at + h.data_length < 2 ^ 33 }
+    requires length { h.data_length < 2 ^ 32 }
+    ensures rule { result ≡ data_area_outside bytes.now h }
+    ensures within { IfNone result (h.data_at + h.data_length ≤ length bytes.now) }
+    ensures sayable { IfSome result IsSayable }
+{
+    if DATA_END <= h.data_at || bytes.len() < h.data_at + h.data_length {
+        return Some(fault(402, 0, h.data_length as u32));
+    }
+    None
+}
+
+/// MapOutside.
+#[tactic(auto, unfolding(crate::specs::Admit::map_outside))]
+pub fn map_outside(bytes: &[u8], h: Header) -> Option<ForkFault>
+    requires at { h.map_at < 2 ^ 32 }
+    requires length { h.map_length < 2 ^ 32 }
+    ensures rule { result ≡ map_outside bytes.now h }
+    ensures within { IfNone result (h.map_at + h.map_length ≤ length bytes.now) }
+    ensures sayable { IfSome result IsSayable }
+{
+    if bytes.len() < h.map_at + h.map_length {
+        return Some(fault(403, 4, h.map_length as u32));
+    }
+    None
+}
+
+/// ShortMap.
+#[tactic(auto, unfolding(crate::specs::Admit::short_map))]
+pub fn short_map(h: Header) -> Option<ForkFault>
+    ensures rule { result ≡ short_map h }
+    ensures within { IfNone result (28 ≤ h.map_length) }
+    ensures sayable { IfSome result IsSayable }
+{
+    if h.map_length < 28 {
+        return Some(fault(404, 12, h.map_length as u32));
+    }
+    None
+}
+
+/// TypeListOutside.
+#[tactic(auto, unfolding(crate::specs::Admit::type_list_outside))]
+pub fn type_list_outside(h: Header, types: usize) -> Option<ForkFault>
+    requires at { h.map_at < 2 ^ 32 }
+    requires types { types < 2 ^ 16 }
+    ensures rule { result ≡ type_list_outside h types }
+    ensures within { IfNone result (types + 2 ≤ h.map_length) }
+    ensures sayable { IfSome result IsSayable }
+{
+    if h.map_length < types + 2 {
+        return Some(fault(405, h.map_at + 24, types as u32));
+    }
+    None
+}
+
+/// TypesOutside.
+#[tactic(auto, unfolding(crate::specs::Admit::types_outside))]
+pub fn types_outside(o: Outline) -> Option<ForkFault>
+    requires at { types_place o < 2 ^ 34 }
+    requires count { o.count < 2 ^ 16 }
+    ensures rule { result ≡ types_outside o }
+    ensures within { IfNone result (o.types + 2 + 8 * o.count ≤ o.header.map_length) }
+    ensures few { IfNone result (o.count ≤ 8192) }
+    ensures sayable { IfSome result IsSayable }
+{
+    if o.header.map_length < o.types + 2 + 8 * o.count || o.count > MAX_TYPES {
+        return Some(fault(406, o.header.map_at + o.types, o.count as u32));
+    }
+    None
+}
+
+/// ReferencesOutside, of a type behind types with so many references.
+#[tactic(auto, unfolding(crate::specs::Admit::references_outside))]
+pub fn references_outside(o: Outline, so_far: usize, t: TypeEntry) -> Option<ForkFault>
+    requires map { o.header.map_at + o.header.map_length < 2 ^ 33 }
+    requires so_far { so_far ≤ 16384 }
+    requires count { t.count < 2 ^ 16 }
+    requires list { t.list < 2 ^ 35 }
+    ensures rule { result ≡ references_outside o so_far t }
+    ensures so_far { IfNone result (so_far + t.count ≤ 16384) }
+    ensures sayable { IfSome result IsSayable }
+{
+    if o.header.map_at + o.header.map_length < t.list + 12 * t.count
+        || so_far + t.count > MAX_REFERENCES
+    {
+        return Some(fault(407, t.list, t.count as u32));
+    }
+    None
+}
+
+/// DataOutside.
+#[tactic(auto, unfolding(crate::specs::Admit::data_outside))]
+pub fn data_outside(bytes: &[u8], o: Outline, r: Reference) -> Option<ForkFault>
+    requires area { o.header.data_at + o.header.data_length ≤ length bytes.now }
+    requires short { length bytes.now < 2 ^ 32 }
+    ensures rule { result ≡ data_outside bytes.now o r }
+    ensures sayable { IfSome result IsSayable }
+{
+    let at = r.data_at as usize;
+    let place = o.header.data_at + at;
+    if o.header.data_length < at + 4 {
+        return Some(fault(408, place, 0));
+    }
+    let stored = u32_at(bytes, place);
+    if o.header.data_length < at + 4 + stored as usize {
+        return Some(fault(408, place, stored));
+    }
+    None
+}
+
+/// NameOutside.
+#[tactic(auto, unfolding(crate::specs::Admit::name_outside))]
+pub fn name_outside(bytes: &[u8], o: Outline, r: Reference) -> Option<ForkFault>
+    requires map { o.header.map_at + o.header.map_length ≤ length bytes.now }
+    requires names { o.names < 2 ^ 16 }
+    requires short { length bytes.now < 2 ^ 32 }
+    ensures rule { result ≡ name_outside bytes.now o r }
+    ensures sayable { IfSome result IsSayable }
+{
+    if r.name == NO_NAME {
+        return None;
+    }
+    let at = o.names + r.name as usize;
+    let place = o.header.map_at + at;
+    if o.header.map_length < at + 1 || o.header.map_length < at + 1 + u8_at(bytes, place) as usize {
+        return Some(fault(409, place, r.name as u32));
+    }
+    None
+}

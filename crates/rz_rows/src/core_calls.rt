@@ -1,0 +1,97 @@
+use rz_core::{
+    Attr, Bytes, Fault, FileNames, Kept, Mark, Moment, OsType, Word, Words, write_decimal, write_fault,
+    write_hex, write_quoted, write_shown, write_signed,
+};
+use std::test::Fail;
+
+#[test]
+fn lists_grow_at_their_end(rt: HostRuntime) -> Result<(), Fail> {
+    let alloc = rt.alloc();
+    let mut bytes = Bytes::of(alloc, b"ab")?;
+    bytes.push(b'c')?;
+    bytes.append(b"de")?;
+    assert_eq!(rt; bytes.as_slice(), b"abcde".as_slice());
+    let mut words = Words::new(alloc);
+    words.push(Word { bytes })?;
+    assert_eq!(rt; words.len(), 1);
+    assert_eq!(rt; words.into_vec().len(), 1);
+    let mut names = FileNames::new(alloc);
+    names.push("one.r")?;
+    names.push("two.r")?;
+    assert_eq!(rt; names.len(), 2);
+    Ok(())
+}
+
+#[test]
+fn every_attribute_byte_is_kept(rt: HostRuntime) {
+    for byte in 0..=u8::MAX {
+        assert_eq!(rt; Attr::of(byte).byte(), byte);
+    }
+}
+
+#[test]
+fn moments_are_of_1904_to_2039(rt: HostRuntime) {
+    let seconds = [
+        (-2_082_844_801, false),
+        (-2_082_844_800, true),
+        (0, true),
+        (2_208_988_799, true),
+        (2_208_988_800, false),
+        (i64::MIN, false),
+        (i64::MAX, false),
+    ];
+    for (second, there) in seconds {
+        let moment = Moment::of_unix(second).map(|moment| moment.unix);
+        assert_eq!(rt; moment, if there { Some(second) } else { None });
+    }
+}
+
+#[test]
+fn bytes_are_shown_between_quote_marks(rt: HostRuntime) -> Result<(), Fail> {
+    let mut text = Bytes::new(rt.alloc());
+    write_quoted(b"a'\"\\ ~\x7F\x1F\x00\xFF", b'"', &mut text)?;
+    write_quoted(b"a'\"", b'\'', &mut text)?;
+    write_shown(b'\n', b'"', &mut text)?;
+    write_hex(0xA5, &mut text)?;
+    let wanted = b"\"a'\\\"\\\\ ~\\0x7F\\0x1F\\0x00\\0xFF\"'a\\'\"'\\0x0AA5";
+    assert_eq!(rt; text.as_slice(), wanted.as_slice());
+    Ok(())
+}
+
+#[test]
+fn numbers_are_shown_in_decimal(rt: HostRuntime) -> Result<(), Fail> {
+    let mut text = Bytes::new(rt.alloc());
+    write_decimal(0, &mut text)?;
+    write_decimal(u64::MAX, &mut text)?;
+    write_signed(-1, &mut text)?;
+    write_signed(i64::MIN, &mut text)?;
+    let wanted = b"018446744073709551615-1-9223372036854775808";
+    assert_eq!(rt; text.as_slice(), wanted.as_slice());
+    Ok(())
+}
+
+#[test]
+fn fault_lines_say_what_is_kept(rt: HostRuntime) -> Result<(), Fail> {
+    let alloc = rt.alloc();
+    let mut files = FileNames::new(alloc);
+    files.push("one.r")?;
+    let mut text = Bytes::new(alloc);
+    let key = Kept::Key(OsType { code: 0x5465_7374 }, -1);
+    let plain = Fault { number: 201, mark: None, kept: Kept::Nothing };
+    let marked = Fault { number: 302, mark: Some(Mark { file: 0, line: 7 }), kept: Kept::Number(-5) };
+    let pair = Fault { number: 303, mark: None, kept: Kept::Pair(300, -1) };
+    let check = Fault { number: 304, mark: None, kept: Kept::Check(2, 65535, 0) };
+    let keyed = Fault { number: 101, mark: None, kept: key };
+    write_fault(&plain, &files, &mut text)?;
+    write_fault(&marked, &files, &mut text)?;
+    write_fault(&pair, &files, &mut text)?;
+    write_fault(&check, &files, &mut text)?;
+    write_fault(&keyed, &files, &mut text)?;
+    let wanted = b"rezkit: error 201 Syntax\n\
+        rezkit: one.r:7: error 302 DataFull: -5\n\
+        rezkit: error 303 MapFull: 300 -1\n\
+        rezkit: error 304 NamesFull: 2 65535 0\n\
+        rezkit: error 101 MissingFile: 'Test' -1\n";
+    assert_eq!(rt; text.as_slice(), wanted.as_slice());
+    Ok(())
+}

@@ -1,0 +1,14 @@
+//! Tests that cross the crates of rezkit: worked examples with their own bytes, and each call that takes
+//! memory once with ample memory. It has no code that ships.
+#![tactic(auto)]
+
+#[cfg(test)]
+mod core_calls;
+#[cfg(test)]
+mod desk;
+#[cfg(test)]
+mod folders;
+#[cfg(test)]
+mod forks;
+#[cfg(test)]
+mod rez_command;

@@ -1,0 +1,116 @@
+ghost use Rattle.std.specs.Prelude.{◌≡◌, ◌<◌, ◌++◌, OnOk};
+ghost use Rattle.rz_core.specs.Lists.{each_with_front};
+ghost use Rattle.rz_core.specs.Message.{literal_text};
+ghost use Rattle.rz_show.specs.Head.{attr_text, data_head, name_byte, name_gap, name_text, word_text};
+
+use rz_core::{Attr, Bytes, NoMemory, OsType, write_hex, write_quoted, write_shown, write_signed};
+
+/// The bytes of a name that stand on one line.
+const PIECE: usize = 64;
+
+/// Appends the line that begins a `data` statement: the word `data`, the type as a literal, and in
+/// parentheses the id in decimal, the name where there is one, and the attributes where there are any;
+/// behind them a brace and a line end. Where memory is refused a part of it may have been appended.
+#[tactic(auto, unfolding(crate::specs::Head::data_head))]
+pub fn append_head(
+    kind: OsType,
+    id: i16,
+    name: &[u8],
+    attr: Attr,
+    into: &mut Bytes,
+) -> Result<(), NoMemory>
+    ensures { OnOk result (into.new ≡ into.old ++ data_head kind.code id name.now attr) }
+{
+    into.append(b"data ")?;
+    append_type(kind, into)?;
+    into.append(b" (")?;
+    write_signed(i64::from(id), into)?;
+    append_name(name, into)?;
+    append_attr(attr.byte(), into)?;
+    into.append(b") {\n")?;
+    Ok(())
+}
+
+#[tactic(auto, unfolding(rz_core::specs::Numbers::be))]
+fn append_type(kind: OsType, into: &mut Bytes) -> Result<(), NoMemory>
+    ensures { OnOk result (into.new ≡ into.old ++ literal_text kind.code) }
+{
+    write_quoted(&kind.code.to_be_bytes(), b'\'', into)?;
+    Ok(())
+}
+
+/// A name of at most 64 bytes stands behind a comma and a blank. A longer one stands behind the comma
+/// in pieces of 64 bytes, each on a line of its own.
+#[tactic(auto, unfolding(crate::specs::Head::name_text))]
+fn append_name(name: &[u8], into: &mut Bytes) -> Result<(), NoMemory>
+    ensures { OnOk result (into.new ≡ into.old ++ name_text name.now) }
+{
+    if name.is_empty() {
+        return Ok(());
+    }
+    if name.len() <= PIECE {
+        into.append(b", ")?;
+        write_quoted(name, b'"', into)?;
+    } else {
+        into.append(b",\n    \"")?;
+        append_pieces(name, into)?;
+        into.append(b"\"")?;
+    }
+    Ok(())
+}
+
+fn append_pieces(name: &[u8], into: &mut Bytes) -> Result<(), NoMemory>
+    ensures { OnOk result (into.new ≡ into.old ++ each_with_front name_byte name.now) }
+{
+    for k in 0..name.len() {
+        append_name_gap(k, into)?;
+        write_shown(name[k], b'"', into)?;
+    }
+    Ok(())
+}
+
+/// What stands before the name's byte at position `k`.
+#[tactic(auto, unfolding(crate::specs::Head::name_gap))]
+fn append_name_gap(k: usize, into: &mut Bytes) -> Result<(), NoMemory>
+    ensures { OnOk result (into.new ≡ into.old ++ name_gap k) }
+{
+    if k != 0 && k % PIECE == 0 {
+        into.append(b"\"\n    \"")?;
+    }
+    Ok(())
+}
+
+/// Attributes without the bits 80 and 01, which have no word, are shown by words.
+#[tactic(auto, unfolding(crate::specs::Head::attr_text))]
+fn append_attr(attr: u8, into: &mut Bytes) -> Result<(), NoMemory>
+    ensures { OnOk result (into.new ≡ into.old ++ attr_text attr) }
+{
+    if attr == 0 {
+        return Ok(());
+    }
+    if attr >= 0x80 || attr % 2 == 1 {
+        into.append(b", $")?;
+        write_hex(attr, into)?;
+    } else {
+        append_word(attr, 0x40, b"sysheap", into)?;
+        append_word(attr, 0x20, b"purgeable", into)?;
+        append_word(attr, 0x10, b"locked", into)?;
+        append_word(attr, 0x08, b"protected", into)?;
+        append_word(attr, 0x04, b"preload", into)?;
+        append_word(attr, 0x02, b"changed", into)?;
+    }
+    Ok(())
+}
+
+/// The word of an attribute, where its bit is set.
+#[tactic(auto, unfolding(crate::specs::Head::word_text))]
+fn append_word(attr: u8, bit: u8, word: &[u8], into: &mut Bytes) -> Result<(), NoMemory>
+    requires { 0 < bit }
+    ensures { OnOk result (into.new ≡ into.old ++ word_text attr bit word.now) }
+{
+    if attr / bit % 2 == 1 {
+        into.append(b", ")?;
+        into.append(word)?;
+    }
+    Ok(())
+}
