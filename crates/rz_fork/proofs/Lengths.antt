@@ -8,7 +8,7 @@ use Rattle.rz_core.specs.declared.resource.Resource.{Resource}
 use Rattle.rz_fork.specs.declared.group.Group.{Group}
 use Rattle.rz_fork.specs.Groups.{members_of, group_entry, group_entries}
 use Rattle.rz_fork.specs.Image as image
-use Rattle.rz_fork.specs.Image.{reference_to, reference, reference_lists, name_offset, data_area, entry_of, lists_with, lists_end, header, map_fields, tail_with}
+use Rattle.rz_fork.specs.Image.{reference_to, reference, reference_lists, name_offset, data_area, kinds_of, group_of, grouped, entry_of, list_offset, type_entry, type_entries, lists_with, lists_of, lists_end, header, map_fields, tail_with}
 
 pub length-reference_to : (name_at data_at : ℕ) (r : Resource) → length (reference_to name_at data_at r) ≡ 12
 unfolding reference_to be
@@ -45,6 +45,14 @@ pub length-group_entries : (groups : List Group) → length (group_entries group
 length-group_entries groups =
     length-with_front (group_entry (length groups)) 8
     (λ front g. length-entry_of g.code (length (members_of g)) (2 + 8 * length groups + 12 * length (flat_map members_of front))) [] groups
+
+pub length-type_entries : (list : List Resource) → length (type_entries list) ≡ 8 * length (kinds_of list)
+length-type_entries list =
+    length-with_front (type_entry list (length (kinds_of list))) 8
+    (λ front code. length-entry_of code (length (group_of list code)) (list_offset list (length (kinds_of list)) front)) [] (kinds_of list)
+
+pub length-lists_of : (list : List Resource) → 28 + length (lists_of list) ≡ lists_end (length (kinds_of list)) (length (grouped list))
+length-lists_of list = length-lists_with (length (kinds_of list)) (type_entries list) (grouped list) (length-type_entries list)
 
 pub length-tail_with : (attributes : ℕ) (lists names : List ℕ) → length (tail_with attributes lists names) ≡ 12 + length lists + length names
 length-tail_with attributes lists names =

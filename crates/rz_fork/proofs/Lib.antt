@@ -1,8 +1,14 @@
 pub mod Fits
+pub mod Framed
 pub mod Grouping
 pub mod Holding
 pub mod Items
 pub mod Keys
+pub mod Law
 pub mod Lengths
 pub mod Order
+pub mod Placed
 pub mod Regroup
+pub mod Resources
+pub mod Types
+pub mod Written

@@ -1,5 +1,5 @@
 -- The groups of the code against those of the definitions.
-use Rattle.std.proofs.Common.{◌≡◌, ℕ, ◌+◌, ◌*◌, ◌==◌, Bool, true, false, cond, filter, List, [], ◌∷◌, ◌++◌, length, refl, sym, ap, ◌∙◌, subst}
+use Rattle.std.proofs.Common.{◌≡◌, ℕ, ◌+◌, ◌*◌, ◌^◌, ◌<◌, ◌==◌, Bool, true, false, cond, filter, List, [], ◌∷◌, ◌++◌, length, refl, sym, ap, ◌∙◌, subst}
 use Rattle.std.proofs.lemmas.List.{length-map, map-append}
 use Rattle.std.specs.List.{flat_map, AllByRecursion}
 use Rattle.rz_core.specs.Lists.{with_front}
@@ -46,6 +46,10 @@ abbrev pub image_by : ℕ → List ℕ → List Resource → List Group → List
 image_by attributes reserved rs gs =
     image_with rs reserved (tail_with attributes (lists_with (length gs) (group_entries gs) rs) (name_list rs))
 
+codes_in_range : (gs : List Group) → AllByRecursion (λ g. g.code < 2 ^ 32) gs → AllByRecursion (λ k. k < 2 ^ 32) (codes gs)
+codes_in_range [] fit = tt
+codes_in_range (g ∷ gs) fit = (fit.0, codes_in_range gs fit.1)
+
 -- the code's groups and order, read from a list that is this one
 module _ (list given : List Resource) (gs : List Group) (same : given ≡ list) (found : AreGroups given gs) where
   are : AreGroups list gs
@@ -61,6 +65,9 @@ module _ (list given : List Resource) (gs : List Group) (same : given ≡ list) 
       → image_by attributes reserved rs seen ≡ image list attributes reserved
   whole_is attributes reserved seen rs see is =
       ap (image_by attributes reserved rs) see ∙ image_is list gs are attributes reserved rs is
+
+  pub codes_fit : (seen : List Group) → seen ≡ gs → AllByRecursion (λ g. g.code < 2 ^ 32) seen → AllByRecursion (λ k. k < 2 ^ 32) (kinds_of list)
+  codes_fit seen see fit = subst (AllByRecursion (λ k. k < 2 ^ 32)) (ap codes see ∙ are.kinds) (codes_in_range seen fit)
 
 all_filter : {X : Type 0} (P : X → Type 0) (p : X → Bool) (xs : List X) → AllByRecursion P xs → AllByRecursion P (filter p xs)
 all_filter P p [] all = tt

@@ -1,5 +1,6 @@
 -- Resources by type, as the code holds them.
-use Rattle.std.specs.Prelude.{◌≡◌, ℕ, ◌+◌, ◌*◌, List, length, map}
+use Rattle.std.specs.Prelude.{◌≡◌, ℕ, ◌+◌, ◌*◌, ◌^◌, ◌<◌, FitsSigned, List, length, map}
+use Rattle.std.specs.Int.{w16}
 use Rattle.std.specs.List.{flat_map, AllByRecursion}
 use Rattle.rz_core.specs.Lists.{each_with_front}
 use Rattle.rz_core.specs.declared.resource.Resource.{Resource}
@@ -23,3 +24,8 @@ group_entry kinds before g =
 -- the entries of the groups
 abbrev pub group_entries : List Group → List ℕ
 group_entries groups = each_with_front (group_entry (length groups)) groups
+
+-- the types and ids are in the ranges of their numbers
+pub record AreInRange (groups : List Group) (rs : List Resource) : Type 0 where
+  pub codes : AllByRecursion (λ g. g.code < 2 ^ 32) groups
+  pub ids : AllByRecursion (λ r. FitsSigned w16 r.id) rs

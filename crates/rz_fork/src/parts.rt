@@ -1,5 +1,6 @@
-ghost use Rattle.std.specs.Prelude.{◌≡◌, ◌<◌, ◌≤◌, ◌+◌, ◌*◌, ◌^◌, ◌==◌, ◌++◌, if◌then◌else◌, length, map, replicate, OnOk};
-ghost use Rattle.std.specs.List.{flat_map};
+ghost use Rattle.std.specs.Prelude.{◌≡◌, ◌<◌, ◌≤◌, ◌+◌, ◌*◌, ◌^◌, ◌==◌, ◌++◌, if◌then◌else◌, length, map, replicate, OnOk, FitsSigned};
+ghost use Rattle.std.specs.Int.{w16};
+ghost use Rattle.std.specs.List.{flat_map, AllByRecursion};
 ghost use Rattle.rz_fork.specs.Groups.{members_of, group_entries};
 ghost use Rattle.rz_fork.specs.Image.{data_area, stored_name, name_list, reference_to, reference_lists, entry_of, AreNamed};
 
@@ -81,7 +82,8 @@ fn append_reference(
     data_at: u32,
 ) -> Result<(), NoMemory>
     requires { data_at < 2 ^ 24 }
-    ensures { OnOk result (out.new ≡ out.old ++ reference_to name_at data_at resource.now) }
+    ensures reference { OnOk result (out.new ≡ out.old ++ reference_to name_at data_at resource.now) }
+    ensures id { FitsSigned w16 resource.now.id }
 {
     append_u16(out, resource.id.cast_unsigned())?;
     append_u16(out, name_at)?;
@@ -96,7 +98,8 @@ pub fn append_references(out: &mut Bytes, order: &[&Resource]) -> Result<(), NoM
     requires area { length (data_area (map (λ r. r.now) order.now)) ≤ 2 ^ 24 }
     requires names { length (name_list (map (λ r. r.now) order.now)) < 2 ^ 16 }
     requires named { AreNamed (map (λ r. r.now) order.now) }
-    ensures { OnOk result (out.new ≡ out.old ++ reference_lists (map (λ r. r.now) order.now)) }
+    ensures lists { OnOk result (out.new ≡ out.old ++ reference_lists (map (λ r. r.now) order.now)) }
+    ensures ids { OnOk result (AllByRecursion (λ r. FitsSigned w16 r.id) (map (λ r. r.now) order.now)) }
 {
     let mut data_end: u32 = 0;
     let mut names_end: u32 = 0;
@@ -128,7 +131,8 @@ fn append_entry(out: &mut Bytes, code: u32, count: usize, list_at: usize) -> Res
 /// Appends the entries of the type list.
 pub fn append_entries(out: &mut Bytes, groups: &[Group]) -> Result<(), NoMemory>
     requires { 2 + 8 * length groups.now + 12 * length (flat_map members_of groups.now) < 2 ^ 16 }
-    ensures { OnOk result (out.new ≡ out.old ++ group_entries groups.now) }
+    ensures entries { OnOk result (out.new ≡ out.old ++ group_entries groups.now) }
+    ensures codes { OnOk result (AllByRecursion (λ g. g.code < 2 ^ 32) groups.now) }
 {
     let mut at = 2 + 8 * groups.len();
     for group in groups {

@@ -1,8 +1,9 @@
-ghost use Rattle.std.specs.Prelude.{◌≡◌, ◌<◌, ◌≤◌, ◌+◌, ◌*◌, ◌^◌, ◌++◌, length, map, IfOk, OnOk};
+ghost use Rattle.std.specs.Prelude.{◌≡◌, ◌<◌, ◌≤◌, ◌+◌, ◌-◌, ◌*◌, ◌^◌, ◌++◌, length, map, replicate, IfOk, OnOk, Ok};
 ghost use Rattle.std.specs.List.{flat_map};
 ghost use Rattle.rz_core.specs.Stop.{Gives};
-ghost use Rattle.rz_fork.specs.Groups.{members_of, group_entries};
-ghost use Rattle.rz_fork.specs.Image.{data_area, name_list, lists_with, lists_end, header, map_fields, tail_with, front, image_with, fork_of, AreNamed, IsWritable};
+ghost use Rattle.rz_fork.specs.Admit.{admitted};
+ghost use Rattle.rz_fork.specs.Groups.{members_of, group_entries, AreInRange};
+ghost use Rattle.rz_fork.specs.Image.{data_area, name_list, lists_with, lists_end, header, map_fields, tail_with, front, image_with, grouped, fork_of, AreNamed, IsWritable};
 
 use crate::fault::LimitFault;
 use crate::group::{Group, groups_in, in_order};
@@ -26,8 +27,9 @@ const TYPES_AT: u16 = 28;
 /// list. Resources stand grouped by type, types in the order of their first resources, and share
 /// nothing; a resource without a name has the name offset FFFF. `attributes` are those of the map, with
 /// the bits 0x80 (read only), 0x40 (compact) and 0x20 (changed). Each name has at most 255 bytes, pairs
-/// of type and id differ, and there are at most 240 reserved bytes. The time is linear in the resources
-/// and their bytes.
+/// of type and id differ, and there are at most 240 reserved bytes. [`read_fork`](crate::read_fork) of
+/// the fork gives the resources grouped by type, the attributes and the 240 reserved bytes again. The
+/// time is linear in the resources and their bytes.
 ///
 /// Refused with the first of three lengths in bytes that passes its limit: 302, the data area has more
 /// than 16,777,216; 303, the map without its name list, which is `28 + 2 + 8 * types + 12 * resources`,
@@ -41,6 +43,7 @@ pub fn write_fork(
 ) -> Result<Bytes, Stop<LimitFault>>
     requires { IsWritable list.now reserved.now }
     ensures fork { Gives (fork_of list.now attributes reserved.now) result }
+    ensures again { IfOk result (λ bytes. admitted bytes ≡ Ok (record { list = grouped list.now; attributes = attributes; reserved = reserved.now ++ replicate (240 - length reserved.now) 0 })) }
     ensures short { IfOk result (λ bytes. length bytes < 2 ^ 32) }
 {
     let groups = groups_in(alloc, list.as_slice())?;
@@ -66,6 +69,7 @@ fn write_image(
     requires names { length (name_list (map (λ r. r.now) order.now)) < 2 ^ 16 }
     ensures image { IfOk result (λ bytes. bytes ≡ image_with (map (λ r. r.now) order.now) reserved.now (tail_with attributes (lists_with (length groups.now) (group_entries groups.now) (map (λ r. r.now) order.now)) (name_list (map (λ r. r.now) order.now)))) }
     ensures short { IfOk result (λ bytes. length bytes < 2 ^ 32) }
+    ensures ranges { OnOk result (AreInRange groups.now (map (λ r. r.now) order.now)) }
 {
     let tail = write_tail(alloc, groups, order, attributes)?;
     let mut out = Bytes::new(alloc);
@@ -106,6 +110,7 @@ fn write_tail(
     requires names { length (name_list (map (λ r. r.now) order.now)) < 2 ^ 16 }
     ensures tail { IfOk result (λ bytes. bytes ≡ tail_with attributes (lists_with (length groups.now) (group_entries groups.now) (map (λ r. r.now) order.now)) (name_list (map (λ r. r.now) order.now))) }
     ensures short { IfOk result (λ bytes. length bytes < 2 ^ 18) }
+    ensures ranges { OnOk result (AreInRange groups.now (map (λ r. r.now) order.now)) }
 {
     let lists = write_lists(alloc, groups, order)?;
     let mut out = Bytes::new(alloc);
@@ -123,6 +128,7 @@ fn write_lists(alloc: Global, groups: &[Group], order: &[&Resource]) -> Result<B
     requires names { length (name_list (map (λ r. r.now) order.now)) < 2 ^ 16 }
     ensures lists { IfOk result (λ bytes. bytes ≡ lists_with (length groups.now) (group_entries groups.now) (map (λ r. r.now) order.now)) }
     ensures length { IfOk result (λ bytes. 28 + length bytes ≡ lists_end (length groups.now) (length order.now)) }
+    ensures ranges { OnOk result (AreInRange groups.now (map (λ r. r.now) order.now)) }
 {
     let mut out = Bytes::new(alloc);
     append_count(&mut out, groups.len())?;

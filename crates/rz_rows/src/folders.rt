@@ -16,8 +16,8 @@ fn folder_in_memory_has_room_for_what_was_reserved(rt: HostRuntime) -> Result<()
     assert_eq!(rt; folder.write("a", b"345"), Written::Failed);
     assert_eq!(rt; folder.write("a", b"34"), Written::Done);
     assert_eq!(rt; folder.write("", b""), Written::Failed);
-    assert!(rt; folder.bytes("a").is_some_and(|bytes| bytes == b"34"));
-    assert!(rt; folder.bytes("ab").is_some_and(|bytes| bytes == b"new"));
+    assert!(rt; folder.bytes("a").is_some_and(|bytes| bytes == b"34".as_slice()));
+    assert!(rt; folder.bytes("ab").is_some_and(|bytes| bytes == b"new".as_slice()));
     assert!(rt; folder.bytes("b").is_none());
     assert_eq!(rt; (folder.read_faults(), folder.write_faults()), (0, 3));
     Ok(())

@@ -5,6 +5,8 @@
 #[cfg(test)]
 mod core_calls;
 #[cfg(test)]
+mod derez_command;
+#[cfg(test)]
 mod desk;
 #[cfg(test)]
 mod folders;
@@ -12,3 +14,5 @@ mod folders;
 mod forks;
 #[cfg(test)]
 mod rez_command;
+#[cfg(test)]
+mod shown;

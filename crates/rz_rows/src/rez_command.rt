@@ -132,7 +132,7 @@ fn source_may_have_32768_bytes(rt: HostRuntime) -> Result<(), Fail> {
 fn words_that_are_no_command(rt: HostRuntime) -> Result<(), Fail> {
     let lists: [(&[&str], u64); 14] = [
         (&[], 1),
-        (&["derez"], 1),
+        (&["DeRez", "f"], 1),
         (&["Rez", "one.r", "-o", "x"], 1),
         (&["-o", "x", "rez", "one.r"], 1),
         (&["rez"], 2),

@@ -1,6 +1,9 @@
-use Rattle.std.proofs.Common.{ℕ, arith, subst, ap, sym, ◌∙◌, ◌++◌, ◌==◌, if◌then◌else◌, length}
+use Rattle.std.proofs.Common.{ℕ, [], ◌∷◌, arith, subst, ap, sym, ◌∙◌, ◌++◌, ◌==◌, if◌then◌else◌, length}
+use Rattle.std.specs.List.{AllByRecursion}
 use Rattle.rz_fork.specs.Image.{stored_name, reference, reference_to, AreNamed}
-use Rattle.rz_fork.proofs.Order.{rest_step, with_front_step, length_rest, length_front, data_rest, data_front, written_on}
+use Rattle.rz_fork.proofs.Grouping.{all_append}
+use Rattle.rz_fork.proofs.Order.{rest_step, front_step, with_front_step, length_rest, length_front, data_rest, data_front, written_on}
+use Rattle.rz_fork.proofs.Written.{HasShortId}
 use Rattle.rz_fork.proofs.parts.append_references.Goals as goal
 
 pub append_reference-requires : goal.append_reference-requires
@@ -21,11 +24,14 @@ loop-resource-preserved c =
     let before = c.loop-resource.invariant in
     record {
       so_far = written_on _ _ _ _ _
-          (c.in_ok-append_reference.ensures ∙ (λ i. c.loop-resource.out ++ reference_to ((c.name_offset.ensures ∙ ap (λ (n : ℕ). if length r.now.name == 0 then 65535 else n) before.names_is) i) (before.data_is i) r.now))
+          (c.in_ok-append_reference.ensures.reference ∙ (λ i. c.loop-resource.out ++ reference_to ((c.name_offset.ensures ∙ ap (λ (n : ℕ). if length r.now.name == 0 then 65535 else n) before.names_is) i) (before.data_is i) r.now))
           (ap (λ l. c.loop-resource.out ++ l) (sym step) ∙ before.so_far);
       data_is = omega (arith, front);
       data_bound = omega (arith, rest);
       names_is = omega (arith, names_done, c.stored_name_length-names_end.ensures);
       names_bound = omega (arith, names_left, c.stored_name_length-names_end.ensures);
+      ids =
+          subst (AllByRecursion HasShortId) (sym (front_step _ _ r c.loop-resource-test.true c.resource-item.is))
+          (all_append HasShortId _ (r.now ∷ []) before.ids (c.append_reference.ensures.id, tt));
       named = named.1;
     }

@@ -1,7 +1,11 @@
 use Rattle.std.proofs.Common.{◌≡◌, ◌<◌, length, Ok, Some, None, ap, sym, arith, ◌∙◌, subst}
+use Rattle.std.specs.List.{AllByRecursion}
+use Rattle.rz_fork.specs.Admit.{admitted}
 use Rattle.rz_fork.specs.Image.{first_limit, image, unless_passed, AreNamed}
+use Rattle.rz_fork.proofs.Law.{IsReadable, image_admitted}
 use Rattle.rz_fork.proofs.Order.{shown}
-use Rattle.rz_fork.proofs.Regroup.{order_of, limit_is, whole_is, all_grouped}
+use Rattle.rz_fork.proofs.Regroup.{order_of, limit_is, whole_is, codes_fit, all_grouped}
+use Rattle.rz_fork.proofs.Written.{HasShortId}
 use Rattle.rz_fork.proofs.write.write_fork.Goals as goal
 
 pub first_limit-requires : goal.first_limit-requires
@@ -30,3 +34,21 @@ returns-clause-fork c =
     let whole = whole_is _ _ _ c.as_slice.ensures c.in_ok-groups.ensures c.args.attributes c.args.reserved.now _ _ c.deref-3.ensures.value again in
     ap (λ f. unless_passed f (image c.args.list.now c.args.attributes c.args.reserved.now)) first
     ∙ ap (λ b. Ok b) (sym (c.in_ok-write_image.ensures.image ∙ whole))
+
+pub returns-clause-again : goal.returns-clause-again
+returns-clause-again c =
+    let list = c.args.list.now in
+    let order = order_of _ _ _ c.as_slice.ensures c.in_ok-groups.ensures _ _ c.deref.ensures.value (ap shown c.deref-2.ensures.value ∙ c.in_ok-order.ensures) in
+    let limit = limit_is _ _ _ c.as_slice.ensures c.in_ok-groups.ensures c.len.result _ (omega (arith, c.len.ensures)) order in
+    let again = order_of _ _ _ c.as_slice.ensures c.in_ok-groups.ensures _ _ c.deref.ensures.value (ap shown c.deref-4.ensures.value ∙ c.in_ok-order.ensures) in
+    let whole = whole_is _ _ _ c.as_slice.ensures c.in_ok-groups.ensures c.args.attributes c.args.reserved.now _ _ c.deref-3.ensures.value again in
+    let ranges = c.in_ok-write_image.ensures.ranges in
+    let readable : IsReadable list c.args.attributes c.args.reserved.now = record {
+      keys = c.requires.keys;
+      codes = codes_fit _ _ _ c.as_slice.ensures c.in_ok-groups.ensures _ c.deref-3.ensures.value ranges.codes;
+      ids = subst (AllByRecursion HasShortId) again ranges.ids;
+      limits = sym (c.in_default.ensures.first ∙ limit);
+      attributes_fit = omega arith;
+      room = c.requires.room;
+    } in
+    ap admitted (c.in_ok-write_image.ensures.image ∙ whole) ∙ image_admitted list c.args.attributes c.args.reserved.now readable
