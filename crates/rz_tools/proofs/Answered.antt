@@ -70,9 +70,9 @@ module _ (files : Option Files) (words named : List (List ℕ)) (moment : Moment
       by None ending = tt
       by (Some files) ending =
           subst (λ asked. SaysAnswer (answer_to asked files moment) result before after faults_before faults_after) (sym is)
-              (says (rez_answer file output files) (file ∷ []) (rez_line file output files (map.get files file)) before after faults_before faults_after result
-                  (ends (rez_answer file output files) outcome result ending so)
-                  (subst (λ names. Says (message names result) before after faults_before faults_after) name said))
+          (says (rez_answer file output files) (file ∷ []) (rez_line file output files (map.get files file)) before after faults_before faults_after result
+          (ends (rez_answer file output files) outcome result ending so)
+          (subst (λ names. Says (message names result) before after faults_before faults_after) name said))
 
   pub derez_answered : (file : List ℕ) → command_of words ≡ Ok (DeRez file) → named ≡ file ∷ []
       → IfSome files (λ files. EndsAs (derez_answer file files) outcome)
@@ -84,6 +84,6 @@ module _ (files : Option Files) (words named : List (List ℕ)) (moment : Moment
       by None ending = tt
       by (Some files) ending =
           subst (λ asked. SaysAnswer (answer_to asked files moment) result before after faults_before faults_after) (sym is)
-              (says (derez_answer file files) (file ∷ []) (derez_line file files (map.get files file)) before after faults_before faults_after result
-                  (ends (derez_answer file files) outcome result ending so)
-                  (subst (λ names. Says (message names result) before after faults_before faults_after) name said))
+          (says (derez_answer file files) (file ∷ []) (derez_line file files (map.get files file)) before after faults_before faults_after result
+          (ends (derez_answer file files) outcome result ending so)
+          (subst (λ names. Says (message names result) before after faults_before faults_after) name said))

@@ -28,8 +28,8 @@ limit list =
     let map = lists_end (length (kinds_of list)) (length (grouped list)) in
     let names = length (name_list (grouped list)) in
     first (passed 302 16777216 bytes) _ (one_passed 302 16777216 bytes (search rules))
-        (first (passed 303 65535 map) _ (one_passed 303 65535 map (search rules))
-            (first (passed 304 65535 names) _ (one_passed 304 65535 names (search rules)) tt))
+    (first (passed 303 65535 map) _ (one_passed 303 65535 map (search rules))
+    (first (passed 304 65535 names) _ (one_passed 304 65535 names (search rules)) tt))
 
 same_fault : (found fault : LimitFault) → ◌≡◌ {A = Result (List ℕ) LimitFault} (Err found) (Err fault) → found ≡ fault
 same_fault found fault says = cc

@@ -38,7 +38,7 @@ untouched None out words moment result file output is = tt
 untouched (Some files) None words moment result file output is = tt
 untouched (Some files) (Some text) words moment result file output is =
     no_more (answer words files moment) text result
-        (ap (λ asked. (answer_to asked files moment).out) is ∙ of_source file output files (map.get files file))
+    (ap (λ asked. (answer_to asked files moment).out) is ∙ of_source file output files (map.get files file))
 
 -- the output, where there was no memory for the line of a refusal
 stays : (wanted : Answer) (text : List ℕ) (outcome result : Outcome) (after : Option (List ℕ))
@@ -63,4 +63,4 @@ shown_so None out after words moment outcome result file is leaves so = tt
 shown_so (Some files) None after words moment outcome result file is leaves so = tt
 shown_so (Some files) (Some text) after words moment outcome result file is leaves so =
     subst (λ asked. LeavesOutput (answer_to asked files moment) text result after) (sym is)
-        (stays (derez_answer file files) text outcome result after leaves so)
+    (stays (derez_answer file files) text outcome result after leaves so)

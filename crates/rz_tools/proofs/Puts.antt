@@ -58,9 +58,11 @@ exchanged before mid [] r x is differ = tt
 exchanged before mid (y ∷ xs) r x is differ =
     let test : Resource → Bool = λ b. same_key b y in
     let same : list_any test (before ++ r ∷ mid) ≡ list_any test (before ++ x ∷ mid) =
-    list_any-append test before (r ∷ mid) ∙ ap (λ b. list_any test before || (b || list_any test mid)) (sym (same_to r x y is)) ∙ sym (list_any-append test before (x ∷ mid)) in
-    (same ∙ differ.0, subst (λ (l : List Resource). KeysDiffer l xs) (sym (append_assoc before (r ∷ mid) (y ∷ [])))
-      (exchanged before (mid ++ y ∷ []) xs r x is (subst (λ (l : List Resource). KeysDiffer l xs) (append_assoc before (x ∷ mid) (y ∷ [])) differ.1)))
+    list_any-append test before (r ∷ mid) ∙ ap (λ b. list_any test before || (b || list_any test mid)) (sym (same_to r x y is)) ∙ sym (list_any-append test before (x ∷ mid)) in (
+      same ∙ differ.0,
+      subst (λ (l : List Resource). KeysDiffer l xs) (sym (append_assoc before (r ∷ mid) (y ∷ [])))
+          (exchanged before (mid ++ y ∷ []) xs r x is (subst (λ (l : List Resource). KeysDiffer l xs) (append_assoc before (x ∷ mid) (y ∷ [])) differ.1)),
+    )
 
 eqb-sym : (a b : ℕ) → (a == b) ≡ (b == a)
 eqb-sym a b = grind (arith, nat_tests)
@@ -76,10 +78,13 @@ differ_put before (x ∷ xs) r differ new = by (differ_put (before ++ x ∷ []) 
     by : (list_any (λ b. same_key b r) (before ++ x ∷ []) ≡ false → KeysDiffer (before ++ x ∷ []) (put xs r))
         → (b : Bool) → same_key r x ≡ b → KeysDiffer before (if b then r ∷ xs else x ∷ put xs r)
     by later true is = (new, exchanged before [] xs r x is differ.1)
-    by later false is = (differ.0, later (
-        list_any-append (λ b. same_key b r) before (x ∷ [])
-        ∙ λ i. new i || ((sym (flipped r x) ∙ is) i || false)
-        ))
+    by later false is = (
+      differ.0,
+      later (
+          list_any-append (λ b. same_key b r) before (x ∷ [])
+          ∙ λ i. new i || ((sym (flipped r x) ∙ is) i || false)
+          ),
+    )
 
 pub differ_put_all : (list rs : List Resource) → KeysDiffer [] list → KeysDiffer [] (put_all list rs)
 differ_put_all list [] differ = differ

@@ -32,10 +32,10 @@ pub fn run_derez<F: Folder, O: Sink>(
         LeavesOutput (derez_answer words.entry.file.now files) before result (O.written out.new))) }
     ensures refused { IfSome (F.files folder.old) (λ files.
         RefusesAll (derez_answer words.entry.file.now files).outcome result
-            (Rose (F.read_faults folder.old) (F.read_faults folder.new))) }
+        (Rose (F.read_faults folder.old) (F.read_faults folder.new))) }
     ensures complete { IfSome (F.files folder.old) (λ files.
         Completes (derez_answer words.entry.file.now files).outcome result
-            (Rose (F.read_faults folder.old) (F.read_faults folder.new) ⊎ Rose (O.faults out.old) (O.faults out.new))) }
+        (Rose (F.read_faults folder.old) (F.read_faults folder.new) ⊎ Rose (O.faults out.old) (O.faults out.new))) }
     ensures no_usage { IsNoUsage result }
     ensures nameable { IfRefused result (IsNameable 1) }
     ensures read_fault { result ≡ Outcome.ReadFault → Rose (F.read_faults folder.old) (F.read_faults folder.new) }

@@ -8,11 +8,7 @@ use rz_core::{Bytes, FileNames, NoMemory, write_decimal, write_fault};
 use std::alloc::Global;
 
 /// The line that says how a run ended, where these are the files that marks count; nothing for Done.
-pub fn message_of(
-    alloc: Global,
-    outcome: &Outcome,
-    files: &FileNames,
-) -> Result<Bytes, NoMemory>
+pub fn message_of(alloc: Global, outcome: &Outcome, files: &FileNames) -> Result<Bytes, NoMemory>
     requires { IfRefused outcome.now (IsNameable (length files.now)) }
     ensures { IfOk result (λ line. line ≡ message files.now outcome.now) }
 {

@@ -45,15 +45,15 @@ pub fn run<F: Folder, O: Sink, E: Sink>(
     ensures usage { IsUsageExactly (command_of (map string_bytes words.now)) result }
     ensures refused { IfSome (F.files folder.old) (λ files.
         RefusesAll (answer (map string_bytes words.now) files moment).outcome result
-            (Rose (F.read_faults folder.old) (F.read_faults folder.new))) }
+        (Rose (F.read_faults folder.old) (F.read_faults folder.new))) }
     ensures read_fault { result ≡ Outcome.ReadFault → Rose (F.read_faults folder.old) (F.read_faults folder.new) }
     ensures write_fault { result ≡ Outcome.WriteFault →
         Rose (F.write_faults folder.old) (F.write_faults folder.new) ⊎ Rose (O.faults out.old) (O.faults out.new) }
     ensures complete { IfSome (F.files folder.old) (λ files.
         Completes (answer (map string_bytes words.now) files moment).outcome result
-            (Rose (F.read_faults folder.old) (F.read_faults folder.new)
-            ⊎ Rose (F.write_faults folder.old) (F.write_faults folder.new)
-            ⊎ Rose (O.faults out.old) (O.faults out.new))) }
+        (Rose (F.read_faults folder.old) (F.read_faults folder.new)
+        ⊎ Rose (F.write_faults folder.old) (F.write_faults folder.new)
+        ⊎ Rose (O.faults out.old) (O.faults out.new))) }
 
     // What stays, and what is said.
     ensures kept_output { KeepsOutput result (O.written out.old) (O.written out.new) }
@@ -62,7 +62,7 @@ pub fn run<F: Folder, O: Sink, E: Sink>(
     ensures again { IfSome (F.files folder.old) (λ files. ReadsAgain (command_of (map string_bytes words.now)) files result) }
     ensures err_answered { IfSome (F.files folder.old) (λ files.
         SaysAnswer (answer (map string_bytes words.now) files moment) result
-            (E.written err.old) (E.written err.new) (E.faults err.old) (E.faults err.new)) }
+        (E.written err.old) (E.written err.new) (E.faults err.old) (E.faults err.new)) }
 {
     let mut named = FileNames::new(alloc);
     match read_words(words) {

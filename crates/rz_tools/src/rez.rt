@@ -27,14 +27,14 @@ pub fn run_rez<F: Folder>(alloc: Global, folder: &mut F, words: RezWords<'_>) ->
         LeavesFiles (rez_answer words.entry.file.now words.entry.output.now files) files result (F.files folder.new)) }
     ensures refused { IfSome (F.files folder.old) (λ files.
         RefusesAll (rez_answer words.entry.file.now words.entry.output.now files).outcome result
-            (Rose (F.read_faults folder.old) (F.read_faults folder.new))) }
+        (Rose (F.read_faults folder.old) (F.read_faults folder.new))) }
     ensures no_usage { IsNoUsage result }
     ensures nameable { IfRefused result (IsNameable 1) }
     ensures read_fault { result ≡ Outcome.ReadFault → Rose (F.read_faults folder.old) (F.read_faults folder.new) }
     ensures write_fault { result ≡ Outcome.WriteFault → Rose (F.write_faults folder.old) (F.write_faults folder.new) }
     ensures complete { IfSome (F.files folder.old) (λ files.
         Completes (rez_answer words.entry.file.now words.entry.output.now files).outcome result
-            (Rose (F.read_faults folder.old) (F.read_faults folder.new) ⊎ Rose (F.write_faults folder.old) (F.write_faults folder.new))) }
+        (Rose (F.read_faults folder.old) (F.read_faults folder.new) ⊎ Rose (F.write_faults folder.old) (F.write_faults folder.new))) }
 {
     let source = match folder.read(alloc, words.file) {
         Read::Bytes(source) => source,
