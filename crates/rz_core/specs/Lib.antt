@@ -7,3 +7,4 @@ pub mod Quoted
 pub mod Message
 pub mod Moment
 pub mod Resources
+pub mod Roman

@@ -12,6 +12,7 @@ mod message;
 mod moment;
 mod quoted;
 mod resource;
+mod roman;
 mod stop;
 
 pub use attr::Attr;
@@ -24,4 +25,5 @@ pub use message::write_fault;
 pub use moment::Moment;
 pub use quoted::{write_hex, write_quoted, write_shown};
 pub use resource::{OsType, Resource, Resources, Word, Words};
+pub use roman::{fold, from_roman, roman_is_one_to_one, to_roman};
 pub use stop::{NoMemory, Stop};

@@ -21,6 +21,7 @@ pub enum ReferenceRule {
     Id,
 }
 
+/// The fault of a rule, with its offset in bytes from the start of the fork and its value.
 pub fn fault(number: u16, offset: usize, value: u32) -> ForkFault
     ensures { result ≡ record { number = number; offset = offset; value = value } }
 {

@@ -1,6 +1,6 @@
 use rz_core::{
-    Attr, Bytes, Fault, FileNames, Kept, Mark, Moment, OsType, Word, Words, write_decimal, write_fault,
-    write_hex, write_quoted, write_shown, write_signed,
+    Attr, Bytes, Fault, FileNames, Kept, Mark, Moment, OsType, Word, Words, fold, from_roman,
+    to_roman, write_decimal, write_fault, write_hex, write_quoted, write_shown, write_signed,
 };
 use std::test::Fail;
 
@@ -77,11 +77,31 @@ fn fault_lines_say_what_is_kept(rt: HostRuntime) -> Result<(), Fail> {
     files.push("one.r")?;
     let mut text = Bytes::new(alloc);
     let key = Kept::Key(OsType { code: 0x5465_7374 }, -1);
-    let plain = Fault { number: 201, mark: None, kept: Kept::Nothing };
-    let marked = Fault { number: 302, mark: Some(Mark { file: 0, line: 7 }), kept: Kept::Number(-5) };
-    let pair = Fault { number: 303, mark: None, kept: Kept::Pair(300, -1) };
-    let check = Fault { number: 304, mark: None, kept: Kept::Check(2, 65535, 0) };
-    let keyed = Fault { number: 101, mark: None, kept: key };
+    let plain = Fault {
+        number: 201,
+        mark: None,
+        kept: Kept::Nothing,
+    };
+    let marked = Fault {
+        number: 302,
+        mark: Some(Mark { file: 0, line: 7 }),
+        kept: Kept::Number(-5),
+    };
+    let pair = Fault {
+        number: 303,
+        mark: None,
+        kept: Kept::Pair(300, -1),
+    };
+    let check = Fault {
+        number: 304,
+        mark: None,
+        kept: Kept::Check(2, 65535, 0),
+    };
+    let keyed = Fault {
+        number: 101,
+        mark: None,
+        kept: key,
+    };
     write_fault(&plain, &files, &mut text)?;
     write_fault(&marked, &files, &mut text)?;
     write_fault(&pair, &files, &mut text)?;
@@ -94,4 +114,35 @@ fn fault_lines_say_what_is_kept(rt: HostRuntime) -> Result<(), Fail> {
         rezkit: error 101 MissingFile: 'Test' -1\n";
     assert_eq!(rt; text.as_slice(), wanted.as_slice());
     Ok(())
+}
+
+#[test]
+fn mac_roman_has_its_characters(rt: HostRuntime) {
+    let pairs = [
+        (b'A', 'A'),
+        (0x7F, '\u{7F}'),
+        (0x80, '\u{C4}'),
+        (0x8E, '\u{E9}'),
+        (0xA5, '\u{2022}'),
+        (0xDB, '\u{20AC}'),
+        (0xF0, '\u{F8FF}'),
+        (0xFF, '\u{2C7}'),
+    ];
+    for (byte, character) in pairs {
+        assert_eq!(rt; from_roman(byte), character);
+        assert_eq!(rt; to_roman(character), Some(byte));
+    }
+    for character in ['\u{80}', '\u{A4}', '\u{FFFD}', '\u{1F600}'] {
+        assert_eq!(rt; to_roman(character), None);
+    }
+    for (byte, folded) in [
+        (b'A', b'a'),
+        (b'Z', b'z'),
+        (b'@', b'@'),
+        (b'[', b'['),
+        (b'z', b'z'),
+        (0x80, 0x80),
+    ] {
+        assert_eq!(rt; fold(byte), folded);
+    }
 }

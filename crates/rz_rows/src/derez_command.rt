@@ -67,11 +67,15 @@ fn shared_bytes_are_shown_for_each_resource(rt: HostRuntime) -> Result<(), Fail>
     let changes = [(321, 0), (322, 0), (323, 0)];
     let mut desk = desk_with_fork(Desk::new(rt.alloc())?, source, 328, &changes)?;
     assert_eq!(rt; desk.run(&["derez", "f"])?.status(), 0);
-    let wanted = b"data 'Test' (128) {\n    $\"0102\"\n};\n\ndata 'Test' (129) {\n    $\"0102\"\n};\n\n";
+    let wanted =
+        b"data 'Test' (128) {\n    $\"0102\"\n};\n\ndata 'Test' (129) {\n    $\"0102\"\n};\n\n";
     assert_eq!(rt; desk.out.bytes(), wanted.as_slice());
     desk.insert("again.r", wanted)?;
     assert_eq!(rt; desk.run(&["rez", "again.r", "-o", "again"])?.status(), 0);
-    assert_eq!(rt; desk.folder.bytes("again").map(|fork| fork.len()), Some(330));
+    assert_eq!(rt;
+        desk.folder.bytes("again").map(|fork| fork.len()),
+        Some(330)
+    );
     Ok(())
 }
 
@@ -79,14 +83,34 @@ fn shared_bytes_are_shown_for_each_resource(rt: HostRuntime) -> Result<(), Fail>
 fn shared_names_are_shown_for_each_resource(rt: HostRuntime) -> Result<(), Fail> {
     // The map has three bytes more, of the name list, and the references their offsets in it.
     let shared = [
-        (15, 65), (304, 0), (305, 0), (316, 0), (317, 0), (326, 2), (327, b'a'), (328, b'b'),
+        (15, 65),
+        (304, 0),
+        (305, 0),
+        (316, 0),
+        (317, 0),
+        (326, 2),
+        (327, b'a'),
+        (328, b'b'),
     ];
     let nested = [
-        (15, 65), (304, 0), (305, 0), (316, 0), (317, 1), (326, 2), (327, 1), (328, b'b'),
+        (15, 65),
+        (304, 0),
+        (305, 0),
+        (316, 0),
+        (317, 1),
+        (326, 2),
+        (327, 1),
+        (328, b'b'),
     ];
     let forks = [
-        (shared, "data 'Aaaa' (0, \"ab\") {\n    $\"\"\n};\n\ndata 'Aaaa' (1, \"ab\") {\n    $\"\"\n};\n\n"),
-        (nested, "data 'Aaaa' (0, \"\\0x01b\") {\n    $\"\"\n};\n\ndata 'Aaaa' (1, \"b\") {\n    $\"\"\n};\n\n"),
+        (
+            shared,
+            "data 'Aaaa' (0, \"ab\") {\n    $\"\"\n};\n\ndata 'Aaaa' (1, \"ab\") {\n    $\"\"\n};\n\n",
+        ),
+        (
+            nested,
+            "data 'Aaaa' (0, \"\\0x01b\") {\n    $\"\"\n};\n\ndata 'Aaaa' (1, \"b\") {\n    $\"\"\n};\n\n",
+        ),
     ];
     for (changes, wanted) in forks {
         let mut desk = desk_with_fork(Desk::new(rt.alloc())?, TWO_IDS, 329, &changes)?;
@@ -100,8 +124,16 @@ fn shared_names_are_shown_for_each_resource(rt: HostRuntime) -> Result<(), Fail>
 fn names_ids_and_attributes_are_shown(rt: HostRuntime) -> Result<(), Fail> {
     // The one resource with id -1, the attribute byte 54, and in a longer map the name `a"b`.
     let named = [
-        (15, 54), (300, 0xFF), (301, 0xFF), (302, 0), (303, 0), (304, 0x54), (312, 3), (313, b'a'),
-        (314, b'"'), (315, b'b'),
+        (15, 54),
+        (300, 0xFF),
+        (301, 0xFF),
+        (302, 0),
+        (303, 0),
+        (304, 0x54),
+        (312, 3),
+        (313, b'a'),
+        (314, b'"'),
+        (315, b'b'),
     ];
     let mut desk = desk_with_fork(Desk::new(rt.alloc())?, ONE, 316, &named)?;
     assert_eq!(rt; desk.run(&["derez", "f"])?.status(), 0);
@@ -109,8 +141,14 @@ fn names_ids_and_attributes_are_shown(rt: HostRuntime) -> Result<(), Fail> {
     assert_eq!(rt; desk.out.bytes(), wanted.as_slice());
     // The attribute bytes 81 and 7E.
     let attributes = [
-        (0x81, b"data 'Test' (128, $81) {\n    $\"0102\"\n};\n\n".as_slice()),
-        (0x7E, b"data 'Test' (128, sysheap, purgeable, locked, protected, preload, changed) {\n    $\"0102\"\n};\n\n".as_slice()),
+        (
+            0x81,
+            b"data 'Test' (128, $81) {\n    $\"0102\"\n};\n\n".as_slice(),
+        ),
+        (
+            0x7E,
+            b"data 'Test' (128, sysheap, purgeable, locked, protected, preload, changed) {\n    $\"0102\"\n};\n\n".as_slice(),
+        ),
     ];
     for (byte, text) in attributes {
         let mut desk = desk_with_fork(Desk::new(rt.alloc())?, ONE, 312, &[(304, byte)])?;
@@ -122,7 +160,7 @@ fn names_ids_and_attributes_are_shown(rt: HostRuntime) -> Result<(), Fail> {
 
 #[test]
 fn first_broken_rule_is_named_with_offset_and_value(rt: HostRuntime) -> Result<(), Fail> {
-    let one: [(usize, &[(usize, u8)], &str); 14] = [
+    let one: [(usize, &[(usize, u8)], &str); 19] = [
         (15, &[], "401 ShortHeader: 0 15"),
         (312, &[(11, 57)], "402 DataAreaOutside: 0 57"),
         (312, &[(0, 1)], "402 DataAreaOutside: 0 6"),
@@ -135,8 +173,38 @@ fn first_broken_rule_is_named_with_offset_and_value(rt: HostRuntime) -> Result<(
         (312, &[(307, 3)], "408 DataOutside: 259 0"),
         (312, &[(259, 3)], "408 DataOutside: 256 3"),
         (312, &[(302, 0), (303, 0)], "409 NameOutside: 312 0"),
-        (312, &[(289, 49), (302, 0), (303, 0), (311, 1)], "409 NameOutside: 311 0"),
-        (312, &[(259, 3), (302, 0), (303, 0)], "408 DataOutside: 256 3"),
+        (
+            312,
+            &[(289, 49), (302, 0), (303, 0), (311, 1)],
+            "409 NameOutside: 311 0",
+        ),
+        (
+            312,
+            &[(259, 3), (302, 0), (303, 0)],
+            "408 DataOutside: 256 3",
+        ),
+        (312, &[(11, 57), (15, 51)], "402 DataAreaOutside: 0 57"),
+        // More than 8,192 types, and more than 16,384 references; at the limit the next rule is looked at.
+        (
+            65_836,
+            &[(13, 1), (15, 38), (290, 32)],
+            "406 TypesOutside: 290 8193",
+        ),
+        (
+            196_920,
+            &[(13, 3), (296, 64)],
+            "407 ReferencesOutside: 300 16385",
+        ),
+        (
+            196_920,
+            &[(13, 3), (296, 63), (297, 255)],
+            "410 Repeated: 324 0",
+        ),
+        (
+            312,
+            &[(256, 255), (257, 255), (258, 255), (259, 255)],
+            "408 DataOutside: 256 4294967295",
+        ),
     ];
     for (length, changes, wanted) in one {
         let mut desk = desk_with_fork(Desk::new(rt.alloc())?, ONE, length, changes)?;
@@ -184,7 +252,10 @@ fn words_of_derez_that_are_no_command(rt: HostRuntime) -> Result<(), Fail> {
 fn missing_fork_failed_read_and_failed_output_end_the_run(rt: HostRuntime) -> Result<(), Fail> {
     let mut desk = Desk::new(rt.alloc())?;
     assert_eq!(rt; desk.run(&["derez", "no"])?.status(), 2);
-    assert_eq!(rt; desk.err.bytes(), b"rezkit: error 101 MissingFile: \"no\"\n".as_slice());
+    assert_eq!(rt;
+        desk.err.bytes(),
+        b"rezkit: error 101 MissingFile: \"no\"\n".as_slice()
+    );
     let mut desk = desk_with_fork(Desk::new(rt.alloc())?, ONE, 312, &[])?;
     desk.folder.fail_at(3);
     assert_eq!(rt; desk.run(&["derez", "f"])?.status(), 3);
@@ -192,6 +263,9 @@ fn missing_fork_failed_read_and_failed_output_end_the_run(rt: HostRuntime) -> Re
     desk.out.fail_at(1, 5);
     assert_eq!(rt; desk.run(&["derez", "f"])?.status(), 3);
     assert_eq!(rt; desk.out.bytes(), b"data ".as_slice());
-    assert_eq!(rt; desk.err.bytes(), b"rezkit: read fault\nrezkit: write fault\n".as_slice());
+    assert_eq!(rt;
+        desk.err.bytes(),
+        b"rezkit: read fault\nrezkit: write fault\n".as_slice()
+    );
     Ok(())
 }

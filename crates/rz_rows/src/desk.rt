@@ -32,6 +32,7 @@ pub struct Desk {
 }
 
 impl Desk {
+    /// A desk without files.
     pub fn new(alloc: Global) -> Result<Desk, Fail> {
         let mut folder = MemFolder::new(alloc);
         folder.reserve(100, 1_000_000)?;

@@ -1,7 +1,5 @@
 use rz_core::Bytes;
-use rz_folder::{
-    Folder, MemFolder, MemSink, Put, Read, RealFolder, RealSink, Sink, Written,
-};
+use rz_folder::{Folder, MemFolder, MemSink, Put, Read, RealFolder, RealSink, Sink, Written};
 use std::fs;
 use std::test::Fail;
 
@@ -16,8 +14,16 @@ fn folder_in_memory_has_room_for_what_was_reserved(rt: HostRuntime) -> Result<()
     assert_eq!(rt; folder.write("a", b"345"), Written::Failed);
     assert_eq!(rt; folder.write("a", b"34"), Written::Done);
     assert_eq!(rt; folder.write("", b""), Written::Failed);
-    assert!(rt; folder.bytes("a").is_some_and(|bytes| bytes == b"34".as_slice()));
-    assert!(rt; folder.bytes("ab").is_some_and(|bytes| bytes == b"new".as_slice()));
+    assert!(rt;
+        folder
+            .bytes("a")
+            .is_some_and(|bytes| bytes == b"34".as_slice())
+    );
+    assert!(rt;
+        folder
+            .bytes("ab")
+            .is_some_and(|bytes| bytes == b"new".as_slice())
+    );
     assert!(rt; folder.bytes("b").is_none());
     assert_eq!(rt; (folder.read_faults(), folder.write_faults()), (0, 3));
     Ok(())
@@ -61,7 +67,9 @@ fn host_files_are_written_and_read(rt: HostRuntime) -> Result<(), Fail> {
     let name = "rezkit-test-of-a-host-file";
     let mut folder = RealFolder::new(rt);
     assert_eq!(rt; folder.write(name, b"\x00\x01"), Written::Done);
-    assert!(rt; matches!(folder.read(alloc, name), Read::Bytes(bytes) if holds(&bytes, b"\x00\x01")));
+    assert!(rt;
+        matches!(folder.read(alloc, name), Read::Bytes(bytes) if holds(&bytes, b"\x00\x01"))
+    );
     fs::remove_file(&rt, name)?;
     assert!(rt; matches!(folder.read(alloc, name), Read::Missing));
     assert_eq!(rt; (folder.read_faults(), folder.write_faults()), (0, 0));

@@ -18,7 +18,10 @@ fn names_attributes_and_reserved_bytes_are_written(rt: HostRuntime) -> Result<()
     };
     let fork = fork.as_slice();
     assert_eq!(rt; fork.len(), 260 + 28 + 2 + 8 + 12 + 3);
-    assert_eq!(rt; &fork[..20], b"\x00\x00\x01\x00\x00\x00\x01\x04\x00\x00\x00\x04\x00\x00\x00\x35rez\x00".as_slice());
+    assert_eq!(rt;
+        &fork[..20],
+        b"\x00\x00\x01\x00\x00\x00\x01\x04\x00\x00\x00\x04\x00\x00\x00\x35rez\x00".as_slice()
+    );
     assert_eq!(rt; &fork[256..260], [0, 0, 0, 0].as_slice());
     let map = [
         0, 0, 0, 0, 0, 0, 0, 0x80, 0, 28, 0, 50, // handle, file number, attributes, list offsets

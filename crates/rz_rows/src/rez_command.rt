@@ -39,7 +39,10 @@ fn sources_that_mean_the_example(rt: HostRuntime) -> Result<(), Fail> {
         desk.insert("one.r", source.as_bytes())?;
         let outcome = desk.run(&["rez", "one.r", "-o", "one.rsrc"])?;
         assert_eq!(rt; outcome.status(), 0, "{source}");
-        assert!(rt; desk.folder.bytes("one.rsrc").is_some_and(is_one), "{source}");
+        assert!(rt;
+            desk.folder.bytes("one.rsrc").is_some_and(is_one),
+            "{source}"
+        );
     }
     Ok(())
 }
@@ -65,7 +68,10 @@ fn resources_stand_by_type_in_the_order_of_their_types(rt: HostRuntime) -> Resul
         0x7F, 0xFF, 0xFF, 0xFF, 0, 0, 0, 12, 0, 0, 0, 0, // id 32767, data at 12
     ];
     assert_eq!(rt; fork.len(), 256 + 16 + 28 + 54);
-    assert_eq!(rt; &fork[..16], [0, 0, 1, 0, 0, 0, 1, 16, 0, 0, 0, 16, 0, 0, 0, 82].as_slice());
+    assert_eq!(rt;
+        &fork[..16],
+        [0, 0, 1, 0, 0, 0, 1, 16, 0, 0, 0, 16, 0, 0, 0, 82].as_slice()
+    );
     assert_eq!(rt; &fork[256..272], area.as_slice());
     assert_eq!(rt; &fork[300..], lists.as_slice());
     Ok(())
@@ -122,7 +128,10 @@ fn source_may_have_32768_bytes(rt: HostRuntime) -> Result<(), Fail> {
         assert_eq!(rt; outcome.status(), status);
         assert_eq!(rt; desk.folder.bytes("one.rsrc").is_some(), status == 0);
         if status == 2 {
-            assert_eq!(rt; desk.err.bytes(), b"rezkit: one.r:1: error 201 Syntax\n".as_slice());
+            assert_eq!(rt;
+                desk.err.bytes(),
+                b"rezkit: one.r:1: error 201 Syntax\n".as_slice()
+            );
         }
     }
     Ok(())

@@ -14,8 +14,13 @@ fn long_names_and_odd_types_are_shown(rt: HostRuntime) -> Result<(), Fail> {
         attr: Attr::of(0x20),
         moment,
     };
-    let text = show_bytes(alloc, &long, b"\x00\x01\x02\x03\x04\x05\x06\x07\x08\x09\x0A\x0B\x0C\x0D\x0E\x0F\x10")?;
-    let wanted = b"data 'Test' (128,\n    \"aaaaaaaaaaaaaaaaaaaaaaaaaaaaaaaaaaaaaaaaaaaaaaaaaaaaaaaaaaaaaaaa\"\n    \"b\", purgeable) {\n    $\"0001 0203 0405 0607 0809 0A0B 0C0D 0E0F\"\n    $\"10\"\n};\n\n";
+    let text = show_bytes(
+        alloc,
+        &long,
+        b"\x00\x01\x02\x03\x04\x05\x06\x07\x08\x09\x0A\x0B\x0C\x0D\x0E\x0F\x10",
+    )?;
+    let wanted =
+        b"data 'Test' (128,\n    \"aaaaaaaaaaaaaaaaaaaaaaaaaaaaaaaaaaaaaaaaaaaaaaaaaaaaaaaaaaaaaaaa\"\n    \"b\", purgeable) {\n    $\"0001 0203 0405 0607 0809 0A0B 0C0D 0E0F\"\n    $\"10\"\n};\n\n";
     assert_eq!(rt; text.as_slice(), wanted.as_slice());
     let odd = Facts {
         kind: OsType { code: 0x0027_5C7E },
@@ -25,7 +30,8 @@ fn long_names_and_odd_types_are_shown(rt: HostRuntime) -> Result<(), Fail> {
         moment,
     };
     let text = show_bytes(alloc, &odd, b"")?;
-    let wanted = b"data '\\0x00\\'\\\\~' (-32768, \"aaaaaaaaaaaaaaaaaaaaaaaaaaaaaaaaaaaaaaaaaaaaaaaaaaaaaaaaaaaaaaab\", $01) {\n    $\"\"\n};\n\n";
+    let wanted =
+        b"data '\\0x00\\'\\\\~' (-32768, \"aaaaaaaaaaaaaaaaaaaaaaaaaaaaaaaaaaaaaaaaaaaaaaaaaaaaaaaaaaaaaaab\", $01) {\n    $\"\"\n};\n\n";
     assert_eq!(rt; text.as_slice(), wanted.as_slice());
     Ok(())
 }
