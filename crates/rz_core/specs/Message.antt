@@ -3,8 +3,7 @@ use Rattle.std.specs.Prelude.{ℕ, ◌<◌, ◌==◌, if◌then◌else◌, List,
 use Rattle.std.specs.declared.option.Option.{Option}
 use Rattle.std.specs.declared.option.Option.TheVariants.{Some, None}
 use Rattle.rz_core.specs.Decimal.{decimal_of, signed_of}
-use Rattle.rz_core.specs.Numbers.{be}
-use Rattle.rz_core.specs.Quoted.{quoted}
+use Rattle.rz_core.specs.Quoted.{quoted, literal_text}
 use Rattle.rz_core.specs.declared.fault.Fault.{Fault}
 use Rattle.rz_core.specs.declared.fault.Mark.{Mark}
 use Rattle.rz_core.specs.declared.fault.Kept.{Kept}
@@ -43,10 +42,6 @@ pub record IsNameable (files : ℕ) (fault : Fault) : Type 0 where
 abbrev pub place_text : List (List ℕ) → Option Mark → List ℕ
 place_text files None = []
 place_text files (Some mark) = get_or files mark.file [] ++ codes ":" ++ decimal_of mark.line ++ codes ": "
-
--- a resource type as a literal
-abbrev pub literal_text : ℕ → List ℕ
-literal_text code = quoted 39 (be 4 code)
 
 -- what a fault keeps, behind a colon
 abbrev pub kept_text : Kept → List ℕ

@@ -1,6 +1,7 @@
 -- Bytes as rezkit shows them, in texts and literals and in its messages. (The escapes are those of MPW Rez.)
 use Rattle.std.specs.Prelude.{ℕ, ◌+◌, ◌-◌, ◌/◌, ◌%◌, nat_lt, ◌==◌, ◌||◌, if◌then◌else◌, List, [], ◌∷◌, ◌++◌}
 use Rattle.std.specs.List.{flat_map}
+use Rattle.rz_core.specs.Numbers.{be}
 
 -- a hex digit, in upper case
 abbrev pub hex_digit : ℕ → ℕ
@@ -23,3 +24,7 @@ shown_byte quote byte =
 -- the bytes between two such quote marks
 abbrev pub quoted : ℕ → List ℕ → List ℕ
 quoted quote bytes = quote ∷ flat_map (shown_byte quote) bytes ++ quote ∷ []
+
+-- a resource type as a literal
+abbrev pub literal_text : ℕ → List ℕ
+literal_text code = quoted 39 (be 4 code)

@@ -23,7 +23,7 @@ pub use file_names::FileNames;
 pub use list::{Bytes, Listing};
 pub use message::write_fault;
 pub use moment::Moment;
-pub use quoted::{write_hex, write_quoted, write_shown};
+pub use quoted::{write_hex, write_quoted, write_shown, write_type};
 pub use resource::{OsType, Resource, Resources, Word, Words};
 pub use roman::{fold, from_roman, roman_is_one_to_one, to_roman};
 pub use stop::{NoMemory, Stop};

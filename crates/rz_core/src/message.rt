@@ -1,10 +1,10 @@
 ghost use Rattle.std.specs.Prelude.{◌≡◌, ◌++◌, length, OnOk, OnErr};
 ghost use Rattle.std.specs.Option.{option_copied};
-ghost use Rattle.rz_core.specs.Message.{fault_name, place_text, kept_text, fault_line, literal_text, IsMarked, IsNameable};
+ghost use Rattle.rz_core.specs.Message.{fault_name, place_text, kept_text, fault_line, IsMarked, IsNameable};
 
 use crate::{
-    Bytes, Fault, FileNames, Kept, Mark, NoMemory, OsType, write_decimal, write_quoted,
-    write_signed,
+    Bytes, Fault, FileNames, Kept, Mark, NoMemory, write_decimal, write_quoted, write_signed,
+    write_type,
 };
 
 /// Appends the message line of a fault: `rezkit: FILE:LINE: error NUMBER NAME: KEPT` and a line end.
@@ -74,19 +74,11 @@ fn append_kept(kept: &Kept, line: &mut Bytes) -> Result<(), NoMemory>
         }
         Kept::Name(name) => write_quoted(name.as_slice(), b'"', line)?,
         Kept::Key(kind, id) => {
-            append_type(*kind, line)?;
+            write_type(*kind, line)?;
             line.append(b" ")?;
             write_signed(i64::from(*id), line)?;
         }
     }
-    Ok(())
-}
-
-#[tactic(auto, unfolding(crate::specs::Numbers::be))]
-fn append_type(kind: OsType, line: &mut Bytes) -> Result<(), NoMemory>
-    ensures { OnOk result (line.new ≡ line.old ++ literal_text kind.code) }
-{
-    write_quoted(&kind.code.to_be_bytes(), b'\'', line)?;
     Ok(())
 }
 

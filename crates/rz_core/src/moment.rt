@@ -9,18 +9,20 @@ pub struct Moment {
     ghost in_range: { IsInRange unix },
 }
 
-const FIRST: i64 = -2_082_844_800;
-
-const LAST: i64 = 2_208_988_799;
-
 impl Moment {
+    /// The first second of 1904, as seconds since the first second of 1970 in UTC.
+    pub const FIRST: i64 = -2_082_844_800;
+
+    /// The last second of 2039, as seconds since the first second of 1970 in UTC.
+    pub const LAST: i64 = 2_208_988_799;
+
     /// The moment so many seconds after the first second of 1970 in UTC. `None` comes exactly outside
     /// the years 1904 to 2039.
     pub fn of_unix(seconds: i64) -> Option<Moment>
         ensures some { IsSome result ↔ IsInRange seconds }
         ensures unix { IfSome result (λ moment. moment.unix ≡ seconds) }
     {
-        if seconds < FIRST || seconds > LAST {
+        if seconds < Self::FIRST || seconds > Self::LAST {
             return None;
         }
         Some(Moment { unix: seconds })

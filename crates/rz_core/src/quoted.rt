@@ -1,7 +1,7 @@
 ghost use Rattle.std.specs.Prelude.{◌≡◌, ◌<◌, ◌++◌, OnOk, OnErr};
-ghost use Rattle.rz_core.specs.Quoted.{quoted, shown_byte, hex_byte, hex_digit};
+ghost use Rattle.rz_core.specs.Quoted.{quoted, shown_byte, hex_byte, hex_digit, literal_text};
 
-use crate::{Bytes, NoMemory};
+use crate::{Bytes, NoMemory, OsType};
 
 /// Appends the bytes between two such quote marks, as literals and texts are shown: bytes from 20 to 7E
 /// as they are, with a backslash before a backslash and before the quote mark, and every other byte as
@@ -15,6 +15,16 @@ pub fn write_quoted(bytes: &[u8], quote: u8, into: &mut Bytes) -> Result<(), NoM
     append_quoted(bytes, quote, &mut text)?;
     into.append(text.as_slice())?;
     Ok(())
+}
+
+/// Appends a resource type as a literal: its four bytes between apostrophes. Where memory is refused
+/// `into` is unchanged.
+#[tactic(auto, unfolding(crate::specs::Numbers::be))]
+pub fn write_type(kind: OsType, into: &mut Bytes) -> Result<(), NoMemory>
+    ensures ok { OnOk result (into.new ≡ into.old ++ literal_text kind.code) }
+    ensures err { OnErr result (into.new ≡ into.old) }
+{
+    write_quoted(&kind.code.to_be_bytes(), b'\'', into)
 }
 
 fn append_quoted(bytes: &[u8], quote: u8, into: &mut Bytes) -> Result<(), NoMemory>

@@ -3,17 +3,23 @@ use crate::{Attr, Bytes, Listing};
 /// The type of a resource: four bytes in Mac Roman, as one number with the first byte highest.
 #[derive(Clone, Copy, Debug, PartialEq, Eq)]
 pub struct OsType {
+    /// The four bytes as a number, the first byte highest.
     pub code: u32,
 }
 
-/// A resource: its type, id, name (empty: no name), attributes and bytes. (Inside Macintosh: More
+/// A resource. (Inside Macintosh: More
 /// Macintosh Toolbox, Resource Manager.)
 #[derive(Debug, Drop)]
 pub struct Resource {
+    /// The type.
     pub kind: OsType,
+    /// The id. A list has at most one resource of a type and an id.
     pub id: i16,
+    /// The name in Mac Roman; empty: no name.
     pub name: Bytes,
+    /// The attributes.
     pub attr: Attr,
+    /// The contents.
     pub bytes: Bytes,
 }
 
@@ -23,6 +29,7 @@ pub type Resources = Listing<Resource>;
 /// A name of the language in the spelling in which it was written, in Mac Roman.
 #[derive(Debug, Drop)]
 pub struct Word {
+    /// The spelling.
     pub bytes: Bytes,
 }
 

@@ -1,5 +1,5 @@
 -- The commands.
-use Rattle.std.specs.Prelude.{◌≡◌, ℕ, nat_lt, ◌==◌, ◌&&◌, not, Bool, true, if◌then◌else◌, List, [], ◌∷◌, length, get_or, codes, Ok, Err}
+use Rattle.std.specs.Prelude.{◌≡◌, ◌≤◌, ℕ, suc, ◌==◌, not, Bool, true, if◌then◌else◌, List, [], ◌∷◌, ◌++◌, length, take, codes, Ok, Err}
 use Rattle.std.specs.declared.result.Result.{Result}
 use Rattle.std.specs.Str.{bytes_eq}
 use Rattle.rz_tools.specs.declared.outcome.UsageFault.{UsageFault}
@@ -11,38 +11,78 @@ pub data Asked : Type 0 where
   Rez : (file output : List ℕ) → Asked
   DeRez : (file : List ℕ) → Asked
 
--- a word stands at this place, from 0, and passes the test
-abbrev pub stands : List (List ℕ) → ℕ → (List ℕ → Bool) → Bool
-stands words place test = nat_lt place (length words) && test (get_or words place [])
-
 -- a file is a word that doesn't begin with `-`
 abbrev pub is_file : List ℕ → Bool
 is_file [] = true
 is_file (b ∷ bs) = not (b == 45)
 
--- `rez FILE -o NAME`, where the first word is `rez`
-abbrev pub rez_command : List (List ℕ) → Result Asked ℕ
-rez_command words =
-    if not (stands words 1 is_file) then Err 2
-    else if not (stands words 2 (bytes_eq (codes "-o"))) then Err 3
-    else if not (nat_lt 3 (length words)) then Err 4
-    else if nat_lt 4 (length words) then Err 5
-    else Ok (Rez (get_or words 1 []) (get_or words 3 []))
+-- What the words are, read from the first on. A word that can't stand where it stands gives its position, from 1.
 
--- `derez FILE`, where the first word is `derez`
-abbrev pub derez_command : List (List ℕ) → Result Asked ℕ
-derez_command words =
-    if not (stands words 1 is_file) then Err 2
-    else if nat_lt 2 (length words) then Err 3
-    else Ok (DeRez (get_or words 1 []))
+-- behind `rez FILE -o`: the name, and no more
+abbrev pub after_dash : List ℕ → List (List ℕ) → Result Asked ℕ
+after_dash file [] = Err 4
+after_dash file (output ∷ []) = Ok (Rez file output)
+after_dash file (output ∷ word ∷ words) = Err 5
 
--- the command; else the position, from 1, of the first word that can't stand where it stands: one past the longest
--- front of the words that begins a command
+-- behind `rez FILE`: `-o`
+abbrev pub after_file : List ℕ → List (List ℕ) → Result Asked ℕ
+after_file file [] = Err 3
+after_file file (word ∷ words) = if bytes_eq word (codes "-o") then after_dash file words else Err 3
+
+-- behind `rez`: the source
+abbrev pub after_rez : List (List ℕ) → Result Asked ℕ
+after_rez [] = Err 2
+after_rez (word ∷ words) = if is_file word then after_file word words else Err 2
+
+-- behind `derez FILE`: no more
+abbrev pub after_fork : List ℕ → List (List ℕ) → Result Asked ℕ
+after_fork file [] = Ok (DeRez file)
+after_fork file (word ∷ words) = Err 3
+
+-- behind `derez`: the fork
+abbrev pub after_derez : List (List ℕ) → Result Asked ℕ
+after_derez [] = Err 2
+after_derez (word ∷ words) = if is_file word then after_fork word words else Err 2
+
+-- the command, or the position of the first word that can't stand where it stands
 abbrev pub command_of : List (List ℕ) → Result Asked ℕ
-command_of words =
-    if stands words 0 (bytes_eq (codes "rez")) then rez_command words
-    else if stands words 0 (bytes_eq (codes "derez")) then derez_command words
+command_of [] = Err 1
+command_of (word ∷ words) =
+    if bytes_eq word (codes "rez") then after_rez words
+    else if bytes_eq word (codes "derez") then after_derez words
     else Err 1
+
+-- What that means: the commands, and the fronts of words that begin one.
+
+-- the words are this command: `rez FILE -o NAME` or `derez FILE`
+abbrev pub IsCommand : List (List ℕ) → Asked → Type 0
+IsCommand words (Rez file output) = (words ≡ codes "rez" ∷ file ∷ codes "-o" ∷ output ∷ []) × (is_file file ≡ true)
+IsCommand words (DeRez file) = (words ≡ codes "derez" ∷ file ∷ []) × (is_file file ≡ true)
+
+-- some command begins with these words
+pub record Begins (front : List (List ℕ)) : Type 0 where
+  pub more : List (List ℕ)
+  pub asked : Asked
+  pub is : IsCommand (front ++ more) asked
+
+-- the words are no command, and this position, from 1, is one past their longest front that begins one
+pub record IsMisplaced (words : List (List ℕ)) (position : ℕ) : Type 0 where
+  pub none : (asked : Asked) → IsCommand words asked → ⊥
+  pub front : ℕ
+  pub next : position ≡ suc front
+  pub within : front ≤ length words
+  pub begins : Begins (take front words)
+  pub longest : position ≤ length words → Begins (take position words) → ⊥
+
+-- the words are the command that was read, or the position is that of the first word that is misplaced
+abbrev pub Tells : List (List ℕ) → Result Asked ℕ → Type 0
+Tells words (Ok asked) = IsCommand words asked
+Tells words (Err position) = IsMisplaced words position
+
+-- the words of a command are read as this command, and all words are told what they are
+pub record ReadsCommands : Type 0 where
+  pub reads : (words : List (List ℕ)) (asked : Asked) → IsCommand words asked → command_of words ≡ Ok asked
+  pub tells : (words : List (List ℕ)) → Tells words (command_of words)
 
 -- a command of the code, by the words' bytes
 abbrev pub asked : Command → Asked

@@ -1,7 +1,6 @@
 ghost use Rattle.std.specs.Prelude.{◌≡◌, map};
 ghost use Rattle.std.specs.String.{string_bytes};
-ghost use Rattle.std.specs.Str.{bytes_eq};
-ghost use Rattle.rz_tools.specs.Command.{IsRead, command_of, derez_command, is_file, rez_command, stands};
+ghost use Rattle.rz_tools.specs.Command.{IsRead, after_dash, after_derez, after_file, after_rez, command_of, is_file, ReadsCommands};
 
 use crate::UsageFault;
 
@@ -32,62 +31,71 @@ pub enum Command<'a> {
 pub fn read_words(words: &[String]) -> Result<Command<'_>, UsageFault>
     ensures { IsRead (command_of (map string_bytes words.now)) result }
 {
-    if stands_at(words, 0, "rez") {
-        read_rez(words)
-    } else if stands_at(words, 0, "derez") {
-        read_derez(words)
+    let [command, rest @ ..] = words else {
+        return Err(UsageFault { position: 1 });
+    };
+    if command.as_str() == "rez" {
+        read_rez(rest)
+    } else if command.as_str() == "derez" {
+        read_derez(rest)
     } else {
         Err(UsageFault { position: 1 })
     }
 }
 
+/// The words behind `rez`.
 fn read_rez(words: &[String]) -> Result<Command<'_>, UsageFault>
-    ensures { IsRead (rez_command (map string_bytes words.now)) result }
+    ensures { IsRead (after_rez (map string_bytes words.now)) result }
 {
-    if !file_at(words, 1) {
+    let [file, rest @ ..] = words else {
         return Err(UsageFault { position: 2 });
+    };
+    if is_file(file.as_str()) {
+        read_dash(file.as_str(), rest)
+    } else {
+        Err(UsageFault { position: 2 })
     }
-    if !stands_at(words, 2, "-o") {
-        return Err(UsageFault { position: 3 });
-    }
-    if words.len() < 4 {
-        return Err(UsageFault { position: 4 });
-    }
-    if words.len() > 4 {
-        return Err(UsageFault { position: 5 });
-    }
-    Ok(Command::Rez(RezWords {
-        file: words[1].as_str(),
-        output: words[3].as_str(),
-    }))
 }
 
+/// The words behind `rez FILE`.
+fn read_dash<'a>(file: &'a str, words: &'a [String]) -> Result<Command<'a>, UsageFault>
+    ensures { IsRead (after_file file.now (map string_bytes words.now)) result }
+{
+    let [dash, rest @ ..] = words else {
+        return Err(UsageFault { position: 3 });
+    };
+    if dash.as_str() == "-o" {
+        read_output(file, rest)
+    } else {
+        Err(UsageFault { position: 3 })
+    }
+}
+
+/// The words behind `rez FILE -o`.
+fn read_output<'a>(file: &'a str, words: &'a [String]) -> Result<Command<'a>, UsageFault>
+    ensures { IsRead (after_dash file.now (map string_bytes words.now)) result }
+{
+    match words {
+        [] => Err(UsageFault { position: 4 }),
+        [output] => Ok(Command::Rez(RezWords {
+            file,
+            output: output.as_str(),
+        })),
+        _ => Err(UsageFault { position: 5 }),
+    }
+}
+
+/// The words behind `derez`.
 fn read_derez(words: &[String]) -> Result<Command<'_>, UsageFault>
-    ensures { IsRead (derez_command (map string_bytes words.now)) result }
+    ensures { IsRead (after_derez (map string_bytes words.now)) result }
 {
-    if !file_at(words, 1) {
-        return Err(UsageFault { position: 2 });
+    match words {
+        [file] if is_file(file.as_str()) => Ok(Command::DeRez(DeRezWords {
+            file: file.as_str(),
+        })),
+        [file, ..] if is_file(file.as_str()) => Err(UsageFault { position: 3 }),
+        _ => Err(UsageFault { position: 2 }),
     }
-    if words.len() > 2 {
-        return Err(UsageFault { position: 3 });
-    }
-    Ok(Command::DeRez(DeRezWords {
-        file: words[1].as_str(),
-    }))
-}
-
-/// Whether this word stands at that place, from 0.
-fn stands_at(words: &[String], place: usize, word: &str) -> bool
-    ensures { result ≡ stands (map string_bytes words.now) place (bytes_eq word.now) }
-{
-    place < words.len() && word == words[place].as_str()
-}
-
-/// Whether a file stands at that place, from 0.
-fn file_at(words: &[String], place: usize) -> bool
-    ensures { result ≡ stands (map string_bytes words.now) place is_file }
-{
-    place < words.len() && is_file(words[place].as_str())
 }
 
 /// Whether a word can be a file: it doesn't begin with `-`.
@@ -98,4 +106,11 @@ fn is_file(word: &str) -> bool
         [first, ..] => *first != b'-',
         [] => true,
     }
+}
+
+/// The law of the commands: the words of a command are read as that command, and of all other words the
+/// position is one past the longest front that begins a command.
+pub fn commands_are_read()
+    ensures { ReadsCommands }
+{
 }

@@ -9,5 +9,6 @@ mod program;
 mod resource_list;
 mod rez;
 
+pub use command::commands_are_read;
 pub use outcome::{Outcome, UsageFault};
 pub use program::run;
