@@ -6,6 +6,7 @@ use rz_core::Moment;
 use rz_folder::{RealFolder, RealSink, Sink};
 use rz_tools::run;
 use std::env;
+use std::io::ErrorKind;
 use std::process::ExitCode;
 use std::time::{Clock, SystemTime, UNIX_EPOCH};
 
@@ -15,20 +16,20 @@ const NO_WORDS: u8 = 5;
 /// The status where there is no memory for the words.
 const NO_MEMORY: u8 = 4;
 
-/// The first second of 1904.
-const FIRST_SECOND: i64 = -2_082_844_800;
-
 fn main(rt: HostRuntime) -> ExitCode {
     let mut err = RealSink::new(rt.stderr());
-    let Ok(args) = env::args(&rt) else {
-        let _ = err.put(b"rezkit: no words\n");
-        return ExitCode::from(NO_WORDS);
+    let args = match env::args(&rt) {
+        Ok(args) => args,
+        Err(error) if error.kind() == ErrorKind::OutOfMemory => return without_memory(&mut err),
+        Err(_) => {
+            let _ = err.put(b"rezkit: no words\n");
+            return ExitCode::from(NO_WORDS);
+        }
     };
     let mut words = Vec::new(rt.alloc());
     for word in args.skip(1) {
         if words.push(word).is_err() {
-            let _ = err.put(b"rezkit: no memory\n");
-            return ExitCode::from(NO_MEMORY);
+            return without_memory(&mut err);
         }
     }
     let moment = moment_of(&rt);
@@ -39,13 +40,18 @@ fn main(rt: HostRuntime) -> ExitCode {
     ExitCode::from(outcome.status())
 }
 
+/// Says that there is no memory for the words.
+fn without_memory<E: Sink>(err: &mut E) -> ExitCode {
+    let _ = err.put(b"rezkit: no memory\n");
+    ExitCode::from(NO_MEMORY)
+}
+
 /// The moment of the host's clock. One that is outside the range of moments, or can't be read, is taken
 /// as the first second of 1904.
 fn moment_of(clock: &impl Clock) -> Moment {
-    let seconds = unix_seconds(clock).unwrap_or(FIRST_SECOND);
-    match Moment::of_unix(seconds) {
+    match unix_seconds(clock).and_then(Moment::of_unix) {
         Some(moment) => moment,
-        None => Moment::of_unix(FIRST_SECOND).unwrap(),
+        None => Moment::of_unix(Moment::FIRST).unwrap(),
     }
 }
 

@@ -22,9 +22,7 @@ fn desk_with_fork(
     let mut changed = fork.to_vec(desk.alloc)?;
     changed.resize(length, 0)?;
     for (place, byte) in changes {
-        if let Some(held) = changed.get_mut(*place) {
-            *held = *byte;
-        }
+        *changed.get_mut(*place).ok_or("a change behind the end")? = *byte;
     }
     desk.insert("f", &changed)?;
     Ok(desk)

@@ -1,5 +1,5 @@
 use rz_core::{Attr, Bytes, OsType, Resource, Resources, Stop};
-use rz_fork::{LimitFault, write_fork};
+use rz_fork::{LimitFault, read_fork, write_fork};
 use std::test::Fail;
 
 #[test]
@@ -30,6 +30,17 @@ fn names_attributes_and_reserved_bytes_are_written(rt: HostRuntime) -> Result<()
         2, b'a', b'b',
     ];
     assert_eq!(rt; &fork[276..], map.as_slice());
+    let Ok(held) = read_fork(alloc, fork) else {
+        return Err(Fail::from("not admitted"));
+    };
+    assert_eq!(rt; held.attributes, 0x0080);
+    assert_eq!(rt; held.reserved.len(), 240);
+    assert_eq!(rt; &held.reserved.as_slice()[..4], b"rez\x00".as_slice());
+    assert_eq!(rt; held.list.len(), 1);
+    for read in held.list.as_slice() {
+        assert_eq!(rt; (read.id, read.attr.byte()), (-1, 0x81));
+        assert_eq!(rt; read.name.as_slice(), b"ab".as_slice());
+    }
     Ok(())
 }
 

@@ -1,5 +1,7 @@
+use crate::desk::ONE;
 use rz_core::{Attr, Bytes, Facts, Moment, OsType};
-use rz_show::show_bytes;
+use rz_lex::read_early;
+use rz_show::{show_bytes, show_resource};
 use std::test::Fail;
 
 #[test]
@@ -32,6 +34,21 @@ fn long_names_and_odd_types_are_shown(rt: HostRuntime) -> Result<(), Fail> {
     let text = show_bytes(alloc, &odd, b"")?;
     let wanted =
         b"data '\\0x00\\'\\\\~' (-32768, \"aaaaaaaaaaaaaaaaaaaaaaaaaaaaaaaaaaaaaaaaaaaaaaaaaaaaaaaaaaaaaaab\", $01) {\n    $\"\"\n};\n\n";
+    assert_eq!(rt; text.as_slice(), wanted.as_slice());
+    Ok(())
+}
+
+#[test]
+fn resource_that_was_read_is_shown(rt: HostRuntime) -> Result<(), Fail> {
+    let alloc = rt.alloc();
+    let Ok(resources) = read_early(alloc, ONE, 0) else {
+        return Err(Fail::from("refused"));
+    };
+    let mut text = Bytes::new(alloc);
+    for resource in resources.as_slice() {
+        show_resource(resource, &mut text)?;
+    }
+    let wanted = b"data 'Test' (128) {\n    $\"0102\"\n};\n\n";
     assert_eq!(rt; text.as_slice(), wanted.as_slice());
     Ok(())
 }

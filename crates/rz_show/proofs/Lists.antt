@@ -11,7 +11,7 @@ use Rattle.rz_lex.specs.Early.{early, longest_run, run_of, run_with, syntax_faul
 use Rattle.rz_lex.specs.EarlyStatement.{after_gap, after_part, head_at, statement_at}
 use Rattle.rz_show.specs.Data.{lines_text, list_text, resource_text, statement_text}
 use Rattle.rz_show.specs.Head.{data_head}
-use Rattle.rz_show.specs.ReadsAgain.{AreEarly, ShownListReadsAgain}
+use Rattle.rz_show.specs.ReadsAgain.{AreEarly, AreStored, ShownListReadsAgain}
 use Rattle.rz_show.proofs.Statements.{resource_again}
 use Rattle.rz_show.proofs.Texts.{by_cases}
 
@@ -38,19 +38,19 @@ record RunsAgain (source : List ℕ) (rs : List Resource) (count : ℕ) : Type 0
   run : run_of count source ≡ record { resources = rs; rest = rest }
   ends : after_gap rest ≡ []
 
-run_again : (gap : List ℕ) (rs : List Resource) (count : ℕ) → IsGap gap → AreEarly rs → length rs ≤ count → RunsAgain (gap ++ list_text rs) rs count
-run_again gap [] zero is_gap early enough = record { rest = gap ++ []; run = refl; ends = is_gap.ends }
-run_again gap [] (suc count) is_gap early enough = record {
+run_again : (gap : List ℕ) (rs : List Resource) (count : ℕ) → IsGap gap → AreEarly rs → AreStored rs → length rs ≤ count → RunsAgain (gap ++ list_text rs) rs count
+run_again gap [] zero is_gap early stored enough = record { rest = gap ++ []; run = refl; ends = is_gap.ends }
+run_again gap [] (suc count) is_gap early stored enough = record {
   rest = gap ++ [];
   run = ap (run_with (run_of count) (gap ++ [])) (is_gap.skipped [] ∙ no_statement);
   ends = is_gap.ends;
 }
-run_again gap (r ∷ rs) zero is_gap early enough = absurd (omega arith)
-run_again gap (r ∷ rs) (suc count) is_gap early enough =
-    let behind = run_again (codes "\n\n") rs count line_ends early.1 (omega arith) in
+run_again gap (r ∷ rs) zero is_gap early stored enough = absurd (omega arith)
+run_again gap (r ∷ rs) (suc count) is_gap early stored enough =
+    let behind = run_again (codes "\n\n") rs count line_ends early.1 stored.1 (omega arith) in
     record {
       rest = behind.rest;
-      run = ap (run_with (run_of count) (gap ++ list_text (r ∷ rs))) (is_gap.skipped (list_text (r ∷ rs)) ∙ resource_again r early.0 (list_text rs))
+      run = ap (run_with (run_of count) (gap ++ list_text (r ∷ rs))) (is_gap.skipped (list_text (r ∷ rs)) ∙ resource_again r early.0 stored.0 (list_text rs))
           ∙ ap (λ (run : Run). record { resources = r ∷ run.resources; rest = run.rest }) behind.run;
       ends = behind.ends;
     }
@@ -67,11 +67,11 @@ texts_long (r ∷ rs) = omega (arith, text_long r, texts_long rs, length-append 
 
 -- The source.
 
-source_again : (rs : List Resource) (file : ℕ) → AreEarly rs → length (list_text rs) ≤ 32768 → early (list_text rs) file ≡ Ok rs
+source_again : (rs : List Resource) (file : ℕ) → AreEarly rs → AreStored rs → length (list_text rs) ≤ 32768 → early (list_text rs) file ≡ Ok rs
 unfolding early
-source_again rs file are_early short =
+source_again rs file are_early stored short =
     let source = list_text rs in
-    let all = run_again [] rs (length source) no_bytes are_early (texts_long rs) in
+    let all = run_again [] rs (length source) no_bytes are_early stored (texts_long rs) in
     let within : nat_lt 32768 (length source) ≡ false = grind (arith, nat_tests) in
     ap (λ (b : Bool). if b then Err (syntax_fault file 1) else unless_stray source file (longest_run source).resources (after_gap (longest_run source).rest)) within
     ∙ ap (λ (run : Run). unless_stray source file run.resources (after_gap run.rest)) all.run
@@ -100,7 +100,7 @@ puts_new front (r ∷ rs) differ =
     ∙ append_assoc front (r ∷ []) rs
 
 pub list_again : ShownListReadsAgain
-list_again rs are_early differ short = record {
-  text = λ file. source_again rs file are_early short;
+list_again rs are_early stored differ short = record {
+  text = λ file. source_again rs file are_early stored short;
   puts = puts_new [] rs differ;
 }

@@ -11,14 +11,14 @@ use Rattle.std.specs.Int.{from_be_bytes, w32}
 use Rattle.std.specs.List.{AllByRecursion, list_all}
 use Rattle.rz_core.specs.Decimal.{signed_of}
 use Rattle.rz_core.specs.Lists.{each_with_front}
-use Rattle.rz_core.specs.Message.{literal_text}
+use Rattle.rz_core.specs.Quoted.{literal_text}
 use Rattle.rz_core.specs.Numbers.{be}
 use Rattle.rz_core.specs.Quoted.{quoted, shown_byte}
 use Rattle.rz_core.specs.declared.resource.Resource.{Resource}
 use Rattle.rz_lex.specs.EarlyStatement.{◌>>=◌, after_part, head_at, is_plain, literal_at, number_at, statement_at, texts_at}
 use Rattle.rz_show.specs.Data.{data_byte, lines_text, resource_text, statement_text}
 use Rattle.rz_show.specs.Head.{attr_text, data_head, name_text}
-use Rattle.rz_show.specs.ReadsAgain.{IsEarly}
+use Rattle.rz_show.specs.ReadsAgain.{IsEarly, IsStored}
 use Rattle.rz_show.proofs.Numbers.{number_again}
 use Rattle.rz_show.proofs.Texts.{bytes_again}
 
@@ -149,9 +149,9 @@ text_is r early id rest =
     shown_attr = ap attr_text early.attr ∙ attr_none
 
 -- the resource, and the two line ends behind its statement
-pub resource_again : (r : Resource) → IsEarly r → (rest : List ℕ) → statement_at (resource_text r ++ rest) ≡ Some (r, codes "\n\n" ++ rest)
-resource_again r early rest =
+pub resource_again : (r : Resource) → IsEarly r → IsStored r → (rest : List ℕ) → statement_at (resource_text r ++ rest) ≡ Some (r, codes "\n\n" ++ rest)
+resource_again r early stored rest =
     let id = small_id r.id early.id.0 early.id.1 in
     ap statement_at (text_is r early id rest)
-    ∙ statement_again r.kind.code id.n r.bytes rest early.code early.plain id.small early.bytes
+    ∙ statement_again r.kind.code id.n r.bytes rest stored.code early.plain id.small stored.bytes
     ∙ (λ i. Some (record { kind = r.kind; id = sym id.is i; name = sym early.name i; attr = sym early.attr i; bytes = r.bytes }, codes "\n\n" ++ rest))

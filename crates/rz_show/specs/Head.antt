@@ -2,8 +2,7 @@
 use Rattle.std.specs.Prelude.{ℕ, ℤ, ◌/◌, ◌%◌, nat_le, ◌==◌, ◌||◌, if◌then◌else◌, List, [], ◌++◌, codes, length}
 use Rattle.rz_core.specs.Decimal.{signed_of}
 use Rattle.rz_core.specs.Lists.{each_with_front}
-use Rattle.rz_core.specs.Message.{literal_text}
-use Rattle.rz_core.specs.Quoted.{quoted, shown_byte, hex_byte}
+use Rattle.rz_core.specs.Quoted.{quoted, shown_byte, hex_byte, literal_text}
 
 -- what stands before the byte of a long name at this position: after 64 bytes a new line begins
 unfoldable pub name_gap : ℕ → List ℕ

@@ -33,11 +33,11 @@ pub fn show_bytes(alloc: Global, facts: &Facts, bytes: &[u8]) -> Result<Bytes, N
 
 /// Appends the `data` statement of a resource, in the form of `show_bytes`: so the statements of several
 /// resources follow one another. Where memory is refused `into` is unchanged.
-pub fn show_resource(alloc: Global, resource: &Resource, into: &mut Bytes) -> Result<(), NoMemory>
+pub fn show_resource(resource: &Resource, into: &mut Bytes) -> Result<(), NoMemory>
     ensures ok { OnOk result (into.new ≡ into.old ++ resource_text resource.now) }
     ensures err { OnErr result (into.new ≡ into.old) }
 {
-    let mut text = Bytes::new(alloc);
+    let mut text = Bytes::new(into.allocator());
     append_statement(
         resource.kind,
         resource.id,

@@ -1,9 +1,10 @@
 ghost use Rattle.std.specs.Prelude.{◌≡◌, ◌<◌, ◌++◌, OnOk};
 ghost use Rattle.rz_core.specs.Lists.{each_with_front};
-ghost use Rattle.rz_core.specs.Message.{literal_text};
 ghost use Rattle.rz_show.specs.Head.{attr_text, data_head, name_byte, name_gap, name_text, word_text};
 
-use rz_core::{Attr, Bytes, NoMemory, OsType, write_hex, write_quoted, write_shown, write_signed};
+use rz_core::{
+    Attr, Bytes, NoMemory, OsType, write_hex, write_quoted, write_shown, write_signed, write_type,
+};
 
 /// The bytes of a name that stand on one line.
 const PIECE: usize = 64;
@@ -22,20 +23,12 @@ pub fn append_head(
     ensures { OnOk result (into.new ≡ into.old ++ data_head kind.code id name.now attr) }
 {
     into.append(b"data ")?;
-    append_type(kind, into)?;
+    write_type(kind, into)?;
     into.append(b" (")?;
     write_signed(i64::from(id), into)?;
     append_name(name, into)?;
     append_attr(attr.byte(), into)?;
     into.append(b") {\n")?;
-    Ok(())
-}
-
-#[tactic(auto, unfolding(rz_core::specs::Numbers::be))]
-fn append_type(kind: OsType, into: &mut Bytes) -> Result<(), NoMemory>
-    ensures { OnOk result (into.new ≡ into.old ++ literal_text kind.code) }
-{
-    write_quoted(&kind.code.to_be_bytes(), b'\'', into)?;
     Ok(())
 }
 

@@ -4,3 +4,4 @@ pub mod Said
 pub mod Output
 pub mod Again
 pub mod Answered
+pub mod Commands

@@ -112,5 +112,4 @@ fn is_file(word: &str) -> bool
 /// position is one past the longest front that begins a command.
 pub fn commands_are_read()
     ensures { ReadsCommands }
-{
-}
+{}

@@ -88,7 +88,7 @@ fn show_list(alloc: Global, list: &Resources) -> Result<Bytes, NoMemory>
     let mut text = Bytes::new(alloc);
     let resources = list.as_slice();
     for resource in resources {
-        show_resource(alloc, resource, &mut text)?;
+        show_resource(resource, &mut text)?;
     }
     Ok(text)
 }
