@@ -36,7 +36,7 @@ pub fn stored_name_length(resource: &Resource) -> u32
     requires { length resource.now.name < 256 }
     ensures { result ≡ length (stored_name resource.now) }
 {
-    if resource.name.len() == 0 {
+    if resource.name.is_empty() {
         return 0;
     }
     1 + resource.name.len() as u32
@@ -46,7 +46,7 @@ fn append_name(out: &mut Bytes, resource: &Resource) -> Result<(), NoMemory>
     requires { length resource.now.name < 256 }
     ensures { OnOk result (out.new ≡ out.old ++ stored_name resource.now) }
 {
-    if resource.name.len() == 0 {
+    if resource.name.is_empty() {
         return Ok(());
     }
     out.push(resource.name.len() as u8)?;
@@ -68,7 +68,7 @@ pub fn append_names(out: &mut Bytes, order: &[&Resource]) -> Result<(), NoMemory
 fn name_offset(resource: &Resource, names: u16) -> u16
     ensures { result ≡ (if length resource.now.name == 0 then 65535 else names) }
 {
-    if resource.name.len() == 0 {
+    if resource.name.is_empty() {
         return NO_NAME;
     }
     names
