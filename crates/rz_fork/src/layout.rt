@@ -67,12 +67,12 @@ pub fn read_header(bytes: &[u8]) -> Header
 
 /// Where the type list begins in the map.
 #[tactic(auto, unfolding(crate::specs::Layout::types_of))]
-pub fn types(bytes: &[u8], h: Header) -> usize
-    requires { HasMap bytes.now h }
-    ensures types { result ≡ types_of bytes.now h }
+pub fn types(bytes: &[u8], header: Header) -> usize
+    requires { HasMap bytes.now header }
+    ensures types { result ≡ types_of bytes.now header }
     ensures small { result < 2 ^ 16 }
 {
-    u16_at(bytes, h.map_at + 24) as usize
+    u16_at(bytes, header.map_at + 24) as usize
 }
 
 /// A count that is stored less one, modulo 65,536.
@@ -86,29 +86,29 @@ fn count(bytes: &[u8], place: usize) -> usize
 
 /// The outline of a fork whose type list begins there in the map.
 #[tactic(auto, unfolding(crate::specs::Layout::outline_of))]
-pub fn read_outline(bytes: &[u8], h: Header, types: usize) -> Outline
-    requires map { HasMap bytes.now h }
-    requires types { types + 2 ≤ h.map_length }
-    ensures outline { result ≡ outline_of bytes.now h types }
-    ensures header { result.header ≡ h }
+pub fn read_outline(bytes: &[u8], header: Header, types: usize) -> Outline
+    requires map { HasMap bytes.now header }
+    requires types { types + 2 ≤ header.map_length }
+    ensures outline { result ≡ outline_of bytes.now header types }
+    ensures header { result.header ≡ header }
     ensures types { result.types ≡ types }
     ensures count { result.count < 2 ^ 16 }
     ensures names { result.names < 2 ^ 16 }
 {
     Outline {
-        header: h,
+        header,
         types,
-        names: u16_at(bytes, h.map_at + 26) as usize,
-        count: count(bytes, h.map_at + types),
+        names: u16_at(bytes, header.map_at + 26) as usize,
+        count: count(bytes, header.map_at + types),
     }
 }
 
 /// The entry of the type list at a place.
 #[tactic(auto, unfolding(crate::specs::Layout::entry_at))]
-pub fn entry_at(bytes: &[u8], o: Outline, place: usize) -> TypeEntry
+pub fn entry_at(bytes: &[u8], outline: Outline, place: usize) -> TypeEntry
     requires within { place + 8 ≤ length bytes.now }
-    requires small { types_place o < 2 ^ 34 }
-    ensures entry { result ≡ entry_at bytes.now o place }
+    requires small { types_place outline < 2 ^ 34 }
+    ensures entry { result ≡ entry_at bytes.now outline place }
     ensures place { result.place ≡ place }
     ensures count { result.count < 2 ^ 16 }
     ensures list { result.list < 2 ^ 35 }
@@ -117,7 +117,7 @@ pub fn entry_at(bytes: &[u8], o: Outline, place: usize) -> TypeEntry
         place,
         code: u32_at(bytes, place),
         count: count(bytes, place + 4),
-        list: o.header.map_at + o.types + u16_at(bytes, place + 6) as usize,
+        list: outline.header.map_at + outline.types + u16_at(bytes, place + 6) as usize,
     }
 }
 
