@@ -7,43 +7,57 @@ use crate::number::{u8_at, u16_at, u24_at, u32_at};
 /// The name offset of a resource without a name.
 pub const NO_NAME: u16 = 0xFFFF;
 
-/// The header: where the data area and the map begin in the fork, and their lengths, in bytes.
+/// The header of a fork. Offsets are in bytes from the start of the fork.
 #[derive(Clone, Copy)]
 pub struct Header {
+    /// Where the data area begins.
     pub data_at: usize,
+    /// Where the map begins.
     pub map_at: usize,
+    /// The data area's length in bytes.
     pub data_length: usize,
+    /// The map's length in bytes.
     pub map_length: usize,
 }
 
-/// Where the parts of a fork lie: where the type list and the name list begin in the map, in bytes,
-/// and how many types there are.
+/// Where the parts of a fork lie. Offsets are in bytes from the start of the map.
 #[derive(Clone, Copy)]
 pub struct Outline {
+    /// The header of the fork.
     pub header: Header,
+    /// Where the type list begins.
     pub types: usize,
+    /// Where the name list begins.
     pub names: usize,
+    /// How many types there are.
     pub count: usize,
 }
 
-/// An entry of the type list: where it stands, its type, how many references it has, and where they
-/// begin, in bytes from the start of the fork.
+/// An entry of the type list. Offsets are in bytes from the start of the fork.
 #[derive(Clone, Copy)]
 pub struct TypeEntry {
+    /// Where the entry stands.
     pub place: usize,
+    /// The type's 4 bytes as a number.
     pub code: u32,
+    /// How many references the type has.
     pub count: usize,
+    /// Where its references begin.
     pub list: usize,
 }
 
-/// A reference: where it stands in the fork, its id's 16 bits, its name's offset in the name list, its
-/// attributes and its data's offset in the data area.
+/// An entry of a reference list. Offsets are in bytes.
 #[derive(Clone, Copy)]
 pub struct Reference {
+    /// Where the reference stands, from the start of the fork.
     pub place: usize,
+    /// The id's 16 bits.
     pub id: u16,
+    /// The name's offset in the name list, or [`NO_NAME`].
     pub name: u16,
+    /// The attributes of the resource.
     pub attr: u8,
+    /// The data's offset in the data area.
     pub data_at: u32,
 }
 

@@ -16,6 +16,7 @@ use std::alloc::Global;
 /// header.
 #[derive(Debug, Drop)]
 pub struct ForkList {
+    /// The resources in map order: type by type, each type's in the order of its references.
     pub list: Resources,
     /// The bits 0x80 (read only), 0x40 (compact) and 0x20 (changed) have a meaning; all 16 are kept.
     pub attributes: u16,
