@@ -65,6 +65,10 @@ map_broken bytes h types o = first_of (
     ∷ []
     )
 
+-- the same of the header, type list and outline that the bytes have
+abbrev pub map_fault : List ℕ → Option ForkFault
+map_fault bytes = map_broken bytes (header_of bytes) (types_of bytes (header_of bytes)) (the_outline bytes)
+
 -- The rules on types and references.
 
 -- ReferencesOutside: a type's reference list ends after the map, or the references up to it pass 16,384

@@ -1,8 +1,8 @@
 ghost use Rattle.std.specs.Prelude.{◌≡◌, ◌<◌, ◌≤◌, ◌+◌, ◌*◌, ◌^◌, ◌==◌, [], length, take, slice_get, IfNone, IfSome, IfOk, IfErr, MatchResult, Some, None};
 ghost use Rattle.std.specs.List.{list_any};
 ghost use Rattle.rz_core.specs.Lists.{first_in};
-ghost use Rattle.rz_fork.specs.Layout.{header_of, types_of, outline_of, the_outline, entries, references};
-ghost use Rattle.rz_fork.specs.Admit.{map_broken, list_rule, type_rule, reference_rule, in_type, in_types, lists_broken, inadmissible, HasTypes, IsAdmitted, IsSayable};
+ghost use Rattle.rz_fork.specs.Layout.{header_of, the_outline, entries, references};
+ghost use Rattle.rz_fork.specs.Admit.{map_fault, list_rule, type_rule, reference_rule, in_type, in_types, lists_broken, inadmissible, HasTypes, IsAdmitted, IsSayable};
 
 use crate::fault::ForkFault;
 use crate::layout::{
@@ -18,7 +18,9 @@ use crate::rules::{
 pub fn admit(bytes: &[u8]) -> Result<Outline, ForkFault>
     requires short { length bytes.now < 2 ^ 32 }
     requires some { 0 < length bytes.now }
-    ensures first { MatchResult result (λ outline. inadmissible bytes.now ≡ None) (λ fault. inadmissible bytes.now ≡ Some fault) }
+    ensures first { MatchResult result
+        (λ outline. inadmissible bytes.now ≡ None)
+        (λ fault. inadmissible bytes.now ≡ Some fault) }
     ensures admitted { IfOk result (IsAdmitted bytes.now) }
     ensures sayable { IfErr result IsSayable }
 {
@@ -34,8 +36,8 @@ pub fn admit(bytes: &[u8]) -> Result<Outline, ForkFault>
 #[tactic(auto, unfolding(crate::specs::Admit::map_broken))]
 fn admit_map(bytes: &[u8]) -> Result<Outline, ForkFault>
     requires short { length bytes.now < 2 ^ 32 }
-    ensures ok { IfOk result (λ outline. map_broken bytes.now (header_of bytes.now) (types_of bytes.now (header_of bytes.now)) (the_outline bytes.now) ≡ None) }
-    ensures err { IfErr result (λ fault. map_broken bytes.now (header_of bytes.now) (types_of bytes.now (header_of bytes.now)) (the_outline bytes.now) ≡ Some fault) }
+    ensures ok { IfOk result (λ outline. map_fault bytes.now ≡ None) }
+    ensures err { IfErr result (λ fault. map_fault bytes.now ≡ Some fault) }
     ensures outline { IfOk result (λ outline. outline ≡ the_outline bytes.now) }
     ensures header { IfOk result (λ outline. outline.header ≡ header_of bytes.now) }
     ensures types { IfOk result (HasTypes bytes.now) }
@@ -134,7 +136,8 @@ fn lists_outside(bytes: &[u8], outline: Outline) -> Option<ForkFault>
 fn has_code(bytes: &[u8], outline: Outline, count: usize, code: u32) -> bool
     requires types { HasTypes bytes.now outline }
     requires count { count ≤ outline.count }
-    ensures { result ≡ list_any (λ other. other.code == code) (take count (entries bytes.now outline)) }
+    ensures { result ≡
+        list_any (λ other. other.code == code) (take count (entries bytes.now outline)) }
 {
     for position in 0..count {
         if entry_of(bytes, outline, position).code == code {
@@ -163,7 +166,8 @@ fn type_repeated(bytes: &[u8], outline: Outline) -> Option<ForkFault>
 fn has_id(bytes: &[u8], entry: TypeEntry, count: usize, id: u16) -> bool
     requires list { entry.list + 12 * entry.count ≤ length bytes.now }
     requires count { count ≤ entry.count }
-    ensures { result ≡ list_any (λ other. other.id == id) (take count (references bytes.now entry)) }
+    ensures { result ≡
+        list_any (λ other. other.id == id) (take count (references bytes.now entry)) }
 {
     for position in 0..count {
         if reference_of(bytes, entry, position).id == id {
@@ -186,7 +190,8 @@ fn reference_broken(
     requires list { entry.list + 12 * entry.count ≤ length bytes.now }
     requires position { position ≤ entry.count }
     requires place { reference.place < length bytes.now }
-    ensures rule { result ≡ reference_rule rule bytes.now outline (take position (references bytes.now entry)) reference }
+    ensures rule { result ≡ reference_rule rule bytes.now outline
+        (take position (references bytes.now entry)) reference }
     ensures sayable { IfSome result IsSayable }
 {
     match rule {

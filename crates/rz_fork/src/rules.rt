@@ -13,11 +13,14 @@ const MAX_TYPES: usize = 8_192;
 
 const MAX_REFERENCES: usize = 16_384;
 
-/// A rule of which each reference is tested.
+/// A rule that each reference is tested by.
 #[derive(Clone, Copy)]
 pub enum ReferenceRule {
+    /// DataOutside.
     Data,
+    /// NameOutside.
     Name,
+    /// Repeated, of an id.
     Id,
 }
 
@@ -109,7 +112,8 @@ pub fn types_outside(outline: Outline) -> Option<ForkFault>
     requires at { types_place outline < 2 ^ 34 }
     requires count { outline.count < 2 ^ 16 }
     ensures rule { result ≡ types_outside outline }
-    ensures within { IfNone result (outline.types + 2 + 8 * outline.count ≤ outline.header.map_length) }
+    ensures within { IfNone result
+        (outline.types + 2 + 8 * outline.count ≤ outline.header.map_length) }
     ensures few { IfNone result (outline.count ≤ 8192) }
     ensures sayable { IfSome result IsSayable }
 {

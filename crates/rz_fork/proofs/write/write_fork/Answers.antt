@@ -2,9 +2,9 @@ use Rattle.std.proofs.Common.{◌≡◌, ◌<◌, length, Ok, Some, None, ap, sy
 use Rattle.std.specs.List.{AllByRecursion}
 use Rattle.rz_core.specs.Lists.{unless_fault}
 use Rattle.rz_fork.specs.Admit.{admitted}
+use Rattle.rz_fork.specs.Groups.{shown}
 use Rattle.rz_fork.specs.Image.{first_limit, image, AreNamed}
 use Rattle.rz_fork.proofs.Law.{IsReadable, image_admitted}
-use Rattle.rz_fork.proofs.Order.{shown}
 use Rattle.rz_fork.proofs.Regroup.{order_of, limit_is, whole_is, codes_fit, all_grouped}
 use Rattle.rz_fork.proofs.Written.{HasShortId}
 use Rattle.rz_fork.proofs.write.write_fork.Goals as goal
