@@ -2,7 +2,7 @@
 use Rattle.std.proofs.Common.{◌≡◌, ℕ, ◌+◌, ◌-◌, ◌*◌, ◌%◌, ◌^◌, ◌<◌, ◌≤◌, ◌==◌, if◌then◌else◌, min, false, List, [], ◌++◌, length, take, drop, replicate, None, Ok, refl, ap, ◌∙◌, arith, append_assoc, length-append, subst}
 use Rattle.std.proofs.lemmas.List.{length-replicate}
 use Rattle.std.specs.List.{flat_map, AllByRecursion}
-use Rattle.rz_core.specs.Lists.{first_in, or_else}
+use Rattle.rz_core.specs.Lists.{unless_fault, first_in, or_else}
 use Rattle.rz_core.specs.Numbers.{be, length-be_2, length-be_4}
 use Rattle.rz_core.specs.Resources.{KeysDiffer}
 use Rattle.rz_core.specs.declared.resource.Resource.{Resource}
@@ -14,7 +14,7 @@ use Rattle.rz_fork.specs.Image as image
 use Rattle.rz_fork.specs.Image.{kinds_of, grouped, data_area, name_list, header, map_fields, map_tail, lists_of, type_entries, reference_lists, first_limit}
 use Rattle.rz_fork.specs.Layout.{number, count_at, header_of, types_of, outline_of, the_outline, entries}
 use Rattle.rz_fork.specs.Contents.{attributes_of, reserved_of, resources_of, resources, contents}
-use Rattle.rz_fork.specs.Admit.{list_rule, type_rule, in_types, lists_broken, first_broken, inadmissible, admitted, unless_broken}
+use Rattle.rz_fork.specs.Admit.{list_rule, type_rule, in_types, lists_broken, first_broken, inadmissible, admitted}
 use Rattle.rz_fork.proofs.Framed.{IsWithinLimits, within_limits, IsFramed, some_bytes, first_is}
 use Rattle.rz_fork.proofs.Lengths.{length-header, length-map_fields, length-tail_with, length-type_entries, length-lists_of}
 use Rattle.rz_fork.proofs.Placed.{Has, has_all, has_left, has_right, number_mod, number_is, piece_is}
@@ -300,4 +300,4 @@ module _ (list : List Resource) (attributes : ℕ) (reserved : List ℕ) (readab
       ∙ (λ i. record { list = resources_read i; attributes = attributes_read i; reserved = reserved_read i })
 
   pub image_admitted : admitted bytes ≡ Ok (record { list = grouped list; attributes = attributes; reserved = reserved ++ zeros })
-  image_admitted = λ i. unless_broken (none_broken i) (contents_are i)
+  image_admitted = λ i. unless_fault (none_broken i) (contents_are i)

@@ -1,16 +1,13 @@
 -- One resource more of a list of references.
-use Rattle.std.proofs.Common.{◌≡◌, ℕ, ◌+◌, ◌<◌, List, [], ◌∷◌, ◌++◌, length, map, take, drop, get_or, sym, ap, ◌∙◌, arith, Bor, append_assoc, length-append}
+use Rattle.std.proofs.Common.{◌≡◌, ℕ, ◌+◌, ◌<◌, List, [], ◌∷◌, ◌++◌, length, take, drop, get_or, sym, ap, ◌∙◌, arith, Bor, append_assoc, length-append}
 use Rattle.std.proofs.lemmas.List.{at_drop_more, take_more, map-append}
 use Rattle.std.proofs.lemmas.List.Concat.{flat_map-append}
 use Rattle.std.specs.List.{flat_map}
 use Rattle.rz_core.specs.Lists.{with_front}
 use Rattle.rz_core.specs.Numbers.{be, length-be_4}
 use Rattle.rz_core.specs.declared.resource.Resource.{Resource}
+use Rattle.rz_fork.specs.Groups.{shown}
 use Rattle.rz_fork.specs.Image.{data_area, stored_data}
-
--- the resources that references refer to
-abbrev pub shown : List (Bor Resource) → List Resource
-shown rs = map (λ r. r.now) rs
 
 module _ (rs : List (Bor Resource)) (i : ℕ) (r : Bor Resource) (within : i < length rs) (is : r ≡ get_or rs i r) where
   pub rest_step : shown (drop i rs) ≡ r.now ∷ shown (drop (i + 1) rs)

@@ -1,12 +1,12 @@
 -- Which bytes are a fork: the rules of admission, each tested over the whole fork before the next. The offset of
 -- a fault counts from the start of the fork.
-use Rattle.std.specs.Prelude.{◌≡◌, ℕ, ◌+◌, ◌*◌, ◌^◌, ◌<◌, ◌≤◌, ◌==◌, ◌||◌, nat_lt, nat_le, Bool, if◌then◌else◌, List, [], ◌∷◌, length, Ok, Err, IsSome}
+use Rattle.std.specs.Prelude.{◌≡◌, ℕ, ◌+◌, ◌*◌, ◌^◌, ◌<◌, ◌≤◌, ◌==◌, ◌||◌, nat_lt, nat_le, Bool, if◌then◌else◌, List, [], ◌∷◌, length, IsSome}
 use Rattle.std.specs.List.{list_any, sum_by}
 use Rattle.std.specs.declared.option.Option.{Option}
 use Rattle.std.specs.declared.option.Option.TheVariants.{Some, None}
 use Rattle.std.specs.declared.result.Result.{Result}
 use Rattle.rz_core.specs.Message.{fault_name}
-use Rattle.rz_core.specs.Lists.{or_else, first_of, first_in}
+use Rattle.rz_core.specs.Lists.{or_else, unless_fault, first_of, first_in}
 use Rattle.rz_fork.specs.declared.fault.ForkFault.{ForkFault}
 use Rattle.rz_fork.specs.declared.layout.Header.{Header}
 use Rattle.rz_fork.specs.declared.layout.Outline.{Outline}
@@ -64,6 +64,10 @@ map_broken bytes h types o = first_of (
     ∷ types_outside o
     ∷ []
     )
+
+-- the same of the header, type list and outline that the bytes have
+abbrev pub map_fault : List ℕ → Option ForkFault
+map_fault bytes = map_broken bytes (header_of bytes) (types_of bytes (header_of bytes)) (the_outline bytes)
 
 -- The rules on types and references.
 
@@ -140,14 +144,9 @@ inadmissible bytes =
     let h = header_of bytes in
     if length bytes == 0 then None else first_broken bytes h (types_of bytes h) (the_outline bytes)
 
--- what is held where there is no fault
-abbrev pub unless_broken : {X : Type 0} → Option ForkFault → X → Result X ForkFault
-unless_broken None x = Ok x
-unless_broken (Some fault) x = Err fault
-
 -- what the bytes hold, or their first broken rule
 abbrev pub admitted : List ℕ → Result ForkList ForkFault
-admitted bytes = unless_broken (inadmissible bytes) (contents bytes)
+admitted bytes = unless_fault (inadmissible bytes) (contents bytes)
 
 -- a fault that a message can say: the table of faults has its number, and its offset is less than 2^63
 pub record IsSayable (fault : ForkFault) : Type 0 where

@@ -1,11 +1,11 @@
 -- The one fork of a list of resources. (Inside Macintosh: More Macintosh Toolbox, Resource Manager, resource
 -- file format.)
-use Rattle.std.specs.Prelude.{ℕ, ◌+◌, ◌-◌, ◌*◌, ◌<◌, ◌≤◌, ◌==◌, nat_lt, if◌then◌else◌, List, [], ◌∷◌, ◌++◌, length, filter, replicate, Ok, Err}
+use Rattle.std.specs.Prelude.{ℕ, ◌+◌, ◌-◌, ◌*◌, ◌<◌, ◌≤◌, ◌==◌, nat_lt, if◌then◌else◌, List, [], ◌∷◌, ◌++◌, length, filter, replicate}
 use Rattle.std.specs.List.{flat_map, list_any, AllByRecursion}
 use Rattle.std.specs.declared.option.Option.{Option}
 use Rattle.std.specs.declared.option.Option.TheVariants.{Some, None}
 use Rattle.std.specs.declared.result.Result.{Result}
-use Rattle.rz_core.specs.Lists.{each_with_front, first_of}
+use Rattle.rz_core.specs.Lists.{each_with_front, unless_fault, first_of}
 use Rattle.rz_core.specs.Numbers.{be, kept_length}
 use Rattle.rz_core.specs.Resources.{id_bits, KeysDiffer}
 use Rattle.rz_core.specs.declared.resource.Resource.{Resource}
@@ -147,14 +147,9 @@ limit_of kinds rs = first_of (
 abbrev pub first_limit : List Resource → Option LimitFault
 first_limit list = limit_of (length (kinds_of list)) (grouped list)
 
--- the bytes where there is no fault
-abbrev pub unless_passed : Option LimitFault → List ℕ → Result (List ℕ) LimitFault
-unless_passed None bytes = Ok bytes
-unless_passed (Some fault) bytes = Err fault
-
 -- the fork of the resources, or the first limit that it passes
 abbrev pub fork_of : List Resource → ℕ → List ℕ → Result (List ℕ) LimitFault
-fork_of list attributes reserved = unless_passed (first_limit list) (image list attributes reserved)
+fork_of list attributes reserved = unless_fault (first_limit list) (image list attributes reserved)
 
 -- each name has at most 255 bytes
 abbrev pub AreNamed : List Resource → Type 0

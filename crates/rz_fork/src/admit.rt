@@ -1,8 +1,8 @@
 ghost use Rattle.std.specs.Prelude.{◌≡◌, ◌<◌, ◌≤◌, ◌+◌, ◌*◌, ◌^◌, ◌==◌, [], length, take, slice_get, IfNone, IfSome, IfOk, IfErr, MatchResult, Some, None};
 ghost use Rattle.std.specs.List.{list_any};
 ghost use Rattle.rz_core.specs.Lists.{first_in};
-ghost use Rattle.rz_fork.specs.Layout.{header_of, types_of, outline_of, the_outline, entries, references};
-ghost use Rattle.rz_fork.specs.Admit.{map_broken, list_rule, type_rule, reference_rule, in_type, in_types, lists_broken, inadmissible, HasTypes, IsAdmitted, IsSayable};
+ghost use Rattle.rz_fork.specs.Layout.{header_of, the_outline, entries, references};
+ghost use Rattle.rz_fork.specs.Admit.{map_fault, list_rule, type_rule, reference_rule, in_type, in_types, lists_broken, inadmissible, HasTypes, IsAdmitted, IsSayable};
 
 use crate::fault::ForkFault;
 use crate::layout::{
@@ -18,15 +18,17 @@ use crate::rules::{
 pub fn admit(bytes: &[u8]) -> Result<Outline, ForkFault>
     requires short { length bytes.now < 2 ^ 32 }
     requires some { 0 < length bytes.now }
-    ensures first { MatchResult result (λ o. inadmissible bytes.now ≡ None) (λ f. inadmissible bytes.now ≡ Some f) }
+    ensures first { MatchResult result
+        (λ outline. inadmissible bytes.now ≡ None)
+        (λ fault. inadmissible bytes.now ≡ Some fault) }
     ensures admitted { IfOk result (IsAdmitted bytes.now) }
     ensures sayable { IfErr result IsSayable }
 {
-    let o = admit_map(bytes)?;
-    if let Some(fault) = lists_broken(bytes, o) {
+    let outline = admit_map(bytes)?;
+    if let Some(fault) = lists_broken(bytes, outline) {
         return Err(fault);
     }
-    Ok(o)
+    Ok(outline)
 }
 
 /// The outline of a fork whose type list lies in its map, or the first broken rule on the header and
@@ -34,106 +36,111 @@ pub fn admit(bytes: &[u8]) -> Result<Outline, ForkFault>
 #[tactic(auto, unfolding(crate::specs::Admit::map_broken))]
 fn admit_map(bytes: &[u8]) -> Result<Outline, ForkFault>
     requires short { length bytes.now < 2 ^ 32 }
-    ensures ok { IfOk result (λ o. map_broken bytes.now (header_of bytes.now) (types_of bytes.now (header_of bytes.now)) (the_outline bytes.now) ≡ None) }
-    ensures err { IfErr result (λ f. map_broken bytes.now (header_of bytes.now) (types_of bytes.now (header_of bytes.now)) (the_outline bytes.now) ≡ Some f) }
-    ensures outline { IfOk result (λ o. o ≡ the_outline bytes.now) }
-    ensures header { IfOk result (λ o. o.header ≡ header_of bytes.now) }
+    ensures ok { IfOk result (λ outline. map_fault bytes.now ≡ None) }
+    ensures err { IfErr result (λ fault. map_fault bytes.now ≡ Some fault) }
+    ensures outline { IfOk result (λ outline. outline ≡ the_outline bytes.now) }
+    ensures header { IfOk result (λ outline. outline.header ≡ header_of bytes.now) }
     ensures types { IfOk result (HasTypes bytes.now) }
     ensures sayable { IfErr result IsSayable }
 {
     if let Some(fault) = short_header(bytes) {
         return Err(fault);
     }
-    let h = read_header(bytes);
-    if let Some(fault) = data_area_outside(bytes, h) {
+    let header = read_header(bytes);
+    if let Some(fault) = data_area_outside(bytes, header) {
         return Err(fault);
     }
-    if let Some(fault) = map_outside(bytes, h) {
+    if let Some(fault) = map_outside(bytes, header) {
         return Err(fault);
     }
-    if let Some(fault) = short_map(h) {
+    if let Some(fault) = short_map(header) {
         return Err(fault);
     }
-    let types = types(bytes, h);
-    if let Some(fault) = type_list_outside(h, types) {
+    let types = types(bytes, header);
+    if let Some(fault) = type_list_outside(header, types) {
         return Err(fault);
     }
-    let o = read_outline(bytes, h, types);
-    if let Some(fault) = types_outside(o) {
+    let outline = read_outline(bytes, header, types);
+    if let Some(fault) = types_outside(outline) {
         return Err(fault);
     }
-    Ok(o)
+    Ok(outline)
 }
 
 /// The first broken rule on types and references.
 #[tactic(auto, unfolding(crate::specs::Admit::lists_broken))]
-fn lists_broken(bytes: &[u8], o: Outline) -> Option<ForkFault>
-    requires { HasTypes bytes.now o }
-    ensures rule { result ≡ lists_broken bytes.now o }
+fn lists_broken(bytes: &[u8], outline: Outline) -> Option<ForkFault>
+    requires { HasTypes bytes.now outline }
+    ensures rule { result ≡ lists_broken bytes.now outline }
     ensures sayable { IfSome result IsSayable }
 {
-    if let Some(fault) = lists_outside(bytes, o) {
+    if let Some(fault) = lists_outside(bytes, outline) {
         return Some(fault);
     }
-    if let Some(fault) = in_types(ReferenceRule::Data, bytes, o) {
+    if let Some(fault) = in_types(ReferenceRule::Data, bytes, outline) {
         return Some(fault);
     }
-    if let Some(fault) = in_types(ReferenceRule::Name, bytes, o) {
+    if let Some(fault) = in_types(ReferenceRule::Name, bytes, outline) {
         return Some(fault);
     }
-    if let Some(fault) = type_repeated(bytes, o) {
+    if let Some(fault) = type_repeated(bytes, outline) {
         return Some(fault);
     }
-    in_types(ReferenceRule::Id, bytes, o)
+    in_types(ReferenceRule::Id, bytes, outline)
 }
 
 /// The entry of a type, by its position from 0.
-pub fn entry(bytes: &[u8], o: Outline, k: usize) -> TypeEntry
-    requires types { HasTypes bytes.now o }
-    requires k { k < o.count }
-    ensures entry { slice_get (entries bytes.now o) k ≡ Some result }
+pub fn entry_of(bytes: &[u8], outline: Outline, position: usize) -> TypeEntry
+    requires types { HasTypes bytes.now outline }
+    requires position { position < outline.count }
+    ensures entry { slice_get (entries bytes.now outline) position ≡ Some result }
     ensures place { result.place < 2 ^ 32 }
     ensures count { result.count < 2 ^ 16 }
     ensures list { result.list < 2 ^ 35 }
 {
-    entry_at(bytes, o, o.header.map_at + o.types + 2 + 8 * k)
+    entry_at(
+        bytes,
+        outline,
+        outline.header.map_at + outline.types + 2 + 8 * position,
+    )
 }
 
 /// A reference of a type, by its position from 0.
-pub fn reference(bytes: &[u8], t: TypeEntry, j: usize) -> Reference
-    requires list { t.list + 12 * t.count ≤ length bytes.now }
-    requires j { j < t.count }
-    ensures reference { slice_get (references bytes.now t) j ≡ Some result }
+pub fn reference_of(bytes: &[u8], entry: TypeEntry, position: usize) -> Reference
+    requires list { entry.list + 12 * entry.count ≤ length bytes.now }
+    requires position { position < entry.count }
+    ensures reference { slice_get (references bytes.now entry) position ≡ Some result }
     ensures place { result.place < length bytes.now }
 {
-    reference_at(bytes, t.list + 12 * j)
+    reference_at(bytes, entry.list + 12 * position)
 }
 
 /// The first type whose reference list is outside.
-fn lists_outside(bytes: &[u8], o: Outline) -> Option<ForkFault>
-    requires { HasTypes bytes.now o }
-    ensures rule { result ≡ first_in (list_rule o) [] (entries bytes.now o) }
+fn lists_outside(bytes: &[u8], outline: Outline) -> Option<ForkFault>
+    requires { HasTypes bytes.now outline }
+    ensures rule { result ≡ first_in (list_rule outline) [] (entries bytes.now outline) }
     ensures sayable { IfSome result IsSayable }
 {
     let mut so_far = 0;
-    for k in 0..o.count {
-        let t = entry(bytes, o, k);
-        if let Some(fault) = references_outside(o, so_far, t) {
+    for position in 0..outline.count {
+        let entry = entry_of(bytes, outline, position);
+        if let Some(fault) = references_outside(outline, so_far, entry) {
             return Some(fault);
         }
-        so_far += t.count;
+        so_far += entry.count;
     }
     None
 }
 
 /// Whether one of the first so many types is this one.
-fn has_code(bytes: &[u8], o: Outline, k: usize, code: u32) -> bool
-    requires types { HasTypes bytes.now o }
-    requires k { k ≤ o.count }
-    ensures { result ≡ list_any (λ b. b.code == code) (take k (entries bytes.now o)) }
+fn has_code(bytes: &[u8], outline: Outline, count: usize, code: u32) -> bool
+    requires types { HasTypes bytes.now outline }
+    requires count { count ≤ outline.count }
+    ensures { result ≡
+        list_any (λ other. other.code == code) (take count (entries bytes.now outline)) }
 {
-    for i in 0..k {
-        if entry(bytes, o, i).code == code {
+    for position in 0..count {
+        if entry_of(bytes, outline, position).code == code {
             return true;
         }
     }
@@ -141,28 +148,29 @@ fn has_code(bytes: &[u8], o: Outline, k: usize, code: u32) -> bool
 }
 
 /// The first type that an entry before has.
-fn type_repeated(bytes: &[u8], o: Outline) -> Option<ForkFault>
-    requires types { HasTypes bytes.now o }
-    ensures rule { result ≡ first_in type_rule [] (entries bytes.now o) }
+fn type_repeated(bytes: &[u8], outline: Outline) -> Option<ForkFault>
+    requires types { HasTypes bytes.now outline }
+    ensures rule { result ≡ first_in type_rule [] (entries bytes.now outline) }
     ensures sayable { IfSome result IsSayable }
 {
-    for k in 0..o.count {
-        let t = entry(bytes, o, k);
-        if has_code(bytes, o, k, t.code) {
-            return Some(fault(410, t.place, t.code));
+    for position in 0..outline.count {
+        let entry = entry_of(bytes, outline, position);
+        if has_code(bytes, outline, position, entry.code) {
+            return Some(fault(410, entry.place, entry.code));
         }
     }
     None
 }
 
 /// Whether one of the first so many references of a type has this id.
-fn has_id(bytes: &[u8], t: TypeEntry, j: usize, id: u16) -> bool
-    requires list { t.list + 12 * t.count ≤ length bytes.now }
-    requires j { j ≤ t.count }
-    ensures { result ≡ list_any (λ b. b.id == id) (take j (references bytes.now t)) }
+fn has_id(bytes: &[u8], entry: TypeEntry, count: usize, id: u16) -> bool
+    requires list { entry.list + 12 * entry.count ≤ length bytes.now }
+    requires count { count ≤ entry.count }
+    ensures { result ≡
+        list_any (λ other. other.id == id) (take count (references bytes.now entry)) }
 {
-    for i in 0..j {
-        if reference(bytes, t, i).id == id {
+    for position in 0..count {
+        if reference_of(bytes, entry, position).id == id {
             return true;
         }
     }
@@ -173,24 +181,25 @@ fn has_id(bytes: &[u8], t: TypeEntry, j: usize, id: u16) -> bool
 fn reference_broken(
     rule: ReferenceRule,
     bytes: &[u8],
-    o: Outline,
-    t: TypeEntry,
-    j: usize,
-    r: Reference,
+    outline: Outline,
+    entry: TypeEntry,
+    position: usize,
+    reference: Reference,
 ) -> Option<ForkFault>
-    requires types { HasTypes bytes.now o }
-    requires list { t.list + 12 * t.count ≤ length bytes.now }
-    requires j { j ≤ t.count }
-    requires place { r.place < length bytes.now }
-    ensures rule { result ≡ reference_rule rule bytes.now o (take j (references bytes.now t)) r }
+    requires types { HasTypes bytes.now outline }
+    requires list { entry.list + 12 * entry.count ≤ length bytes.now }
+    requires position { position ≤ entry.count }
+    requires place { reference.place < length bytes.now }
+    ensures rule { result ≡ reference_rule rule bytes.now outline
+        (take position (references bytes.now entry)) reference }
     ensures sayable { IfSome result IsSayable }
 {
     match rule {
-        ReferenceRule::Data => data_outside(bytes, o, r),
-        ReferenceRule::Name => name_outside(bytes, o, r),
+        ReferenceRule::Data => data_outside(bytes, outline, reference),
+        ReferenceRule::Name => name_outside(bytes, outline, reference),
         ReferenceRule::Id => {
-            if has_id(bytes, t, j, r.id) {
-                return Some(fault(410, r.place, r.id as u32));
+            if has_id(bytes, entry, position, reference.id) {
+                return Some(fault(410, reference.place, reference.id as u32));
             }
             None
         }
@@ -198,15 +207,20 @@ fn reference_broken(
 }
 
 /// The first reference of a type that breaks the rule.
-fn in_type(rule: ReferenceRule, bytes: &[u8], o: Outline, t: TypeEntry) -> Option<ForkFault>
-    requires types { HasTypes bytes.now o }
-    requires list { t.list + 12 * t.count ≤ length bytes.now }
-    ensures rule { result ≡ in_type rule bytes.now o t }
+fn in_type(
+    rule: ReferenceRule,
+    bytes: &[u8],
+    outline: Outline,
+    entry: TypeEntry,
+) -> Option<ForkFault>
+    requires types { HasTypes bytes.now outline }
+    requires list { entry.list + 12 * entry.count ≤ length bytes.now }
+    ensures rule { result ≡ in_type rule bytes.now outline entry }
     ensures sayable { IfSome result IsSayable }
 {
-    for j in 0..t.count {
-        let r = reference(bytes, t, j);
-        if let Some(fault) = reference_broken(rule, bytes, o, t, j, r) {
+    for position in 0..entry.count {
+        let reference = reference_of(bytes, entry, position);
+        if let Some(fault) = reference_broken(rule, bytes, outline, entry, position, reference) {
             return Some(fault);
         }
     }
@@ -214,15 +228,15 @@ fn in_type(rule: ReferenceRule, bytes: &[u8], o: Outline, t: TypeEntry) -> Optio
 }
 
 /// The first reference of all types that breaks the rule.
-fn in_types(rule: ReferenceRule, bytes: &[u8], o: Outline) -> Option<ForkFault>
-    requires types { HasTypes bytes.now o }
-    requires lists { first_in (list_rule o) [] (entries bytes.now o) ≡ None }
-    ensures rule { result ≡ in_types rule bytes.now o (entries bytes.now o) }
+fn in_types(rule: ReferenceRule, bytes: &[u8], outline: Outline) -> Option<ForkFault>
+    requires types { HasTypes bytes.now outline }
+    requires lists { first_in (list_rule outline) [] (entries bytes.now outline) ≡ None }
+    ensures rule { result ≡ in_types rule bytes.now outline (entries bytes.now outline) }
     ensures sayable { IfSome result IsSayable }
 {
-    for k in 0..o.count {
-        let t = entry(bytes, o, k);
-        if let Some(fault) = in_type(rule, bytes, o, t) {
+    for position in 0..outline.count {
+        let entry = entry_of(bytes, outline, position);
+        if let Some(fault) = in_type(rule, bytes, outline, entry) {
             return Some(fault);
         }
     }

@@ -1,6 +1,6 @@
-ghost use Rattle.std.specs.Prelude.{◌≡◌, map, IfOk};
+ghost use Rattle.std.specs.Prelude.{◌≡◌, IfOk};
 ghost use Rattle.std.specs.List.{flat_map};
-ghost use Rattle.rz_fork.specs.Groups.{members_of, AreGroups};
+ghost use Rattle.rz_fork.specs.Groups.{shown, members_of, AreGroups};
 
 use indexmap::IndexSet;
 use rz_core::{NoMemory, Resource};
@@ -9,7 +9,9 @@ use std::alloc::Global;
 /// The resources of one type, in their order.
 #[derive(Drop)]
 pub struct Group<'a> {
+    /// The type's 4 bytes as a number.
     pub code: u32,
+    /// The resources, in their order.
     pub members: Vec<&'a Resource>,
 }
 
@@ -36,7 +38,7 @@ pub fn groups_in<'a>(alloc: Global, list: &'a [Resource]) -> Result<Vec<Group<'a
 
 /// The resources of all groups, one group behind the other.
 pub fn in_order<'a>(alloc: Global, groups: &[Group<'a>]) -> Result<Vec<&'a Resource>, NoMemory>
-    ensures { IfOk result (λ order. map (λ r. r.now) order.items ≡ flat_map members_of groups.now) }
+    ensures { IfOk result (λ order. shown order.items ≡ flat_map members_of groups.now) }
 {
     let mut order = Vec::new(alloc);
     for group in groups {

@@ -7,43 +7,57 @@ use crate::number::{u8_at, u16_at, u24_at, u32_at};
 /// The name offset of a resource without a name.
 pub const NO_NAME: u16 = 0xFFFF;
 
-/// The header: where the data area and the map begin in the fork, and their lengths, in bytes.
+/// The header of a fork. Offsets are in bytes from the start of the fork.
 #[derive(Clone, Copy)]
 pub struct Header {
+    /// Where the data area begins.
     pub data_at: usize,
+    /// Where the map begins.
     pub map_at: usize,
+    /// The data area's length in bytes.
     pub data_length: usize,
+    /// The map's length in bytes.
     pub map_length: usize,
 }
 
-/// Where the parts of a fork lie: where the type list and the name list begin in the map, in bytes,
-/// and how many types there are.
+/// Where the parts of a fork lie. Offsets are in bytes from the start of the map.
 #[derive(Clone, Copy)]
 pub struct Outline {
+    /// The header of the fork.
     pub header: Header,
+    /// Where the type list begins.
     pub types: usize,
+    /// Where the name list begins.
     pub names: usize,
+    /// How many types there are.
     pub count: usize,
 }
 
-/// An entry of the type list: where it stands, its type, how many references it has, and where they
-/// begin, in bytes from the start of the fork.
+/// An entry of the type list. Offsets are in bytes from the start of the fork.
 #[derive(Clone, Copy)]
 pub struct TypeEntry {
+    /// Where the entry stands.
     pub place: usize,
+    /// The type's 4 bytes as a number.
     pub code: u32,
+    /// How many references the type has.
     pub count: usize,
+    /// Where its references begin.
     pub list: usize,
 }
 
-/// A reference: where it stands in the fork, its id's 16 bits, its name's offset in the name list, its
-/// attributes and its data's offset in the data area.
+/// An entry of a reference list. Offsets are in bytes.
 #[derive(Clone, Copy)]
 pub struct Reference {
+    /// Where the reference stands, from the start of the fork.
     pub place: usize,
+    /// The id's 16 bits.
     pub id: u16,
+    /// The name's offset in the name list, or [`NO_NAME`].
     pub name: u16,
+    /// The attributes of the resource.
     pub attr: u8,
+    /// The data's offset in the data area.
     pub data_at: u32,
 }
 
@@ -67,12 +81,12 @@ pub fn read_header(bytes: &[u8]) -> Header
 
 /// Where the type list begins in the map.
 #[tactic(auto, unfolding(crate::specs::Layout::types_of))]
-pub fn types(bytes: &[u8], h: Header) -> usize
-    requires { HasMap bytes.now h }
-    ensures types { result ≡ types_of bytes.now h }
+pub fn types(bytes: &[u8], header: Header) -> usize
+    requires { HasMap bytes.now header }
+    ensures types { result ≡ types_of bytes.now header }
     ensures small { result < 2 ^ 16 }
 {
-    u16_at(bytes, h.map_at + 24) as usize
+    u16_at(bytes, header.map_at + 24) as usize
 }
 
 /// A count that is stored less one, modulo 65,536.
@@ -86,29 +100,29 @@ fn count(bytes: &[u8], place: usize) -> usize
 
 /// The outline of a fork whose type list begins there in the map.
 #[tactic(auto, unfolding(crate::specs::Layout::outline_of))]
-pub fn read_outline(bytes: &[u8], h: Header, types: usize) -> Outline
-    requires map { HasMap bytes.now h }
-    requires types { types + 2 ≤ h.map_length }
-    ensures outline { result ≡ outline_of bytes.now h types }
-    ensures header { result.header ≡ h }
+pub fn read_outline(bytes: &[u8], header: Header, types: usize) -> Outline
+    requires map { HasMap bytes.now header }
+    requires types { types + 2 ≤ header.map_length }
+    ensures outline { result ≡ outline_of bytes.now header types }
+    ensures header { result.header ≡ header }
     ensures types { result.types ≡ types }
     ensures count { result.count < 2 ^ 16 }
     ensures names { result.names < 2 ^ 16 }
 {
     Outline {
-        header: h,
+        header,
         types,
-        names: u16_at(bytes, h.map_at + 26) as usize,
-        count: count(bytes, h.map_at + types),
+        names: u16_at(bytes, header.map_at + 26) as usize,
+        count: count(bytes, header.map_at + types),
     }
 }
 
 /// The entry of the type list at a place.
 #[tactic(auto, unfolding(crate::specs::Layout::entry_at))]
-pub fn entry_at(bytes: &[u8], o: Outline, place: usize) -> TypeEntry
+pub fn entry_at(bytes: &[u8], outline: Outline, place: usize) -> TypeEntry
     requires within { place + 8 ≤ length bytes.now }
-    requires small { types_place o < 2 ^ 34 }
-    ensures entry { result ≡ entry_at bytes.now o place }
+    requires small { types_place outline < 2 ^ 34 }
+    ensures entry { result ≡ entry_at bytes.now outline place }
     ensures place { result.place ≡ place }
     ensures count { result.count < 2 ^ 16 }
     ensures list { result.list < 2 ^ 35 }
@@ -117,7 +131,7 @@ pub fn entry_at(bytes: &[u8], o: Outline, place: usize) -> TypeEntry
         place,
         code: u32_at(bytes, place),
         count: count(bytes, place + 4),
-        list: o.header.map_at + o.types + u16_at(bytes, place + 6) as usize,
+        list: outline.header.map_at + outline.types + u16_at(bytes, place + 6) as usize,
     }
 }
 

@@ -1,5 +1,6 @@
-ghost use Rattle.std.specs.Prelude.{◌≡◌, ◌<◌, ◌≤◌, ◌^◌, ℕ, length, map, IfNone};
+ghost use Rattle.std.specs.Prelude.{◌≡◌, ◌<◌, ◌≤◌, ◌^◌, ℕ, length, IfNone};
 ghost use Rattle.rz_core.specs.Numbers.{kept_length};
+ghost use Rattle.rz_fork.specs.Groups.{shown};
 ghost use Rattle.rz_fork.specs.Image.{data_area, name_list, lists_end, passed, limit_of, AreNamed};
 
 use crate::fault::LimitFault;
@@ -17,7 +18,7 @@ const LAST_LENGTH: u64 = (1 << 63) - 1;
 
 /// The length of the data area, at most 2^63 - 1.
 pub fn data_length(order: &[&Resource]) -> u64
-    ensures { result ≡ kept_length (length (data_area (map (λ r. r.now) order.now))) }
+    ensures { result ≡ kept_length (length (data_area (shown order.now))) }
 {
     let mut total: u64 = 0;
     for resource in order {
@@ -31,8 +32,8 @@ pub fn data_length(order: &[&Resource]) -> u64
 
 /// The length of the name list, at most 2^63 - 1.
 fn names_length(order: &[&Resource]) -> u64
-    requires { AreNamed (map (λ r. r.now) order.now) }
-    ensures { result ≡ kept_length (length (name_list (map (λ r. r.now) order.now))) }
+    requires { AreNamed (shown order.now) }
+    ensures { result ≡ kept_length (length (name_list (shown order.now))) }
 {
     let mut total: u64 = 0;
     for resource in order {
@@ -67,11 +68,11 @@ fn passed(number: u16, limit: u64, length: u64) -> Option<LimitFault>
 
 /// The first limit that a fork of so many types and of these resources passes.
 pub fn first_limit(kinds: usize, order: &[&Resource]) -> Option<LimitFault>
-    requires { AreNamed (map (λ r. r.now) order.now) }
-    ensures first { result ≡ limit_of kinds (map (λ r. r.now) order.now) }
-    ensures area { IfNone result (length (data_area (map (λ r. r.now) order.now)) ≤ 2 ^ 24) }
+    requires { AreNamed (shown order.now) }
+    ensures first { result ≡ limit_of kinds (shown order.now) }
+    ensures area { IfNone result (length (data_area (shown order.now)) ≤ 2 ^ 24) }
     ensures lists { IfNone result (lists_end kinds (length order.now) < 2 ^ 16) }
-    ensures names { IfNone result (length (name_list (map (λ r. r.now) order.now)) < 2 ^ 16) }
+    ensures names { IfNone result (length (name_list (shown order.now)) < 2 ^ 16) }
 {
     if let Some(fault) = passed(302, DATA_LIMIT, data_length(order)) {
         return Some(fault);

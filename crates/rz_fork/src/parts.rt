@@ -1,7 +1,7 @@
-ghost use Rattle.std.specs.Prelude.{◌≡◌, ◌<◌, ◌≤◌, ◌+◌, ◌*◌, ◌^◌, ◌==◌, ◌++◌, if◌then◌else◌, length, map, replicate, OnOk, FitsSigned};
+ghost use Rattle.std.specs.Prelude.{◌≡◌, ◌<◌, ◌≤◌, ◌+◌, ◌*◌, ◌^◌, ◌==◌, ◌++◌, if◌then◌else◌, length, replicate, OnOk, FitsSigned};
 ghost use Rattle.std.specs.Int.{w16};
 ghost use Rattle.std.specs.List.{flat_map, AllByRecursion};
-ghost use Rattle.rz_fork.specs.Groups.{members_of, group_entries};
+ghost use Rattle.rz_fork.specs.Groups.{shown, members_of, group_entries};
 ghost use Rattle.rz_fork.specs.Image.{data_area, stored_name, name_list, reference_to, reference_lists, entry_of, AreNamed};
 
 use crate::group::Group;
@@ -21,8 +21,8 @@ pub fn append_zeros(out: &mut Bytes, count: usize) -> Result<(), NoMemory>
 
 /// Appends the data area.
 pub fn append_data(out: &mut Bytes, order: &[&Resource]) -> Result<(), NoMemory>
-    requires { length (data_area (map (λ r. r.now) order.now)) < 2 ^ 32 }
-    ensures { OnOk result (out.new ≡ out.old ++ data_area (map (λ r. r.now) order.now)) }
+    requires { length (data_area (shown order.now)) < 2 ^ 32 }
+    ensures { OnOk result (out.new ≡ out.old ++ data_area (shown order.now)) }
 {
     for resource in order {
         append_u32(out, resource.bytes.len() as u32)?;
@@ -36,7 +36,7 @@ pub fn stored_name_length(resource: &Resource) -> u32
     requires { length resource.now.name < 256 }
     ensures { result ≡ length (stored_name resource.now) }
 {
-    if resource.name.len() == 0 {
+    if resource.name.is_empty() {
         return 0;
     }
     1 + resource.name.len() as u32
@@ -46,7 +46,7 @@ fn append_name(out: &mut Bytes, resource: &Resource) -> Result<(), NoMemory>
     requires { length resource.now.name < 256 }
     ensures { OnOk result (out.new ≡ out.old ++ stored_name resource.now) }
 {
-    if resource.name.len() == 0 {
+    if resource.name.is_empty() {
         return Ok(());
     }
     out.push(resource.name.len() as u8)?;
@@ -56,8 +56,8 @@ fn append_name(out: &mut Bytes, resource: &Resource) -> Result<(), NoMemory>
 
 /// Appends the name list.
 pub fn append_names(out: &mut Bytes, order: &[&Resource]) -> Result<(), NoMemory>
-    requires { AreNamed (map (λ r. r.now) order.now) }
-    ensures { OnOk result (out.new ≡ out.old ++ name_list (map (λ r. r.now) order.now)) }
+    requires { AreNamed (shown order.now) }
+    ensures { OnOk result (out.new ≡ out.old ++ name_list (shown order.now)) }
 {
     for resource in order {
         append_name(out, resource)?;
@@ -68,7 +68,7 @@ pub fn append_names(out: &mut Bytes, order: &[&Resource]) -> Result<(), NoMemory
 fn name_offset(resource: &Resource, names: u16) -> u16
     ensures { result ≡ (if length resource.now.name == 0 then 65535 else names) }
 {
-    if resource.name.len() == 0 {
+    if resource.name.is_empty() {
         return NO_NAME;
     }
     names
@@ -82,7 +82,8 @@ fn append_reference(
     data_at: u32,
 ) -> Result<(), NoMemory>
     requires { data_at < 2 ^ 24 }
-    ensures reference { OnOk result (out.new ≡ out.old ++ reference_to name_at data_at resource.now) }
+    ensures reference { OnOk result
+        (out.new ≡ out.old ++ reference_to name_at data_at resource.now) }
     ensures id { FitsSigned w16 resource.now.id }
 {
     append_u16(out, resource.id.cast_unsigned())?;
@@ -95,11 +96,11 @@ fn append_reference(
 
 /// Appends the reference lists, one behind the other.
 pub fn append_references(out: &mut Bytes, order: &[&Resource]) -> Result<(), NoMemory>
-    requires area { length (data_area (map (λ r. r.now) order.now)) ≤ 2 ^ 24 }
-    requires names { length (name_list (map (λ r. r.now) order.now)) < 2 ^ 16 }
-    requires named { AreNamed (map (λ r. r.now) order.now) }
-    ensures lists { OnOk result (out.new ≡ out.old ++ reference_lists (map (λ r. r.now) order.now)) }
-    ensures ids { OnOk result (AllByRecursion (λ r. FitsSigned w16 r.id) (map (λ r. r.now) order.now)) }
+    requires area { length (data_area (shown order.now)) ≤ 2 ^ 24 }
+    requires names { length (name_list (shown order.now)) < 2 ^ 16 }
+    requires named { AreNamed (shown order.now) }
+    ensures lists { OnOk result (out.new ≡ out.old ++ reference_lists (shown order.now)) }
+    ensures ids { OnOk result (AllByRecursion (λ r. FitsSigned w16 r.id) (shown order.now)) }
 {
     let mut data_end: u32 = 0;
     let mut names_end: u32 = 0;

@@ -5,7 +5,7 @@ ghost use Rattle.rz_core.specs.Resources.{KeysDiffer};
 ghost use Rattle.rz_fork.specs.Contents.{data_of, name_of, resource_of, resources_of, resources, attributes_of, reserved_of, FitsFork};
 ghost use Rattle.rz_fork.specs.Admit.{data_outside, name_outside, admitted, HasTypes, IsAdmitted, HasResources, IsSayable};
 
-use crate::admit::{admit, entry, reference};
+use crate::admit::{admit, entry_of, reference_of};
 use crate::fault::ForkFault;
 use crate::layout::{Header, NO_NAME, Outline, Reference, TypeEntry};
 use crate::number::{rest_at, u8_at, u16_at, u32_at};
@@ -16,6 +16,7 @@ use std::alloc::Global;
 /// header.
 #[derive(Debug, Drop)]
 pub struct ForkList {
+    /// The resources in map order: type by type, each type's in the order of its references.
     pub list: Resources,
     /// The bits 0x80 (read only), 0x40 (compact) and 0x20 (changed) have a meaning; all 16 are kept.
     pub attributes: u16,
@@ -47,10 +48,10 @@ pub fn read_fork(alloc: Global, bytes: &[u8]) -> Result<ForkList, Stop<ForkFault
         });
     }
     match admit(bytes) {
-        Ok(o) => Ok(ForkList {
-            list: copy_resources(alloc, bytes, o)?,
-            attributes: attributes_of(bytes, o.header),
-            reserved: Bytes::of(alloc, reserved_of(bytes, o.header))?,
+        Ok(outline) => Ok(ForkList {
+            list: copy_resources(alloc, bytes, outline)?,
+            attributes: attributes_of(bytes, outline.header),
+            reserved: Bytes::of(alloc, reserved_of(bytes, outline.header))?,
         }),
         Err(fault) => Err(Stop::Refused(fault)),
     }
@@ -66,27 +67,27 @@ fn piece_at(bytes: &[u8], place: usize, count: usize) -> &[u8]
 
 /// A resource's bytes.
 #[tactic(auto, unfolding(crate::specs::Contents::data_of, crate::specs::Admit::data_outside))]
-fn data_of(bytes: &[u8], o: Outline, r: Reference) -> &[u8]
-    requires area { o.header.data_at + o.header.data_length ≤ length bytes.now }
-    requires within { data_outside bytes.now o r ≡ None }
-    ensures { result.now ≡ data_of bytes.now o r }
+fn data_of(bytes: &[u8], outline: Outline, reference: Reference) -> &[u8]
+    requires area { outline.header.data_at + outline.header.data_length ≤ length bytes.now }
+    requires within { data_outside bytes.now outline reference ≡ None }
+    ensures { result.now ≡ data_of bytes.now outline reference }
 {
-    let place = o.header.data_at + r.data_at as usize;
+    let place = outline.header.data_at + reference.data_at as usize;
     piece_at(bytes, place + 4, u32_at(bytes, place) as usize)
 }
 
 /// A resource's name.
 #[tactic(auto, unfolding(crate::specs::Contents::name_of, crate::specs::Admit::name_outside))]
-fn name_of(bytes: &[u8], o: Outline, r: Reference) -> &[u8]
-    requires map { o.header.map_at + o.header.map_length ≤ length bytes.now }
-    requires names { o.names < 2 ^ 16 }
-    requires within { name_outside bytes.now o r ≡ None }
-    ensures { result.now ≡ name_of bytes.now o r }
+fn name_of(bytes: &[u8], outline: Outline, reference: Reference) -> &[u8]
+    requires map { outline.header.map_at + outline.header.map_length ≤ length bytes.now }
+    requires names { outline.names < 2 ^ 16 }
+    requires within { name_outside bytes.now outline reference ≡ None }
+    ensures { result.now ≡ name_of bytes.now outline reference }
 {
-    if r.name == NO_NAME {
+    if reference.name == NO_NAME {
         return &[];
     }
-    let place = o.header.map_at + (o.names + r.name as usize);
+    let place = outline.header.map_at + (outline.names + reference.name as usize);
     piece_at(bytes, place + 1, u8_at(bytes, place) as usize)
 }
 
@@ -95,21 +96,21 @@ fn name_of(bytes: &[u8], o: Outline, r: Reference) -> &[u8]
 fn copy_resource(
     alloc: Global,
     bytes: &[u8],
-    o: Outline,
-    t: TypeEntry,
-    r: Reference,
+    outline: Outline,
+    entry: TypeEntry,
+    reference: Reference,
 ) -> Result<Resource, NoMemory>
-    requires types { HasTypes bytes.now o }
-    requires area { data_outside bytes.now o r ≡ None }
-    requires names { name_outside bytes.now o r ≡ None }
-    ensures { IfOk result (λ resource. resource ≡ resource_of bytes.now o t r) }
+    requires types { HasTypes bytes.now outline }
+    requires area { data_outside bytes.now outline reference ≡ None }
+    requires names { name_outside bytes.now outline reference ≡ None }
+    ensures { IfOk result (λ resource. resource ≡ resource_of bytes.now outline entry reference) }
 {
     Ok(Resource {
-        kind: OsType { code: t.code },
-        id: r.id.cast_signed(),
-        name: Bytes::of(alloc, name_of(bytes, o, r))?,
-        attr: Attr::of(r.attr),
-        bytes: Bytes::of(alloc, data_of(bytes, o, r))?,
+        kind: OsType { code: entry.code },
+        id: reference.id.cast_signed(),
+        name: Bytes::of(alloc, name_of(bytes, outline, reference))?,
+        attr: Attr::of(reference.attr),
+        bytes: Bytes::of(alloc, data_of(bytes, outline, reference))?,
     })
 }
 
@@ -118,50 +119,50 @@ fn push_type(
     alloc: Global,
     list: &mut Resources,
     bytes: &[u8],
-    o: Outline,
-    t: TypeEntry,
+    outline: Outline,
+    entry: TypeEntry,
 ) -> Result<(), NoMemory>
-    requires { HasResources bytes.now o t }
-    ensures { OnOk result (list.new ≡ list.old ++ resources_of bytes.now o t) }
+    requires { HasResources bytes.now outline entry }
+    ensures { OnOk result (list.new ≡ list.old ++ resources_of bytes.now outline entry) }
 {
-    for j in 0..t.count {
-        let r = reference(bytes, t, j);
-        list.push(copy_resource(alloc, bytes, o, t, r)?)?;
+    for position in 0..entry.count {
+        let reference = reference_of(bytes, entry, position);
+        list.push(copy_resource(alloc, bytes, outline, entry, reference)?)?;
     }
     Ok(())
 }
 
 /// All resources, in map order.
-fn copy_resources(alloc: Global, bytes: &[u8], o: Outline) -> Result<Resources, NoMemory>
-    requires { IsAdmitted bytes.now o }
-    ensures list { IfOk result (λ list. list ≡ resources bytes.now o) }
+fn copy_resources(alloc: Global, bytes: &[u8], outline: Outline) -> Result<Resources, NoMemory>
+    requires { IsAdmitted bytes.now outline }
+    ensures list { IfOk result (λ list. list ≡ resources bytes.now outline) }
     ensures keys { IfOk result (KeysDiffer []) }
     ensures bytes { IfOk result (AllByRecursion FitsFork) }
 {
     let mut list = Resources::new(alloc);
-    for k in 0..o.count {
-        let t = entry(bytes, o, k);
-        push_type(alloc, &mut list, bytes, o, t)?;
+    for position in 0..outline.count {
+        let entry = entry_of(bytes, outline, position);
+        push_type(alloc, &mut list, bytes, outline, entry)?;
     }
     Ok(list)
 }
 
 /// The bytes behind the header, as far as the data area, the map, 256 and the end leave them.
 #[tactic(auto, unfolding(crate::specs::Contents::reserved_of))]
-fn reserved_of(bytes: &[u8], h: Header) -> &[u8]
+fn reserved_of(bytes: &[u8], header: Header) -> &[u8]
     requires { 16 ≤ length bytes.now }
-    ensures { result.now ≡ reserved_of bytes.now h }
+    ensures { result.now ≡ reserved_of bytes.now header }
 {
-    let end = h.data_at.min(h.map_at).min(256).min(bytes.len());
+    let end = header.data_at.min(header.map_at).min(256).min(bytes.len());
     piece_at(bytes, 16, end.saturating_sub(16))
 }
 
 /// The attributes of the map.
 #[tactic(auto, unfolding(crate::specs::Contents::attributes_of))]
-fn attributes_of(bytes: &[u8], h: Header) -> u16
-    requires map { h.map_at + h.map_length ≤ length bytes.now }
-    requires long { 28 ≤ h.map_length }
-    ensures { result ≡ attributes_of bytes.now h }
+fn attributes_of(bytes: &[u8], header: Header) -> u16
+    requires map { header.map_at + header.map_length ≤ length bytes.now }
+    requires long { 28 ≤ header.map_length }
+    ensures { result ≡ attributes_of bytes.now header }
 {
-    u16_at(bytes, h.map_at + 22)
+    u16_at(bytes, header.map_at + 22)
 }

@@ -13,11 +13,14 @@ const MAX_TYPES: usize = 8_192;
 
 const MAX_REFERENCES: usize = 16_384;
 
-/// A rule of which each reference is tested.
+/// A rule that each reference is tested by.
 #[derive(Clone, Copy)]
 pub enum ReferenceRule {
+    /// DataOutside.
     Data,
+    /// NameOutside.
     Name,
+    /// Repeated, of an id.
     Id,
 }
 
@@ -47,112 +50,119 @@ pub fn short_header(bytes: &[u8]) -> Option<ForkFault>
 
 /// DataAreaOutside.
 #[tactic(auto, unfolding(crate::specs::Admit::data_area_outside))]
-pub fn data_area_outside(bytes: &[u8], h: Header) -> Option<ForkFault>
-    requires small { h.data_at + h.data_length < 2 ^ 33 }
-    requires length { h.data_length < 2 ^ 32 }
-    ensures rule { result ≡ data_area_outside bytes.now h }
-    ensures within { IfNone result (h.data_at + h.data_length ≤ length bytes.now) }
+pub fn data_area_outside(bytes: &[u8], header: Header) -> Option<ForkFault>
+    requires small { header.data_at + header.data_length < 2 ^ 33 }
+    requires length { header.data_length < 2 ^ 32 }
+    ensures rule { result ≡ data_area_outside bytes.now header }
+    ensures within { IfNone result (header.data_at + header.data_length ≤ length bytes.now) }
     ensures sayable { IfSome result IsSayable }
 {
-    if DATA_END <= h.data_at || bytes.len() < h.data_at + h.data_length {
-        return Some(fault(402, 0, h.data_length as u32));
+    if DATA_END <= header.data_at || bytes.len() < header.data_at + header.data_length {
+        return Some(fault(402, 0, header.data_length as u32));
     }
     None
 }
 
 /// MapOutside.
 #[tactic(auto, unfolding(crate::specs::Admit::map_outside))]
-pub fn map_outside(bytes: &[u8], h: Header) -> Option<ForkFault>
-    requires at { h.map_at < 2 ^ 32 }
-    requires length { h.map_length < 2 ^ 32 }
-    ensures rule { result ≡ map_outside bytes.now h }
-    ensures within { IfNone result (h.map_at + h.map_length ≤ length bytes.now) }
+pub fn map_outside(bytes: &[u8], header: Header) -> Option<ForkFault>
+    requires at { header.map_at < 2 ^ 32 }
+    requires length { header.map_length < 2 ^ 32 }
+    ensures rule { result ≡ map_outside bytes.now header }
+    ensures within { IfNone result (header.map_at + header.map_length ≤ length bytes.now) }
     ensures sayable { IfSome result IsSayable }
 {
-    if bytes.len() < h.map_at + h.map_length {
-        return Some(fault(403, 4, h.map_length as u32));
+    if bytes.len() < header.map_at + header.map_length {
+        return Some(fault(403, 4, header.map_length as u32));
     }
     None
 }
 
 /// ShortMap.
 #[tactic(auto, unfolding(crate::specs::Admit::short_map))]
-pub fn short_map(h: Header) -> Option<ForkFault>
-    ensures rule { result ≡ short_map h }
-    ensures within { IfNone result (28 ≤ h.map_length) }
+pub fn short_map(header: Header) -> Option<ForkFault>
+    ensures rule { result ≡ short_map header }
+    ensures within { IfNone result (28 ≤ header.map_length) }
     ensures sayable { IfSome result IsSayable }
 {
-    if h.map_length < 28 {
-        return Some(fault(404, 12, h.map_length as u32));
+    if header.map_length < 28 {
+        return Some(fault(404, 12, header.map_length as u32));
     }
     None
 }
 
 /// TypeListOutside.
 #[tactic(auto, unfolding(crate::specs::Admit::type_list_outside))]
-pub fn type_list_outside(h: Header, types: usize) -> Option<ForkFault>
-    requires at { h.map_at < 2 ^ 32 }
+pub fn type_list_outside(header: Header, types: usize) -> Option<ForkFault>
+    requires at { header.map_at < 2 ^ 32 }
     requires types { types < 2 ^ 16 }
-    ensures rule { result ≡ type_list_outside h types }
-    ensures within { IfNone result (types + 2 ≤ h.map_length) }
+    ensures rule { result ≡ type_list_outside header types }
+    ensures within { IfNone result (types + 2 ≤ header.map_length) }
     ensures sayable { IfSome result IsSayable }
 {
-    if h.map_length < types + 2 {
-        return Some(fault(405, h.map_at + 24, types as u32));
+    if header.map_length < types + 2 {
+        return Some(fault(405, header.map_at + 24, types as u32));
     }
     None
 }
 
 /// TypesOutside.
 #[tactic(auto, unfolding(crate::specs::Admit::types_outside))]
-pub fn types_outside(o: Outline) -> Option<ForkFault>
-    requires at { types_place o < 2 ^ 34 }
-    requires count { o.count < 2 ^ 16 }
-    ensures rule { result ≡ types_outside o }
-    ensures within { IfNone result (o.types + 2 + 8 * o.count ≤ o.header.map_length) }
-    ensures few { IfNone result (o.count ≤ 8192) }
+pub fn types_outside(outline: Outline) -> Option<ForkFault>
+    requires at { types_place outline < 2 ^ 34 }
+    requires count { outline.count < 2 ^ 16 }
+    ensures rule { result ≡ types_outside outline }
+    ensures within { IfNone result
+        (outline.types + 2 + 8 * outline.count ≤ outline.header.map_length) }
+    ensures few { IfNone result (outline.count ≤ 8192) }
     ensures sayable { IfSome result IsSayable }
 {
-    if o.header.map_length < o.types + 2 + 8 * o.count || o.count > MAX_TYPES {
-        return Some(fault(406, o.header.map_at + o.types, o.count as u32));
+    if outline.header.map_length < outline.types + 2 + 8 * outline.count
+        || outline.count > MAX_TYPES
+    {
+        return Some(fault(
+            406,
+            outline.header.map_at + outline.types,
+            outline.count as u32,
+        ));
     }
     None
 }
 
 /// ReferencesOutside, of a type behind types with so many references.
 #[tactic(auto, unfolding(crate::specs::Admit::references_outside))]
-pub fn references_outside(o: Outline, so_far: usize, t: TypeEntry) -> Option<ForkFault>
-    requires map { o.header.map_at + o.header.map_length < 2 ^ 33 }
+pub fn references_outside(outline: Outline, so_far: usize, entry: TypeEntry) -> Option<ForkFault>
+    requires map { outline.header.map_at + outline.header.map_length < 2 ^ 33 }
     requires so_far { so_far ≤ 16384 }
-    requires count { t.count < 2 ^ 16 }
-    requires list { t.list < 2 ^ 35 }
-    ensures rule { result ≡ references_outside o so_far t }
-    ensures so_far { IfNone result (so_far + t.count ≤ 16384) }
+    requires count { entry.count < 2 ^ 16 }
+    requires list { entry.list < 2 ^ 35 }
+    ensures rule { result ≡ references_outside outline so_far entry }
+    ensures so_far { IfNone result (so_far + entry.count ≤ 16384) }
     ensures sayable { IfSome result IsSayable }
 {
-    if o.header.map_at + o.header.map_length < t.list + 12 * t.count
-        || so_far + t.count > MAX_REFERENCES
+    if outline.header.map_at + outline.header.map_length < entry.list + 12 * entry.count
+        || so_far + entry.count > MAX_REFERENCES
     {
-        return Some(fault(407, t.list, t.count as u32));
+        return Some(fault(407, entry.list, entry.count as u32));
     }
     None
 }
 
 /// DataOutside.
 #[tactic(auto, unfolding(crate::specs::Admit::data_outside))]
-pub fn data_outside(bytes: &[u8], o: Outline, r: Reference) -> Option<ForkFault>
-    requires area { o.header.data_at + o.header.data_length ≤ length bytes.now }
+pub fn data_outside(bytes: &[u8], outline: Outline, reference: Reference) -> Option<ForkFault>
+    requires area { outline.header.data_at + outline.header.data_length ≤ length bytes.now }
     requires short { length bytes.now < 2 ^ 32 }
-    ensures rule { result ≡ data_outside bytes.now o r }
+    ensures rule { result ≡ data_outside bytes.now outline reference }
     ensures sayable { IfSome result IsSayable }
 {
-    let at = r.data_at as usize;
-    let place = o.header.data_at + at;
-    if o.header.data_length < at + 4 {
+    let at = reference.data_at as usize;
+    let place = outline.header.data_at + at;
+    if outline.header.data_length < at + 4 {
         return Some(fault(408, place, 0));
     }
     let stored = u32_at(bytes, place);
-    if o.header.data_length < at + 4 + stored as usize {
+    if outline.header.data_length < at + 4 + stored as usize {
         return Some(fault(408, place, stored));
     }
     None
@@ -160,20 +170,22 @@ pub fn data_outside(bytes: &[u8], o: Outline, r: Reference) -> Option<ForkFault>
 
 /// NameOutside.
 #[tactic(auto, unfolding(crate::specs::Admit::name_outside))]
-pub fn name_outside(bytes: &[u8], o: Outline, r: Reference) -> Option<ForkFault>
-    requires map { o.header.map_at + o.header.map_length ≤ length bytes.now }
-    requires names { o.names < 2 ^ 16 }
+pub fn name_outside(bytes: &[u8], outline: Outline, reference: Reference) -> Option<ForkFault>
+    requires map { outline.header.map_at + outline.header.map_length ≤ length bytes.now }
+    requires names { outline.names < 2 ^ 16 }
     requires short { length bytes.now < 2 ^ 32 }
-    ensures rule { result ≡ name_outside bytes.now o r }
+    ensures rule { result ≡ name_outside bytes.now outline reference }
     ensures sayable { IfSome result IsSayable }
 {
-    if r.name == NO_NAME {
+    if reference.name == NO_NAME {
         return None;
     }
-    let at = o.names + r.name as usize;
-    let place = o.header.map_at + at;
-    if o.header.map_length < at + 1 || o.header.map_length < at + 1 + u8_at(bytes, place) as usize {
-        return Some(fault(409, place, r.name as u32));
+    let at = outline.names + reference.name as usize;
+    let place = outline.header.map_at + at;
+    if outline.header.map_length < at + 1
+        || outline.header.map_length < at + 1 + u8_at(bytes, place) as usize
+    {
+        return Some(fault(409, place, reference.name as u32));
     }
     None
 }

@@ -1,9 +1,9 @@
-ghost use Rattle.std.specs.Prelude.{◌≡◌, ◌<◌, ◌≤◌, ◌+◌, ◌-◌, ◌*◌, ◌^◌, ◌++◌, length, map, replicate, IfOk, OnOk, Ok};
+ghost use Rattle.std.specs.Prelude.{◌≡◌, ◌<◌, ◌≤◌, ◌+◌, ◌-◌, ◌*◌, ◌^◌, ◌++◌, length, replicate, IfOk, OnOk, Ok};
 ghost use Rattle.std.specs.List.{flat_map};
 ghost use Rattle.rz_core.specs.Stop.{Gives};
 ghost use Rattle.rz_fork.specs.Admit.{admitted};
-ghost use Rattle.rz_fork.specs.Groups.{members_of, group_entries, AreInRange};
-ghost use Rattle.rz_fork.specs.Image.{data_area, name_list, lists_with, lists_end, header, map_fields, tail_with, front, image_with, grouped, fork_of, AreNamed, IsWritable};
+ghost use Rattle.rz_fork.specs.Groups.{shown, members_of, lists_in, tail_in, image_in, AreInRange};
+ghost use Rattle.rz_fork.specs.Image.{data_area, name_list, lists_end, header, map_fields, front, grouped, fork_of, AreNamed, IsWritable};
 
 use crate::fault::LimitFault;
 use crate::group::{Group, groups_in, in_order};
@@ -43,7 +43,11 @@ pub fn write_fork(
 ) -> Result<Bytes, Stop<LimitFault>>
     requires { IsWritable list.now reserved.now }
     ensures fork { Gives (fork_of list.now attributes reserved.now) result }
-    ensures again { IfOk result (λ bytes. admitted bytes ≡ Ok (record { list = grouped list.now; attributes = attributes; reserved = reserved.now ++ replicate (240 - length reserved.now) 0 })) }
+    ensures again { IfOk result (λ bytes. admitted bytes ≡ Ok (record {
+      list = grouped list.now;
+      attributes = attributes;
+      reserved = reserved.now ++ replicate (240 - length reserved.now) 0;
+    })) }
     ensures short { IfOk result (λ bytes. length bytes < 2 ^ 32) }
 {
     let groups = groups_in(alloc, list.as_slice())?;
@@ -61,15 +65,16 @@ fn write_image(
     attributes: u16,
     reserved: &[u8],
 ) -> Result<Bytes, NoMemory>
-    requires order { map (λ r. r.now) order.now ≡ flat_map members_of groups.now }
-    requires named { AreNamed (map (λ r. r.now) order.now) }
+    requires order { shown order.now ≡ flat_map members_of groups.now }
+    requires named { AreNamed (shown order.now) }
     requires reserved { length reserved.now ≤ 240 }
-    requires area { length (data_area (map (λ r. r.now) order.now)) ≤ 2 ^ 24 }
+    requires area { length (data_area (shown order.now)) ≤ 2 ^ 24 }
     requires lists { lists_end (length groups.now) (length order.now) < 2 ^ 16 }
-    requires names { length (name_list (map (λ r. r.now) order.now)) < 2 ^ 16 }
-    ensures image { IfOk result (λ bytes. bytes ≡ image_with (map (λ r. r.now) order.now) reserved.now (tail_with attributes (lists_with (length groups.now) (group_entries groups.now) (map (λ r. r.now) order.now)) (name_list (map (λ r. r.now) order.now)))) }
+    requires names { length (name_list (shown order.now)) < 2 ^ 16 }
+    ensures image { IfOk result (λ bytes.
+        bytes ≡ image_in groups.now (shown order.now) attributes reserved.now) }
     ensures short { IfOk result (λ bytes. length bytes < 2 ^ 32) }
-    ensures ranges { OnOk result (AreInRange groups.now (map (λ r. r.now) order.now)) }
+    ensures ranges { OnOk result (AreInRange groups.now (shown order.now)) }
 {
     let tail = write_tail(alloc, groups, order, attributes)?;
     let mut out = Bytes::new(alloc);
@@ -85,8 +90,8 @@ fn append_front(
     map_length: u32,
 ) -> Result<(), NoMemory>
     requires reserved { length reserved.now ≤ 240 }
-    requires area { length (data_area (map (λ r. r.now) order.now)) ≤ 2 ^ 24 }
-    ensures { OnOk result (out.new ≡ out.old ++ front (map (λ r. r.now) order.now) reserved.now map_length) }
+    requires area { length (data_area (shown order.now)) ≤ 2 ^ 24 }
+    ensures { OnOk result (out.new ≡ out.old ++ front (shown order.now) reserved.now map_length) }
 {
     let data_length = data_length(order) as u32;
     append_header(out, data_length, map_length)?;
@@ -103,14 +108,14 @@ fn write_tail(
     order: &[&Resource],
     attributes: u16,
 ) -> Result<Bytes, NoMemory>
-    requires order { map (λ r. r.now) order.now ≡ flat_map members_of groups.now }
-    requires named { AreNamed (map (λ r. r.now) order.now) }
-    requires area { length (data_area (map (λ r. r.now) order.now)) ≤ 2 ^ 24 }
+    requires order { shown order.now ≡ flat_map members_of groups.now }
+    requires named { AreNamed (shown order.now) }
+    requires area { length (data_area (shown order.now)) ≤ 2 ^ 24 }
     requires lists { lists_end (length groups.now) (length order.now) < 2 ^ 16 }
-    requires names { length (name_list (map (λ r. r.now) order.now)) < 2 ^ 16 }
-    ensures tail { IfOk result (λ bytes. bytes ≡ tail_with attributes (lists_with (length groups.now) (group_entries groups.now) (map (λ r. r.now) order.now)) (name_list (map (λ r. r.now) order.now))) }
+    requires names { length (name_list (shown order.now)) < 2 ^ 16 }
+    ensures tail { IfOk result (λ bytes. bytes ≡ tail_in groups.now (shown order.now) attributes) }
     ensures short { IfOk result (λ bytes. length bytes < 2 ^ 18) }
-    ensures ranges { OnOk result (AreInRange groups.now (map (λ r. r.now) order.now)) }
+    ensures ranges { OnOk result (AreInRange groups.now (shown order.now)) }
 {
     let lists = write_lists(alloc, groups, order)?;
     let mut out = Bytes::new(alloc);
@@ -121,14 +126,15 @@ fn write_tail(
 }
 
 fn write_lists(alloc: Global, groups: &[Group], order: &[&Resource]) -> Result<Bytes, NoMemory>
-    requires order { map (λ r. r.now) order.now ≡ flat_map members_of groups.now }
-    requires named { AreNamed (map (λ r. r.now) order.now) }
-    requires area { length (data_area (map (λ r. r.now) order.now)) ≤ 2 ^ 24 }
+    requires order { shown order.now ≡ flat_map members_of groups.now }
+    requires named { AreNamed (shown order.now) }
+    requires area { length (data_area (shown order.now)) ≤ 2 ^ 24 }
     requires lists { lists_end (length groups.now) (length order.now) < 2 ^ 16 }
-    requires names { length (name_list (map (λ r. r.now) order.now)) < 2 ^ 16 }
-    ensures lists { IfOk result (λ bytes. bytes ≡ lists_with (length groups.now) (group_entries groups.now) (map (λ r. r.now) order.now)) }
-    ensures length { IfOk result (λ bytes. 28 + length bytes ≡ lists_end (length groups.now) (length order.now)) }
-    ensures ranges { OnOk result (AreInRange groups.now (map (λ r. r.now) order.now)) }
+    requires names { length (name_list (shown order.now)) < 2 ^ 16 }
+    ensures lists { IfOk result (λ bytes. bytes ≡ lists_in groups.now (shown order.now)) }
+    ensures length { IfOk result (λ bytes.
+        28 + length bytes ≡ lists_end (length groups.now) (length order.now)) }
+    ensures ranges { OnOk result (AreInRange groups.now (shown order.now)) }
 {
     let mut out = Bytes::new(alloc);
     append_count(&mut out, groups.len())?;

@@ -4,12 +4,12 @@ use Rattle.rz_core.specs.Lists.{any_more, any_stop}
 use Rattle.rz_fork.specs.Layout.{entries}
 use Rattle.rz_fork.proofs.admit.has_code.Goals as goal
 
-pub returns-then-entry-code : goal.returns-then-entry-code
-returns-then-entry-code c =
-    let found : (c.entry.result.code == c.args.code) ≡ true = grind (arith, nat_tests) in
-    sym (any_stop (λ b. b.code == c.args.code) (entries c.args.bytes.now c.args.o) c.args.k c.loop-i.i c.entry.result c.entry.ensures.entry (omega arith) found)
+pub returns-then-entry_of-code : goal.returns-then-entry_of-code
+returns-then-entry_of-code c =
+    let found : (c.entry_of.result.code == c.args.code) ≡ true = grind (arith, nat_tests) in
+    sym (any_stop (λ b. b.code == c.args.code) (entries c.args.bytes.now c.args.outline) c.args.count c.loop-position.position c.entry_of.result c.entry_of.ensures.entry (omega arith) found)
 
-pub loop-i-preserved : goal.loop-i-preserved
-loop-i-preserved c =
-    let other : (c.entry.result.code == c.args.code) ≡ false = grind (arith, nat_tests) in
-    any_more (λ b. b.code == c.args.code) (entries c.args.bytes.now c.args.o) c.loop-i.i c.entry.result c.entry.ensures.entry other c.loop-i.invariant
+pub loop-position-preserved : goal.loop-position-preserved
+loop-position-preserved c =
+    let other : (c.entry_of.result.code == c.args.code) ≡ false = grind (arith, nat_tests) in
+    any_more (λ b. b.code == c.args.code) (entries c.args.bytes.now c.args.outline) c.loop-position.position c.entry_of.result c.entry_of.ensures.entry other c.loop-position.invariant

@@ -4,12 +4,12 @@ use Rattle.rz_core.specs.Lists.{any_more, any_stop}
 use Rattle.rz_fork.specs.Layout.{references}
 use Rattle.rz_fork.proofs.admit.has_id.Goals as goal
 
-pub returns-then-reference-id : goal.returns-then-reference-id
-returns-then-reference-id c =
-    let found : (c.reference.result.id == c.args.id) ≡ true = grind (arith, nat_tests) in
-    sym (any_stop (λ b. b.id == c.args.id) (references c.args.bytes.now c.args.t) c.args.j c.loop-i.i c.reference.result c.reference.ensures.reference (omega arith) found)
+pub returns-then-reference_of-id : goal.returns-then-reference_of-id
+returns-then-reference_of-id c =
+    let found : (c.reference_of.result.id == c.args.id) ≡ true = grind (arith, nat_tests) in
+    sym (any_stop (λ b. b.id == c.args.id) (references c.args.bytes.now c.args.entry) c.args.count c.loop-position.position c.reference_of.result c.reference_of.ensures.reference (omega arith) found)
 
-pub loop-i-preserved : goal.loop-i-preserved
-loop-i-preserved c =
-    let other : (c.reference.result.id == c.args.id) ≡ false = grind (arith, nat_tests) in
-    any_more (λ b. b.id == c.args.id) (references c.args.bytes.now c.args.t) c.loop-i.i c.reference.result c.reference.ensures.reference other c.loop-i.invariant
+pub loop-position-preserved : goal.loop-position-preserved
+loop-position-preserved c =
+    let other : (c.reference_of.result.id == c.args.id) ≡ false = grind (arith, nat_tests) in
+    any_more (λ b. b.id == c.args.id) (references c.args.bytes.now c.args.entry) c.loop-position.position c.reference_of.result c.reference_of.ensures.reference other c.loop-position.invariant

@@ -3,5 +3,5 @@ use Rattle.std.specs.List.{list_any}
 use Rattle.rz_fork.specs.Layout.{references}
 use Rattle.rz_fork.proofs.admit.has_id.Given as goal
 
-abbrev pub invariant-loop-i : goal.invariant-loop-i
-invariant-loop-i l = list_any (λ b. b.id == l.id) (take l.i (references l.bytes l.t)) ≡ false
+abbrev pub invariant-loop-position : goal.invariant-loop-position
+invariant-loop-position l = list_any (λ b. b.id == l.id) (take l.position (references l.bytes l.entry)) ≡ false

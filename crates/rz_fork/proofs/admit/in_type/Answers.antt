@@ -8,16 +8,16 @@ use Rattle.rz_fork.proofs.admit.in_type.Goals as goal
 pub returns-in-Some-clause-rule : goal.returns-in-Some-clause-rule
 unfolding in_type
 returns-in-Some-clause-rule c =
-    let rs = references c.args.bytes.now c.args.t in
-    sym (first_in_stop (reference_rule c.args.rule c.args.bytes.now c.args.o) rs c.loop-j.j c.reference-r.result c.reference-r.ensures.reference c.in-Some.fault (sym c.in-Some.ensures.rule)) ∙ c.loop-j.invariant
+    let rs = references c.args.bytes.now c.args.entry in
+    sym (first_in_stop (reference_rule c.args.rule c.args.bytes.now c.args.outline) rs c.loop-position.position c.reference_of-reference.result c.reference_of-reference.ensures.reference c.in-Some.fault (sym c.in-Some.ensures.rule)) ∙ c.loop-position.invariant
 
-pub loop-j-preserved : goal.loop-j-preserved
-loop-j-preserved c =
-    let rs = references c.args.bytes.now c.args.t in
-    first_in_more (reference_rule c.args.rule c.args.bytes.now c.args.o) rs c.loop-j.j c.reference-r.result c.reference-r.ensures.reference (sym c.in_default.ensures.rule) ∙ c.loop-j.invariant
+pub loop-position-preserved : goal.loop-position-preserved
+loop-position-preserved c =
+    let rs = references c.args.bytes.now c.args.entry in
+    first_in_more (reference_rule c.args.rule c.args.bytes.now c.args.outline) rs c.loop-position.position c.reference_of-reference.result c.reference_of-reference.ensures.reference (sym c.in_default.ensures.rule) ∙ c.loop-position.invariant
 
 pub returns-clause-rule : goal.returns-clause-rule
 unfolding in_type
 returns-clause-rule c =
-    let rs = references c.args.bytes.now c.args.t in
-    sym (first_in_end (reference_rule c.args.rule c.args.bytes.now c.args.o) rs c.loop-j.j (omega (arith, length-references c.args.bytes.now c.args.t))) ∙ c.loop-j.invariant
+    let rs = references c.args.bytes.now c.args.entry in
+    sym (first_in_end (reference_rule c.args.rule c.args.bytes.now c.args.outline) rs c.loop-position.position (omega (arith, length-references c.args.bytes.now c.args.entry))) ∙ c.loop-position.invariant

@@ -4,7 +4,7 @@ use Rattle.rz_fork.specs.Layout.{entries}
 use Rattle.rz_fork.specs.Admit.{in_type}
 use Rattle.rz_fork.proofs.admit.in_types.Given as goal
 
-abbrev pub invariant-loop-k : goal.invariant-loop-k
-invariant-loop-k l =
-    first_in (λ before t. in_type l.rule l.bytes l.o t) (take l.k (entries l.bytes l.o)) (drop l.k (entries l.bytes l.o))
-    ≡ first_in (λ before t. in_type l.rule l.bytes l.o t) [] (entries l.bytes l.o)
+abbrev pub invariant-loop-position : goal.invariant-loop-position
+invariant-loop-position l =
+    first_in (λ before t. in_type l.rule l.bytes l.outline t) (take l.position (entries l.bytes l.outline)) (drop l.position (entries l.bytes l.outline))
+    ≡ first_in (λ before t. in_type l.rule l.bytes l.outline t) [] (entries l.bytes l.outline)

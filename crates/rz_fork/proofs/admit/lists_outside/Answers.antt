@@ -7,24 +7,24 @@ use Rattle.rz_fork.proofs.admit.lists_outside.Goals as goal
 
 pub returns-in-Some-clause-rule : goal.returns-in-Some-clause-rule
 returns-in-Some-clause-rule c =
-    let ts = entries c.args.bytes.now c.args.o in
-    let breaks : list_rule c.args.o (take c.loop-k.k ts) c.entry-t.result ≡ Some c.in-Some.fault =
-    ap (λ n. references_outside c.args.o n c.entry-t.result) (sym c.loop-k.invariant.so_far) ∙ sym c.in-Some.ensures.rule in
-    sym (first_in_stop (list_rule c.args.o) ts c.loop-k.k c.entry-t.result c.entry-t.ensures.entry c.in-Some.fault breaks) ∙ c.loop-k.invariant.rest
+    let ts = entries c.args.bytes.now c.args.outline in
+    let breaks : list_rule c.args.outline (take c.loop-position.position ts) c.entry_of-entry.result ≡ Some c.in-Some.fault =
+    ap (λ n. references_outside c.args.outline n c.entry_of-entry.result) (sym c.loop-position.invariant.so_far) ∙ sym c.in-Some.ensures.rule in
+    sym (first_in_stop (list_rule c.args.outline) ts c.loop-position.position c.entry_of-entry.result c.entry_of-entry.ensures.entry c.in-Some.fault breaks) ∙ c.loop-position.invariant.rest
 
-pub loop-k-preserved : goal.loop-k-preserved
-loop-k-preserved c =
-    let ts = entries c.args.bytes.now c.args.o in
-    let holds : list_rule c.args.o (take c.loop-k.k ts) c.entry-t.result ≡ None =
-    ap (λ n. references_outside c.args.o n c.entry-t.result) (sym c.loop-k.invariant.so_far) ∙ sym c.in_default.ensures.rule in
-    let more = count_more ts c.loop-k.k c.entry-t.result c.entry-t.ensures.entry in
+pub loop-position-preserved : goal.loop-position-preserved
+loop-position-preserved c =
+    let ts = entries c.args.bytes.now c.args.outline in
+    let holds : list_rule c.args.outline (take c.loop-position.position ts) c.entry_of-entry.result ≡ None =
+    ap (λ n. references_outside c.args.outline n c.entry_of-entry.result) (sym c.loop-position.invariant.so_far) ∙ sym c.in_default.ensures.rule in
+    let more = count_more ts c.loop-position.position c.entry_of-entry.result c.entry_of-entry.ensures.entry in
     record {
       so_far = omega (arith, more);
       few = omega (arith, c.in_default.ensures.so_far);
-      rest = first_in_more (list_rule c.args.o) ts c.loop-k.k c.entry-t.result c.entry-t.ensures.entry holds ∙ c.loop-k.invariant.rest;
+      rest = first_in_more (list_rule c.args.outline) ts c.loop-position.position c.entry_of-entry.result c.entry_of-entry.ensures.entry holds ∙ c.loop-position.invariant.rest;
     }
 
 pub returns-clause-rule : goal.returns-clause-rule
 returns-clause-rule c =
-    let ts = entries c.args.bytes.now c.args.o in
-    sym (first_in_end (list_rule c.args.o) ts c.loop-k.k (omega (arith, length-entries c.args.bytes.now c.args.o))) ∙ c.loop-k.invariant.rest
+    let ts = entries c.args.bytes.now c.args.outline in
+    sym (first_in_end (list_rule c.args.outline) ts c.loop-position.position (omega (arith, length-entries c.args.bytes.now c.args.outline))) ∙ c.loop-position.invariant.rest

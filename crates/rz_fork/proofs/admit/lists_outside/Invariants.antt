@@ -4,9 +4,9 @@ use Rattle.rz_fork.specs.Layout.{entries}
 use Rattle.rz_fork.specs.Admit.{list_rule, count_of}
 use Rattle.rz_fork.proofs.admit.lists_outside.Given as goal
 
-abbrev pub invariant-loop-k : goal.invariant-loop-k
-invariant-loop-k l = record {
-  so_far : l.so_far ≡ count_of (take l.k (entries l.bytes l.o));
+abbrev pub invariant-loop-position : goal.invariant-loop-position
+invariant-loop-position l = record {
+  so_far : l.so_far ≡ count_of (take l.position (entries l.bytes l.outline));
   few : l.so_far ≤ 16384;
-  rest : first_in (list_rule l.o) (take l.k (entries l.bytes l.o)) (drop l.k (entries l.bytes l.o)) ≡ first_in (list_rule l.o) [] (entries l.bytes l.o);
+  rest : first_in (list_rule l.outline) (take l.position (entries l.bytes l.outline)) (drop l.position (entries l.bytes l.outline)) ≡ first_in (list_rule l.outline) [] (entries l.bytes l.outline);
 }

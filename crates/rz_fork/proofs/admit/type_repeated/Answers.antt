@@ -7,21 +7,21 @@ use Rattle.rz_fork.proofs.admit.type_repeated.Goals as goal
 
 pub returns-then-has_code-clause-rule : goal.returns-then-has_code-clause-rule
 returns-then-has_code-clause-rule c =
-    let ts = entries c.args.bytes.now c.args.o in
-    let t = c.entry-t.result in
-    let breaks : type_rule (take c.loop-k.k ts) t ≡ Some (fault 410 t.place t.code) =
+    let ts = entries c.args.bytes.now c.args.outline in
+    let t = c.entry_of-entry.result in
+    let breaks : type_rule (take c.loop-position.position ts) t ≡ Some (fault 410 t.place t.code) =
     ap (λ (b : Bool). broken b (fault 410 t.place t.code)) (sym c.has_code.ensures ∙ c.if-has_code.true) in
-    ap (λ f. Some f) c.fault.ensures ∙ sym (first_in_stop type_rule ts c.loop-k.k t c.entry-t.ensures.entry (fault 410 t.place t.code) breaks) ∙ c.loop-k.invariant
+    ap (λ f. Some f) c.fault.ensures ∙ sym (first_in_stop type_rule ts c.loop-position.position t c.entry_of-entry.ensures.entry (fault 410 t.place t.code) breaks) ∙ c.loop-position.invariant
 
-pub loop-k-preserved : goal.loop-k-preserved
-loop-k-preserved c =
-    let ts = entries c.args.bytes.now c.args.o in
-    let t = c.entry-t.result in
-    let holds : type_rule (take c.loop-k.k ts) t ≡ None =
+pub loop-position-preserved : goal.loop-position-preserved
+loop-position-preserved c =
+    let ts = entries c.args.bytes.now c.args.outline in
+    let t = c.entry_of-entry.result in
+    let holds : type_rule (take c.loop-position.position ts) t ≡ None =
     ap (λ (b : Bool). broken b (fault 410 t.place t.code)) (sym c.has_code.ensures ∙ c.if-has_code.false) in
-    first_in_more type_rule ts c.loop-k.k t c.entry-t.ensures.entry holds ∙ c.loop-k.invariant
+    first_in_more type_rule ts c.loop-position.position t c.entry_of-entry.ensures.entry holds ∙ c.loop-position.invariant
 
 pub returns-clause-rule : goal.returns-clause-rule
 returns-clause-rule c =
-    let ts = entries c.args.bytes.now c.args.o in
-    sym (first_in_end type_rule ts c.loop-k.k (omega (arith, length-entries c.args.bytes.now c.args.o))) ∙ c.loop-k.invariant
+    let ts = entries c.args.bytes.now c.args.outline in
+    sym (first_in_end type_rule ts c.loop-position.position (omega (arith, length-entries c.args.bytes.now c.args.outline))) ∙ c.loop-position.invariant

@@ -4,6 +4,6 @@ use Rattle.rz_fork.specs.Layout.{entries}
 use Rattle.rz_fork.specs.Admit.{type_rule}
 use Rattle.rz_fork.proofs.admit.type_repeated.Given as goal
 
-abbrev pub invariant-loop-k : goal.invariant-loop-k
-invariant-loop-k l =
-    first_in type_rule (take l.k (entries l.bytes l.o)) (drop l.k (entries l.bytes l.o)) ≡ first_in type_rule [] (entries l.bytes l.o)
+abbrev pub invariant-loop-position : goal.invariant-loop-position
+invariant-loop-position l =
+    first_in type_rule (take l.position (entries l.bytes l.outline)) (drop l.position (entries l.bytes l.outline)) ≡ first_in type_rule [] (entries l.bytes l.outline)

@@ -1,7 +1,6 @@
 use Rattle.std.proofs.Common.{◌≡◌, ◌++◌, drop}
 use Rattle.std.specs.List.{flat_map}
-use Rattle.rz_fork.specs.Groups.{members_of}
-use Rattle.rz_fork.proofs.Order.{shown}
+use Rattle.rz_fork.specs.Groups.{shown, members_of}
 use Rattle.rz_fork.proofs.group.in_order.Given as goal
 
 abbrev pub invariant-loop-group : goal.invariant-loop-group

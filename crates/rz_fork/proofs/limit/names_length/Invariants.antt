@@ -1,7 +1,7 @@
 use Rattle.std.proofs.Common.{◌≡◌, ◌+◌, ◌-◌, ◌^◌, ◌≤◌, length, drop}
 use Rattle.rz_core.specs.Numbers.{kept_length}
+use Rattle.rz_fork.specs.Groups.{shown}
 use Rattle.rz_fork.specs.Image.{name_list, AreNamed}
-use Rattle.rz_fork.proofs.Order.{shown}
 use Rattle.rz_fork.proofs.limit.names_length.Given as goal
 
 abbrev pub invariant-loop-resource : goal.invariant-loop-resource

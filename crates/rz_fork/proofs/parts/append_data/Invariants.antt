@@ -1,6 +1,6 @@
 use Rattle.std.proofs.Common.{◌≡◌, ◌++◌, ◌<◌, ◌^◌, drop, length}
+use Rattle.rz_fork.specs.Groups.{shown}
 use Rattle.rz_fork.specs.Image.{data_area}
-use Rattle.rz_fork.proofs.Order.{shown}
 use Rattle.rz_fork.proofs.parts.append_data.Given as goal
 
 abbrev pub invariant-loop-resource : goal.invariant-loop-resource

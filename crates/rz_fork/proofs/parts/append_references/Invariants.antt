@@ -2,8 +2,8 @@ use Rattle.std.proofs.Common.{◌≡◌, ◌++◌, ◌≤◌, ◌<◌, ◌^◌, 
 use Rattle.std.specs.Int.{w16}
 use Rattle.std.specs.List.{AllByRecursion}
 use Rattle.rz_core.specs.Lists.{with_front}
+use Rattle.rz_fork.specs.Groups.{shown}
 use Rattle.rz_fork.specs.Image.{data_area, name_list, reference, reference_lists, AreNamed}
-use Rattle.rz_fork.proofs.Order.{shown}
 use Rattle.rz_fork.proofs.parts.append_references.Given as goal
 
 abbrev pub invariant-loop-resource : goal.invariant-loop-resource

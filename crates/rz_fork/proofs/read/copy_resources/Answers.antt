@@ -19,22 +19,22 @@ whole bytes o k list is past =
     is ∙ ap (λ (ts : List TypeEntry). flat_map (resources_of bytes o) ts) (take_all k (entries bytes o) (omega (arith, length-entries bytes o)))
 
 pub push_type-requires : goal.push_type-requires
-push_type-requires c = has_resources _ _ c.loop-k.k _ c.requires c.entry-t.ensures.entry
+push_type-requires c = has_resources _ _ c.loop-position.position _ c.requires c.entry_of-entry.ensures.entry
 
-pub loop-k-preserved : goal.loop-k-preserved
-loop-k-preserved c =
-    let more = flat_map_at_more (resources_of c.args.bytes.now c.args.o) (entries c.args.bytes.now c.args.o) c.loop-k.k c.entry-t.result c.entry-t.ensures.entry in
+pub loop-position-preserved : goal.loop-position-preserved
+loop-position-preserved c =
+    let more = flat_map_at_more (resources_of c.args.bytes.now c.args.outline) (entries c.args.bytes.now c.args.outline) c.loop-position.position c.entry_of-entry.result c.entry_of-entry.ensures.entry in
     grind (arith, common_steps, more)
 
 pub returns-clause-list : goal.returns-clause-list
-returns-clause-list c = whole c.args.bytes.now c.args.o c.loop-k.k _ c.loop-k.invariant (omega arith)
+returns-clause-list c = whole c.args.bytes.now c.args.outline c.loop-position.position _ c.loop-position.invariant (omega arith)
 
 pub returns-clause-keys : goal.returns-clause-keys
 returns-clause-keys c =
-    subst (KeysDiffer []) (sym (whole c.args.bytes.now c.args.o c.loop-k.k _ c.loop-k.invariant (omega arith)))
-    (keys_differ c.args.bytes.now c.args.o (λ i. omega (arith, c.type_inv.bytes i)) (lists_hold c.args.bytes.now c.args.o c.requires.lists))
+    subst (KeysDiffer []) (sym (whole c.args.bytes.now c.args.outline c.loop-position.position _ c.loop-position.invariant (omega arith)))
+    (keys_differ c.args.bytes.now c.args.outline (λ i. omega (arith, c.type_inv.bytes i)) (lists_hold c.args.bytes.now c.args.outline c.requires.lists))
 
 pub returns-clause-bytes : goal.returns-clause-bytes
 returns-clause-bytes c =
-    subst (AllByRecursion FitsFork) (sym (whole c.args.bytes.now c.args.o c.loop-k.k _ c.loop-k.invariant (omega arith)))
-    (all_fit c.args.bytes.now c.args.o (λ i. omega (arith, c.type_inv.bytes i)))
+    subst (AllByRecursion FitsFork) (sym (whole c.args.bytes.now c.args.outline c.loop-position.position _ c.loop-position.invariant (omega arith)))
+    (all_fit c.args.bytes.now c.args.outline (λ i. omega (arith, c.type_inv.bytes i)))

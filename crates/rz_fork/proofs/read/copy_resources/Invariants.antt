@@ -4,5 +4,5 @@ use Rattle.rz_fork.specs.Layout.{entries}
 use Rattle.rz_fork.specs.Contents.{resources_of}
 use Rattle.rz_fork.proofs.read.copy_resources.Given as goal
 
-abbrev pub invariant-loop-k : goal.invariant-loop-k
-invariant-loop-k l = l.list ≡ flat_map (resources_of l.bytes l.o) (take l.k (entries l.bytes l.o))
+abbrev pub invariant-loop-position : goal.invariant-loop-position
+invariant-loop-position l = l.list ≡ flat_map (resources_of l.bytes l.outline) (take l.position (entries l.bytes l.outline))

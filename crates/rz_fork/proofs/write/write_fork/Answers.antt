@@ -1,9 +1,10 @@
 use Rattle.std.proofs.Common.{◌≡◌, ◌<◌, length, Ok, Some, None, ap, sym, arith, ◌∙◌, subst}
 use Rattle.std.specs.List.{AllByRecursion}
+use Rattle.rz_core.specs.Lists.{unless_fault}
 use Rattle.rz_fork.specs.Admit.{admitted}
-use Rattle.rz_fork.specs.Image.{first_limit, image, unless_passed, AreNamed}
+use Rattle.rz_fork.specs.Groups.{shown}
+use Rattle.rz_fork.specs.Image.{first_limit, image, AreNamed}
 use Rattle.rz_fork.proofs.Law.{IsReadable, image_admitted}
-use Rattle.rz_fork.proofs.Order.{shown}
 use Rattle.rz_fork.proofs.Regroup.{order_of, limit_is, whole_is, codes_fit, all_grouped}
 use Rattle.rz_fork.proofs.Written.{HasShortId}
 use Rattle.rz_fork.proofs.write.write_fork.Goals as goal
@@ -18,7 +19,7 @@ returns-in-Some-clause-fork c =
     let order = order_of _ _ _ c.as_slice.ensures c.in_ok-groups.ensures _ _ c.deref.ensures.value (ap shown c.deref-2.ensures.value ∙ c.in_ok-order.ensures) in
     let limit = limit_is _ _ _ c.as_slice.ensures c.in_ok-groups.ensures c.len.result _ (omega (arith, c.len.ensures)) order in
     let first : first_limit c.args.list.now ≡ Some c.in-Some.fault = sym (c.in-Some.ensures.first ∙ limit) in
-    ap (λ f. unless_passed f (image c.args.list.now c.args.attributes c.args.reserved.now)) first
+    ap (λ f. unless_fault f (image c.args.list.now c.args.attributes c.args.reserved.now)) first
 
 pub write_image-requires-clause-named : goal.write_image-requires-clause-named
 write_image-requires-clause-named c =
@@ -32,7 +33,7 @@ returns-clause-fork c =
     let first : first_limit c.args.list.now ≡ None = sym (c.in_default.ensures.first ∙ limit) in
     let again = order_of _ _ _ c.as_slice.ensures c.in_ok-groups.ensures _ _ c.deref.ensures.value (ap shown c.deref-4.ensures.value ∙ c.in_ok-order.ensures) in
     let whole = whole_is _ _ _ c.as_slice.ensures c.in_ok-groups.ensures c.args.attributes c.args.reserved.now _ _ c.deref-3.ensures.value again in
-    ap (λ f. unless_passed f (image c.args.list.now c.args.attributes c.args.reserved.now)) first
+    ap (λ f. unless_fault f (image c.args.list.now c.args.attributes c.args.reserved.now)) first
     ∙ ap (λ b. Ok b) (sym (c.in_ok-write_image.ensures.image ∙ whole))
 
 pub returns-clause-again : goal.returns-clause-again

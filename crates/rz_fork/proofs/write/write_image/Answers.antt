@@ -1,8 +1,8 @@
 use Rattle.std.proofs.Common.{◌≡◌, ◌+◌, ◌++◌, ap, length, arith, length-append}
 use Rattle.std.proofs.lemmas.Grind.{common_steps}
+use Rattle.rz_fork.specs.Groups.{shown}
 use Rattle.rz_fork.specs.Image.{front}
 use Rattle.rz_fork.proofs.Lengths.{length-front}
-use Rattle.rz_fork.proofs.Order.{shown}
 use Rattle.rz_fork.proofs.write.write_image.Goals as goal
 
 pub returns-clause-short : goal.returns-clause-short

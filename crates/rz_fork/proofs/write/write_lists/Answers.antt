@@ -1,10 +1,9 @@
 use Rattle.std.proofs.Common.{◌≡◌, ap, length, arith}
 use Rattle.std.proofs.lemmas.List.{length-map}
 use Rattle.std.proofs.lemmas.Grind.{common_steps}
-use Rattle.rz_fork.specs.Groups.{group_entries}
+use Rattle.rz_fork.specs.Groups.{shown, group_entries}
 use Rattle.rz_fork.specs.Image.{lists_with}
 use Rattle.rz_fork.proofs.Lengths.{length-lists_with, length-group_entries}
-use Rattle.rz_fork.proofs.Order.{shown}
 use Rattle.rz_fork.proofs.write.write_lists.Goals as goal
 
 pub returns-clause-length : goal.returns-clause-length

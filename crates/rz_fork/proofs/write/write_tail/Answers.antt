@@ -1,8 +1,8 @@
 use Rattle.std.proofs.Common.{◌≡◌, ap, length, arith}
 use Rattle.std.proofs.lemmas.Grind.{common_steps}
+use Rattle.rz_fork.specs.Groups.{shown}
 use Rattle.rz_fork.specs.Image.{tail_with, name_list}
 use Rattle.rz_fork.proofs.Lengths.{length-tail_with}
-use Rattle.rz_fork.proofs.Order.{shown}
 use Rattle.rz_fork.proofs.write.write_tail.Goals as goal
 
 pub returns-clause-short : goal.returns-clause-short

@@ -1,6 +1,0 @@
-use Rattle.std.proofs.Common.{sym, ap, ◌∙◌, Some, refl}
-use Rattle.rz_fork.proofs.Items.{get-entries}
-use Rattle.rz_fork.proofs.admit.entry.Goals as goal
-
-pub returns-clause-entry : goal.returns-clause-entry
-returns-clause-entry c = get-entries _ _ c.args.k _ c.requires.k refl ∙ ap (λ t. Some t) (sym c.entry_at.ensures.entry)

@@ -1,6 +1,0 @@
-use Rattle.std.proofs.Common.{sym, ap, ◌∙◌, Some, refl}
-use Rattle.rz_fork.proofs.Items.{get-references}
-use Rattle.rz_fork.proofs.admit.reference.Goals as goal
-
-pub returns-clause-reference : goal.returns-clause-reference
-returns-clause-reference c = get-references _ _ c.args.j _ c.requires.j refl ∙ ap (λ r. Some r) (sym c.reference_at.ensures.reference)
