@@ -2,11 +2,11 @@
 use Rattle.std.proofs.Common.{◌≡◌, ℕ, ◌+◌, ◌*◌, Bool, true, false, nat_lt, if◌then◌else◌, List, length, Ok, Err, Some, None, subst, rules, arith}
 use Rattle.std.specs.declared.result.Result.{Result}
 use Rattle.std.specs.declared.option.Option.{Option}
-use Rattle.rz_core.specs.Lists.{or_else}
+use Rattle.rz_core.specs.Lists.{or_else, unless_fault}
 use Rattle.rz_core.specs.Message.{fault_name}
 use Rattle.rz_core.specs.Numbers.{kept_length}
 use Rattle.rz_core.specs.declared.resource.Resource.{Resource}
-use Rattle.rz_fork.specs.Image.{fork_of, first_limit, unless_passed, image, passed, kinds_of, grouped, data_area, name_list, lists_end}
+use Rattle.rz_fork.specs.Image.{fork_of, first_limit, image, passed, kinds_of, grouped, data_area, name_list, lists_end}
 use Rattle.rz_fork.specs.declared.fault.LimitFault.{LimitFault}
 use Rattle.rz_tools.specs.Rez.{IsLimit}
 use Rattle.std.specs.Prelude.{IsSome, IfSome}
@@ -34,7 +34,7 @@ limit list =
 same_fault : (found fault : LimitFault) → ◌≡◌ {A = Result (List ℕ) LimitFault} (Err found) (Err fault) → found ≡ fault
 same_fault found fault says = cc
 
-refused : (found : Option LimitFault) (bytes : List ℕ) (fault : LimitFault) → IfSome found IsLimit → unless_passed found bytes ≡ Err fault → IsLimit fault
+refused : (found : Option LimitFault) (bytes : List ℕ) (fault : LimitFault) → IfSome found IsLimit → unless_fault found bytes ≡ Err fault → IsLimit fault
 refused None bytes fault is says = cc
 refused (Some found) bytes fault is says = subst IsLimit (same_fault found fault says) is
 
