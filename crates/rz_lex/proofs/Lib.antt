@@ -1,2 +1,10 @@
 pub mod Texts
 pub mod Runs
+pub mod Ends
+pub mod Spelling
+pub mod Befores
+pub mod Steps
+pub mod OneWay
+pub mod QuotedBack
+pub mod Decimals
+pub mod WordsBack

@@ -1,3 +1,13 @@
 pub mod Seen
 pub mod EarlyStatement
 pub mod Early
+pub mod Classes
+pub mod Sign
+pub mod Extent
+pub mod Scan
+pub mod Digits
+pub mod Escape
+pub mod Hex
+pub mod Shape
+pub mod Cutting
+pub mod Printed

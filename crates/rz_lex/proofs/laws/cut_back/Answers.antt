@@ -1,0 +1,28 @@
+use Rattle.std.proofs.Common.{refl, []}
+use Rattle.rz_lex.proofs.QuotedBack.{text_back, literal_back}
+use Rattle.rz_lex.proofs.WordsBack.{word_back, number_back, sign_back, token_more, blank_more}
+use Rattle.rz_lex.proofs.laws.cut_back.Goals as goal
+
+pub returns-clause-word : goal.returns-clause-word
+returns-clause-word c = word_back
+
+pub returns-clause-number : goal.returns-clause-number
+returns-clause-number c = number_back
+
+pub returns-clause-literal : goal.returns-clause-literal
+returns-clause-literal c = literal_back
+
+pub returns-clause-text : goal.returns-clause-text
+returns-clause-text c = text_back
+
+pub returns-clause-sign : goal.returns-clause-sign
+returns-clause-sign c = sign_back
+
+pub returns-clause-empty : goal.returns-clause-empty
+returns-clause-empty c = λ mark. ([], refl, refl)
+
+pub returns-clause-token : goal.returns-clause-token
+returns-clause-token c = token_more
+
+pub returns-clause-blank : goal.returns-clause-blank
+returns-clause-blank c = blank_more

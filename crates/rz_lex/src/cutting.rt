@@ -1,0 +1,92 @@
+ghost use Rattle.std.specs.Prelude.{◌≡◌, ◌≢◌, ◌<◌, ◌≤◌, ℕ, List, [], length, IfOk, IfSome, MatchOption, Ok};
+ghost use Rattle.rz_core.specs.Stop.{OnFault};
+ghost use Rattle.rz_lex.specs.Cutting.{after_blanks, Cuts, IsBad, Next, Refuses};
+ghost use Rattle.rz_lex.specs.Extent.{is_lexeme, Longest};
+ghost use Rattle.rz_lex.specs.Shape.{shape_of};
+
+use crate::classes::is_blank;
+use crate::extent::lexeme_at;
+use crate::shape::{no_lexeme_fault, shape_of};
+use crate::{RawLine, Token, Tokens};
+use rz_core::{Fault, Mark, Stop};
+use std::alloc::Global;
+
+/// The tokens of a line, each the longest that stands at its place, all with the line's mark. A refusal
+/// is the first fault of the line: 108 where a literal or a text does not end on it, 109 for a wrong
+/// escape (kept: the token's bytes as written, at most 255), 110 for a wrong number or literal (kept: the
+/// same), 111 for a byte that begins no token (kept: the byte), 113 for a wrong hex text, 115 for a word
+/// or a number of more than 255 bytes (kept: the length). Of one token's faults 109 comes first, and 115
+/// before 110. (MPW Rez.)
+pub fn cut(alloc: Global, line: &RawLine) -> Result<Tokens, Stop<Fault>>
+    ensures tokens { IfOk result (Cuts line.now.mark line.now.bytes) }
+    ensures fault { OnFault result (Refuses line.now.mark line.now.bytes) }
+{
+    let mut tokens = Tokens::new(alloc);
+    let mut rest = line.bytes.as_slice();
+    'lexemes: loop {
+        match next_token(alloc, line.mark, rest) {
+            Ok(None) => return Ok(tokens),
+            Ok(Some((token, after))) => {
+                tokens.push(token)?;
+                rest = after;
+            }
+            Err(stop) => return Err(stop),
+        }
+    }
+}
+
+/// The next token of a line, and what follows it; `None` where only blanks are left.
+fn next_token(
+    alloc: Global,
+    mark: Mark,
+    line: &[u8],
+) -> Result<Option<(Token, &[u8])>, Stop<Fault>>
+    ensures token {
+        IfOk result (λ found. MatchOption found (after_blanks line.now ≡ [])
+            (λ read. Next mark line.now read.0 read.1.now))
+    }
+    ensures shorter { IfOk result (λ found. IfSome found (λ read. length read.1.now < length line.now)) }
+    ensures fault {
+        OnFault result (λ fault. (after_blanks line.now ≢ []) × IsBad mark (after_blanks line.now) fault)
+    }
+{
+    let rest = after_blanks(line);
+    if rest.is_empty() {
+        return Ok(None);
+    }
+    match token_at(alloc, mark, rest) {
+        Ok((token, after)) => Ok(Some((token, after))),
+        Err(stop) => Err(stop),
+    }
+}
+
+/// The token at the front, and what follows it.
+fn token_at(alloc: Global, mark: Mark, rest: &[u8]) -> Result<(Token, &[u8]), Stop<Fault>>
+    ensures token {
+        IfOk result (λ read. (lexeme : List ℕ) × Longest is_lexeme rest.now lexeme read.1.now
+            × (shape_of mark lexeme ≡ Ok read.0.shape) × (read.0.mark ≡ mark))
+    }
+    ensures fault { OnFault result (IsBad mark rest.now) }
+{
+    match lexeme_at(rest) {
+        None => Err(Stop::Refused(no_lexeme_fault(mark, rest))),
+        Some((lexeme, after)) => match shape_of(alloc, mark, lexeme) {
+            Ok(shape) => Ok((Token { shape, mark }, after)),
+            Err(stop) => Err(stop),
+        },
+    }
+}
+
+/// What follows the blanks at the front.
+fn after_blanks(line: &[u8]) -> &[u8]
+    ensures rest { result.now ≡ after_blanks line.now }
+    ensures shorter { length result.now ≤ length line.now }
+{
+    let mut rest = line;
+    loop {
+        match rest {
+            [byte, after @ ..] if is_blank(*byte) => rest = after,
+            _ => return rest,
+        }
+    }
+}
