@@ -1,5 +1,10 @@
 pub mod Texts
 pub mod Runs
+pub mod Fronts
+pub mod Takes
+pub mod OneLine
+pub mod OneCover
+pub mod EveryText
 pub mod Ends
 pub mod Spelling
 pub mod Befores
@@ -8,3 +13,5 @@ pub mod OneWay
 pub mod QuotedBack
 pub mod Decimals
 pub mod WordsBack
+pub mod LexedTo
+pub mod OneLex

@@ -1,6 +1,9 @@
 pub mod Seen
 pub mod EarlyStatement
 pub mod Early
+pub mod Joined
+pub mod Cover
+pub mod Lines
 pub mod Classes
 pub mod Sign
 pub mod Extent
@@ -10,4 +13,5 @@ pub mod Escape
 pub mod Hex
 pub mod Shape
 pub mod Cutting
+pub mod Lexed
 pub mod Printed

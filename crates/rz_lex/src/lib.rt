@@ -1,8 +1,9 @@
-//! Text as the tools read it: the tokens of a line, and sources of early statements, which are `data`
-//! statements with hexadecimal texts alone.
+//! Text as the tools read it: the logical lines of a source, the tokens of a line, and so far sources of
+//! early statements, `data` statements with hexadecimal texts alone.
 #![tactic(auto)]
 
 mod classes;
+mod cover;
 mod cutting;
 mod digits;
 mod early;
@@ -10,13 +11,22 @@ mod early_statement;
 mod escape;
 mod extent;
 mod hex;
+mod joined;
 mod laws;
+mod lexed;
+mod lines;
+mod raw_line;
 mod shape;
 mod sign;
 mod token;
 
+pub use cover::one_cover;
 pub use cutting::cut;
 pub use early::read_early;
+pub use joined::{Placed, Position};
 pub use laws::{cut_back, one_cut};
+pub use lexed::{lex, one_lex};
+pub use lines::{every_text_has_lines, next_line, one_list_of_lines};
+pub use raw_line::RawLine;
 pub use sign::Sign;
-pub use token::{RawLine, Shape, Token, Tokens};
+pub use token::{Shape, Token, Tokens};

@@ -1,0 +1,173 @@
+ghost use Rattle.std.specs.Prelude.{◌≡◌, ◌≢◌, ◌+◌, ◌<◌, ◌≤◌, ◌^◌, ◌++◌, [], length, drop, Option, Some, None, false, MatchOption, IfNone, IfOk, IfSome, List};
+ghost use Rattle.rz_lex.specs.Joined.{ahead, is_at, IsOn, IsFurther};
+ghost use Rattle.rz_lex.specs.Cover.{after_close, after_part, after_quote, after_text, begins, bytes_of, is_quote, Cover, Parts, TakesPart};
+ghost use Rattle.rz_lex.specs.declared.joined.Placed.{Placed};
+
+use crate::joined::{Position, next_byte};
+use rz_core::{Bytes, NoMemory};
+
+/// Takes the part that stands ahead, which is no line end, appends what it leaves in its line, and gives
+/// the position behind it. `None` comes exactly where a comment begins that never ends.
+pub fn take_part<'a>(start: Position<'a>, out: &mut Bytes) -> Result<Option<Position<'a>>, NoMemory>
+    requires room { start.line + length start.rest.now ≤ 2 ^ 32 }
+    requires inside { is_at 10 (ahead start) ≡ false }
+    requires there { ahead start ≢ [] }
+    ensures taken { IfOk result (λ taken. IfSome taken (λ place. TakesPart (ahead start.entry) (ahead place) out.old out.new)) }
+    ensures endless { IfOk result (λ taken. IfNone taken (after_part (ahead start.entry) ≡ None)) }
+    ensures further { IfOk result (λ taken. IfSome taken (λ place. IsFurther start.entry place)) }
+{
+    if begins(b'/', b'*', start) {
+        let Some(rest) = skip_block(start) else {
+            return Ok(None);
+        };
+        out.push(b' ')?;
+        return Ok(Some(rest));
+    }
+    if begins(b'/', b'/', start) {
+        let rest = skip_slashes(start);
+        out.push(b' ')?;
+        return Ok(Some(rest));
+    }
+    let rest = copy_part(start, out)?;
+    Ok(Some(rest))
+}
+
+/// Whether these two bytes stand first.
+fn begins(first: u8, second: u8, place: Position) -> bool
+    requires { place.line + length place.rest.now ≤ 2 ^ 32 }
+    ensures { result ≡ begins first second (ahead place.entry) }
+{
+    if let Some((byte, after)) = next_byte(place) {
+        if byte.byte == first {
+            if let Some((next, _)) = next_byte(after) {
+                return next.byte == second;
+            }
+        }
+    }
+    false
+}
+
+/// What stands behind a comment that begins with the two bytes ahead.
+fn skip_block(start: Position) -> Option<Position>
+    requires { start.line + length start.rest.now ≤ 2 ^ 32 }
+    ensures rest { MatchOption result (after_close (drop 2 (ahead start.entry)) ≡ None) (λ place. after_close (drop 2 (ahead start.entry)) ≡ Some (ahead place)) }
+    ensures further { IfSome result (λ place. IsFurther start.entry place) }
+{
+    let (_, second) = next_byte(start)?;
+    let (_, inside) = next_byte(second)?;
+    skip_comment(inside)
+}
+
+/// What stands behind the first `*/`.
+fn skip_comment(start: Position) -> Option<Position>
+    requires { start.line + length start.rest.now ≤ 2 ^ 32 }
+    ensures rest { MatchOption result (after_close (ahead start.entry) ≡ None) (λ place. after_close (ahead start.entry) ≡ Some (ahead place)) }
+    ensures on { IfSome result (λ place. IsOn start.entry place) }
+{
+    let mut place = start;
+    while let Some((byte, after)) = next_byte(place) {
+        if byte.byte == b'*' {
+            if let Some((next, behind)) = next_byte(after) {
+                if next.byte == b'/' {
+                    return Some(behind);
+                }
+            }
+        }
+        place = after;
+    }
+    None
+}
+
+/// What stands behind the text of the line, whose first byte is not its line end.
+fn skip_slashes(start: Position) -> Position
+    requires room { start.line + length start.rest.now ≤ 2 ^ 32 }
+    requires inside { is_at 10 (ahead start) ≡ false }
+    requires there { ahead start ≢ [] }
+    ensures rest { after_text (ahead start.entry) ≡ ahead result }
+    ensures further { IsFurther start.entry result }
+{
+    match next_byte(start) {
+        Some((_, after)) => skip_text(after),
+        None => start,
+    }
+}
+
+/// What stands behind the text of the line: its line end, or nothing.
+fn skip_text(start: Position) -> Position
+    requires { start.line + length start.rest.now ≤ 2 ^ 32 }
+    ensures rest { after_text (ahead start.entry) ≡ ahead result }
+    ensures on { IsOn start.entry result }
+{
+    let mut place = start;
+    while let Some((byte, after)) = next_byte(place) {
+        if byte.byte == b'\n' {
+            return place;
+        }
+        place = after;
+    }
+    place
+}
+
+/// Copies a quoted part, or the single byte that stands ahead where no quote mark does.
+fn copy_part<'a>(start: Position<'a>, out: &mut Bytes) -> Result<Position<'a>, NoMemory>
+    requires room { start.line + length start.rest.now ≤ 2 ^ 32 }
+    requires inside { is_at 10 (ahead start) ≡ false }
+    requires there { ahead start ≢ [] }
+    requires block { begins 47 42 (ahead start) ≡ false }
+    requires slashes { begins 47 47 (ahead start) ≡ false }
+    ensures taken { IfOk result (λ place. TakesPart (ahead start.entry) (ahead place) out.old out.new) }
+    ensures further { IfOk result (λ place. IsFurther start.entry place) }
+{
+    let Some((byte, after)) = next_byte(start) else {
+        return Ok(start);
+    };
+    out.push(byte.byte)?;
+    if is_quote(byte.byte) {
+        let rest = copy_quoted(byte.byte, after, out)?;
+        return Ok(rest);
+    }
+    Ok(after)
+}
+
+fn is_quote(byte: u8) -> bool
+    ensures { result ≡ is_quote byte }
+{
+    byte == b'"' || byte == b'\''
+}
+
+/// Copies what is left of a quoted part behind its first mark.
+fn copy_quoted<'a>(
+    quote: u8,
+    start: Position<'a>,
+    out: &mut Bytes,
+) -> Result<Position<'a>, NoMemory>
+    requires { start.line + length start.rest.now ≤ 2 ^ 32 }
+    ensures rest { IfOk result (λ place. after_quote quote (ahead start.entry) ≡ ahead place) }
+    ensures copied { IfOk result (λ place. out.old ++ bytes_of (ahead start.entry) ≡ out.new ++ bytes_of (ahead place)) }
+    ensures on { IfOk result (λ place. IsOn start.entry place) }
+{
+    let mut place = start;
+    let mut taken = false;
+    while let Some((byte, after)) = next_byte(place) {
+        if byte.byte == b'\n' {
+            return Ok(place);
+        }
+        out.push(byte.byte)?;
+        place = after;
+        if taken {
+            taken = false;
+        } else if byte.byte == quote {
+            return Ok(place);
+        } else {
+            taken = byte.byte == b'\\';
+        }
+    }
+    Ok(place)
+}
+
+/// The law of covers: a text has at most one, and a text with an open comment has none.
+pub fn one_cover()
+    ensures cover { (text : List Placed) (parts others : List (List Placed)) → Cover text parts → Cover text others → parts ≡ others }
+    ensures open_comment { (text comment : List Placed) (parts before : List (List Placed)) →
+        Cover text parts → Parts text before comment → after_part comment ≡ None → comment ≢ [] → ⊥ }
+{}

@@ -1,0 +1,74 @@
+ghost use Rattle.std.specs.Prelude.{◌≡◌, ◌+◌, ◌<◌, ◌≤◌, ◌^◌, ◌∷◌, [], length, MatchOption, IfSome};
+ghost use Rattle.rz_lex.specs.Joined.{ahead, IsOn};
+
+/// A byte of a joined text, or a line end as 0A, and the physical line on which it stands, from 1.
+#[derive(Clone, Copy, Debug)]
+pub struct Placed {
+    pub byte: u8,
+    pub line: u32,
+}
+
+/// A position in a text: what is left of the text, and the physical line on which that begins, from 1.
+#[derive(Clone, Copy, Debug)]
+pub struct Position<'a> {
+    pub rest: &'a [u8],
+    pub line: u64,
+}
+
+/// The first byte of the joined text that stands ahead, and the position behind it. `None` comes exactly
+/// where nothing stands ahead.
+pub fn next_byte(place: Position) -> Option<(Placed, Position)>
+    requires { place.line + length place.rest.now ≤ 2 ^ 32 }
+    ensures byte { MatchOption result (ahead place.entry ≡ []) (λ read. ahead place.entry ≡ read.0 ∷ ahead read.1) }
+    ensures on { IfSome result (λ read. IsOn place.entry read.1) }
+    ensures shorter { IfSome result (λ read. length read.1.rest.now < length place.entry.rest.now) }
+{
+    let mut rest = place.rest;
+    let mut line = place.line;
+    loop {
+        match rest {
+            [] => return None,
+            [b'\\', b'\r', b'\n', after @ ..] => {
+                rest = after;
+                line += 1;
+            }
+            [b'\\', b'\r' | b'\n', after @ ..] => {
+                rest = after;
+                line += 1;
+            }
+            [b'\r', b'\n', after @ ..] => {
+                return Some((
+                    Placed {
+                        byte: b'\n',
+                        line: line as u32,
+                    },
+                    Position {
+                        rest: after,
+                        line: line + 1,
+                    },
+                ));
+            }
+            [b'\r' | b'\n', after @ ..] => {
+                return Some((
+                    Placed {
+                        byte: b'\n',
+                        line: line as u32,
+                    },
+                    Position {
+                        rest: after,
+                        line: line + 1,
+                    },
+                ));
+            }
+            [byte, after @ ..] => {
+                return Some((
+                    Placed {
+                        byte: *byte,
+                        line: line as u32,
+                    },
+                    Position { rest: after, line },
+                ));
+            }
+        }
+    }
+}
