@@ -39,7 +39,8 @@ pub fn cut(alloc: Global, line: &RawLine) -> Result<Tokens, Stop<Fault>>
 fn next_token(alloc: Global, mark: Mark, line: &[u8]) -> Result<Option<(Token, &[u8])>, Stop<Fault>>
     ensures token { IfOk result (λ found. MatchOption found (after_blanks line.now ≡ [])
         (λ read. Next mark line.now read.0 read.1.now)) }
-    ensures shorter { IfOk result (λ found. IfSome found (λ read. length read.1.now < length line.now)) }
+    ensures shorter { IfOk result (λ found. IfSome found
+        (λ read. length read.1.now < length line.now)) }
     ensures fault { OnFault result (λ fault.
         (after_blanks line.now ≢ []) × IsBad mark (after_blanks line.now) fault) }
 {
