@@ -11,7 +11,7 @@ use Rattle.rz_lex.specs.Digits.{digits_value}
 use Rattle.rz_lex.specs.Escape.{letter_escape, escape_at, text_value, before}
 use Rattle.rz_lex.specs.Shape.{inside}
 use Rattle.rz_lex.specs.Cutting.{Next}
-use Rattle.rz_lex.specs.Printed.{AreBytes}
+use Rattle.rz_lex.specs.Printed.{AreBytes, token_of}
 use Rattle.rz_lex.specs.declared.token.Shape.TheVariants as shapes
 use Rattle.rz_lex.proofs.Ends.{by_test, longest_read}
 
@@ -132,7 +132,7 @@ text_mark = record { below = omega arith; letter = refl; no_dollar = refl }
 literal_mark : IsMark 39
 literal_mark = record { below = omega arith; letter = refl; no_dollar = refl }
 
-pub text_back : (mark : Mark) (bs after : List ℕ) → AreBytes bs → Next mark (quoted 34 bs ++ after) (record { shape = shapes.Text bs; mark = mark }) after
+pub text_back : (mark : Mark) (bs after : List ℕ) → AreBytes bs → Next mark (quoted 34 bs ++ after) (token_of mark (shapes.Text bs)) after
 text_back mark bs after bytes = record {
   lexeme = quoted 34 bs;
   longest = longest_read (quoted 34 bs ++ after) (quoted 34 bs) after refl (on_to_end 34 bs after text_mark bytes);
@@ -140,7 +140,7 @@ text_back mark bs after bytes = record {
   place = refl;
 }
 
-pub literal_back : (mark : Mark) (bs after : List ℕ) → AreBytes bs → 0 < length bs → length bs ≤ 4 → Next mark (quoted 39 bs ++ after) (record { shape = shapes.Literal bs; mark = mark }) after
+pub literal_back : (mark : Mark) (bs after : List ℕ) → AreBytes bs → 0 < length bs → length bs ≤ 4 → Next mark (quoted 39 bs ++ after) (token_of mark (shapes.Literal bs)) after
 literal_back mark bs after bytes some few = record {
   lexeme = quoted 39 bs;
   longest = longest_read (quoted 39 bs ++ after) (quoted 39 bs) after refl (on_to_end 39 bs after literal_mark bytes);

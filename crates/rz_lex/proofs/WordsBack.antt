@@ -12,7 +12,7 @@ use Rattle.rz_lex.specs.Sign.{sign_text, is_sign}
 use Rattle.rz_lex.specs.Digits.{number_value}
 use Rattle.rz_lex.specs.Shape.{shape_of, word_shape, number_shape}
 use Rattle.rz_lex.specs.Cutting.{after_blanks, Next, Cuts}
-use Rattle.rz_lex.specs.Printed.{is_word, is_dollar_word, begins_word, goes_on}
+use Rattle.rz_lex.specs.Printed.{is_word, is_dollar_word, begins_word, goes_on, token_of, word_of}
 use Rattle.rz_lex.specs.declared.sign.Sign.{Sign}
 use Rattle.rz_lex.specs.declared.sign.Sign.TheVariants as signs
 use Rattle.rz_lex.specs.declared.token.Shape.TheVariants as shapes
@@ -57,7 +57,7 @@ plain_shape : (mark : Mark) (b : ℕ) (bs : List ℕ) → is_digit b ≡ false �
 plain_shape mark b bs digit word = rw (word, digit) refl
 
 plain_word : (mark : Mark) (b : ℕ) (bs after : List ℕ) → is_digit b ≡ false → is_word_byte b ≡ true → are_word_bytes bs ≡ true → length (b ∷ bs) ≤ 255 → begins_word after ≡ false
-    → Next mark ((b ∷ bs) ++ after) (record { shape = shapes.Word (record { bytes = b ∷ bs }); mark = mark }) after
+    → Next mark ((b ∷ bs) ++ after) (token_of mark (word_of (b ∷ bs))) after
 plain_word mark b bs after digit word all short clear = record {
   lexeme = b ∷ bs;
   longest = rw (no_blank b word) (longest_read ((b ∷ bs) ++ after) (b ∷ bs) after refl (read_run b bs after word all clear));
@@ -70,7 +70,7 @@ read_dollars [] after all clear = absurd (false≢true all)
 read_dollars (b ∷ bs) after all clear = let parts = and_parts (is_letter b) (are_word_bytes bs) all in rw parts.0 (ap (λ (x : List ℕ). Some x) (run_back bs after parts.1 clear))
 
 dollar_word : (mark : Mark) (bs after : List ℕ) → ends_dollar_word bs ≡ true → length (36 ∷ 36 ∷ bs) ≤ 255 → begins_word after ≡ false
-    → Next mark ((36 ∷ 36 ∷ bs) ++ after) (record { shape = shapes.Word (record { bytes = 36 ∷ 36 ∷ bs }); mark = mark }) after
+    → Next mark ((36 ∷ 36 ∷ bs) ++ after) (token_of mark (word_of (36 ∷ 36 ∷ bs))) after
 dollar_word mark bs after all short clear = record {
   lexeme = 36 ∷ 36 ∷ bs;
   longest = longest_read ((36 ∷ 36 ∷ bs) ++ after) (36 ∷ 36 ∷ bs) after refl (read_dollars bs after all clear);
@@ -79,22 +79,22 @@ dollar_word mark bs after all short clear = record {
 }
 
 behind_dollar : (mark : Mark) (bs after : List ℕ) → is_dollar_word bs ≡ true → length (36 ∷ bs) ≤ 255 → begins_word after ≡ false
-    → Next mark ((36 ∷ bs) ++ after) (record { shape = shapes.Word (record { bytes = 36 ∷ bs }); mark = mark }) after
+    → Next mark ((36 ∷ bs) ++ after) (token_of mark (word_of (36 ∷ bs))) after
 behind_dollar mark [] after is short clear = absurd (false≢true is)
 behind_dollar mark (b ∷ bs) after is short clear =
     let parts = and_parts (b == 36) (ends_dollar_word bs) is in
     let same : 36 ≡ b = sym (eqb-true b 36 parts.0) in
-    subst (λ (x : ℕ). Next mark ((36 ∷ x ∷ bs) ++ after) (record { shape = shapes.Word (record { bytes = 36 ∷ x ∷ bs }); mark = mark }) after) same (dollar_word mark bs after parts.1 short clear)
+    subst (λ (x : ℕ). Next mark ((36 ∷ x ∷ bs) ++ after) (token_of mark (word_of (36 ∷ x ∷ bs))) after) same (dollar_word mark bs after parts.1 short clear)
 
 not_true : (b : Bool) → not b ≡ true → b ≡ false
 not_true true h = absurd cc
 not_true false h = refl
 
-pub word_back : (mark : Mark) (word after : List ℕ) → is_word word ≡ true → length word ≤ 255 → begins_word after ≡ false → Next mark (word ++ after) (record { shape = shapes.Word (record { bytes = word }); mark = mark }) after
+pub word_back : (mark : Mark) (word after : List ℕ) → is_word word ≡ true → length word ≤ 255 → begins_word after ≡ false → Next mark (word ++ after) (token_of mark (word_of word)) after
 word_back mark [] after is short clear = absurd (false≢true is)
-word_back mark (b ∷ bs) after is short clear = by_test (Next mark ((b ∷ bs) ++ after) (record { shape = shapes.Word (record { bytes = b ∷ bs }); mark = mark }) after) (b == 36)
+word_back mark (b ∷ bs) after is short clear = by_test (Next mark ((b ∷ bs) ++ after) (token_of mark (word_of (b ∷ bs))) after) (b == 36)
     (λ h. let dollar : is_dollar_word bs ≡ true = rw h at is in let same : 36 ≡ b = sym (eqb-true b 36 h) in
-    subst (λ (x : ℕ). Next mark ((x ∷ bs) ++ after) (record { shape = shapes.Word (record { bytes = x ∷ bs }); mark = mark }) after) same (behind_dollar mark bs after dollar short clear))
+    subst (λ (x : ℕ). Next mark ((x ∷ bs) ++ after) (token_of mark (word_of (x ∷ bs))) after) same (behind_dollar mark bs after dollar short clear))
     (λ h. let plain : (is_word_byte b && not (is_digit b) && are_word_bytes bs) ≡ true = rw h at is in
     let parts = and_parts (is_word_byte b && not (is_digit b)) (are_word_bytes bs) plain in
     let first = and_parts (is_word_byte b) (not (is_digit b)) parts.0 in
@@ -110,7 +110,7 @@ number_fits mark bs n short value = rw (le-ltb 255 (length bs) short, value) ref
 
 -- any form of a number that begins with a digit
 pub digits_back : (mark : Mark) (d : ℕ) (ds after : List ℕ) (n : ℕ) → is_digit d ≡ true → are_word_bytes ds ≡ true → length (d ∷ ds) ≤ 255 → number_value (d ∷ ds) ≡ Some n → begins_word after ≡ false
-    → Next mark ((d ∷ ds) ++ after) (record { shape = shapes.Number n; mark = mark }) after
+    → Next mark ((d ∷ ds) ++ after) (token_of mark (shapes.Number n)) after
 digits_back mark d ds after n digit all short value clear = record {
   lexeme = d ∷ ds;
   longest = rw (no_blank d (digit_in_word d digit)) (longest_read ((d ∷ ds) ++ after) (d ∷ ds) after refl (read_run d ds after (digit_in_word d digit) all clear));
@@ -119,19 +119,19 @@ digits_back mark d ds after n digit all short value clear = record {
 }
 
 spelled_back : (mark : Mark) (ds after : List ℕ) (n : ℕ) → Spells n ds → n < 2 ^ 32 → 0 < length ds → (get_or ds 0 0 ≡ 48 → length ds ≡ 1) → length ds ≤ 255 → begins_word after ≡ false
-    → Next mark (ds ++ after) (record { shape = shapes.Number n; mark = mark }) after
+    → Next mark (ds ++ after) (token_of mark (shapes.Number n)) after
 spelled_back mark [] after n spells below some alone short clear = absurd (omega (arith, some))
 spelled_back mark (d ∷ ds) after n spells below some alone short clear =
     let parts = and_parts (is_digit d) (are_decimal ds) spells.digits in
     digits_back mark d ds after n parts.0 (decimal_in_word ds parts.1) short (decimal_value d ds n parts.0 spells below (λ e. length-zero ds (let one = alone e in omega (arith, one)))) clear
 
-decimal_back : (mark : Mark) (n : ℕ) (after : List ℕ) → n < 2 ^ 32 → begins_word after ≡ false → Next mark (decimal n ++ after) (record { shape = shapes.Number n; mark = mark }) after
+decimal_back : (mark : Mark) (n : ℕ) (after : List ℕ) → n < 2 ^ 32 → begins_word after ≡ false → Next mark (decimal n ++ after) (token_of mark (shapes.Number n)) after
 decimal_back mark n after below clear =
     let wide : n < 2 ^ 64 = omega arith in
     let short : length (decimal n) ≤ 10 = length-decimal-le 10 n (omega arith) (omega arith) wide in
     spelled_back mark (decimal n) after n (decimal_spells n wide) below (decimal_nonempty n wide) (decimal_alone n wide) (omega (arith, short)) clear
 
-pub number_back : (mark : Mark) (n : ℕ) (after : List ℕ) → n < 2 ^ 32 → begins_word after ≡ false → Next mark (decimal_of n ++ after) (record { shape = shapes.Number n; mark = mark }) after
+pub number_back : (mark : Mark) (n : ℕ) (after : List ℕ) → n < 2 ^ 32 → begins_word after ≡ false → Next mark (decimal_of n ++ after) (token_of mark (shapes.Number n)) after
 unfolding decimal_of
 number_back mark n after below clear = decimal_back mark n after below clear
 
@@ -161,7 +161,7 @@ sign_no_blank : (sign : Sign) (after : List ℕ) → after_blanks (sign_text sig
 sign_no_blank signs.Comma after = refl
 sign_no_blank _ after = refl
 
-pub sign_back : (mark : Mark) (sign : Sign) (after : List ℕ) → goes_on (sign_text sign) after ≡ false → Next mark (sign_text sign ++ after) (record { shape = shapes.Sign sign; mark = mark }) after
+pub sign_back : (mark : Mark) (sign : Sign) (after : List ℕ) → goes_on (sign_text sign) after ≡ false → Next mark (sign_text sign ++ after) (token_of mark (shapes.Sign sign)) after
 sign_back mark sign after clear = record {
   lexeme = sign_text sign;
   longest = rw (sign_no_blank sign after) (longest_read (sign_text sign ++ after) (sign_text sign) after refl (sign_begins sign after ∙ sign_stops (sign_text sign) after (sign_of-text sign) clear));

@@ -1,9 +1,21 @@
 -- Tokens as they are written, and what may follow them. (MPW Rez.)
 use Rattle.std.specs.Prelude.{ℕ, ◌<◌, Bool, false, ◌&&◌, ◌==◌, not, if◌then◌else◌, List, [], ◌∷◌, ◌++◌}
 use Rattle.std.specs.List.{AllByRecursion}
+use Rattle.rz_core.specs.declared.fault.Mark.{Mark}
 use Rattle.rz_lex.specs.Classes.{is_digit, is_word_byte}
 use Rattle.rz_lex.specs.Extent.{are_word_bytes, ends_dollar_word}
 use Rattle.rz_lex.specs.Sign.{is_sign}
+use Rattle.rz_lex.specs.declared.token.Shape.{Shape}
+use Rattle.rz_lex.specs.declared.token.Shape.TheVariants as shapes
+use Rattle.rz_lex.specs.declared.token.Token.{Token}
+
+-- the token of this shape at this place
+abbrev pub token_of : Mark → Shape → Token
+token_of mark shape = record { shape = shape; mark = mark }
+
+-- the shape of the word with these bytes
+abbrev pub word_of : List ℕ → Shape
+word_of bytes = shapes.Word (record { bytes = bytes })
 
 -- numbers of one byte each
 abbrev pub AreBytes : List ℕ → Type 0

@@ -36,19 +36,13 @@ pub fn cut(alloc: Global, line: &RawLine) -> Result<Tokens, Stop<Fault>>
 }
 
 /// The next token of a line, and what follows it; `None` where only blanks are left.
-fn next_token(
-    alloc: Global,
-    mark: Mark,
-    line: &[u8],
-) -> Result<Option<(Token, &[u8])>, Stop<Fault>>
-    ensures token {
-        IfOk result (λ found. MatchOption found (after_blanks line.now ≡ [])
-            (λ read. Next mark line.now read.0 read.1.now))
-    }
-    ensures shorter { IfOk result (λ found. IfSome found (λ read. length read.1.now < length line.now)) }
-    ensures fault {
-        OnFault result (λ fault. (after_blanks line.now ≢ []) × IsBad mark (after_blanks line.now) fault)
-    }
+fn next_token(alloc: Global, mark: Mark, line: &[u8]) -> Result<Option<(Token, &[u8])>, Stop<Fault>>
+    ensures token { IfOk result (λ found. MatchOption found (after_blanks line.now ≡ [])
+        (λ read. Next mark line.now read.0 read.1.now)) }
+    ensures shorter { IfOk result (λ found. IfSome found
+        (λ read. length read.1.now < length line.now)) }
+    ensures fault { OnFault result (λ fault.
+        (after_blanks line.now ≢ []) × IsBad mark (after_blanks line.now) fault) }
 {
     let rest = after_blanks(line);
     if rest.is_empty() {
@@ -62,10 +56,8 @@ fn next_token(
 
 /// The token at the front, and what follows it.
 fn token_at(alloc: Global, mark: Mark, rest: &[u8]) -> Result<(Token, &[u8]), Stop<Fault>>
-    ensures token {
-        IfOk result (λ read. (lexeme : List ℕ) × Longest is_lexeme rest.now lexeme read.1.now
-            × (shape_of mark lexeme ≡ Ok read.0.shape) × (read.0.mark ≡ mark))
-    }
+    ensures token { IfOk result (λ read. (lexeme : List ℕ) × Longest is_lexeme rest.now lexeme read.1.now
+        × (shape_of mark lexeme ≡ Ok read.0.shape) × (read.0.mark ≡ mark)) }
     ensures fault { OnFault result (IsBad mark rest.now) }
 {
     match lexeme_at(rest) {

@@ -30,10 +30,8 @@ pub fn text_value(alloc: Global, body: &[u8]) -> Result<Option<Bytes>, NoMemory>
 /// The byte that stands first between quote marks, and what follows it.
 fn byte_at(rest: &[u8]) -> Option<(u8, &[u8])>
     requires { 0 < length rest.now }
-    ensures byte {
-        MatchOption result (text_value 0 rest.now ≡ None)
-            (λ read. text_value 0 rest.now ≡ before (read.0 ∷ []) (text_value 0 read.1.now))
-    }
+    ensures byte { MatchOption result (text_value 0 rest.now ≡ None)
+        (λ read. text_value 0 rest.now ≡ before (read.0 ∷ []) (text_value 0 read.1.now)) }
     ensures shorter { IfSome result (λ read. length read.1.now < length rest.now) }
 {
     match rest {
@@ -45,10 +43,8 @@ fn byte_at(rest: &[u8]) -> Option<(u8, &[u8])>
 
 /// The byte of the escape whose backslash stands before these bytes, and what follows it.
 fn escaped_byte(bytes: &[u8]) -> Option<(u8, &[u8])>
-    ensures byte {
-        MatchOption result (text_value 0 (92 ∷ bytes.now) ≡ None)
-            (λ read. text_value 0 (92 ∷ bytes.now) ≡ before (read.0 ∷ []) (text_value 0 read.1.now))
-    }
+    ensures byte { MatchOption result (text_value 0 (92 ∷ bytes.now) ≡ None)
+        (λ read. text_value 0 (92 ∷ bytes.now) ≡ before (read.0 ∷ []) (text_value 0 read.1.now)) }
     ensures shorter { IfSome result (λ read. length read.1.now ≤ length bytes.now) }
 {
     match escape_at(bytes) {

@@ -9,10 +9,8 @@ use crate::sign::{sign_of_one, sign_of_two};
 /// The longest lexeme at the front of a line, and what follows it. `None` comes exactly where no front
 /// is a lexeme.
 pub fn lexeme_at(rest: &[u8]) -> Option<(&[u8], &[u8])>
-    ensures {
-        MatchOption result (NoFront is_lexeme rest.now)
-            (λ read. Longest is_lexeme rest.now read.0.now read.1.now)
-    }
+    ensures { MatchOption result (NoFront is_lexeme rest.now)
+        (λ read. Longest is_lexeme rest.now read.0.now read.1.now) }
 {
     match after_lexeme(rest) {
         None => None,

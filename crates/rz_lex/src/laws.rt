@@ -5,7 +5,7 @@ ghost use Rattle.rz_core.specs.declared.fault.Fault.{Fault};
 ghost use Rattle.rz_core.specs.declared.fault.Mark.{Mark};
 ghost use Rattle.rz_lex.specs.Classes.{is_blank};
 ghost use Rattle.rz_lex.specs.Cutting.{Cuts, Next, Refuses};
-ghost use Rattle.rz_lex.specs.Printed.{begins_word, goes_on, is_word, AreBytes};
+ghost use Rattle.rz_lex.specs.Printed.{begins_word, goes_on, is_word, token_of, word_of, AreBytes};
 ghost use Rattle.rz_lex.specs.Sign.{sign_text};
 ghost use Rattle.rz_lex.specs.declared.sign.Sign.{Sign};
 ghost use Rattle.rz_lex.specs.declared.token.Shape.TheVariants as shapes;
@@ -14,62 +14,37 @@ ghost use Rattle.rz_lex.specs.declared.token.Token.{Token};
 /// A law, with nothing to run: a line has at most one list of tokens, at most one first fault, and never
 /// both.
 pub fn one_cut()
-    ensures tokens {
-        (mark : Mark) (line : List ℕ) (tokens others : List Token)
-            → Cuts mark line tokens → Cuts mark line others → tokens ≡ others
-    }
-    ensures fault {
-        (mark : Mark) (line : List ℕ) (fault other : Fault)
-            → Refuses mark line fault → Refuses mark line other → fault ≡ other
-    }
-    ensures not_both {
-        (mark : Mark) (line : List ℕ) (tokens : List Token) (fault : Fault)
-            → Cuts mark line tokens → Refuses mark line fault → ⊥
-    }
+    ensures tokens { (mark : Mark) (line : List ℕ) (tokens others : List Token)
+        → Cuts mark line tokens → Cuts mark line others → tokens ≡ others }
+    ensures fault { (mark : Mark) (line : List ℕ) (fault other : Fault)
+        → Refuses mark line fault → Refuses mark line other → fault ≡ other }
+    ensures not_both { (mark : Mark) (line : List ℕ) (tokens : List Token) (fault : Fault)
+        → Cuts mark line tokens → Refuses mark line fault → ⊥ }
 {}
 
 /// A law, with nothing to run: a token that is written as its text is the next token of a line that
 /// begins with it, for any text behind it that does not go on with it. A line is the next token and the
 /// tokens of what follows; blanks in front change nothing.
 pub fn cut_back()
-    ensures word {
-        (mark : Mark) (word after : List ℕ)
-            → is_word word ≡ true → length word ≤ 255 → begins_word after ≡ false
-            → Next mark (word ++ after)
-                (record { shape = shapes.Word (record { bytes = word }); mark = mark }) after
-    }
-    ensures number {
-        (mark : Mark) (number : ℕ) (after : List ℕ)
-            → number < 2 ^ 32 → begins_word after ≡ false
-            → Next mark (decimal_of number ++ after)
-                (record { shape = shapes.Number number; mark = mark }) after
-    }
-    ensures literal {
-        (mark : Mark) (bytes after : List ℕ)
-            → AreBytes bytes → 0 < length bytes → length bytes ≤ 4
-            → Next mark (quoted 39 bytes ++ after)
-                (record { shape = shapes.Literal bytes; mark = mark }) after
-    }
-    ensures text {
-        (mark : Mark) (bytes after : List ℕ)
-            → AreBytes bytes
-            → Next mark (quoted 34 bytes ++ after)
-                (record { shape = shapes.Text bytes; mark = mark }) after
-    }
-    ensures sign {
-        (mark : Mark) (sign : Sign) (after : List ℕ)
-            → goes_on (sign_text sign) after ≡ false
-            → Next mark (sign_text sign ++ after)
-                (record { shape = shapes.Sign sign; mark = mark }) after
-    }
+    ensures word { (mark : Mark) (word after : List ℕ)
+        → is_word word ≡ true → length word ≤ 255 → begins_word after ≡ false
+        → Next mark (word ++ after) (token_of mark (word_of word)) after }
+    ensures number { (mark : Mark) (number : ℕ) (after : List ℕ)
+        → number < 2 ^ 32 → begins_word after ≡ false
+        → Next mark (decimal_of number ++ after) (token_of mark (shapes.Number number)) after }
+    ensures literal { (mark : Mark) (bytes after : List ℕ)
+        → AreBytes bytes → 0 < length bytes → length bytes ≤ 4
+        → Next mark (quoted 39 bytes ++ after) (token_of mark (shapes.Literal bytes)) after }
+    ensures text { (mark : Mark) (bytes after : List ℕ)
+        → AreBytes bytes
+        → Next mark (quoted 34 bytes ++ after) (token_of mark (shapes.Text bytes)) after }
+    ensures sign { (mark : Mark) (sign : Sign) (after : List ℕ)
+        → goes_on (sign_text sign) after ≡ false
+        → Next mark (sign_text sign ++ after) (token_of mark (shapes.Sign sign)) after }
 
     ensures empty { (mark : Mark) → Cuts mark [] [] }
-    ensures token {
-        (mark : Mark) (line after : List ℕ) (token : Token) (tokens : List Token)
-            → Next mark line token after → Cuts mark after tokens → Cuts mark line (token ∷ tokens)
-    }
-    ensures blank {
-        (mark : Mark) (blank : ℕ) (line : List ℕ) (tokens : List Token)
-            → is_blank blank ≡ true → Cuts mark line tokens → Cuts mark (blank ∷ line) tokens
-    }
+    ensures token { (mark : Mark) (line after : List ℕ) (token : Token) (tokens : List Token)
+        → Next mark line token after → Cuts mark after tokens → Cuts mark line (token ∷ tokens) }
+    ensures blank { (mark : Mark) (blank : ℕ) (line : List ℕ) (tokens : List Token)
+        → is_blank blank ≡ true → Cuts mark line tokens → Cuts mark (blank ∷ line) tokens }
 {}

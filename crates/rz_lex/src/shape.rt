@@ -148,7 +148,12 @@ fn hex_shape(alloc: Global, mark: Mark, bytes: &[u8]) -> Result<Shape, Stop<Faul
 }
 
 /// The shape of a lexeme that begins with `$`; `behind` stands behind the `$`.
-fn dollar_shape(alloc: Global, mark: Mark, bytes: &[u8], behind: &[u8]) -> Result<Shape, Stop<Fault>>
+fn dollar_shape(
+    alloc: Global,
+    mark: Mark,
+    bytes: &[u8],
+    behind: &[u8],
+) -> Result<Shape, Stop<Fault>>
     requires whole { bytes.now ≡ 36 ∷ behind.now }
     requires lexeme { ends_dollar behind.now ≡ true }
     ensures { Gives (dollar_shape mark bytes.now behind.now) result }
