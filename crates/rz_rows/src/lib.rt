@@ -16,3 +16,5 @@ mod forks;
 mod rez_command;
 #[cfg(test)]
 mod shown;
+#[cfg(test)]
+mod tokens;
