@@ -37,38 +37,32 @@ pub fn next_byte(place: Position) -> Option<(Placed, Position)>
                 line += 1;
             }
             [b'\r', b'\n', after @ ..] => {
-                return Some((
-                    Placed {
-                        byte: b'\n',
-                        line: line as u32,
-                    },
-                    Position {
-                        rest: after,
-                        line: line + 1,
-                    },
-                ));
+                return Some((put_on(b'\n', line), stand_at(after, line + 1)));
             }
             [b'\r' | b'\n', after @ ..] => {
-                return Some((
-                    Placed {
-                        byte: b'\n',
-                        line: line as u32,
-                    },
-                    Position {
-                        rest: after,
-                        line: line + 1,
-                    },
-                ));
+                return Some((put_on(b'\n', line), stand_at(after, line + 1)));
             }
             [byte, after @ ..] => {
-                return Some((
-                    Placed {
-                        byte: *byte,
-                        line: line as u32,
-                    },
-                    Position { rest: after, line },
-                ));
+                return Some((put_on(*byte, line), stand_at(after, line)));
             }
         }
     }
+}
+
+/// A byte on a physical line.
+fn put_on(byte: u8, line: u64) -> Placed
+    requires { line < 2 ^ 32 }
+    ensures { result ≡ record { byte = byte; line = line } }
+{
+    Placed {
+        byte,
+        line: line as u32,
+    }
+}
+
+/// The position before these bytes.
+fn stand_at(rest: &[u8], line: u64) -> Position
+    ensures { result ≡ record { rest = rest.entry; line = line } }
+{
+    Position { rest, line }
 }
