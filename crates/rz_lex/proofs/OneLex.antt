@@ -38,12 +38,12 @@ pub one_failure : (file : ℕ) (text : List Placed) (fault other : Fault) → Le
 one_failure file text fault other fails also =
     let same = one_reading file text fails.0 also.0 fails.1 also.1 fails.2 also.2 in
     bad_one also.0 also.1 fault other
-        (subst (λ (lines : List RawLine). FirstBad lines also.1 fault) same.0
-            (subst (λ (ending : Option Fault). FirstBad fails.0 ending fault) same.1 fails.3))
-        also.3
+    (subst (λ (lines : List RawLine). FirstBad lines also.1 fault) same.0
+    (subst (λ (ending : Option Fault). FirstBad fails.0 ending fault) same.1 fails.3))
+    also.3
 
 pub text_or_failure : (file : ℕ) (text : List Placed) (tokens : List Token) (fault : Fault) → Lexes file text tokens → LexFails file text fault → ⊥
 text_or_failure file text tokens fault lexes fails =
     let same = one_reading file text lexes.0 fails.0 None fails.1 lexes.1 fails.2 in
     cut_or_bad fails.0 tokens fault (subst (λ (lines : List RawLine). CutInto lines tokens) same.0 lexes.2)
-        (subst (λ (ending : Option Fault). FirstBad fails.0 ending fault) (sym same.1) fails.3)
+    (subst (λ (ending : Option Fault). FirstBad fails.0 ending fault) (sym same.1) fails.3)

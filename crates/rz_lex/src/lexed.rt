@@ -54,16 +54,10 @@ fn append(tokens: &mut Tokens, more: Tokens) -> Result<(), NoMemory>
 /// A law, with nothing to run: a text has at most one list of tokens, at most one first fault, and never
 /// both.
 pub fn one_lex()
-    ensures tokens {
-        (file : ℕ) (text : List Placed) (tokens others : List Token)
-            → Lexes file text tokens → Lexes file text others → tokens ≡ others
-    }
-    ensures fault {
-        (file : ℕ) (text : List Placed) (fault other : Fault)
-            → LexFails file text fault → LexFails file text other → fault ≡ other
-    }
-    ensures not_both {
-        (file : ℕ) (text : List Placed) (tokens : List Token) (fault : Fault)
-            → Lexes file text tokens → LexFails file text fault → ⊥
-    }
+    ensures tokens { (file : ℕ) (text : List Placed) (tokens others : List Token)
+        → Lexes file text tokens → Lexes file text others → tokens ≡ others }
+    ensures fault { (file : ℕ) (text : List Placed) (fault other : Fault)
+        → LexFails file text fault → LexFails file text other → fault ≡ other }
+    ensures not_both { (file : ℕ) (text : List Placed) (tokens : List Token) (fault : Fault)
+        → Lexes file text tokens → LexFails file text fault → ⊥ }
 {}
