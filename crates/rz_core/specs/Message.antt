@@ -150,8 +150,11 @@ kept_text (kept.Check check stored computed) =
 kept_text (kept.Name name) = codes ": " ++ quoted 34 name
 kept_text (kept.Key kind id) = codes ": " ++ literal_text kind.code ++ codes " " ++ signed_of id
 
+-- the severity, the number and the name
+unfoldable pub rule_text : ℕ → List ℕ
+rule_text number = severity number ++ decimal_of number ++ codes " " ++ unwrap_or (fault_name number) []
+
 -- the whole line
 unfoldable pub fault_line : List (List ℕ) → Fault → List ℕ
 fault_line files fault =
-    codes "rezkit: " ++ place_text files fault.mark ++ severity fault.number ++ decimal_of fault.number ++ codes " "
-    ++ unwrap_or (fault_name fault.number) [] ++ kept_text fault.kept ++ codes "\n"
+    codes "rezkit: " ++ place_text files fault.mark ++ rule_text fault.number ++ kept_text fault.kept ++ codes "\n"

@@ -1,6 +1,6 @@
-ghost use Rattle.std.specs.Prelude.{◌≡◌, ◌++◌, length, OnOk, OnErr};
+ghost use Rattle.std.specs.Prelude.{◌≡◌, ◌++◌, length, IsSome, OnOk, OnErr};
 ghost use Rattle.std.specs.Option.{option_copied};
-ghost use Rattle.rz_core.specs.Message.{fault_name, source_fault, statement_fault, declaration_fault, fork_fault, bridge_fault, severity, place_text, kept_text, fault_line, IsMarked, IsNameable};
+ghost use Rattle.rz_core.specs.Message.{fault_name, source_fault, statement_fault, declaration_fault, fork_fault, bridge_fault, severity, place_text, kept_text, rule_text, fault_line, IsMarked, IsNameable};
 
 use crate::{
     Bytes, Fault, FileNames, Kept, Mark, NoMemory, write_decimal, write_quoted, write_signed,
@@ -29,10 +29,7 @@ fn append_line(fault: &Fault, files: &FileNames, line: &mut Bytes) -> Result<(),
 {
     line.append(b"rezkit: ")?;
     append_place(&fault.mark, files, line)?;
-    line.append(severity(fault.number))?;
-    write_decimal(u64::from(fault.number), line)?;
-    line.append(b" ")?;
-    line.append(fault_name(fault.number).unwrap())?;
+    append_rule(fault.number, line)?;
     append_kept(&fault.kept, line)?;
     line.append(b"\n")?;
     Ok(())
@@ -47,6 +44,19 @@ fn severity(number: u16) -> &'static [u8]
     } else {
         b"error "
     }
+}
+
+/// What rule is broken: `error NUMBER NAME`.
+#[tactic(auto, unfolding(crate::specs::Message::rule_text))]
+fn append_rule(number: u16, line: &mut Bytes) -> Result<(), NoMemory>
+    requires { IsSome (fault_name number) }
+    ensures { OnOk result (line.new ≡ line.old ++ rule_text number) }
+{
+    line.append(severity(number))?;
+    write_decimal(u64::from(number), line)?;
+    line.append(b" ")?;
+    line.append(fault_name(number).unwrap())?;
+    Ok(())
 }
 
 fn append_place(mark: &Option<Mark>, files: &FileNames, line: &mut Bytes) -> Result<(), NoMemory>
