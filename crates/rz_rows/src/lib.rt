@@ -3,8 +3,6 @@
 #![tactic(auto)]
 
 #[cfg(test)]
-mod core_calls;
-#[cfg(test)]
 mod derez_command;
 #[cfg(test)]
 mod desk;
@@ -16,5 +14,3 @@ mod forks;
 mod rez_command;
 #[cfg(test)]
 mod shown;
-#[cfg(test)]
-mod tokens;

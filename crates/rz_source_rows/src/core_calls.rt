@@ -1,6 +1,6 @@
 use rz_core::{
-    Attr, Bytes, Fault, FileNames, Kept, Mark, Moment, OsType, Word, Words, fold, from_roman,
-    to_roman, write_decimal, write_fault, write_hex, write_quoted, write_shown, write_signed,
+    Attr, Bytes, FileNames, Moment, Word, Words, fold, from_roman, to_roman, write_decimal,
+    write_hex, write_quoted, write_shown, write_signed,
 };
 use std::test::Fail;
 
@@ -66,52 +66,6 @@ fn numbers_are_shown_in_decimal(rt: HostRuntime) -> Result<(), Fail> {
     write_signed(-1, &mut text)?;
     write_signed(i64::MIN, &mut text)?;
     let wanted = b"018446744073709551615-1-9223372036854775808";
-    assert_eq!(rt; text.as_slice(), wanted.as_slice());
-    Ok(())
-}
-
-#[test]
-fn fault_lines_say_what_is_kept(rt: HostRuntime) -> Result<(), Fail> {
-    let alloc = rt.alloc();
-    let mut files = FileNames::new(alloc);
-    files.push("one.r")?;
-    let mut text = Bytes::new(alloc);
-    let key = Kept::Key(OsType { code: 0x5465_7374 }, -1);
-    let plain = Fault {
-        number: 201,
-        mark: None,
-        kept: Kept::Nothing,
-    };
-    let marked = Fault {
-        number: 302,
-        mark: Some(Mark { file: 0, line: 7 }),
-        kept: Kept::Number(-5),
-    };
-    let pair = Fault {
-        number: 303,
-        mark: None,
-        kept: Kept::Pair(300, -1),
-    };
-    let check = Fault {
-        number: 304,
-        mark: None,
-        kept: Kept::Check(2, 65535, 0),
-    };
-    let keyed = Fault {
-        number: 101,
-        mark: None,
-        kept: key,
-    };
-    write_fault(&plain, &files, &mut text)?;
-    write_fault(&marked, &files, &mut text)?;
-    write_fault(&pair, &files, &mut text)?;
-    write_fault(&check, &files, &mut text)?;
-    write_fault(&keyed, &files, &mut text)?;
-    let wanted = b"rezkit: error 201 Syntax\n\
-        rezkit: one.r:7: error 302 DataFull: -5\n\
-        rezkit: error 303 MapFull: 300 -1\n\
-        rezkit: error 304 NamesFull: 2 65535 0\n\
-        rezkit: error 101 MissingFile: 'Test' -1\n";
     assert_eq!(rt; text.as_slice(), wanted.as_slice());
     Ok(())
 }
