@@ -1,4 +1,4 @@
-ghost use Rattle.std.specs.Prelude.{◌≡◌, IsSome, IsTrue};
+ghost use Rattle.std.specs.Prelude.{IsSome, IsTrue};
 ghost use Rattle.rz_core.specs.Message.{fault_name};
 
 use rz_core::{Bytes, Fault, FileNames, Kept, Mark, OsType, write_fault};
@@ -92,23 +92,36 @@ fn is_in_table(number: u16) -> bool
     matches!(number, 101..=115 | 201..=222 | 230..=240 | 301..=304 | 401..=410 | 421..=428 | 441..=447)
 }
 
+/// Appends the message line of a fault.
+fn append_line(
+    number: u16,
+    mark: Option<Mark>,
+    kept: Kept,
+    files: &FileNames,
+    text: &mut Bytes,
+) -> Result<(), Fail> {
+    if !is_in_table(number) {
+        return Err(Fail::from("no fault of this number"));
+    }
+    if let Some(mark) = mark {
+        if mark.file >= files.len() {
+            return Err(Fail::from("no such file"));
+        }
+    }
+    let fault = Fault { number, mark, kept };
+    write_fault(&fault, files, text)?;
+    Ok(())
+}
+
 #[test]
 fn each_fault_has_its_name(rt: HostRuntime) -> Result<(), Fail> {
     let files = FileNames::new(rt.alloc());
     for (number, name) in NAMES {
-        if !is_in_table(number) {
-            return Err(Fail::from("no fault of this number"));
-        }
-        let fault = Fault {
-            number,
-            mark: None,
-            kept: Kept::Nothing,
-        };
         let mut text = Bytes::new(rt.alloc());
-        write_fault(&fault, &files, &mut text)?;
+        append_line(number, None, Kept::Nothing, &files, &mut text)?;
         let word = if number == 240 { "warning" } else { "error" };
         let wanted = format!(in rt.alloc(); "rezkit: {word} {number} {name}\n")?;
-        assert_eq!(rt; text.as_slice(), wanted.as_bytes());
+        assert_eq!(rt; text.as_slice(), wanted.as_bytes(), "{number}");
     }
     Ok(())
 }
@@ -130,46 +143,22 @@ fn fault_lines_say_what_is_kept(rt: HostRuntime) -> Result<(), Fail> {
     let escape = Kept::Name(Bytes::of(alloc, b"\"\\q\"")?);
     let nothing = Kept::Name(Bytes::new(alloc));
     let mut text = Bytes::new(alloc);
-    write_fault(&fault_of(101, None, file), &files, &mut text)?;
-    write_fault(&fault_of(109, second, escape), &files, &mut text)?;
-    write_fault(&fault_of(203, first, nothing), &files, &mut text)?;
-    write_fault(&fault_of(115, first, Kept::Number(256)), &files, &mut text)?;
-    write_fault(&fault_of(201, second, Kept::Nothing), &files, &mut text)?;
-    write_fault(&fault_of(222, None, Kept::Nothing), &files, &mut text)?;
-    write_fault(
-        &fault_of(204, None, Kept::Number(i64::MIN)),
-        &files,
-        &mut text,
-    )?;
-    write_fault(&fault_of(207, first, Kept::Number(-129)), &files, &mut text)?;
-    write_fault(
-        &fault_of(202, first, Kept::Key(test, -32_768)),
-        &files,
-        &mut text,
-    )?;
-    write_fault(&fault_of(240, first, Kept::Key(odd, 0)), &files, &mut text)?;
-    write_fault(
-        &fault_of(240, None, Kept::Key(test, 32_767)),
-        &files,
-        &mut text,
-    )?;
-    write_fault(
-        &fault_of(303, None, Kept::Number(65_536)),
-        &files,
-        &mut text,
-    )?;
-    write_fault(&fault_of(403, None, Kept::Pair(4, 50)), &files, &mut text)?;
-    write_fault(&fault_of(217, first, Kept::Pair(-1, 0)), &files, &mut text)?;
-    write_fault(
-        &fault_of(424, None, Kept::Check(0, 65_535, 0)),
-        &files,
-        &mut text,
-    )?;
-    write_fault(
-        &fault_of(444, None, Kept::Check(3, 1, 49_374)),
-        &files,
-        &mut text,
-    )?;
+    append_line(101, None, file, &files, &mut text)?;
+    append_line(109, second, escape, &files, &mut text)?;
+    append_line(203, first, nothing, &files, &mut text)?;
+    append_line(115, first, Kept::Number(256), &files, &mut text)?;
+    append_line(201, second, Kept::Nothing, &files, &mut text)?;
+    append_line(222, None, Kept::Nothing, &files, &mut text)?;
+    append_line(204, None, Kept::Number(i64::MIN), &files, &mut text)?;
+    append_line(207, first, Kept::Number(-129), &files, &mut text)?;
+    append_line(202, first, Kept::Key(test, -32_768), &files, &mut text)?;
+    append_line(240, first, Kept::Key(odd, 0), &files, &mut text)?;
+    append_line(240, None, Kept::Key(test, 32_767), &files, &mut text)?;
+    append_line(303, None, Kept::Number(65_536), &files, &mut text)?;
+    append_line(403, None, Kept::Pair(4, 50), &files, &mut text)?;
+    append_line(217, first, Kept::Pair(-1, 0), &files, &mut text)?;
+    append_line(424, None, Kept::Check(0, 65_535, 0), &files, &mut text)?;
+    append_line(444, None, Kept::Check(3, 1, 49_374), &files, &mut text)?;
     let wanted = b"rezkit: error 101 MissingFile: \"a \\\"b\\\\'\\0x8E\\0x0A\"\n\
         rezkit: two.r:4294967295: error 109 BadEscape: \"\\\"\\\\q\\\"\"\n\
         rezkit: one.r:7: error 203 UnknownName: \"\"\n\
@@ -188,10 +177,4 @@ fn fault_lines_say_what_is_kept(rt: HostRuntime) -> Result<(), Fail> {
         rezkit: error 444 BadCrc: 3 1 49374\n";
     assert_eq!(rt; text.as_slice(), wanted.as_slice());
     Ok(())
-}
-
-fn fault_of(number: u16, mark: Option<Mark>, kept: Kept) -> Fault
-    ensures { result ≡ record { number = number; mark = mark; kept = kept } }
-{
-    Fault { number, mark, kept }
 }

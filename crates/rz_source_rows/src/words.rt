@@ -4,7 +4,7 @@ use rz_lex::{Shape, lex};
 use std::test::Fail;
 
 #[test]
-fn numbers_are_their_values(rt: HostRuntime) -> Result<(), Fail> {
+fn words_and_numbers_are_cut(rt: HostRuntime) -> Result<(), Fail> {
     let texts = [
         // decimal
         ("1", "1:1 "),
@@ -68,17 +68,7 @@ fn numbers_are_their_values(rt: HostRuntime) -> Result<(), Fail> {
         ("0xFF$1 2", "1:255 1:1 1:2 "),
         ("1-2", "1:1 1:Minus 1:2 "),
         ("1.5", "111 on 1 46"),
-    ];
-    for (text, wanted) in texts {
-        let outcome = outcome_of(rt.alloc(), text.as_bytes())?;
-        assert_eq!(rt; outcome.as_slice(), wanted.as_bytes(), "{text}");
-    }
-    Ok(())
-}
-
-#[test]
-fn words_are_cut_whole(rt: HostRuntime) -> Result<(), Fail> {
-    let texts = [
+        // words
         ("a", "1:a "),
         ("_", "1:_ "),
         ("_1", "1:_1 "),
