@@ -15,3 +15,5 @@ pub mod Decimals
 pub mod WordsBack
 pub mod LexedTo
 pub mod OneLex
+pub mod Nameable
+pub mod Only

@@ -1,8 +1,11 @@
-ghost use Rattle.std.specs.Prelude.{◌≡◌, ◌≢◌, ◌<◌, ◌≤◌, ℕ, List, [], length, IfOk, IfSome, MatchOption, Ok};
-ghost use Rattle.rz_core.specs.Stop.{OnFault};
+ghost use Rattle.std.specs.Prelude.{◌≡◌, ◌≢◌, ◌+◌, ◌<◌, ◌≤◌, ℕ, List, [], length, IfOk, IfSome, MatchOption, Ok, Err};
+ghost use Rattle.rz_core.specs.Message.{IsNameable};
+ghost use Rattle.rz_core.specs.Stop.{Gives, OnFault};
+ghost use Rattle.rz_core.specs.declared.fault.Fault.{Fault};
 ghost use Rattle.rz_lex.specs.Cutting.{after_blanks, Cuts, IsBad, Next, Refuses};
 ghost use Rattle.rz_lex.specs.Extent.{is_lexeme, Longest};
 ghost use Rattle.rz_lex.specs.Shape.{shape_of};
+ghost use Rattle.rz_lex.specs.declared.token.Token.{Token};
 
 use crate::classes::is_blank;
 use crate::extent::lexeme_at;
@@ -15,9 +18,19 @@ use std::alloc::Global;
 /// is the first fault of the line: 108 where a literal or a text does not end on it, 109 for a wrong
 /// escape (kept: the token's bytes as written, at most 255), 110 for a wrong number or literal (kept: the
 /// same), 111 for a byte that begins no token (kept: the byte), 113 for a wrong hex text, 115 for a word
-/// or a number of more than 255 bytes (kept: the length). Of one token's faults 109 comes first, and 115
-/// before 110. (MPW Rez.)
+/// or a number of more than 255 bytes (kept: the length). Of one token's faults 108 comes first, then 109,
+/// then 115. (MPW Rez.)
 pub fn cut(alloc: Global, line: &RawLine) -> Result<Tokens, Stop<Fault>>
+    ensures tokens { IfOk result (Cuts line.now.mark line.now.bytes) }
+    ensures fault { OnFault result (Refuses line.now.mark line.now.bytes) }
+    ensures every_list { (tokens : List Token) → Cuts line.now.mark line.now.bytes tokens → Gives (Ok tokens) result }
+    ensures every_fault { (fault : Fault) → Refuses line.now.mark line.now.bytes fault → Gives (Err fault) result }
+    ensures nameable { OnFault result (IsNameable (line.now.mark.file + 1)) }
+{
+    cut_line(alloc, line)
+}
+
+fn cut_line(alloc: Global, line: &RawLine) -> Result<Tokens, Stop<Fault>>
     ensures tokens { IfOk result (Cuts line.now.mark line.now.bytes) }
     ensures fault { OnFault result (Refuses line.now.mark line.now.bytes) }
 {

@@ -1,5 +1,6 @@
-ghost use Rattle.std.specs.Prelude.{◌≡◌, ◌<◌, ◌++◌, ◌^◌, ℕ, List, length, IfOk, OnOk};
-ghost use Rattle.rz_core.specs.Stop.{OnFault};
+ghost use Rattle.std.specs.Prelude.{◌≡◌, ◌+◌, ◌<◌, ◌++◌, ◌^◌, ℕ, List, length, Ok, Err, IfOk, OnOk};
+ghost use Rattle.rz_core.specs.Message.{IsNameable};
+ghost use Rattle.rz_core.specs.Stop.{Gives, OnFault};
 ghost use Rattle.rz_core.specs.declared.fault.Fault.{Fault};
 ghost use Rattle.rz_lex.specs.Joined.{joined};
 ghost use Rattle.rz_lex.specs.Lexed.{Lexes, LexFails};
@@ -20,6 +21,18 @@ pub fn lex(alloc: Global, text: &[u8], file: u64) -> Result<Tokens, Stop<Fault>>
     requires { length text.now < 2 ^ 32 }
     ensures tokens { IfOk result (Lexes file (joined 1 text.now)) }
     ensures fault { OnFault result (LexFails file (joined 1 text.now)) }
+    ensures every_list { (tokens : List Token) → Lexes file (joined 1 text.now) tokens → Gives (Ok tokens) result }
+    ensures every_fault { (fault : Fault) → LexFails file (joined 1 text.now) fault → Gives (Err fault) result }
+    ensures nameable { OnFault result (IsNameable (file + 1)) }
+{
+    lex_lines(alloc, text, file)
+}
+
+fn lex_lines(alloc: Global, text: &[u8], file: u64) -> Result<Tokens, Stop<Fault>>
+    requires { length text.now < 2 ^ 32 }
+    ensures tokens { IfOk result (Lexes file (joined 1 text.now)) }
+    ensures fault { OnFault result (LexFails file (joined 1 text.now)) }
+    ensures nameable { OnFault result (IsNameable (file + 1)) }
 {
     let mut tokens = Tokens::new(alloc);
     let mut place = Position {

@@ -1,5 +1,6 @@
-ghost use Rattle.std.specs.Prelude.{◌≡◌, ℕ, ◌+◌, ◌≤◌, ◌^◌, [], length, List, Option, None, IfNone, IfOk, IfSome};
-ghost use Rattle.rz_core.specs.Stop.{OnFault};
+ghost use Rattle.std.specs.Prelude.{◌≡◌, ℕ, ◌+◌, ◌≤◌, ◌^◌, [], length, List, Option, None, Ok, Err, IfNone, IfOk, IfSome};
+ghost use Rattle.rz_core.specs.Message.{IsNameable};
+ghost use Rattle.rz_core.specs.Stop.{Gives, OnFault};
 ghost use Rattle.rz_core.specs.declared.fault.Fault.{Fault};
 ghost use Rattle.rz_lex.specs.Joined.{ahead, IsFurther};
 ghost use Rattle.rz_lex.specs.Lines.{open_comment, HasLines, HasOpenComment, StandsBefore};
@@ -25,6 +26,26 @@ pub fn next_line<'a>(
     ensures line { IfOk result (λ read. IfSome read (λ read. StandsBefore file (ahead start.entry) read.0 (ahead read.1))) }
     ensures end { IfOk result (λ read. IfNone read (HasLines file (ahead start.entry) [] None)) }
     ensures comment { OnFault result (HasOpenComment file (ahead start.entry) []) }
+    ensures at_end { HasLines file (ahead start.entry) [] None → Gives (Ok None) result }
+    ensures in_comment { (fault : Fault) → HasOpenComment file (ahead start.entry) [] fault → Gives (Err fault) result }
+    ensures mark { IfOk result (λ read. IfSome read (λ read. read.0.mark.file ≡ file)) }
+    ensures nameable { OnFault result (IsNameable (file + 1)) }
+    ensures further { IfOk result (λ read. IfSome read (λ read. IsFurther start.entry read.1)) }
+{
+    read_line(alloc, file, start)
+}
+
+fn read_line<'a>(
+    alloc: Global,
+    file: u64,
+    start: Position<'a>,
+) -> Result<Option<(RawLine, Position<'a>)>, Stop<Fault>>
+    requires { start.line + length start.rest.now ≤ 2 ^ 32 }
+    ensures line { IfOk result (λ read. IfSome read (λ read. StandsBefore file (ahead start.entry) read.0 (ahead read.1))) }
+    ensures end { IfOk result (λ read. IfNone read (HasLines file (ahead start.entry) [] None)) }
+    ensures comment { OnFault result (HasOpenComment file (ahead start.entry) []) }
+    ensures mark { IfOk result (λ read. IfSome read (λ read. read.0.mark.file ≡ file)) }
+    ensures nameable { OnFault result (IsNameable (file + 1)) }
     ensures further { IfOk result (λ read. IfSome read (λ read. IsFurther start.entry read.1)) }
 {
     let Some((first, _)) = next_byte(start) else {
@@ -49,7 +70,8 @@ pub fn next_line<'a>(
 }
 
 fn open_comment(mark: Mark) -> Fault
-    ensures { result ≡ open_comment mark }
+    ensures fault { result ≡ open_comment mark }
+    ensures nameable { IsNameable (mark.file + 1) result }
 {
     Fault {
         number: 107,

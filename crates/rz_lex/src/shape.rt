@@ -18,7 +18,8 @@ use std::alloc::Global;
 /// The most bytes of a word or a number, and of what a fault keeps.
 const LONGEST: usize = 255;
 
-/// The shape of a lexeme. Within a lexeme 109 comes before the others, and 115 before 110.
+/// The shape of a lexeme. A lexeme that doesn't end on its line has no shape (108); of the others 109 comes
+/// first, and 115 before 110.
 pub fn shape_of(alloc: Global, mark: Mark, bytes: &[u8]) -> Result<Shape, Stop<Fault>>
     requires { is_lexeme bytes.now ≡ true }
     ensures { Gives (shape_of mark bytes.now) result }

@@ -1,25 +1,13 @@
-use Rattle.std.proofs.Common.{arith}
-use Rattle.rz_lex.specs.Joined.{ahead, joined}
-use Rattle.rz_lex.proofs.LexedTo.{none_lexed, lexed_all, lexed_more, stopped_in_line, stopped_at_comment}
+use Rattle.rz_core.specs.Stop.{gives_value, gives_fault}
+use Rattle.rz_lex.specs.Joined.{joined}
+use Rattle.rz_lex.specs.Lexed.{Lexes, LexFails}
+use Rattle.rz_lex.proofs.OneLex.{one_text, one_failure, text_or_failure}
 use Rattle.rz_lex.proofs.lexed.lex.Goals as goal
 
-pub returns-in-Ok-None-clause-tokens : goal.returns-in-Ok-None-clause-tokens
-returns-in-Ok-None-clause-tokens c =
-    lexed_all c.args.file (joined 1 c.args.text.now) (ahead c.lines.place) c.lines.tokens c.lines.invariant.lexed (rw c.in-Ok-None.field-0-is at c.in-Ok-None.ensures.end)
+pub returns-clause-every_list : goal.returns-clause-every_list
+returns-clause-every_list c = gives_value (Lexes c.args.file (joined 1 c.args.text.now)) (LexFails c.args.file (joined 1 c.args.text.now))
+    (text_or_failure c.args.file (joined 1 c.args.text.now)) (one_text c.args.file (joined 1 c.args.text.now)) c.lex_lines.result c.lex_lines.ensures.tokens c.lex_lines.ensures.fault
 
-pub returns-in-Err-cut-clause-fault : goal.returns-in-Err-cut-clause-fault
-returns-in-Err-cut-clause-fault c =
-    stopped_in_line c.args.file (joined 1 c.args.text.now) (ahead c.lines.place) c.lines.tokens c.lines.invariant.lexed (ahead c.in-Ok-Some.after) c.in-Ok-Some.line c.in-Err-cut.stop
-    (rw c.in-Ok-Some.field-0-is at c.in-Ok-Some.ensures.line) c.in-Err-cut.ensures.fault
-
-pub returns-in-Err-clause-fault : goal.returns-in-Err-clause-fault
-returns-in-Err-clause-fault c =
-    stopped_at_comment c.args.file (joined 1 c.args.text.now) (ahead c.lines.place) c.lines.tokens c.lines.invariant.lexed c.in-Err.stop c.in-Err.ensures.comment
-
-pub lines-preserved : goal.lines-preserved
-lines-preserved c = record {
-  lexed = rw c.in_ok-append-in-Ok.ensures
-      (lexed_more c.args.file (joined 1 c.args.text.now) (ahead c.lines.place) c.lines.tokens c.lines.invariant.lexed (ahead c.in-Ok-Some.after) c.in-Ok-Some.line c.in-Ok.of_line
-      (rw c.in-Ok-Some.field-0-is at c.in-Ok-Some.ensures.line) c.in-Ok.ensures.tokens);
-  within = let on = rw c.in-Ok-Some.field-0-is at c.in-Ok-Some.ensures.further in omega (arith, on.within, c.lines.invariant.within);
-}
+pub returns-clause-every_fault : goal.returns-clause-every_fault
+returns-clause-every_fault c = gives_fault (Lexes c.args.file (joined 1 c.args.text.now)) (LexFails c.args.file (joined 1 c.args.text.now))
+    (text_or_failure c.args.file (joined 1 c.args.text.now)) (one_failure c.args.file (joined 1 c.args.text.now)) c.lex_lines.result c.lex_lines.ensures.tokens c.lex_lines.ensures.fault

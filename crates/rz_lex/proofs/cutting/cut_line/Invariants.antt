@@ -1,6 +1,6 @@
 use Rattle.std.proofs.Common.{length}
 use Rattle.rz_lex.specs.Cutting.{Leads}
-use Rattle.rz_lex.proofs.cutting.cut.Given as goal
+use Rattle.rz_lex.proofs.cutting.cut_line.Given as goal
 
 abbrev pub invariant-lexemes : goal.invariant-lexemes
 invariant-lexemes l = Leads l.line.mark l.line.bytes l.tokens l.rest

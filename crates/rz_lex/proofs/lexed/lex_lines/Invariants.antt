@@ -1,7 +1,7 @@
 use Rattle.std.proofs.Common.{◌+◌, ◌≤◌, ◌^◌, length}
 use Rattle.rz_lex.specs.Joined.{ahead, joined}
 use Rattle.rz_lex.proofs.LexedTo.{LexedTo}
-use Rattle.rz_lex.proofs.lexed.lex.Given as goal
+use Rattle.rz_lex.proofs.lexed.lex_lines.Given as goal
 
 abbrev pub invariant-lines : goal.invariant-lines
 invariant-lines l = record {
