@@ -1,0 +1,3 @@
+pub mod Wrapped
+pub mod Grows
+pub mod Bits

@@ -1,0 +1,7 @@
+use Rattle.std.proofs.Common.{arith}
+use Rattle.std.proofs.lemmas.Int.{to_z-of_z}
+use Rattle.rz_expr.proofs.Wrapped.{shl_wraps}
+use Rattle.rz_expr.proofs.value.shifted_left.Goals as goal
+
+pub returns : goal.returns
+returns c = grind (arith, to_z-of_z, shl_wraps)

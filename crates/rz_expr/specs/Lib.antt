@@ -1,0 +1,4 @@
+pub mod Words
+pub mod Term
+pub mod Environment
+pub mod Value

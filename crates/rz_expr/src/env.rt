@@ -1,0 +1,36 @@
+ghost use Rattle.std.specs.Prelude.{◌≡◌, ◌≤◌, ◌+ℤ◌, pos, ℤ, ◌≤ℤ◌, IfSome, option_map};
+ghost use Rattle.rz_expr.specs.Environment.{Sight, IsSeenIn, place_key, rows_key};
+
+use crate::FactWord;
+use rz_core::Word;
+
+/// What an expression sees at some moment: the values of names, the bits of the resource so far, and what
+/// is known of it. Names are the same in whatever case. None of the calls takes memory.
+pub trait Env {
+    /// What is seen.
+    ghost view: { Self → Sight };
+
+    /// Of which finished sights it is a part.
+    ghost belongs: { Self → Sight → Type 0 };
+
+    /// The value of a name: of a label its place in bits from the start of the resource.
+    fn place(&self, name: &Word) -> Option<i32>
+        ensures { result ≡ (view self.now).names.give (place_key name.now.bytes) };
+
+    /// The number of rows of an array.
+    fn count(&self, name: &Word) -> Option<i32>
+        ensures { result ≡ (view self.now).names.give (rows_key name.now.bytes) };
+
+    /// The unsigned number in the bits, as many as `width` says, that begin `start` bits behind a label.
+    fn bits(&self, name: &Word, start: i32, width: i32) -> Option<u32>
+        requires { (pos 1 ≤ℤ width) × (width ≤ℤ pos 32) }
+        ensures { IfSome ((view self.now).names.give (place_key name.now.bytes))
+            (λ place. option_map (λ number. pos number) result ≡ (view self.now).bits (place +ℤ start) width) };
+
+    /// A fact of the resource or the moment.
+    fn fact(&self, which: FactWord) -> i32
+        ensures { result ≡ (view self.now).fact which };
+
+    /// What is seen is seen so in each finished sight of which it is a part.
+    ghost law: { (env : Self) (finished : Sight) → belongs env finished → IsSeenIn (view env) finished };
+}

@@ -1,0 +1,12 @@
+//! Expressions: their grammar, and their values in an environment.
+#![tactic(auto)]
+
+mod env;
+mod expr;
+mod value;
+mod words;
+
+pub use env::Env;
+pub use expr::{BinaryOp, Expr, UnaryOp};
+pub use value::{EvalFault, eval};
+pub use words::{FactWord, Function, Role, role_of};

@@ -1,0 +1,223 @@
+ghost use Rattle.std.specs.Prelude.{◌≡◌, ◌≢◌, ◌^◌, ◌+ℤ◌, ◌*ℤ◌, false, pos, int_div, int_rem, IfOk, Some, Ok, Err};
+ghost use Rattle.std.specs.Int.{int_shr};
+ghost use Rattle.rz_core.specs.Stop.{Gives};
+ghost use Rattle.rz_core.specs.declared.stop.Stop.TheVariants as stop;
+ghost use Rattle.rz_expr.specs.Environment.{Sight, place_key};
+ghost use Rattle.rz_expr.specs.Term.{has_names, term_of};
+ghost use Rattle.rz_expr.specs.declared.value.EvalFault.TheVariants as fault;
+ghost use Rattle.rz_expr.specs.Value.{divided, known_value, number_at, operate, operate_one, reduced, shifted, truth, value_of};
+
+use crate::{BinaryOp, Env, Expr, UnaryOp};
+use rz_core::{Bytes, NoMemory, Stop, Word};
+use std::alloc::Global;
+
+/// Why an expression has no value.
+#[derive(Debug, Drop)]
+pub enum EvalFault {
+    /// A quotient or a remainder by 0.
+    ZeroDivisor,
+    /// A name or an array has no value.
+    UnknownName(Word),
+    /// Bits that are not there: the first of them, and the one behind the last.
+    LaterData(i64, i64),
+    /// Bits are asked for, but not 1 to 32 of them.
+    DataWidth(i32),
+    /// A shift by a count outside 0 to 31.
+    BadShift(i32),
+}
+
+/// The value of an expression, or its first fault: the left operand's, else the right operand's, else the
+/// operator's; of bits the name's, else the start's, else the width's, else that of bits that aren't
+/// there. Both sides of `&&` and `||` are always computed. Numbers have 32 bits and a sign; sums,
+/// differences, products and left shifts wrap. An expression without names takes no memory; where memory
+/// is refused, it was to copy the name of `UnknownName`. (MPW Rez.)
+pub fn eval<E: Env>(alloc: Global, expr: &Expr, env: &E) -> Result<i32, Stop<EvalFault>>
+    ensures value { Gives (value_of (term_of expr.now) (E.view env.now)) result }
+    ensures nameless { has_names (term_of expr.now) ≡ false → result ≢ Err stop.NoMemory }
+    ensures finished { (finished : Sight) → E.belongs env.now finished
+        → IfOk result (λ value. value_of (term_of expr.now) finished ≡ Ok value) }
+{
+    value_of(alloc, expr, env)
+}
+
+fn value_of<E: Env>(alloc: Global, expr: &Expr, env: &E) -> Result<i32, Stop<EvalFault>>
+    ensures value { Gives (value_of (term_of expr.now) (E.view env.now)) result }
+    ensures nameless { has_names (term_of expr.now) ≡ false → result ≢ Err stop.NoMemory }
+{
+    match expr {
+        Expr::Number(number) => Ok(*number),
+        Expr::Name(name) => known(alloc, name, env.place(name)),
+        Expr::Count(name) => known(alloc, name, env.count(name)),
+        Expr::Bits(name, start, width) => {
+            let place = known(alloc, name, env.place(name))?;
+            let start = value_of(alloc, start, env)?;
+            let width = value_of(alloc, width, env)?;
+            number_at(env, name, place, start, width)
+        }
+        Expr::Fact(which) => Ok(env.fact(*which)),
+        Expr::Unary(op, operand) => {
+            let value = value_of(alloc, operand, env)?;
+            Ok(operate_one(*op, value))
+        }
+        Expr::Binary(op, left, right) => {
+            let left = value_of(alloc, left, env)?;
+            let right = value_of(alloc, right, env)?;
+            match operate(*op, left, right) {
+                Ok(value) => Ok(value),
+                Err(fault) => Err(Stop::Refused(fault)),
+            }
+        }
+    }
+}
+
+/// The value of a name or an array, where it has one.
+fn known(alloc: Global, name: &Word, value: Option<i32>) -> Result<i32, Stop<EvalFault>>
+    ensures { Gives (known_value name.now.bytes value) result }
+{
+    match value {
+        Some(value) => Ok(value),
+        None => Err(Stop::Refused(EvalFault::UnknownName(copy_of(alloc, name)?))),
+    }
+}
+
+/// A word with the same bytes.
+pub fn copy_of(alloc: Global, word: &Word) -> Result<Word, NoMemory>
+    ensures { IfOk result (λ copy. copy.bytes ≡ word.now.bytes) }
+{
+    Ok(Word {
+        bytes: Bytes::of(alloc, word.bytes.as_slice())?,
+    })
+}
+
+/// The number in the bits, as many as `width` says, that begin `start` bits behind a name whose value is
+/// `place`.
+fn number_at<E: Env>(
+    env: &E,
+    name: &Word,
+    place: i32,
+    start: i32,
+    width: i32,
+) -> Result<i32, Stop<EvalFault>>
+    requires { (E.view env.now).names.give (place_key name.now.bytes) ≡ Some place }
+    ensures { Gives (number_at (E.view env.now) (place +ℤ start) width) result }
+{
+    if width < 1 || width > 32 {
+        return Err(Stop::Refused(EvalFault::DataWidth(width)));
+    }
+    match env.bits(name, start, width) {
+        Some(number) => Ok(signed(number)),
+        None => Err(Stop::Refused(later_data(place, start, width))),
+    }
+}
+
+/// So many bits that begin so far behind a place aren't there.
+fn later_data(place: i32, start: i32, width: i32) -> EvalFault
+    ensures { result ≡ fault.LaterData (place +ℤ start) (place +ℤ start +ℤ width) }
+{
+    EvalFault::LaterData(first_bit(place, start), end_bit(place, start, width))
+}
+
+fn first_bit(place: i32, start: i32) -> i64
+    ensures { result ≡ place +ℤ start }
+{
+    i64::from(place) + i64::from(start)
+}
+
+fn end_bit(place: i32, start: i32, width: i32) -> i64
+    ensures { result ≡ place +ℤ start +ℤ width }
+{
+    i64::from(place) + i64::from(start) + i64::from(width)
+}
+
+/// A number of 32 bits as one with a sign.
+#[tactic(auto, using(crate::proofs::Bits::wrap_natural))]
+pub fn signed(number: u32) -> i32
+    ensures { result ≡ reduced (pos number) }
+{
+    number.cast_signed()
+}
+
+fn truth(holds: bool) -> i32
+    ensures { result ≡ truth holds }
+{
+    i32::from(holds)
+}
+
+/// An operator and its operand.
+#[tactic(auto, using(std::proofs::lemmas::Int::wraps))]
+fn operate_one(op: UnaryOp, operand: i32) -> i32
+    ensures { result ≡ operate_one op operand }
+{
+    match op {
+        UnaryOp::Minus => operand.wrapping_neg(),
+        UnaryOp::Complement => !operand,
+        UnaryOp::Not => truth(operand == 0),
+    }
+}
+
+/// An operator between its operands.
+#[tactic(auto, using(std::proofs::lemmas::Int::wraps))]
+fn operate(op: BinaryOp, left: i32, right: i32) -> Result<i32, EvalFault>
+    ensures { result ≡ operate op left right }
+{
+    match op {
+        BinaryOp::Times => Ok(left.wrapping_mul(right)),
+        BinaryOp::Divide => quotient(left, right),
+        BinaryOp::Remainder => remainder(left, right),
+        BinaryOp::Plus => Ok(left.wrapping_add(right)),
+        BinaryOp::Minus => Ok(left.wrapping_sub(right)),
+        BinaryOp::ShiftLeft => shifted_left(left, right),
+        BinaryOp::ShiftRight => shifted_right(left, right),
+        BinaryOp::Greater => Ok(truth(left > right)),
+        BinaryOp::GreaterEqual => Ok(truth(left >= right)),
+        BinaryOp::Less => Ok(truth(left < right)),
+        BinaryOp::LessEqual => Ok(truth(left <= right)),
+        BinaryOp::Equal => Ok(truth(left == right)),
+        BinaryOp::NotEqual => Ok(truth(left != right)),
+        BinaryOp::BitAnd => Ok(left & right),
+        BinaryOp::BitXor => Ok(left ^ right),
+        BinaryOp::BitOr => Ok(left | right),
+        BinaryOp::And => Ok(truth(left != 0 && right != 0)),
+        BinaryOp::Or => Ok(truth(left != 0 || right != 0)),
+    }
+}
+
+#[tactic(auto, using(std::proofs::lemmas::Int::wraps))]
+fn quotient(left: i32, right: i32) -> Result<i32, EvalFault>
+    ensures { result ≡ divided int_div left right }
+{
+    if right == 0 {
+        return Err(EvalFault::ZeroDivisor);
+    }
+    Ok(left.wrapping_div(right))
+}
+
+#[tactic(auto, using(std::proofs::lemmas::Int::wraps))]
+fn remainder(left: i32, right: i32) -> Result<i32, EvalFault>
+    ensures { result ≡ divided int_rem left right }
+{
+    if right == 0 {
+        return Err(EvalFault::ZeroDivisor);
+    }
+    Ok(left.wrapping_rem(right))
+}
+
+#[tactic(auto, using(std::proofs::lemmas::Int::wraps))]
+fn shifted_left(left: i32, right: i32) -> Result<i32, EvalFault>
+    ensures { result ≡ shifted (λ number count. number *ℤ pos (2 ^ count)) left right }
+{
+    if right < 0 || right > 31 {
+        return Err(EvalFault::BadShift(right));
+    }
+    Ok(left.wrapping_shl(right as u32))
+}
+
+#[tactic(auto, using(std::proofs::lemmas::Int::wraps))]
+fn shifted_right(left: i32, right: i32) -> Result<i32, EvalFault>
+    ensures { result ≡ shifted int_shr left right }
+{
+    if right < 0 || right > 31 {
+        return Err(EvalFault::BadShift(right));
+    }
+    Ok(left >> right)
+}
