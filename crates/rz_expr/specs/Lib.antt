@@ -2,3 +2,5 @@ pub mod Words
 pub mod Term
 pub mod Environment
 pub mod Value
+pub mod Grammar
+pub mod Fronts
