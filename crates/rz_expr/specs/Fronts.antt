@@ -3,16 +3,12 @@ use Rattle.std.specs.Prelude.{◌≡◌, ◌≢◌, ℕ, ◌≤◌, Bool, true, 
 use Rattle.rz_core.specs.declared.resource.Word.{Word}
 use Rattle.rz_lex.specs.declared.token.Token.{Token}
 use Rattle.rz_expr.specs.declared.expr.BinaryOp.{BinaryOp}
+use Rattle.rz_expr.specs.declared.operators.Frame.{Frame}
+use Rattle.rz_expr.specs.declared.operators.Frame.TheVariants.{Group, InStart, InWidth}
 use Rattle.rz_expr.specs.declared.words.Function.{Function}
 use Rattle.rz_expr.specs.declared.words.Function.TheVariants.{CountOf, BitField, Data}
-use Rattle.rz_expr.specs.Grammar.{Start, Operand, Prefix, Bracket, Calls, NoStart, After, Operates, Closes, Separates, NoAfter, start_of, after_of, level_of, argument, Derives}
+use Rattle.rz_expr.specs.Grammar.{Start, Operand, Prefix, Bracket, Calls, NoStart, After, Operates, Closes, Separates, NoAfter, start_of, after_of, level_of, argument, closes, separates, Derives}
 use Rattle.rz_expr.specs.Term.{Term}
-
--- what is open: a bracket, or a bit field before its start or its width
-pub data Frame : Type 0 where
-  Group : Frame
-  InStart : Frame
-  InWidth : Frame
 
 -- one answer of each kind: with an operand read, an operand wanted, an operand wanted in a bracket, a function's name
 abbrev pub started : Start → Bool → Bool → Bool → (Function → Bool) → Bool
@@ -28,6 +24,12 @@ named function None have want = false
 named CountOf (Some word) have want = have
 named (Data width) (Some word) have want = have
 named BitField (Some word) have want = want
+
+-- the token ends what is open
+abbrev pub ends : Frame → After → Bool
+ends Group after = closes after
+ends InWidth after = closes after
+ends InStart after = separates after
 
 -- one answer of each kind: an operand wanted, and what is answered inside the frames below, behind a width or a bracket,
 -- and behind a start

@@ -41,13 +41,6 @@ word_start (roles.Call function) name = Calls function
 word_start roles.Reserved name = NoStart
 word_start roles.OtherFunction name = NoStart
 
--- the operator before an operand that a sign is
-abbrev pub prefix_of : Sign → Option UnaryOp
-prefix_of signs.Minus = Some one.Minus
-prefix_of signs.Tilde = Some one.Complement
-prefix_of signs.Bang = Some one.Not
-prefix_of other = None
-
 abbrev pub sign_start : Sign → Start
 sign_start signs.OpenParen = Bracket
 sign_start signs.Minus = Prefix one.Minus
@@ -129,12 +122,19 @@ may_name CountOf role = is_name role
 may_name BitField role = is_label role
 may_name (Data width) role = is_label role
 
+abbrev pub closes : After → Bool
+closes Closes = true
+closes other = false
+
+abbrev pub separates : After → Bool
+separates Separates = true
+separates other = false
+
 -- behind the name the brackets of a bit field go on, and all others end
 abbrev pub ends_name : Function → After → Bool
-ends_name CountOf Closes = true
-ends_name (Data width) Closes = true
-ends_name BitField Separates = true
-ends_name function other = false
+ends_name CountOf after = closes after
+ends_name (Data width) after = closes after
+ends_name BitField after = separates after
 
 abbrev pub is_bracket : Start → Bool
 is_bracket Bracket = true

@@ -4,3 +4,4 @@ pub mod Environment
 pub mod Value
 pub mod Grammar
 pub mod Fronts
+pub mod Reading

@@ -3,10 +3,13 @@
 
 mod env;
 mod expr;
+mod operators;
+mod read;
 mod value;
 mod words;
 
 pub use env::Env;
 pub use expr::{BinaryOp, Expr, UnaryOp};
+pub use read::{ReadExpr, read_expr};
 pub use value::{EvalFault, eval};
 pub use words::{FactWord, Function, Role, role_of};

@@ -1,0 +1,272 @@
+ghost use Rattle.std.specs.Prelude.{◌≡◌, ◌+◌, ◌<◌, ◌≤◌, true, pos, length, drop, IfOk, MatchOption};
+ghost use Rattle.rz_expr.specs.Fronts.{NoneBegins};
+ghost use Rattle.rz_expr.specs.Grammar.{bytes_number, loosest, word_start, Bracket, Calls, LongestExpression, NoExpression};
+ghost use Rattle.rz_expr.specs.Reading.{prefix_count, prefixed_term, Begins, IsEnded, IsFront, NoneEnds};
+ghost use Rattle.rz_expr.specs.Term.{term_of};
+ghost use Rattle.rz_expr.specs.Value.{reduced};
+ghost use Rattle.rz_expr.specs.Words.{role_of};
+ghost use Rattle.rz_expr.specs.declared.words.Function.TheVariants as function;
+
+use crate::operators::{Frame, argument, ends_at, operator_at, prefix_at, prefix_count};
+use crate::value::{copy_of, signed};
+use crate::{Expr, Function, Role, role_of};
+use rz_core::{Bytes, NoMemory, Word};
+use rz_lex::{Shape, Sign, Token, Tokens};
+use std::alloc::Global;
+
+/// The level of the operators that bind most loosely.
+const LOOSEST: u8 = 10;
+
+/// An expression that was read, and where it ends.
+#[derive(Debug, Drop)]
+pub struct ReadExpr {
+    /// The expression.
+    pub expr: Expr,
+    /// The position of the token behind it.
+    pub end: u64,
+}
+
+/// An expression at the front of some tokens, and how many of them it is.
+#[derive(Drop)]
+struct Front {
+    expr: Expr,
+    length: usize,
+}
+
+/// The longest expression that begins at a token. `start` is at most the number of tokens. `None` comes
+/// exactly where no expression begins there. It takes time in proportion to what it reads, and goes as
+/// deep as brackets are open. (MPW Rez.)
+pub fn read_expr(alloc: Global, tokens: &Tokens, start: u64) -> Result<Option<ReadExpr>, NoMemory>
+    requires { start ≤ length tokens.now }
+    ensures { IfOk result (λ found. MatchOption found (NoExpression (drop start tokens.now))
+        (λ read. (start < read.end) × (read.end ≤ length tokens.now)
+            × LongestExpression (drop start tokens.now) (drop read.end tokens.now) (term_of read.expr))) }
+{
+    let rest = behind(tokens.as_slice(), start as usize);
+    match read_level(alloc, rest, LOOSEST)? {
+        Some(front) => Ok(Some(ReadExpr {
+            expr: front.expr,
+            end: start + front.length as u64,
+        })),
+        None => Ok(None),
+    }
+}
+
+/// The tokens behind the first so many.
+fn behind(tokens: &[Token], n: usize) -> &[Token]
+    requires { n ≤ length tokens.now }
+    ensures { result.now ≡ drop n tokens.now }
+{
+    tokens.split_at(n).1
+}
+
+/// The longest expression at the front whose operators outside brackets have at most this level.
+#[cycle(read)]
+fn read_level(alloc: Global, tokens: &[Token], level: u8) -> Result<Option<Front>, NoMemory>
+    requires { level ≤ loosest }
+    ensures { IfOk result (λ found. MatchOption found (NoneBegins tokens.now)
+        (λ front. IsFront level tokens.now front.length (term_of front.expr))) }
+{
+    if level == 0 {
+        return read_prefixed(alloc, tokens);
+    }
+    let (mut expr, mut length) = match read_level(alloc, tokens, level - 1)? {
+        Some(front) => (front.expr, front.length),
+        None => return Ok(None),
+    };
+    'operands: loop {
+        let rest = behind(tokens, length);
+        let Some(op) = operator_at(rest, level) else {
+            return Ok(Some(Front { expr, length }));
+        };
+        let Some(right) = read_level(alloc, behind(rest, 1), level - 1)? else {
+            return Ok(Some(Front { expr, length }));
+        };
+        expr = Expr::Binary(op, Box::new(alloc, expr)?, Box::new(alloc, right.expr)?);
+        length = length + 1 + right.length;
+    }
+}
+
+/// An operand with the operators before it.
+#[cycle(read)]
+fn read_prefixed(alloc: Global, tokens: &[Token]) -> Result<Option<Front>, NoMemory>
+    ensures { IfOk result (λ found. MatchOption found (NoneBegins tokens.now)
+        (λ front. IsFront 0 tokens.now front.length (term_of front.expr))) }
+{
+    let count = prefix_count(tokens);
+    match read_operand(alloc, behind(tokens, count))? {
+        Some(front) => Ok(Some(Front {
+            expr: prefixed(alloc, &tokens[..count], front.expr)?,
+            length: count + front.length,
+        })),
+        None => Ok(None),
+    }
+}
+
+/// An operand behind these operators.
+fn prefixed(alloc: Global, signs: &[Token], operand: Expr) -> Result<Expr, NoMemory>
+    ensures { IfOk result (λ expr. term_of expr ≡ prefixed_term signs.now (term_of operand)) }
+{
+    let mut expr = operand;
+    let mut left = signs.len();
+    while left > 0 {
+        left -= 1;
+        if let Some(op) = prefix_at(&signs[left]) {
+            expr = Expr::Unary(op, Box::new(alloc, expr)?);
+        }
+    }
+    Ok(expr)
+}
+
+/// An operand before which no operator stands.
+#[cycle(read)]
+fn read_operand(alloc: Global, tokens: &[Token]) -> Result<Option<Front>, NoMemory>
+    requires { prefix_count tokens.now ≡ 0 }
+    ensures { IfOk result (λ found. MatchOption found (NoneBegins tokens.now)
+        (λ front. IsFront 0 tokens.now front.length (term_of front.expr))) }
+{
+    let Some(first) = tokens.first() else {
+        return Ok(None);
+    };
+    match &first.shape {
+        Shape::Number(number) => Ok(Some(alone(Expr::Number(signed(*number))))),
+        Shape::Literal(bytes) => Ok(Some(alone(Expr::Number(literal_number(bytes))))),
+        Shape::Text(_) => Ok(None),
+        Shape::Word(word) => read_word(alloc, tokens, word),
+        Shape::Sign(Sign::OpenParen) => read_group(alloc, tokens),
+        Shape::Sign(_) => Ok(None),
+    }
+}
+
+/// An expression of one token.
+fn alone(expr: Expr) -> Front
+    ensures { (result.expr ≡ expr) × (result.length ≡ 1) }
+{
+    Front { expr, length: 1 }
+}
+
+/// The number of a literal: its bytes, the last of them lowest.
+fn literal_number(bytes: &Bytes) -> i32
+    ensures { result ≡ reduced (pos (bytes_number 0 bytes.now)) }
+{
+    let mut number: u32 = 0;
+    for &byte in bytes.as_slice() {
+        number = number.wrapping_mul(256).wrapping_add(u32::from(byte));
+    }
+    signed(number)
+}
+
+/// An operand that begins with a word.
+#[cycle(read)]
+fn read_word(alloc: Global, tokens: &[Token], word: &Word) -> Result<Option<Front>, NoMemory>
+    requires { Begins (word_start (role_of word.now.bytes) word.now.bytes) tokens.now }
+    ensures { IfOk result (λ found. MatchOption found (NoneBegins tokens.now)
+        (λ front. IsFront 0 tokens.now front.length (term_of front.expr))) }
+{
+    match role_of(word) {
+        Role::Label | Role::OtherName => Ok(Some(alone(Expr::Name(copy_of(alloc, word)?)))),
+        Role::Fact(which) => Ok(Some(alone(Expr::Fact(which)))),
+        Role::Call(Function::CountOf) => read_count(alloc, tokens),
+        Role::Call(Function::Data(width)) => read_data(alloc, tokens, width),
+        Role::Call(Function::BitField) => read_bit_field(alloc, tokens),
+        Role::Reserved | Role::OtherFunction => Ok(None),
+    }
+}
+
+/// The number of rows of an array.
+fn read_count(alloc: Global, tokens: &[Token]) -> Result<Option<Front>, NoMemory>
+    requires { Begins (Calls function.CountOf) tokens.now }
+    ensures { IfOk result (λ found. MatchOption found (NoneBegins tokens.now)
+        (λ front. IsFront 0 tokens.now front.length (term_of front.expr))) }
+{
+    match argument(Function::CountOf, behind(tokens, 1)) {
+        Some(name) => Ok(Some(Front {
+            expr: Expr::Count(copy_of(alloc, name)?),
+            length: 4,
+        })),
+        None => Ok(None),
+    }
+}
+
+/// So many bits at a label.
+fn read_data(alloc: Global, tokens: &[Token], width: u8) -> Result<Option<Front>, NoMemory>
+    requires { Begins (Calls (function.Data width)) tokens.now }
+    ensures { IfOk result (λ found. MatchOption found (NoneBegins tokens.now)
+        (λ front. IsFront 0 tokens.now front.length (term_of front.expr))) }
+{
+    match argument(Function::Data(width), behind(tokens, 1)) {
+        Some(name) => Ok(Some(Front {
+            expr: Expr::Bits(
+                copy_of(alloc, name)?,
+                Box::new(alloc, Expr::Number(0))?,
+                Box::new(alloc, Expr::Number(i32::from(width)))?,
+            ),
+            length: 4,
+        })),
+        None => Ok(None),
+    }
+}
+
+/// The bits behind a label, from a start on and as many as a width says.
+#[cycle(read)]
+fn read_bit_field(alloc: Global, tokens: &[Token]) -> Result<Option<Front>, NoMemory>
+    requires { Begins (Calls function.BitField) tokens.now }
+    ensures { IfOk result (λ found. MatchOption found (NoneBegins tokens.now)
+        (λ front. IsFront 0 tokens.now front.length (term_of front.expr))) }
+{
+    let Some(name) = argument(Function::BitField, behind(tokens, 1)) else {
+        return Ok(None);
+    };
+    let rest = behind(tokens, 4);
+    let Some(start) = read_until(alloc, rest, Frame::InStart)? else {
+        return Ok(None);
+    };
+    let Some(width) = read_until(alloc, behind(rest, start.length), Frame::InWidth)? else {
+        return Ok(None);
+    };
+    Ok(Some(Front {
+        expr: Expr::Bits(
+            copy_of(alloc, name)?,
+            Box::new(alloc, start.expr)?,
+            Box::new(alloc, width.expr)?,
+        ),
+        length: 4 + start.length + width.length,
+    }))
+}
+
+/// An expression in brackets.
+#[cycle(read)]
+fn read_group(alloc: Global, tokens: &[Token]) -> Result<Option<Front>, NoMemory>
+    requires { Begins Bracket tokens.now }
+    ensures { IfOk result (λ found. MatchOption found (NoneBegins tokens.now)
+        (λ front. IsFront 0 tokens.now front.length (term_of front.expr))) }
+{
+    match read_until(alloc, behind(tokens, 1), Frame::Group)? {
+        Some(front) => Ok(Some(Front {
+            expr: front.expr,
+            length: 1 + front.length,
+        })),
+        None => Ok(None),
+    }
+}
+
+/// An expression, and behind it the end of what is open.
+#[cycle(read)]
+fn read_until(alloc: Global, tokens: &[Token], frame: Frame) -> Result<Option<Front>, NoMemory>
+    ensures { IfOk result (λ found. MatchOption found (NoneEnds frame tokens.now)
+        (λ front. IsEnded frame tokens.now front.length (term_of front.expr))) }
+{
+    match read_level(alloc, tokens, LOOSEST)? {
+        Some(front) => {
+            if ends_at(frame, behind(tokens, front.length)) {
+                Ok(Some(Front {
+                    expr: front.expr,
+                    length: front.length + 1,
+                }))
+            } else {
+                Ok(None)
+            }
+        }
+        None => Ok(None),
+    }
+}
