@@ -3,6 +3,7 @@
 
 mod env;
 mod expr;
+mod laws;
 mod operators;
 mod read;
 mod value;
@@ -10,6 +11,7 @@ mod words;
 
 pub use env::Env;
 pub use expr::{BinaryOp, Expr, UnaryOp};
+pub use laws::{one_expression, values_stay};
 pub use read::{ReadExpr, read_expr};
 pub use value::{EvalFault, eval};
 pub use words::{FactWord, Function, Role, role_of};

@@ -47,11 +47,13 @@ pub fn prefix_count(tokens: &[Token]) -> usize
     ensures within { result ≤ length tokens.now }
 {
     let mut count = 0;
-    for token in tokens {
-        if prefix_at(token).is_none() {
+    let mut rest = tokens;
+    while let [first, after @ ..] = rest {
+        if prefix_at(first).is_none() {
             return count;
         }
         count += 1;
+        rest = after;
     }
     count
 }

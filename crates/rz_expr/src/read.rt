@@ -1,8 +1,8 @@
-ghost use Rattle.std.specs.Prelude.{◌≡◌, ◌+◌, ◌<◌, ◌≤◌, true, pos, length, drop, IfOk, MatchOption};
+ghost use Rattle.std.specs.Prelude.{◌≡◌, ◌+◌, ◌*◌, ◌%◌, ◌^◌, ◌<◌, ◌≤◌, true, None, pos, length, drop, IfOk, MatchOption};
 ghost use Rattle.rz_expr.specs.Fronts.{NoneBegins};
-ghost use Rattle.rz_expr.specs.Grammar.{bytes_number, loosest, word_start, Bracket, Calls, LongestExpression, NoExpression};
-ghost use Rattle.rz_expr.specs.Reading.{prefix_count, prefixed_term, Begins, IsEnded, IsFront, NoneEnds};
-ghost use Rattle.rz_expr.specs.Term.{term_of};
+ghost use Rattle.rz_expr.specs.Grammar.{bytes_number, is_bracket, loosest, sign_start, word_start, Bracket, Calls, LongestExpression, NoExpression};
+ghost use Rattle.rz_expr.specs.Reading.{prefix_count, prefix_of, prefixed_term, Begins, IsEnded, IsFront, NoneEnds};
+ghost use Rattle.rz_expr.specs.Term.{term_of, BitsAt, Constant};
 ghost use Rattle.rz_expr.specs.Value.{reduced};
 ghost use Rattle.rz_expr.specs.Words.{role_of};
 ghost use Rattle.rz_expr.specs.declared.words.Function.TheVariants as function;
@@ -104,16 +104,17 @@ fn read_prefixed(alloc: Global, tokens: &[Token]) -> Result<Option<Front>, NoMem
 }
 
 /// An operand behind these operators.
+#[tactic(auto, using(crate::proofs::Prefixes::last_prefix))]
 fn prefixed(alloc: Global, signs: &[Token], operand: Expr) -> Result<Expr, NoMemory>
     ensures { IfOk result (λ expr. term_of expr ≡ prefixed_term signs.now (term_of operand)) }
 {
     let mut expr = operand;
-    let mut left = signs.len();
-    while left > 0 {
-        left -= 1;
-        if let Some(op) = prefix_at(&signs[left]) {
+    let mut left = signs;
+    while let Some((last, before)) = left.split_last() {
+        if let Some(op) = prefix_at(last) {
             expr = Expr::Unary(op, Box::new(alloc, expr)?);
         }
+        left = before;
     }
     Ok(expr)
 }
@@ -125,17 +126,37 @@ fn read_operand(alloc: Global, tokens: &[Token]) -> Result<Option<Front>, NoMemo
     ensures { IfOk result (λ found. MatchOption found (NoneBegins tokens.now)
         (λ front. IsFront 0 tokens.now front.length (term_of front.expr))) }
 {
-    let Some(first) = tokens.first() else {
-        return Ok(None);
-    };
-    match &first.shape {
-        Shape::Number(number) => Ok(Some(alone(Expr::Number(signed(*number))))),
-        Shape::Literal(bytes) => Ok(Some(alone(Expr::Number(literal_number(bytes))))),
-        Shape::Text(_) => Ok(None),
-        Shape::Word(word) => read_word(alloc, tokens, word),
-        Shape::Sign(Sign::OpenParen) => read_group(alloc, tokens),
-        Shape::Sign(_) => Ok(None),
+    match tokens {
+        [first, ..] => match &first.shape {
+            Shape::Number(number) => Ok(Some(alone(Expr::Number(signed(*number))))),
+            Shape::Literal(bytes) => Ok(Some(alone(Expr::Number(literal_number(bytes))))),
+            Shape::Text(_) => Ok(None),
+            Shape::Word(word) => read_word(alloc, tokens, word),
+            Shape::Sign(sign) => read_sign(alloc, tokens, *sign),
+        },
+        [] => Ok(None),
     }
+}
+
+/// An operand that begins with a sign that is no operator: a bracket.
+#[cycle(read)]
+fn read_sign(alloc: Global, tokens: &[Token], sign: Sign) -> Result<Option<Front>, NoMemory>
+    requires begins { Begins (sign_start sign) tokens.now }
+    requires operand { prefix_of sign ≡ None }
+    ensures { IfOk result (λ found. MatchOption found (NoneBegins tokens.now)
+        (λ front. IsFront 0 tokens.now front.length (term_of front.expr))) }
+{
+    if is_open(sign) {
+        read_group(alloc, tokens)
+    } else {
+        Ok(None)
+    }
+}
+
+fn is_open(sign: Sign) -> bool
+    ensures { result ≡ is_bracket (sign_start sign) }
+{
+    matches!(sign, Sign::OpenParen)
 }
 
 /// An expression of one token.
@@ -146,14 +167,30 @@ fn alone(expr: Expr) -> Front
 }
 
 /// The number of a literal: its bytes, the last of them lowest.
+#[tactic(auto, using(crate::proofs::Literals::wraps_low_bits))]
 fn literal_number(bytes: &Bytes) -> i32
     ensures { result ≡ reduced (pos (bytes_number 0 bytes.now)) }
 {
-    let mut number: u32 = 0;
-    for &byte in bytes.as_slice() {
-        number = number.wrapping_mul(256).wrapping_add(u32::from(byte));
+    signed(low_bits(bytes.as_slice()))
+}
+
+/// The low 32 bits of the number that these bytes are.
+fn low_bits(bytes: &[u8]) -> u32
+    ensures { result ≡ bytes_number 0 bytes.now % 2 ^ 32 }
+{
+    let mut number = 0;
+    let mut rest = bytes;
+    while let [byte, after @ ..] = rest {
+        number = with_byte(number, *byte);
+        rest = after;
     }
-    signed(number)
+    number
+}
+
+fn with_byte(number: u32, byte: u8) -> u32
+    ensures { result ≡ (256 * number + byte) % 2 ^ 32 }
+{
+    number.wrapping_mul(256).wrapping_add(u32::from(byte))
 }
 
 /// An operand that begins with a word.
@@ -196,11 +233,7 @@ fn read_data(alloc: Global, tokens: &[Token], width: u8) -> Result<Option<Front>
 {
     match argument(Function::Data(width), behind(tokens, 1)) {
         Some(name) => Ok(Some(Front {
-            expr: Expr::Bits(
-                copy_of(alloc, name)?,
-                Box::new(alloc, Expr::Number(0))?,
-                Box::new(alloc, Expr::Number(i32::from(width)))?,
-            ),
+            expr: data_at(alloc, name, width)?,
             length: 4,
         })),
         None => Ok(None),
@@ -208,6 +241,25 @@ fn read_data(alloc: Global, tokens: &[Token], width: u8) -> Result<Option<Front>
 }
 
 /// The bits behind a label, from a start on and as many as a width says.
+fn bits_at(alloc: Global, label: &Word, start: Expr, width: Expr) -> Result<Expr, NoMemory>
+    ensures { IfOk result (λ expr. term_of expr ≡ BitsAt label.now.bytes (term_of start) (term_of width)) }
+{
+    Ok(Expr::Bits(
+        copy_of(alloc, label)?,
+        Box::new(alloc, start)?,
+        Box::new(alloc, width)?,
+    ))
+}
+
+/// So many bits at a label.
+fn data_at(alloc: Global, label: &Word, width: u8) -> Result<Expr, NoMemory>
+    ensures { IfOk result (λ expr. term_of expr ≡ BitsAt label.now.bytes (Constant (pos 0)) (Constant (pos width))) }
+{
+    let width = Expr::Number(i32::from(width));
+    bits_at(alloc, label, Expr::Number(0), width)
+}
+
+/// A bit field.
 #[cycle(read)]
 fn read_bit_field(alloc: Global, tokens: &[Token]) -> Result<Option<Front>, NoMemory>
     requires { Begins (Calls function.BitField) tokens.now }
@@ -225,11 +277,7 @@ fn read_bit_field(alloc: Global, tokens: &[Token]) -> Result<Option<Front>, NoMe
         return Ok(None);
     };
     Ok(Some(Front {
-        expr: Expr::Bits(
-            copy_of(alloc, name)?,
-            Box::new(alloc, start.expr)?,
-            Box::new(alloc, width.expr)?,
-        ),
+        expr: bits_at(alloc, name, start.expr, width.expr)?,
         length: 4 + start.length + width.length,
     }))
 }

@@ -1,0 +1,24 @@
+ghost use Rattle.std.specs.Prelude.{◌≡◌, ℤ, List, Ok};
+ghost use Rattle.rz_lex.specs.declared.token.Token.{Token};
+ghost use Rattle.rz_expr.specs.Environment.{IsSeenIn, Sight};
+ghost use Rattle.rz_expr.specs.Grammar.{IsExpression, LongestExpression, NoExpression};
+ghost use Rattle.rz_expr.specs.Term.{Term};
+ghost use Rattle.rz_expr.specs.Value.{value_of};
+
+/// A law, with nothing to run: tokens are at most one expression. At most one front of tokens is the
+/// longest expression that begins them, and then there is no telling that none begins.
+pub fn one_expression()
+    ensures expression { (tokens : List Token) (term other : Term)
+        → IsExpression tokens term → IsExpression tokens other → term ≡ other }
+    ensures longest { (tokens rest left : List Token) (term other : Term)
+        → LongestExpression tokens rest term → LongestExpression tokens left other → (rest ≡ left) × (term ≡ other) }
+    ensures not_none { (tokens rest : List Token) (term : Term)
+        → LongestExpression tokens rest term → NoExpression tokens → ⊥ }
+{}
+
+/// A law, with nothing to run: what is a value in one sight is the value in every sight in which all is
+/// seen that is seen in the first.
+pub fn values_stay()
+    ensures { (known finished : Sight) → IsSeenIn known finished → (term : Term) (value : ℤ)
+        → value_of term known ≡ Ok value → value_of term finished ≡ Ok value }
+{}
