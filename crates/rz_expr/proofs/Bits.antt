@@ -17,8 +17,8 @@ seen_so None place P is seen = absurd cc
 
 -- The arguments as the machine passes them, `s` and `w`, are the start and the width.
 module _ (sight : Sight) (given : Option ℤ) (place start width s w : ℤ) (read : Option ℕ) (as_start : s ≡ start) (as_width : w ≡ width)
-  (known : given ≡ Some place) (seen : IfSome given (λ p. option_map (λ n. pos n) read ≡ sight.bits (p +ℤ s) w))
-  (low : int_lt w (pos 1) ≡ false) (high : int_lt (pos 32) w ≡ false) where
+    (known : given ≡ Some place) (seen : IfSome given (λ p. option_map (λ n. pos n) read ≡ sight.bits (p +ℤ s) w))
+    (low : int_lt w (pos 1) ≡ false) (high : int_lt (pos 32) w ≡ false) where
   bits_are : (bits : Option ℤ) → option_map (λ n. pos n) read ≡ bits → number_at sight (place +ℤ start) width ≡ known_bits (place +ℤ start) width bits
   bits_are bits is =
       let there : sight.bits (place +ℤ start) width ≡ bits =

@@ -6,7 +6,7 @@ use Rattle.rz_core.specs.declared.stop.Stop.{Stop}
 use Rattle.rz_core.specs.declared.stop.Stop.TheVariants.{Refused, NoMemory}
 use Rattle.rz_expr.specs.Environment.{Sight, IsSeenIn, place_key, rows_key}
 use Rattle.rz_expr.specs.Term.{Term, Constant, Named, RowsOf, BitsAt, FactOf, OfOne, OfTwo}
-use Rattle.rz_expr.specs.Value.{known_value, known_bits, number_at, operate, operate_one, value_of}
+use Rattle.rz_expr.specs.Value.{known_value, known_bits, number_at, value_of}
 use Rattle.rz_expr.specs.declared.value.EvalFault.{EvalFault}
 use Rattle.rz_expr.specs.declared.value.EvalFault.TheVariants.{DataWidth}
 

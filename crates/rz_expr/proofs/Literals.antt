@@ -1,5 +1,5 @@
 -- Bytes as one number, modulo 2^32.
-use Rattle.std.proofs.Common.{◌≡◌, ℕ, ◌+◌, ◌*◌, ◌-◌, ◌%◌, ◌^◌, ◌<◌, ◌≤◌, suc, ℤ, pos, List, [], ◌∷◌, length, take, drop, get_or, w32, ap, ◌∙◌, arith}
+use Rattle.std.proofs.Common.{◌≡◌, ℕ, ◌+◌, ◌*◌, ◌-◌, ◌%◌, ◌^◌, ◌<◌, ◌≤◌, suc, pos, List, [], ◌∷◌, length, take, drop, get_or, w32, ap, ◌∙◌, arith}
 use Rattle.std.specs.Int.{int_wrap, cast_signed}
 use Rattle.std.proofs.Math.Nat.{mod-eq_of_lt}
 use Rattle.std.proofs.lemmas.List.{take_all}

@@ -1,13 +1,16 @@
 -- Tokens are one expression at most.
-use Rattle.std.proofs.Common.{◌≡◌, ◌≢◌, ℕ, zero, suc, ◌+◌, ◌<◌, ◌≤◌, List, [], ◌∷◌, ◌++◌, Option, Some, None, inl, inr, refl, sym, ap, ◌∙◌, subst, arith, append_assoc, pos}
+use Rattle.std.proofs.Common.{◌≡◌, ◌≢◌, ℕ, suc, ◌<◌, ◌≤◌, List, [], ◌∷◌, ◌++◌, drop, Option, Some, None, Result, Ok, Err, inl, inr, refl, sym, ap, ◌∙◌, subst, arith, append_assoc, pos}
 use Rattle.std.proofs.lemmas.Bool.Decides.{nat_tests}
 use Rattle.std.proofs.lemmas.List.{append-nil}
+use Rattle.std.specs.Prelude.{IfOk, MatchOption}
 use Rattle.rz_core.specs.declared.resource.Word.{Word}
+use Rattle.rz_core.specs.declared.stop.NoMemory.{NoMemory}
 use Rattle.rz_lex.specs.declared.token.Token.{Token}
 use Rattle.rz_expr.specs.declared.expr.UnaryOp.{UnaryOp}
 use Rattle.rz_expr.specs.declared.expr.BinaryOp.{BinaryOp}
 use Rattle.rz_expr.specs.declared.words.Function.TheVariants.{CountOf, BitField, Data}
-use Rattle.rz_expr.specs.Term.{Term, Constant, RowsOf, BitsAt, OfOne, OfTwo}
+use Rattle.rz_expr.specs.declared.read.ReadExpr.{ReadExpr}
+use Rattle.rz_expr.specs.Term.{Term, Constant, RowsOf, BitsAt, OfOne, OfTwo, term_of}
 use Rattle.rz_expr.specs.Grammar.{Start, Operand, Prefix, Bracket, Calls, After, Operates, Closes, Separates, start_of, after_of, level_of, loosest, argument, Derives, operand, prefixed, grouped, counted, data_at, bits_at, tighter, binary, IsExpression, LongestExpression, NoExpression}
 use Rattle.rz_expr.specs.Reading.{operator_of, at_level, operator_at}
 use Rattle.rz_expr.proofs.Scanning.{fronts, GoesOn}
@@ -160,3 +163,13 @@ one_longest ts rest left e other p q = elim (fronts p.front q.front rest left (s
 
 pub not_none : (ts rest : List Token) (e : Term) → LongestExpression ts rest e → NoExpression ts → ⊥
 not_none ts rest e p none = none p.front rest e p.whole p.is
+
+-- what a reader answers
+
+pub only_read : (ts : List Token) (start : ℕ) (result : Result (Option ReadExpr) NoMemory)
+    → IfOk result (λ found. MatchOption found (NoExpression (drop start ts)) (λ read. LongestExpression (drop start ts) (drop read.end ts) (term_of read.expr)))
+    → (rest : List Token) (term : Term) → LongestExpression (drop start ts) rest term
+    → IfOk result (λ found. MatchOption found ⊥ (λ read. (drop read.end ts ≡ rest) × (term_of read.expr ≡ term)))
+only_read ts start (Ok None) none rest term there = not_none (drop start ts) rest term there none
+only_read ts start (Ok (Some read)) longest rest term there = one_longest (drop start ts) (drop read.end ts) rest (term_of read.expr) term longest there
+only_read ts start (Err memory) found rest term there = tt

@@ -1,5 +1,5 @@
 -- Which fronts complete an expression.
-use Rattle.std.proofs.Common.{◌≡◌, ℕ, zero, suc, ◌≤◌, Bool, true, false, ◌⊎◌, inl, inr, List, [], ◌∷◌, ◌++◌, Option, Some, None, refl, sym, ap, subst, ◌∙◌, arith, append_assoc}
+use Rattle.std.proofs.Common.{◌≡◌, ℕ, ◌≤◌, Bool, true, ◌⊎◌, inl, inr, List, [], ◌∷◌, ◌++◌, Option, Some, None, refl, sym, ap, subst, ◌∙◌, arith, append_assoc}
 use Rattle.std.proofs.lemmas.Bool.{false≢true}
 use Rattle.std.proofs.lemmas.List.{append-nil}
 use Rattle.rz_core.specs.declared.resource.Word.{Word}
@@ -11,9 +11,8 @@ use Rattle.rz_expr.specs.declared.operators.Frame.TheVariants.{Group, InStart, I
 use Rattle.rz_expr.specs.declared.words.Function.{Function}
 use Rattle.rz_expr.specs.declared.words.Function.TheVariants.{CountOf, BitField, Data}
 use Rattle.rz_expr.specs.Term.{Term}
-use Rattle.rz_expr.specs.Grammar.{Start, Operand, Prefix, Bracket, Calls, NoStart, After, Operates, Closes, Separates, NoAfter, start_of, after_of, level_of, loosest, argument, closes, Derives, operand, prefixed, grouped, counted, data_at, bits_at, tighter, binary}
+use Rattle.rz_expr.specs.Grammar.{Start, Operand, Prefix, Bracket, Calls, NoStart, After, Operates, Closes, Separates, NoAfter, start_of, after_of, level_of, loosest, argument, Derives, operand, prefixed, grouped, counted, data_at, bits_at, tighter, binary}
 use Rattle.rz_expr.specs.Fronts.{started, named, went_on, wants, haves, calls, ends, NoneBegins, Stops}
-use Rattle.rz_expr.specs.Reading.{NoneEnds}
 
 -- what is answered by a token of a kind
 abbrev pub begun : Start → List Token → List Frame → Bool

@@ -1,10 +1,10 @@
 -- What each step of the reader answers.
-use Rattle.std.proofs.Common.{◌≡◌, ◌≢◌, ℕ, ℤ, pos, zero, suc, ◌+◌, ◌-◌, ◌<◌, ◌≤◌, Bool, true, false, ◌&&◌, List, [], ◌∷◌, ◌++◌, length, take, drop, get_or, Option, Some, None, refl, sym, ap, subst, ◌∙◌, arith, append_assoc, length-append, inl, inr, ◌⊎◌}
-use Rattle.std.specs.Prelude.{if◌then◌else◌, nat_eq}
+use Rattle.std.proofs.Common.{◌≡◌, ℕ, pos, zero, suc, ◌+◌, ◌-◌, ◌<◌, ◌≤◌, Bool, true, false, List, [], ◌∷◌, ◌++◌, length, take, drop, get_or, Option, Some, None, refl, sym, ap, subst, ◌∙◌, arith, append_assoc, length-append, inl, inr, ◌⊎◌}
+use Rattle.std.specs.Prelude.{if◌then◌else◌}
 use Rattle.std.specs.Option.{is_some}
 use Rattle.std.proofs.lemmas.Bool.{false≢true, cases_eq}
 use Rattle.std.proofs.lemmas.Bool.Decides.{nat_tests}
-use Rattle.std.proofs.lemmas.List.{append-nil, take-append-drop, length-drop, drop-drop}
+use Rattle.std.proofs.lemmas.List.{length-drop, drop-drop}
 use Rattle.std.proofs.Math.Seq.{drop-append_seam}
 use Rattle.rz_core.specs.declared.resource.Word.{Word}
 use Rattle.rz_lex.specs.declared.sign.Sign.{Sign}
@@ -22,10 +22,10 @@ use Rattle.rz_expr.specs.declared.words.Function.TheVariants.{CountOf, BitField,
 use Rattle.rz_expr.specs.declared.words.Role.{Role}
 use Rattle.rz_expr.specs.declared.words.Role.TheVariants as roles
 use Rattle.rz_expr.specs.Term.{Term, Constant, Named as NamedTerm, RowsOf, BitsAt, OfOne, OfTwo}
-use Rattle.rz_expr.specs.Grammar.{Start, Operand, Prefix, Bracket, Calls, NoStart, After, Operates, Closes, Separates, NoAfter, start_of, after_of, sign_start, word_start, level_of, loosest, argument, is_bracket, Derives, operand, prefixed, grouped, counted, data_at, bits_at, tighter, binary, IsExpression, LongestExpression, NoExpression}
-use Rattle.rz_expr.specs.Fronts.{wants, haves, calls, ends, NoneBegins, Stops, Reads}
-use Rattle.rz_expr.specs.Reading.{prefix_at, prefix_of, prefix_count, prefixed_term, under, operator_of, at_level, operator_at, ends_at, Begins, IsFront, Ended, IsEnded, NoneEnds}
-use Rattle.rz_expr.proofs.Scanning.{begun, gone, behind_name, complete, cut, none_ends, no_longer, one_end, stops_at_end}
+use Rattle.rz_expr.specs.Grammar.{Start, Operand, Prefix, Bracket, Calls, NoStart, After, Operates, Closes, Separates, NoAfter, start_of, after_of, sign_start, word_start, level_of, loosest, argument, is_bracket, Derives, operand, prefixed, grouped, counted, data_at, bits_at, tighter, binary, LongestExpression, NoExpression}
+use Rattle.rz_expr.specs.Fronts.{wants, calls, ends, NoneBegins, Stops}
+use Rattle.rz_expr.specs.Reading.{prefix_at, prefix_of, prefix_count, prefixed_term, operator_of, at_level, operator_at, ends_at, Begins, IsFront, Ended, IsEnded, NoneEnds}
+use Rattle.rz_expr.proofs.Scanning.{begun, behind_name, complete, cut, none_ends, no_longer, one_end, stops_at_end}
 
 -- Fronts by their length.
 
@@ -439,7 +439,7 @@ one_operand_more (suc level) ts n m l r op some so found right =
       within = omega (arith, so.within, right.within, size, ap length tail, length-drop n ts);
       front = so.front ++ o.t ∷ ys;
       whole = so.whole ∙ ap (λ xs. so.front ++ xs) (o.whole ∙ ap (λ xs. o.t ∷ xs) (sym tail ∙ right.reads.whole ∙ ap (λ xs. ys ++ xs) left_over))
-      ∙ sym (append_assoc so.front (o.t ∷ ys) (drop (n + 1 + m) ts));
+          ∙ sym (append_assoc so.front (o.t ∷ ys) (drop (n + 1 + m) ts));
       derives = binary so.front ys o.t o.is o.at so.derives (subst (λ k. Derives k ys r) same right.reads.derives);
       stops = subst (Stops (suc level - 1)) left_over right.reads.stops;
     }
@@ -458,7 +458,8 @@ pub none_at_all : (ts : List Token) → NoneBegins ts → NoExpression ts
 none_at_all ts none front left e whole is = none front left whole (complete is)
 
 -- where an expression that was read at a position ends
-pub read_end : (start : ℕ) (ts : List Token) (n : ℕ) (e : Term) → start ≤ length ts → IsFront loosest (drop start ts) n e
-    → (start < start + n) × (start + n ≤ length ts) × LongestExpression (drop start ts) (drop (start + n) ts) e
-read_end start ts n e within f =
-    (omega (arith, f.some), omega (arith, within, f.within, length-drop start ts), subst (λ rest. LongestExpression (drop start ts) rest e) (drop-drop n start ts) (longest (drop start ts) n e f))
+pub read_end : (start : ℕ) (ts : List Token) (n : ℕ) (e : Term) → start ≤ length ts → IsFront loosest (drop start ts) n e → (start < start + n) × (start + n ≤ length ts)
+read_end start ts n e within f = (omega (arith, f.some), omega (arith, within, f.within, length-drop start ts))
+
+pub read_longest : (start : ℕ) (ts : List Token) (n : ℕ) (e : Term) → IsFront loosest (drop start ts) n e → LongestExpression (drop start ts) (drop (start + n) ts) e
+read_longest start ts n e f = subst (λ rest. LongestExpression (drop start ts) rest e) (drop-drop n start ts) (longest (drop start ts) n e f)

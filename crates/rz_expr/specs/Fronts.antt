@@ -1,5 +1,5 @@
 -- Which fronts of tokens can be expressions, whatever the levels of their operators.
-use Rattle.std.specs.Prelude.{◌≡◌, ◌≢◌, ℕ, ◌≤◌, Bool, true, false, if◌then◌else◌, List, [], ◌∷◌, ◌++◌, Option, Some, None}
+use Rattle.std.specs.Prelude.{◌≡◌, ℕ, ◌≤◌, Bool, true, false, List, [], ◌∷◌, ◌++◌, Option, Some, None}
 use Rattle.rz_core.specs.declared.resource.Word.{Word}
 use Rattle.rz_lex.specs.declared.token.Token.{Token}
 use Rattle.rz_expr.specs.declared.expr.BinaryOp.{BinaryOp}
@@ -7,7 +7,7 @@ use Rattle.rz_expr.specs.declared.operators.Frame.{Frame}
 use Rattle.rz_expr.specs.declared.operators.Frame.TheVariants.{Group, InStart, InWidth}
 use Rattle.rz_expr.specs.declared.words.Function.{Function}
 use Rattle.rz_expr.specs.declared.words.Function.TheVariants.{CountOf, BitField, Data}
-use Rattle.rz_expr.specs.Grammar.{Start, Operand, Prefix, Bracket, Calls, NoStart, After, Operates, Closes, Separates, NoAfter, start_of, after_of, level_of, argument, closes, separates, Derives}
+use Rattle.rz_expr.specs.Grammar.{Start, Operand, Prefix, Bracket, Calls, NoStart, After, Operates, Closes, Separates, start_of, after_of, level_of, argument, closes, separates, Derives}
 use Rattle.rz_expr.specs.Term.{Term}
 
 -- one answer of each kind: with an operand read, an operand wanted, an operand wanted in a bracket, a function's name

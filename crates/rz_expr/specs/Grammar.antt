@@ -1,5 +1,5 @@
 -- The grammar of expressions over lists of tokens. (MPW Rez.)
-use Rattle.std.specs.Prelude.{◌≡◌, ◌≢◌, ℕ, zero, suc, ◌+◌, ◌*◌, ℤ, pos, Bool, true, false, ◌&&◌, nat_eq, if◌then◌else◌, List, [], ◌∷◌, ◌++◌, Option, Some, None}
+use Rattle.std.specs.Prelude.{◌≡◌, ◌≢◌, ℕ, suc, ◌+◌, ◌*◌, pos, Bool, true, false, ◌&&◌, if◌then◌else◌, List, [], ◌∷◌, ◌++◌, Option, Some, None}
 use Rattle.rz_core.specs.declared.resource.Word.{Word}
 use Rattle.rz_lex.specs.declared.sign.Sign.{Sign}
 use Rattle.rz_lex.specs.declared.sign.Sign.TheVariants as signs
@@ -21,10 +21,10 @@ use Rattle.rz_expr.specs.Words.{is_label, is_name, role_of}
 -- What a token is where an operand may begin.
 
 pub data Start : Type 0 where
-  Operand : Term → Start       -- an operand by itself
-  Prefix : UnaryOp → Start     -- an operator before an operand
-  Bracket : Start              -- `(`
-  Calls : Function → Start     -- a function, whose name in brackets follows
+  Operand : Term → Start  -- an operand by itself
+  Prefix : UnaryOp → Start  -- an operator before an operand
+  Bracket : Start  -- `(`
+  Calls : Function → Start  -- a function, whose name in brackets follows
   NoStart : Start
 
 -- the number whose digits to the base 256 these bytes are, behind a number
@@ -59,8 +59,8 @@ start_of (shapes.Sign sign) = sign_start sign
 
 pub data After : Type 0 where
   Operates : BinaryOp → After  -- an operator between operands
-  Closes : After               -- `)`
-  Separates : After            -- `,`
+  Closes : After  -- `)`
+  Separates : After  -- `,`
   NoAfter : After
 
 abbrev pub sign_after : Sign → After

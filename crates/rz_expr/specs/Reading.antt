@@ -1,5 +1,5 @@
 -- What each step of the reader answers.
-use Rattle.std.specs.Prelude.{◌≡◌, ℕ, zero, suc, ◌<◌, ◌≤◌, Bool, true, false, if◌then◌else◌, nat_eq, List, [], ◌∷◌, ◌++◌, length, drop, Option, Some, None}
+use Rattle.std.specs.Prelude.{◌≡◌, ℕ, suc, ◌<◌, ◌≤◌, Bool, true, false, if◌then◌else◌, nat_eq, List, [], ◌∷◌, ◌++◌, length, drop, Option, Some, None}
 use Rattle.std.specs.Option.{is_some}
 use Rattle.rz_lex.specs.declared.sign.Sign.{Sign}
 use Rattle.rz_lex.specs.declared.sign.Sign.TheVariants as signs
@@ -11,7 +11,7 @@ use Rattle.rz_expr.specs.declared.expr.UnaryOp.TheVariants as one
 use Rattle.rz_expr.specs.declared.expr.BinaryOp.{BinaryOp}
 use Rattle.rz_expr.specs.declared.operators.Frame.{Frame}
 use Rattle.rz_expr.specs.Fronts.{wants, ends, Reads}
-use Rattle.rz_expr.specs.Grammar.{Start, After, Operates, Closes, Separates, NoAfter, start_of, after_of, level_of, loosest, Derives}
+use Rattle.rz_expr.specs.Grammar.{Start, After, Operates, start_of, after_of, level_of, loosest, Derives}
 use Rattle.rz_expr.specs.Term.{Term, OfOne}
 
 -- the operator before an operand that a sign is

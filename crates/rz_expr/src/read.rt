@@ -1,11 +1,12 @@
-ghost use Rattle.std.specs.Prelude.{◌≡◌, ◌+◌, ◌*◌, ◌%◌, ◌^◌, ◌<◌, ◌≤◌, true, None, pos, length, drop, IfOk, MatchOption};
+ghost use Rattle.std.specs.Prelude.{◌≡◌, ◌+◌, ◌*◌, ◌%◌, ◌^◌, ◌<◌, ◌≤◌, true, None, pos, length, drop, List, IfOk, IfSome, MatchOption};
 ghost use Rattle.rz_expr.specs.Fronts.{NoneBegins};
 ghost use Rattle.rz_expr.specs.Grammar.{bytes_number, is_bracket, loosest, sign_start, word_start, Bracket, Calls, LongestExpression, NoExpression};
 ghost use Rattle.rz_expr.specs.Reading.{prefix_count, prefix_of, prefixed_term, Begins, IsEnded, IsFront, NoneEnds};
-ghost use Rattle.rz_expr.specs.Term.{term_of, BitsAt, Constant};
+ghost use Rattle.rz_expr.specs.Term.{term_of, BitsAt, Constant, Term};
 ghost use Rattle.rz_expr.specs.Value.{reduced};
 ghost use Rattle.rz_expr.specs.Words.{role_of};
 ghost use Rattle.rz_expr.specs.declared.words.Function.TheVariants as function;
+ghost use Rattle.rz_lex.specs.declared.token.Token.{Token};
 
 use crate::operators::{Frame, argument, ends_at, operator_at, prefix_at, prefix_count};
 use crate::value::{copy_of, signed};
@@ -38,9 +39,23 @@ struct Front {
 /// deep as brackets are open. (MPW Rez.)
 pub fn read_expr(alloc: Global, tokens: &Tokens, start: u64) -> Result<Option<ReadExpr>, NoMemory>
     requires { start ≤ length tokens.now }
-    ensures { IfOk result (λ found. MatchOption found (NoExpression (drop start tokens.now))
-        (λ read. (start < read.end) × (read.end ≤ length tokens.now)
-            × LongestExpression (drop start tokens.now) (drop read.end tokens.now) (term_of read.expr))) }
+    ensures found { IfOk result (λ found. MatchOption found (NoExpression (drop start tokens.now))
+        (λ read. LongestExpression (drop start tokens.now) (drop read.end tokens.now) (term_of read.expr))) }
+    ensures end { IfOk result (λ found. IfSome found
+        (λ read. (start < read.end) × (read.end ≤ length tokens.now))) }
+    ensures every { (rest : List Token) (term : Term) → LongestExpression (drop start tokens.now) rest term
+        → IfOk result (λ found. MatchOption found ⊥
+        (λ read. (drop read.end tokens.now ≡ rest) × (term_of read.expr ≡ term))) }
+{
+    read_at(alloc, tokens, start)
+}
+
+fn read_at(alloc: Global, tokens: &Tokens, start: u64) -> Result<Option<ReadExpr>, NoMemory>
+    requires { start ≤ length tokens.now }
+    ensures found { IfOk result (λ found. MatchOption found (NoExpression (drop start tokens.now))
+        (λ read. LongestExpression (drop start tokens.now) (drop read.end tokens.now) (term_of read.expr))) }
+    ensures end { IfOk result (λ found. IfSome found
+        (λ read. (start < read.end) × (read.end ≤ length tokens.now))) }
 {
     let rest = behind(tokens.as_slice(), start as usize);
     match read_level(alloc, rest, LOOSEST)? {

@@ -1,10 +1,9 @@
-use Rattle.std.proofs.Common.{rules, ◌≡◌, ◌+◌, ◌-◌, ◌*◌, ◌<◌, ◌≤◌, length, take, drop, w32, sym, ap, subst, ◌∙◌, arith, None}
-use Rattle.std.proofs.lemmas.Grind.{common_steps}
+use Rattle.std.proofs.Common.{rules, ◌+◌, length, take, w32, sym, ap, subst, ◌∙◌, arith}
 use Rattle.std.proofs.lemmas.List.{length-drop}
 use Rattle.std.specs.Option.{option_copied}
 use Rattle.std.proofs.lemmas.Int.{to_z-of_z}
 use mir.Val.{SFits}
-use Rattle.rz_expr.specs.Grammar.{argument, start_of, NoStart}
+use Rattle.rz_expr.specs.Grammar.{argument, start_of}
 use Rattle.rz_expr.specs.Reading.{prefix_count, prefixed_term, Begins, IsFront}
 use Rattle.rz_expr.specs.Term.{term_of, Constant, FactOf, Named}
 use Rattle.rz_expr.specs.Words.{role_of}
@@ -80,9 +79,10 @@ read_operand-returns-in-Literal t c =
     c.alone-in-Literal.ensures.1 (ap term_of c.alone-in-Literal.ensures.0 ∙ ap Constant (to_z-of_z w32 c.literal_number.result fits ∙ c.literal_number.ensures))
 
 pub read_prefixed-read_operand-requires : goal.read_prefixed-read_operand-requires
-read_prefixed-read_operand-requires t c =
-    (omega (arith, c.decreases, ap length c.behind.ensures, length-drop c.prefix_count-count.result c.args.tokens.now),
-      ap prefix_count c.behind.ensures ∙ rw c.prefix_count-count.ensures.count (prefix_rest c.args.tokens.now))
+read_prefixed-read_operand-requires t c = (
+  omega (arith, c.decreases, ap length c.behind.ensures, length-drop c.prefix_count-count.result c.args.tokens.now),
+  ap prefix_count c.behind.ensures ∙ rw c.prefix_count-count.ensures.count (prefix_rest c.args.tokens.now),
+)
 
 pub read_prefixed-returns-in_ok-prefixed-in-Some : goal.read_prefixed-returns-in_ok-prefixed-in-Some
 read_prefixed-returns-in_ok-prefixed-in-Some t c =

@@ -1,4 +1,4 @@
-use Rattle.std.proofs.Common.{◌≡◌, ◌%◌, ◌^◌, ◌∙◌, ap, sym, subst, ℕ, ◌-◌, ◌<◌, length, take, drop, arith}
+use Rattle.std.proofs.Common.{◌%◌, ◌^◌, ◌∙◌, ap, sym, ℕ, ◌-◌, length, take, drop, arith}
 use Rattle.rz_expr.specs.Grammar.{bytes_number}
 use Rattle.rz_expr.proofs.Literals.{all_low, one_byte_more}
 use Rattle.rz_expr.proofs.read.low_bits.Goals as goal

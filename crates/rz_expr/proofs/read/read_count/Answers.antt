@@ -1,10 +1,10 @@
-use Rattle.std.proofs.Common.{◌≡◌, List, ℕ, sym, ap, subst, ◌∙◌}
+use Rattle.std.proofs.Common.{List, ℕ, sym, ap, subst, ◌∙◌}
 use Rattle.std.specs.Option.{option_copied}
 use Rattle.rz_expr.specs.Grammar.{argument}
 use Rattle.rz_expr.specs.Reading.{IsFront}
 use Rattle.rz_expr.specs.Term.{RowsOf}
 use Rattle.rz_expr.specs.declared.words.Function.TheVariants.{CountOf}
-use Rattle.rz_expr.proofs.Steps.{named_tokens, counted_front, none_called}
+use Rattle.rz_expr.proofs.Steps.{named_tokens, counted_front}
 use Rattle.rz_expr.proofs.read.read_count.Goals as goal
 
 pub returns-in_ok-copy_of-in-Some : goal.returns-in_ok-copy_of-in-Some

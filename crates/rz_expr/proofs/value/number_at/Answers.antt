@@ -1,8 +1,6 @@
-use Rattle.std.proofs.Common.{rules, ◌≡◌, ℤ, w32, sym, ap, ◌∙◌, Ok, Err, Result}
-use Rattle.std.specs.Prelude.{◌+ℤ◌}
+use Rattle.std.proofs.Common.{rules, w32, sym, ◌∙◌}
 use Rattle.std.proofs.lemmas.Int.{to_z-of_z}
 use mir.Val.{SFits}
-use Rattle.rz_expr.specs.declared.value.EvalFault.{EvalFault}
 use Rattle.rz_expr.proofs.Bits.{number_found, number_missing, same_bits, same_value, same_fault}
 use Rattle.rz_expr.proofs.value.number_at.Goals as goal
 
