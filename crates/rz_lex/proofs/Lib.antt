@@ -13,6 +13,7 @@ pub mod OneWay
 pub mod QuotedBack
 pub mod Decimals
 pub mod WordsBack
+pub mod HexBack
 pub mod LexedTo
 pub mod OneLex
 pub mod Nameable

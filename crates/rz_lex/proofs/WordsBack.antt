@@ -35,7 +35,7 @@ run_stops : (after : List ℕ) → begins_word after ≡ false → after_run aft
 run_stops [] clear = refl
 run_stops (b ∷ after) clear = rw clear refl
 
-run_back : (bs after : List ℕ) → are_word_bytes bs ≡ true → begins_word after ≡ false → after_run (bs ++ after) ≡ after
+pub run_back : (bs after : List ℕ) → are_word_bytes bs ≡ true → begins_word after ≡ false → after_run (bs ++ after) ≡ after
 run_back [] after all clear = run_stops after clear
 run_back (b ∷ bs) after all clear = let parts = and_parts (is_word_byte b) (are_word_bytes bs) all in rw parts.0 (run_back bs after parts.1 clear)
 

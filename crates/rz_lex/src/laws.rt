@@ -1,10 +1,13 @@
-ghost use Rattle.std.specs.Prelude.{◌≡◌, ◌<◌, ◌≤◌, ◌^◌, ℕ, List, [], ◌∷◌, ◌++◌, false, length, true};
+ghost use Rattle.std.specs.Prelude.{◌≡◌, ◌<◌, ◌≤◌, ◌^◌, ℕ, List, [], ◌∷◌, ◌++◌, false, length, Some, true};
 ghost use Rattle.rz_core.specs.Decimal.{decimal_of};
 ghost use Rattle.rz_core.specs.Quoted.{quoted};
 ghost use Rattle.rz_core.specs.declared.fault.Fault.{Fault};
 ghost use Rattle.rz_core.specs.declared.fault.Mark.{Mark};
-ghost use Rattle.rz_lex.specs.Classes.{is_blank};
+ghost use Rattle.rz_lex.specs.Classes.{is_blank, is_digit, is_hex_digit};
 ghost use Rattle.rz_lex.specs.Cutting.{Cuts, Next, Refuses};
+ghost use Rattle.rz_lex.specs.Digits.{number_value};
+ghost use Rattle.rz_lex.specs.Extent.{are_word_bytes};
+ghost use Rattle.rz_lex.specs.Hex.{hex_value};
 ghost use Rattle.rz_lex.specs.Printed.{begins_word, goes_on, is_word, token_of, word_of, AreBytes};
 ghost use Rattle.rz_lex.specs.Sign.{sign_text};
 ghost use Rattle.rz_lex.specs.declared.sign.Sign.{Sign};
@@ -32,12 +35,23 @@ pub fn cut_back()
     ensures number { (mark : Mark) (number : ℕ) (after : List ℕ)
         → number < 2 ^ 32 → begins_word after ≡ false
         → Next mark (decimal_of number ++ after) (token_of mark (shapes.Number number)) after }
+    ensures spelled { (mark : Mark) (digit : ℕ) (digits after : List ℕ) (number : ℕ)
+        → is_digit digit ≡ true → are_word_bytes digits ≡ true → length (digit ∷ digits) ≤ 255
+        → number_value (digit ∷ digits) ≡ Some number → begins_word after ≡ false
+        → Next mark ((digit ∷ digits) ++ after) (token_of mark (shapes.Number number)) after }
+    ensures dollar { (mark : Mark) (digit : ℕ) (digits after : List ℕ) (number : ℕ)
+        → is_hex_digit digit ≡ true → are_word_bytes digits ≡ true → length (36 ∷ digit ∷ digits) ≤ 255
+        → number_value (36 ∷ digit ∷ digits) ≡ Some number → begins_word after ≡ false
+        → Next mark ((36 ∷ digit ∷ digits) ++ after) (token_of mark (shapes.Number number)) after }
     ensures literal { (mark : Mark) (bytes after : List ℕ)
         → AreBytes bytes → 0 < length bytes → length bytes ≤ 4
         → Next mark (quoted 39 bytes ++ after) (token_of mark (shapes.Literal bytes)) after }
     ensures text { (mark : Mark) (bytes after : List ℕ)
         → AreBytes bytes
         → Next mark (quoted 34 bytes ++ after) (token_of mark (shapes.Text bytes)) after }
+    ensures hex { (mark : Mark) (text bytes after : List ℕ)
+        → hex_value text ≡ Some bytes
+        → Next mark ((36 ∷ 34 ∷ (text ++ 34 ∷ [])) ++ after) (token_of mark (shapes.Text bytes)) after }
     ensures sign { (mark : Mark) (sign : Sign) (after : List ℕ)
         → goes_on (sign_text sign) after ≡ false
         → Next mark (sign_text sign ++ after) (token_of mark (shapes.Sign sign)) after }

@@ -1,6 +1,7 @@
 use Rattle.std.proofs.Common.{refl, []}
 use Rattle.rz_lex.proofs.QuotedBack.{text_back, literal_back}
-use Rattle.rz_lex.proofs.WordsBack.{word_back, number_back, sign_back, token_more, blank_more}
+use Rattle.rz_lex.proofs.HexBack.{hex_back, dollar_back}
+use Rattle.rz_lex.proofs.WordsBack.{word_back, digits_back, number_back, sign_back, token_more, blank_more}
 use Rattle.rz_lex.proofs.laws.cut_back.Goals as goal
 
 pub returns-clause-word : goal.returns-clause-word
@@ -26,3 +27,12 @@ returns-clause-token c = token_more
 
 pub returns-clause-blank : goal.returns-clause-blank
 returns-clause-blank c = blank_more
+
+pub returns-clause-spelled : goal.returns-clause-spelled
+returns-clause-spelled c = digits_back
+
+pub returns-clause-dollar : goal.returns-clause-dollar
+returns-clause-dollar c = dollar_back
+
+pub returns-clause-hex : goal.returns-clause-hex
+returns-clause-hex c = hex_back
