@@ -6,7 +6,7 @@ use Rattle.rz_core.specs.declared.stop.Stop.{Stop}
 use Rattle.rz_core.specs.declared.stop.Stop.TheVariants.{Refused, NoMemory}
 use Rattle.rz_expr.specs.Environment.{Sight, IsSeenIn, place_key, rows_key}
 use Rattle.rz_expr.specs.Term.{Term, Constant, Named, RowsOf, BitsAt, FactOf, OfOne, OfTwo}
-use Rattle.rz_expr.specs.Value.{known_value, known_bits, number_at, value_of}
+use Rattle.rz_expr.specs.Value.{known_value, known_bits, number_at, reduced, value_of}
 use Rattle.rz_expr.specs.declared.value.EvalFault.{EvalFault}
 use Rattle.rz_expr.specs.declared.value.EvalFault.TheVariants.{DataWidth}
 
@@ -31,7 +31,7 @@ chained first other next also value same goes_on is =
     let l = links first next value is in
     linked other also l.link value (same l.link l.has) (goes_on l.link l.goes_on)
 
-name_grows : (name : List ℕ) (known finished : Option ℤ) → ((value : ℤ) → known ≡ Some value → finished ≡ Some value)
+pub name_grows : (name : List ℕ) (known finished : Option ℤ) → ((value : ℤ) → known ≡ Some value → finished ≡ Some value)
     → (value : ℤ) → known_value name known ≡ Ok value → known_value name finished ≡ Ok value
 name_grows name (Some x) finished more value is = ap (known_value name) (more x refl) ∙ is
 name_grows name None finished more value is = absurd cc
@@ -62,7 +62,7 @@ module _ (known finished : Sight) (seen : IsSeenIn known finished) where
       (λ place. chained (value_of start known) (value_of start finished) _ _ value (value_grows start)
       (λ behind. chained (value_of width known) (value_of width finished) _ _ value (value_grows width)
       (λ size. number_grows (place +ℤ behind) size value))) is
-  value_grows (FactOf which) value is = ap (λ (x : ℤ). Ok x) (sym (seen.fact which)) ∙ is
+  value_grows (FactOf which) value is = ap (λ (x : ℤ). Ok (reduced x)) (sym (seen.fact which)) ∙ is
   value_grows (OfOne op operand) value is =
       chained (value_of operand known) (value_of operand finished) _ _ value (value_grows operand) (λ x done. done) is
   value_grows (OfTwo op left right) value is =

@@ -6,3 +6,4 @@ pub mod Steps
 pub mod Literals
 pub mod Prefixes
 pub mod OneExpression
+pub mod FaultsStay

@@ -173,3 +173,10 @@ pub only_read : (ts : List Token) (start : ℕ) (result : Result (Option ReadExp
 only_read ts start (Ok None) none rest term there = not_none (drop start ts) rest term there none
 only_read ts start (Ok (Some read)) longest rest term there = one_longest (drop start ts) (drop read.end ts) rest (term_of read.expr) term longest there
 only_read ts start (Err memory) found rest term there = tt
+
+pub only_none : (ts : List Token) (start : ℕ) (result : Result (Option ReadExpr) NoMemory)
+    → IfOk result (λ found. MatchOption found (NoExpression (drop start ts)) (λ read. LongestExpression (drop start ts) (drop read.end ts) (term_of read.expr)))
+    → NoExpression (drop start ts) → IfOk result (λ found. found ≡ None)
+only_none ts start (Ok None) longest none = refl
+only_none ts start (Ok (Some read)) longest none = absurd (not_none (drop start ts) (drop read.end ts) (term_of read.expr) longest none)
+only_none ts start (Err memory) found none = tt

@@ -1,6 +1,6 @@
 -- What an expression sees: the values of names, bits, and facts.
-use Rattle.std.specs.Prelude.{◌≡◌, ℕ, ℤ, List, Option, Some}
-use Rattle.std.specs.Str.{str_to_ascii_lowercase}
+use Rattle.std.specs.Prelude.{◌≡◌, ℕ, ℤ, pos, codes, if◌then◌else◌, List, Option, Some, None}
+use Rattle.std.specs.Str.{str_eq_ignore_ascii_case, str_to_ascii_lowercase}
 use Rattle.rz_expr.specs.declared.words.FactWord.{FactWord}
 
 -- what can have a value: a name by itself, as a label, and an array by the number of its rows; names are the same in
@@ -15,6 +15,13 @@ place_key name = place_of (str_to_ascii_lowercase name)
 
 abbrev pub rows_key : List ℕ → Key
 rows_key name = rows_of (str_to_ascii_lowercase name)
+
+-- the values of the words that are names in every expression
+abbrev pub predefined : List ℕ → Option ℤ
+predefined name =
+    if str_eq_ignore_ascii_case name (codes "true") then Some (pos 1)
+    else if str_eq_ignore_ascii_case name (codes "false") then Some (pos 0)
+    else None
 
 -- the value of each key that has one
 pub record Environment : Type 0 where

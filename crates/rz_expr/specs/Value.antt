@@ -67,7 +67,7 @@ operate two.Or left right = Ok (truth (not (is_zero left) || not (is_zero right)
 
 -- the value of a name, where it has one
 abbrev pub known_value : List ℕ → Option ℤ → Result ℤ EvalFault
-known_value name (Some value) = Ok value
+known_value name (Some value) = Ok (reduced value)
 known_value name None = Err (UnknownName (record { bytes = name }))
 
 -- the number in so many bits, 1 to 32, from a bit on, where they are there
@@ -78,6 +78,14 @@ known_bits first width None = Err (LaterData first (first +ℤ width))
 abbrev pub number_at : Sight → ℤ → ℤ → Result ℤ EvalFault
 number_at sight first width =
     if int_lt width (pos 1) || int_lt (pos 32) width then Err (DataWidth width) else known_bits first width (sight.bits first width)
+
+-- a fault that stays one whatever else comes to be seen: of a name or of bits that are seen, but for none
+abbrev pub stays : EvalFault → Bool
+stays ZeroDivisor = true
+stays (UnknownName name) = false
+stays (LaterData first end) = false
+stays (DataWidth width) = true
+stays (BadShift count) = true
 
 -- the value, or the first fault: the left operand's, else the right operand's, else the operator's; of bits the name's,
 -- else the start's, else the width's, else that of bits that aren't there
@@ -90,6 +98,6 @@ value_of (BitsAt name start width) sight =
     >>= λ place. value_of start sight
     >>= λ behind. value_of width sight
     >>= λ size. number_at sight (place +ℤ behind) size
-value_of (FactOf which) sight = Ok (sight.fact which)
+value_of (FactOf which) sight = Ok (reduced (sight.fact which))
 value_of (OfOne op operand) sight = value_of operand sight >>= λ value. Ok (operate_one op value)
 value_of (OfTwo op left right) sight = value_of left sight >>= λ one. value_of right sight >>= λ other. operate op one other

@@ -1,8 +1,23 @@
 ghost use Rattle.std.specs.Prelude.{◌≡◌, ◌≤◌, ◌+ℤ◌, pos, ℤ, ◌≤ℤ◌, IfSome, option_map};
-ghost use Rattle.rz_expr.specs.Environment.{Sight, IsSeenIn, place_key, rows_key};
+ghost use Rattle.rz_expr.specs.Environment.{Sight, IsSeenIn, place_key, predefined, rows_key};
 
 use crate::FactWord;
 use rz_core::Word;
+
+/// The value of a word that is a name in every expression: 1 of `true`, 0 of `false`. Case doesn't matter.
+/// Where nothing else has the name, an environment gives this value. (MPW Rez.)
+pub fn predefined(name: &Word) -> Option<i32>
+    ensures { result ≡ predefined name.now.bytes }
+{
+    let name = name.bytes.as_slice();
+    if name.eq_ignore_ascii_case(b"true") {
+        Some(1)
+    } else if name.eq_ignore_ascii_case(b"false") {
+        Some(0)
+    } else {
+        None
+    }
+}
 
 /// What an expression sees at some moment: the values of names, the bits of the resource so far, and what
 /// is known of it. Names are the same in whatever case. None of the calls takes memory.
@@ -21,7 +36,8 @@ pub trait Env {
     fn count(&self, name: &Word) -> Option<i32>
         ensures { result ≡ (view self.now).names.give (rows_key name.now.bytes) };
 
-    /// The unsigned number in the bits, as many as `width` says, that begin `start` bits behind a label.
+    /// The unsigned number in the bits, as many as `width` says, from 1 to 32, that begin `start` bits behind
+    /// a label; `None` where they aren't there.
     fn bits(&self, name: &Word, start: i32, width: i32) -> Option<u32>
         requires { (pos 1 ≤ℤ width) × (width ≤ℤ pos 32) }
         ensures { IfSome ((view self.now).names.give (place_key name.now.bytes))

@@ -1,9 +1,10 @@
-ghost use Rattle.std.specs.Prelude.{◌≡◌, ℤ, List, Ok};
+ghost use Rattle.std.specs.Prelude.{◌≡◌, ℤ, List, Ok, Err, true};
 ghost use Rattle.rz_lex.specs.declared.token.Token.{Token};
+ghost use Rattle.rz_expr.specs.declared.value.EvalFault.{EvalFault};
 ghost use Rattle.rz_expr.specs.Environment.{IsSeenIn, Sight};
 ghost use Rattle.rz_expr.specs.Grammar.{IsExpression, LongestExpression, NoExpression};
 ghost use Rattle.rz_expr.specs.Term.{Term};
-ghost use Rattle.rz_expr.specs.Value.{value_of};
+ghost use Rattle.rz_expr.specs.Value.{stays, value_of};
 
 /// A law, with nothing to run: tokens are at most one expression. At most one front of tokens is the
 /// longest expression that begins them, and then there is no telling that none begins.
@@ -21,4 +22,11 @@ pub fn one_expression()
 pub fn values_stay()
     ensures { (known finished : Sight) → IsSeenIn known finished → (term : Term) (value : ℤ)
         → value_of term known ≡ Ok value → value_of term finished ≡ Ok value }
+{}
+
+/// A law, with nothing to run: a fault that isn't of something unseen is the fault in every sight in which
+/// all is seen that is seen in the first.
+pub fn faults_stay()
+    ensures { (known finished : Sight) → IsSeenIn known finished → (term : Term) (fault : EvalFault)
+        → stays fault ≡ true → value_of term known ≡ Err fault → value_of term finished ≡ Err fault }
 {}

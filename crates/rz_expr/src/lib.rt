@@ -9,9 +9,9 @@ mod read;
 mod value;
 mod words;
 
-pub use env::Env;
+pub use env::{Env, predefined};
 pub use expr::{BinaryOp, Expr, UnaryOp};
-pub use laws::{one_expression, values_stay};
+pub use laws::{faults_stay, one_expression, values_stay};
 pub use read::{ReadExpr, read_expr};
 pub use value::{EvalFault, eval};
 pub use words::{FactWord, Function, Role, role_of};

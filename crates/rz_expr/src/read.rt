@@ -35,8 +35,9 @@ struct Front {
 }
 
 /// The longest expression that begins at a token. `start` is at most the number of tokens. `None` comes
-/// exactly where no expression begins there. It takes time in proportion to what it reads, and goes as
-/// deep as brackets are open. (MPW Rez.)
+/// exactly where no expression begins there. It takes time in proportion to what it looks at, and reading
+/// goes as deep as brackets are open. What it has made is as deep as its operators are nested, also where
+/// it lets it go since a bracket stays open: callers bound the tokens that they hand in. (MPW Rez.)
 pub fn read_expr(alloc: Global, tokens: &Tokens, start: u64) -> Result<Option<ReadExpr>, NoMemory>
     requires { start ≤ length tokens.now }
     ensures found { IfOk result (λ found. MatchOption found (NoExpression (drop start tokens.now))
@@ -46,10 +47,12 @@ pub fn read_expr(alloc: Global, tokens: &Tokens, start: u64) -> Result<Option<Re
     ensures every { (rest : List Token) (term : Term) → LongestExpression (drop start tokens.now) rest term
         → IfOk result (λ found. MatchOption found ⊥
         (λ read. (drop read.end tokens.now ≡ rest) × (term_of read.expr ≡ term))) }
+    ensures none { NoExpression (drop start tokens.now) → IfOk result (λ found. found ≡ None) }
 {
     read_at(alloc, tokens, start)
 }
 
+/// The same, with the clauses that say it one way; that it is so the other way too follows from them.
 fn read_at(alloc: Global, tokens: &Tokens, start: u64) -> Result<Option<ReadExpr>, NoMemory>
     requires { start ≤ length tokens.now }
     ensures found { IfOk result (λ found. MatchOption found (NoExpression (drop start tokens.now))

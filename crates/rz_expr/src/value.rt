@@ -29,8 +29,8 @@ pub enum EvalFault {
 /// The value of an expression, or its first fault: the left operand's, else the right operand's, else the
 /// operator's; of bits the name's, else the start's, else the width's, else that of bits that aren't
 /// there. Both sides of `&&` and `||` are always computed. Numbers have 32 bits and a sign; sums,
-/// differences, products and left shifts wrap. An expression without names takes no memory; where memory
-/// is refused, it was to copy the name of `UnknownName`. (MPW Rez.)
+/// differences, products and left shifts wrap. An expression without names takes no memory; else the
+/// name of `UnknownName` is copied. (MPW Rez.)
 pub fn eval<E: Env>(alloc: Global, expr: &Expr, env: &E) -> Result<i32, Stop<EvalFault>>
     ensures value { Gives (value_of (term_of expr.now) (E.view env.now)) result }
     ensures nameless { has_names (term_of expr.now) ≡ false → result ≢ Err stop.NoMemory }

@@ -34,7 +34,7 @@ pub enum FactWord {
 pub enum Function {
     /// `$$CountOf`: how many rows an array has.
     CountOf,
-    /// `$$BitField`: the bits at a label, behind so many, of this number.
+    /// `$$BitField`: so many bits, a start and a width behind a label.
     BitField,
     /// `$$Byte`, `$$Word`, `$$Long`: 8, 16 or 32 bits at a label.
     Data(u8),
@@ -73,7 +73,8 @@ impl Role {
     }
 }
 
-/// What a word may be. Case doesn't matter. (MPW Rez.)
+/// What a word may be. Case doesn't matter. What is no word, as `1a` or nothing, is told like a name. (MPW
+/// Rez.)
 pub fn role_of(word: &Word) -> Role
     ensures { result ≡ role_of word.now.bytes }
 {

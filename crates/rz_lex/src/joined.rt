@@ -4,14 +4,18 @@ ghost use Rattle.rz_lex.specs.Joined.{ahead, IsOn};
 /// A byte of a joined text, or a line end as 0A, and the physical line on which it stands, from 1.
 #[derive(Clone, Copy, Debug)]
 pub struct Placed {
+    /// The byte; 0A of a line end.
     pub byte: u8,
+    /// The physical line, from 1.
     pub line: u32,
 }
 
 /// A position in a text: what is left of the text, and the physical line on which that begins, from 1.
 #[derive(Clone, Copy, Debug)]
 pub struct Position<'a> {
+    /// What is left of the text.
     pub rest: &'a [u8],
+    /// The physical line on which that begins, from 1.
     pub line: u64,
 }
 

@@ -5,35 +5,65 @@ ghost use Rattle.rz_lex.specs.Sign.{sign_of, sign_of_one, sign_of_two};
 /// ~ !`. (MPW Rez.)
 #[derive(Clone, Copy, Debug, PartialEq, Eq)]
 pub enum Sign {
+    /// `{`
     OpenBrace,
+    /// `}`
     CloseBrace,
+    /// `(`
     OpenParen,
+    /// `)`
     CloseParen,
+    /// `[`
     OpenBracket,
+    /// `]`
     CloseBracket,
+    /// `,`
     Comma,
+    /// `;`
     Semicolon,
+    /// `:`
     Colon,
+    /// `=`
     Equals,
+    /// `+`
     Plus,
+    /// `-`
     Minus,
+    /// `*`
     Star,
+    /// `/`
     Slash,
+    /// `%`
     Percent,
+    /// `<<`
     ShiftLeft,
+    /// `>>`
     ShiftRight,
+    /// `<`
     Less,
+    /// `<=`
     LessEqual,
+    /// `>`
     Greater,
+    /// `>=`
     GreaterEqual,
+    /// `==`
     EqualEqual,
+    /// `!=`
     NotEqual,
+    /// `&`
     And,
+    /// `&&`
     AndAnd,
+    /// `|`
     Or,
+    /// `||`
     OrOr,
+    /// `^`
     Caret,
+    /// `~`
     Tilde,
+    /// `!`
     Bang,
 }
 

@@ -31,6 +31,9 @@ fn line_ends_and_joins(rt: HostRuntime) -> Result<(), Fail> {
         ("a\\\r\r\nb", "1:a 3:b "),
         ("a\\\r\n\nb", "1:a 3:b "),
         ("a\\\n", "1:a "),
+        // a line begins with its first byte that is left
+        ("\\\n@", "111 on 2 64"),
+        ("\\\n/* a", "107 on 2"),
         // in a quoted part
         ("\"a\\\nb\" c\nd", "1:\"ab\" 1:c 3:d "),
         ("\"a\\\r\nb\" c\nd", "1:\"ab\" 1:c 3:d "),
