@@ -87,6 +87,11 @@ stays (LaterData first end) = false
 stays (DataWidth width) = true
 stays (BadShift count) = true
 
+-- the fault that keeps a name
+abbrev pub IsUnknown : Result ℤ EvalFault → Type 0
+IsUnknown (Err (UnknownName name)) = Unit {0}
+IsUnknown other = ⊥
+
 -- the value, or the first fault: the left operand's, else the right operand's, else the operator's; of bits the name's,
 -- else the start's, else the width's, else that of bits that aren't there
 abbrev pub value_of : Term → Sight → Result ℤ EvalFault

@@ -1,11 +1,11 @@
-ghost use Rattle.std.specs.Prelude.{◌≡◌, ◌≢◌, ◌^◌, ◌+ℤ◌, ◌*ℤ◌, false, pos, int_div, int_rem, IfOk, Some, Ok, Err};
+ghost use Rattle.std.specs.Prelude.{◌≡◌, ◌≢◌, ◌^◌, ◌+ℤ◌, ◌*ℤ◌, false, pos, int_div, int_rem, IfOk, Some, None, Ok, Err};
 ghost use Rattle.std.specs.Int.{int_shr};
 ghost use Rattle.rz_core.specs.Stop.{Gives};
 ghost use Rattle.rz_core.specs.declared.stop.Stop.TheVariants as stop;
 ghost use Rattle.rz_expr.specs.Environment.{Sight, place_key};
 ghost use Rattle.rz_expr.specs.Term.{has_names, term_of};
 ghost use Rattle.rz_expr.specs.declared.value.EvalFault.TheVariants as fault;
-ghost use Rattle.rz_expr.specs.Value.{divided, known_value, number_at, operate, operate_one, reduced, shifted, truth, value_of};
+ghost use Rattle.rz_expr.specs.Value.{divided, known_value, IsUnknown, number_at, operate, operate_one, reduced, shifted, truth, value_of};
 
 use crate::{BinaryOp, Env, Expr, UnaryOp};
 use rz_core::{Bytes, NoMemory, Stop, Word};
@@ -29,11 +29,12 @@ pub enum EvalFault {
 /// The value of an expression, or its first fault: the left operand's, else the right operand's, else the
 /// operator's; of bits the name's, else the start's, else the width's, else that of bits that aren't
 /// there. Both sides of `&&` and `||` are always computed. Numbers have 32 bits and a sign; sums,
-/// differences, products and left shifts wrap. An expression without names takes no memory; else the
-/// name of `UnknownName` is copied. (MPW Rez.)
+/// differences, products and left shifts wrap. Memory is taken for the name of `UnknownName` alone,
+/// and so none for an expression without names. (MPW Rez.)
 pub fn eval<E: Env>(alloc: Global, expr: &Expr, env: &E) -> Result<i32, Stop<EvalFault>>
     ensures value { Gives (value_of (term_of expr.now) (E.view env.now)) result }
     ensures nameless { has_names (term_of expr.now) ≡ false → result ≢ Err stop.NoMemory }
+    ensures memory { result ≡ Err stop.NoMemory → IsUnknown (value_of (term_of expr.now) (E.view env.now)) }
     ensures finished { (finished : Sight) → E.belongs env.now finished
         → IfOk result (λ value. value_of (term_of expr.now) finished ≡ Ok value) }
 {
@@ -43,6 +44,7 @@ pub fn eval<E: Env>(alloc: Global, expr: &Expr, env: &E) -> Result<i32, Stop<Eva
 fn value_of<E: Env>(alloc: Global, expr: &Expr, env: &E) -> Result<i32, Stop<EvalFault>>
     ensures value { Gives (value_of (term_of expr.now) (E.view env.now)) result }
     ensures nameless { has_names (term_of expr.now) ≡ false → result ≢ Err stop.NoMemory }
+    ensures memory { result ≡ Err stop.NoMemory → IsUnknown (value_of (term_of expr.now) (E.view env.now)) }
 {
     match expr {
         Expr::Number(number) => Ok(*number),
@@ -72,7 +74,8 @@ fn value_of<E: Env>(alloc: Global, expr: &Expr, env: &E) -> Result<i32, Stop<Eva
 
 /// The value of a name or an array, where it has one.
 fn known(alloc: Global, name: &Word, value: Option<i32>) -> Result<i32, Stop<EvalFault>>
-    ensures { Gives (known_value name.now.bytes value) result }
+    ensures value { Gives (known_value name.now.bytes value) result }
+    ensures memory { result ≡ Err stop.NoMemory → value ≡ None }
 {
     match value {
         Some(value) => Ok(value),
@@ -99,7 +102,8 @@ fn number_at<E: Env>(
     width: i32,
 ) -> Result<i32, Stop<EvalFault>>
     requires { (E.view env.now).names.give (place_key name.now.bytes) ≡ Some place }
-    ensures { Gives (number_at (E.view env.now) (place +ℤ start) width) result }
+    ensures value { Gives (number_at (E.view env.now) (place +ℤ start) width) result }
+    ensures answered { result ≢ Err stop.NoMemory }
 {
     if width < 1 || width > 32 {
         return Err(Stop::Refused(EvalFault::DataWidth(width)));
