@@ -1,5 +1,5 @@
 -- The message line of a fault.
-use Rattle.std.specs.Prelude.{ℕ, ◌<◌, nat_lt, ◌==◌, if◌then◌else◌, List, [], ◌++◌, get_or, codes, IfSome, IsSome, unwrap_or}
+use Rattle.std.specs.Prelude.{ℕ, ◌<◌, nat_lt, nat_le, ◌==◌, ◌≡◌, ◌&&◌, ◌||◌, Bool, true, if◌then◌else◌, List, [], ◌++◌, get_or, codes, IfSome, unwrap_or}
 use Rattle.std.specs.declared.option.Option.{Option}
 use Rattle.std.specs.declared.option.Option.TheVariants.{Some, None}
 use Rattle.rz_core.specs.Decimal.{decimal_of, signed_of}
@@ -122,6 +122,15 @@ fault_name number =
     else if nat_lt number 420 then fork_fault number
     else bridge_fault number
 
+-- the numbers that have a name
+abbrev pub is_between : ℕ → ℕ → ℕ → Bool
+is_between first last number = nat_le first number && nat_le number last
+
+abbrev pub is_fault : ℕ → Bool
+is_fault number =
+    is_between 101 115 number || is_between 201 222 number || is_between 230 240 number || is_between 301 304 number
+    || is_between 401 410 number || is_between 421 428 number || is_between 441 447 number
+
 -- 240 is a warning, and every other fault an error
 abbrev pub severity : ℕ → List ℕ
 severity number = if number == 240 then codes "warning " else codes "error "
@@ -132,7 +141,7 @@ IsMarked files mark = IfSome mark (λ mark. mark.file < files)
 
 -- a message can name the fault: the table has its number, and its mark is of one of so many files
 pub record IsNameable (files : ℕ) (fault : Fault) : Type 0 where
-  pub number : IsSome (fault_name fault.number)
+  pub number : is_fault fault.number ≡ true
   pub place : IsMarked files fault.mark
 
 -- the file and the line, where there is a mark

@@ -1,6 +1,6 @@
-ghost use Rattle.std.specs.Prelude.{◌≡◌, ◌++◌, length, IsSome, OnOk, OnErr};
+ghost use Rattle.std.specs.Prelude.{◌≡◌, ◌++◌, length, true, OnOk, OnErr};
 ghost use Rattle.std.specs.Option.{option_copied};
-ghost use Rattle.rz_core.specs.Message.{fault_name, source_fault, statement_fault, declaration_fault, fork_fault, bridge_fault, severity, place_text, kept_text, rule_text, fault_line, IsMarked, IsNameable};
+ghost use Rattle.rz_core.specs.Message.{is_fault, fault_name, source_fault, statement_fault, declaration_fault, fork_fault, bridge_fault, severity, place_text, kept_text, rule_text, fault_line, IsMarked, IsNameable};
 
 use crate::{
     Bytes, Fault, FileNames, Kept, Mark, NoMemory, write_decimal, write_quoted, write_signed,
@@ -49,7 +49,7 @@ fn severity(number: u16) -> &'static [u8]
 /// What rule is broken: `error NUMBER NAME`.
 #[tactic(auto, unfolding(crate::specs::Message::rule_text))]
 fn append_rule(number: u16, line: &mut Bytes) -> Result<(), NoMemory>
-    requires { IsSome (fault_name number) }
+    requires { is_fault number ≡ true }
     ensures { OnOk result (line.new ≡ line.old ++ rule_text number) }
 {
     line.append(severity(number))?;

@@ -1,11 +1,11 @@
 -- Which bytes are a fork: the rules of admission, each tested over the whole fork before the next. The offset of
 -- a fault counts from the start of the fork.
-use Rattle.std.specs.Prelude.{◌≡◌, ℕ, ◌+◌, ◌*◌, ◌^◌, ◌<◌, ◌≤◌, ◌==◌, ◌||◌, nat_lt, nat_le, Bool, if◌then◌else◌, List, [], ◌∷◌, length, IsSome}
+use Rattle.std.specs.Prelude.{◌≡◌, true, ℕ, ◌+◌, ◌*◌, ◌^◌, ◌<◌, ◌≤◌, ◌==◌, ◌||◌, nat_lt, nat_le, Bool, if◌then◌else◌, List, [], ◌∷◌, length}
 use Rattle.std.specs.List.{list_any, sum_by}
 use Rattle.std.specs.declared.option.Option.{Option}
 use Rattle.std.specs.declared.option.Option.TheVariants.{Some, None}
 use Rattle.std.specs.declared.result.Result.{Result}
-use Rattle.rz_core.specs.Message.{fault_name}
+use Rattle.rz_core.specs.Message.{is_fault}
 use Rattle.rz_core.specs.Lists.{or_else, unless_fault, first_of, first_in}
 use Rattle.rz_fork.specs.declared.fault.ForkFault.{ForkFault}
 use Rattle.rz_fork.specs.declared.layout.Header.{Header}
@@ -150,7 +150,7 @@ admitted bytes = unless_fault (inadmissible bytes) (contents bytes)
 
 -- a fault that a message can say: the table of faults has its number, and its offset is less than 2^63
 pub record IsSayable (fault : ForkFault) : Type 0 where
-  pub number : IsSome (fault_name fault.number)
+  pub number : is_fault fault.number ≡ true
   pub offset : fault.offset < 2 ^ 63
 
 -- What the rules give.

@@ -1,7 +1,7 @@
 -- A message can say every fault of a line or a text.
 use Rattle.std.proofs.Common.{◌≡◌, ℕ, ◌+◌, ◌<◌, Bool, false, List, [], ◌∷◌, Option, Some, None, length, true, inl, inr, Result, Ok, Err, refl, arith, subst, sym}
-use Rattle.std.specs.Prelude.{nat_lt, nat_le, ◌==◌, ◌&&◌, if◌then◌else◌, IsSome}
-use Rattle.rz_core.specs.Message.{fault_name, IsNameable}
+use Rattle.std.specs.Prelude.{nat_lt, nat_le, ◌==◌, ◌&&◌, if◌then◌else◌}
+use Rattle.rz_core.specs.Message.{is_fault, IsNameable}
 use Rattle.rz_core.specs.declared.fault.Mark.{Mark}
 use Rattle.rz_core.specs.declared.fault.Fault.{Fault}
 use Rattle.rz_core.specs.declared.fault.Kept.{Kept}
@@ -18,7 +18,7 @@ use Rattle.rz_lex.specs.declared.sign.Sign.{Sign}
 use Rattle.rz_lex.specs.declared.token.Shape.{Shape}
 use Rattle.rz_lex.proofs.Ends.{by_test}
 
-pub marked : (mark : Mark) (number : ℕ) (kept : Kept) → IsSome (fault_name number) → IsNameable (mark.file + 1) (fault_at mark number kept)
+pub marked : (mark : Mark) (number : ℕ) (kept : Kept) → is_fault number ≡ true → IsNameable (mark.file + 1) (fault_at mark number kept)
 marked mark number kept named = record { number = named; place = omega arith }
 
 -- where there is a fault, a message can say it

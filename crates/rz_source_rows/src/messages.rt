@@ -1,5 +1,5 @@
-ghost use Rattle.std.specs.Prelude.{IsSome, IsTrue};
-ghost use Rattle.rz_core.specs.Message.{fault_name};
+ghost use Rattle.std.specs.Prelude.{◌≡◌, true, IsTrue};
+ghost use Rattle.rz_core.specs.Message.{is_fault};
 
 use rz_core::{Bytes, Fault, FileNames, Kept, Mark, OsType, write_fault};
 use std::test::Fail;
@@ -87,7 +87,7 @@ const NAMES: [(u16, &str); 77] = [
 
 /// Whether the table has a fault of this number.
 fn is_in_table(number: u16) -> bool
-    ensures { IsTrue result → IsSome (fault_name number) }
+    ensures { IsTrue result → is_fault number ≡ true }
 {
     matches!(number, 101..=115 | 201..=222 | 230..=240 | 301..=304 | 401..=410 | 421..=428 | 441..=447)
 }

@@ -1,17 +1,17 @@
 -- The fault of a fork that passes a limit.
-use Rattle.std.proofs.Common.{◌≡◌, ℕ, ◌+◌, ◌*◌, Bool, true, false, nat_lt, if◌then◌else◌, List, length, Ok, Err, Some, None, subst, rules, arith}
+use Rattle.std.proofs.Common.{◌≡◌, ℕ, ◌+◌, ◌*◌, Bool, true, false, nat_lt, if◌then◌else◌, List, length, Ok, Err, Some, None, refl, subst, arith}
 use Rattle.std.specs.declared.result.Result.{Result}
 use Rattle.std.specs.declared.option.Option.{Option}
 use Rattle.rz_core.specs.Lists.{or_else, unless_fault}
-use Rattle.rz_core.specs.Message.{fault_name}
+use Rattle.rz_core.specs.Message.{is_fault}
 use Rattle.rz_core.specs.Numbers.{kept_length}
 use Rattle.rz_core.specs.declared.resource.Resource.{Resource}
 use Rattle.rz_fork.specs.Image.{fork_of, first_limit, image, passed, kinds_of, grouped, data_area, name_list, lists_end}
 use Rattle.rz_fork.specs.declared.fault.LimitFault.{LimitFault}
 use Rattle.rz_tools.specs.Rez.{IsLimit}
-use Rattle.std.specs.Prelude.{IsSome, IfSome}
+use Rattle.std.specs.Prelude.{IfSome}
 
-one_passed : (number limit length : ℕ) → IsSome (fault_name number) → IfSome (passed number limit length) IsLimit
+one_passed : (number limit length : ℕ) → is_fault number ≡ true → IfSome (passed number limit length) IsLimit
 one_passed number limit length named = by (nat_lt limit length)
   where
     by : (b : Bool) → IfSome (if b then Some (record { number = number; length = kept_length length }) else None) IsLimit
@@ -27,9 +27,9 @@ limit list =
     let bytes = length (data_area (grouped list)) in
     let map = lists_end (length (kinds_of list)) (length (grouped list)) in
     let names = length (name_list (grouped list)) in
-    first (passed 302 16777216 bytes) _ (one_passed 302 16777216 bytes (search rules))
-    (first (passed 303 65535 map) _ (one_passed 303 65535 map (search rules))
-    (first (passed 304 65535 names) _ (one_passed 304 65535 names (search rules)) tt))
+    first (passed 302 16777216 bytes) _ (one_passed 302 16777216 bytes refl)
+    (first (passed 303 65535 map) _ (one_passed 303 65535 map refl)
+    (first (passed 304 65535 names) _ (one_passed 304 65535 names refl) tt))
 
 same_fault : (found fault : LimitFault) → ◌≡◌ {A = Result (List ℕ) LimitFault} (Err found) (Err fault) → found ≡ fault
 same_fault found fault says = cc

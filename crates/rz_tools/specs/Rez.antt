@@ -1,10 +1,10 @@
 -- What `rez FILE -o NAME` means.
-use Rattle.std.specs.Prelude.{ℕ, ◌<◌, ◌^◌, pos, IsSome, List, [], ◌∷◌, Ok, Err}
+use Rattle.std.specs.Prelude.{ℕ, ◌<◌, ◌^◌, pos, ◌≡◌, true, List, [], ◌∷◌, Ok, Err}
 use Rattle.std.specs.declared.result.Result.{Result}
 use Rattle.std.specs.declared.option.Option.{Option}
 use Rattle.std.specs.declared.option.Option.TheVariants.{Some, None}
 use Rattle.std.specs.FinMap as map
-use Rattle.rz_core.specs.Message.{fault_name}
+use Rattle.rz_core.specs.Message.{is_fault}
 use Rattle.rz_core.specs.Resources.{put_all}
 use Rattle.rz_core.specs.Stop.{◌>>=◌}
 use Rattle.rz_core.specs.declared.resource.Resource.{Resource}
@@ -27,7 +27,7 @@ past_limit fault = record { number = fault.number; mark = None; kept = kept.Numb
 
 -- a fault of a limit: the table has its number, and its length is less than 2^63
 pub record IsLimit (fault : LimitFault) : Type 0 where
-  pub number : IsSome (fault_name fault.number)
+  pub number : is_fault fault.number ≡ true
   pub length : fault.length < 2 ^ 63
 
 -- the resources that a source means: those of its statements, each put into the list after those before it

@@ -2,7 +2,7 @@ use Rattle.std.proofs.Common.{◌≡◌, ◌∷◌, [], Ok, map, arith}
 use Rattle.std.proofs.lemmas.Grind.{common_steps}
 use Rattle.std.specs.String.{string_bytes}
 use Rattle.rz_tools.specs.Command.{Rez, DeRez, command_of}
-use Rattle.rz_tools.proofs.Output.{untouched}
+use Rattle.rz_tools.proofs.Output.{shown_so, untouched}
 use Rattle.rz_tools.proofs.Answered.{rez_answered, derez_answered}
 use Rattle.rz_tools.proofs.program.run.Goals as goal
 
@@ -21,3 +21,8 @@ returns-clause-err_answered g c =
     let name : c.push-in-Ok-DeRez.new.self ≡ c.in-Ok-DeRez.asked.file.now ∷ [] = grind (arith, common_steps) in
     derez_answered _ (map string_bytes c.args.words.now) c.push-in-Ok-DeRez.new.self c.args.moment _ _ _ _ _ _ c.say-in-Ok-DeRez.ensures.outcome c.say-in-Ok-DeRez.ensures.err
     c.in-Ok-DeRez.asked.file.now (rw c.in-Ok-DeRez.field-0-is at c.in-Ok-DeRez.ensures) name c.run_derez-outcome.ensures.outcome
+
+pub returns-clause-output : goal.returns-clause-output
+returns-clause-output g c =
+    shown_so _ _ _ (map string_bytes c.args.words.now) c.args.moment _ _ c.in-Ok-DeRez.asked.file.now (rw c.in-Ok-DeRez.field-0-is at c.in-Ok-DeRez.ensures)
+    c.run_derez-outcome.ensures.output c.say-in-Ok-DeRez.ensures.outcome
