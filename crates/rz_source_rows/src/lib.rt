@@ -1,9 +1,11 @@
-//! Tests of the layers below the commands: conversions, messages, lines, tokens and expressions. It has
-//! no code that ships.
+//! Tests of the layers below the commands: conversions, messages, lines, tokens, expressions and macros.
+//! It has no code that ships.
 #![tactic(auto)]
 
 #[cfg(test)]
 mod core_calls;
+#[cfg(test)]
+mod expansions;
 #[cfg(test)]
 mod expression_faults;
 #[cfg(test)]

@@ -1,0 +1,9 @@
+mod Bodies
+pub mod Halfway
+pub mod Frames
+pub mod Rows
+pub mod Lookups
+pub mod Made
+pub mod One
+pub mod Puts
+pub mod Replaced

@@ -1,0 +1,5 @@
+pub mod Live
+pub mod Expand
+pub mod Macros
+pub mod Steps
+pub mod Expanded

@@ -1,0 +1,13 @@
+//! Directives, macros and included files: so far the macros and their expansion.
+#![tactic(auto)]
+
+mod copy;
+mod expanded;
+mod expansion;
+mod laws;
+mod macros;
+
+pub use expanded::{expand_all, one_replacement};
+pub use expansion::{TooLong, expand};
+pub use laws::one_expansion;
+pub use macros::Macros;

@@ -1,0 +1,105 @@
+ghost use Rattle.std.specs.Prelude.{◌≡◌, ℕ, List, [], Some, None, IfOk, OnErr, OnOk, option_map};
+ghost use Rattle.std.specs.Str.{str_to_ascii_lowercase};
+ghost use Rattle.rz_pre.specs.Live.{body_at, live_in, live_row, put, shapes_of, token_row};
+ghost use Rattle.rz_pre.specs.Macros.{rows_of};
+
+use indexmap::IndexMap;
+use rz_core::{NoMemory, Word};
+use rz_lex::{Shape, Token, Tokens};
+use std::alloc::Global;
+
+/// The macros that were defined or undefined so far, by their names in lower case, in the order in which
+/// each was first named. One that is undefined has no tokens. (MPW Rez.)
+#[derive(Drop)]
+pub struct Macros {
+    held: IndexMap<Vec<u8>, Option<Tokens>>,
+}
+
+/// A name in lower case.
+fn lower(alloc: Global, name: &Word) -> Result<Vec<u8>, NoMemory>
+    ensures { IfOk result (λ lower. lower.items ≡ str_to_ascii_lowercase name.now.bytes) }
+{
+    Ok(name.bytes.as_slice().to_ascii_lowercase(alloc)?)
+}
+
+impl Macros {
+    /// No macros. It takes no memory.
+    pub fn new(alloc: Global) -> Macros
+        ensures { rows_of result ≡ [] }
+    {
+        Macros {
+            held: IndexMap::new(alloc),
+        }
+    }
+
+    /// From here on a word of this name stands for these tokens, whatever it stood for before. Where memory
+    /// is wanting, the macros stay as they were.
+    pub fn define(&mut self, alloc: Global, name: &Word, body: Tokens) -> Result<(), NoMemory>
+        ensures live { OnOk result ((other : List ℕ) → live_in (rows_of self.new) other
+            ≡ put (str_to_ascii_lowercase name.now.bytes) (Some (shapes_of body)) (live_in (rows_of self.old)) other) }
+        ensures unchanged { OnErr result (rows_of self.new ≡ rows_of self.old) }
+    {
+        let key = lower(alloc, name)?;
+        self.set(key, Some(body))
+    }
+
+    /// From here on a word of this name is no macro. Where memory is wanting, the macros stay as they were.
+    pub fn undefine(&mut self, alloc: Global, name: &Word) -> Result<(), NoMemory>
+        ensures live { OnOk result ((other : List ℕ) → live_in (rows_of self.new) other
+            ≡ put (str_to_ascii_lowercase name.now.bytes) None (live_in (rows_of self.old)) other) }
+        ensures unchanged { OnErr result (rows_of self.new ≡ rows_of self.old) }
+    {
+        let key = lower(alloc, name)?;
+        self.set(key, None)
+    }
+
+    fn set(&mut self, key: Vec<u8>, body: Option<Tokens>) -> Result<(), NoMemory>
+        ensures live { OnOk result ((other : List ℕ) → live_in (rows_of self.new) other
+            ≡ put key.items (option_map shapes_of body) (live_in (rows_of self.old)) other) }
+        ensures unchanged { OnErr result (rows_of self.new ≡ rows_of self.old) }
+    {
+        self.held.insert(key, body)?;
+        Ok(())
+    }
+
+    /// The position of a macro that is live. Case doesn't matter.
+    pub fn find(&self, alloc: Global, name: &Word) -> Result<Option<usize>, NoMemory>
+        ensures { IfOk result (λ found. found ≡ live_row (rows_of self.now) (str_to_ascii_lowercase name.now.bytes)) }
+    {
+        let key = lower(alloc, name)?;
+        Ok(self.live_at(&key))
+    }
+
+    /// The position of a macro that is live, by its name in lower case.
+    fn live_at(&self, name: &Vec<u8>) -> Option<usize>
+        ensures { result ≡ live_row (rows_of self.now) name.now.items }
+    {
+        match self.held.get_full(name) {
+            Some((index, _, body)) => { if body.is_some() { Some(index) } else { None } }
+            None => None,
+        }
+    }
+
+    /// The position of the live macro that a token names.
+    pub fn find_token(&self, alloc: Global, shape: &Shape) -> Result<Option<usize>, NoMemory>
+        ensures { IfOk result (λ found. found ≡ token_row (rows_of self.now) shape.now) }
+    {
+        match shape {
+            Shape::Word(word) => self.find(alloc, word),
+            _ => Ok(None),
+        }
+    }
+
+    /// The tokens of the macro at a position; none where there is no live macro.
+    pub fn body(&self, index: usize) -> &[Token]
+        ensures { shapes_of result.now ≡ body_at (rows_of self.now) index }
+    {
+        match self.held.get_index(index) {
+            Some((_, body)) => match body {
+                Some(tokens) => tokens.as_slice(),
+                None => &[],
+            },
+            None => &[],
+        }
+    }
+}
