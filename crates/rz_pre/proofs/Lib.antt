@@ -7,3 +7,7 @@ pub mod Made
 pub mod One
 pub mod Puts
 pub mod Replaced
+pub mod Asking
+pub mod Computing
+pub mod Numbering
+pub mod OneCondition

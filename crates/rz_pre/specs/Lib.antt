@@ -3,3 +3,4 @@ pub mod Expand
 pub mod Macros
 pub mod Steps
 pub mod Expanded
+pub mod Condition

@@ -13,7 +13,8 @@ pub fn copy_at(alloc: Global, shape: &Shape, mark: Mark) -> Result<Token, NoMemo
     Ok(Token { shape, mark })
 }
 
-fn copy_of(alloc: Global, shape: &Shape) -> Result<Shape, NoMemory>
+/// The same shape again.
+pub fn copy_of(alloc: Global, shape: &Shape) -> Result<Shape, NoMemory>
     ensures { IfOk result (λ copy. copy ≡ shape.now) }
 {
     match shape {

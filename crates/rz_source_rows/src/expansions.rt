@@ -13,7 +13,8 @@ const MOST: usize = 1_000_000;
 const FIFTEEN: &str =
     "A B B;B C C;C D D;D E E;E F F;F G G;G H H;H I I;I J J;J K K;K L L;L M M;M N N;N O O;O P P";
 
-fn tokens_of(alloc: Global, text: &str) -> Result<Tokens, Fail> {
+/// The tokens of a text.
+pub fn tokens_of(alloc: Global, text: &str) -> Result<Tokens, Fail> {
     if text.len() > MOST {
         return Err(Fail::from("too long for a test"));
     }
@@ -25,7 +26,7 @@ fn tokens_of(alloc: Global, text: &str) -> Result<Tokens, Fail> {
 
 /// Adds macros to others. Between two of them stands `;`, behind a name a blank and then its tokens; a `-`
 /// before a name undefines it.
-fn add(alloc: Global, macros: &mut Macros, definitions: &str) -> Result<(), Fail> {
+pub fn add(alloc: Global, macros: &mut Macros, definitions: &str) -> Result<(), Fail> {
     for definition in definitions.split(';') {
         let Some((name, body)) = definition.split_once(' ') else {
             return Err(Fail::from("no blank"));
