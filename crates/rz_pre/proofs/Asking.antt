@@ -1,12 +1,12 @@
 -- The questions of a condition.
-use Rattle.std.proofs.Common.{◌≡◌, ℕ, ◌+◌, ◌≤◌, Bool, List, [], ◌∷◌, ◌++◌, length, map, Option, Some, None, refl, sym, ap, subst, ◌∙◌, arith, append_assoc}
+use Rattle.std.proofs.Common.{◌≡◌, ℕ, List, [], ◌∷◌, ◌++◌, Option, Some, None, refl, sym, ap, subst, ◌∙◌, append_assoc}
 use Rattle.std.proofs.lemmas.List.{append-nil}
 use Rattle.std.specs.Option.{is_some}
 use Rattle.rz_lex.specs.Printed.{token_of}
 use Rattle.rz_lex.specs.declared.token.Shape.TheVariants as shapes
 use Rattle.rz_lex.specs.declared.token.Token.{Token}
 use Rattle.rz_pre.specs.Condition.{answer, asked, nothing, question, stays, Asked, Tells}
-use Rattle.rz_pre.specs.Live.{body_at, live_in, live_row, Live, Row}
+use Rattle.rz_pre.specs.Live.{live_in, live_row, Live, Row}
 use Rattle.rz_pre.proofs.Frames.{row_is, row_is_not}
 
 pub found_is_live : (rows : List Row) (name : List ℕ) → is_some (live_row rows name) ≡ is_some (live_in rows name)

@@ -11,3 +11,4 @@ pub mod Asking
 pub mod Computing
 pub mod Numbering
 pub mod OneCondition
+pub mod Turned

@@ -1,5 +1,5 @@
 -- A condition has at most one value or one fault.
-use Rattle.std.proofs.Common.{◌≡◌, ℤ, inl, inr, List, Option, Some, Ok, refl, sym, ap, subst, ◌∙◌}
+use Rattle.std.proofs.Common.{◌≡◌, ℤ, inl, inr, List, Ok, sym, subst, ◌∙◌}
 use Rattle.std.specs.Prelude.{◌⊎◌}
 use Rattle.std.specs.declared.result.Result.{Result}
 use Rattle.rz_core.specs.declared.fault.Fault.{Fault}

@@ -4,3 +4,4 @@ pub mod Macros
 pub mod Steps
 pub mod Expanded
 pub mod Condition
+pub mod Source

@@ -1,13 +1,9 @@
-//! Tests of the layers below the commands: conversions, messages, lines, tokens, expressions, macros
-//! and conditions. It has no code that ships.
+//! Tests of the layers below the commands: conversions, messages, lines, tokens and expressions. It has
+//! no code that ships.
 #![tactic(auto)]
 
 #[cfg(test)]
-mod conditions;
-#[cfg(test)]
 mod core_calls;
-#[cfg(test)]
-mod expansions;
 #[cfg(test)]
 mod expression_faults;
 #[cfg(test)]

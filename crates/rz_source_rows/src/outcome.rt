@@ -38,7 +38,7 @@ pub fn text_of_tokens(alloc: Global, tokens: &Tokens) -> Result<Bytes, Fail> {
 }
 
 /// The fault's number, its line, and what it keeps: a number in decimal, bytes as they are.
-pub fn text_of_fault(alloc: Global, fault: &Fault) -> Result<Bytes, Fail> {
+fn text_of_fault(alloc: Global, fault: &Fault) -> Result<Bytes, Fail> {
     let Some(mark) = fault.mark else {
         return Err(Fail::from("no mark"));
     };

@@ -1,4 +1,3 @@
-use Rattle.std.proofs.Common.{◌≡◌, ◌<◌, sym, ap, ◌∙◌}
 use Rattle.rz_expr.specs.Term.{term_of}
 use Rattle.rz_pre.proofs.Computing.{behind_end, faulty, none_no_value}
 use Rattle.rz_pre.proofs.condition.value_of.Goals as goal

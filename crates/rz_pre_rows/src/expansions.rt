@@ -1,53 +1,20 @@
-use crate::outcome::{text_of_fault, text_of_tokens};
-use rz_core::{Bytes, Stop, Word};
-use rz_lex::{Tokens, lex};
+use crate::outcome::{add, text_of_stop, text_of_tokens, tokens_of};
+use rz_core::Bytes;
 use rz_pre::{Macros, expand_all};
 use std::alloc::Global;
 use std::test::Fail;
-
-/// The most bytes of a text of a test.
-const MOST: usize = 1_000_000;
 
 /// Fifteen macros, each of which stands for two of the next: A for 32,768 words P, with 65,535 tokens
 /// handled.
 const FIFTEEN: &str =
     "A B B;B C C;C D D;D E E;E F F;F G G;G H H;H I I;I J J;J K K;K L L;L M M;M N N;N O O;O P P";
 
-/// The tokens of a text.
-pub fn tokens_of(alloc: Global, text: &str) -> Result<Tokens, Fail> {
-    if text.len() > MOST {
-        return Err(Fail::from("too long for a test"));
-    }
-    let Ok(tokens) = lex(alloc, text.as_bytes(), 0) else {
-        return Err(Fail::from("no tokens"));
-    };
-    Ok(tokens)
-}
-
-/// Adds macros to others. Between two of them stands `;`, behind a name a blank and then its tokens; a `-`
-/// before a name undefines it.
-pub fn add(alloc: Global, macros: &mut Macros, definitions: &str) -> Result<(), Fail> {
-    for definition in definitions.split(';') {
-        let Some((name, body)) = definition.split_once(' ') else {
-            return Err(Fail::from("no blank"));
-        };
-        let bytes = Bytes::of(alloc, name.trim_start_matches('-').as_bytes())?;
-        if name.starts_with('-') {
-            macros.undefine(alloc, &Word { bytes })?;
-        } else {
-            macros.define(alloc, &Word { bytes }, tokens_of(alloc, body)?)?;
-        }
-    }
-    Ok(())
-}
-
 /// What a text gives under macros, as text.
 fn outcome_of(alloc: Global, macros: &Macros, text: &str) -> Result<Bytes, Fail> {
     let tokens = tokens_of(alloc, text)?;
     match expand_all(alloc, macros, tokens.as_slice()) {
         Ok(tokens) => text_of_tokens(alloc, &tokens),
-        Err(Stop::Refused(fault)) => text_of_fault(alloc, &fault),
-        Err(Stop::NoMemory) => Err(Fail::from("no memory")),
+        Err(stop) => text_of_stop(alloc, &stop),
     }
 }
 

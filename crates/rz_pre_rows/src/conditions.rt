@@ -1,6 +1,5 @@
-use crate::expansions::{add, tokens_of};
-use crate::outcome::text_of_fault;
-use rz_core::{Bytes, Mark, Stop, write_signed};
+use crate::outcome::{add, text_of_stop, tokens_of};
+use rz_core::{Bytes, Mark, write_signed};
 use rz_pre::{Macros, Tool, compute_condition};
 use std::alloc::Global;
 use std::test::Fail;
@@ -23,8 +22,7 @@ fn outcome_of(alloc: Global, macros: &Macros, tool: Tool, text: &str) -> Result<
             write_signed(i64::from(value), &mut outcome)?;
             Ok(outcome)
         }
-        Err(Stop::Refused(fault)) => text_of_fault(alloc, &fault),
-        Err(Stop::NoMemory) => Err(Fail::from("no memory")),
+        Err(stop) => text_of_stop(alloc, &stop),
     }
 }
 

@@ -1,0 +1,11 @@
+//! Tests of the preprocessor: macros, conditions and the text of sources. It has no code that ships.
+#![tactic(auto)]
+
+#[cfg(test)]
+mod conditions;
+#[cfg(test)]
+mod expansions;
+#[cfg(test)]
+mod outcome;
+#[cfg(test)]
+mod sources;
