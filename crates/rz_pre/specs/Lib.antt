@@ -5,3 +5,4 @@ pub mod Steps
 pub mod Expanded
 pub mod Condition
 pub mod Source
+pub mod Directive

@@ -4,6 +4,7 @@
 
 mod condition;
 mod copy;
+mod directive;
 mod expanded;
 mod expansion;
 mod laws;
@@ -11,6 +12,7 @@ mod macros;
 mod source;
 
 pub use condition::{Tool, compute_condition, one_condition};
+pub use directive::{Directive, directive_of};
 pub use expanded::{expand_all, one_replacement};
 pub use expansion::{TooLong, expand};
 pub use laws::one_expansion;

@@ -1,8 +1,11 @@
-//! Tests of the preprocessor: macros, conditions and the text of sources. It has no code that ships.
+//! Tests of the preprocessor: macros, conditions, directives and the text of
+//! sources. It has no code that ships.
 #![tactic(auto)]
 
 #[cfg(test)]
 mod conditions;
+#[cfg(test)]
+mod directives;
 #[cfg(test)]
 mod expansions;
 #[cfg(test)]
