@@ -1,100 +1,110 @@
-use crate::fixed::{outcome_at, outcome_of};
+use crate::fixed::{is_row, outcome_at, outcome_of};
 use rz_core::Bytes;
 use std::test::Fail;
 
+/// Texts and what they give, behind ` => `; a line that begins with `//` says what is tried.
+const LONGEST: &str = r#"
+// where operands end
+ => none
+; => none
+) => none
+- => none
+- - - => none
++ 1 => none
+1 => 1
+1 2 => 1 to 1
+1 'A' => 1 to 1
+1 + ) => 1 to 1
+1 + 2 ; => 3 to 3
+1 - - 2 => 3
+1 - - 2 3 => 3 to 4
+1 + + 2 => 1 to 1
+1 * - ~ => 1 to 1
+1 + 2 * ) => 3 to 3
+1 * 2 + ; => 2 to 3
+1 || 2 * 3 && ] => 1 to 5
+1 = 2 => 1 to 1
+1 , 2 => 1 to 1
+1 ! 2 => 1 to 1
+1 } => 1 to 1
+- 1 : 2 => -1 to 2
+{ 1 } => none
+[ 1 ] => none
+"a" => none
+$"01" => none
+- "a" => none
+1 + "a" => 1 to 1
+// brackets
+( ) => none
+( 1 + 2 => none
+( 1 + ) => none
+( 1 2 ) => none
+( 1 , 2 ) => none
+( 1 ] => none
+( ( 1 ) => none
+- ( 1 => none
+( 1 ) ) => 1 to 3
+( 1 ) ( 2 ) => 1 to 3
+1 + ( 2 ; => 1 to 1
+1 + ( 2 ) ; => 3 to 5
+"#;
+
 #[test]
 fn longest_expression_is_read(rt: HostRuntime) -> Result<(), Fail> {
-    let texts = [
-        // where operands end
-        ("", "none"),
-        (";", "none"),
-        (")", "none"),
-        ("-", "none"),
-        ("- - -", "none"),
-        ("+ 1", "none"),
-        ("1", "1"),
-        ("1 2", "1 to 1"),
-        ("1 'A'", "1 to 1"),
-        ("1 + )", "1 to 1"),
-        ("1 + 2 ;", "3 to 3"),
-        ("1 - - 2", "3"),
-        ("1 - - 2 3", "3 to 4"),
-        ("1 + + 2", "1 to 1"),
-        ("1 * - ~", "1 to 1"),
-        ("1 + 2 * )", "3 to 3"),
-        ("1 * 2 + ;", "2 to 3"),
-        ("1 || 2 * 3 && ]", "1 to 5"),
-        ("1 = 2", "1 to 1"),
-        ("1 , 2", "1 to 1"),
-        ("1 ! 2", "1 to 1"),
-        ("1 }", "1 to 1"),
-        ("- 1 : 2", "-1 to 2"),
-        ("{ 1 }", "none"),
-        ("[ 1 ]", "none"),
-        ("\"a\"", "none"),
-        ("$\"01\"", "none"),
-        ("- \"a\"", "none"),
-        ("1 + \"a\"", "1 to 1"),
-        // brackets
-        ("( )", "none"),
-        ("( 1 + 2", "none"),
-        ("( 1 + )", "none"),
-        ("( 1 2 )", "none"),
-        ("( 1 , 2 )", "none"),
-        ("( 1 ]", "none"),
-        ("( ( 1 )", "none"),
-        ("- ( 1", "none"),
-        ("( 1 ) )", "1 to 3"),
-        ("( 1 ) ( 2 )", "1 to 3"),
-        ("1 + ( 2 ;", "1 to 1"),
-        ("1 + ( 2 ) ;", "3 to 5"),
-    ];
-    for (text, wanted) in texts {
+    for row in LONGEST.lines().filter(|row| is_row(row)) {
+        let Some((text, wanted)) = row.split_once(" => ") else {
+            return Err(Fail::from("no row"));
+        };
         let outcome = outcome_of(rt.alloc(), text)?;
         assert_eq!(rt; outcome.as_slice(), wanted.as_bytes(), "{text}");
     }
     Ok(())
 }
 
+/// Texts and what they give, behind ` => `; a line that begins with `//` says what is tried.
+const OPERANDS: &str = r#"
+// words
+here => 8
+HERE + hErE => 16
+here : => 8 to 1
+true => 1
+False => 0
+LOCKED => 16
+true = 1 => 1 to 1
+typed => UnknownName typed
+ID => UnknownName ID
+type => none
+Integer => none
+rez => none
+NOT => none
+- hex => none
+1 + type => 1 to 1
+// facts
+$$ID => 1
+$$Type => 2
+$$ATTRIBUTES => 3
+$$year => 4
+$$Month => 5
+$$Day => 6
+$$Hour => 7
+$$Minute => 8
+$$Second => 9
+$$weekday => 10
+- $$Year * $$MONTH => -20
+$$ID ( here ) => 1 to 1
+$$Name => none
+$$Date => none
+$$Format ( "a" ) => none
+$$Nothing => none
+$$here => none
+"#;
+
 #[test]
 fn words_and_facts_are_operands(rt: HostRuntime) -> Result<(), Fail> {
-    let texts = [
-        // words
-        ("here", "8"),
-        ("HERE + hErE", "16"),
-        ("here :", "8 to 1"),
-        ("true", "1"),
-        ("False", "0"),
-        ("LOCKED", "16"),
-        ("true = 1", "1 to 1"),
-        ("typed", "UnknownName typed"),
-        ("ID", "UnknownName ID"),
-        ("type", "none"),
-        ("Integer", "none"),
-        ("rez", "none"),
-        ("NOT", "none"),
-        ("- hex", "none"),
-        ("1 + type", "1 to 1"),
-        // facts
-        ("$$ID", "1"),
-        ("$$Type", "2"),
-        ("$$ATTRIBUTES", "3"),
-        ("$$year", "4"),
-        ("$$Month", "5"),
-        ("$$Day", "6"),
-        ("$$Hour", "7"),
-        ("$$Minute", "8"),
-        ("$$Second", "9"),
-        ("$$weekday", "10"),
-        ("- $$Year * $$MONTH", "-20"),
-        ("$$ID ( here )", "1 to 1"),
-        ("$$Name", "none"),
-        ("$$Date", "none"),
-        ("$$Format ( \"a\" )", "none"),
-        ("$$Nothing", "none"),
-        ("$$here", "none"),
-    ];
-    for (text, wanted) in texts {
+    for row in OPERANDS.lines().filter(|row| is_row(row)) {
+        let Some((text, wanted)) = row.split_once(" => ") else {
+            return Err(Fail::from("no row"));
+        };
         let outcome = outcome_of(rt.alloc(), text)?;
         assert_eq!(rt; outcome.as_slice(), wanted.as_bytes(), "{text}");
     }
@@ -120,80 +130,82 @@ fn expressions_begin_at_any_token(rt: HostRuntime) -> Result<(), Fail> {
     Ok(())
 }
 
+/// Texts and what they give, behind ` => `; a line that begins with `//` says what is tried.
+const FUNCTIONS: &str = r#"
+// numbers of rows
+$$CountOf ( rows ) => 5
+$$countof ( ROWS ) ; => 5 to 4
+- $$CountOf ( rows ) + 1 => -4
+$$CountOf ( true ) ; => 7 to 4
+$$CountOf => none
+$$CountOf rows => none
+$$CountOf ( ) => none
+$$CountOf ( rows => none
+$$CountOf ( rows ; => none
+$$CountOf ( rows , 1 ) => none
+$$CountOf ( rows + 1 ) => none
+$$CountOf ( ( rows ) ) => none
+$$CountOf { rows } => none
+$$CountOf ( 1 ) => none
+$$CountOf ( 'rows' ) => none
+$$CountOf ( "rows" ) => none
+$$CountOf ( type ) => none
+$$CountOf ( $$ID ) => none
+1 + $$CountOf ( ) => 1 to 1
+// bytes, words and longs
+$$Byte ( start ) => 165
+$$BYTE ( Here ) 1 => 127 to 4
+$$Word ( start ) => 42367
+$$word ( here ) => 32640
+$$Long ( start ) => -1518370756
+- $$Byte ( here ) + 1 => -126
+$$Byte => none
+$$Byte here => none
+$$Byte ( ) => none
+$$Byte ( true ) => none
+$$Word ( locked ) => none
+$$Long ( type ) => none
+$$Byte ( 8 ) => none
+$$Byte ( here , 1 ) => none
+$$Word ( here => none
+$$Byte ( $$ID ) => none
+// bits
+$$BitField ( here , 1 , 2 ) => 3
+$$BitField ( here , 1 , 2 ) ; => 3 to 8
+$$bitfield ( HERE , ( 1 ) , 2 + 3 ) + 1 => 32
+$$BitField ( here , -8 , 4 ) => 10
+$$BitField ( here , -8 , 32 ) => -1518370756
+$$BitField ( start , 1 , 31 ) => 629112892
+$$BitField ( start , 28 , 1 ) => 1
+$$BitField ( start , 31 , 1 ) => 0
+$$BitField ( far , -2147483639 , 8 ) => 127
+$$BitField ( start , $$BitField ( start , 0 , 3 ) , $$CountOf ( rows ) ) => 21
+$$BitField => none
+$$BitField ( ) => none
+$$BitField ( here ) => none
+$$BitField ( here , 1 ) => none
+$$BitField ( here , 1 , 2 => none
+$$BitField ( here , 1 , 2 ] => none
+$$BitField ( here , 1 , 2 , 3 ) => none
+$$BitField ( here , , 2 ) => none
+$$BitField ( here , 1 , ) => none
+$$BitField ( here , 1 2 , 3 ) => none
+$$BitField ( here , 1 , 2 3 ) => none
+$$BitField ( here ; 1 , 2 ) => none
+$$BitField ( here , 1 ; 2 ) => none
+$$BitField ( here 1 , 2 ) => none
+$$BitField ( 8 , 1 , 2 ) => none
+$$BitField ( true , 1 , 2 ) => none
+$$BitField ( type , 1 , 2 ) => none
+$$BitField here , 1 , 2 => none
+"#;
+
 #[test]
 fn functions_with_names_in_brackets(rt: HostRuntime) -> Result<(), Fail> {
-    let texts = [
-        // numbers of rows
-        ("$$CountOf ( rows )", "5"),
-        ("$$countof ( ROWS ) ;", "5 to 4"),
-        ("- $$CountOf ( rows ) + 1", "-4"),
-        ("$$CountOf ( true ) ;", "7 to 4"),
-        ("$$CountOf", "none"),
-        ("$$CountOf rows", "none"),
-        ("$$CountOf ( )", "none"),
-        ("$$CountOf ( rows", "none"),
-        ("$$CountOf ( rows ;", "none"),
-        ("$$CountOf ( rows , 1 )", "none"),
-        ("$$CountOf ( rows + 1 )", "none"),
-        ("$$CountOf ( ( rows ) )", "none"),
-        ("$$CountOf { rows }", "none"),
-        ("$$CountOf ( 1 )", "none"),
-        ("$$CountOf ( 'rows' )", "none"),
-        ("$$CountOf ( \"rows\" )", "none"),
-        ("$$CountOf ( type )", "none"),
-        ("$$CountOf ( $$ID )", "none"),
-        ("1 + $$CountOf ( )", "1 to 1"),
-        // bytes, words and longs
-        ("$$Byte ( start )", "165"),
-        ("$$BYTE ( Here ) 1", "127 to 4"),
-        ("$$Word ( start )", "42367"),
-        ("$$word ( here )", "32640"),
-        ("$$Long ( start )", "-1518370756"),
-        ("- $$Byte ( here ) + 1", "-126"),
-        ("$$Byte", "none"),
-        ("$$Byte here", "none"),
-        ("$$Byte ( )", "none"),
-        ("$$Byte ( true )", "none"),
-        ("$$Word ( locked )", "none"),
-        ("$$Long ( type )", "none"),
-        ("$$Byte ( 8 )", "none"),
-        ("$$Byte ( here , 1 )", "none"),
-        ("$$Word ( here", "none"),
-        ("$$Byte ( $$ID )", "none"),
-        // bits
-        ("$$BitField ( here , 1 , 2 )", "3"),
-        ("$$BitField ( here , 1 , 2 ) ;", "3 to 8"),
-        ("$$bitfield ( HERE , ( 1 ) , 2 + 3 ) + 1", "32"),
-        ("$$BitField ( here , -8 , 4 )", "10"),
-        ("$$BitField ( here , -8 , 32 )", "-1518370756"),
-        ("$$BitField ( start , 1 , 31 )", "629112892"),
-        ("$$BitField ( start , 28 , 1 )", "1"),
-        ("$$BitField ( start , 31 , 1 )", "0"),
-        ("$$BitField ( far , -2147483639 , 8 )", "127"),
-        (
-            "$$BitField ( start , $$BitField ( start , 0 , 3 ) , $$CountOf ( rows ) )",
-            "21",
-        ),
-        ("$$BitField", "none"),
-        ("$$BitField ( )", "none"),
-        ("$$BitField ( here )", "none"),
-        ("$$BitField ( here , 1 )", "none"),
-        ("$$BitField ( here , 1 , 2", "none"),
-        ("$$BitField ( here , 1 , 2 ]", "none"),
-        ("$$BitField ( here , 1 , 2 , 3 )", "none"),
-        ("$$BitField ( here , , 2 )", "none"),
-        ("$$BitField ( here , 1 , )", "none"),
-        ("$$BitField ( here , 1 2 , 3 )", "none"),
-        ("$$BitField ( here , 1 , 2 3 )", "none"),
-        ("$$BitField ( here ; 1 , 2 )", "none"),
-        ("$$BitField ( here , 1 ; 2 )", "none"),
-        ("$$BitField ( here 1 , 2 )", "none"),
-        ("$$BitField ( 8 , 1 , 2 )", "none"),
-        ("$$BitField ( true , 1 , 2 )", "none"),
-        ("$$BitField ( type , 1 , 2 )", "none"),
-        ("$$BitField here , 1 , 2", "none"),
-    ];
-    for (text, wanted) in texts {
+    for row in FUNCTIONS.lines().filter(|row| is_row(row)) {
+        let Some((text, wanted)) = row.split_once(" => ") else {
+            return Err(Fail::from("no row"));
+        };
         let outcome = outcome_of(rt.alloc(), text)?;
         assert_eq!(rt; outcome.as_slice(), wanted.as_bytes(), "{text}");
     }

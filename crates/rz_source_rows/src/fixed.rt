@@ -180,3 +180,8 @@ fn append_fault(fault: &EvalFault, text: &mut Bytes) -> Result<(), Fail> {
     }
     Ok(())
 }
+
+/// Whether a line of a table is a row: it isn't empty, and doesn't begin with `//`.
+pub fn is_row(line: &str) -> bool {
+    !line.is_empty() && !line.starts_with("//")
+}
