@@ -1,7 +1,7 @@
 ghost use Rattle.std.specs.Prelude.{◌≡◌, ◌+◌, ◌^◌, ◌<◌, ◌≤◌, pos, ◌+ℤ◌, option_map};
 ghost use Rattle.std.specs.Str.{str_eq_ignore_ascii_case};
 ghost use Rattle.std.proofs.Common.{rules};
-ghost use Rattle.rz_source_rows.specs.Fixed.{bits_of, fixed_bits, fixed_sight, natural_bits};
+ghost use Rattle.rz_expr_rows.specs.Fixed.{bits_of, fixed_bits, fixed_sight, natural_bits};
 
 use rz_core::{Bytes, Stop, Word, write_decimal, write_signed};
 use rz_expr::{Env, EvalFault, FactWord, eval, read_expr};
