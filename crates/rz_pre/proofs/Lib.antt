@@ -12,3 +12,7 @@ pub mod Computing
 pub mod Numbering
 pub mod OneCondition
 pub mod Turned
+pub mod Going
+pub mod Opening
+pub mod Names
+pub mod OneProgram

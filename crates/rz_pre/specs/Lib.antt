@@ -6,3 +6,7 @@ pub mod Expanded
 pub mod Condition
 pub mod Source
 pub mod Directive
+pub mod Answers
+pub mod Line
+pub mod Program
+pub mod Reading

@@ -141,7 +141,7 @@ fn answer(alloc: Global, macros: &Macros, name: &Word, mark: Mark) -> Result<Tok
 
 /// Whether a name is defined.
 #[tactic(auto, using(crate::proofs::Asking::found_is_live))]
-fn is_known(alloc: Global, macros: &Macros, name: &Word) -> Result<bool, NoMemory>
+pub fn is_known(alloc: Global, macros: &Macros, name: &Word) -> Result<bool, NoMemory>
     ensures { IfOk result (λ known. known ≡ is_known (live_in (rows_of macros.now)) name.now.bytes) }
 {
     if has_value(name) {

@@ -2,7 +2,7 @@ ghost use Rattle.std.specs.Prelude.{◌≡◌, IfOk};
 ghost use Rattle.rz_lex.specs.Printed.{token_of};
 
 use rz_core::{Bytes, Mark, NoMemory, Word};
-use rz_lex::{Shape, Token};
+use rz_lex::{Shape, Token, Tokens};
 use std::alloc::Global;
 
 /// A token of the same shape at a place.
@@ -18,12 +18,30 @@ pub fn copy_of(alloc: Global, shape: &Shape) -> Result<Shape, NoMemory>
     ensures { IfOk result (λ copy. copy ≡ shape.now) }
 {
     match shape {
-        Shape::Word(word) => Ok(Shape::Word(Word {
-            bytes: Bytes::of(alloc, word.bytes.as_slice())?,
-        })),
+        Shape::Word(word) => Ok(Shape::Word(copy_word(alloc, word)?)),
         Shape::Number(number) => Ok(Shape::Number(*number)),
         Shape::Literal(bytes) => Ok(Shape::Literal(Bytes::of(alloc, bytes.as_slice())?)),
         Shape::Text(bytes) => Ok(Shape::Text(Bytes::of(alloc, bytes.as_slice())?)),
         Shape::Sign(sign) => Ok(Shape::Sign(*sign)),
     }
+}
+
+/// The same word again.
+pub fn copy_word(alloc: Global, word: &Word) -> Result<Word, NoMemory>
+    ensures { IfOk result (λ copy. copy ≡ word.now) }
+{
+    Ok(Word {
+        bytes: Bytes::of(alloc, word.bytes.as_slice())?,
+    })
+}
+
+/// The same tokens again.
+pub fn copy_all(alloc: Global, tokens: &[Token]) -> Result<Tokens, NoMemory>
+    ensures { IfOk result (λ copy. copy ≡ tokens.now) }
+{
+    let mut copy = Tokens::new(alloc);
+    for token in tokens {
+        copy.push(copy_at(alloc, &token.shape, token.mark)?)?;
+    }
+    Ok(copy)
 }

@@ -1,7 +1,8 @@
 ghost use Rattle.std.specs.Prelude.{◌≡◌, ◌≤◌, length, option_map};
 ghost use Rattle.std.specs.List.{prefix_len};
 ghost use Rattle.rz_lex.specs.Classes.{is_blank, is_word_byte};
-ghost use Rattle.rz_pre.specs.Directive.{behind_hash, directive_in, directive_of, front_word, is, named, unblanked};
+ghost use Rattle.rz_pre.specs.Line.{behind_word, has_parameters};
+ghost use Rattle.rz_pre.specs.Directive.{behind_hash, directive_in, front_word, is, named, unblanked};
 
 /// Which directive a line is.
 #[derive(Clone, Copy, Debug, PartialEq, Eq)]
@@ -30,13 +31,46 @@ pub enum Directive {
     Other,
 }
 
-/// The directive of a logical line. `None` comes exactly where its first byte other than a blank isn't `#`.
-/// The case of the directive's word doesn't matter, and nothing behind it is looked at. (MPW Rez.)
-pub fn directive_of(line: &[u8]) -> Option<Directive>
-    ensures { result ≡ directive_of line.now }
+/// What stands behind the `#` of a directive. `None` comes exactly where the line's first byte other than a
+/// blank isn't `#`.
+pub fn directive_text(line: &[u8]) -> Option<&[u8]>
+    ensures { option_map (λ text. text.now) result ≡ behind_hash (unblanked line.now) }
 {
-    let rest = behind_hash(unblanked(line))?;
-    Some(directive_in(unblanked(rest)))
+    behind_hash(unblanked(line))
+}
+
+/// The directive whose text stands behind a `#`. The case of its word doesn't matter, and nothing behind it
+/// is looked at. (MPW Rez.)
+pub fn directive_in(text: &[u8]) -> Directive
+    ensures { result ≡ directive_in (unblanked text.now) }
+{
+    let rest = unblanked(text);
+    if rest.is_empty() {
+        Directive::Empty
+    } else {
+        named(front_word(rest))
+    }
+}
+
+/// Whether a bracket stands directly behind the name, which stands behind the directive's word.
+pub fn has_parameters(text: &[u8]) -> bool
+    ensures { result ≡ has_parameters text.now }
+{
+    let name = unblanked(behind_word(unblanked(text)));
+    behind_word(name).starts_with(b"(")
+}
+
+/// What follows the letters, digits and `_` at the front.
+fn behind_word(bytes: &[u8]) -> &[u8]
+    ensures { result.now ≡ behind_word bytes.now }
+{
+    let mut rest = bytes;
+    loop {
+        match rest {
+            [first, behind @ ..] if is_word_byte(*first) => rest = behind,
+            _ => return rest,
+        }
+    }
 }
 
 /// A line without the blanks at its front.
@@ -59,17 +93,6 @@ fn behind_hash(line: &[u8]) -> Option<&[u8]>
     match line {
         [b'#', rest @ ..] => Some(rest),
         _ => None,
-    }
-}
-
-/// The directive of what stands behind the `#` and its blanks.
-fn directive_in(bytes: &[u8]) -> Directive
-    ensures { result ≡ directive_in bytes.now }
-{
-    if bytes.is_empty() {
-        Directive::Empty
-    } else {
-        named(front_word(bytes))
     }
 }
 

@@ -38,7 +38,7 @@ fn expand_each(alloc: Global, macros: &Macros, tokens: &[Token]) -> Result<Token
 }
 
 /// Moves tokens behind others.
-fn append(tokens: &mut Tokens, more: Tokens) -> Result<(), NoMemory>
+pub fn append(tokens: &mut Tokens, more: Tokens) -> Result<(), NoMemory>
     ensures { OnOk result (tokens.new ≡ tokens.old ++ more) }
 {
     for token in more.into_vec() {

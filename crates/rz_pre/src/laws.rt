@@ -1,7 +1,24 @@
-ghost use Rattle.std.specs.Prelude.{◌≡◌, ℕ, List};
+ghost use Rattle.std.specs.Prelude.{◌≡◌, ℕ, List, Result};
+ghost use Rattle.rz_folder.specs.Folder.{Files};
 ghost use Rattle.rz_lex.specs.declared.token.Shape.{Shape};
 ghost use Rattle.rz_pre.specs.Expand.{Expansion};
 ghost use Rattle.rz_pre.specs.Live.{Live};
+ghost use Rattle.rz_pre.specs.Program.{Failure, ProgramGoes, State};
+ghost use Rattle.rz_pre.specs.declared.condition.Tool.{Tool};
+ghost use Rattle.rz_pre.specs.declared.program.Def.{Def};
+
+use rz_expr::one_expression;
+use rz_lex::{one_cut, one_list_of_lines};
+
+/// A law, with nothing to run: the named files mean at most one program or one first fault.
+pub fn one_program()
+    ensures { (files : Files) (tool : Tool) (names paths : List (List ℕ)) (defs : List Def) (one other : Result State Failure)
+        → ProgramGoes files tool names paths defs one → ProgramGoes files tool names paths defs other → one ≡ other }
+{
+    one_cut();
+    one_list_of_lines();
+    one_expression();
+}
 
 /// A law, with nothing to run: a token has at most one expansion, with one number of tokens that are handled
 /// for it.

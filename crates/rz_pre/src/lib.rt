@@ -2,19 +2,31 @@
 //! expansion, and the conditions.
 #![tactic(auto)]
 
+mod act;
 mod condition;
+mod conditional;
 mod copy;
 mod directive;
 mod expanded;
 mod expansion;
 mod laws;
+mod line;
 mod macros;
+mod open;
+mod unfolding;
+mod program;
+mod reading;
 mod source;
 
 pub use condition::{Tool, compute_condition, one_condition};
-pub use directive::{Directive, directive_of};
+pub use act::Act;
+pub use conditional::{Open, Part};
+pub use directive::Directive;
+pub use line::act_of;
 pub use expanded::{expand_all, one_replacement};
 pub use expansion::{TooLong, expand};
-pub use laws::one_expansion;
+pub use laws::{one_expansion, one_program};
 pub use macros::Macros;
+pub use unfolding::preprocess;
+pub use program::{Def, Defs, PreFault, Program};
 pub use source::{BadText, to_mac_roman};

@@ -1,10 +1,11 @@
-ghost use Rattle.std.specs.Prelude.{◌≡◌, ℕ, List, [], Some, None, IfOk, OnErr, OnOk, option_map};
+ghost use Rattle.std.specs.Prelude.{◌≡◌, ℕ, List, [], IfOk, OnOk, option_map, is_some};
 ghost use Rattle.std.specs.Str.{str_to_ascii_lowercase};
 ghost use Rattle.rz_pre.specs.Live.{body_at, live_in, live_row, put, shapes_of, token_row};
 ghost use Rattle.rz_pre.specs.Macros.{rows_of};
+ghost use Rattle.rz_pre.specs.Reading.{is_among};
 
 use indexmap::IndexMap;
-use rz_core::{NoMemory, Word};
+use rz_core::{Bytes, NoMemory, Word, Words};
 use rz_lex::{Shape, Token, Tokens};
 use std::alloc::Global;
 
@@ -32,34 +33,31 @@ impl Macros {
         }
     }
 
-    /// From here on a word of this name stands for these tokens, whatever it stood for before. Where memory
-    /// is wanting, the macros stay as they were.
-    pub fn define(&mut self, alloc: Global, name: &Word, body: Tokens) -> Result<(), NoMemory>
-        ensures live { OnOk result ((other : List ℕ) → live_in (rows_of self.new) other
-            ≡ put (str_to_ascii_lowercase name.now.bytes) (Some (shapes_of body)) (live_in (rows_of self.old)) other) }
-        ensures unchanged { OnErr result (rows_of self.new ≡ rows_of self.old) }
+    /// From here on a word of this name stands for these tokens, or for itself, whatever it stood for before.
+    pub fn set(&mut self, alloc: Global, name: &Word, body: Option<Tokens>) -> Result<(), NoMemory>
+        ensures { OnOk result (live_in (rows_of self.new)
+            ≡ put (str_to_ascii_lowercase name.now.bytes) (option_map shapes_of body) (live_in (rows_of self.old))) }
     {
         let key = lower(alloc, name)?;
-        self.set(key, Some(body))
-    }
-
-    /// From here on a word of this name is no macro. Where memory is wanting, the macros stay as they were.
-    pub fn undefine(&mut self, alloc: Global, name: &Word) -> Result<(), NoMemory>
-        ensures live { OnOk result ((other : List ℕ) → live_in (rows_of self.new) other
-            ≡ put (str_to_ascii_lowercase name.now.bytes) None (live_in (rows_of self.old)) other) }
-        ensures unchanged { OnErr result (rows_of self.new ≡ rows_of self.old) }
-    {
-        let key = lower(alloc, name)?;
-        self.set(key, None)
-    }
-
-    fn set(&mut self, key: Vec<u8>, body: Option<Tokens>) -> Result<(), NoMemory>
-        ensures live { OnOk result ((other : List ℕ) → live_in (rows_of self.new) other
-            ≡ put key.items (option_map shapes_of body) (live_in (rows_of self.old)) other) }
-        ensures unchanged { OnErr result (rows_of self.new ≡ rows_of self.old) }
-    {
         self.held.insert(key, body)?;
         Ok(())
+    }
+
+    /// The names that are live, in lower case.
+    pub fn names(&self, alloc: Global) -> Result<Words, NoMemory>
+        ensures { IfOk result (λ words. (name : List ℕ) → is_among name words ≡ is_some (live_in (rows_of self.now) name)) }
+    {
+        let mut words = Words::new(alloc);
+        for index in 0..self.held.len() {
+            if let Some((name, body)) = self.held.get_index(index) {
+                if body.is_some() {
+                    words.push(Word {
+                        bytes: Bytes::of(alloc, name)?,
+                    })?;
+                }
+            }
+        }
+        Ok(words)
     }
 
     /// The position of a macro that is live. Case doesn't matter.

@@ -1,5 +1,6 @@
 use Rattle.std.proofs.Common.{◌≡◌, ◌++◌, sym, ◌∙◌}
 use Rattle.rz_pre.specs.Source.{mark}
+use Rattle.rz_pre.proofs.Opening.{text_shorter}
 use Rattle.rz_pre.proofs.Turned.{each_fault, each_text, marked_fault, marked_text}
 use Rattle.rz_pre.proofs.source.to_mac_roman.Goals as goal
 
@@ -20,3 +21,6 @@ returns-in-Some-clause-every_fault c =
 
 pub returns-in-Some-clause-unmarked : goal.returns-in-Some-clause-unmarked
 returns-in-Some-clause-unmarked c unmarked = absurd (unmarked c.in-Some.text.now (sym c.as_slice.ensures ∙ c.in-Some.ensures))
+
+pub returns-in-Some-clause-shorter : goal.returns-in-Some-clause-shorter
+returns-in-Some-clause-shorter c = text_shorter c.args.source c.in-Some.text.now c.turn.result (sym c.as_slice.ensures ∙ c.in-Some.ensures) c.turn.ensures.text

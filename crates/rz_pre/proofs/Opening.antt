@@ -1,0 +1,93 @@
+-- Names of files, and the files under them.
+use Rattle.std.proofs.Common.{◌≡◌, ℕ, suc, ◌+◌, ◌<◌, ◌≤◌, Bool, true, false, ◌&&◌, inl, inr, List, [], ◌∷◌, ◌++◌, map, take, drop, get_or, length, Option, Some, None, Ok, Err, IfOk, IfSome, refl, sym, ap, subst, ◌∙◌, arith, append-nil, append_assoc, length-append}
+use Rattle.std.specs.Prelude.{slice_get}
+use Rattle.std.specs.FinMap as finite
+use Rattle.std.specs.Char.{encode_utf8}
+use Rattle.std.specs.Str.{all_scalars, encode_utf8_all}
+use Rattle.std.specs.declared.result.Result.{Result}
+use Rattle.std.proofs.lemmas.List.{at_drop_more, map-append, take_more}
+use Rattle.std.proofs.lemmas.Option.{slice_get_within, get_or_from_slice_get, same_Some}
+use Rattle.std.proofs.lemmas.Str.{encodes-append, len_utf8_bounds, length-encode}
+use Rattle.rz_core.specs.Lists.{take_at_more}
+use Rattle.rz_core.specs.Roman.{roman_byte, roman_char}
+use Rattle.rz_core.specs.declared.stop.Stop.{Stop}
+use Rattle.rz_core.specs.declared.stop.Stop.TheVariants as stops
+use Rattle.rz_folder.specs.Folder.{Files, Reads}
+use Rattle.rz_folder.specs.declared.folder.Read.TheVariants as read
+use Rattle.rz_pre.specs.Program.{file_of, first_file}
+use Rattle.rz_pre.specs.Source.{mark, Spells}
+use Rattle.rz_pre.specs.declared.source.BadText.{BadText}
+
+pub if_some : {A : Type 0} (o : Option A) (P : A → Type 0) → ((x : A) → o ≡ Some x → P x) → IfSome o P
+if_some None P so = tt
+if_some (Some x) P so = so x refl
+
+pub drop_at : {A : Type 0} (xs : List A) (k : ℕ) (x : A) → slice_get xs k ≡ Some x → drop k xs ≡ x ∷ drop (k + 1) xs
+drop_at xs k x is =
+    at_drop_more (λ (ys : List _). ys) xs k x (slice_get_within xs k x is) ∙ ap (λ y. y ∷ drop (k + 1) xs) (get_or_from_slice_get xs k x x is)
+
+-- What a read tells.
+
+pub reads_bytes : (name : List ℕ) (told : Option Files) (files : Files) (bytes : List ℕ) → told ≡ Some files → Reads name told (read.Bytes bytes) → finite.get files name ≡ Some bytes
+reads_bytes name None files bytes is reads = absurd cc
+reads_bytes name (Some others) files bytes is reads = subst (λ (fs : Files). finite.get fs name ≡ Some bytes) (same_Some others files is) reads.1
+
+pub reads_missing : (name : List ℕ) (told : Option Files) (files : Files) → told ≡ Some files → Reads name told read.Missing → finite.get files name ≡ None
+reads_missing name None files is reads = absurd cc
+reads_missing name (Some others) files is reads = subst (λ (fs : Files). finite.get fs name ≡ None) (same_Some others files is) reads.1
+
+module _ (files : Files) (names : List (List ℕ)) (k : ℕ) (name : List ℕ) (is : slice_get names k ≡ Some name) where
+  here : file_of files (drop k names) ≡ first_file name (finite.get files name) (file_of files (drop (k + 1) names))
+  here = ap (file_of files) (drop_at names k name is)
+
+  pub found_here : (bytes : List ℕ) → file_of files names ≡ file_of files (drop k names) → finite.get files name ≡ Some bytes → Some (name, bytes) ≡ file_of files names
+  found_here bytes so_far has =
+      sym (so_far ∙ here ∙ ap (λ (o : Option (List ℕ)). first_file name o (file_of files (drop (k + 1) names))) has)
+
+  pub found_later : file_of files names ≡ file_of files (drop k names) → finite.get files name ≡ None → file_of files names ≡ file_of files (drop (k + 1) names)
+  found_later so_far has =
+      so_far ∙ here ∙ ap (λ (o : Option (List ℕ)). first_file name o (file_of files (drop (k + 1) names))) has
+
+-- A name in UTF-8.
+
+pub utf8_more : (name : List ℕ) (i : ℕ) (before after : List ℕ) (c : ℕ) → i < length name → before ≡ encode_utf8_all (map roman_char (take i name))
+    → after ≡ before ++ encode_utf8 c → c ≡ roman_char (get_or name i 0) → after ≡ encode_utf8_all (map roman_char (take (i + 1) name))
+utf8_more name i before after c within so_far more is =
+    more ∙ ap (λ (l : List ℕ). l ++ encode_utf8 c) so_far
+    ∙ ap (λ (d : ℕ). encode_utf8_all (map roman_char (take i name)) ++ encode_utf8 d) is
+    ∙ ap (λ (l : List ℕ). encode_utf8_all (map roman_char (take i name)) ++ l) (sym (append-nil (encode_utf8 (roman_char (get_or name i 0)))))
+    ∙ sym (encodes-append (map roman_char (take i name)) (roman_char (get_or name i 0) ∷ []))
+    ∙ ap encode_utf8_all (sym (map-append roman_char (take i name) (get_or name i 0 ∷ [])))
+    ∙ ap (λ (l : List ℕ). encode_utf8_all (map roman_char l)) (sym (take_more name i 0 within))
+
+pub named_more : (own : List ℕ) (paths names after : List (List ℕ)) (k : ℕ) (path whole : List ℕ) → slice_get paths k ≡ Some path
+    → names ≡ own ∷ map (λ path. path ++ 47 ∷ own) (take k paths) → whole ≡ path ++ 47 ∷ own → after ≡ names ++ whole ∷ []
+    → after ≡ own ∷ map (λ path. path ++ 47 ∷ own) (take (k + 1) paths)
+named_more own paths names after k path whole is so_far built more =
+    more ∙ ap (λ (l : List (List ℕ)). l ++ whole ∷ []) so_far
+    ∙ ap (λ (w : List ℕ). own ∷ map (λ path. path ++ 47 ∷ own) (take k paths) ++ w ∷ []) built
+    ∙ ap (λ (l : List (List ℕ)). own ∷ l) (sym (map-append (λ (path : List ℕ). path ++ 47 ∷ own) (take k paths) (path ∷ [])))
+    ∙ ap (λ (l : List (List ℕ)). own ∷ map (λ path. path ++ 47 ∷ own) l) (sym (take_at_more paths k path is))
+
+-- A text in Mac Roman is not longer than its source.
+
+encodes_longer : (cs : List ℕ) → length cs ≤ length (encode_utf8_all cs)
+encodes_longer [] = omega arith
+encodes_longer (c ∷ cs) =
+    let one = len_utf8_bounds c in
+    omega (arith, length-append (encode_utf8 c) (encode_utf8_all cs), length-encode c, one.0, encodes_longer cs)
+
+each_one : (cs bytes : List ℕ) → map roman_byte cs ≡ map Some bytes → length bytes ≡ length cs
+each_one [] [] e = refl
+each_one [] (b ∷ bytes) e = absurd (cc e)
+each_one (c ∷ cs) [] e = absurd (cc e)
+each_one (c ∷ cs) (b ∷ bytes) e =
+    let later : map roman_byte cs ≡ map Some bytes = cc e in
+    ap (λ n. suc n) (each_one cs bytes later)
+
+spells_shorter : (utf8 bytes : List ℕ) → Spells utf8 bytes → length bytes ≤ length utf8
+spells_shorter utf8 bytes s = omega (arith, each_one s.characters bytes s.each, encodes_longer s.characters, ap length s.encoded)
+
+pub text_shorter : (source utf8 : List ℕ) (result : Result (List ℕ) (Stop BadText)) → source ≡ mark ++ utf8 → IfOk result (Spells utf8) → IfOk result (λ text. length text ≤ length source)
+text_shorter source utf8 (Ok text) is spells = omega (arith, spells_shorter utf8 text spells, ap length is, length-append mark utf8)
+text_shorter source utf8 (Err stop) is spells = tt

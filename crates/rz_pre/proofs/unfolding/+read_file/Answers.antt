@@ -1,0 +1,87 @@
+use Rattle.std.proofs.Common.{◌≡◌, ℕ, suc, ◌+◌, ◌-◌, ◌<◌, ◌≤◌, ◌^◌, List, length, rules, reverse, Ok, Err, Some, None, IfSome, refl, sym, ap, subst, ◌∙◌, arith}
+use Rattle.std.specs.declared.option.Option.{Option}
+use Rattle.std.proofs.lemmas.Result.{err_from_is_err_and}
+use Rattle.rz_folder.specs.Folder.{Files}
+use Rattle.rz_lex.specs.Joined.{ahead}
+use Rattle.rz_lex.specs.declared.joined.Position.{Position}
+use Rattle.rz_lex.specs.declared.raw_line.RawLine.{RawLine}
+use Rattle.rz_pre.specs.Reading.{state_of}
+use Rattle.rz_pre.proofs.Going.{at_some, left_at_end, left_in_comment, left_in_line, left_in_opening, left_inside, on_behind, on_inside}
+use Rattle.rz_pre.proofs.Opening.{if_some}
+use Rattle.rz_pre.proofs.unfolding.+read_file.Goals as goal
+use Rattle.rz_pre.proofs.unfolding.+read_file.Goals.{in-Some-2+in_ok-source+in_ok-read_file, in_default-2}
+
+pub read_file-requires : goal.read_file-requires
+read_file-requires g t c =
+    let smaller : c.args.levels - 1 < c.args.levels = omega (arith, c.in_ok-source.ensures.deep) in
+    let short : length c.as_slice-in-Some-2.result.now < 2 ^ 32 = subst (λ (text : List ℕ). length text < 2 ^ 32) (sym c.as_slice-in-Some-2.ensures) c.in_ok-source.ensures.short in
+    search rules
+
+pub returns-in_err-line-clause-read : goal.returns-in_err-line-clause-read
+returns-in_err-line-clause-read g t c = if_some (g.F.Folder.files c.args.folder.now) _ (λ files told.
+    let p = err_from_is_err_and c.from_residual.result c.from_residual.ensures.1 in
+    rw (p.1, p.2) (left_in_comment c.args.setting.tool files c.args.setting.paths.now c.args.levels c.args.file c.args.text.now (state_of c.args.reading.now)
+    (ahead c.loop-opens.place) (reverse c.loop-opens.opens.items) (state_of c.loop-opens.reading) (c.loop-opens.invariant.leads files told)
+    (Option (RawLine × Position)) c.in_err-line.field-0.0 c.in_err-line.ensures.comment))
+
+pub returns-in_err-name-clause-read : goal.returns-in_err-name-clause-read
+returns-in_err-name-clause-read g t c = if_some (g.F.Folder.files c.args.folder.now) _ (λ files told.
+    let p = err_from_is_err_and c.from_residual-in_err-name.result c.from_residual-in_err-name.ensures.1 in
+    rw (p.1, p.2) (left_in_line c.args.setting.tool files c.args.setting.paths.now c.args.levels c.args.file c.args.text.now (state_of c.args.reading.now)
+    (ahead c.loop-opens.place) (reverse c.loop-opens.opens.items) (state_of c.loop-opens.reading) (c.loop-opens.invariant.leads files told)
+    c.in-Some.line (ahead c.in-Some.after) (rw c.in-Some.is at c.in_ok-line.ensures.line) (c.every_text_has_lines.ensures c.args.file (ahead c.in-Some.after))
+    c.in_err-name.field-0.0 _ _ c.in_err-name.ensures))
+
+pub returns-in_err-source-clause-read : goal.returns-in_err-source-clause-read
+returns-in_err-source-clause-read g t c = if_some (g.F.Folder.files c.args.folder.now) _ (λ files told.
+    let p = err_from_is_err_and c.from_residual-in_err-source.result c.from_residual-in_err-source.ensures.1 in
+    rw (p.1, p.2) (left_in_opening c.args.setting.tool files c.args.setting.paths.now c.args.levels c.args.file c.args.text.now (state_of c.args.reading.now)
+    (ahead c.loop-opens.place) (reverse c.loop-opens.opens.items) (state_of c.loop-opens.reading) (c.loop-opens.invariant.leads files told)
+    c.in-Some.line (ahead c.in-Some.after) (rw c.in-Some.is at c.in_ok-line.ensures.line)
+    c.in-Some-2.name _ _ (rw c.in-Some-2.is at c.in_ok-name.ensures) (c.every_text_has_lines.ensures c.args.file (ahead c.in-Some.after))
+    c.in_err-source.field-0.0 _ (at_some _ files (c.loop-opens.invariant.unchanged ∙ told) _ (rw c.as_slice.ensures at c.in_err-source.ensures.opened))))
+
+pub returns-in_err-read_file-clause-read : goal.returns-in_err-read_file-clause-read
+returns-in_err-read_file-clause-read g t c = if_some (g.F.Folder.files c.args.folder.now) _ (λ files told.
+    let p = err_from_is_err_and c.from_residual-in_err-read_file.result c.from_residual-in_err-read_file.ensures.1 in
+    rw (p.1, p.2) (left_inside c.args.setting.tool files c.args.setting.paths.now c.args.levels c.args.file c.args.text.now (state_of c.args.reading.now)
+    (ahead c.loop-opens.place) (reverse c.loop-opens.opens.items) (state_of c.loop-opens.reading) (c.loop-opens.invariant.leads files told)
+    c.in-Some.line (ahead c.in-Some.after) (rw c.in-Some.is at c.in_ok-line.ensures.line)
+    c.in-Some-2.name _ _ (rw c.in-Some-2.is at c.in_ok-name.ensures)
+    c.in_ok-source.source _ (c.args.levels - 1) (omega (arith, c.in_ok-source.ensures.deep))
+    (at_some _ files (c.loop-opens.invariant.unchanged ∙ told) _ (rw c.as_slice.ensures at c.in_ok-source.ensures.opened)) (c.every_text_has_lines.ensures c.args.file (ahead c.in-Some.after))
+    c.in_err-read_file.field-0.0 _ (at_some _ files (c.in_ok-source.ensures.unchanged ∙ c.loop-opens.invariant.unchanged ∙ told) _ (rw (c.as_slice-in-Some-2.ensures, c.len-inner.ensures) at c.in_err-read_file.ensures.read))))
+
+pub loop-opens-preserved : goal.loop-opens-preserved
+loop-opens-preserved g t c = record {
+  leads = elim c.match-branch-4.branch [
+    | in-Some-2+in_ok-source+in_ok-read_file w ↦ λ files told.
+        rw w.reading-is (on_inside c.args.setting.tool files c.args.setting.paths.now c.args.levels c.args.file c.args.text.now (state_of c.args.reading.now)
+        (ahead c.loop-opens.place) (reverse c.loop-opens.opens.items) (state_of c.loop-opens.reading) (c.loop-opens.invariant.leads files told)
+        c.in-Some.line (ahead c.in-Some.after) (rw c.in-Some.is at c.in_ok-line.ensures.line)
+        w.in-Some-2.name _ _ (rw w.in-Some-2.is at c.in_ok-name.ensures)
+        w.in_ok-source.source _ (c.args.levels - 1) (omega (arith, w.in_ok-source.ensures.deep))
+        (at_some _ files (c.loop-opens.invariant.unchanged ∙ told) _ (rw w.as_slice.ensures at w.in_ok-source.ensures.opened))
+        _ (at_some _ files (w.in_ok-source.ensures.unchanged ∙ c.loop-opens.invariant.unchanged ∙ told) _ (rw (w.as_slice-in-Some-2.ensures, w.len-inner.ensures) at w.in_ok-read_file.ensures.read)))
+    | in_default-2 w ↦ λ files told.
+        rw w.reading-is (on_behind c.args.setting.tool files c.args.setting.paths.now c.args.levels c.args.file c.args.text.now (state_of c.args.reading.now)
+        (ahead c.loop-opens.place) (reverse c.loop-opens.opens.items) (state_of c.loop-opens.reading) (c.loop-opens.invariant.leads files told)
+        c.in-Some.line (ahead c.in-Some.after) (rw c.in-Some.is at c.in_ok-line.ensures.line)
+        _ _ (rw w.in_default-2.is at c.in_ok-name.ensures))
+  ];
+  within = let on = rw c.in-Some.is at c.in_ok-line.ensures.further in omega (arith, on.within, c.loop-opens.invariant.within);
+  unchanged = elim c.match-branch-4.branch [
+    | in-Some-2+in_ok-source+in_ok-read_file w ↦ rw w.folder-is (w.in_ok-read_file.ensures.unchanged ∙ w.in_ok-source.ensures.unchanged ∙ c.loop-opens.invariant.unchanged)
+    | in_default-2 w ↦ rw w.folder-is c.loop-opens.invariant.unchanged
+  ];
+  counted = elim c.match-branch-4.branch [
+    | in-Some-2+in_ok-source+in_ok-read_file w ↦ rw w.folder-is (omega (arith, w.in_ok-read_file.ensures.counted, w.in_ok-source.ensures.counted, c.loop-opens.invariant.counted))
+    | in_default-2 w ↦ rw w.folder-is c.loop-opens.invariant.counted
+  ];
+}
+
+pub returns-clause-read : goal.returns-clause-read
+returns-clause-read g t c = if_some (g.F.Folder.files c.args.folder.now) _ (λ files told.
+    left_at_end c.args.setting.tool files c.args.setting.paths.now c.args.levels c.args.file c.args.text.now (state_of c.args.reading.now)
+    (ahead c.loop-opens.place) (reverse c.loop-opens.opens.items) (state_of c.loop-opens.reading) (c.loop-opens.invariant.leads files told)
+    (rw c.in_default.is at c.in_ok-line.ensures.end) c.end.result (rw c.deref.ensures.value at c.end.ensures.end (state_of c.loop-opens.reading)))

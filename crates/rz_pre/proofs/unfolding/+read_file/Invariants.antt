@@ -1,0 +1,23 @@
+use Rattle.std.proofs.Common.{◌≡◌, ◌+◌, ◌^◌, ◌≤◌, length, reverse, Some}
+use Rattle.rz_folder.specs.Folder.{Files}
+use Rattle.rz_lex.specs.Joined.{ahead}
+use Rattle.rz_pre.specs.Program.{IncludedGoes}
+use Rattle.rz_pre.specs.Reading.{state_of}
+use Rattle.rz_pre.proofs.Going.{LinesLead}
+use Rattle.rz_pre.proofs.unfolding.+read_file.Given as goal
+
+abbrev pub decreases-read_file : goal.decreases-read_file
+decreases-read_file g l = l.levels
+
+abbrev pub invariant-loop-opens : goal.invariant-loop-opens
+invariant-loop-opens g l = record {
+  leads : (files : Files) → g.F.Folder.files l.fn.folder ≡ Some files
+      → LinesLead (IncludedGoes l.setting.tool files l.setting.paths.now l.levels) l.setting.tool l.file l.text (state_of l.fn.reading)
+      (ahead l.place) (reverse l.opens.items) (state_of l.reading);
+  within : l.place.line + length l.place.rest.now ≤ 2 ^ 32;
+  unchanged : g.F.Folder.files l.folder ≡ g.F.Folder.files l.fn.folder;
+  counted : g.F.Folder.read_faults l.fn.folder ≤ g.F.Folder.read_faults l.folder;
+}
+
+abbrev pub decreases-loop-opens : goal.decreases-loop-opens
+decreases-loop-opens g l = length l.place.rest.now

@@ -1,0 +1,35 @@
+use Rattle.std.proofs.Common.{◌≡◌, ◌+◌, ◌∙◌, List, drop, subst, arith, refl, Ok}
+use Rattle.std.proofs.lemmas.List.{at_drop_all}
+use Rattle.std.proofs.lemmas.Option.{slice_get_within}
+use Rattle.std.proofs.lemmas.Result.{err_from_is_err_and}
+use Rattle.rz_pre.specs.Reading.{state_of}
+use Rattle.rz_pre.proofs.Going.{at_some, left_in_named, on_named, NamesLead}
+use Rattle.rz_pre.proofs.Opening.{drop_at, if_some}
+use Rattle.rz_pre.proofs.unfolding.read_names.Goals as goal
+
+pub returns-in_err-read_named-clause-read : goal.returns-in_err-read_named-clause-read
+returns-in_err-read_named-clause-read g c = if_some (g.F.Folder.files c.args.folder.now) _ (λ files told.
+    let p = err_from_is_err_and c.from_residual.result c.from_residual.ensures.1 in
+    rw (p.1, p.2) (left_in_named c.args.setting.tool files c.args.setting.paths.now c.args.names.now (drop (c.loop-k.k + 1) c.args.names.now)
+    (state_of c.args.reading.now) (state_of c.loop-k.reading) c.at.result.now
+    (subst (λ (rest : List _). NamesLead c.args.setting.tool files c.args.setting.paths.now c.args.names.now rest (state_of c.args.reading.now) (state_of c.loop-k.reading))
+    (drop_at c.args.names.now c.loop-k.k c.at.result.now c.at.ensures) (c.loop-k.invariant.leads files told))
+    c.in_err-read_named.field-0.0 _ (at_some _ files (c.loop-k.invariant.unchanged ∙ told) _ c.in_err-read_named.ensures.read)))
+
+pub loop-k-preserved : goal.loop-k-preserved
+loop-k-preserved g c = record {
+  leads = λ files told. on_named c.args.setting.tool files c.args.setting.paths.now c.args.names.now (drop (c.loop-k.k + 1) c.args.names.now)
+      (state_of c.args.reading.now) (state_of c.loop-k.reading) c.at.result.now
+      (subst (λ (rest : List _). NamesLead c.args.setting.tool files c.args.setting.paths.now c.args.names.now rest (state_of c.args.reading.now) (state_of c.loop-k.reading))
+      (drop_at c.args.names.now c.loop-k.k c.at.result.now c.at.ensures) (c.loop-k.invariant.leads files told))
+      _ (at_some _ files (c.loop-k.invariant.unchanged ∙ told) _ c.in_ok-read_named.ensures.read);
+  within = let lt = slice_get_within c.args.names.now c.loop-k.k c.at.result.now c.at.ensures in omega (arith, lt);
+  unchanged = c.in_ok-read_named.ensures.unchanged ∙ c.loop-k.invariant.unchanged;
+  counted = omega (arith, c.in_ok-read_named.ensures.counted, c.loop-k.invariant.counted);
+}
+
+pub returns-clause-read : goal.returns-clause-read
+returns-clause-read g c = if_some (g.F.Folder.files c.args.folder.now) _ (λ files told.
+    subst (λ (rest : List _). NamesLead c.args.setting.tool files c.args.setting.paths.now c.args.names.now rest (state_of c.args.reading.now) (state_of c.loop-k.reading))
+    (at_drop_all (λ (rest : List _). rest) c.args.names.now c.loop-k.k (omega (arith, c.loop-k-test.false, c.len.ensures))) (c.loop-k.invariant.leads files told)
+    (Ok (state_of c.loop-k.reading)) refl)

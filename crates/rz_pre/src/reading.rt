@@ -1,0 +1,155 @@
+ghost use Rattle.std.specs.Prelude.{◌≡◌, [], reverse, IfOk, OnOk};
+ghost use Rattle.rz_core.specs.declared.fault.Mark.{Mark};
+ghost use Rattle.rz_pre.specs.declared.act.Act.TheVariants.{Begin, Turn};
+ghost use Rattle.rz_pre.specs.Program.{innermost, opens_after, start, state_after};
+ghost use Rattle.rz_pre.specs.Reading.{halt_of, included_in, state_of, Steps};
+ghost use Rattle.rz_pre.specs.declared.reading.Halt.TheVariants.{NoMemory as no_memory};
+
+use crate::act::Act;
+use crate::condition::Tool;
+use crate::conditional::{Open, Part};
+use crate::expanded::append;
+use crate::line::act_of;
+use crate::macros::Macros;
+use rz_core::{Bytes, Fault, FileNames, Mark, NoMemory, Stop};
+use rz_lex::{RawLine, Tokens};
+use std::alloc::Global;
+
+/// Why reading stopped.
+#[derive(Debug, Drop)]
+pub enum Halt {
+    /// A rule is broken.
+    Refused(Fault),
+    /// A file could not be read.
+    ReadFault,
+    /// Memory was refused.
+    NoMemory,
+}
+
+impl From<NoMemory> for Halt {
+    ghost from_gives = { λ _ halt. halt ≡ no_memory };
+
+    fn from(_: NoMemory) -> Self {
+        Halt::NoMemory
+    }
+}
+
+impl From<Stop<Fault>> for Halt {
+    ghost from_gives = { λ stop halt. halt ≡ halt_of stop };
+
+    fn from(stop: Stop<Fault>) -> Self {
+        match stop {
+            Stop::Refused(fault) => Halt::Refused(fault),
+            Stop::NoMemory => Halt::NoMemory,
+        }
+    }
+}
+
+/// What was read so far.
+#[derive(Drop)]
+pub struct Reading {
+    /// What the words of the source stand for.
+    pub macros: Macros,
+    /// The tokens that were put out.
+    pub tokens: Tokens,
+    /// The names under which files were opened.
+    pub files: FileNames,
+}
+
+impl Reading {
+    /// Nothing was read, and no word stands for anything.
+    pub fn new(alloc: Global) -> Reading
+        ensures { state_of result ≡ start [] }
+    {
+        Reading {
+            macros: Macros::new(alloc),
+            tokens: Tokens::new(alloc),
+            files: FileNames::new(alloc),
+        }
+    }
+}
+
+/// Does what a logical line does, but for the file that it includes, whose name is given back.
+pub fn step(
+    alloc: Global,
+    tool: Tool,
+    line: &RawLine,
+    opens: &mut Vec<Open>,
+    reading: &mut Reading,
+) -> Result<Option<Bytes>, Stop<Fault>>
+    ensures { Steps tool line.now (reverse opens.old.items) (state_of reading.old) result (reverse opens.new.items) (state_of reading.new) }
+{
+    let act = act_of(alloc, &reading.macros, tool, innermost(opens), line)?;
+    Ok(follow(alloc, act, line.mark, opens, reading)?)
+}
+
+/// The innermost conditional that is open.
+fn innermost(opens: &[Open]) -> Option<Open>
+    ensures { result ≡ innermost (reverse opens.now) }
+{
+    opens.last().copied()
+}
+
+/// Does this, but for an included file.
+fn follow(
+    alloc: Global,
+    act: Act,
+    mark: Mark,
+    opens: &mut Vec<Open>,
+    reading: &mut Reading,
+) -> Result<Option<Bytes>, NoMemory>
+    ensures name { IfOk result (λ name. name ≡ included_in act) }
+    ensures opens { OnOk result (reverse opens.new.items ≡ opens_after mark act (reverse opens.old.items)) }
+    ensures state { OnOk result (state_of reading.new ≡ state_after act (state_of reading.old)) }
+{
+    match act {
+        Act::Nothing => Ok(None),
+        Act::Put(tokens) => {
+            append(&mut reading.tokens, tokens)?;
+            Ok(None)
+        }
+        Act::Include(name) => Ok(Some(name)),
+        Act::Set(word, body) => {
+            reading.macros.set(alloc, &word, body)?;
+            Ok(None)
+        }
+        Act::Begin(part) => {
+            begin(opens, mark, part)?;
+            Ok(None)
+        }
+        Act::Turn(part, is_last) => {
+            turn(opens, part, is_last)?;
+            Ok(None)
+        }
+        Act::End => {
+            opens.pop();
+            Ok(None)
+        }
+    }
+}
+
+/// Begins a conditional.
+fn begin(opens: &mut Vec<Open>, mark: Mark, part: Part) -> Result<(), NoMemory>
+    ensures { OnOk result (reverse opens.new.items ≡ opens_after mark (Begin part) (reverse opens.old.items)) }
+{
+    opens.push(Open {
+        mark,
+        part,
+        is_last: false,
+    })?;
+    Ok(())
+}
+
+/// Goes to the next part of the innermost conditional.
+fn turn(opens: &mut Vec<Open>, part: Part, is_last: bool) -> Result<(), NoMemory>
+    ensures { (mark : Mark) → OnOk result (reverse opens.new.items ≡ opens_after mark (Turn part is_last) (reverse opens.old.items)) }
+{
+    if let Some(innermost) = opens.pop() {
+        opens.push(Open {
+            mark: innermost.mark,
+            part,
+            is_last,
+        })?;
+    }
+    Ok(())
+}

@@ -1,0 +1,260 @@
+ghost use Rattle.std.specs.Prelude.{◌≡◌, ℕ, ◌<◌, ◌≤◌, ◌^◌, List, [], length, reverse, Result, Err, IfOk, IfSome, OnOk, MatchOption};
+ghost use Rattle.rz_pre.specs.Live.{live_in};
+ghost use Rattle.rz_pre.specs.Macros.{rows_of};
+ghost use Rattle.rz_folder.specs.Counts.{Rose};
+ghost use Rattle.rz_pre.specs.Program.{ends, live_after, open_if, start, too_deep, Enters, Failure, IncludedGoes, NamedGoes, NamesGo, ProgramGoes, State, TextGoes};
+ghost use Rattle.rz_pre.specs.Reading.{alone, state_of, together, Answers, Finishes, IsProgram, IsQuiet, Leaves, Matches, OnReadFault};
+ghost use Rattle.rz_pre.specs.declared.program.PreFault.TheVariants.{ReadFault};
+
+use crate::condition::Tool;
+use crate::conditional::Open;
+use crate::copy::copy_all;
+use crate::laws::one_program;
+use crate::macros::Macros;
+use crate::open::{names_of, open_file};
+use crate::program::{Defs, PreFault, Program};
+use crate::reading::{Halt, Reading, step};
+use rz_core::{Bytes, Fault, FileNames, Kept, Mark, NoMemory};
+use rz_folder::Folder;
+use rz_lex::{Position, every_text_has_lines, next_line};
+use std::alloc::Global;
+
+/// How many levels deep a file on level 1 may include files.
+const LEVELS_BELOW: u32 = 15;
+
+/// What is the same for all files.
+#[derive(Clone, Copy)]
+struct Setting<'a> {
+    tool: Tool,
+    paths: &'a FileNames,
+}
+
+/// Reads a file that was opened, and those that it includes, so many levels deep.
+fn read_file<F: Folder>(
+    alloc: Global,
+    folder: &mut F,
+    setting: Setting<'_>,
+    levels: u32,
+    file: u64,
+    text: &[u8],
+    reading: &mut Reading,
+) -> Result<(), Halt>
+    requires { length text.now < 2 ^ 32 }
+    ensures read { IfSome (F.files folder.old) (λ files. Leaves alone result (state_of reading.new)
+        (TextGoes (IncludedGoes setting.entry.tool files setting.entry.paths.now levels) setting.entry.tool file text.now (state_of reading.old))) }
+    ensures unchanged { F.files folder.new ≡ F.files folder.old }
+    ensures counted { F.read_faults folder.old ≤ F.read_faults folder.new }
+    ensures cause { OnReadFault result (Rose (F.read_faults folder.old) (F.read_faults folder.new)) }
+{
+    every_text_has_lines();
+    let mut opens: Vec<Open> = Vec::new(alloc);
+    let mut place = Position {
+        rest: text,
+        line: 1,
+    };
+    while let Some((line, after)) = next_line(alloc, file, place)? {
+        if let Some(name) = step(alloc, setting.tool, &line, &mut opens, reading)? {
+            let inner = reading.files.len();
+            let source = open_included(alloc, folder, setting, levels, name.as_slice(), line.mark, reading)?;
+            read_file(alloc, folder, setting, levels - 1, inner, source.as_slice(), reading)?;
+        }
+        place = after;
+    }
+    end(&opens)
+}
+
+/// Behind the last line of a file no conditional may be open.
+fn end(opens: &[Open]) -> Result<(), Halt>
+    ensures end { (s : State) → Leaves alone result s (λ answer. answer ≡ ends (reverse opens.now) s) }
+    ensures quiet { IsQuiet result }
+{
+    match opens.last() {
+        Some(innermost) => Err(Halt::Refused(open_if(*innermost))),
+        None => Ok(()),
+    }
+}
+
+/// 105 for a conditional.
+fn open_if(conditional: Open) -> Fault
+    ensures { result ≡ open_if conditional }
+{
+    Fault {
+        number: 105,
+        mark: Some(conditional.mark),
+        kept: Kept::Nothing,
+    }
+}
+
+/// 103 on a line.
+fn too_deep(mark: Mark) -> Fault
+    ensures { result ≡ too_deep mark }
+{
+    Fault {
+        number: 103,
+        mark: Some(mark),
+        kept: Kept::Number(17),
+    }
+}
+
+/// Opens the file that a line includes.
+fn open_included<F: Folder>(
+    alloc: Global,
+    folder: &mut F,
+    setting: Setting<'_>,
+    levels: u32,
+    name: &[u8],
+    mark: Mark,
+    reading: &mut Reading,
+) -> Result<Bytes, Halt>
+    ensures opened { IfSome (F.files folder.old) (λ files. Leaves together result (state_of reading.new)
+        (Enters files setting.entry.paths.now levels name.now mark (state_of reading.old))) }
+    ensures deep { IfOk result (λ _. 0 < levels) }
+    ensures short { IfOk result (λ text. length text < 2 ^ 32) }
+    ensures unchanged { F.files folder.new ≡ F.files folder.old }
+    ensures counted { F.read_faults folder.old ≤ F.read_faults folder.new }
+    ensures cause { OnReadFault result (Rose (F.read_faults folder.old) (F.read_faults folder.new)) }
+{
+    if levels == 0 {
+        return Err(Halt::Refused(too_deep(mark)));
+    }
+    let names = names_of(alloc, setting.paths, name)?;
+    open_file(alloc, folder, &names, Some(mark), name, reading)
+}
+
+/// Reads the named files, one after the other.
+fn read_names<F: Folder>(
+    alloc: Global,
+    folder: &mut F,
+    setting: Setting<'_>,
+    names: &FileNames,
+    reading: &mut Reading,
+) -> Result<(), Halt>
+    ensures read { IfSome (F.files folder.old) (λ files. Leaves alone result (state_of reading.new)
+        (NamesGo setting.entry.tool files setting.entry.paths.now names.now (state_of reading.old))) }
+    ensures unchanged { F.files folder.new ≡ F.files folder.old }
+    ensures counted { F.read_faults folder.old ≤ F.read_faults folder.new }
+    ensures cause { OnReadFault result (Rose (F.read_faults folder.old) (F.read_faults folder.new)) }
+{
+    let mut k = 0;
+    while k < names.len() {
+        read_named(alloc, folder, setting, names.at(k), reading)?;
+        k += 1;
+    }
+    Ok(())
+}
+
+/// Reads a file that the words name.
+fn read_named<F: Folder>(
+    alloc: Global,
+    folder: &mut F,
+    setting: Setting<'_>,
+    name: &str,
+    reading: &mut Reading,
+) -> Result<(), Halt>
+    ensures read { IfSome (F.files folder.old) (λ files. Leaves alone result (state_of reading.new)
+        (NamedGoes setting.entry.tool files setting.entry.paths.now name.now (state_of reading.old))) }
+    ensures unchanged { F.files folder.new ≡ F.files folder.old }
+    ensures counted { F.read_faults folder.old ≤ F.read_faults folder.new }
+    ensures cause { OnReadFault result (Rose (F.read_faults folder.old) (F.read_faults folder.new)) }
+{
+    let file = reading.files.len();
+    let mut own = FileNames::new(alloc);
+    own.push(name)?;
+    let text = open_file(alloc, folder, &own, None, name.as_bytes(), reading)?;
+    read_file(alloc, folder, setting, LEVELS_BELOW, file, text.as_slice(), reading)
+}
+
+/// What the words define, before any file is read.
+fn define_all(alloc: Global, defs: &Defs, macros: &mut Macros) -> Result<(), NoMemory>
+    ensures { OnOk result (live_in (rows_of macros.new) ≡ live_after defs.now (live_in (rows_of macros.old))) }
+{
+    for def in defs.as_slice() {
+        let text = match &def.text {
+            Some(text) => Some(copy_all(alloc, text.as_slice())?),
+            None => None,
+        };
+        macros.set(alloc, &def.name, text)?;
+    }
+    Ok(())
+}
+
+/// Reads the named files, where nothing was read before, under what the words define.
+fn read_all<F: Folder>(
+    alloc: Global,
+    folder: &mut F,
+    setting: Setting<'_>,
+    names: &FileNames,
+    defs: &Defs,
+    reading: &mut Reading,
+) -> Result<(), Halt>
+    requires { state_of reading.now ≡ start [] }
+    ensures read { IfSome (F.files folder.old) (λ files. Leaves alone result (state_of reading.new)
+        (ProgramGoes files setting.entry.tool names.now setting.entry.paths.now defs.now)) }
+    ensures unchanged { F.files folder.new ≡ F.files folder.old }
+    ensures counted { F.read_faults folder.old ≤ F.read_faults folder.new }
+    ensures cause { OnReadFault result (Rose (F.read_faults folder.old) (F.read_faults folder.new)) }
+{
+    define_all(alloc, defs, &mut reading.macros)?;
+    read_names(alloc, folder, setting, names, reading)
+}
+
+/// What the whole call gives, where reading ended so.
+fn finish(alloc: Global, reading: Reading, ended: Result<(), Halt>) -> Result<Program, PreFault>
+    ensures { Finishes ended (state_of reading) result }
+{
+    match ended {
+        Ok(()) => Ok(into_program(alloc, reading)?),
+        Err(Halt::Refused(fault)) => Err(PreFault::Refused(fault, reading.files)),
+        Err(Halt::ReadFault) => Err(PreFault::ReadFault),
+        Err(Halt::NoMemory) => Err(PreFault::NoMemory),
+    }
+}
+
+/// The program of what was read.
+fn into_program(alloc: Global, reading: Reading) -> Result<Program, NoMemory>
+    ensures { IfOk result (λ program. IsProgram program (state_of reading)) }
+{
+    let macros = reading.macros.names(alloc)?;
+    let Reading { tokens, files, .. } = reading;
+    Ok(Program {
+        files,
+        tokens,
+        macros,
+    })
+}
+
+/// Reads the named files, one after the other, as one program: with the lines of each included file behind the
+/// line that includes it, the parts of conditionals that are chosen, and macros in place of words. The words'
+/// definitions come first, in their order. An included file is looked for under its name, in UTF-8, and then
+/// under it behind each path and `/`. The tool decides the values of `rez` and `derez`.
+///
+/// A refusal is the first fault in the order of the lines, with the files that were opened until then:
+/// - 101 where no file has the name, of an included file with the line's mark (kept: the name as it was given);
+/// - 102 for a source in UTF-8 that can't be turned into Mac Roman, on its line 1 (kept: the offset);
+/// - 103 for an included file on level 17, where a file that the words name is on level 1 (kept: 17);
+/// - 104 for a directive of another form, 105 for a conditional that is open at the end of its file, 106 for an
+///   `#else`, `#elif` or `#endif` that belongs to none;
+/// - 107 to 111, 113 and 115 as for `next_line` and `cut`, 112 as for `expand_all`, 114 as for
+///   `compute_condition`.
+///
+/// A read fault comes only where the folder's count of read faults rose. No file changes. (MPW Rez.)
+pub fn preprocess<F: Folder>(
+    alloc: Global,
+    folder: &mut F,
+    tool: Tool,
+    names: &FileNames,
+    paths: &FileNames,
+    defs: &Defs,
+) -> Result<Program, PreFault>
+    ensures program { IfSome (F.files folder.old) (λ files. Answers result (ProgramGoes files tool names.now paths.now defs.now)) }
+    ensures every { IfSome (F.files folder.old) (λ files. (answer : Result State Failure)
+        → ProgramGoes files tool names.now paths.now defs.now answer → Matches result answer) }
+    ensures unchanged { F.files folder.new ≡ F.files folder.old }
+    ensures counted { F.read_faults folder.old ≤ F.read_faults folder.new }
+    ensures cause { result ≡ Err ReadFault → Rose (F.read_faults folder.old) (F.read_faults folder.new) }
+{
+    one_program();
+    let mut reading = Reading::new(alloc);
+    let ended = read_all(alloc, folder, Setting { tool, paths }, names, defs, &mut reading);
+    finish(alloc, reading, ended)
+}
