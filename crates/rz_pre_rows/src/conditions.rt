@@ -1,85 +1,173 @@
-use crate::outcome::{add, text_of_stop, tokens_of};
-use rz_core::{Bytes, Mark, write_signed};
-use rz_pre::{Macros, Tool, compute_condition};
+use crate::asked::{Asked, append_wrong, is_row};
+use rz_core::Bytes;
+use rz_pre::Tool;
 use std::alloc::Global;
 use std::test::Fail;
 
-/// Macros of these tests.
-const MACROS: &str =
-    "one 1;zero 0;none ;sum one + one;same same;asks defined one;ask defined;word other";
+/// Macros of these tests. H, G and F are 8, 64 and 512 tokens, R 1,020, N 1,024 and M 1,025, and A is too
+/// many.
+const MACROS: &str = "
+#define one 1
+#define zero 0
+#define none
+#define sum one + one
+#define same same
+#define asks defined one
+#define ask defined
+#define term other
+#define H + 1 + 1 + 1 + 1
+#define G H H H H H H H H
+#define F G G G G G G G G
+#define R F G G G G G G G H H H H H H H + 1 + 1
+#define N - 1 R + 1
+#define M - - 1 R + 1
+#define B F F F F F F F F
+#define C B B B B B B B B
+#define A C C
+";
 
-/// H, G and F are 8, 64 and 512 tokens, N is 1,024 and M 1,025, and A is too many.
-const MANY: &str =
-    "H + 1 + 1 + 1 + 1;G H H H H H H H H;F G G G G G G G G;P F G G G G G G G H H H H H H H + 1 + 1 + 1;N - 1 P;M - - 1 P;B F F F F F F F F;C B B B B B B B B;A C C";
-
-/// What a condition on line 7 gives, as text.
-fn outcome_of(alloc: Global, macros: &Macros, tool: Tool, text: &str) -> Result<Bytes, Fail> {
-    let tokens = tokens_of(alloc, text)?;
-    let mark = Mark { file: 0, line: 7 };
-    match compute_condition(alloc, macros, tool, mark, tokens.as_slice()) {
-        Ok(value) => {
-            let mut outcome = Bytes::new(alloc);
-            write_signed(i64::from(value), &mut outcome)?;
-            Ok(outcome)
-        }
-        Err(stop) => text_of_stop(alloc, &stop),
-    }
+/// What a file means whose first line brings the macros, whose second is an `#if` with this condition, and
+/// that has `yes` on its third line and `no` behind an `#else`. Its files are `main` and `macros`.
+fn decision_of(alloc: Global, tool: Tool, condition: &str) -> Result<String, Fail> {
+    let mut source = Bytes::of(alloc, b"#include \"macros\"\n#if ")?;
+    source.append(condition.as_bytes())?;
+    source.append(b"\nyes\n#else\nno\n#endif\n")?;
+    let mut asked = Asked::of_main(alloc, source.as_slice())?;
+    asked.insert("macros", MACROS.as_bytes())?;
+    asked.tool = tool;
+    asked.outcome()
 }
+
+/// The rows of a table of conditions with another decision than stands behind their ` => `, each with its
+/// decision. A line that begins with `//` says what is tried.
+fn wrong_decisions(alloc: Global, tool: Tool, table: &str) -> Result<String, Fail> {
+    let mut wrong = String::new(alloc);
+    for row in table.lines().filter(|row| is_row(row)) {
+        let Some((condition, wanted)) = row.split_once(" => ") else {
+            return Err(Fail::from("no row"));
+        };
+        let outcome = decision_of(alloc, tool, condition)?;
+        if outcome.strip_suffix(" in main macros") != Some(wanted) {
+            append_wrong(&mut wrong, row, &outcome)?;
+        }
+    }
+    Ok(wrong)
+}
+
+/// Conditions and what they decide, see `wrong_decisions`.
+const VALUES: &str = r#"
+// numbers and words
+1 => 3:yes
+0 => 5:no
+-1 => 3:yes
+2 - 2 => 5:no
+'A' + 1 == 66 => 3:yes
+one + ONE == 2 => 3:yes
+one + ONE == 3 => 5:no
+sum * 2 == 3 => 3:yes
+term + same == 0 => 3:yes
+term => 5:no
+true + False + rez * 4 + derez * 8 == 5 => 3:yes
+$$other == 0 => 3:yes
+TRUE => 3:yes
+REZ == 1 && DeRez == 0 => 3:yes
+type == 0 && locked == 0 && yes == 0 => 3:yes
+0 || 2 => 3:yes
+(1 | 6) ^ ~1 => 3:yes
+zero/* */|| one // + 1 / 0 => 3:yes
+// what is defined
+defined one + defined zero + defined none + defined other == 3 => 3:yes
+DEFINED(one) + defined ( Other ) == 1 => 3:yes
+defined true + defined false + defined rez + defined derez == 4 => 3:yes
+defined ONE && defined(NoNe) => 3:yes
+!defined other => 3:yes
+defined term && !defined(other) => 3:yes
+defined defined == 0 => 3:yes
+defined type == 0 => 3:yes
+defined $$ID == 0 => 3:yes
+defined + 1 == 1 => 3:yes
+defined => 5:no
+ask + 5 == 5 => 3:yes
+asks => 114 on 2
+ask one => 114 on 2
+defined(one => 114 on 2
+defined(1) => 114 on 2
+defined() => 114 on 2
+defined(one other) => 114 on 2
+defined 1 => 114 on 2
+defined((one)) => 114 on 2
+"#;
 
 #[test]
 fn conditions_are_computed(rt: HostRuntime) -> Result<(), Fail> {
-    let alloc = rt.alloc();
-    let mut macros = Macros::new(alloc);
-    add(alloc, &mut macros, MACROS)?;
-    add(alloc, &mut macros, MANY)?;
-    let texts = [
-        // numbers and words
-        ("1", "1"),
-        ("'A' + 1", "66"),
-        ("one + ONE", "2"),
-        ("sum * 2", "3"),
-        ("word + same", "0"),
-        ("true + False + rez * 4 + derez * 8", "5"),
-        ("$$other", "0"),
-        // what is defined
-        (
-            "defined one + defined zero + defined none + defined other",
-            "3",
-        ),
-        ("DEFINED(one) + defined ( Other )", "1"),
-        (
-            "defined true + defined false + defined rez + defined derez",
-            "4",
-        ),
-        ("defined defined", "0"),
-        ("defined type", "0"),
-        ("defined + 1", "1"),
-        ("defined(one", "114 on 7"),
-        ("defined(1)", "114 on 7"),
-        ("defined", "0"),
-        ("ask + 5", "5"),
-        ("asks", "114 on 7"),
-        // no value
-        ("", "114 on 7"),
-        ("none", "114 on 7"),
-        ("1 2", "114 on 7"),
-        ("1 +", "114 on 7"),
-        ("\"a\"", "114 on 7"),
-        ("one / zero", "114 on 7"),
-        ("1 << 32", "114 on 7"),
-        ("$$ID", "114 on 7"),
-        ("$$CountOf(rows)", "114 on 7"),
-        ("1 || $$Year", "114 on 7"),
-        // many tokens
-        ("N", "510"),
-        ("M", "114 on 7"),
-        ("$$ID M A", "112 on 1 A"),
-    ];
-    for (text, wanted) in texts {
-        let outcome = outcome_of(alloc, &macros, Tool::Rez, text)?;
-        assert_eq!(rt; outcome.as_slice(), wanted.as_bytes(), "{text}");
-    }
-    let outcome = outcome_of(alloc, &macros, Tool::DeRez, "rez * 4 + derez * 8")?;
-    assert_eq!(rt; outcome.as_slice(), b"8".as_slice());
+    let wrong = wrong_decisions(rt.alloc(), Tool::Rez, VALUES)?;
+    assert_eq!(rt; wrong.as_str(), "");
+    Ok(())
+}
+
+/// Conditions and what they decide, see `wrong_decisions`.
+const NO_VALUES: &str = r#"
+// no expression
+ => 114 on 2
+none => 114 on 2
+none one none => 3:yes
+1 2 => 114 on 2
+1 + => 114 on 2
+( 1 => 114 on 2
+1 ) => 114 on 2
+; => 114 on 2
+"a" => 114 on 2
+1 = 1 => 114 on 2
+one { } => 114 on 2
+// no value
+one / zero => 114 on 2
+1 % 0 => 114 on 2
+1 << 32 => 114 on 2
+1 || 1 / 0 => 114 on 2
+0 && 1 / 0 => 114 on 2
+// functions
+$$ID => 114 on 2
+$$CountOf(rows) => 114 on 2
+$$Byte(here) => 114 on 2
+1 || $$Year => 114 on 2
+// many tokens
+N => 3:yes
+M => 114 on 2
+511 == 1 R => 3:yes
+509 == - 1 R => 3:yes
+508 == - 1 R => 5:no
+511 == - - 1 R => 114 on 2
+none N none => 3:yes
+N defined => 114 on 2
+// too many for a word come first, and the faults of tokens before these
+$$ID M A => 112 on 2 A
+1 / 0 a => 112 on 2 a
+defined A => 3:yes
+defined A A => 112 on 2 A
+A @ => 111 on 2 64
+M '' => 110 on 2 ''
+1 / 0 " => 108 on 2
+"#;
+
+#[test]
+fn conditions_without_a_value_are_refused(rt: HostRuntime) -> Result<(), Fail> {
+    let wrong = wrong_decisions(rt.alloc(), Tool::Rez, NO_VALUES)?;
+    assert_eq!(rt; wrong.as_str(), "");
+    Ok(())
+}
+
+/// Conditions and what they decide where DeRez reads them, see `wrong_decisions`.
+const OF_DEREZ: &str = "
+rez * 4 + derez * 8 == 8 => 3:yes
+rez => 5:no
+DEREZ => 3:yes
+defined rez + defined derez == 2 => 3:yes
+true + false == 1 => 3:yes
+";
+
+#[test]
+fn words_of_the_tools_tell_which_reads(rt: HostRuntime) -> Result<(), Fail> {
+    let wrong = wrong_decisions(rt.alloc(), Tool::DeRez, OF_DEREZ)?;
+    assert_eq!(rt; wrong.as_str(), "");
     Ok(())
 }

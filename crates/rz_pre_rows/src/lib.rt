@@ -1,13 +1,23 @@
-//! Tests of the preprocessor: macros, conditions, directives and the text of
-//! sources. It has no code that ships.
+//! Tests of the preprocessor, all through its one call: sources and what they mean. It has no code that
+//! ships.
 #![tactic(auto)]
 
 #[cfg(test)]
+mod asked;
+#[cfg(test)]
+mod conditionals;
+#[cfg(test)]
 mod conditions;
+#[cfg(test)]
+mod definitions;
 #[cfg(test)]
 mod directives;
 #[cfg(test)]
 mod expansions;
+#[cfg(test)]
+mod faults;
+#[cfg(test)]
+mod files;
 #[cfg(test)]
 mod outcome;
 #[cfg(test)]

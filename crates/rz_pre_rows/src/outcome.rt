@@ -1,52 +1,86 @@
-use rz_core::{Bytes, Fault, Kept, Stop, Word, write_decimal, write_quoted};
-use rz_lex::{Shape, Tokens, lex};
-use rz_pre::Macros;
+use rz_core::{
+    Bytes, Fault, FileNames, Kept, Mark, from_roman, write_decimal, write_quoted, write_signed,
+};
+use rz_lex::{Shape, Token};
+use rz_pre::{PreFault, Program};
 use std::alloc::Global;
 use std::test::Fail;
 
-/// The most bytes of a text of a test.
-const MOST: usize = 1_000_000;
-
-/// The tokens of a text.
-pub fn tokens_of(alloc: Global, text: &str) -> Result<Tokens, Fail> {
-    if text.len() > MOST {
-        return Err(Fail::from("too long for a test"));
-    }
-    let Ok(tokens) = lex(alloc, text.as_bytes(), 0) else {
-        return Err(Fail::from("no tokens"));
-    };
-    Ok(tokens)
-}
-
-/// Adds macros to others. Between two of them stands `;`, behind a name a blank and then its tokens; a `-`
-/// before a name undefines it.
-pub fn add(alloc: Global, macros: &mut Macros, definitions: &str) -> Result<(), Fail> {
-    for definition in definitions.split(';') {
-        let Some((name, body)) = definition.split_once(' ') else {
-            return Err(Fail::from("no blank"));
-        };
-        let bytes = Bytes::of(alloc, name.trim_start_matches('-').as_bytes())?;
-        if name.starts_with('-') {
-            macros.undefine(alloc, &Word { bytes })?;
-        } else {
-            macros.define(alloc, &Word { bytes }, tokens_of(alloc, body)?)?;
+/// An answer as text: the tokens with blanks between them, or the fault; and then the files, unless they
+/// are `main` alone.
+pub fn text_of(alloc: Global, answer: &Result<Program, PreFault>) -> Result<String, Fail> {
+    let mut text = String::new(alloc);
+    match answer {
+        Ok(program) => {
+            append_roman(
+                text_of_tokens(alloc, program.tokens.as_slice())?.as_slice(),
+                &mut text,
+            )?;
+            append_files(&program.files, &mut text)?;
         }
-    }
-    Ok(())
-}
-
-/// Each token behind its line and a colon, with a blank behind it. Signs aren't told apart.
-pub fn text_of_tokens(alloc: Global, tokens: &Tokens) -> Result<Bytes, Fail> {
-    let mut text = Bytes::new(alloc);
-    for token in tokens.as_slice() {
-        write_decimal(u64::from(token.mark.line), &mut text)?;
-        text.push(b':')?;
-        append_shape(&token.shape, &mut text)?;
-        text.push(b' ')?;
+        Err(PreFault::Refused(fault, files)) => {
+            append_roman(text_of_fault(alloc, fault)?.as_slice(), &mut text)?;
+            append_files(files, &mut text)?;
+        }
+        Err(PreFault::ReadFault) => text.push_str("read fault")?,
+        Err(PreFault::NoMemory) => text.push_str("no memory")?,
     }
     Ok(text)
 }
 
+/// Appends bytes of Mac Roman.
+fn append_roman(bytes: &[u8], text: &mut String) -> Result<(), Fail> {
+    for byte in bytes {
+        text.push(from_roman(*byte))?;
+    }
+    Ok(())
+}
+
+/// Appends the files, unless they are `main` alone.
+fn append_files(files: &FileNames, text: &mut String) -> Result<(), Fail> {
+    if files.len() == 1 && files.at(0) == "main" {
+        return Ok(());
+    }
+    text.push_str(" in")?;
+    for k in 0..files.len() {
+        text.push(' ')?;
+        text.push_str(or_empty(files.at(k)))?;
+    }
+    Ok(())
+}
+
+/// A name, and `empty` for the one without bytes.
+fn or_empty(name: &str) -> &str {
+    if name.is_empty() { "empty" } else { name }
+}
+
+/// Each token behind its place and a colon, with blanks between them; `nothing` where there is none.
+fn text_of_tokens(alloc: Global, tokens: &[Token]) -> Result<Bytes, Fail> {
+    if tokens.is_empty() {
+        return Ok(Bytes::of(alloc, b"nothing")?);
+    }
+    let mut text = Bytes::new(alloc);
+    for token in tokens {
+        if !text.is_empty() {
+            text.push(b' ')?;
+        }
+        append_mark(token.mark, &mut text)?;
+        text.push(b':')?;
+        append_shape(&token.shape, &mut text)?;
+    }
+    Ok(text)
+}
+
+/// The line, in a file other than the first behind the file's position and a slash.
+fn append_mark(mark: Mark, text: &mut Bytes) -> Result<(), Fail> {
+    if mark.file > 0 {
+        write_decimal(mark.file, text)?;
+        text.push(b'/')?;
+    }
+    Ok(write_decimal(u64::from(mark.line), text)?)
+}
+
+/// Words as they are, numbers in decimal, literals and texts quoted. Signs aren't told apart.
 fn append_shape(shape: &Shape, text: &mut Bytes) -> Result<(), Fail> {
     match shape {
         Shape::Word(word) => Ok(text.append(word.bytes.as_slice())?),
@@ -57,25 +91,30 @@ fn append_shape(shape: &Shape, text: &mut Bytes) -> Result<(), Fail> {
     }
 }
 
-/// The fault's number, its line, and the name that it keeps.
-pub fn text_of_fault(alloc: Global, fault: &Fault) -> Result<Bytes, Fail> {
+/// The fault's number, its place where it has one, and what it keeps: a number in decimal, a name as it
+/// is, and `empty` for one without bytes.
+fn text_of_fault(alloc: Global, fault: &Fault) -> Result<Bytes, Fail> {
     let mut text = Bytes::new(alloc);
     write_decimal(u64::from(fault.number), &mut text)?;
     if let Some(mark) = fault.mark {
         text.append(b" on ")?;
-        write_decimal(u64::from(mark.line), &mut text)?;
+        append_mark(mark, &mut text)?;
     }
-    if let Kept::Name(name) = &fault.kept {
-        text.push(b' ')?;
-        text.append(name.as_slice())?;
+    match &fault.kept {
+        Kept::Nothing => {}
+        Kept::Number(number) => {
+            text.push(b' ')?;
+            write_signed(*number, &mut text)?;
+        }
+        Kept::Name(name) => {
+            text.push(b' ')?;
+            if name.is_empty() {
+                text.append(b"empty")?;
+            } else {
+                text.append(name.as_slice())?;
+            }
+        }
+        _ => text.append(b" of another form")?,
     }
     Ok(text)
-}
-
-/// The text of a fault, where a call refused.
-pub fn text_of_stop(alloc: Global, stop: &Stop<Fault>) -> Result<Bytes, Fail> {
-    match stop {
-        Stop::Refused(fault) => text_of_fault(alloc, fault),
-        Stop::NoMemory => Err(Fail::from("no memory")),
-    }
 }
