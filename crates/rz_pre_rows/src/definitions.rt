@@ -20,7 +20,7 @@ a ;; -d a=1 ;; -d A=2 => 1:2
 a ;; -d a=1 ;; -u A => 1:a
 a ;; -u A ;; -d a=1 => 1:1
 // texts at the place of the word in the source
-||x a ;; -d a=1 "b" 'c' + => 3:x 3:1 3:"b" 3:'c' 3:sign
+||x a ;; -d a=1 "b" 'c' + => 3:x 3:1 3:"b" 3:'c' 3:Plus
 #include "f" ;; f:|a ;; -d a=1 2 => 1/2:1 1/2:2 in main f
 a x ;; -d a= => 1:x
 a ;; -d a=b c ;; -d b=1 => 1:1 1:c

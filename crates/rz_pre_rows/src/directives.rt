@@ -85,9 +85,9 @@ const REFUSED: &str = r#"
 #define f() => 104 on 1 define
 #define f( => 104 on 1 define
 #define/* */f(x) => 104 on 1 define
-#define f (x)|f => 2:sign 2:x 2:sign
-#define f/* */(x)|f => 2:sign 2:x 2:sign
-#define f+(x)|f => 2:sign 2:sign 2:x 2:sign
+#define f (x)|f => 2:OpenParen 2:x 2:CloseParen
+#define f/* */(x)|f => 2:OpenParen 2:x 2:CloseParen
+#define f+(x)|f => 2:Plus 2:OpenParen 2:x 2:CloseParen
 // names that are undefined
 #undef => 104 on 1 undef
 #undef a b => 104 on 1 undef

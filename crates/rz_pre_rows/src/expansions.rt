@@ -31,8 +31,8 @@ const REPLACED: &str = r#"
 #define a b|a A x a => 2:b 2:b 2:x 2:b
 #define Ab c|aB => 2:c
 #define a|a x a => 2:x
-#define a 'b' "c" 0x10 $"41" + ;|a => 2:'b' 2:"c" 2:16 2:"A" 2:sign 2:sign
-#define f (|f x) => 2:sign 2:x 2:sign
+#define a 'b' "c" 0x10 $"41" + ;|a => 2:'b' 2:"c" 2:16 2:"A" 2:Plus 2:Semicolon
+#define f (|f x) => 2:OpenParen 2:x 2:CloseParen
 // each at the place of its word
 #define a 1 2|a||x a => 2:1 2:2 4:x 4:1 4:2
 |#define b|#define a 1 b 2|a => 4:1 4:2

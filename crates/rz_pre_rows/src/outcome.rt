@@ -80,14 +80,17 @@ fn append_mark(mark: Mark, text: &mut Bytes) -> Result<(), Fail> {
     Ok(write_decimal(u64::from(mark.line), text)?)
 }
 
-/// Words as they are, numbers in decimal, literals and texts quoted. Signs aren't told apart.
+/// Words as they are, numbers in decimal, literals and texts quoted, signs by their names.
 fn append_shape(shape: &Shape, text: &mut Bytes) -> Result<(), Fail> {
     match shape {
         Shape::Word(word) => Ok(text.append(word.bytes.as_slice())?),
         Shape::Number(number) => Ok(write_decimal(u64::from(*number), text)?),
         Shape::Literal(bytes) => Ok(write_quoted(bytes.as_slice(), b'\'', text)?),
         Shape::Text(bytes) => Ok(write_quoted(bytes.as_slice(), b'"', text)?),
-        Shape::Sign(_) => Ok(text.append(b"sign")?),
+        Shape::Sign(sign) => {
+            let name = format!(in text.allocator(); "{sign:?}")?;
+            Ok(text.append(name.as_bytes())?)
+        }
     }
 }
 
