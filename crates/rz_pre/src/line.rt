@@ -154,7 +154,10 @@ fn turn(
     ensures { Meets result (Turns (live_in (rows_of macros.now)) tool mark text.now part) }
 {
     match part {
-        Some(Part::Waiting) => Ok(Act::Turn(part_of(compute(alloc, macros, tool, mark, text)?), false)),
+        Some(Part::Waiting) => Ok(Act::Turn(
+            part_of(compute(alloc, macros, tool, mark, text)?),
+            false,
+        )),
         Some(_) => Ok(Act::Turn(Part::Past, false)),
         None => Err(Stop::Refused(stray(mark))),
     }
@@ -192,14 +195,26 @@ fn stray(mark: Mark) -> Fault
 }
 
 /// The value of the condition of a directive.
-fn compute(alloc: Global, macros: &Macros, tool: Tool, mark: Mark, text: &[u8]) -> Result<i32, Stop<Fault>>
+fn compute(
+    alloc: Global,
+    macros: &Macros,
+    tool: Tool,
+    mark: Mark,
+    text: &[u8],
+) -> Result<i32, Stop<Fault>>
     ensures { Meets result (HasCondition (live_in (rows_of macros.now)) tool mark text.now) }
 {
     let tokens = cut_bytes(alloc, mark, text)?;
     value_of(alloc, macros, tool, mark, behind_first(tokens.as_slice()))
 }
 
-fn value_of(alloc: Global, macros: &Macros, tool: Tool, mark: Mark, tokens: &[Token]) -> Result<i32, Stop<Fault>>
+fn value_of(
+    alloc: Global,
+    macros: &Macros,
+    tool: Tool,
+    mark: Mark,
+    tokens: &[Token],
+) -> Result<i32, Stop<Fault>>
     ensures { Meets result (IsComputed (live_in (rows_of macros.now)) tool mark tokens.now) }
 {
     compute_condition(alloc, macros, tool, mark, tokens)
@@ -209,7 +224,11 @@ fn value_of(alloc: Global, macros: &Macros, tool: Tool, mark: Mark, tokens: &[To
 fn part_of(value: i32) -> Part
     ensures { result ≡ part_of value }
 {
-    if value == 0 { Part::Waiting } else { Part::Chosen }
+    if value == 0 {
+        Part::Waiting
+    } else {
+        Part::Chosen
+    }
 }
 
 /// What a directive does whose tokens say it all.
@@ -322,7 +341,12 @@ fn free_word(alloc: Global, shape: &Shape) -> Result<Option<Word>, NoMemory>
 }
 
 /// `#ifdef` and `#ifndef`: whether the first word is defined, or whether it isn't.
-fn tested(alloc: Global, macros: &Macros, wanted: bool, tokens: &[Token]) -> Result<Option<Act>, NoMemory>
+fn tested(
+    alloc: Global,
+    macros: &Macros,
+    wanted: bool,
+    tokens: &[Token],
+) -> Result<Option<Act>, NoMemory>
     ensures { IfOk result (λ act. act ≡ tested (live_in (rows_of macros.now)) wanted tokens.now) }
 {
     match tokens {

@@ -55,8 +55,24 @@ fn read_file<F: Folder>(
     while let Some((line, after)) = next_line(alloc, file, place)? {
         if let Some(name) = step(alloc, setting.tool, &line, &mut opens, reading)? {
             let inner = reading.files.len();
-            let source = open_included(alloc, folder, setting, levels, name.as_slice(), line.mark, reading)?;
-            read_file(alloc, folder, setting, levels - 1, inner, source.as_slice(), reading)?;
+            let source = open_included(
+                alloc,
+                folder,
+                setting,
+                levels,
+                name.as_slice(),
+                line.mark,
+                reading,
+            )?;
+            read_file(
+                alloc,
+                folder,
+                setting,
+                levels - 1,
+                inner,
+                source.as_slice(),
+                reading,
+            )?;
         }
         place = after;
     }
@@ -161,7 +177,15 @@ fn read_named<F: Folder>(
     let mut own = FileNames::new(alloc);
     own.push(name)?;
     let text = open_file(alloc, folder, &own, None, name.as_bytes(), reading)?;
-    read_file(alloc, folder, setting, LEVELS_BELOW, file, text.as_slice(), reading)
+    read_file(
+        alloc,
+        folder,
+        setting,
+        LEVELS_BELOW,
+        file,
+        text.as_slice(),
+        reading,
+    )
 }
 
 /// What the words define, before any file is read.
@@ -255,6 +279,13 @@ pub fn preprocess<F: Folder>(
 {
     one_program();
     let mut reading = Reading::new(alloc);
-    let ended = read_all(alloc, folder, Setting { tool, paths }, names, defs, &mut reading);
+    let ended = read_all(
+        alloc,
+        folder,
+        Setting { tool, paths },
+        names,
+        defs,
+        &mut reading,
+    );
     finish(alloc, reading, ended)
 }
