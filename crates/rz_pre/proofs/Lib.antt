@@ -16,3 +16,4 @@ pub mod Going
 pub mod Opening
 pub mod Names
 pub mod OneProgram
+pub mod Placing

@@ -250,13 +250,6 @@ one_fault source fault other bad bad_too =
     let place : fault.offset ≡ other.offset = stop.front.place ∙ ap (λ (l : List ℕ). 3 + length l) same.0 ∙ sym stop_too.front.place in
     (λ i. record { offset = place i })
 
-module _ (source : List ℕ) (result : Result (List ℕ) (Stop BadText)) where
-  pub each_text : IfOk result (IsTextOf source) → OnFault result (λ fault. IsBadAt source fault.offset) → (text : List ℕ) → IsTextOf source text → Gives (Ok text) result
-  each_text = gives_value (IsTextOf source) (λ (fault : BadText). IsBadAt source fault.offset) (text_or_fault source) (one_text_of source) result
-
-  pub each_fault : IfOk result (IsTextOf source) → OnFault result (λ fault. IsBadAt source fault.offset) → (fault : BadText) → IsBadAt source fault.offset → Gives (Err fault) result
-  each_fault = gives_fault (IsTextOf source) (λ (fault : BadText). IsBadAt source fault.offset) (text_or_fault source) (one_fault source) result
-
 pub marked_text : (source utf8 : List ℕ) (result : Result (List ℕ) (Stop BadText)) → source ≡ mark ++ utf8 → IfOk result (Spells utf8) → IfOk result (IsTextOf source)
 marked_text source utf8 (Ok text) e s = marked utf8 e s
 marked_text source utf8 (Err stop) e s = tt

@@ -10,3 +10,4 @@ pub mod Answers
 pub mod Line
 pub mod Program
 pub mod Reading
+pub mod Placed

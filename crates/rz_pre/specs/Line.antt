@@ -139,7 +139,7 @@ simple live text directives.Define tokens = defined (has_parameters text) tokens
 simple live text directives.Undefine tokens = undefined tokens
 simple live text directives.Ifdef tokens = tested live true tokens
 simple live text directives.Ifndef tokens = tested live false tokens
-simple live text other tokens = None
+simple live text another tokens = None
 
 -- What a line does.
 
@@ -195,13 +195,13 @@ ended mark (Some one) = Ok End
 -- a directive that is kept, and one that isn't: of a conditional that begins there no part is chosen
 abbrev pub Obeys : Live → Tool → Mark → List ℕ → Directive → Result Act Fault → Type 0
 Obeys live tool mark text directives.If = Asks live tool mark text (λ value. Begin (part_of value))
-Obeys live tool mark text other = Says live mark text other
+Obeys live tool mark text another = Says live mark text another
 
 abbrev pub passed_over : Directive → Act
 passed_over directives.If = Begin Past
 passed_over directives.Ifdef = Begin Past
 passed_over directives.Ifndef = Begin Past
-passed_over other = Nothing
+passed_over another = Nothing
 
 -- what a directive does, where this is the innermost conditional around it
 abbrev pub Directs : Live → Tool → Option Open → Mark → List ℕ → Directive → Result Act Fault → Type 0
@@ -209,7 +209,7 @@ Directs live tool around mark text directives.Elif = Turns live tool mark text (
 Directs live tool around mark text directives.Else = λ answer. answer ≡ otherwise mark (open_part around)
 Directs live tool around mark text directives.Endif = λ answer. answer ≡ ended mark around
 Directs live tool around mark text directives.Empty = λ answer. answer ≡ Ok Nothing
-Directs live tool around mark text other = WhereKept (is_kept around) (Obeys live tool mark text other) (passed_over other)
+Directs live tool around mark text another = WhereKept (is_kept around) (Obeys live tool mark text another) (passed_over another)
 
 -- what a line does: what stands behind its `#`, or its bytes
 abbrev pub Acts : Live → Tool → Option Open → Mark → List ℕ → Option (List ℕ) → Result Act Fault → Type 0

@@ -50,9 +50,9 @@ innermost (one ∷ opens) = Some one
 
 -- the conditionals behind a line on this place that does this
 abbrev pub opens_after : Mark → Act → List Open → List Open
-opens_after mark (Begin part) opens = record { mark = mark; part = part; is_last = false } ∷ opens
-opens_after mark (Turn part is_last) [] = []
-opens_after mark (Turn part is_last) (one ∷ opens) = record { mark = one.mark; part = part; is_last = is_last } ∷ opens
+opens_after mark (Begin first) opens = record { mark = mark; part = first; is_last = false } ∷ opens
+opens_after mark (Turn next is_last) [] = []
+opens_after mark (Turn next is_last) (one ∷ opens) = record { mark = one.mark; part = next; is_last = is_last } ∷ opens
 opens_after mark End [] = []
 opens_after mark End (one ∷ opens) = opens
 opens_after mark other opens = opens

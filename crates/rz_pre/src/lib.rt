@@ -1,5 +1,5 @@
-//! Directives, macros and included files: so far the text of a source in Mac Roman, the macros and their
-//! expansion, and the conditions.
+//! Sources as programs: directives, macros and included files. The named files give one list of tokens, or
+//! the first fault.
 #![tactic(auto)]
 
 mod act;
@@ -18,15 +18,7 @@ mod reading;
 mod source;
 mod unfolding;
 
-pub use act::Act;
-pub use condition::{Tool, compute_condition, one_condition};
-pub use conditional::{Open, Part};
-pub use directive::Directive;
-pub use expanded::{expand_all, one_replacement};
-pub use expansion::{TooLong, expand};
+pub use condition::Tool;
 pub use laws::{one_expansion, one_program};
-pub use line::act_of;
-pub use macros::Macros;
 pub use program::{Def, Defs, PreFault, Program};
-pub use source::{BadText, to_mac_roman};
 pub use unfolding::preprocess;

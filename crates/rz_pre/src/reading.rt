@@ -1,4 +1,6 @@
-ghost use Rattle.std.specs.Prelude.{◌≡◌, [], reverse, IfOk, OnOk};
+ghost use Rattle.std.specs.Prelude.{◌≡◌, ◌+◌, [], reverse, IfOk, OnOk};
+ghost use Rattle.rz_core.specs.Message.{IsNameable};
+ghost use Rattle.rz_core.specs.Stop.{OnFault};
 ghost use Rattle.rz_core.specs.declared.fault.Mark.{Mark};
 ghost use Rattle.rz_pre.specs.declared.act.Act.TheVariants.{Begin, Turn};
 ghost use Rattle.rz_pre.specs.Program.{innermost, opens_after, start, state_after};
@@ -77,7 +79,8 @@ pub fn step(
     opens: &mut Vec<Open>,
     reading: &mut Reading,
 ) -> Result<Option<Bytes>, Stop<Fault>>
-    ensures { Steps tool line.now (reverse opens.old.items) (state_of reading.old) result (reverse opens.new.items) (state_of reading.new) }
+    ensures steps { Steps tool line.now (reverse opens.old.items) (state_of reading.old) result (reverse opens.new.items) (state_of reading.new) }
+    ensures nameable { OnFault result (IsNameable (line.now.mark.file + 1)) }
 {
     let act = act_of(alloc, &reading.macros, tool, innermost(opens), line)?;
     Ok(follow(alloc, act, line.mark, opens, reading)?)
