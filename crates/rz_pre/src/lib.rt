@@ -24,7 +24,7 @@ pub use conditional::{Open, Part};
 pub use directive::Directive;
 pub use expanded::{expand_all, one_replacement};
 pub use expansion::{TooLong, expand};
-pub use laws::{one_expansion, one_program};
+pub use laws::{directives_are_lines, every_token_expands, one_expansion, one_program};
 pub use line::act_of;
 pub use macros::Macros;
 pub use program::{Def, Defs, PreFault, Program};
