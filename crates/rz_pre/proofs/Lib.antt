@@ -5,6 +5,8 @@ pub mod Rows
 pub mod Lookups
 pub mod Made
 pub mod One
+pub mod Expands
+pub mod Hashes
 pub mod Puts
 pub mod Replaced
 pub mod Asking

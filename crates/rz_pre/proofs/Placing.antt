@@ -25,9 +25,11 @@ use Rattle.rz_pre.specs.Directive.{behind_hash, directive_in, unblanked}
 use Rattle.rz_pre.specs.Expanded.{too_long, ExpandInto, FirstTooLong}
 use Rattle.rz_pre.specs.Line.{Acts, Directs, Does, IsComputed, IsReplaced, Obeys, PutsOut, Says, Turns, WhereKept, behind_first, bad_directive, defined, ended, free_word, has_parameters, if_free, included, is_kept, open_part, or_bad, otherwise, passed_over, simple, tested, text_in, undefined, word_in}
 use Rattle.rz_pre.specs.Live.{Live}
-use Rattle.rz_pre.specs.Placed.{AreOn, AreOpenIn, AreWithin, PutsOn}
+use Rattle.rz_pre.specs.Placed.{AreOn, AreOpenIn, AreWithin, OnRefused, PutsOn}
 use Rattle.rz_pre.specs.Program.{opens_after, state_after, State}
-use Rattle.rz_pre.specs.Reading.{Steps}
+use Rattle.rz_pre.specs.Reading.{halt_of, IsUnread, Steps}
+use Rattle.rz_pre.specs.declared.reading.Halt.{Halt}
+use Rattle.rz_pre.specs.declared.reading.Halt.TheVariants as halts
 use Rattle.rz_pre.specs.declared.act.Act.{Act}
 use Rattle.rz_pre.specs.declared.act.Act.TheVariants as acts
 use Rattle.rz_pre.specs.declared.condition.Tool.{Tool}
@@ -79,7 +81,7 @@ replaced_nameable Y mark live tokens (stops.Refused fault) meets on = long_namea
 replaced_nameable Y mark live tokens stops.NoMemory meets on = tt
 
 module _ (mark : Mark) where
-  BehindOn : condition.Asked → Type 0
+  abbrev BehindOn : condition.Asked → Type 0
   BehindOn None = Unit {0}
   BehindOn (Some found) = AreOn mark found.1
 
@@ -130,11 +132,11 @@ module _ (mark : Mark) where
 
   -- What a line puts out.
 
-  OptionOn : Option Act → Type 0
+  abbrev OptionOn : Option Act → Type 0
   OptionOn None = Unit {0}
   OptionOn (Some act) = PutsOn mark act
 
-  AnswerOn : Result Act Fault → Type 0
+  abbrev AnswerOn : Result Act Fault → Type 0
   AnswerOn (Ok act) = PutsOn mark act
   AnswerOn (Err fault) = Unit {0}
 
@@ -325,3 +327,26 @@ nameable_more files more fault le n = record { number = n.number; place = by fau
     by : (o : Option Mark) → message.IsMarked files o → message.IsMarked more o
     by None is = tt
     by (Some mark) is = omega (arith, le, is)
+
+-- What a call that stopped leaves to be named.
+
+pub halt_nameable : {X Y : Type 0} (stop : Stop Fault) (files more : ℕ) → OnFault {X = X} (Err stop) (IsNameable files) → files ≤ more → OnRefused {X = Y} (Err (halt_of stop)) more
+halt_nameable (stops.Refused fault) files more nameable le = nameable_more files more fault le nameable
+halt_nameable stops.NoMemory files more nameable le = tt
+
+pub step_nameable : (tool : Tool) (line : RawLine) (opens : List Open) (s : State) (stop : Stop Fault) (after : List Open) (t : State)
+    → Steps tool line opens s (Err stop) after t → OnFault {X = Option (List ℕ)} (Err stop) (IsNameable (line.mark.file + 1)) → line.mark.file < length s.files
+    → OnRefused {X = Unit {0}} (Err (halt_of stop)) (length t.files)
+step_nameable tool line opens s (stops.Refused fault) after t steps nameable below =
+    nameable_more (line.mark.file + 1) (length t.files) fault (omega (arith, below, ap (λ (u : State). length u.files) steps.1)) nameable
+step_nameable tool line opens s stops.NoMemory after t steps nameable below = tt
+
+pub unread_nameable : {X Y : Type 0} (halt : Halt) (files : ℕ) → IsUnread {X = X} (Err halt) → OnRefused {X = Y} (Err halt) files
+unread_nameable (halts.Refused fault) files never = absurd never
+unread_nameable halts.ReadFault files never = tt
+unread_nameable halts.NoMemory files never = tt
+
+pub refused_again : {X Y : Type 0} (halt : Halt) (files : ℕ) → OnRefused {X = X} (Err halt) files → OnRefused {X = Y} (Err halt) files
+refused_again (halts.Refused fault) files on = on
+refused_again halts.ReadFault files on = tt
+refused_again halts.NoMemory files on = tt

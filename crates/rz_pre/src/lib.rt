@@ -19,6 +19,6 @@ mod source;
 mod unfolding;
 
 pub use condition::Tool;
-pub use laws::{one_expansion, one_program};
+pub use laws::{directives_are_lines, every_token_expands, one_expansion, one_program};
 pub use program::{Def, Defs, PreFault, Program};
 pub use unfolding::preprocess;

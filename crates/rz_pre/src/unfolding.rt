@@ -47,7 +47,7 @@ fn read_file<F: Folder>(
     ensures read { IfSome (F.files folder.old) (λ files. Leaves alone result (state_of reading.new)
         (TextGoes (IncludedGoes setting.entry.tool files setting.entry.paths.now levels) setting.entry.tool file text.now (state_of reading.old))) }
     ensures placed { OnOk result (IsPlaced reading.new) }
-    ensures more { length reading.old.files ≤ length reading.new.files }
+    ensures more { OnOk result (length reading.old.files ≤ length reading.new.files) }
     ensures nameable { OnRefused result (length reading.new.files) }
     ensures unchanged { F.files folder.new ≡ F.files folder.old }
     ensures counted { F.read_faults folder.old ≤ F.read_faults folder.new }
@@ -163,7 +163,7 @@ fn read_names<F: Folder>(
     ensures read { IfSome (F.files folder.old) (λ files. Leaves alone result (state_of reading.new)
         (NamesGo setting.entry.tool files setting.entry.paths.now names.now (state_of reading.old))) }
     ensures placed { OnOk result (IsPlaced reading.new) }
-    ensures more { length reading.old.files ≤ length reading.new.files }
+    ensures more { OnOk result (length reading.old.files ≤ length reading.new.files) }
     ensures nameable { OnRefused result (length reading.new.files) }
     ensures unchanged { F.files folder.new ≡ F.files folder.old }
     ensures counted { F.read_faults folder.old ≤ F.read_faults folder.new }
@@ -189,7 +189,7 @@ fn read_named<F: Folder>(
     ensures read { IfSome (F.files folder.old) (λ files. Leaves alone result (state_of reading.new)
         (NamedGoes setting.entry.tool files setting.entry.paths.now name.now (state_of reading.old))) }
     ensures placed { OnOk result (IsPlaced reading.new) }
-    ensures more { length reading.old.files ≤ length reading.new.files }
+    ensures more { OnOk result (length reading.old.files ≤ length reading.new.files) }
     ensures nameable { OnRefused result (length reading.new.files) }
     ensures unchanged { F.files folder.new ≡ F.files folder.old }
     ensures counted { F.read_faults folder.old ≤ F.read_faults folder.new }

@@ -30,7 +30,7 @@ returns-in_err-name-clause-read g t c = if_some (g.F.Folder.files c.args.folder.
     rw (p.1, p.2) (left_in_line c.args.setting.tool files c.args.setting.paths.now c.args.levels c.args.file c.args.text.now (state_of c.args.reading.now)
     (ahead c.loop-opens.place) (reverse c.loop-opens.opens.items) (state_of c.loop-opens.reading) (c.loop-opens.invariant.leads files told)
     c.in-Some.line (ahead c.in-Some.after) (rw c.in-Some.is at c.in_ok-line.ensures.line) (c.every_text_has_lines.ensures c.args.file (ahead c.in-Some.after))
-    c.in_err-name.field-0.0 _ _ c.in_err-name.ensures))
+    c.in_err-name.field-0.0 _ _ c.in_err-name.ensures.steps))
 
 pub returns-in_err-source-clause-read : goal.returns-in_err-source-clause-read
 returns-in_err-source-clause-read g t c = if_some (g.F.Folder.files c.args.folder.now) _ (λ files told.
@@ -38,7 +38,7 @@ returns-in_err-source-clause-read g t c = if_some (g.F.Folder.files c.args.folde
     rw (p.1, p.2) (left_in_opening c.args.setting.tool files c.args.setting.paths.now c.args.levels c.args.file c.args.text.now (state_of c.args.reading.now)
     (ahead c.loop-opens.place) (reverse c.loop-opens.opens.items) (state_of c.loop-opens.reading) (c.loop-opens.invariant.leads files told)
     c.in-Some.line (ahead c.in-Some.after) (rw c.in-Some.is at c.in_ok-line.ensures.line)
-    c.in-Some-2.name _ _ (rw c.in-Some-2.is at c.in_ok-name.ensures) (c.every_text_has_lines.ensures c.args.file (ahead c.in-Some.after))
+    c.in-Some-2.name _ _ (rw c.in-Some-2.is at c.in_ok-name.ensures.steps) (c.every_text_has_lines.ensures c.args.file (ahead c.in-Some.after))
     c.in_err-source.field-0.0 _ (at_some _ files (c.loop-opens.invariant.unchanged ∙ told) _ (rw c.as_slice.ensures at c.in_err-source.ensures.opened))))
 
 pub returns-in_err-read_file-clause-read : goal.returns-in_err-read_file-clause-read
@@ -47,7 +47,7 @@ returns-in_err-read_file-clause-read g t c = if_some (g.F.Folder.files c.args.fo
     rw (p.1, p.2) (left_inside c.args.setting.tool files c.args.setting.paths.now c.args.levels c.args.file c.args.text.now (state_of c.args.reading.now)
     (ahead c.loop-opens.place) (reverse c.loop-opens.opens.items) (state_of c.loop-opens.reading) (c.loop-opens.invariant.leads files told)
     c.in-Some.line (ahead c.in-Some.after) (rw c.in-Some.is at c.in_ok-line.ensures.line)
-    c.in-Some-2.name _ _ (rw c.in-Some-2.is at c.in_ok-name.ensures)
+    c.in-Some-2.name _ _ (rw c.in-Some-2.is at c.in_ok-name.ensures.steps)
     c.in_ok-source.source _ (c.args.levels - 1) (omega (arith, c.in_ok-source.ensures.deep))
     (at_some _ files (c.loop-opens.invariant.unchanged ∙ told) _ (rw c.as_slice.ensures at c.in_ok-source.ensures.opened)) (c.every_text_has_lines.ensures c.args.file (ahead c.in-Some.after))
     c.in_err-read_file.field-0.0 _ (at_some _ files (c.in_ok-source.ensures.unchanged ∙ c.loop-opens.invariant.unchanged ∙ told) _ (rw (c.as_slice-in-Some-2.ensures, c.len-inner.ensures) at c.in_err-read_file.ensures.read))))
@@ -59,7 +59,7 @@ loop-opens-preserved g t c = record {
         rw w.reading-is (on_inside c.args.setting.tool files c.args.setting.paths.now c.args.levels c.args.file c.args.text.now (state_of c.args.reading.now)
         (ahead c.loop-opens.place) (reverse c.loop-opens.opens.items) (state_of c.loop-opens.reading) (c.loop-opens.invariant.leads files told)
         c.in-Some.line (ahead c.in-Some.after) (rw c.in-Some.is at c.in_ok-line.ensures.line)
-        w.in-Some-2.name _ _ (rw w.in-Some-2.is at c.in_ok-name.ensures)
+        w.in-Some-2.name _ _ (rw w.in-Some-2.is at c.in_ok-name.ensures.steps)
         w.in_ok-source.source _ (c.args.levels - 1) (omega (arith, w.in_ok-source.ensures.deep))
         (at_some _ files (c.loop-opens.invariant.unchanged ∙ told) _ (rw w.as_slice.ensures at w.in_ok-source.ensures.opened))
         _ (at_some _ files (w.in_ok-source.ensures.unchanged ∙ c.loop-opens.invariant.unchanged ∙ told) _ (rw (w.as_slice-in-Some-2.ensures, w.len-inner.ensures) at w.in_ok-read_file.ensures.read)))
@@ -67,12 +67,24 @@ loop-opens-preserved g t c = record {
         rw w.reading-is (on_behind c.args.setting.tool files c.args.setting.paths.now c.args.levels c.args.file c.args.text.now (state_of c.args.reading.now)
         (ahead c.loop-opens.place) (reverse c.loop-opens.opens.items) (state_of c.loop-opens.reading) (c.loop-opens.invariant.leads files told)
         c.in-Some.line (ahead c.in-Some.after) (rw c.in-Some.is at c.in_ok-line.ensures.line)
-        _ _ (rw w.in_default-2.is at c.in_ok-name.ensures))
+        _ _ (rw w.in_default-2.is at c.in_ok-name.ensures.steps))
   ];
   within = let on = rw c.in-Some.is at c.in_ok-line.ensures.further in omega (arith, on.within, c.loop-opens.invariant.within);
   unchanged = elim c.match-branch-4.branch [
     | in-Some-2+in_ok-source+in_ok-read_file w ↦ rw w.folder-is (w.in_ok-read_file.ensures.unchanged ∙ w.in_ok-source.ensures.unchanged ∙ c.loop-opens.invariant.unchanged)
     | in_default-2 w ↦ rw w.folder-is c.loop-opens.invariant.unchanged
+  ];
+  placed = elim c.match-branch-4.branch [
+    | in-Some-2+in_ok-source+in_ok-read_file w ↦ rw w.reading-is w.in_ok-read_file.ensures.placed
+    | in_default-2 w ↦ rw w.reading-is ?
+  ];
+  more = elim c.match-branch-4.branch [
+    | in-Some-2+in_ok-source+in_ok-read_file w ↦ ?
+    | in_default-2 w ↦ ?
+  ];
+  opened = elim c.match-branch-4.branch [
+    | in-Some-2+in_ok-source+in_ok-read_file w ↦ ?
+    | in_default-2 w ↦ ?
   ];
   counted = elim c.match-branch-4.branch [
     | in-Some-2+in_ok-source+in_ok-read_file w ↦ rw w.folder-is (omega (arith, w.in_ok-read_file.ensures.counted, w.in_ok-source.ensures.counted, c.loop-opens.invariant.counted))
