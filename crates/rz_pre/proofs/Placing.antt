@@ -330,9 +330,9 @@ nameable_more files more fault le n = record { number = n.number; place = by fau
 
 -- What a call that stopped leaves to be named.
 
-pub halt_nameable : {X Y : Type 0} (stop : Stop Fault) (files more : ℕ) → OnFault {X = X} (Err stop) (IsNameable files) → files ≤ more → OnRefused {X = Y} (Err (halt_of stop)) more
-halt_nameable (stops.Refused fault) files more nameable le = nameable_more files more fault le nameable
-halt_nameable stops.NoMemory files more nameable le = tt
+pub halt_nameable : (X Y : Type 0) (stop : Stop Fault) (files more : ℕ) → OnFault {X = X} (Err stop) (IsNameable files) → files ≤ more → OnRefused {X = Y} (Err (halt_of stop)) more
+halt_nameable X Y (stops.Refused fault) files more nameable le = nameable_more files more fault le nameable
+halt_nameable X Y stops.NoMemory files more nameable le = tt
 
 pub step_nameable : (tool : Tool) (line : RawLine) (opens : List Open) (s : State) (stop : Stop Fault) (after : List Open) (t : State)
     → Steps tool line opens s (Err stop) after t → OnFault {X = Option (List ℕ)} (Err stop) (IsNameable (line.mark.file + 1)) → line.mark.file < length s.files
@@ -341,12 +341,12 @@ step_nameable tool line opens s (stops.Refused fault) after t steps nameable bel
     nameable_more (line.mark.file + 1) (length t.files) fault (omega (arith, below, ap (λ (u : State). length u.files) steps.1)) nameable
 step_nameable tool line opens s stops.NoMemory after t steps nameable below = tt
 
-pub unread_nameable : {X Y : Type 0} (halt : Halt) (files : ℕ) → IsUnread {X = X} (Err halt) → OnRefused {X = Y} (Err halt) files
-unread_nameable (halts.Refused fault) files never = absurd never
-unread_nameable halts.ReadFault files never = tt
-unread_nameable halts.NoMemory files never = tt
+pub unread_nameable : (X Y : Type 0) (halt : Halt) (files : ℕ) → IsUnread {X = X} (Err halt) → OnRefused {X = Y} (Err halt) files
+unread_nameable X Y (halts.Refused fault) files never = absurd never
+unread_nameable X Y halts.ReadFault files never = tt
+unread_nameable X Y halts.NoMemory files never = tt
 
-pub refused_again : {X Y : Type 0} (halt : Halt) (files : ℕ) → OnRefused {X = X} (Err halt) files → OnRefused {X = Y} (Err halt) files
-refused_again (halts.Refused fault) files on = on
-refused_again halts.ReadFault files on = tt
-refused_again halts.NoMemory files on = tt
+pub refused_again : (X Y : Type 0) (halt : Halt) (files : ℕ) → OnRefused {X = X} (Err halt) files → OnRefused {X = Y} (Err halt) files
+refused_again X Y (halts.Refused fault) files on = on
+refused_again X Y halts.ReadFault files on = tt
+refused_again X Y halts.NoMemory files on = tt

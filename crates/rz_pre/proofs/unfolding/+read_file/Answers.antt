@@ -7,6 +7,9 @@ use Rattle.rz_lex.specs.declared.joined.Position.{Position}
 use Rattle.rz_lex.specs.declared.raw_line.RawLine.{RawLine}
 use Rattle.rz_pre.specs.Reading.{state_of}
 use Rattle.rz_pre.proofs.Going.{at_some, left_at_end, left_in_comment, left_in_line, left_in_opening, left_inside, on_behind, on_inside}
+use Rattle.rz_lex.specs.declared.token.Token.{Token}
+use Rattle.rz_pre.specs.Placed.{AreWithin, IsPlaced}
+use Rattle.rz_pre.proofs.Placing.{open_more, steps_files, steps_open, steps_within, within_more}
 use Rattle.rz_pre.proofs.Opening.{if_some}
 use Rattle.rz_pre.proofs.unfolding.+read_file.Goals as goal
 use Rattle.rz_pre.proofs.unfolding.+read_file.Goals.{in-Some-2+in_ok-source+in_ok-read_file, in_default-2}
@@ -15,6 +18,13 @@ pub read_file-requires : goal.read_file-requires
 read_file-requires g t c =
     let smaller : c.args.levels - 1 < c.args.levels = omega (arith, c.in_ok-source.ensures.deep) in
     let short : length c.as_slice-in-Some-2.result.now < 2 ^ 32 = subst (λ (text : List ℕ). length text < 2 ^ 32) (sym c.as_slice-in-Some-2.ensures) c.in_ok-source.ensures.short in
+    let inside : c.len-inner.result < length c.open_included.new.reading.files = omega (arith, c.len-inner.ensures, c.in_ok-source.ensures.more) in
+    let same = steps_files c.args.setting.tool c.in-Some.line (reverse c.loop-opens.opens.items) (state_of c.loop-opens.reading) c.in_ok-name.field-0 (reverse c.step.new.opens.items) (state_of c.step.new.reading) c.in_ok-name.ensures.steps in
+    let stepped = steps_within c.args.setting.tool c.in-Some.line (reverse c.loop-opens.opens.items) (state_of c.loop-opens.reading) c.in_ok-name.field-0 (reverse c.step.new.opens.items) (state_of c.step.new.reading) c.in_ok-name.ensures.steps (length c.loop-opens.reading.files) (omega (arith, rw c.in-Some.is at c.in_ok-line.ensures.mark, c.requires.open, c.loop-opens.invariant.more)) c.loop-opens.invariant.placed in
+    let placed : IsPlaced c.open_included.new.reading =
+    subst (λ (tokens : List Token). AreWithin (length c.open_included.new.reading.files) tokens) (sym c.in_ok-source.ensures.tokens)
+    (within_more (length c.loop-opens.reading.files) (length c.open_included.new.reading.files) c.step.new.reading.tokens
+    (omega (arith, ap (λ (files : List (List ℕ)). length files) same, c.in_ok-source.ensures.more)) stepped) in
     search rules
 
 pub returns-in_err-line-clause-read : goal.returns-in_err-line-clause-read
@@ -76,15 +86,26 @@ loop-opens-preserved g t c = record {
   ];
   placed = elim c.match-branch-4.branch [
     | in-Some-2+in_ok-source+in_ok-read_file w ↦ rw w.reading-is w.in_ok-read_file.ensures.placed
-    | in_default-2 w ↦ rw w.reading-is ?
+    | in_default-2 w ↦ rw w.reading-is (subst (λ (files : List (List ℕ)). AreWithin (length files) c.step.new.reading.tokens) (sym (steps_files c.args.setting.tool c.in-Some.line (reverse c.loop-opens.opens.items) (state_of c.loop-opens.reading) c.in_ok-name.field-0 (reverse c.step.new.opens.items) (state_of c.step.new.reading) c.in_ok-name.ensures.steps))
+        (steps_within c.args.setting.tool c.in-Some.line (reverse c.loop-opens.opens.items) (state_of c.loop-opens.reading) c.in_ok-name.field-0 (reverse c.step.new.opens.items) (state_of c.step.new.reading) c.in_ok-name.ensures.steps (length c.loop-opens.reading.files) (omega (arith, rw c.in-Some.is at c.in_ok-line.ensures.mark, c.requires.open, c.loop-opens.invariant.more)) c.loop-opens.invariant.placed))
   ];
   more = elim c.match-branch-4.branch [
-    | in-Some-2+in_ok-source+in_ok-read_file w ↦ ?
-    | in_default-2 w ↦ ?
+    | in-Some-2+in_ok-source+in_ok-read_file w ↦ rw w.reading-is (omega (
+      arith,
+      w.in_ok-read_file.ensures.more,
+      w.in_ok-source.ensures.more,
+      ap (λ (files : List (List ℕ)). length files) (steps_files c.args.setting.tool c.in-Some.line (reverse c.loop-opens.opens.items) (state_of c.loop-opens.reading) c.in_ok-name.field-0 (reverse c.step.new.opens.items) (state_of c.step.new.reading) c.in_ok-name.ensures.steps),
+      c.loop-opens.invariant.more,
+    ))
+    | in_default-2 w ↦ rw w.reading-is (omega (arith, ap (λ (files : List (List ℕ)). length files) (steps_files c.args.setting.tool c.in-Some.line (reverse c.loop-opens.opens.items) (state_of c.loop-opens.reading) c.in_ok-name.field-0 (reverse c.step.new.opens.items) (state_of c.step.new.reading) c.in_ok-name.ensures.steps), c.loop-opens.invariant.more))
   ];
   opened = elim c.match-branch-4.branch [
-    | in-Some-2+in_ok-source+in_ok-read_file w ↦ ?
-    | in_default-2 w ↦ ?
+    | in-Some-2+in_ok-source+in_ok-read_file w ↦ rw w.reading-is (open_more (length c.loop-opens.reading.files) (length w.read_file.new.reading.files) (reverse c.step.new.opens.items)
+        (omega (arith, w.in_ok-read_file.ensures.more, w.in_ok-source.ensures.more, ap (λ (files : List (List ℕ)). length files) (steps_files c.args.setting.tool c.in-Some.line (reverse c.loop-opens.opens.items) (state_of c.loop-opens.reading) c.in_ok-name.field-0 (reverse c.step.new.opens.items) (state_of c.step.new.reading) c.in_ok-name.ensures.steps)))
+        (steps_open c.args.setting.tool c.in-Some.line (reverse c.loop-opens.opens.items) (state_of c.loop-opens.reading) c.in_ok-name.field-0 (reverse c.step.new.opens.items) (state_of c.step.new.reading) c.in_ok-name.ensures.steps (length c.loop-opens.reading.files) (omega (arith, rw c.in-Some.is at c.in_ok-line.ensures.mark, c.requires.open, c.loop-opens.invariant.more)) c.loop-opens.invariant.opened))
+    | in_default-2 w ↦ rw w.reading-is (open_more (length c.loop-opens.reading.files) (length c.step.new.reading.files) (reverse c.step.new.opens.items)
+        (omega (arith, ap (λ (files : List (List ℕ)). length files) (steps_files c.args.setting.tool c.in-Some.line (reverse c.loop-opens.opens.items) (state_of c.loop-opens.reading) c.in_ok-name.field-0 (reverse c.step.new.opens.items) (state_of c.step.new.reading) c.in_ok-name.ensures.steps)))
+        (steps_open c.args.setting.tool c.in-Some.line (reverse c.loop-opens.opens.items) (state_of c.loop-opens.reading) c.in_ok-name.field-0 (reverse c.step.new.opens.items) (state_of c.step.new.reading) c.in_ok-name.ensures.steps (length c.loop-opens.reading.files) (omega (arith, rw c.in-Some.is at c.in_ok-line.ensures.mark, c.requires.open, c.loop-opens.invariant.more)) c.loop-opens.invariant.opened))
   ];
   counted = elim c.match-branch-4.branch [
     | in-Some-2+in_ok-source+in_ok-read_file w ↦ rw w.folder-is (omega (arith, w.in_ok-read_file.ensures.counted, w.in_ok-source.ensures.counted, c.loop-opens.invariant.counted))
