@@ -21,9 +21,9 @@ use Rattle.rz_lex.specs.declared.token.Token.{Token}
 use Rattle.rz_pre.specs.Answers.{Meets, Then}
 use Rattle.rz_pre.specs.Condition.{Tells}
 use Rattle.rz_pre.specs.Condition as condition
-use Rattle.rz_pre.specs.Directive.{behind_hash, directive_in, unblanked}
+use Rattle.rz_source.specs.Directive.{behind_hash, directive_in, has_parameters, unblanked}
 use Rattle.rz_pre.specs.Expanded.{too_long, ExpandInto, FirstTooLong}
-use Rattle.rz_pre.specs.Line.{Acts, Directs, Does, IsComputed, IsReplaced, Obeys, PutsOut, Says, Turns, WhereKept, behind_first, bad_directive, defined, ended, free_word, has_parameters, if_free, included, is_kept, open_part, or_bad, otherwise, passed_over, simple, tested, text_in, undefined, word_in}
+use Rattle.rz_pre.specs.Line.{Acts, Directs, Does, IsComputed, IsReplaced, Obeys, PutsOut, Says, Turns, WhereKept, behind_first, bad_directive, defined, ended, free_word, if_free, included, is_kept, open_part, or_bad, otherwise, passed_over, simple, tested, text_in, undefined, word_in}
 use Rattle.rz_pre.specs.Live.{Live}
 use Rattle.rz_pre.specs.Placed.{AreOn, AreOpenIn, AreWithin, OnRefused, PutsOn}
 use Rattle.rz_pre.specs.Program.{opens_after, state_after, State}
@@ -36,8 +36,8 @@ use Rattle.rz_pre.specs.declared.condition.Tool.{Tool}
 use Rattle.rz_pre.specs.declared.conditional.Open.{Open}
 use Rattle.rz_pre.specs.declared.conditional.Part.{Part}
 use Rattle.rz_pre.specs.declared.conditional.Part.TheVariants.{Chosen, Past, Waiting}
-use Rattle.rz_pre.specs.declared.directive.Directive.{Directive}
-use Rattle.rz_pre.specs.declared.directive.Directive.TheVariants as directives
+use Rattle.rz_source.specs.declared.directive.Directive.{Directive}
+use Rattle.rz_source.specs.declared.directive.Directive.TheVariants as directives
 
 all_append : {A : Type 0} (P : A → Type 0) (xs ys : List A) → AllByRecursion P xs → AllByRecursion P ys → AllByRecursion P (xs ++ ys)
 all_append P [] ys all more = more
@@ -239,7 +239,7 @@ module _ (mark : Mark) where
 
     otherwise_on : (o : Option Part) → AnswerOn (otherwise mark o)
     otherwise_on None = tt
-    otherwise_on (Some part) = tt
+    otherwise_on (Some of) = tt
 
     ended_on : (o : Option Open) → AnswerOn (ended mark o)
     ended_on None = tt

@@ -16,7 +16,7 @@ use Rattle.rz_lex.specs.declared.token.Token.{Token}
 use Rattle.rz_pre.specs.Answers.{Then}
 use Rattle.rz_pre.specs.Line.{Does}
 use Rattle.rz_pre.specs.Live.{put, shapes_of, Live}
-use Rattle.rz_pre.specs.Source.{IsBadAt, IsTextOf}
+use Rattle.rz_source.specs.Source.{IsBadAt, IsTextOf}
 use Rattle.rz_pre.specs.declared.act.Act.{Act}
 use Rattle.rz_pre.specs.declared.act.Act.TheVariants.{Begin, End, Include, Put, Set, Turn}
 use Rattle.rz_pre.specs.declared.condition.Tool.{Tool}

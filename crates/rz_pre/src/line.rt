@@ -3,8 +3,8 @@ ghost use Rattle.rz_core.specs.Message.{IsNameable};
 ghost use Rattle.rz_core.specs.Stop.{OnFault};
 ghost use Rattle.rz_core.specs.declared.fault.Fault.{Fault};
 ghost use Rattle.rz_pre.specs.Answers.{Meets};
-ghost use Rattle.rz_pre.specs.Directive.{directive_in, unblanked};
-ghost use Rattle.rz_pre.specs.Line.{bad_directive, behind_first, defined, directive_word, ended, free_word, has_parameters, included, is_kept, open_part, or_bad, otherwise, part_of, part_where, passed_over, simple, stray, tested, undefined, Directs, Does, HasCondition, IsComputed, IsCut, IsReplaced, Obeys, PutsOut, Says, Turns};
+ghost use Rattle.rz_source.specs.Directive.{directive_in, unblanked};
+ghost use Rattle.rz_pre.specs.Line.{bad_directive, behind_first, defined, directive_word, ended, free_word, included, is_kept, open_part, or_bad, otherwise, part_of, part_where, passed_over, simple, stray, tested, undefined, Directs, Does, HasCondition, IsComputed, IsCut, IsReplaced, Obeys, PutsOut, Says, Turns};
 ghost use Rattle.rz_pre.specs.Live.{live_in};
 ghost use Rattle.rz_pre.specs.Macros.{rows_of};
 
@@ -12,12 +12,12 @@ use crate::act::Act;
 use crate::condition::{Tool, compute_condition, is_known};
 use crate::conditional::{Open, Part};
 use crate::copy::{copy_all, copy_word};
-use crate::directive::{Directive, directive_in, directive_text, has_parameters};
 use crate::expanded::expand_all;
 use crate::macros::Macros;
 use rz_core::{Bytes, Fault, Kept, Mark, NoMemory, Stop, Word};
 use rz_expr::role_of;
 use rz_lex::{RawLine, Shape, Token, Tokens, cut};
+use rz_source::{Directive, directive_in, directive_text, has_parameters};
 use std::alloc::Global;
 
 /// What a logical line does, where this is the innermost conditional around it. A line that is no directive

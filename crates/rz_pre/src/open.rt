@@ -9,9 +9,9 @@ ghost use Rattle.rz_pre.specs.Program.{bad_text, file_of, missing_file, names_of
 ghost use Rattle.rz_pre.specs.Reading.{state_of, together, IsUnread, Leaves, OnReadFault};
 
 use crate::reading::{Halt, Reading};
-use crate::source::to_mac_roman;
 use rz_core::{Bytes, Fault, FileNames, Kept, Mark, NoMemory, Stop, from_roman};
 use rz_folder::{Folder, Read};
+use rz_source::to_mac_roman;
 use std::alloc::Global;
 
 /// Opens the file that stands under the first of these names: the text of its source in Mac Roman. Where none

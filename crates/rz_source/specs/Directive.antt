@@ -1,10 +1,10 @@
 -- Which directive a logical line is. (MPW Rez.)
-use Rattle.std.specs.Prelude.{◌≡◌, ℕ, Bool, true, ◌==◌, if◌then◌else◌, List, [], ◌∷◌, codes, Option, Some, None}
+use Rattle.std.specs.Prelude.{◌≡◌, ℕ, Bool, true, false, ◌==◌, if◌then◌else◌, List, [], ◌∷◌, codes, Option, Some, None}
 use Rattle.std.specs.List.{take_while, AllByRecursion}
 use Rattle.std.specs.Str.{str_eq_ignore_ascii_case}
 use Rattle.rz_lex.specs.Classes.{is_blank, is_word_byte}
-use Rattle.rz_pre.specs.declared.directive.Directive.{Directive}
-use Rattle.rz_pre.specs.declared.directive.Directive.TheVariants.{Define, Elif, Else, Empty, Endif, If, Ifdef, Ifndef, Include, Other, Undefine}
+use Rattle.rz_source.specs.declared.directive.Directive.{Directive}
+use Rattle.rz_source.specs.declared.directive.Directive.TheVariants.{Define, Elif, Else, Empty, Endif, If, Ifdef, Ifndef, Include, Other, Undefine}
 
 -- blanks and nothing else
 abbrev pub AreBlanks : List ℕ → Type 0
@@ -54,3 +54,16 @@ of_hash (Some rest) = Some (directive_in (unblanked rest))
 -- the directive of a line whose first byte other than a blank is `#`
 abbrev pub directive_of : List ℕ → Option Directive
 directive_of line = of_hash (behind_hash (unblanked line))
+
+-- what follows the letters, digits and `_` at the front
+abbrev pub behind_word : List ℕ → List ℕ
+behind_word [] = []
+behind_word (byte ∷ rest) = if is_word_byte byte then behind_word rest else byte ∷ rest
+
+abbrev pub starts_with : ℕ → List ℕ → Bool
+starts_with byte [] = false
+starts_with byte (first ∷ rest) = first == byte
+
+-- a bracket stands directly behind the name, which stands behind the directive's word
+abbrev pub has_parameters : List ℕ → Bool
+has_parameters text = starts_with 40 (behind_word (unblanked (behind_word (unblanked text))))

@@ -1,8 +1,7 @@
 ghost use Rattle.std.specs.Prelude.{◌≡◌, ◌≤◌, length, option_map};
 ghost use Rattle.std.specs.List.{prefix_len};
 ghost use Rattle.rz_lex.specs.Classes.{is_blank, is_word_byte};
-ghost use Rattle.rz_pre.specs.Line.{behind_word, has_parameters};
-ghost use Rattle.rz_pre.specs.Directive.{behind_hash, directive_in, front_word, is, named, unblanked};
+ghost use Rattle.rz_source.specs.Directive.{behind_hash, behind_word, directive_in, front_word, has_parameters, is, named, unblanked};
 
 /// Which directive a line is.
 #[derive(Clone, Copy, Debug, PartialEq, Eq)]

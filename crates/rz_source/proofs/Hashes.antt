@@ -1,14 +1,17 @@
 -- Lines that begin with blanks and `#`, and the word behind them.
-use Rattle.std.proofs.Common.{◌≡◌, ◌≢◌, ℕ, true, false, List, [], ◌∷◌, ◌++◌, Option, Some, None, refl, sym, ap, ◌∙◌, append_assoc}
+use Rattle.std.proofs.Common.{◌≡◌, ◌≢◌, ℕ, Bool, true, false, List, [], ◌∷◌, ◌++◌, Option, Some, None, refl, sym, ap, ◌∙◌, append_assoc}
 use Rattle.std.specs.Prelude.{◌==◌, ◌↔◌}
 use Rattle.std.proofs.lemmas.Bool.{and_parts, eqb-true, false≢true, ne_eqb}
 use Rattle.std.proofs.lemmas.List.Sums.{take_while-cons}
 use Rattle.rz_lex.specs.Classes.{is_blank, is_word_byte}
 use Rattle.rz_lex.specs.Extent.{are_word_bytes}
 use Rattle.rz_lex.specs.Printed.{begins_word}
-use Rattle.rz_lex.proofs.Ends.{by_test}
-use Rattle.rz_pre.specs.Directive.{AreBlanks, behind_hash, directive_in, front_word, named, unblanked}
-use Rattle.rz_pre.specs.declared.directive.Directive.TheVariants.{Empty, Other}
+use Rattle.rz_source.specs.Directive.{AreBlanks, behind_hash, directive_in, front_word, named, unblanked}
+use Rattle.rz_source.specs.declared.directive.Directive.TheVariants.{Empty, Other}
+
+by_test : (P : Type 0) (b : Bool) → (b ≡ true → P) → (b ≡ false → P) → P
+by_test P true t f = t refl
+by_test P false t f = f refl
 
 -- blanks in front don't count
 skipped : (blanks rest : List ℕ) → AreBlanks blanks → unblanked (blanks ++ rest) ≡ unblanked rest

@@ -1,7 +1,7 @@
 use Rattle.std.proofs.Common.{◌≡◌, ◌+◌, ◌-◌, ◌≤◌, drop, length}
 use Rattle.std.specs.List.{prefix_len}
 use Rattle.rz_lex.specs.Classes.{is_word_byte}
-use Rattle.rz_pre.proofs.directive.word_size.Given as goal
+use Rattle.rz_source.proofs.directive.word_size.Given as goal
 
 abbrev pub invariant-loop-size : goal.invariant-loop-size
 invariant-loop-size l = record {

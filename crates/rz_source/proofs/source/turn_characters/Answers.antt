@@ -1,7 +1,7 @@
 use Rattle.std.proofs.Common.{◌+◌, sym, ap, subst, ◌∙◌, arith}
 use Rattle.std.specs.declared.str.CharIndices.{CharIndices}
-use Rattle.rz_pre.proofs.Turned.{turned_all, turned_lacks, turned_more, turned_none, Turned}
-use Rattle.rz_pre.proofs.source.turn_characters.Goals as goal
+use Rattle.rz_source.proofs.Turned.{turned_all, turned_lacks, turned_more, turned_none, Turned}
+use Rattle.rz_source.proofs.source.turn_characters.Goals as goal
 
 pub loop-offset-init : goal.loop-offset-init
 loop-offset-init c =

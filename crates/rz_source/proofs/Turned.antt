@@ -12,8 +12,8 @@ use Rattle.std.proofs.lemmas.Str.{cons_from_encodes, encode_same, encodes-append
 use Rattle.rz_core.specs.Roman.{roman_byte}
 use Rattle.rz_core.specs.Stop.{fault_so, gives_fault, gives_value, Gives, OnFault}
 use Rattle.rz_core.specs.declared.stop.Stop.{Stop}
-use Rattle.rz_pre.specs.declared.source.BadText.{BadText}
-use Rattle.rz_pre.specs.Source.{mark, IsBadAt, IsTextOf, IsUnmarked, LacksByteAt, Reaches, Spells, StopsAt, marked, unmarked}
+use Rattle.rz_source.specs.declared.source.BadText.{BadText}
+use Rattle.rz_source.specs.Source.{mark, IsBadAt, IsTextOf, IsUnmarked, LacksByteAt, Reaches, Spells, StopsAt, marked, unmarked}
 
 -- The loop over the characters.
 
@@ -249,6 +249,13 @@ one_fault source fault other bad bad_too =
     stop.front.split (one_text source bad.utf8 bad_too.utf8 bad.marked bad_too.marked ∙ stop_too.front.split) in
     let place : fault.offset ≡ other.offset = stop.front.place ∙ ap (λ (l : List ℕ). 3 + length l) same.0 ∙ sym stop_too.front.place in
     (λ i. record { offset = place i })
+
+module _ (source : List ℕ) (result : Result (List ℕ) (Stop BadText)) where
+  pub each_text : IfOk result (IsTextOf source) → OnFault result (λ fault. IsBadAt source fault.offset) → (text : List ℕ) → IsTextOf source text → Gives (Ok text) result
+  each_text = gives_value (IsTextOf source) (λ (fault : BadText). IsBadAt source fault.offset) (text_or_fault source) (one_text_of source) result
+
+  pub each_fault : IfOk result (IsTextOf source) → OnFault result (λ fault. IsBadAt source fault.offset) → (fault : BadText) → IsBadAt source fault.offset → Gives (Err fault) result
+  each_fault = gives_fault (IsTextOf source) (λ (fault : BadText). IsBadAt source fault.offset) (text_or_fault source) (one_fault source) result
 
 pub marked_text : (source utf8 : List ℕ) (result : Result (List ℕ) (Stop BadText)) → source ≡ mark ++ utf8 → IfOk result (Spells utf8) → IfOk result (IsTextOf source)
 marked_text source utf8 (Ok text) e s = marked utf8 e s

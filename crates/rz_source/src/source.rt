@@ -1,7 +1,7 @@
 ghost use Rattle.std.specs.Prelude.{◌≡◌, ℕ, ◌+◌, ◌^◌, ◌<◌, ◌≤◌, List, ◌++◌, length, IfOk, MatchOption, Ok, Err};
-ghost use Rattle.rz_core.specs.Stop.{OnFault};
-ghost use Rattle.rz_pre.specs.declared.source.BadText.{BadText};
-ghost use Rattle.rz_pre.specs.Source.{mark, IsBadAt, IsTextOf, IsUnmarked, LacksByteAt, Spells, StopsAt};
+ghost use Rattle.rz_core.specs.Stop.{Gives, OnFault};
+ghost use Rattle.rz_source.specs.declared.source.BadText.{BadText};
+ghost use Rattle.rz_source.specs.Source.{mark, IsBadAt, IsTextOf, IsUnmarked, LacksByteAt, Spells, StopsAt};
 
 use rz_core::{Bytes, Stop, to_roman};
 use std::alloc::Global;
@@ -26,6 +26,8 @@ pub fn to_mac_roman(alloc: Global, source: Bytes) -> Result<Bytes, Stop<BadText>
     ensures text { IfOk result (IsTextOf source) }
     ensures shorter { IfOk result (λ text. length text ≤ length source) }
     ensures bad { OnFault result (λ fault. IsBadAt source fault.offset) }
+    ensures every_text { (text : List ℕ) → IsTextOf source text → Gives (Ok text) result }
+    ensures every_fault { (fault : BadText) → IsBadAt source fault.offset → Gives (Err fault) result }
 {
     match behind_mark(source.as_slice()) {
         Some(text) => turn(alloc, text),

@@ -1,5 +1,5 @@
-use Rattle.rz_pre.proofs.Hashes.{byte_other, hash_line, no_word, word_named}
-use Rattle.rz_pre.proofs.laws.directives_are_lines.Goals as goal
+use Rattle.rz_source.proofs.Hashes.{byte_other, hash_line, no_word, word_named}
+use Rattle.rz_source.proofs.laws.directives_are_lines.Goals as goal
 
 pub returns-clause-hash : goal.returns-clause-hash
 returns-clause-hash c = hash_line

@@ -1,9 +1,9 @@
 use Rattle.std.proofs.Common.{rules, ℕ, ◌+◌, ◌<◌, List, length, sym, ap, subst, ◌∙◌}
 use Rattle.std.specs.Prelude.{IsUtf8}
 use Rattle.std.specs.Str.Lossy.{utf8_valid_len}
-use Rattle.rz_pre.specs.Source.{Spells}
-use Rattle.rz_pre.proofs.Turned.{turned_stops}
-use Rattle.rz_pre.proofs.source.turn.Goals as goal
+use Rattle.rz_source.specs.Source.{Spells}
+use Rattle.rz_source.proofs.Turned.{turned_stops}
+use Rattle.rz_source.proofs.source.turn.Goals as goal
 
 pub returns-else-is_empty-clause-bad : goal.returns-else-is_empty-clause-bad
 returns-else-is_empty-clause-bad c =
