@@ -1,9 +1,11 @@
-ghost use Rattle.std.specs.Prelude.{◌≡◌, ℕ, List, Result};
+ghost use Rattle.std.specs.Prelude.{◌≡◌, ℕ, List, Option, Result};
+ghost use Rattle.rz_core.specs.declared.fault.Fault.{Fault};
 ghost use Rattle.rz_folder.specs.Folder.{Files};
 ghost use Rattle.rz_lex.specs.declared.token.Shape.{Shape};
 ghost use Rattle.rz_pre.specs.Expand.{Expansion};
 ghost use Rattle.rz_pre.specs.Live.{live_in, Live, Row};
-ghost use Rattle.rz_pre.specs.Program.{Failure, ProgramGoes, State};
+ghost use Rattle.rz_pre.specs.Program.{start, Failure, ProgramGoes, State};
+ghost use Rattle.rz_pre.specs.Unfolding.{outcome, EachActs, Entry, ProgramUnfolds};
 ghost use Rattle.rz_pre.specs.declared.condition.Tool.{Tool};
 ghost use Rattle.rz_pre.specs.declared.program.Def.{Def};
 
@@ -21,6 +23,17 @@ pub fn one_program()
     one_expression();
     one_text();
 }
+
+/// A law, with nothing to run: what the named files mean is given by one list of entries, in which each line
+/// does what it does under what is live behind the entries before it, and what is read of an included file
+/// stands directly behind the line that includes it. The tokens, the definitions and the opened files are those
+/// that the entries give from the first to the last; a fault is the first one, and stands behind them.
+pub fn one_list_of_entries()
+    ensures { (files : Files) (tool : Tool) (names paths : List (List ℕ)) (defs : List Def) (answer : Result State Failure)
+        → ProgramGoes files tool names paths defs answer
+        → (entries : List Entry) × (fault : Option Fault) × ProgramUnfolds files tool names paths defs entries fault
+        × EachActs tool entries (start defs) × (answer ≡ outcome entries fault (start defs)) }
+{}
 
 /// A law, with nothing to run: a token has at most one expansion, with one number of tokens that are handled
 /// for it.
