@@ -5,6 +5,7 @@ use Rattle.rz_core.specs.declared.fault.Fault.{Fault}
 use Rattle.rz_core.specs.declared.fault.Mark.{Mark}
 use Rattle.rz_folder.specs.Folder.{Files}
 use Rattle.rz_lex.specs.declared.raw_line.RawLine.{RawLine}
+use Rattle.rz_pre.specs.Answers.{Then}
 use Rattle.rz_pre.specs.Line.{Does}
 use Rattle.rz_pre.specs.Program.{bad_text, ends, fails, file_of, innermost, levels_below, missing_file, names_of, opens_after, start, state_after, too_deep, utf8_name, with_file, Enters, Failure, Follows, IncludedGoes, Includes, LineGoes, LinesGo, NamedGoes, NamesGo, Opens, OpensAs, State, TextGoes}
 use Rattle.rz_pre.specs.Unfolding.{behind_all, left_open, outcome, BehindLine, EachActs, Entry, FileUnfolds, IncludedUnfolds, Line, LinesUnfold, NamesUnfold, Opened, Stretch}
@@ -32,6 +33,10 @@ behind_append : (xs ys : List Entry) (s : State) → behind_all (xs ++ ys) s ≡
 behind_append [] ys s = refl
 behind_append (Opened name ∷ xs) ys s = behind_append xs ys (with_file name s)
 behind_append (Line level around line act ∷ xs) ys s = behind_append xs ys (state_after act s)
+
+outcome_file : (name : List ℕ) (entries : List Entry) (fault : Option Fault) (s : State) → outcome entries fault (with_file name s) ≡ outcome (Opened name ∷ entries) fault s
+outcome_file name entries None s = refl
+outcome_file name entries (Some fault) s = refl
 
 module _ (tool : Tool) where
   each_append : (xs ys : List Entry) (s : State) → EachActs tool xs s → EachActs tool ys (behind_all xs s) → EachActs tool (xs ++ ys) s
@@ -183,10 +188,6 @@ module _ (tool : Tool) where
         is = ap err (err_is (List ℕ × State) failure own is ∙ λ i. record { fault = own.fault; files = same i });
       }
 
-      outcome_opened : (name : List ℕ) (entries : List Entry) (fault : Option Fault) (s : State) → outcome entries fault (with_file name s) ≡ outcome (Opened name ∷ entries) fault s
-      outcome_opened name entries None s = refl
-      outcome_opened name entries (Some fault) s = refl
-
       in_file : (missing : Fault) (s : State) (found : Option (List ℕ × List ℕ)) (opened : List ℕ × State) (answer : Result State Failure) → OpensAs missing s found (Ok opened)
           → TextGoes Reads tool (length s.files) opened.0 opened.1 answer → Unfolded (FileUnfolds Inner tool level missing s found) s answer
       in_file missing s None opened answer is goes = absurd (ok_err opened (record { fault = missing; files = s.files }) is)
@@ -198,7 +199,7 @@ module _ (tool : Tool) where
             fault = u.fault;
             unfolds = (u.entries, refl, inr (text, here.0, here.1, has, here.2, u.unfolds));
             each = u.each;
-            is = u.is ∙ outcome_opened found.0 u.entries u.fault s;
+            is = u.is ∙ outcome_file found.0 u.entries u.fault s;
           }
       in_file missing s (Some found) opened answer (inr (own, bad, is)) goes = absurd (ok_err opened own is)
 
@@ -263,3 +264,102 @@ module _ (tool : Tool) where
     all_names (name ∷ names) s answer (inl (after, goes, further)) =
         first_named name names s after answer (named name s (Ok after) goes) (all_names names after answer further)
     all_names (name ∷ names) s answer (inr (failure, goes, is)) = first_broken name names s failure answer is (named name s (Err failure) goes)
+
+-- What the entries give is the program.
+
+module _ (tool : Tool) where
+  module _ (Reads : Includes) (Inner : List ℕ → Mark → State → Stretch)
+      (back : (name : List ℕ) (mark : Mark) (s : State) (entries : List Entry) (fault : Option Fault) → Inner name mark s entries fault → Reads name mark s (outcome entries fault s)) where
+    include_back : (name : List ℕ) (mark : Mark) (opens : List Open) (s : State) (inner : List Entry) (fault : Option Fault)
+        → Reads name mark s (outcome inner fault s) → Follows Reads mark (acts.Include name) opens s (next_of tool opens inner fault s)
+    include_back name mark opens s inner None reads = inl (behind_all inner s, reads, refl)
+    include_back name mark opens s inner (Some fault) reads = inr (record { fault = fault; files = (behind_all inner s).files }, reads, refl)
+
+    plain_back : (opens : List Open) (s : State) (inner : List Entry) (fault : Option Fault) → (inner ≡ []) × (fault ≡ None) → next_of tool opens inner fault s ≡ Ok (opens, s)
+    plain_back opens s inner fault none = λ i. next_of tool opens (none.0 i) (none.1 i) s
+
+    follow_back : (mark : Mark) (act : Act) (opens : List Open) (s : State) (inner : List Entry) (fault : Option Fault) → BehindLine Inner mark act (state_after act s) inner fault
+        → Follows Reads mark act opens s (next_of tool (opens_after mark act opens) inner fault (state_after act s))
+    follow_back mark (acts.Include name) opens s inner fault unfolds = include_back name mark opens s inner fault (back name mark s inner fault unfolds)
+    follow_back mark acts.Nothing opens s inner fault none = plain_back opens s inner fault none
+    follow_back mark (acts.Put tokens) opens s inner fault none = plain_back opens _ inner fault none
+    follow_back mark (acts.Set word body) opens s inner fault none = plain_back opens _ inner fault none
+    follow_back mark (acts.Begin first) opens s inner fault none = plain_back _ s inner fault none
+    follow_back mark (acts.Turn to is_last) opens s inner fault none = plain_back _ s inner fault none
+    follow_back mark acts.End opens s inner fault none = plain_back _ s inner fault none
+
+    module _ (level : ℕ) where
+      end_back : (opens : List Open) (s : State) → outcome [] (left_open opens) s ≡ ends opens s
+      end_back [] s = refl
+      end_back (one ∷ opens) s = refl
+
+      lines_back : (ls : List RawLine) (ending : Option Fault) (opens : List Open) (s : State) (entries : List Entry) (fault : Option Fault)
+          → LinesUnfold Inner tool level ls ending opens s entries fault → LinesGo Reads tool ls ending opens s (outcome entries fault s)
+      lines_back [] None opens s entries fault none = (λ i. outcome (none.0 i) (none.1 i) s) ∙ end_back opens s
+      lines_back [] (Some open_comment) opens s entries fault none = λ i. outcome (none.0 i) (none.1 i) s
+      lines_back (line ∷ ls) ending opens s entries fault (inl (own, does, none, is)) =
+          inr (record { fault = own; files = s.files }, inr (record { fault = own; files = s.files }, (does, refl), refl), λ i. outcome (none i) (is i) s)
+      lines_back (line ∷ ls) ending opens s entries fault (inr (act, inner, does, inl (own, unfolds, are, is))) =
+          inr (
+            record { fault = own; files = (behind_all inner (state_after act s)).files },
+            inl (act, does, follow_back line.mark act opens s inner (Some own) unfolds),
+            λ i. outcome (are i) (is i) s,
+          )
+      lines_back (line ∷ ls) ending opens s entries fault (inr (act, inner, does, inr (more, unfolds, are, further))) =
+          inl (
+            (opens_after line.mark act opens, behind_all inner (state_after act s)),
+            inl (act, does, follow_back line.mark act opens s inner None unfolds),
+            subst (LinesGo Reads tool ls ending (opens_after line.mark act opens) (behind_all inner (state_after act s)))
+                (outcome_line tool level (innermost opens) line act inner more fault s ∙ λ i. outcome (sym are i) fault s)
+                (lines_back ls ending (opens_after line.mark act opens) (behind_all inner (state_after act s)) more fault further),
+          )
+
+      -- a file, where this is what opening it answers
+      file_back : (missing : Fault) (s : State) (found : Option (List ℕ × List ℕ)) (entries : List Entry) (fault : Option Fault)
+          → FileUnfolds Inner tool level missing s found entries fault
+          → Then (OpensAs missing s found) (λ opened. TextGoes Reads tool (length s.files) opened.0 opened.1) (outcome entries fault s)
+      file_back missing s None entries fault none = inr (record { fault = missing; files = s.files }, refl, λ i. outcome (none.0 i) (none.1 i) s)
+      file_back missing s (Some found) entries fault (rest, are, inl (offset, bad, none, is)) =
+          inr (
+            record { fault = bad_text (length s.files) offset; files = s.files ++ found.0 ∷ [] },
+            inr (record { fault = bad_text (length s.files) offset; files = s.files ++ found.0 ∷ [] }, ((offset, bad, refl), refl), refl),
+            (λ i. outcome (are i) (is i) s) ∙ λ i. outcome (Opened found.0 ∷ none i) (Some (bad_text (length s.files) offset)) s,
+          )
+      file_back missing s (Some found) entries fault (rest, are, inr (text, ls, ending, has, lines, unfolds)) =
+          inl (
+            (text, with_file found.0 s),
+            inl (text, has, refl),
+            (
+              ls,
+              ending,
+              lines,
+              subst (LinesGo Reads tool ls ending [] (with_file found.0 s)) (outcome_file found.0 rest fault s ∙ λ i. outcome (sym are i) fault s)
+                  (lines_back ls ending [] (with_file found.0 s) rest fault unfolds),
+            ),
+          )
+
+  module _ (files : Files) (paths : List (List ℕ)) where
+    included_back : (levels level : ℕ) (name : List ℕ) (mark : Mark) (s : State) (entries : List Entry) (fault : Option Fault)
+        → IncludedUnfolds tool files paths levels level name mark s entries fault → IncludedGoes tool files paths levels name mark s (outcome entries fault s)
+    included_back zero level name mark s entries fault none = λ i. outcome (none.0 i) (none.1 i) s
+    included_back (suc levels) level name mark s entries fault unfolds =
+        file_back (IncludedGoes tool files paths levels) (IncludedUnfolds tool files paths levels (level + 1)) (included_back levels (level + 1)) level
+        (missing_file (Some mark) name) s (file_of files (names_of paths (utf8_name name))) entries fault unfolds
+
+    named_back : (name : List ℕ) (s : State) (entries : List Entry) (fault : Option Fault) → NamedUnfolds tool files paths name s entries fault → NamedGoes tool files paths name s (outcome entries fault s)
+    named_back name s entries fault unfolds =
+        file_back (IncludedGoes tool files paths levels_below) (IncludedUnfolds tool files paths levels_below 2) (included_back levels_below 2) 1
+        (missing_file None name) s (file_of files (name ∷ [])) entries fault unfolds
+
+    pub names_back : (names : List (List ℕ)) (s : State) (entries : List Entry) (fault : Option Fault)
+        → NamesUnfold tool files paths names s entries fault → NamesGo tool files paths names s (outcome entries fault s)
+    names_back [] s entries fault none = λ i. outcome (none.0 i) (none.1 i) s
+    names_back (name ∷ names) s entries fault (inl (own, unfolds, is)) =
+        inr (record { fault = own; files = (behind_all entries s).files }, named_back name s entries (Some own) unfolds, λ i. outcome entries (is i) s)
+    names_back (name ∷ names) s entries fault (inr (first, more, unfolds, are, further)) =
+        inl (
+          behind_all first s,
+          named_back name s first None unfolds,
+          subst (NamesGo tool files paths names (behind_all first s)) (outcome_append tool first more fault s ∙ λ i. outcome (sym are i) fault s)
+              (names_back names (behind_all first s) more fault further),
+        )

@@ -29,10 +29,13 @@ pub fn one_program()
 /// stands directly behind the line that includes it. The tokens, the definitions and the opened files are those
 /// that the entries give from the first to the last; a fault is the first one, and stands behind them.
 pub fn one_list_of_entries()
-    ensures { (files : Files) (tool : Tool) (names paths : List (List ℕ)) (defs : List Def) (answer : Result State Failure)
+    ensures entries { (files : Files) (tool : Tool) (names paths : List (List ℕ)) (defs : List Def) (answer : Result State Failure)
         → ProgramGoes files tool names paths defs answer
         → (entries : List Entry) × (fault : Option Fault) × ProgramUnfolds files tool names paths defs entries fault
         × EachActs tool entries (start defs) × (answer ≡ outcome entries fault (start defs)) }
+    ensures program { (files : Files) (tool : Tool) (names paths : List (List ℕ)) (defs : List Def) (entries : List Entry) (fault : Option Fault)
+        → ProgramUnfolds files tool names paths defs entries fault
+        → ProgramGoes files tool names paths defs (outcome entries fault (start defs)) }
 {}
 
 /// A law, with nothing to run: a token has at most one expansion, with one number of tokens that are handled
