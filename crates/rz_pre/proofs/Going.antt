@@ -126,8 +126,11 @@ module _ (Reads : Includes) (tool : Tool) (line : RawLine) (opens : List Open) (
   included_is acts.End name is = absurd cc
 
   pub steps_on : (after : List Open) (t : State) → Steps tool line opens s (Ok None) after t → LineGoes Reads tool line opens s (Ok (after, t))
-  steps_on after t (act, does, none, behind, then) = inl (act, does,
-      subst (λ (p : List Open × State). Follows Reads line.mark act opens s (Ok p)) (λ i. (sym behind i, sym then i)) (follows_plain act (sym none)))
+  steps_on after t (act, does, none, behind, then) = inl (
+    act,
+    does,
+    subst (λ (p : List Open × State). Follows Reads line.mark act opens s (Ok p)) (λ i. (sym behind i, sym then i)) (follows_plain act (sym none)),
+  )
 
   -- a line that includes a file changes nothing by itself
   pub record Including (name : List ℕ) (after : List Open) (t : State) : Type 0 where
@@ -147,10 +150,16 @@ module _ (Reads : Includes) (tool : Tool) (line : RawLine) (opens : List Open) (
       → (answer : Result State Failure) (next : Result (List Open × State) Failure)
       → Reads name line.mark t answer → ((u : State) → answer ≡ Ok u → next ≡ Ok (after, u)) → ((failure : Failure) → answer ≡ Err failure → next ≡ Err failure)
       → LineGoes Reads tool line opens s next
-  includes name after t i (Ok u) next reads ok err = inl (acts.Include name, i.does,
-      inl (u, subst (λ (v : State). Reads name line.mark v (Ok u)) i.state reads, ok u refl ∙ ap (λ (os : List Open). Ok (os, u)) i.still))
-  includes name after t i (Err failure) next reads ok err = inl (acts.Include name, i.does,
-      inr (failure, subst (λ (v : State). Reads name line.mark v (Err failure)) i.state reads, err failure refl))
+  includes name after t i (Ok u) next reads ok err = inl (
+    acts.Include name,
+    i.does,
+    inl (u, subst (λ (v : State). Reads name line.mark v (Ok u)) i.state reads, ok u refl ∙ ap (λ (os : List Open). Ok (os, u)) i.still),
+  )
+  includes name after t i (Err failure) next reads ok err = inl (
+    acts.Include name,
+    i.does,
+    inr (failure, subst (λ (v : State). Reads name line.mark v (Err failure)) i.state reads, err failure refl),
+  )
 
   pub steps_out : (fault : Fault) (after : List Open) (t : State) → Steps tool line opens s (Err (stops.Refused fault)) after t → LineGoes Reads tool line opens s (fails fault t)
   steps_out fault after t (does, same) = inr (record { fault = fault; files = t.files }, (does, ap (λ (v : State). v.files) same), refl)

@@ -12,22 +12,20 @@ use Rattle.rz_lex.specs.declared.raw_line.RawLine.{RawLine}
 use Rattle.rz_lex.specs.declared.token.Token.{Token}
 use Rattle.rz_pre.specs.Answers.{Then}
 use Rattle.rz_pre.specs.Line.{Acts, Does, Directs, HasCondition, IsComputed, IsCut, IsReplaced, Obeys, PutsOut, Says, Turns, WhereKept, behind_first, is_kept, open_part}
-use Rattle.rz_pre.specs.Directive.{behind_hash, directive_in, unblanked}
+use Rattle.rz_source.specs.Directive.{behind_hash, directive_in, unblanked}
 use Rattle.rz_pre.specs.Live.{Live}
 use Rattle.rz_pre.specs.Program.{bad_text, innermost, Enters, Failure, Follows, HasText, IncludedGoes, Includes, LineGoes, LinesGo, NamedGoes, NamesGo, Opens, OpensAs, State, TextGoes, WithFiles, file_of, levels_below, missing_file, names_of, utf8_name}
-use Rattle.rz_pre.specs.Source.{IsBadAt, IsTextOf}
+use Rattle.rz_source.specs.Source.{IsBadAt, IsTextOf}
 use Rattle.rz_pre.specs.declared.act.Act.{Act}
 use Rattle.rz_pre.specs.declared.act.Act.TheVariants as acts
 use Rattle.rz_pre.specs.declared.condition.Tool.{Tool}
 use Rattle.rz_pre.specs.declared.conditional.Open.{Open}
 use Rattle.rz_pre.specs.declared.conditional.Part.{Part}
 use Rattle.rz_pre.specs.declared.conditional.Part.TheVariants.{Chosen, Past, Waiting}
-use Rattle.rz_pre.specs.declared.directive.Directive.{Directive}
-use Rattle.rz_pre.specs.declared.directive.Directive.TheVariants as directives
-use Rattle.rz_pre.specs.declared.source.BadText.{BadText}
+use Rattle.rz_source.specs.declared.directive.Directive.{Directive}
+use Rattle.rz_source.specs.declared.directive.Directive.TheVariants as directives
 use Rattle.rz_pre.proofs.OneCondition.{condition_or_fault, one_condition, one_condition_fault, OneTerm}
 use Rattle.rz_pre.proofs.Replaced.{line_or_fault, one_fault, one_line}
-use Rattle.rz_pre.proofs.Turned as source
 
 -- at most one answer
 abbrev pub Once : {X F : Type 0} → (Result X F → Type 0) → Type 0
@@ -84,6 +82,11 @@ pub record OneCut : Type 0 where
   pub tokens : (mark : Mark) (line : List ℕ) (tokens others : List Token) → Cuts mark line tokens → Cuts mark line others → tokens ≡ others
   pub fault : (mark : Mark) (line : List ℕ) (fault other : Fault) → Refuses mark line fault → Refuses mark line other → fault ≡ other
   pub not_both : (mark : Mark) (line : List ℕ) (tokens : List Token) (fault : Fault) → Cuts mark line tokens → Refuses mark line fault → ⊥
+
+pub record OneText : Type 0 where
+  pub text : (source text other : List ℕ) → IsTextOf source text → IsTextOf source other → text ≡ other
+  pub fault : (source : List ℕ) (offset other : ℕ) → IsBadAt source offset → IsBadAt source other → offset ≡ other
+  pub not_both : (source text : List ℕ) (offset : ℕ) → IsTextOf source text → IsBadAt source offset → ⊥
 
 module _ (cut : OneCut) (term : OneTerm) (tool : Tool) where
   once_cut : (mark : Mark) (bytes : List ℕ) → Once (IsCut mark bytes)
@@ -148,7 +151,7 @@ module _ (cut : OneCut) (term : OneTerm) (tool : Tool) where
     pub once_does : (around : Option Open) (line : RawLine) → Once (Does live tool around line)
     once_does around line = once_acts around line.mark line.bytes (behind_hash (unblanked line.bytes))
 
-  module _ (one_lines : OneLines) where
+  module _ (one_lines : OneLines) (turned : OneText) where
     module _ (Reads : Includes) (once_read : (name : List ℕ) (mark : Mark) (s : State) → Once (Reads name mark s)) where
       once_follows : (mark : Mark) (act : Act) (opens : List Open) (s : State) → Once (Follows Reads mark act opens s)
       once_follows mark acts.Nothing opens s = once_is _
@@ -174,13 +177,10 @@ module _ (cut : OneCut) (term : OneTerm) (tool : Tool) where
           once_lines b.0 b.1 [] s one other
           (subst (λ (ending : Option Fault). LinesGo Reads tool b.0 ending [] s one) same.1 (subst (λ (lines : List RawLine). LinesGo Reads tool lines a.1 [] s one) same.0 a.3)) b.3
 
-    same_offset : (text : List ℕ) (one other : ℕ) → IsBadAt text one → IsBadAt text other → one ≡ other
-    same_offset text one other a b = ap (λ (fault : BadText). fault.offset) (source.one_fault text (record { offset = one }) (record { offset = other }) a b)
-
-    once_turned_text : (file : ℕ) (text : List ℕ) → Once (HasText file text)
-    once_turned_text file text = once_by (HasText file text) (source.one_text_of text)
-        (λ f g a b. a.2 ∙ ap (bad_text file) (same_offset text a.0 b.0 a.1 b.1) ∙ sym b.2)
-        (λ given fault a b. source.text_or_fault text given (record { offset = b.0 }) a b.1)
+    once_turned_text : (file : ℕ) (source : List ℕ) → Once (HasText file source)
+    once_turned_text file source = once_by (HasText file source) (turned.text source)
+        (λ f g a b. a.2 ∙ ap (bad_text file) (turned.fault source a.0 b.0 a.1 b.1) ∙ sym b.2)
+        (λ given fault a b. turned.not_both source given b.0 a b.1)
 
     once_opens_as : (missing : Fault) (s : State) (found : Option (List ℕ × List ℕ)) → Once (OpensAs missing s found)
     once_opens_as missing s None = once_is _

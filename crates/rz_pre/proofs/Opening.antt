@@ -15,8 +15,8 @@ use Rattle.rz_core.specs.declared.stop.Stop.TheVariants as stops
 use Rattle.rz_folder.specs.Folder.{Files, Reads}
 use Rattle.rz_folder.specs.declared.folder.Read.TheVariants as read
 use Rattle.rz_pre.specs.Program.{file_of, first_file}
-use Rattle.rz_pre.specs.Source.{mark, Spells}
-use Rattle.rz_pre.specs.declared.source.BadText.{BadText}
+use Rattle.rz_source.specs.Source.{mark, Spells}
+use Rattle.rz_source.specs.declared.source.BadText.{BadText}
 
 pub if_some : {A : Type 0} (o : Option A) (P : A → Type 0) → ((x : A) → o ≡ Some x → P x) → IfSome o P
 if_some None P so = tt
@@ -68,26 +68,3 @@ named_more own paths names after k path whole is so_far built more =
     ∙ ap (λ (w : List ℕ). own ∷ map (λ path. path ++ 47 ∷ own) (take k paths) ++ w ∷ []) built
     ∙ ap (λ (l : List (List ℕ)). own ∷ l) (sym (map-append (λ (path : List ℕ). path ++ 47 ∷ own) (take k paths) (path ∷ [])))
     ∙ ap (λ (l : List (List ℕ)). own ∷ map (λ path. path ++ 47 ∷ own) l) (sym (take_at_more paths k path is))
-
--- A text in Mac Roman is not longer than its source.
-
-encodes_longer : (cs : List ℕ) → length cs ≤ length (encode_utf8_all cs)
-encodes_longer [] = omega arith
-encodes_longer (c ∷ cs) =
-    let one = len_utf8_bounds c in
-    omega (arith, length-append (encode_utf8 c) (encode_utf8_all cs), length-encode c, one.0, encodes_longer cs)
-
-each_one : (cs bytes : List ℕ) → map roman_byte cs ≡ map Some bytes → length bytes ≡ length cs
-each_one [] [] e = refl
-each_one [] (b ∷ bytes) e = absurd (cc e)
-each_one (c ∷ cs) [] e = absurd (cc e)
-each_one (c ∷ cs) (b ∷ bytes) e =
-    let later : map roman_byte cs ≡ map Some bytes = cc e in
-    ap (λ n. suc n) (each_one cs bytes later)
-
-spells_shorter : (utf8 bytes : List ℕ) → Spells utf8 bytes → length bytes ≤ length utf8
-spells_shorter utf8 bytes s = omega (arith, each_one s.characters bytes s.each, encodes_longer s.characters, ap length s.encoded)
-
-pub text_shorter : (source utf8 : List ℕ) (result : Result (List ℕ) (Stop BadText)) → source ≡ mark ++ utf8 → IfOk result (Spells utf8) → IfOk result (λ text. length text ≤ length source)
-text_shorter source utf8 (Ok text) is spells = omega (arith, spells_shorter utf8 text spells, ap length is, length-append mark utf8)
-text_shorter source utf8 (Err stop) is spells = tt

@@ -4,9 +4,9 @@ pub mod Macros
 pub mod Steps
 pub mod Expanded
 pub mod Condition
-pub mod Source
-pub mod Directive
 pub mod Answers
 pub mod Line
 pub mod Program
 pub mod Reading
+pub mod Placed
+pub mod Unfolding

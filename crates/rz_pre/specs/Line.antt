@@ -6,7 +6,6 @@ use Rattle.rz_core.specs.declared.fault.Kept.{Kept}
 use Rattle.rz_core.specs.declared.fault.Kept.TheVariants.{Name, Nothing as NothingKept}
 use Rattle.rz_core.specs.declared.fault.Mark.{Mark}
 use Rattle.rz_core.specs.declared.resource.Word.{Word}
-use Rattle.rz_lex.specs.Classes.{is_word_byte}
 use Rattle.rz_lex.specs.Cutting.{Cuts, Refuses}
 use Rattle.rz_lex.specs.declared.raw_line.RawLine.{RawLine}
 use Rattle.rz_lex.specs.declared.token.Shape.{Shape}
@@ -16,7 +15,7 @@ use Rattle.rz_expr.specs.Value.{is_zero}
 use Rattle.rz_expr.specs.Words.{is_label, role_of}
 use Rattle.rz_pre.specs.Answers.{Then}
 use Rattle.rz_pre.specs.Condition.{is_known, ConditionFails, IsCondition}
-use Rattle.rz_pre.specs.Directive.{behind_hash, directive_in, unblanked}
+use Rattle.rz_source.specs.Directive.{behind_hash, directive_in, has_parameters, unblanked}
 use Rattle.rz_pre.specs.Expanded.{ExpandInto, FirstTooLong}
 use Rattle.rz_pre.specs.Live.{Live}
 use Rattle.rz_pre.specs.declared.act.Act.{Act}
@@ -25,8 +24,8 @@ use Rattle.rz_pre.specs.declared.condition.Tool.{Tool}
 use Rattle.rz_pre.specs.declared.conditional.Open.{Open}
 use Rattle.rz_pre.specs.declared.conditional.Part.{Part}
 use Rattle.rz_pre.specs.declared.conditional.Part.TheVariants.{Chosen, Past, Waiting}
-use Rattle.rz_pre.specs.declared.directive.Directive.{Directive}
-use Rattle.rz_pre.specs.declared.directive.Directive.TheVariants as directives
+use Rattle.rz_source.specs.declared.directive.Directive.{Directive}
+use Rattle.rz_source.specs.declared.directive.Directive.TheVariants as directives
 
 -- Answers of what stands below.
 
@@ -120,26 +119,13 @@ abbrev pub tested : Live → Bool → List Token → Option Act
 tested live wanted [] = None
 tested live wanted (name ∷ rest) = option_map (λ word. Begin (part_where (if wanted then is_known live word.bytes else not (is_known live word.bytes)))) (word_in name.shape)
 
--- what follows the letters, digits and `_` at the front
-abbrev pub behind_word : List ℕ → List ℕ
-behind_word [] = []
-behind_word (byte ∷ rest) = if is_word_byte byte then behind_word rest else byte ∷ rest
-
-abbrev pub starts_with : ℕ → List ℕ → Bool
-starts_with byte [] = false
-starts_with byte (first ∷ rest) = first == byte
-
--- a bracket stands directly behind the name, which stands behind the directive's word
-abbrev pub has_parameters : List ℕ → Bool
-has_parameters text = starts_with 40 (behind_word (unblanked (behind_word (unblanked text))))
-
 abbrev pub simple : Live → List ℕ → Directive → List Token → Option Act
 simple live text directives.Include tokens = included tokens
 simple live text directives.Define tokens = defined (has_parameters text) tokens
 simple live text directives.Undefine tokens = undefined tokens
 simple live text directives.Ifdef tokens = tested live true tokens
 simple live text directives.Ifndef tokens = tested live false tokens
-simple live text other tokens = None
+simple live text directive tokens = None
 
 -- What a line does.
 
@@ -195,13 +181,13 @@ ended mark (Some one) = Ok End
 -- a directive that is kept, and one that isn't: of a conditional that begins there no part is chosen
 abbrev pub Obeys : Live → Tool → Mark → List ℕ → Directive → Result Act Fault → Type 0
 Obeys live tool mark text directives.If = Asks live tool mark text (λ value. Begin (part_of value))
-Obeys live tool mark text other = Says live mark text other
+Obeys live tool mark text directive = Says live mark text directive
 
 abbrev pub passed_over : Directive → Act
 passed_over directives.If = Begin Past
 passed_over directives.Ifdef = Begin Past
 passed_over directives.Ifndef = Begin Past
-passed_over other = Nothing
+passed_over directive = Nothing
 
 -- what a directive does, where this is the innermost conditional around it
 abbrev pub Directs : Live → Tool → Option Open → Mark → List ℕ → Directive → Result Act Fault → Type 0
@@ -209,7 +195,7 @@ Directs live tool around mark text directives.Elif = Turns live tool mark text (
 Directs live tool around mark text directives.Else = λ answer. answer ≡ otherwise mark (open_part around)
 Directs live tool around mark text directives.Endif = λ answer. answer ≡ ended mark around
 Directs live tool around mark text directives.Empty = λ answer. answer ≡ Ok Nothing
-Directs live tool around mark text other = WhereKept (is_kept around) (Obeys live tool mark text other) (passed_over other)
+Directs live tool around mark text directive = WhereKept (is_kept around) (Obeys live tool mark text directive) (passed_over directive)
 
 -- what a line does: what stands behind its `#`, or its bytes
 abbrev pub Acts : Live → Tool → Option Open → Mark → List ℕ → Option (List ℕ) → Result Act Fault → Type 0

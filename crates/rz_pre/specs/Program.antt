@@ -16,7 +16,7 @@ use Rattle.rz_lex.specs.declared.token.Token.{Token}
 use Rattle.rz_pre.specs.Answers.{Then}
 use Rattle.rz_pre.specs.Line.{Does}
 use Rattle.rz_pre.specs.Live.{put, shapes_of, Live}
-use Rattle.rz_pre.specs.Source.{IsBadAt, IsTextOf}
+use Rattle.rz_source.specs.Source.{IsBadAt, IsTextOf}
 use Rattle.rz_pre.specs.declared.act.Act.{Act}
 use Rattle.rz_pre.specs.declared.act.Act.TheVariants.{Begin, End, Include, Put, Set, Turn}
 use Rattle.rz_pre.specs.declared.condition.Tool.{Tool}
@@ -50,9 +50,9 @@ innermost (one ∷ opens) = Some one
 
 -- the conditionals behind a line on this place that does this
 abbrev pub opens_after : Mark → Act → List Open → List Open
-opens_after mark (Begin part) opens = record { mark = mark; part = part; is_last = false } ∷ opens
-opens_after mark (Turn part is_last) [] = []
-opens_after mark (Turn part is_last) (one ∷ opens) = record { mark = one.mark; part = part; is_last = is_last } ∷ opens
+opens_after mark (Begin first) opens = record { mark = mark; part = first; is_last = false } ∷ opens
+opens_after mark (Turn next is_last) [] = []
+opens_after mark (Turn next is_last) (one ∷ opens) = record { mark = one.mark; part = next; is_last = is_last } ∷ opens
 opens_after mark End [] = []
 opens_after mark End (one ∷ opens) = opens
 opens_after mark other opens = opens

@@ -1,4 +1,4 @@
-use crate::Part;
+use crate::conditional::Part;
 use rz_core::{Bytes, Word};
 use rz_lex::Tokens;
 

@@ -1,6 +1,6 @@
 ghost use Rattle.std.specs.Prelude.{◌≡◌, ◌<◌, ◌≤◌, ◌++◌, ◌∷◌, [], ℤ, List, Ok, Err, Some, length, pos, IfOk, IfSome, MatchOption, OnOk, option_map};
 ghost use Rattle.std.proofs.Common.{rules};
-ghost use Rattle.rz_core.specs.Stop.{Gives, OnFault};
+ghost use Rattle.rz_core.specs.Stop.{OnFault};
 ghost use Rattle.rz_core.specs.declared.fault.Fault.{Fault};
 ghost use Rattle.rz_core.specs.declared.fault.Mark.{Mark};
 ghost use Rattle.rz_lex.specs.Printed.{token_of};
@@ -12,9 +12,10 @@ ghost use Rattle.rz_pre.specs.declared.condition.Tool.{Tool};
 ghost use Rattle.rz_pre.specs.Macros.{rows_of};
 
 use crate::copy::{copy_at, copy_of};
-use crate::{Macros, expand_all};
+use crate::expanded::expand_all;
+use crate::macros::Macros;
 use rz_core::{Fault, Kept, Mark, NoMemory, Stop, Word};
-use rz_expr::{Env, FactWord, Role, eval, one_expression, read_expr, role_of};
+use rz_expr::{Env, FactWord, Role, eval, read_expr, role_of};
 use rz_lex::{Shape, Sign, Token, Tokens};
 use std::alloc::Global;
 
@@ -64,23 +65,6 @@ impl Env for NoNames {
 /// handled, else 114 where more than 1,024 tokens are left, one is the name of a function as `$$ID`, they
 /// are no expression, or it has no value. (MPW Rez.)
 pub fn compute_condition(
-    alloc: Global,
-    macros: &Macros,
-    tool: Tool,
-    mark: Mark,
-    tokens: &[Token],
-) -> Result<i32, Stop<Fault>>
-    ensures value { IfOk result (IsCondition (live_in (rows_of macros.now)) tool tokens.now) }
-    ensures fault { OnFault result (ConditionFails (live_in (rows_of macros.now)) tool mark tokens.now) }
-    ensures every_value { (value : ℤ) → IsCondition (live_in (rows_of macros.now)) tool tokens.now value → Gives (Ok value) result }
-    ensures every_fault { (fault : Fault) → ConditionFails (live_in (rows_of macros.now)) tool mark tokens.now fault → Gives (Err fault) result }
-{
-    one_condition();
-    value_or_fault(alloc, macros, tool, mark, tokens)
-}
-
-/// The same, with the clauses that say it one way.
-fn value_or_fault(
     alloc: Global,
     macros: &Macros,
     tool: Tool,
@@ -290,16 +274,4 @@ fn word_number(tool: Tool, word: &Word) -> u32
         Tool::DeRez => is(b"derez", name),
     };
     u32::from(is(b"true", name) || own)
-}
-
-/// A law, with nothing to run: a condition has at most one value, at most one fault, and never both.
-pub fn one_condition()
-    ensures value { (live : Live) (tool : Tool) (tokens : List Token) (one other : ℤ)
-        → IsCondition live tool tokens one → IsCondition live tool tokens other → one ≡ other }
-    ensures fault { (live : Live) (tool : Tool) (mark : Mark) (tokens : List Token) (one other : Fault)
-        → ConditionFails live tool mark tokens one → ConditionFails live tool mark tokens other → one ≡ other }
-    ensures not_both { (live : Live) (tool : Tool) (mark : Mark) (tokens : List Token) (value : ℤ) (fault : Fault)
-        → IsCondition live tool tokens value → ConditionFails live tool mark tokens fault → ⊥ }
-{
-    one_expression();
 }

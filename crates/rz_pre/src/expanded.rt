@@ -1,12 +1,13 @@
 ghost use Rattle.std.specs.Prelude.{◌≡◌, ◌++◌, ℕ, List, Ok, Err, IfOk, OnOk};
-ghost use Rattle.rz_core.specs.Stop.{Gives, OnFault};
+ghost use Rattle.rz_core.specs.Stop.{OnFault};
 ghost use Rattle.rz_core.specs.declared.fault.Fault.{Fault};
 ghost use Rattle.rz_lex.specs.declared.token.Token.{Token};
 ghost use Rattle.rz_pre.specs.Expanded.{ExpandInto, FirstTooLong, spelling, too_long};
 ghost use Rattle.rz_pre.specs.Live.{live_in, Live};
 ghost use Rattle.rz_pre.specs.Macros.{rows_of};
 
-use crate::{Macros, TooLong, expand};
+use crate::expansion::{TooLong, expand};
+use crate::macros::Macros;
 use rz_core::{Bytes, Fault, Kept, NoMemory, Stop};
 use rz_lex::{Shape, Token, Tokens};
 use std::alloc::Global;
@@ -14,15 +15,6 @@ use std::alloc::Global;
 /// The tokens of a line with their macros replaced. A refusal is 112 at the first word for which more than
 /// 65,536 tokens are handled, with the word's spelling. (MPW Rez.)
 pub fn expand_all(alloc: Global, macros: &Macros, tokens: &[Token]) -> Result<Tokens, Stop<Fault>>
-    ensures tokens { IfOk result (ExpandInto (live_in (rows_of macros.now)) tokens.now) }
-    ensures fault { OnFault result (FirstTooLong (live_in (rows_of macros.now)) tokens.now) }
-    ensures every_list { (out : List Token) → ExpandInto (live_in (rows_of macros.now)) tokens.now out → Gives (Ok out) result }
-    ensures every_fault { (fault : Fault) → FirstTooLong (live_in (rows_of macros.now)) tokens.now fault → Gives (Err fault) result }
-{
-    expand_each(alloc, macros, tokens)
-}
-
-fn expand_each(alloc: Global, macros: &Macros, tokens: &[Token]) -> Result<Tokens, Stop<Fault>>
     ensures tokens { IfOk result (ExpandInto (live_in (rows_of macros.now)) tokens.now) }
     ensures fault { OnFault result (FirstTooLong (live_in (rows_of macros.now)) tokens.now) }
 {
@@ -66,14 +58,3 @@ fn spelling(alloc: Global, shape: &Shape) -> Result<Bytes, NoMemory>
         _ => Ok(Bytes::new(alloc)),
     }
 }
-
-/// A law, with nothing to run: the tokens of a line are replaced by at most one list of tokens, they have at
-/// most one first word that is replaced by too many, and never both.
-pub fn one_replacement()
-    ensures tokens { (live : Live) (tokens one other : List Token)
-        → ExpandInto live tokens one → ExpandInto live tokens other → one ≡ other }
-    ensures fault { (live : Live) (tokens : List Token) (one other : Fault)
-        → FirstTooLong live tokens one → FirstTooLong live tokens other → one ≡ other }
-    ensures not_both { (live : Live) (tokens out : List Token) (fault : Fault)
-        → ExpandInto live tokens out → FirstTooLong live tokens fault → ⊥ }
-{}

@@ -5,8 +5,8 @@ ghost use Rattle.rz_pre.specs.Live.{live_in, token_row};
 ghost use Rattle.rz_pre.specs.Macros.{rows_of};
 ghost use Rattle.rz_pre.specs.Steps.{Handles, is_inside};
 
-use crate::Macros;
 use crate::copy::copy_at;
+use crate::macros::Macros;
 use indexmap::IndexMap;
 use rz_core::{Mark, NoMemory, Stop};
 use rz_lex::{Token, Tokens};

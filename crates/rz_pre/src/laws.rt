@@ -1,14 +1,17 @@
-ghost use Rattle.std.specs.Prelude.{◌≡◌, ℕ, List, Result};
+ghost use Rattle.std.specs.Prelude.{◌≡◌, ℕ, List, Option, Result};
+ghost use Rattle.rz_core.specs.declared.fault.Fault.{Fault};
 ghost use Rattle.rz_folder.specs.Folder.{Files};
 ghost use Rattle.rz_lex.specs.declared.token.Shape.{Shape};
 ghost use Rattle.rz_pre.specs.Expand.{Expansion};
-ghost use Rattle.rz_pre.specs.Live.{Live};
-ghost use Rattle.rz_pre.specs.Program.{Failure, ProgramGoes, State};
+ghost use Rattle.rz_pre.specs.Live.{live_in, Live, Row};
+ghost use Rattle.rz_pre.specs.Program.{start, Failure, ProgramGoes, State};
+ghost use Rattle.rz_pre.specs.Unfolding.{outcome, EachActs, Entry, ProgramUnfolds};
 ghost use Rattle.rz_pre.specs.declared.condition.Tool.{Tool};
 ghost use Rattle.rz_pre.specs.declared.program.Def.{Def};
 
 use rz_expr::one_expression;
 use rz_lex::{one_cut, one_list_of_lines};
+use rz_source::one_text;
 
 /// A law, with nothing to run: the named files mean at most one program or one first fault.
 pub fn one_program()
@@ -18,7 +21,22 @@ pub fn one_program()
     one_cut();
     one_list_of_lines();
     one_expression();
+    one_text();
 }
+
+/// A law, with nothing to run: what the named files mean is given by one list of entries, in which each line
+/// does what it does under what is live behind the entries before it, and what is read of an included file
+/// stands directly behind the line that includes it. The tokens, the definitions and the opened files are those
+/// that the entries give from the first to the last; a fault is the first one, and stands behind them.
+pub fn one_list_of_entries()
+    ensures entries { (files : Files) (tool : Tool) (names paths : List (List ℕ)) (defs : List Def) (answer : Result State Failure)
+        → ProgramGoes files tool names paths defs answer
+        → (entries : List Entry) × (fault : Option Fault) × ProgramUnfolds files tool names paths defs entries fault
+        × EachActs tool entries (start defs) × (answer ≡ outcome entries fault (start defs)) }
+    ensures program { (files : Files) (tool : Tool) (names paths : List (List ℕ)) (defs : List Def) (entries : List Entry) (fault : Option Fault)
+        → ProgramUnfolds files tool names paths defs entries fault
+        → ProgramGoes files tool names paths defs (outcome entries fault (start defs)) }
+{}
 
 /// A law, with nothing to run: a token has at most one expansion, with one number of tokens that are handled
 /// for it.
@@ -26,4 +44,10 @@ pub fn one_program()
 pub fn one_expansion()
     ensures { (live : Live) (shape : Shape) (one other : List Shape) (work count : ℕ)
         → Expansion live shape one work → Expansion live shape other count → (one ≡ other) × (work ≡ count) }
+{}
+
+/// A law, with nothing to run: whatever macros are held, each token has an expansion.
+pub fn every_token_expands()
+    ensures { (rows : List Row) (shape : Shape)
+        → (out : List Shape) × (work : ℕ) × Expansion (live_in rows) shape out work }
 {}

@@ -1,32 +1,22 @@
-//! Directives, macros and included files: so far the text of a source in Mac Roman, the macros and their
-//! expansion, and the conditions.
+//! Sources as programs: directives, macros and included files. The named files give one list of tokens, or
+//! the first fault.
 #![tactic(auto)]
 
 mod act;
 mod condition;
 mod conditional;
 mod copy;
-mod directive;
 mod expanded;
 mod expansion;
 mod laws;
 mod line;
 mod macros;
 mod open;
-mod unfolding;
 mod program;
 mod reading;
-mod source;
+mod unfolding;
 
-pub use condition::{Tool, compute_condition, one_condition};
-pub use act::Act;
-pub use conditional::{Open, Part};
-pub use directive::Directive;
-pub use line::act_of;
-pub use expanded::{expand_all, one_replacement};
-pub use expansion::{TooLong, expand};
-pub use laws::{one_expansion, one_program};
-pub use macros::Macros;
-pub use unfolding::preprocess;
+pub use condition::Tool;
+pub use laws::{every_token_expands, one_expansion, one_list_of_entries, one_program};
 pub use program::{Def, Defs, PreFault, Program};
-pub use source::{BadText, to_mac_roman};
+pub use unfolding::preprocess;

@@ -1,8 +1,10 @@
-ghost use Rattle.std.specs.Prelude.{◌≡◌, List, IfOk, Ok, MatchOption, option_map};
+ghost use Rattle.std.specs.Prelude.{◌≡◌, ◌+◌, List, IfOk, Ok, MatchOption, option_map};
+ghost use Rattle.rz_core.specs.Message.{IsNameable};
+ghost use Rattle.rz_core.specs.Stop.{OnFault};
 ghost use Rattle.rz_core.specs.declared.fault.Fault.{Fault};
 ghost use Rattle.rz_pre.specs.Answers.{Meets};
-ghost use Rattle.rz_pre.specs.Directive.{directive_in, unblanked};
-ghost use Rattle.rz_pre.specs.Line.{bad_directive, behind_first, defined, directive_word, ended, free_word, has_parameters, included, is_kept, open_part, or_bad, otherwise, part_of, part_where, passed_over, simple, stray, tested, undefined, Directs, Does, HasCondition, IsComputed, IsCut, IsReplaced, Obeys, PutsOut, Says, Turns};
+ghost use Rattle.rz_source.specs.Directive.{directive_in, unblanked};
+ghost use Rattle.rz_pre.specs.Line.{bad_directive, behind_first, defined, directive_word, ended, free_word, included, is_kept, open_part, or_bad, otherwise, part_of, part_where, passed_over, simple, stray, tested, undefined, Directs, Does, HasCondition, IsComputed, IsCut, IsReplaced, Obeys, PutsOut, Says, Turns};
 ghost use Rattle.rz_pre.specs.Live.{live_in};
 ghost use Rattle.rz_pre.specs.Macros.{rows_of};
 
@@ -10,12 +12,12 @@ use crate::act::Act;
 use crate::condition::{Tool, compute_condition, is_known};
 use crate::conditional::{Open, Part};
 use crate::copy::{copy_all, copy_word};
-use crate::directive::{Directive, directive_in, directive_text, has_parameters};
 use crate::expanded::expand_all;
 use crate::macros::Macros;
 use rz_core::{Bytes, Fault, Kept, Mark, NoMemory, Stop, Word};
 use rz_expr::role_of;
 use rz_lex::{RawLine, Shape, Token, Tokens, cut};
+use rz_source::{Directive, directive_in, directive_text, has_parameters};
 use std::alloc::Global;
 
 /// What a logical line does, where this is the innermost conditional around it. A line that is no directive
@@ -29,6 +31,7 @@ pub fn act_of(
     line: &RawLine,
 ) -> Result<Act, Stop<Fault>>
     ensures act { Meets result (Does (live_in (rows_of macros.now)) tool around line.now) }
+    ensures nameable { OnFault result (IsNameable (line.now.mark.file + 1)) }
 {
     match directive_text(line.bytes.as_slice()) {
         Some(text) => direct(alloc, macros, tool, around, line.mark, text),
@@ -54,7 +57,8 @@ fn is_kept(around: Option<Open>) -> bool
 
 /// A line that is no directive.
 fn put_out(alloc: Global, macros: &Macros, mark: Mark, bytes: &[u8]) -> Result<Act, Stop<Fault>>
-    ensures { Meets result (PutsOut (live_in (rows_of macros.now)) mark bytes.now) }
+    ensures act { Meets result (PutsOut (live_in (rows_of macros.now)) mark bytes.now) }
+    ensures nameable { OnFault result (IsNameable (mark.file + 1)) }
 {
     let tokens = cut_bytes(alloc, mark, bytes)?;
     let replaced = replace(alloc, macros, tokens.as_slice())?;
@@ -63,7 +67,8 @@ fn put_out(alloc: Global, macros: &Macros, mark: Mark, bytes: &[u8]) -> Result<A
 
 /// The tokens of bytes of a line.
 fn cut_bytes(alloc: Global, mark: Mark, bytes: &[u8]) -> Result<Tokens, Stop<Fault>>
-    ensures { Meets result (IsCut mark bytes.now) }
+    ensures act { Meets result (IsCut mark bytes.now) }
+    ensures nameable { OnFault result (IsNameable (mark.file + 1)) }
 {
     let line = RawLine {
         bytes: Bytes::of(alloc, bytes)?,
@@ -88,7 +93,8 @@ fn direct(
     mark: Mark,
     text: &[u8],
 ) -> Result<Act, Stop<Fault>>
-    ensures { Meets result (Directs (live_in (rows_of macros.now)) tool around mark text.now (directive_in (unblanked text.now))) }
+    ensures act { Meets result (Directs (live_in (rows_of macros.now)) tool around mark text.now (directive_in (unblanked text.now))) }
+    ensures nameable { OnFault result (IsNameable (mark.file + 1)) }
 {
     match directive_in(text) {
         Directive::Elif => turn(alloc, macros, tool, open_part(around), mark, text),
@@ -114,7 +120,8 @@ fn direct_kept(
     text: &[u8],
     directive: Directive,
 ) -> Result<Act, Stop<Fault>>
-    ensures { Meets result (Obeys (live_in (rows_of macros.now)) tool mark text.now directive) }
+    ensures act { Meets result (Obeys (live_in (rows_of macros.now)) tool mark text.now directive) }
+    ensures nameable { OnFault result (IsNameable (mark.file + 1)) }
 {
     match directive {
         Directive::If => Ok(Act::Begin(part_of(compute(alloc, macros, tool, mark, text)?))),
@@ -151,10 +158,14 @@ fn turn(
     mark: Mark,
     text: &[u8],
 ) -> Result<Act, Stop<Fault>>
-    ensures { Meets result (Turns (live_in (rows_of macros.now)) tool mark text.now part) }
+    ensures act { Meets result (Turns (live_in (rows_of macros.now)) tool mark text.now part) }
+    ensures nameable { OnFault result (IsNameable (mark.file + 1)) }
 {
     match part {
-        Some(Part::Waiting) => Ok(Act::Turn(part_of(compute(alloc, macros, tool, mark, text)?), false)),
+        Some(Part::Waiting) => Ok(Act::Turn(
+            part_of(compute(alloc, macros, tool, mark, text)?),
+            false,
+        )),
         Some(_) => Ok(Act::Turn(Part::Past, false)),
         None => Err(Stop::Refused(stray(mark))),
     }
@@ -162,7 +173,8 @@ fn turn(
 
 /// What `#else` does.
 fn otherwise(mark: Mark, part: Option<Part>) -> Result<Act, Stop<Fault>>
-    ensures { Meets result (λ answer. answer ≡ otherwise mark part) }
+    ensures act { Meets result (λ answer. answer ≡ otherwise mark part) }
+    ensures nameable { OnFault result (IsNameable (mark.file + 1)) }
 {
     match part {
         Some(Part::Waiting) => Ok(Act::Turn(Part::Chosen, true)),
@@ -173,7 +185,8 @@ fn otherwise(mark: Mark, part: Option<Part>) -> Result<Act, Stop<Fault>>
 
 /// What `#endif` does.
 fn ended(mark: Mark, around: Option<Open>) -> Result<Act, Stop<Fault>>
-    ensures { Meets result (λ answer. answer ≡ ended mark around) }
+    ensures act { Meets result (λ answer. answer ≡ ended mark around) }
+    ensures nameable { OnFault result (IsNameable (mark.file + 1)) }
 {
     match around {
         Some(_) => Ok(Act::End),
@@ -182,7 +195,8 @@ fn ended(mark: Mark, around: Option<Open>) -> Result<Act, Stop<Fault>>
 }
 
 fn stray(mark: Mark) -> Fault
-    ensures { result ≡ stray mark }
+    ensures fault { result ≡ stray mark }
+    ensures nameable { IsNameable (mark.file + 1) result }
 {
     Fault {
         number: 106,
@@ -192,14 +206,27 @@ fn stray(mark: Mark) -> Fault
 }
 
 /// The value of the condition of a directive.
-fn compute(alloc: Global, macros: &Macros, tool: Tool, mark: Mark, text: &[u8]) -> Result<i32, Stop<Fault>>
-    ensures { Meets result (HasCondition (live_in (rows_of macros.now)) tool mark text.now) }
+fn compute(
+    alloc: Global,
+    macros: &Macros,
+    tool: Tool,
+    mark: Mark,
+    text: &[u8],
+) -> Result<i32, Stop<Fault>>
+    ensures act { Meets result (HasCondition (live_in (rows_of macros.now)) tool mark text.now) }
+    ensures nameable { OnFault result (IsNameable (mark.file + 1)) }
 {
     let tokens = cut_bytes(alloc, mark, text)?;
     value_of(alloc, macros, tool, mark, behind_first(tokens.as_slice()))
 }
 
-fn value_of(alloc: Global, macros: &Macros, tool: Tool, mark: Mark, tokens: &[Token]) -> Result<i32, Stop<Fault>>
+fn value_of(
+    alloc: Global,
+    macros: &Macros,
+    tool: Tool,
+    mark: Mark,
+    tokens: &[Token],
+) -> Result<i32, Stop<Fault>>
     ensures { Meets result (IsComputed (live_in (rows_of macros.now)) tool mark tokens.now) }
 {
     compute_condition(alloc, macros, tool, mark, tokens)
@@ -209,7 +236,11 @@ fn value_of(alloc: Global, macros: &Macros, tool: Tool, mark: Mark, tokens: &[To
 fn part_of(value: i32) -> Part
     ensures { result ≡ part_of value }
 {
-    if value == 0 { Part::Waiting } else { Part::Chosen }
+    if value == 0 {
+        Part::Waiting
+    } else {
+        Part::Chosen
+    }
 }
 
 /// What a directive does whose tokens say it all.
@@ -220,7 +251,8 @@ fn say(
     text: &[u8],
     directive: Directive,
 ) -> Result<Act, Stop<Fault>>
-    ensures { Meets result (Says (live_in (rows_of macros.now)) mark text.now directive) }
+    ensures act { Meets result (Says (live_in (rows_of macros.now)) mark text.now directive) }
+    ensures nameable { OnFault result (IsNameable (mark.file + 1)) }
 {
     let tokens = cut_bytes(alloc, mark, text)?;
     said(alloc, macros, mark, text, directive, tokens.as_slice())
@@ -234,7 +266,8 @@ fn said(
     directive: Directive,
     tokens: &[Token],
 ) -> Result<Act, Stop<Fault>>
-    ensures { Meets result (λ answer. answer ≡ or_bad mark tokens.now (simple (live_in (rows_of macros.now)) text.now directive (behind_first tokens.now))) }
+    ensures act { Meets result (λ answer. answer ≡ or_bad mark tokens.now (simple (live_in (rows_of macros.now)) text.now directive (behind_first tokens.now))) }
+    ensures nameable { OnFault result (IsNameable (mark.file + 1)) }
 {
     match simple(alloc, macros, text, directive, behind_first(tokens))? {
         Some(act) => Ok(act),
@@ -322,7 +355,12 @@ fn free_word(alloc: Global, shape: &Shape) -> Result<Option<Word>, NoMemory>
 }
 
 /// `#ifdef` and `#ifndef`: whether the first word is defined, or whether it isn't.
-fn tested(alloc: Global, macros: &Macros, wanted: bool, tokens: &[Token]) -> Result<Option<Act>, NoMemory>
+fn tested(
+    alloc: Global,
+    macros: &Macros,
+    wanted: bool,
+    tokens: &[Token],
+) -> Result<Option<Act>, NoMemory>
     ensures { IfOk result (λ act. act ≡ tested (live_in (rows_of macros.now)) wanted tokens.now) }
 {
     match tokens {
@@ -347,7 +385,8 @@ fn part_where(holds: bool) -> Part
 
 /// 104 for the directive with these tokens.
 fn bad_directive(alloc: Global, mark: Mark, tokens: &[Token]) -> Result<Fault, NoMemory>
-    ensures { IfOk result (λ fault. fault ≡ bad_directive mark tokens.now) }
+    ensures fault { IfOk result (λ fault. fault ≡ bad_directive mark tokens.now) }
+    ensures nameable { IfOk result (IsNameable (mark.file + 1)) }
 {
     Ok(Fault {
         number: 104,

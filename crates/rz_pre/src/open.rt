@@ -1,14 +1,17 @@
-ghost use Rattle.std.specs.Prelude.{◌≡◌, ℕ, ◌<◌, ◌≤◌, ◌^◌, ◌∷◌, ◌++◌, List, length, IfOk, IfSome, option_map};
+ghost use Rattle.std.specs.Prelude.{◌≡◌, ℕ, ◌+◌, ◌<◌, ◌≤◌, ◌^◌, OnOk, ◌∷◌, ◌++◌, List, length, IfOk, IfSome, option_map};
 ghost use Rattle.std.specs.String.{string_bytes};
+ghost use Rattle.rz_core.specs.Message.{IsMarked, IsNameable};
+ghost use Rattle.rz_core.specs.Stop.{OnFault};
+ghost use Rattle.rz_pre.specs.Placed.{OnRefused};
 ghost use Rattle.rz_folder.specs.Counts.{Rose};
 ghost use Rattle.rz_pre.specs.Answers.{Meets};
 ghost use Rattle.rz_pre.specs.Program.{bad_text, file_of, missing_file, names_of, utf8_name, HasText, Opens};
 ghost use Rattle.rz_pre.specs.Reading.{state_of, together, IsUnread, Leaves, OnReadFault};
 
 use crate::reading::{Halt, Reading};
-use crate::source::to_mac_roman;
 use rz_core::{Bytes, Fault, FileNames, Kept, Mark, NoMemory, Stop, from_roman};
 use rz_folder::{Folder, Read};
+use rz_source::to_mac_roman;
 use std::alloc::Global;
 
 /// Opens the file that stands under the first of these names: the text of its source in Mac Roman. Where none
@@ -21,8 +24,12 @@ pub fn open_file<F: Folder>(
     kept: &[u8],
     reading: &mut Reading,
 ) -> Result<Bytes, Halt>
+    requires { IsMarked (length reading.now.files) mark }
     ensures opened { IfSome (F.files folder.old) (λ files.
         Leaves together result (state_of reading.new) (Opens files names.now (missing_file mark kept.now) (state_of reading.old))) }
+    ensures more { OnOk result (length reading.new.files ≡ length reading.old.files + 1) }
+    ensures tokens { reading.new.tokens ≡ reading.old.tokens }
+    ensures nameable { OnRefused result (length reading.new.files) }
     ensures short { IfOk result (λ text. length text < 2 ^ 32) }
     ensures unchanged { F.files folder.new ≡ F.files folder.old }
     ensures counted { F.read_faults folder.old ≤ F.read_faults folder.new }
@@ -69,6 +76,7 @@ fn find<'a, F: Folder>(
 fn text_of(alloc: Global, file: u64, source: Bytes) -> Result<Bytes, Stop<Fault>>
     requires { length source < 2 ^ 32 }
     ensures text { Meets result (HasText file source) }
+    ensures nameable { OnFault result (IsNameable (file + 1)) }
     ensures short { IfOk result (λ text. length text < 2 ^ 32) }
 {
     match to_mac_roman(alloc, source) {
@@ -81,7 +89,8 @@ fn text_of(alloc: Global, file: u64, source: Bytes) -> Result<Bytes, Stop<Fault>
 /// 102 in this file.
 fn bad_text(file: u64, offset: u64) -> Fault
     requires { offset < 2 ^ 63 }
-    ensures { result ≡ bad_text file offset }
+    ensures fault { result ≡ bad_text file offset }
+    ensures nameable { IsNameable (file + 1) result }
 {
     Fault {
         number: 102,
@@ -92,7 +101,8 @@ fn bad_text(file: u64, offset: u64) -> Fault
 
 /// 101 for a name.
 fn missing_file(alloc: Global, mark: Option<Mark>, name: &[u8]) -> Result<Fault, NoMemory>
-    ensures { IfOk result (λ fault. fault ≡ missing_file mark name.now) }
+    ensures fault { IfOk result (λ fault. fault ≡ missing_file mark name.now) }
+    ensures nameable { (files : ℕ) → IsMarked files mark → IfOk result (IsNameable files) }
 {
     Ok(Fault {
         number: 101,

@@ -1,7 +1,9 @@
-ghost use Rattle.std.specs.Prelude.{◌≡◌, [], reverse, IfOk, OnOk};
+ghost use Rattle.std.specs.Prelude.{◌≡◌, ◌+◌, [], reverse, IfOk, OnOk};
+ghost use Rattle.rz_core.specs.Message.{IsNameable};
+ghost use Rattle.rz_core.specs.Stop.{OnFault};
 ghost use Rattle.rz_core.specs.declared.fault.Mark.{Mark};
-ghost use Rattle.rz_pre.specs.declared.act.Act.TheVariants.{Begin, Turn};
-ghost use Rattle.rz_pre.specs.Program.{innermost, opens_after, start, state_after};
+ghost use Rattle.rz_pre.specs.declared.act.Act.TheVariants.{Turn};
+ghost use Rattle.rz_pre.specs.Program.{opens_after, start, state_after};
 ghost use Rattle.rz_pre.specs.Reading.{halt_of, included_in, state_of, Steps};
 ghost use Rattle.rz_pre.specs.declared.reading.Halt.TheVariants.{NoMemory as no_memory};
 
@@ -77,17 +79,11 @@ pub fn step(
     opens: &mut Vec<Open>,
     reading: &mut Reading,
 ) -> Result<Option<Bytes>, Stop<Fault>>
-    ensures { Steps tool line.now (reverse opens.old.items) (state_of reading.old) result (reverse opens.new.items) (state_of reading.new) }
+    ensures steps { Steps tool line.now (reverse opens.old.items) (state_of reading.old) result (reverse opens.new.items) (state_of reading.new) }
+    ensures nameable { OnFault result (IsNameable (line.now.mark.file + 1)) }
 {
-    let act = act_of(alloc, &reading.macros, tool, innermost(opens), line)?;
+    let act = act_of(alloc, &reading.macros, tool, opens.last().copied(), line)?;
     Ok(follow(alloc, act, line.mark, opens, reading)?)
-}
-
-/// The innermost conditional that is open.
-fn innermost(opens: &[Open]) -> Option<Open>
-    ensures { result ≡ innermost (reverse opens.now) }
-{
-    opens.last().copied()
 }
 
 /// Does this, but for an included file.
@@ -114,7 +110,11 @@ fn follow(
             Ok(None)
         }
         Act::Begin(part) => {
-            begin(opens, mark, part)?;
+            opens.push(Open {
+                mark,
+                part,
+                is_last: false,
+            })?;
             Ok(None)
         }
         Act::Turn(part, is_last) => {
@@ -126,18 +126,6 @@ fn follow(
             Ok(None)
         }
     }
-}
-
-/// Begins a conditional.
-fn begin(opens: &mut Vec<Open>, mark: Mark, part: Part) -> Result<(), NoMemory>
-    ensures { OnOk result (reverse opens.new.items ≡ opens_after mark (Begin part) (reverse opens.old.items)) }
-{
-    opens.push(Open {
-        mark,
-        part,
-        is_last: false,
-    })?;
-    Ok(())
 }
 
 /// Goes to the next part of the innermost conditional.

@@ -1,7 +1,9 @@
-ghost use Rattle.std.specs.Prelude.{◌≡◌, ℕ, ◌<◌, ◌≤◌, ◌^◌, List, [], length, reverse, Result, Err, IfOk, IfSome, OnOk, MatchOption};
+ghost use Rattle.std.specs.Prelude.{◌≡◌, ℕ, ◌+◌, ◌<◌, ◌≤◌, ◌^◌, List, [], length, reverse, Result, Err, IfOk, IfSome, OnOk, MatchOption};
 ghost use Rattle.rz_pre.specs.Live.{live_in};
 ghost use Rattle.rz_pre.specs.Macros.{rows_of};
+ghost use Rattle.rz_core.specs.Message.{IsNameable};
 ghost use Rattle.rz_folder.specs.Counts.{Rose};
+ghost use Rattle.rz_pre.specs.Placed.{AreOpenIn, IsPlaced, OnRefused, StandsInFiles};
 ghost use Rattle.rz_pre.specs.Program.{ends, live_after, open_if, start, too_deep, Enters, Failure, IncludedGoes, NamedGoes, NamesGo, ProgramGoes, State, TextGoes};
 ghost use Rattle.rz_pre.specs.Reading.{alone, state_of, together, Answers, Finishes, IsProgram, IsQuiet, Leaves, Matches, OnReadFault};
 ghost use Rattle.rz_pre.specs.declared.program.PreFault.TheVariants.{ReadFault};
@@ -39,9 +41,14 @@ fn read_file<F: Folder>(
     text: &[u8],
     reading: &mut Reading,
 ) -> Result<(), Halt>
-    requires { length text.now < 2 ^ 32 }
+    requires short { length text.now < 2 ^ 32 }
+    requires open { file < length reading.now.files }
+    requires placed { IsPlaced reading.now }
     ensures read { IfSome (F.files folder.old) (λ files. Leaves alone result (state_of reading.new)
         (TextGoes (IncludedGoes setting.entry.tool files setting.entry.paths.now levels) setting.entry.tool file text.now (state_of reading.old))) }
+    ensures placed { OnOk result (IsPlaced reading.new) }
+    ensures more { OnOk result (length reading.old.files ≤ length reading.new.files) }
+    ensures nameable { OnRefused result (length reading.new.files) }
     ensures unchanged { F.files folder.new ≡ F.files folder.old }
     ensures counted { F.read_faults folder.old ≤ F.read_faults folder.new }
     ensures cause { OnReadFault result (Rose (F.read_faults folder.old) (F.read_faults folder.new)) }
@@ -55,8 +62,24 @@ fn read_file<F: Folder>(
     while let Some((line, after)) = next_line(alloc, file, place)? {
         if let Some(name) = step(alloc, setting.tool, &line, &mut opens, reading)? {
             let inner = reading.files.len();
-            let source = open_included(alloc, folder, setting, levels, name.as_slice(), line.mark, reading)?;
-            read_file(alloc, folder, setting, levels - 1, inner, source.as_slice(), reading)?;
+            let source = open_included(
+                alloc,
+                folder,
+                setting,
+                levels,
+                name.as_slice(),
+                line.mark,
+                reading,
+            )?;
+            read_file(
+                alloc,
+                folder,
+                setting,
+                levels - 1,
+                inner,
+                source.as_slice(),
+                reading,
+            )?;
         }
         place = after;
     }
@@ -65,6 +88,7 @@ fn read_file<F: Folder>(
 
 /// Behind the last line of a file no conditional may be open.
 fn end(opens: &[Open]) -> Result<(), Halt>
+    ensures nameable { (files : ℕ) → AreOpenIn files (reverse opens.now) → OnRefused result files }
     ensures end { (s : State) → Leaves alone result s (λ answer. answer ≡ ends (reverse opens.now) s) }
     ensures quiet { IsQuiet result }
 {
@@ -76,7 +100,8 @@ fn end(opens: &[Open]) -> Result<(), Halt>
 
 /// 105 for a conditional.
 fn open_if(conditional: Open) -> Fault
-    ensures { result ≡ open_if conditional }
+    ensures fault { result ≡ open_if conditional }
+    ensures nameable { (files : ℕ) → conditional.mark.file < files → IsNameable files result }
 {
     Fault {
         number: 105,
@@ -87,7 +112,8 @@ fn open_if(conditional: Open) -> Fault
 
 /// 103 on a line.
 fn too_deep(mark: Mark) -> Fault
-    ensures { result ≡ too_deep mark }
+    ensures fault { result ≡ too_deep mark }
+    ensures nameable { (files : ℕ) → mark.file < files → IsNameable files result }
 {
     Fault {
         number: 103,
@@ -106,10 +132,14 @@ fn open_included<F: Folder>(
     mark: Mark,
     reading: &mut Reading,
 ) -> Result<Bytes, Halt>
+    requires { mark.file < length reading.now.files }
     ensures opened { IfSome (F.files folder.old) (λ files. Leaves together result (state_of reading.new)
         (Enters files setting.entry.paths.now levels name.now mark (state_of reading.old))) }
     ensures deep { IfOk result (λ _. 0 < levels) }
     ensures short { IfOk result (λ text. length text < 2 ^ 32) }
+    ensures more { OnOk result (length reading.new.files ≡ length reading.old.files + 1) }
+    ensures tokens { reading.new.tokens ≡ reading.old.tokens }
+    ensures nameable { OnRefused result (length reading.new.files) }
     ensures unchanged { F.files folder.new ≡ F.files folder.old }
     ensures counted { F.read_faults folder.old ≤ F.read_faults folder.new }
     ensures cause { OnReadFault result (Rose (F.read_faults folder.old) (F.read_faults folder.new)) }
@@ -129,8 +159,12 @@ fn read_names<F: Folder>(
     names: &FileNames,
     reading: &mut Reading,
 ) -> Result<(), Halt>
+    requires { IsPlaced reading.now }
     ensures read { IfSome (F.files folder.old) (λ files. Leaves alone result (state_of reading.new)
         (NamesGo setting.entry.tool files setting.entry.paths.now names.now (state_of reading.old))) }
+    ensures placed { OnOk result (IsPlaced reading.new) }
+    ensures more { OnOk result (length reading.old.files ≤ length reading.new.files) }
+    ensures nameable { OnRefused result (length reading.new.files) }
     ensures unchanged { F.files folder.new ≡ F.files folder.old }
     ensures counted { F.read_faults folder.old ≤ F.read_faults folder.new }
     ensures cause { OnReadFault result (Rose (F.read_faults folder.old) (F.read_faults folder.new)) }
@@ -151,8 +185,12 @@ fn read_named<F: Folder>(
     name: &str,
     reading: &mut Reading,
 ) -> Result<(), Halt>
+    requires { IsPlaced reading.now }
     ensures read { IfSome (F.files folder.old) (λ files. Leaves alone result (state_of reading.new)
         (NamedGoes setting.entry.tool files setting.entry.paths.now name.now (state_of reading.old))) }
+    ensures placed { OnOk result (IsPlaced reading.new) }
+    ensures more { OnOk result (length reading.old.files ≤ length reading.new.files) }
+    ensures nameable { OnRefused result (length reading.new.files) }
     ensures unchanged { F.files folder.new ≡ F.files folder.old }
     ensures counted { F.read_faults folder.old ≤ F.read_faults folder.new }
     ensures cause { OnReadFault result (Rose (F.read_faults folder.old) (F.read_faults folder.new)) }
@@ -161,7 +199,15 @@ fn read_named<F: Folder>(
     let mut own = FileNames::new(alloc);
     own.push(name)?;
     let text = open_file(alloc, folder, &own, None, name.as_bytes(), reading)?;
-    read_file(alloc, folder, setting, LEVELS_BELOW, file, text.as_slice(), reading)
+    read_file(
+        alloc,
+        folder,
+        setting,
+        LEVELS_BELOW,
+        file,
+        text.as_slice(),
+        reading,
+    )
 }
 
 /// What the words define, before any file is read.
@@ -190,6 +236,8 @@ fn read_all<F: Folder>(
     requires { state_of reading.now ≡ start [] }
     ensures read { IfSome (F.files folder.old) (λ files. Leaves alone result (state_of reading.new)
         (ProgramGoes files setting.entry.tool names.now setting.entry.paths.now defs.now)) }
+    ensures placed { OnOk result (IsPlaced reading.new) }
+    ensures nameable { OnRefused result (length reading.new.files) }
     ensures unchanged { F.files folder.new ≡ F.files folder.old }
     ensures counted { F.read_faults folder.old ≤ F.read_faults folder.new }
     ensures cause { OnReadFault result (Rose (F.read_faults folder.old) (F.read_faults folder.new)) }
@@ -200,7 +248,10 @@ fn read_all<F: Folder>(
 
 /// What the whole call gives, where reading ended so.
 fn finish(alloc: Global, reading: Reading, ended: Result<(), Halt>) -> Result<Program, PreFault>
-    ensures { Finishes ended (state_of reading) result }
+    requires placed { OnOk ended (IsPlaced reading) }
+    requires nameable { OnRefused ended (length reading.files) }
+    ensures finished { Finishes ended (state_of reading) result }
+    ensures stands { StandsInFiles result }
 {
     match ended {
         Ok(()) => Ok(into_program(alloc, reading)?),
@@ -212,7 +263,8 @@ fn finish(alloc: Global, reading: Reading, ended: Result<(), Halt>) -> Result<Pr
 
 /// The program of what was read.
 fn into_program(alloc: Global, reading: Reading) -> Result<Program, NoMemory>
-    ensures { IfOk result (λ program. IsProgram program (state_of reading)) }
+    ensures program { IfOk result (λ program. IsProgram program (state_of reading)) }
+    ensures placed { IfOk result (λ program. (program.files ≡ reading.files) × (program.tokens ≡ reading.tokens)) }
 {
     let macros = reading.macros.names(alloc)?;
     let Reading { tokens, files, .. } = reading;
@@ -249,12 +301,20 @@ pub fn preprocess<F: Folder>(
     ensures program { IfSome (F.files folder.old) (λ files. Answers result (ProgramGoes files tool names.now paths.now defs.now)) }
     ensures every { IfSome (F.files folder.old) (λ files. (answer : Result State Failure)
         → ProgramGoes files tool names.now paths.now defs.now answer → Matches result answer) }
+    ensures stands { StandsInFiles result }
     ensures unchanged { F.files folder.new ≡ F.files folder.old }
     ensures counted { F.read_faults folder.old ≤ F.read_faults folder.new }
     ensures cause { result ≡ Err ReadFault → Rose (F.read_faults folder.old) (F.read_faults folder.new) }
 {
     one_program();
     let mut reading = Reading::new(alloc);
-    let ended = read_all(alloc, folder, Setting { tool, paths }, names, defs, &mut reading);
+    let ended = read_all(
+        alloc,
+        folder,
+        Setting { tool, paths },
+        names,
+        defs,
+        &mut reading,
+    );
     finish(alloc, reading, ended)
 }

@@ -7,6 +7,9 @@ use Rattle.rz_lex.specs.declared.joined.Position.{Position}
 use Rattle.rz_lex.specs.declared.raw_line.RawLine.{RawLine}
 use Rattle.rz_pre.specs.Reading.{state_of}
 use Rattle.rz_pre.proofs.Going.{at_some, left_at_end, left_in_comment, left_in_line, left_in_opening, left_inside, on_behind, on_inside}
+use Rattle.rz_lex.specs.declared.token.Token.{Token}
+use Rattle.rz_pre.specs.Placed.{AreWithin, IsPlaced}
+use Rattle.rz_pre.proofs.Placing.{open_more, steps_files, steps_open, steps_within, within_more}
 use Rattle.rz_pre.proofs.Opening.{if_some}
 use Rattle.rz_pre.proofs.unfolding.+read_file.Goals as goal
 use Rattle.rz_pre.proofs.unfolding.+read_file.Goals.{in-Some-2+in_ok-source+in_ok-read_file, in_default-2}
@@ -15,6 +18,13 @@ pub read_file-requires : goal.read_file-requires
 read_file-requires g t c =
     let smaller : c.args.levels - 1 < c.args.levels = omega (arith, c.in_ok-source.ensures.deep) in
     let short : length c.as_slice-in-Some-2.result.now < 2 ^ 32 = subst (λ (text : List ℕ). length text < 2 ^ 32) (sym c.as_slice-in-Some-2.ensures) c.in_ok-source.ensures.short in
+    let inside : c.len-inner.result < length c.open_included.new.reading.files = omega (arith, c.len-inner.ensures, c.in_ok-source.ensures.more) in
+    let same = steps_files c.args.setting.tool c.in-Some.line (reverse c.loop-opens.opens.items) (state_of c.loop-opens.reading) c.in_ok-name.field-0 (reverse c.step.new.opens.items) (state_of c.step.new.reading) c.in_ok-name.ensures.steps in
+    let stepped = steps_within c.args.setting.tool c.in-Some.line (reverse c.loop-opens.opens.items) (state_of c.loop-opens.reading) c.in_ok-name.field-0 (reverse c.step.new.opens.items) (state_of c.step.new.reading) c.in_ok-name.ensures.steps (length c.loop-opens.reading.files) (omega (arith, rw c.in-Some.is at c.in_ok-line.ensures.mark, c.requires.open, c.loop-opens.invariant.more)) c.loop-opens.invariant.placed in
+    let placed : IsPlaced c.open_included.new.reading =
+    subst (λ (tokens : List Token). AreWithin (length c.open_included.new.reading.files) tokens) (sym c.in_ok-source.ensures.tokens)
+    (within_more (length c.loop-opens.reading.files) (length c.open_included.new.reading.files) c.step.new.reading.tokens
+    (omega (arith, ap (λ (files : List (List ℕ)). length files) same, c.in_ok-source.ensures.more)) stepped) in
     search rules
 
 pub returns-in_err-line-clause-read : goal.returns-in_err-line-clause-read
@@ -30,7 +40,7 @@ returns-in_err-name-clause-read g t c = if_some (g.F.Folder.files c.args.folder.
     rw (p.1, p.2) (left_in_line c.args.setting.tool files c.args.setting.paths.now c.args.levels c.args.file c.args.text.now (state_of c.args.reading.now)
     (ahead c.loop-opens.place) (reverse c.loop-opens.opens.items) (state_of c.loop-opens.reading) (c.loop-opens.invariant.leads files told)
     c.in-Some.line (ahead c.in-Some.after) (rw c.in-Some.is at c.in_ok-line.ensures.line) (c.every_text_has_lines.ensures c.args.file (ahead c.in-Some.after))
-    c.in_err-name.field-0.0 _ _ c.in_err-name.ensures))
+    c.in_err-name.field-0.0 _ _ c.in_err-name.ensures.steps))
 
 pub returns-in_err-source-clause-read : goal.returns-in_err-source-clause-read
 returns-in_err-source-clause-read g t c = if_some (g.F.Folder.files c.args.folder.now) _ (λ files told.
@@ -38,7 +48,7 @@ returns-in_err-source-clause-read g t c = if_some (g.F.Folder.files c.args.folde
     rw (p.1, p.2) (left_in_opening c.args.setting.tool files c.args.setting.paths.now c.args.levels c.args.file c.args.text.now (state_of c.args.reading.now)
     (ahead c.loop-opens.place) (reverse c.loop-opens.opens.items) (state_of c.loop-opens.reading) (c.loop-opens.invariant.leads files told)
     c.in-Some.line (ahead c.in-Some.after) (rw c.in-Some.is at c.in_ok-line.ensures.line)
-    c.in-Some-2.name _ _ (rw c.in-Some-2.is at c.in_ok-name.ensures) (c.every_text_has_lines.ensures c.args.file (ahead c.in-Some.after))
+    c.in-Some-2.name _ _ (rw c.in-Some-2.is at c.in_ok-name.ensures.steps) (c.every_text_has_lines.ensures c.args.file (ahead c.in-Some.after))
     c.in_err-source.field-0.0 _ (at_some _ files (c.loop-opens.invariant.unchanged ∙ told) _ (rw c.as_slice.ensures at c.in_err-source.ensures.opened))))
 
 pub returns-in_err-read_file-clause-read : goal.returns-in_err-read_file-clause-read
@@ -47,7 +57,7 @@ returns-in_err-read_file-clause-read g t c = if_some (g.F.Folder.files c.args.fo
     rw (p.1, p.2) (left_inside c.args.setting.tool files c.args.setting.paths.now c.args.levels c.args.file c.args.text.now (state_of c.args.reading.now)
     (ahead c.loop-opens.place) (reverse c.loop-opens.opens.items) (state_of c.loop-opens.reading) (c.loop-opens.invariant.leads files told)
     c.in-Some.line (ahead c.in-Some.after) (rw c.in-Some.is at c.in_ok-line.ensures.line)
-    c.in-Some-2.name _ _ (rw c.in-Some-2.is at c.in_ok-name.ensures)
+    c.in-Some-2.name _ _ (rw c.in-Some-2.is at c.in_ok-name.ensures.steps)
     c.in_ok-source.source _ (c.args.levels - 1) (omega (arith, c.in_ok-source.ensures.deep))
     (at_some _ files (c.loop-opens.invariant.unchanged ∙ told) _ (rw c.as_slice.ensures at c.in_ok-source.ensures.opened)) (c.every_text_has_lines.ensures c.args.file (ahead c.in-Some.after))
     c.in_err-read_file.field-0.0 _ (at_some _ files (c.in_ok-source.ensures.unchanged ∙ c.loop-opens.invariant.unchanged ∙ told) _ (rw (c.as_slice-in-Some-2.ensures, c.len-inner.ensures) at c.in_err-read_file.ensures.read))))
@@ -59,7 +69,7 @@ loop-opens-preserved g t c = record {
         rw w.reading-is (on_inside c.args.setting.tool files c.args.setting.paths.now c.args.levels c.args.file c.args.text.now (state_of c.args.reading.now)
         (ahead c.loop-opens.place) (reverse c.loop-opens.opens.items) (state_of c.loop-opens.reading) (c.loop-opens.invariant.leads files told)
         c.in-Some.line (ahead c.in-Some.after) (rw c.in-Some.is at c.in_ok-line.ensures.line)
-        w.in-Some-2.name _ _ (rw w.in-Some-2.is at c.in_ok-name.ensures)
+        w.in-Some-2.name _ _ (rw w.in-Some-2.is at c.in_ok-name.ensures.steps)
         w.in_ok-source.source _ (c.args.levels - 1) (omega (arith, w.in_ok-source.ensures.deep))
         (at_some _ files (c.loop-opens.invariant.unchanged ∙ told) _ (rw w.as_slice.ensures at w.in_ok-source.ensures.opened))
         _ (at_some _ files (w.in_ok-source.ensures.unchanged ∙ c.loop-opens.invariant.unchanged ∙ told) _ (rw (w.as_slice-in-Some-2.ensures, w.len-inner.ensures) at w.in_ok-read_file.ensures.read)))
@@ -67,12 +77,35 @@ loop-opens-preserved g t c = record {
         rw w.reading-is (on_behind c.args.setting.tool files c.args.setting.paths.now c.args.levels c.args.file c.args.text.now (state_of c.args.reading.now)
         (ahead c.loop-opens.place) (reverse c.loop-opens.opens.items) (state_of c.loop-opens.reading) (c.loop-opens.invariant.leads files told)
         c.in-Some.line (ahead c.in-Some.after) (rw c.in-Some.is at c.in_ok-line.ensures.line)
-        _ _ (rw w.in_default-2.is at c.in_ok-name.ensures))
+        _ _ (rw w.in_default-2.is at c.in_ok-name.ensures.steps))
   ];
   within = let on = rw c.in-Some.is at c.in_ok-line.ensures.further in omega (arith, on.within, c.loop-opens.invariant.within);
   unchanged = elim c.match-branch-4.branch [
     | in-Some-2+in_ok-source+in_ok-read_file w ↦ rw w.folder-is (w.in_ok-read_file.ensures.unchanged ∙ w.in_ok-source.ensures.unchanged ∙ c.loop-opens.invariant.unchanged)
     | in_default-2 w ↦ rw w.folder-is c.loop-opens.invariant.unchanged
+  ];
+  placed = elim c.match-branch-4.branch [
+    | in-Some-2+in_ok-source+in_ok-read_file w ↦ rw w.reading-is w.in_ok-read_file.ensures.placed
+    | in_default-2 w ↦ rw w.reading-is (subst (λ (files : List (List ℕ)). AreWithin (length files) c.step.new.reading.tokens) (sym (steps_files c.args.setting.tool c.in-Some.line (reverse c.loop-opens.opens.items) (state_of c.loop-opens.reading) c.in_ok-name.field-0 (reverse c.step.new.opens.items) (state_of c.step.new.reading) c.in_ok-name.ensures.steps))
+        (steps_within c.args.setting.tool c.in-Some.line (reverse c.loop-opens.opens.items) (state_of c.loop-opens.reading) c.in_ok-name.field-0 (reverse c.step.new.opens.items) (state_of c.step.new.reading) c.in_ok-name.ensures.steps (length c.loop-opens.reading.files) (omega (arith, rw c.in-Some.is at c.in_ok-line.ensures.mark, c.requires.open, c.loop-opens.invariant.more)) c.loop-opens.invariant.placed))
+  ];
+  more = elim c.match-branch-4.branch [
+    | in-Some-2+in_ok-source+in_ok-read_file w ↦ rw w.reading-is (omega (
+      arith,
+      w.in_ok-read_file.ensures.more,
+      w.in_ok-source.ensures.more,
+      ap (λ (files : List (List ℕ)). length files) (steps_files c.args.setting.tool c.in-Some.line (reverse c.loop-opens.opens.items) (state_of c.loop-opens.reading) c.in_ok-name.field-0 (reverse c.step.new.opens.items) (state_of c.step.new.reading) c.in_ok-name.ensures.steps),
+      c.loop-opens.invariant.more,
+    ))
+    | in_default-2 w ↦ rw w.reading-is (omega (arith, ap (λ (files : List (List ℕ)). length files) (steps_files c.args.setting.tool c.in-Some.line (reverse c.loop-opens.opens.items) (state_of c.loop-opens.reading) c.in_ok-name.field-0 (reverse c.step.new.opens.items) (state_of c.step.new.reading) c.in_ok-name.ensures.steps), c.loop-opens.invariant.more))
+  ];
+  opened = elim c.match-branch-4.branch [
+    | in-Some-2+in_ok-source+in_ok-read_file w ↦ rw w.reading-is (open_more (length c.loop-opens.reading.files) (length w.read_file.new.reading.files) (reverse c.step.new.opens.items)
+        (omega (arith, w.in_ok-read_file.ensures.more, w.in_ok-source.ensures.more, ap (λ (files : List (List ℕ)). length files) (steps_files c.args.setting.tool c.in-Some.line (reverse c.loop-opens.opens.items) (state_of c.loop-opens.reading) c.in_ok-name.field-0 (reverse c.step.new.opens.items) (state_of c.step.new.reading) c.in_ok-name.ensures.steps)))
+        (steps_open c.args.setting.tool c.in-Some.line (reverse c.loop-opens.opens.items) (state_of c.loop-opens.reading) c.in_ok-name.field-0 (reverse c.step.new.opens.items) (state_of c.step.new.reading) c.in_ok-name.ensures.steps (length c.loop-opens.reading.files) (omega (arith, rw c.in-Some.is at c.in_ok-line.ensures.mark, c.requires.open, c.loop-opens.invariant.more)) c.loop-opens.invariant.opened))
+    | in_default-2 w ↦ rw w.reading-is (open_more (length c.loop-opens.reading.files) (length c.step.new.reading.files) (reverse c.step.new.opens.items)
+        (omega (arith, ap (λ (files : List (List ℕ)). length files) (steps_files c.args.setting.tool c.in-Some.line (reverse c.loop-opens.opens.items) (state_of c.loop-opens.reading) c.in_ok-name.field-0 (reverse c.step.new.opens.items) (state_of c.step.new.reading) c.in_ok-name.ensures.steps)))
+        (steps_open c.args.setting.tool c.in-Some.line (reverse c.loop-opens.opens.items) (state_of c.loop-opens.reading) c.in_ok-name.field-0 (reverse c.step.new.opens.items) (state_of c.step.new.reading) c.in_ok-name.ensures.steps (length c.loop-opens.reading.files) (omega (arith, rw c.in-Some.is at c.in_ok-line.ensures.mark, c.requires.open, c.loop-opens.invariant.more)) c.loop-opens.invariant.opened))
   ];
   counted = elim c.match-branch-4.branch [
     | in-Some-2+in_ok-source+in_ok-read_file w ↦ rw w.folder-is (omega (arith, w.in_ok-read_file.ensures.counted, w.in_ok-source.ensures.counted, c.loop-opens.invariant.counted))

@@ -1,6 +1,7 @@
 use Rattle.std.proofs.Common.{◌≡◌, ◌+◌, ◌^◌, ◌≤◌, length, reverse, Some}
 use Rattle.rz_folder.specs.Folder.{Files}
 use Rattle.rz_lex.specs.Joined.{ahead}
+use Rattle.rz_pre.specs.Placed.{AreOpenIn, IsPlaced}
 use Rattle.rz_pre.specs.Program.{IncludedGoes}
 use Rattle.rz_pre.specs.Reading.{state_of}
 use Rattle.rz_pre.proofs.Going.{LinesLead}
@@ -16,6 +17,9 @@ invariant-loop-opens g l = record {
       (ahead l.place) (reverse l.opens.items) (state_of l.reading);
   within : l.place.line + length l.place.rest.now ≤ 2 ^ 32;
   unchanged : g.F.Folder.files l.folder ≡ g.F.Folder.files l.fn.folder;
+  placed : IsPlaced l.reading;
+  more : length l.fn.reading.files ≤ length l.reading.files;
+  opened : AreOpenIn (length l.reading.files) (reverse l.opens.items);
   counted : g.F.Folder.read_faults l.fn.folder ≤ g.F.Folder.read_faults l.folder;
 }
 

@@ -25,6 +25,8 @@ loop-k-preserved g c = record {
       _ (at_some _ files (c.loop-k.invariant.unchanged ∙ told) _ c.in_ok-read_named.ensures.read);
   within = let lt = slice_get_within c.args.names.now c.loop-k.k c.at.result.now c.at.ensures in omega (arith, lt);
   unchanged = c.in_ok-read_named.ensures.unchanged ∙ c.loop-k.invariant.unchanged;
+  placed = c.in_ok-read_named.ensures.placed;
+  more = omega (arith, c.in_ok-read_named.ensures.more, c.loop-k.invariant.more);
   counted = omega (arith, c.in_ok-read_named.ensures.counted, c.loop-k.invariant.counted);
 }
 

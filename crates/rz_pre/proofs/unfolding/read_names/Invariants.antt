@@ -1,5 +1,6 @@
 use Rattle.std.proofs.Common.{◌≡◌, ◌-◌, ◌≤◌, drop, length, Some}
 use Rattle.rz_folder.specs.Folder.{Files}
+use Rattle.rz_pre.specs.Placed.{IsPlaced}
 use Rattle.rz_pre.specs.Reading.{state_of}
 use Rattle.rz_pre.proofs.Going.{NamesLead}
 use Rattle.rz_pre.proofs.unfolding.read_names.Given as goal
@@ -10,6 +11,8 @@ invariant-loop-k g l = record {
       → NamesLead l.setting.tool files l.setting.paths.now l.names (drop l.k l.names) (state_of l.fn.reading) (state_of l.reading);
   within : l.k ≤ length l.names;
   unchanged : g.F.Folder.files l.folder ≡ g.F.Folder.files l.fn.folder;
+  placed : IsPlaced l.reading;
+  more : length l.fn.reading.files ≤ length l.reading.files;
   counted : g.F.Folder.read_faults l.fn.folder ≤ g.F.Folder.read_faults l.folder;
 }
 

@@ -1,0 +1,69 @@
+-- Which directive a logical line is. (MPW Rez.)
+use Rattle.std.specs.Prelude.{◌≡◌, ℕ, Bool, true, false, ◌==◌, if◌then◌else◌, List, [], ◌∷◌, codes, Option, Some, None}
+use Rattle.std.specs.List.{take_while, AllByRecursion}
+use Rattle.std.specs.Str.{str_eq_ignore_ascii_case}
+use Rattle.rz_lex.specs.Classes.{is_blank, is_word_byte}
+use Rattle.rz_source.specs.declared.directive.Directive.{Directive}
+use Rattle.rz_source.specs.declared.directive.Directive.TheVariants.{Define, Elif, Else, Empty, Endif, If, Ifdef, Ifndef, Include, Other, Undefine}
+
+-- blanks and nothing else
+abbrev pub AreBlanks : List ℕ → Type 0
+AreBlanks bytes = AllByRecursion (λ byte. is_blank byte ≡ true) bytes
+
+-- a line without the blanks at its front
+abbrev pub unblanked : List ℕ → List ℕ
+unblanked [] = []
+unblanked (byte ∷ rest) = if is_blank byte then unblanked rest else byte ∷ rest
+
+-- what stands behind the `#` at the front
+abbrev pub behind_hash : List ℕ → Option (List ℕ)
+behind_hash [] = None
+behind_hash (byte ∷ rest) = if byte == 35 then Some rest else None
+
+-- the letters, digits and `_` at the front
+abbrev pub front_word : List ℕ → List ℕ
+front_word bytes = take_while is_word_byte bytes
+
+-- the same word, in whatever case
+abbrev pub is : List ℕ → List ℕ → Bool
+is word name = str_eq_ignore_ascii_case name word
+
+-- the directive of a word
+abbrev pub named : List ℕ → Directive
+named name =
+    if is (codes "include") name then Include
+    else if is (codes "define") name then Define
+    else if is (codes "undef") name then Undefine
+    else if is (codes "if") name then If
+    else if is (codes "elif") name then Elif
+    else if is (codes "ifdef") name then Ifdef
+    else if is (codes "ifndef") name then Ifndef
+    else if is (codes "else") name then Else
+    else if is (codes "endif") name then Endif
+    else Other
+
+-- the directive of what stands behind the `#`
+abbrev pub directive_in : List ℕ → Directive
+directive_in [] = Empty
+directive_in (byte ∷ rest) = named (front_word (byte ∷ rest))
+
+abbrev pub of_hash : Option (List ℕ) → Option Directive
+of_hash None = None
+of_hash (Some rest) = Some (directive_in (unblanked rest))
+
+-- the directive of a line whose first byte other than a blank is `#`
+abbrev pub directive_of : List ℕ → Option Directive
+directive_of line = of_hash (behind_hash (unblanked line))
+
+-- what follows the letters, digits and `_` at the front
+abbrev pub behind_word : List ℕ → List ℕ
+behind_word [] = []
+behind_word (byte ∷ rest) = if is_word_byte byte then behind_word rest else byte ∷ rest
+
+abbrev pub starts_with : ℕ → List ℕ → Bool
+starts_with byte [] = false
+starts_with byte (first ∷ rest) = first == byte
+
+-- a bracket stands directly behind the name, which stands behind the directive's word
+abbrev pub has_parameters : List ℕ → Bool
+has_parameters text = starts_with 40 (behind_word (unblanked (behind_word (unblanked text))))
