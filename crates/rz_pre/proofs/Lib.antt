@@ -17,3 +17,4 @@ pub mod Opening
 pub mod Names
 pub mod OneProgram
 pub mod Placing
+pub mod Chosen

@@ -9,3 +9,4 @@ pub mod Line
 pub mod Program
 pub mod Reading
 pub mod Placed
+pub mod Groups
