@@ -1,4 +1,4 @@
-mod Bodies
+pub mod Bodies
 pub mod Halfway
 pub mod Frames
 pub mod Rows
@@ -18,3 +18,4 @@ pub mod Names
 pub mod OneProgram
 pub mod Placing
 pub mod Unfolded
+pub mod Chosen

@@ -10,3 +10,4 @@ pub mod Program
 pub mod Reading
 pub mod Placed
 pub mod Unfolding
+pub mod Groups

@@ -1,12 +1,13 @@
 ghost use Rattle.std.specs.Prelude.{◌≡◌, ◌<◌, ◌≤◌, ◌++◌, ◌∷◌, [], ℤ, List, Ok, Err, Some, length, pos, IfOk, IfSome, MatchOption, OnOk, option_map};
 ghost use Rattle.std.proofs.Common.{rules};
-ghost use Rattle.rz_core.specs.Stop.{OnFault};
+ghost use Rattle.rz_pre.specs.Answers.{Meets};
+ghost use Rattle.rz_pre.specs.Line.{IsComputed};
 ghost use Rattle.rz_core.specs.declared.fault.Fault.{Fault};
 ghost use Rattle.rz_core.specs.declared.fault.Mark.{Mark};
 ghost use Rattle.rz_lex.specs.Printed.{token_of};
 ghost use Rattle.rz_lex.specs.declared.token.Shape.TheVariants as shapes;
 ghost use Rattle.rz_lex.specs.declared.token.Token.{Token};
-ghost use Rattle.rz_pre.specs.Condition.{answer, asked, bad_condition, behind_defined, has_value, in_brackets, is, is_defined, is_known, nothing_seen, numbered, numbered_shape, word_number, Computes, ConditionFails, HasValue, IsCondition, Tells};
+ghost use Rattle.rz_pre.specs.Condition.{answer, asked, bad_condition, behind_defined, has_value, in_brackets, is, is_defined, is_known, nothing_seen, numbered, numbered_shape, word_number, Computes, HasValue, Tells};
 ghost use Rattle.rz_pre.specs.Live.{live_in, Live};
 ghost use Rattle.rz_pre.specs.declared.condition.Tool.{Tool};
 ghost use Rattle.rz_pre.specs.Macros.{rows_of};
@@ -71,8 +72,7 @@ pub fn compute_condition(
     mark: Mark,
     tokens: &[Token],
 ) -> Result<i32, Stop<Fault>>
-    ensures value { IfOk result (IsCondition (live_in (rows_of macros.now)) tool tokens.now) }
-    ensures fault { OnFault result (ConditionFails (live_in (rows_of macros.now)) tool mark tokens.now) }
+    ensures { Meets result (IsComputed (live_in (rows_of macros.now)) tool mark tokens.now) }
 {
     let told = tell(alloc, macros, tokens)?;
     let replaced = expand_all(alloc, macros, told.as_slice())?;

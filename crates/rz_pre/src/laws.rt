@@ -1,10 +1,11 @@
-ghost use Rattle.std.specs.Prelude.{◌≡◌, ℕ, List, Option, Result};
+ghost use Rattle.std.specs.Prelude.{◌≡◌, ℕ, true, List, [], None, Option, Result};
 ghost use Rattle.rz_core.specs.declared.fault.Fault.{Fault};
 ghost use Rattle.rz_folder.specs.Folder.{Files};
 ghost use Rattle.rz_lex.specs.declared.token.Shape.{Shape};
 ghost use Rattle.rz_pre.specs.Expand.{Expansion};
+ghost use Rattle.rz_pre.specs.Groups.{is_group, lines_of, Group, GroupGoes};
 ghost use Rattle.rz_pre.specs.Live.{live_in, Live, Row};
-ghost use Rattle.rz_pre.specs.Program.{start, Failure, ProgramGoes, State};
+ghost use Rattle.rz_pre.specs.Program.{start, Failure, IncludedGoes, LinesGo, ProgramGoes, State};
 ghost use Rattle.rz_pre.specs.Unfolding.{outcome, EachActs, Entry, ProgramUnfolds};
 ghost use Rattle.rz_pre.specs.declared.condition.Tool.{Tool};
 ghost use Rattle.rz_pre.specs.declared.program.Def.{Def};
@@ -50,4 +51,15 @@ pub fn one_expansion()
 pub fn every_token_expands()
     ensures { (rows : List Row) (shape : Shape)
         → (out : List Shape) × (work : ℕ) × Expansion (live_in rows) shape out work }
+{}
+
+/// A law, with nothing to run: in each conditional the chosen part is read, the first one whose test holds,
+/// else that of `#else`, and nothing of the others.
+pub fn chosen_parts()
+    ensures forward { (tool : Tool) (files : Files) (paths : List (List ℕ)) (levels : ℕ) (group : Group) (s : State) (answer : Result State Failure)
+        → is_group group ≡ true → GroupGoes (IncludedGoes tool files paths levels) tool group s answer
+        → LinesGo (IncludedGoes tool files paths levels) tool (lines_of group []) None [] s answer }
+    ensures backward { (tool : Tool) (files : Files) (paths : List (List ℕ)) (levels : ℕ) (group : Group) (s : State) (answer : Result State Failure)
+        → is_group group ≡ true → LinesGo (IncludedGoes tool files paths levels) tool (lines_of group []) None [] s answer
+        → GroupGoes (IncludedGoes tool files paths levels) tool group s answer }
 {}

@@ -17,6 +17,8 @@ mod reading;
 mod unfolding;
 
 pub use condition::Tool;
-pub use laws::{every_token_expands, one_expansion, one_list_of_entries, one_program};
+pub use laws::{
+    chosen_parts, every_token_expands, one_expansion, one_list_of_entries, one_program,
+};
 pub use program::{Def, Defs, PreFault, Program};
 pub use unfolding::preprocess;

@@ -4,7 +4,7 @@ ghost use Rattle.rz_core.specs.Stop.{OnFault};
 ghost use Rattle.rz_core.specs.declared.fault.Fault.{Fault};
 ghost use Rattle.rz_pre.specs.Answers.{Meets};
 ghost use Rattle.rz_source.specs.Directive.{directive_in, unblanked};
-ghost use Rattle.rz_pre.specs.Line.{bad_directive, behind_first, defined, directive_word, ended, free_word, included, is_kept, open_part, or_bad, otherwise, part_of, part_where, passed_over, simple, stray, tested, undefined, Directs, Does, HasCondition, IsComputed, IsCut, IsReplaced, Obeys, PutsOut, Says, Turns};
+ghost use Rattle.rz_pre.specs.Line.{bad_directive, behind_first, defined, directive_word, ended, free_word, included, is_kept, open_part, or_bad, otherwise, part_of, passed_over, simple, stray, tested, undefined, Directs, Does, HasCondition, IsComputed, IsCut, IsReplaced, Obeys, PutsOut, Says, Turns};
 ghost use Rattle.rz_pre.specs.Live.{live_in};
 ghost use Rattle.rz_pre.specs.Macros.{rows_of};
 
@@ -217,19 +217,7 @@ fn compute(
     ensures nameable { OnFault result (IsNameable (mark.file + 1)) }
 {
     let tokens = cut_bytes(alloc, mark, text)?;
-    value_of(alloc, macros, tool, mark, behind_first(tokens.as_slice()))
-}
-
-fn value_of(
-    alloc: Global,
-    macros: &Macros,
-    tool: Tool,
-    mark: Mark,
-    tokens: &[Token],
-) -> Result<i32, Stop<Fault>>
-    ensures { Meets result (IsComputed (live_in (rows_of macros.now)) tool mark tokens.now) }
-{
-    compute_condition(alloc, macros, tool, mark, tokens)
+    compute_condition(alloc, macros, tool, mark, behind_first(tokens.as_slice()))
 }
 
 /// The part behind a condition with this value.
@@ -368,19 +356,13 @@ fn tested(
             Shape::Word(word) => {
                 let known = is_known(alloc, macros, word)?;
                 let holds = if wanted { known } else { !known };
-                Ok(Some(Act::Begin(part_where(holds))))
+                let first = if holds { Part::Chosen } else { Part::Waiting };
+                Ok(Some(Act::Begin(first)))
             }
             _ => Ok(None),
         },
         [] => Ok(None),
     }
-}
-
-/// The part behind a test.
-fn part_where(holds: bool) -> Part
-    ensures { result ≡ part_where holds }
-{
-    if holds { Part::Chosen } else { Part::Waiting }
 }
 
 /// 104 for the directive with these tokens.
