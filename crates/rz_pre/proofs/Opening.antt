@@ -1,22 +1,17 @@
 -- Names of files, and the files under them.
-use Rattle.std.proofs.Common.{◌≡◌, ℕ, suc, ◌+◌, ◌<◌, ◌≤◌, Bool, true, false, ◌&&◌, inl, inr, List, [], ◌∷◌, ◌++◌, map, take, drop, get_or, length, Option, Some, None, Ok, Err, IfOk, IfSome, refl, sym, ap, subst, ◌∙◌, arith, append-nil, append_assoc, length-append}
+use Rattle.std.proofs.Common.{◌≡◌, ℕ, ◌+◌, ◌<◌, List, [], ◌∷◌, ◌++◌, map, take, drop, get_or, length, Option, Some, None, IfSome, refl, sym, ap, subst, ◌∙◌, append-nil}
 use Rattle.std.specs.Prelude.{slice_get}
 use Rattle.std.specs.FinMap as finite
 use Rattle.std.specs.Char.{encode_utf8}
-use Rattle.std.specs.Str.{all_scalars, encode_utf8_all}
-use Rattle.std.specs.declared.result.Result.{Result}
+use Rattle.std.specs.Str.{encode_utf8_all}
 use Rattle.std.proofs.lemmas.List.{at_drop_more, map-append, take_more}
 use Rattle.std.proofs.lemmas.Option.{slice_get_within, get_or_from_slice_get, same_Some}
-use Rattle.std.proofs.lemmas.Str.{encodes-append, len_utf8_bounds, length-encode}
+use Rattle.std.proofs.lemmas.Str.{encodes-append}
 use Rattle.rz_core.specs.Lists.{take_at_more}
-use Rattle.rz_core.specs.Roman.{roman_byte, roman_char}
-use Rattle.rz_core.specs.declared.stop.Stop.{Stop}
-use Rattle.rz_core.specs.declared.stop.Stop.TheVariants as stops
+use Rattle.rz_core.specs.Roman.{roman_char}
 use Rattle.rz_folder.specs.Folder.{Files, Reads}
 use Rattle.rz_folder.specs.declared.folder.Read.TheVariants as read
 use Rattle.rz_pre.specs.Program.{file_of, first_file}
-use Rattle.rz_source.specs.Source.{mark, Spells}
-use Rattle.rz_source.specs.declared.source.BadText.{BadText}
 
 pub if_some : {A : Type 0} (o : Option A) (P : A → Type 0) → ((x : A) → o ≡ Some x → P x) → IfSome o P
 if_some None P so = tt

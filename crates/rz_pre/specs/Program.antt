@@ -11,7 +11,6 @@ use Rattle.rz_folder.specs.Folder.{Files}
 use Rattle.rz_lex.specs.Joined.{joined}
 use Rattle.rz_lex.specs.Lines.{HasLines}
 use Rattle.rz_lex.specs.declared.raw_line.RawLine.{RawLine}
-use Rattle.rz_lex.specs.declared.token.Shape.{Shape}
 use Rattle.rz_lex.specs.declared.token.Token.{Token}
 use Rattle.rz_pre.specs.Answers.{Then}
 use Rattle.rz_pre.specs.Line.{Does}

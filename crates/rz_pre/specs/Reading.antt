@@ -8,7 +8,7 @@ use Rattle.rz_core.specs.declared.stop.Stop.{Stop}
 use Rattle.rz_core.specs.declared.stop.Stop.TheVariants as stops
 use Rattle.rz_lex.specs.declared.raw_line.RawLine.{RawLine}
 use Rattle.rz_pre.specs.Line.{Does}
-use Rattle.rz_pre.specs.Live.{live_in, Live}
+use Rattle.rz_pre.specs.Live.{live_in}
 use Rattle.rz_pre.specs.Macros.{rows_of}
 use Rattle.rz_pre.specs.Program.{fails, innermost, opens_after, state_after, Failure, State}
 use Rattle.rz_pre.specs.declared.act.Act.{Act}

@@ -1,4 +1,4 @@
-use Rattle.std.proofs.Common.{◌≡◌, ◌∙◌, arith}
+use Rattle.std.proofs.Common.{◌∙◌, arith}
 use Rattle.std.proofs.lemmas.Option.{slice_get_within}
 use Rattle.rz_pre.proofs.Opening.{found_here, found_later, if_some, reads_bytes, reads_missing}
 use Rattle.rz_pre.proofs.open.find.Goals as goal

@@ -1,4 +1,4 @@
-use Rattle.std.proofs.Common.{ℕ, List, string_bytes, arith, ap, sym, ◌∙◌, ◌∷◌, ◌++◌}
+use Rattle.std.proofs.Common.{ℕ, List, string_bytes, arith, ap, ◌∙◌, ◌∷◌, ◌++◌}
 use Rattle.std.proofs.lemmas.Option.{slice_get_within}
 use Rattle.rz_pre.proofs.Opening.{named_more}
 use Rattle.rz_pre.proofs.open.names_of.Goals as goal

@@ -1,6 +1,5 @@
-use Rattle.std.proofs.Common.{◌≡◌, ◌∙◌, ap, sym, Some}
 use Rattle.std.proofs.lemmas.Result.{err_from_is_err_and}
-use Rattle.rz_pre.specs.Program.{file_of, missing_file}
+use Rattle.rz_pre.specs.Program.{missing_file}
 use Rattle.rz_pre.specs.Reading.{state_of, together}
 use Rattle.rz_pre.proofs.Going.{at_some, opens_badly, unread_leaves}
 use Rattle.rz_pre.proofs.Opening.{if_some}

@@ -1,4 +1,4 @@
-use Rattle.std.proofs.Common.{List, ap, sym, reverse, ◌∙◌}
+use Rattle.std.proofs.Common.{ap, sym, reverse, ◌∙◌}
 use Rattle.rz_pre.specs.Program.{opens_after}
 use Rattle.rz_pre.specs.declared.act.Act.{Act}
 use Rattle.rz_pre.proofs.reading.follow.Goals as goal

@@ -1,7 +1,6 @@
-use Rattle.std.proofs.Common.{◌≡◌, ℕ, suc, ◌+◌, ◌-◌, ◌<◌, ◌≤◌, ◌^◌, List, length, rules, reverse, Ok, Err, Some, None, IfSome, refl, sym, ap, subst, ◌∙◌, arith}
+use Rattle.std.proofs.Common.{ℕ, ◌-◌, ◌<◌, ◌^◌, List, length, rules, reverse, sym, ap, subst, ◌∙◌, arith}
 use Rattle.std.specs.declared.option.Option.{Option}
 use Rattle.std.proofs.lemmas.Result.{err_from_is_err_and}
-use Rattle.rz_folder.specs.Folder.{Files}
 use Rattle.rz_lex.specs.Joined.{ahead}
 use Rattle.rz_lex.specs.declared.joined.Position.{Position}
 use Rattle.rz_lex.specs.declared.raw_line.RawLine.{RawLine}

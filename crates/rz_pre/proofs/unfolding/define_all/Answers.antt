@@ -1,4 +1,4 @@
-use Rattle.std.proofs.Common.{◌≡◌, ◌∙◌, List, sym, ap, refl, Some, None}
+use Rattle.std.proofs.Common.{◌∙◌, List, sym, ap, Some}
 use Rattle.rz_lex.specs.declared.token.Token.{Token}
 use Rattle.rz_pre.specs.Live.{live_in}
 use Rattle.rz_pre.specs.Macros.{rows_of}

@@ -1,4 +1,4 @@
-use Rattle.std.proofs.Common.{◌≡◌, ◌∙◌, Some}
+use Rattle.std.proofs.Common.{Some}
 use Rattle.rz_pre.specs.Program.{missing_file, names_of, utf8_name, Enters, Opens}
 use Rattle.rz_pre.specs.Reading.{state_of, together}
 use Rattle.rz_pre.proofs.Going.{at_some, enters_from, leaves_so}

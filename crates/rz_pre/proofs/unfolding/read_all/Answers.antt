@@ -1,5 +1,4 @@
-use Rattle.std.proofs.Common.{◌≡◌, ◌∙◌, subst}
-use Rattle.std.specs.declared.result.Result.{Result}
+use Rattle.std.proofs.Common.{subst}
 use Rattle.rz_pre.specs.Live.{live_in}
 use Rattle.rz_pre.specs.Macros.{rows_of}
 use Rattle.rz_pre.specs.Program.{NamesGo, State}
