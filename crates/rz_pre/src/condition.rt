@@ -1,4 +1,4 @@
-ghost use Rattle.std.specs.Prelude.{◌≡◌, ◌<◌, ◌≤◌, ◌++◌, ◌∷◌, [], ℤ, List, Ok, Err, Some, length, pos, IfOk, IfSome, MatchOption, OnOk, option_map};
+ghost use Rattle.std.specs.Prelude.{◌≡◌, ◌<◌, ◌≤◌, [], ℤ, Ok, Err, Some, length, IfOk, IfSome, MatchOption, option_map};
 ghost use Rattle.std.proofs.Common.{rules};
 ghost use Rattle.rz_pre.specs.Answers.{Meets};
 ghost use Rattle.rz_pre.specs.Line.{IsComputed};
@@ -8,7 +8,7 @@ ghost use Rattle.rz_lex.specs.Printed.{token_of};
 ghost use Rattle.rz_lex.specs.declared.token.Shape.TheVariants as shapes;
 ghost use Rattle.rz_lex.specs.declared.token.Token.{Token};
 ghost use Rattle.rz_pre.specs.Condition.{answer, asked, bad_condition, behind_defined, has_value, in_brackets, is, is_defined, is_known, nothing_seen, numbered, numbered_shape, word_number, Computes, HasValue, Tells};
-ghost use Rattle.rz_pre.specs.Live.{live_in, Live};
+ghost use Rattle.rz_pre.specs.Live.{live_in};
 ghost use Rattle.rz_pre.specs.declared.condition.Tool.{Tool};
 ghost use Rattle.rz_pre.specs.Macros.{rows_of};
 

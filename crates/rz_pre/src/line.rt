@@ -1,10 +1,10 @@
-ghost use Rattle.std.specs.Prelude.{◌≡◌, ◌+◌, List, IfOk, Ok, MatchOption, option_map};
+ghost use Rattle.std.specs.Prelude.{◌≡◌, ◌+◌, IfOk, Ok};
 ghost use Rattle.rz_core.specs.Message.{IsNameable};
 ghost use Rattle.rz_core.specs.Stop.{OnFault};
 ghost use Rattle.rz_core.specs.declared.fault.Fault.{Fault};
 ghost use Rattle.rz_pre.specs.Answers.{Meets};
 ghost use Rattle.rz_source.specs.Directive.{directive_in, unblanked};
-ghost use Rattle.rz_pre.specs.Line.{bad_directive, behind_first, defined, directive_word, ended, free_word, included, is_kept, open_part, or_bad, otherwise, part_of, passed_over, simple, stray, tested, undefined, Directs, Does, HasCondition, IsComputed, IsCut, IsReplaced, Obeys, PutsOut, Says, Turns};
+ghost use Rattle.rz_pre.specs.Line.{bad_directive, behind_first, defined, directive_word, ended, free_word, included, is_kept, open_part, or_bad, otherwise, part_of, passed_over, simple, stray, tested, undefined, Directs, Does, HasCondition, IsCut, IsReplaced, Obeys, PutsOut, Says, Turns};
 ghost use Rattle.rz_pre.specs.Live.{live_in};
 ghost use Rattle.rz_pre.specs.Macros.{rows_of};
 

@@ -1,4 +1,4 @@
-ghost use Rattle.std.specs.Prelude.{◌≡◌, ◌+◌, ◌<◌, ◌≤◌, ◌^◌, ℕ, List, length, IfOk};
+ghost use Rattle.std.specs.Prelude.{◌≡◌, ◌+◌, ◌<◌, ◌≤◌, ◌^◌, List, length, IfOk};
 ghost use Rattle.rz_lex.specs.declared.token.Token.{Token};
 ghost use Rattle.rz_stmt.specs.Statements.{is_end, open_behind, AreStatements, HasSpans};
 ghost use Rattle.rz_stmt.specs.declared.span.Span.{Span};
