@@ -1,2 +1,4 @@
 pub mod Statements
 pub mod Cutting
+pub mod Data
+pub mod Held

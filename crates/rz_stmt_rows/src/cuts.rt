@@ -1,0 +1,87 @@
+use rz_core::{Bytes, write_decimal};
+use rz_lex::lex;
+use rz_stmt::statements;
+use std::alloc::Global;
+use std::test::Fail;
+
+/// The most bytes of a text of a test.
+const MOST: usize = 100_000;
+
+/// Texts, and where their statements stand among their tokens: the position of the first token, a `-` and
+/// the position behind the last, each with a `.` behind it.
+const ROWS: &str = r#"
+// no token, a rest, and statements
+ => none
+a => 0-1.
+a b c => 0-3.
+; => 0-1.
+a; => 0-2.
+a b; => 0-3.
+a; b => 0-2.2-3.
+a; b c; d => 0-2.2-5.5-6.
+;; => 0-1.1-2.
+a;;b; => 0-2.2-3.3-5.
+// brackets of each kind
+(;) => 0-3.
+[;]; a => 0-4.4-5.
+{;}; => 0-4.
+{ a; b; }; c; => 0-7.7-9.
+type 'a' { integer; }; data; => 0-7.7-9.
+(a; [b; {c;} d;] e;); f => 0-17.17-18.
+// one that isn't closed
+{ a; b; => 0-5.
+( a; b; } ; => 0-7.
+( ( ; ) ; => 0-5.
+// one that closes none counts for nothing
+) ; a => 0-2.2-3.
+} } ; { ; } ; => 0-3.3-7.
+a ] ; ( ; ) ; => 0-3.3-7.
+// kinds aren't told apart
+( } ; => 0-3.
+( [ } ; ) ; => 0-6.
+// behind a cut none is open
+; ) ; ( ; => 0-1.1-3.3-5.
+// a text, a literal or a comment holds no sign
+";" ';' /* ; */ a ; b => 0-4.4-5.
+"{" ; b => 0-2.2-3.
+"#;
+
+/// Whether a line of a table is a row.
+fn is_row(line: &str) -> bool {
+    !line.is_empty() && !line.starts_with("//")
+}
+
+/// Where the statements of a text stand.
+fn outcome_of(alloc: Global, text: &str) -> Result<Bytes, Fail> {
+    if text.len() > MOST {
+        return Err(Fail::from("too long for a test"));
+    }
+    let Ok(tokens) = lex(alloc, text.as_bytes(), 0) else {
+        return Err(Fail::from("no tokens"));
+    };
+    let spans = statements(alloc, &tokens)?;
+    let mut outcome = Bytes::new(alloc);
+    for span in spans.as_slice() {
+        write_decimal(span.start, &mut outcome)?;
+        outcome.push(b'-')?;
+        write_decimal(span.end, &mut outcome)?;
+        outcome.push(b'.')?;
+    }
+    if spans.is_empty() {
+        outcome.append(b"none")?;
+    }
+    Ok(outcome)
+}
+
+#[test]
+fn tokens_are_cut_into_statements(rt: HostRuntime) -> Result<(), Fail> {
+    let alloc = rt.alloc();
+    for row in ROWS.lines().filter(|line| is_row(line)) {
+        let Some((text, wanted)) = row.split_once(" => ") else {
+            return Err(Fail::from("no row"));
+        };
+        let outcome = outcome_of(alloc, text)?;
+        assert_eq!(rt; outcome.as_slice(), wanted.as_bytes(), "{row}");
+    }
+    Ok(())
+}

@@ -1,0 +1,7 @@
+//! Tests of statements. It has no code that ships.
+#![tactic(auto)]
+
+#[cfg(test)]
+mod cuts;
+#[cfg(test)]
+mod data;
