@@ -1,41 +1,42 @@
 use crate::outcome::outcome_of;
+use crate::rows::{append_if_wrong, parts_of, wrong_rows};
 use rz_core::Bytes;
 use std::alloc::Global;
 use std::test::Fail;
 
-/// Each sign and its name, those of two bytes first.
-const SIGNS: [(&str, &str); 30] = [
-    ("<<", "1:ShiftLeft "),
-    (">>", "1:ShiftRight "),
-    ("<=", "1:LessEqual "),
-    (">=", "1:GreaterEqual "),
-    ("==", "1:EqualEqual "),
-    ("!=", "1:NotEqual "),
-    ("&&", "1:AndAnd "),
-    ("||", "1:OrOr "),
-    ("{", "1:OpenBrace "),
-    ("}", "1:CloseBrace "),
-    ("(", "1:OpenParen "),
-    (")", "1:CloseParen "),
-    ("[", "1:OpenBracket "),
-    ("]", "1:CloseBracket "),
-    (",", "1:Comma "),
-    (";", "1:Semicolon "),
-    (":", "1:Colon "),
-    ("=", "1:Equals "),
-    ("+", "1:Plus "),
-    ("-", "1:Minus "),
-    ("*", "1:Star "),
-    ("/", "1:Slash "),
-    ("%", "1:Percent "),
-    ("<", "1:Less "),
-    (">", "1:Greater "),
-    ("&", "1:And "),
-    ("|", "1:Or "),
-    ("^", "1:Caret "),
-    ("~", "1:Tilde "),
-    ("!", "1:Bang "),
-];
+/// Each sign and its name, those of two bytes first, see `wrong_rows`.
+const SIGNS: &str = "\
+<< => [1:ShiftLeft ]
+>> => [1:ShiftRight ]
+<= => [1:LessEqual ]
+>= => [1:GreaterEqual ]
+== => [1:EqualEqual ]
+!= => [1:NotEqual ]
+&& => [1:AndAnd ]
+|| => [1:OrOr ]
+{ => [1:OpenBrace ]
+} => [1:CloseBrace ]
+( => [1:OpenParen ]
+) => [1:CloseParen ]
+[ => [1:OpenBracket ]
+] => [1:CloseBracket ]
+, => [1:Comma ]
+; => [1:Semicolon ]
+: => [1:Colon ]
+= => [1:Equals ]
++ => [1:Plus ]
+- => [1:Minus ]
+* => [1:Star ]
+/ => [1:Slash ]
+% => [1:Percent ]
+< => [1:Less ]
+> => [1:Greater ]
+& => [1:And ]
+| => [1:Or ]
+^ => [1:Caret ]
+~ => [1:Tilde ]
+! => [1:Bang ]
+";
 
 /// The signs of at most four bytes, each the first of the table that stands at its place. Two bytes of
 /// them begin comments.
@@ -49,7 +50,10 @@ fn signs_of(alloc: Global, text: &[u8]) -> Result<Bytes, Fail> {
     }
     let mut rest = text;
     for _ in 0..4 {
-        for (sign, name) in SIGNS {
+        for row in SIGNS.lines() {
+            let Some((sign, name)) = parts_of(row) else {
+                return Err(Fail::from("no row"));
+            };
             if let Some(after) = rest.strip_prefix(sign.as_bytes()) {
                 names.append(name.as_bytes())?;
                 rest = after;
@@ -62,57 +66,59 @@ fn signs_of(alloc: Global, text: &[u8]) -> Result<Bytes, Fail> {
 
 #[test]
 fn signs_alone_and_side_by_side(rt: HostRuntime) -> Result<(), Fail> {
-    for (first, name) in SIGNS {
-        let outcome = outcome_of(rt.alloc(), first.as_bytes())?;
-        assert_eq!(rt; outcome.as_slice(), name.as_bytes(), "{first}");
-        for (second, _) in SIGNS {
-            let mut pair = Bytes::of(rt.alloc(), first.as_bytes())?;
-            pair.append(second.as_bytes())?;
-            let outcome = outcome_of(rt.alloc(), pair.as_slice())?;
-            let wanted = signs_of(rt.alloc(), pair.as_slice())?;
-            assert_eq!(rt; outcome.as_slice(), wanted.as_slice(), "{first} {second}");
+    let mut wrong = wrong_rows(rt.alloc(), SIGNS)?;
+    for first in SIGNS.lines() {
+        for second in SIGNS.lines() {
+            let (Some((first, _)), Some((second, _))) = (parts_of(first), parts_of(second)) else {
+                return Err(Fail::from("no row"));
+            };
+            let pair = format!(in rt.alloc(); "{first}{second}")?;
+            let outcome = outcome_of(rt.alloc(), pair.as_bytes())?;
+            let wanted = signs_of(rt.alloc(), pair.as_bytes())?;
+            append_if_wrong(&pair, &outcome, wanted.as_slice(), &mut wrong)?;
         }
     }
+    assert_eq!(rt; wrong.as_str(), "");
     Ok(())
 }
 
+/// Texts and what they give, see `wrong_rows`.
+const SIDE_BY_SIDE: &str = r"
+<<= => [1:ShiftLeft 1:Equals ]
+<=< => [1:LessEqual 1:Less ]
+<<< => [1:ShiftLeft 1:Less ]
+>>> => [1:ShiftRight 1:Greater ]
+>== => [1:GreaterEqual 1:Equals ]
+>>== => [1:ShiftRight 1:EqualEqual ]
+=== => [1:EqualEqual 1:Equals ]
+==== => [1:EqualEqual 1:EqualEqual ]
+=!= => [1:Equals 1:NotEqual ]
+!== => [1:NotEqual 1:Equals ]
+!!= => [1:Bang 1:NotEqual ]
+&&& => [1:AndAnd 1:And ]
+||| => [1:OrOr 1:Or ]
+&|& => [1:And 1:Or 1:And ]
+<> => [1:Less 1:Greater ]
+<>== => [1:Less 1:GreaterEqual 1:Equals ]
+=< => [1:Equals 1:Less ]
+=> => [1:Equals 1:Greater ]
+-= => [1:Minus 1:Equals ]
+^= => [1:Caret 1:Equals ]
++ + => [1:Plus 1:Plus ]
+++ => [1:Plus 1:Plus ]
+--1 => [1:Minus 1:Minus 1:1 ]
+< = => [1:Less 1:Equals ]
+& & => [1:And 1:And ]
+</**/= => [1:Less 1:Equals ]
+*/ => [1:Star 1:Slash ]
+/ * => [1:Slash 1:Star ]
+/ / => [1:Slash 1:Slash ]
+a<b>=c => [1:a 1:Less 1:b 1:GreaterEqual 1:c ]
+";
+
 #[test]
 fn longest_sign_is_taken_first(rt: HostRuntime) -> Result<(), Fail> {
-    let texts = [
-        ("<<=", "1:ShiftLeft 1:Equals "),
-        ("<=<", "1:LessEqual 1:Less "),
-        ("<<<", "1:ShiftLeft 1:Less "),
-        (">>>", "1:ShiftRight 1:Greater "),
-        (">==", "1:GreaterEqual 1:Equals "),
-        (">>==", "1:ShiftRight 1:EqualEqual "),
-        ("===", "1:EqualEqual 1:Equals "),
-        ("====", "1:EqualEqual 1:EqualEqual "),
-        ("=!=", "1:Equals 1:NotEqual "),
-        ("!==", "1:NotEqual 1:Equals "),
-        ("!!=", "1:Bang 1:NotEqual "),
-        ("&&&", "1:AndAnd 1:And "),
-        ("|||", "1:OrOr 1:Or "),
-        ("&|&", "1:And 1:Or 1:And "),
-        ("<>", "1:Less 1:Greater "),
-        ("<>==", "1:Less 1:GreaterEqual 1:Equals "),
-        ("=<", "1:Equals 1:Less "),
-        ("=>", "1:Equals 1:Greater "),
-        ("-=", "1:Minus 1:Equals "),
-        ("^=", "1:Caret 1:Equals "),
-        ("+ +", "1:Plus 1:Plus "),
-        ("++", "1:Plus 1:Plus "),
-        ("--1", "1:Minus 1:Minus 1:1 "),
-        ("< =", "1:Less 1:Equals "),
-        ("& &", "1:And 1:And "),
-        ("</**/=", "1:Less 1:Equals "),
-        ("*/", "1:Star 1:Slash "),
-        ("/ *", "1:Slash 1:Star "),
-        ("/ /", "1:Slash 1:Slash "),
-        ("a<b>=c", "1:a 1:Less 1:b 1:GreaterEqual 1:c "),
-    ];
-    for (text, wanted) in texts {
-        let outcome = outcome_of(rt.alloc(), text.as_bytes())?;
-        assert_eq!(rt; outcome.as_slice(), wanted.as_bytes(), "{text}");
-    }
+    let wrong = wrong_rows(rt.alloc(), SIDE_BY_SIDE)?;
+    assert_eq!(rt; wrong.as_str(), "");
     Ok(())
 }
