@@ -1,7 +1,7 @@
-use crate::fixed::{is_row, outcome_of};
+use crate::fixed::wrong_rows;
 use std::test::Fail;
 
-/// Texts and what they give, behind ` => `; a line that begins with `//` says what is tried.
+/// Texts and what they give, see `wrong_rows`.
 const FAULTS: &str = r"
 // quotients and shifts
 1 / 0 => ZeroDivisor
@@ -73,12 +73,7 @@ $$BitField(low, low, 32) => LaterData -4294967296 -4294967264
 
 #[test]
 fn first_fault_of_an_expression_is_given(rt: HostRuntime) -> Result<(), Fail> {
-    for row in FAULTS.lines().filter(|row| is_row(row)) {
-        let Some((text, wanted)) = row.split_once(" => ") else {
-            return Err(Fail::from("no row"));
-        };
-        let outcome = outcome_of(rt.alloc(), text)?;
-        assert_eq!(rt; outcome.as_slice(), wanted.as_bytes(), "{text}");
-    }
+    let wrong = wrong_rows(rt.alloc(), FAULTS)?;
+    assert_eq!(rt; wrong.as_str(), "");
     Ok(())
 }

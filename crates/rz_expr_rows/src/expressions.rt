@@ -1,8 +1,8 @@
-use crate::fixed::{is_row, outcome_at, outcome_of};
-use rz_core::Bytes;
+use crate::fixed::{append_wrong, outcome_at, outcome_of, wrong_rows};
+use std::alloc::Global;
 use std::test::Fail;
 
-/// Texts and what they give, behind ` => `; a line that begins with `//` says what is tried.
+/// Texts and what they give, see `wrong_rows`.
 const LONGEST: &str = r#"
 // where operands end
  => none
@@ -51,17 +51,12 @@ $"01" => none
 
 #[test]
 fn longest_expression_is_read(rt: HostRuntime) -> Result<(), Fail> {
-    for row in LONGEST.lines().filter(|row| is_row(row)) {
-        let Some((text, wanted)) = row.split_once(" => ") else {
-            return Err(Fail::from("no row"));
-        };
-        let outcome = outcome_of(rt.alloc(), text)?;
-        assert_eq!(rt; outcome.as_slice(), wanted.as_bytes(), "{text}");
-    }
+    let wrong = wrong_rows(rt.alloc(), LONGEST)?;
+    assert_eq!(rt; wrong.as_str(), "");
     Ok(())
 }
 
-/// Texts and what they give, behind ` => `; a line that begins with `//` says what is tried.
+/// Texts and what they give, see `wrong_rows`.
 const OPERANDS: &str = r#"
 // words
 here => 8
@@ -101,13 +96,8 @@ $$here => none
 
 #[test]
 fn words_and_facts_are_operands(rt: HostRuntime) -> Result<(), Fail> {
-    for row in OPERANDS.lines().filter(|row| is_row(row)) {
-        let Some((text, wanted)) = row.split_once(" => ") else {
-            return Err(Fail::from("no row"));
-        };
-        let outcome = outcome_of(rt.alloc(), text)?;
-        assert_eq!(rt; outcome.as_slice(), wanted.as_bytes(), "{text}");
-    }
+    let wrong = wrong_rows(rt.alloc(), OPERANDS)?;
+    assert_eq!(rt; wrong.as_str(), "");
     Ok(())
 }
 
@@ -130,7 +120,7 @@ fn expressions_begin_at_any_token(rt: HostRuntime) -> Result<(), Fail> {
     Ok(())
 }
 
-/// Texts and what they give, behind ` => `; a line that begins with `//` says what is tried.
+/// Texts and what they give, see `wrong_rows`.
 const FUNCTIONS: &str = r#"
 // numbers of rows
 $$CountOf ( rows ) => 5
@@ -202,60 +192,81 @@ $$BitField here , 1 , 2 => none
 
 #[test]
 fn functions_with_names_in_brackets(rt: HostRuntime) -> Result<(), Fail> {
-    for row in FUNCTIONS.lines().filter(|row| is_row(row)) {
-        let Some((text, wanted)) = row.split_once(" => ") else {
-            return Err(Fail::from("no row"));
-        };
-        let outcome = outcome_of(rt.alloc(), text)?;
-        assert_eq!(rt; outcome.as_slice(), wanted.as_bytes(), "{text}");
+    let wrong = wrong_rows(rt.alloc(), FUNCTIONS)?;
+    assert_eq!(rt; wrong.as_str(), "");
+    Ok(())
+}
+
+/// Texts, as `expanded` reads them, and what they give, behind ` => `.
+const LONG: &str = "\
+1«+1×499» => 500
+1«-1×500» => -499
+1«*2×31» => -2147483648
+«1+×500» => 500 to 999
+«-×500»7 => 7
+«-×501»7 => -7
+«~×501»7 => -8
+«!×500»7 => 1
+«-~×300»7 => 307
+«-×500» => none
+«(×60»7«)×60» => 7
+«(×60»7«)×61» => 7 to 121
+«(×61»7«)×60» => none
+«(×60»«)×60» => none
+«(×60»1+2«)*2×30» => none
+«(×30»1+2«)*2×30» => -1073741824
+«(1+×60»1«)×60» => 61
+«(3-×60»1«)×60» => 1
+«(3-×61»1«)×61» => 2
+«3-(×61»1«)×60» => 3 to 1
+«-(×61»1«)×61» => -1
+«$$BitField(start,×20»0«,4)×20» => 15
+«$$BitField(start,×21»0«,4)×21» => 12
+«$$BitField(start,×21»0«,4)×20» => none
+";
+
+/// The text that a row spells, where `«TEXT×N»` stands for TEXT N times.
+fn expanded(alloc: Global, spelled: &str) -> Result<String, Fail> {
+    let mut text = String::new(alloc);
+    for piece in spelled.split('«') {
+        match piece.split_once('»') {
+            None => text.push_str(piece)?,
+            Some((run, behind)) => {
+                append_run(run, &mut text)?;
+                text.push_str(behind)?;
+            }
+        }
+    }
+    Ok(text)
+}
+
+/// Appends TEXT N times, of `TEXT×N`.
+fn append_run(run: &str, text: &mut String) -> Result<(), Fail> {
+    let Some((again, count)) = run.split_once('×') else {
+        return Err(Fail::from("no run"));
+    };
+    let Ok(count) = count.parse::<u32>() else {
+        return Err(Fail::from("no number"));
+    };
+    for _ in 0..count {
+        text.push_str(again)?;
     }
     Ok(())
 }
 
 #[test]
 fn long_and_deep_expressions(rt: HostRuntime) -> Result<(), Fail> {
-    // what stands first and how often, what stands in the middle, and what stands behind it and how often
-    let texts = [
-        ("", 0, "1", "+1", 499, "500"),
-        ("", 0, "1", "-1", 500, "-499"),
-        ("", 0, "1", "*2", 31, "-2147483648"),
-        ("1+", 500, "", "", 0, "500 to 999"),
-        ("-", 500, "7", "", 0, "7"),
-        ("-", 501, "7", "", 0, "-7"),
-        ("~", 501, "7", "", 0, "-8"),
-        ("!", 500, "7", "", 0, "1"),
-        ("-~", 300, "7", "", 0, "307"),
-        ("-", 500, "", "", 0, "none"),
-        ("(", 60, "7", ")", 60, "7"),
-        ("(", 60, "7", ")", 61, "7 to 121"),
-        ("(", 61, "7", ")", 60, "none"),
-        ("(", 60, "", ")", 60, "none"),
-        ("(", 60, "1+2", ")*2", 30, "none"),
-        ("(", 30, "1+2", ")*2", 30, "-1073741824"),
-        ("(1+", 60, "1", ")", 60, "61"),
-        ("(3-", 60, "1", ")", 60, "1"),
-        ("(3-", 61, "1", ")", 61, "2"),
-        ("3-(", 61, "1", ")", 60, "3 to 1"),
-        ("-(", 61, "1", ")", 61, "-1"),
-        ("$$BitField(start,", 20, "0", ",4)", 20, "15"),
-        ("$$BitField(start,", 21, "0", ",4)", 21, "12"),
-        ("$$BitField(start,", 21, "0", ",4)", 20, "none"),
-    ];
-    for (first, before, middle, last, behind, wanted) in texts {
-        let mut text = Bytes::new(rt.alloc());
-        for _ in 0..before {
-            text.append(first.as_bytes())?;
+    let mut wrong = String::new(rt.alloc());
+    for row in LONG.lines() {
+        let Some((text, wanted)) = row.split_once(" => ") else {
+            return Err(Fail::from("no row"));
+        };
+        let text = expanded(rt.alloc(), text)?;
+        let outcome = outcome_of(rt.alloc(), &text)?;
+        if outcome.as_slice() != wanted.as_bytes() {
+            append_wrong(row, outcome.as_slice(), &mut wrong)?;
         }
-        text.append(middle.as_bytes())?;
-        for _ in 0..behind {
-            text.append(last.as_bytes())?;
-        }
-        let outcome = outcome_at(rt.alloc(), text.as_slice(), 0)?;
-        assert_eq!(rt;
-            outcome.as_slice(),
-            wanted.as_bytes(),
-            "{first} {before} {middle} {behind}"
-        );
     }
+    assert_eq!(rt; wrong.as_str(), "");
     Ok(())
 }

@@ -185,3 +185,33 @@ fn append_fault(fault: &EvalFault, text: &mut Bytes) -> Result<(), Fail> {
 pub fn is_row(line: &str) -> bool {
     !line.is_empty() && !line.starts_with("//")
 }
+
+/// The rows of a table whose texts give something else than stands behind their ` => `, each with what its
+/// text gives. A line that begins with `//` says what is tried.
+pub fn wrong_rows(alloc: Global, table: &str) -> Result<String, Fail> {
+    let mut wrong = String::new(alloc);
+    for row in table.lines() {
+        if !is_row(row) {
+            continue;
+        }
+        let Some((text, wanted)) = row.split_once(" => ") else {
+            return Err(Fail::from("no row"));
+        };
+        let outcome = outcome_of(alloc, text)?;
+        if outcome.as_slice() != wanted.as_bytes() {
+            append_wrong(row, outcome.as_slice(), &mut wrong)?;
+        }
+    }
+    Ok(wrong)
+}
+
+/// Appends a row and its outcome.
+pub fn append_wrong(row: &str, outcome: &[u8], wrong: &mut String) -> Result<(), Fail> {
+    wrong.push_str(row)?;
+    wrong.push_str(" BUT ")?;
+    for byte in outcome {
+        wrong.push(char::from(*byte))?;
+    }
+    wrong.push('\n')?;
+    Ok(())
+}

@@ -1,7 +1,7 @@
-use crate::fixed::{is_row, outcome_of};
+use crate::fixed::wrong_rows;
 use std::test::Fail;
 
-/// Texts and what they give, behind ` => `; a line that begins with `//` says what is tried.
+/// Texts and what they give, see `wrong_rows`.
 const EDGES: &str = r"
 // numbers and literals
 0 => 0
@@ -84,17 +84,12 @@ $FF => 255
 
 #[test]
 fn numbers_at_their_edges(rt: HostRuntime) -> Result<(), Fail> {
-    for row in EDGES.lines().filter(|row| is_row(row)) {
-        let Some((text, wanted)) = row.split_once(" => ") else {
-            return Err(Fail::from("no row"));
-        };
-        let outcome = outcome_of(rt.alloc(), text)?;
-        assert_eq!(rt; outcome.as_slice(), wanted.as_bytes(), "{text}");
-    }
+    let wrong = wrong_rows(rt.alloc(), EDGES)?;
+    assert_eq!(rt; wrong.as_str(), "");
     Ok(())
 }
 
-/// Texts and what they give, behind ` => `; a line that begins with `//` says what is tried.
+/// Texts and what they give, see `wrong_rows`.
 const BITS: &str = r"
 // shifts
 5 << 0 => 5
@@ -174,17 +169,12 @@ const BITS: &str = r"
 
 #[test]
 fn shifts_comparisons_and_bits(rt: HostRuntime) -> Result<(), Fail> {
-    for row in BITS.lines().filter(|row| is_row(row)) {
-        let Some((text, wanted)) = row.split_once(" => ") else {
-            return Err(Fail::from("no row"));
-        };
-        let outcome = outcome_of(rt.alloc(), text)?;
-        assert_eq!(rt; outcome.as_slice(), wanted.as_bytes(), "{text}");
-    }
+    let wrong = wrong_rows(rt.alloc(), BITS)?;
+    assert_eq!(rt; wrong.as_str(), "");
     Ok(())
 }
 
-/// Texts and what they give, behind ` => `; a line that begins with `//` says what is tried.
+/// Texts and what they give, see `wrong_rows`.
 const LEVELS: &str = r"
 // before an operand, and then all others
 !0 * 2 => 2
@@ -270,12 +260,7 @@ const LEVELS: &str = r"
 
 #[test]
 fn tighter_operators_come_first(rt: HostRuntime) -> Result<(), Fail> {
-    for row in LEVELS.lines().filter(|row| is_row(row)) {
-        let Some((text, wanted)) = row.split_once(" => ") else {
-            return Err(Fail::from("no row"));
-        };
-        let outcome = outcome_of(rt.alloc(), text)?;
-        assert_eq!(rt; outcome.as_slice(), wanted.as_bytes(), "{text}");
-    }
+    let wrong = wrong_rows(rt.alloc(), LEVELS)?;
+    assert_eq!(rt; wrong.as_str(), "");
     Ok(())
 }

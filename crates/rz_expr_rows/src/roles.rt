@@ -1,123 +1,136 @@
+use crate::fixed::{append_wrong, is_row};
 use rz_core::{Bytes, Word};
-use rz_expr::{FactWord, Function, Role, role_of};
+use rz_expr::role_of;
 use std::test::Fail;
+
+/// Words and their roles, behind ` => `; a line that begins with `//` says what is tried.
+const ROLES: &str = "
+// labels
+here => Label
+_ => Label
+x1 => Label
+typed => Label
+typ => Label
+_type => Label
+type_ => Label
+integers => Label
+define => Label
+if => Label
+ID => Label
+year => Label
+CountOf => Label
+BitField => Label
+truefalse => Label
+// other names
+appheap => OtherName
+sysHeap => OtherName
+nonPurgeable => OtherName
+Purgeable => OtherName
+UNLOCKED => OtherName
+locked => OtherName
+unprotected => OtherName
+protecteD => OtherName
+nonpreload => OtherName
+preload => OtherName
+unchanged => OtherName
+CHANGED => OtherName
+true => OtherName
+False => OtherName
+// reserved
+type => Reserved
+Resource => Reserved
+DATA => Reserved
+include => Reserved
+read => Reserved
+change => Reserved
+delete => Reserved
+aS => Reserved
+to => Reserved
+Not => Reserved
+array => Reserved
+wide => Reserved
+switch => Reserved
+case => Reserved
+KEY => Reserved
+fill => Reserved
+align => Reserved
+bit => Reserved
+nibble => Reserved
+Byte => Reserved
+word => Reserved
+long => Reserved
+integer => Reserved
+LongInt => Reserved
+bitstring => Reserved
+boolean => Reserved
+char => Reserved
+string => Reserved
+pstring => Reserved
+wstring => Reserved
+CString => Reserved
+point => Reserved
+rect => Reserved
+hex => Reserved
+decimal => Reserved
+octal => Reserved
+binary => Reserved
+literal => Reserved
+Unsigned => Reserved
+defined => Reserved
+rez => Reserved
+DeRez => Reserved
+// facts
+$$ID => Fact(Id)
+$$id => Fact(Id)
+$$Type => Fact(Kind)
+$$Attributes => Fact(Attributes)
+$$YEAR => Fact(Year)
+$$Month => Fact(Month)
+$$Day => Fact(Day)
+$$Hour => Fact(Hour)
+$$minute => Fact(Minute)
+$$Second => Fact(Second)
+$$WeekDay => Fact(Weekday)
+// functions with a name in brackets
+$$CountOf => Call(CountOf)
+$$countof => Call(CountOf)
+$$BITFIELD => Call(BitField)
+$$Byte => Call(Data(8))
+$$word => Call(Data(16))
+$$Long => Call(Data(32))
+// other functions
+$$Name => OtherFunction
+$$Date => OtherFunction
+$$Time => OtherFunction
+$$Version => OtherFunction
+$$Read => OtherFunction
+$$Resource => OtherFunction
+$$Format => OtherFunction
+$$I => OtherFunction
+$$IDs => OtherFunction
+$$true => OtherFunction
+$$integer => OtherFunction
+$$locked => OtherFunction
+$$x_1 => OtherFunction
+";
 
 #[test]
 fn words_have_their_roles(rt: HostRuntime) -> Result<(), Fail> {
-    let words = [
-        // labels
-        ("here", Role::Label),
-        ("_", Role::Label),
-        ("x1", Role::Label),
-        ("typed", Role::Label),
-        ("typ", Role::Label),
-        ("_type", Role::Label),
-        ("type_", Role::Label),
-        ("integers", Role::Label),
-        ("define", Role::Label),
-        ("if", Role::Label),
-        ("ID", Role::Label),
-        ("year", Role::Label),
-        ("CountOf", Role::Label),
-        ("BitField", Role::Label),
-        ("truefalse", Role::Label),
-        // other names
-        ("appheap", Role::OtherName),
-        ("sysHeap", Role::OtherName),
-        ("nonPurgeable", Role::OtherName),
-        ("Purgeable", Role::OtherName),
-        ("UNLOCKED", Role::OtherName),
-        ("locked", Role::OtherName),
-        ("unprotected", Role::OtherName),
-        ("protecteD", Role::OtherName),
-        ("nonpreload", Role::OtherName),
-        ("preload", Role::OtherName),
-        ("unchanged", Role::OtherName),
-        ("CHANGED", Role::OtherName),
-        ("true", Role::OtherName),
-        ("False", Role::OtherName),
-        // reserved
-        ("type", Role::Reserved),
-        ("Resource", Role::Reserved),
-        ("DATA", Role::Reserved),
-        ("include", Role::Reserved),
-        ("read", Role::Reserved),
-        ("change", Role::Reserved),
-        ("delete", Role::Reserved),
-        ("aS", Role::Reserved),
-        ("to", Role::Reserved),
-        ("Not", Role::Reserved),
-        ("array", Role::Reserved),
-        ("wide", Role::Reserved),
-        ("switch", Role::Reserved),
-        ("case", Role::Reserved),
-        ("KEY", Role::Reserved),
-        ("fill", Role::Reserved),
-        ("align", Role::Reserved),
-        ("bit", Role::Reserved),
-        ("nibble", Role::Reserved),
-        ("Byte", Role::Reserved),
-        ("word", Role::Reserved),
-        ("long", Role::Reserved),
-        ("integer", Role::Reserved),
-        ("LongInt", Role::Reserved),
-        ("bitstring", Role::Reserved),
-        ("boolean", Role::Reserved),
-        ("char", Role::Reserved),
-        ("string", Role::Reserved),
-        ("pstring", Role::Reserved),
-        ("wstring", Role::Reserved),
-        ("CString", Role::Reserved),
-        ("point", Role::Reserved),
-        ("rect", Role::Reserved),
-        ("hex", Role::Reserved),
-        ("decimal", Role::Reserved),
-        ("octal", Role::Reserved),
-        ("binary", Role::Reserved),
-        ("literal", Role::Reserved),
-        ("Unsigned", Role::Reserved),
-        ("defined", Role::Reserved),
-        ("rez", Role::Reserved),
-        ("DeRez", Role::Reserved),
-        // facts
-        ("$$ID", Role::Fact(FactWord::Id)),
-        ("$$id", Role::Fact(FactWord::Id)),
-        ("$$Type", Role::Fact(FactWord::Kind)),
-        ("$$Attributes", Role::Fact(FactWord::Attributes)),
-        ("$$YEAR", Role::Fact(FactWord::Year)),
-        ("$$Month", Role::Fact(FactWord::Month)),
-        ("$$Day", Role::Fact(FactWord::Day)),
-        ("$$Hour", Role::Fact(FactWord::Hour)),
-        ("$$minute", Role::Fact(FactWord::Minute)),
-        ("$$Second", Role::Fact(FactWord::Second)),
-        ("$$WeekDay", Role::Fact(FactWord::Weekday)),
-        // functions with a name in brackets
-        ("$$CountOf", Role::Call(Function::CountOf)),
-        ("$$countof", Role::Call(Function::CountOf)),
-        ("$$BITFIELD", Role::Call(Function::BitField)),
-        ("$$Byte", Role::Call(Function::Data(8))),
-        ("$$word", Role::Call(Function::Data(16))),
-        ("$$Long", Role::Call(Function::Data(32))),
-        // other functions
-        ("$$Name", Role::OtherFunction),
-        ("$$Date", Role::OtherFunction),
-        ("$$Time", Role::OtherFunction),
-        ("$$Version", Role::OtherFunction),
-        ("$$Read", Role::OtherFunction),
-        ("$$Resource", Role::OtherFunction),
-        ("$$Format", Role::OtherFunction),
-        ("$$I", Role::OtherFunction),
-        ("$$IDs", Role::OtherFunction),
-        ("$$true", Role::OtherFunction),
-        ("$$integer", Role::OtherFunction),
-        ("$$locked", Role::OtherFunction),
-        ("$$x_1", Role::OtherFunction),
-    ];
-    for (text, role) in words {
-        let word = Word {
-            bytes: Bytes::of(rt.alloc(), text.as_bytes())?,
+    let mut wrong = String::new(rt.alloc());
+    for row in ROLES.lines() {
+        if !is_row(row) {
+            continue;
+        }
+        let Some((text, wanted)) = row.split_once(" => ") else {
+            return Err(Fail::from("no row"));
         };
-        assert_eq!(rt; role_of(&word), role, "{text}");
+        let bytes = Bytes::of(rt.alloc(), text.as_bytes())?;
+        let role = role_of(&Word { bytes });
+        let role = format!(in rt.alloc(); "{role:?}")?;
+        if role.as_str() != wanted {
+            append_wrong(row, role.as_bytes(), &mut wrong)?;
+        }
     }
+    assert_eq!(rt; wrong.as_str(), "");
     Ok(())
 }

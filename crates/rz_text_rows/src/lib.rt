@@ -12,6 +12,8 @@ mod outcome;
 #[cfg(test)]
 mod quoted;
 #[cfg(test)]
+mod rows;
+#[cfg(test)]
 mod signs;
 #[cfg(test)]
 mod words;
