@@ -156,14 +156,22 @@ fn long_statement(alloc: Global, number: u32, count: u32) -> Result<Vec<Token>, 
     Ok(tokens)
 }
 
+/// How many bytes the resource of a statement has.
+fn size_of(alloc: Global, tokens: &[Token]) -> Result<u64, Fail> {
+    if tokens.is_empty() {
+        return Err(Fail::from("no statement"));
+    }
+    match read_data(alloc, tokens) {
+        Ok(resource) => Ok(resource.bytes.len()),
+        Err(_) => Err(Fail::from("refused")),
+    }
+}
+
 #[test]
 fn bytes_of_a_resource_have_a_limit(rt: HostRuntime) -> Result<(), Fail> {
     let alloc = rt.alloc();
     let tokens = long_statement(alloc, 7, 16_777_212)?;
-    let Ok(resource) = read_data(alloc, tokens.as_slice()) else {
-        return Err(Fail::from("refused"));
-    };
-    assert_eq!(rt; resource.bytes.len(), 16_777_212);
+    assert_eq!(rt; size_of(alloc, tokens.as_slice())?, 16_777_212);
     let tokens = long_statement(alloc, 7, 16_777_213)?;
     let outcome = outcome_of(alloc, tokens.as_slice())?;
     assert_eq!(rt; outcome.as_slice(), b"301 on 1 16777213".as_slice());
