@@ -552,11 +552,18 @@ module _ (Reads : Includes) (tool : Tool) where
         (on (others_go others lines ending m opens s h.1)
         (on (passed body more ending (later_open m Waiting ∷ opens) s i.1 refl) (turn (then_is (pair (later_open m Waiting ∷ opens) s) (GoesOn (lines_of body more) ending)))))
 
-  whole : (group : Group) (s : State) → is_group group ≡ true → Same (GroupGoes Reads tool group s) (LinesGo Reads tool (lines_of group []) None [] s)
-  whole group s good = on (turn (then_done (GroupGoes Reads tool group s))) (group_goes group [] None [] s good refl)
+  pub read_there : (group : Group) (lines : List RawLine) (ending : Option Fault) (opens : List Open) (s : State) (answer : Result State Failure) → is_group group ≡ true
+      → is_kept (innermost opens) ≡ true → Then (GroupGoes Reads tool group s) (Goes lines ending opens) answer → Goes (lines_of group lines) ending opens s answer
+  read_there group lines ending opens s answer good kept = (group_goes group lines ending opens s good kept).there answer
 
-  pub lines_go : (group : Group) (s : State) (answer : Result State Failure) → is_group group ≡ true → GroupGoes Reads tool group s answer → LinesGo Reads tool (lines_of group []) None [] s answer
-  lines_go group s answer good goes = (whole group s good).there answer goes
+  pub read_back : (group : Group) (lines : List RawLine) (ending : Option Fault) (opens : List Open) (s : State) (answer : Result State Failure) → is_group group ≡ true
+      → is_kept (innermost opens) ≡ true → Goes (lines_of group lines) ending opens s answer → Then (GroupGoes Reads tool group s) (Goes lines ending opens) answer
+  read_back group lines ending opens s answer good kept = (group_goes group lines ending opens s good kept).back answer
 
-  pub parts_go : (group : Group) (s : State) (answer : Result State Failure) → is_group group ≡ true → LinesGo Reads tool (lines_of group []) None [] s answer → GroupGoes Reads tool group s answer
-  parts_go group s answer good goes = (whole group s good).back answer goes
+  pub passed_there : (group : Group) (lines : List RawLine) (ending : Option Fault) (opens : List Open) (s : State) (answer : Result State Failure) → is_group group ≡ true
+      → is_kept (innermost opens) ≡ false → Goes lines ending opens s answer → Goes (lines_of group lines) ending opens s answer
+  passed_there group lines ending opens s answer good unkept = (passed group lines ending opens s good unkept).there answer
+
+  pub passed_back : (group : Group) (lines : List RawLine) (ending : Option Fault) (opens : List Open) (s : State) (answer : Result State Failure) → is_group group ≡ true
+      → is_kept (innermost opens) ≡ false → Goes (lines_of group lines) ending opens s answer → Goes lines ending opens s answer
+  passed_back group lines ending opens s answer good unkept = (passed group lines ending opens s good unkept).back answer

@@ -89,14 +89,23 @@ abbrev pub word_number : Tool → List ℕ → ℕ
 word_number Rez name = if is (codes "true") name || is (codes "rez") name then 1 else 0
 word_number DeRez name = if is (codes "true") name || is (codes "derez") name then 1 else 0
 
-abbrev pub is_function_role : Role → Bool
-is_function_role (Fact fact) = true
-is_function_role (Call function) = true
-is_function_role other = false
+-- the name of a function that is a number, or that is a text; any other word that begins with `$$` is none
+abbrev pub is_number_function : Role → Bool
+is_number_function (Fact fact) = true
+is_number_function (Call function) = true
+is_number_function other = false
+
+unfoldable pub is_text_function : List ℕ → Bool
+is_text_function name =
+    is (codes "$$Name") name || is (codes "$$Date") name || is (codes "$$Time") name || is (codes "$$Version") name
+    || is (codes "$$Read") name || is (codes "$$Resource") name || is (codes "$$Format") name
+
+abbrev pub is_function : List ℕ → Bool
+is_function name = is_number_function (role_of name) || is_text_function name
 
 -- the tokens with each word as its number, unless one is the name of a function
 abbrev pub numbered_shape : Tool → Shape → Option Shape
-numbered_shape tool (shapes.Word word) = if is_function_role (role_of word.bytes) then None else Some (shapes.Number (word_number tool word.bytes))
+numbered_shape tool (shapes.Word word) = if is_function word.bytes then None else Some (shapes.Number (word_number tool word.bytes))
 numbered_shape tool other = Some other
 
 abbrev pub put_front : Mark → Option Shape → Option (List Token) → Option (List Token)

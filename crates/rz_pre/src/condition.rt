@@ -7,7 +7,7 @@ ghost use Rattle.rz_core.specs.declared.fault.Mark.{Mark};
 ghost use Rattle.rz_lex.specs.Printed.{token_of};
 ghost use Rattle.rz_lex.specs.declared.token.Shape.TheVariants as shapes;
 ghost use Rattle.rz_lex.specs.declared.token.Token.{Token};
-ghost use Rattle.rz_pre.specs.Condition.{answer, asked, bad_condition, behind_defined, has_value, in_brackets, is, is_defined, is_known, nothing_seen, numbered, numbered_shape, word_number, Computes, HasValue, Tells};
+ghost use Rattle.rz_pre.specs.Condition.{answer, asked, behind_defined, has_value, in_brackets, is, is_defined, is_known, is_text_function, nothing_seen, numbered, numbered_shape, word_number, Computes, HasValue, Tells};
 ghost use Rattle.rz_pre.specs.Live.{live_in};
 ghost use Rattle.rz_pre.specs.declared.condition.Tool.{Tool};
 ghost use Rattle.rz_pre.specs.Macros.{rows_of};
@@ -78,17 +78,11 @@ pub fn compute_condition(
     let replaced = expand_all(alloc, macros, told.as_slice())?;
     match computed(alloc, tool, &replaced)? {
         Some(value) => Ok(value),
-        None => Err(Stop::Refused(bad_condition(mark))),
-    }
-}
-
-fn bad_condition(mark: Mark) -> Fault
-    ensures { result ≡ bad_condition mark }
-{
-    Fault {
-        number: 114,
-        mark: Some(mark),
-        kept: Kept::Nothing,
+        None => Err(Stop::Refused(Fault {
+            number: 114,
+            mark: Some(mark),
+            kept: Kept::Nothing,
+        })),
     }
 }
 
@@ -258,10 +252,30 @@ fn numbered_shape(alloc: Global, tool: Tool, shape: &Shape) -> Result<Option<Sha
     match shape {
         Shape::Word(word) => match role_of(word) {
             Role::Fact(_) | Role::Call(_) => Ok(None),
-            _ => Ok(Some(Shape::Number(word_number(tool, word)))),
+            _ => {
+                if is_text_function(word.bytes.as_slice()) {
+                    Ok(None)
+                } else {
+                    Ok(Some(Shape::Number(word_number(tool, word))))
+                }
+            }
         },
         other => Ok(Some(copy_of(alloc, other)?)),
     }
+}
+
+/// Whether it is the name of a function that is a text.
+#[tactic(auto, unfolding(crate::specs::Condition::is_text_function))]
+fn is_text_function(name: &[u8]) -> bool
+    ensures { result ≡ is_text_function name.now }
+{
+    is(b"$$Name", name)
+        || is(b"$$Date", name)
+        || is(b"$$Time", name)
+        || is(b"$$Version", name)
+        || is(b"$$Read", name)
+        || is(b"$$Resource", name)
+        || is(b"$$Format", name)
 }
 
 /// The value of a word that is left.

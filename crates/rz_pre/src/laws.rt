@@ -1,11 +1,15 @@
-ghost use Rattle.std.specs.Prelude.{◌≡◌, ℕ, true, List, [], None, Option, Result};
+ghost use Rattle.std.specs.Prelude.{◌≡◌, ◌↔◌, ℕ, true, false, List, Option, Result};
 ghost use Rattle.rz_core.specs.declared.fault.Fault.{Fault};
 ghost use Rattle.rz_folder.specs.Folder.{Files};
 ghost use Rattle.rz_lex.specs.declared.token.Shape.{Shape};
 ghost use Rattle.rz_pre.specs.Expand.{Expansion};
 ghost use Rattle.rz_pre.specs.Groups.{is_group, lines_of, Group, GroupGoes};
 ghost use Rattle.rz_pre.specs.Live.{live_in, Live, Row};
-ghost use Rattle.rz_pre.specs.Program.{start, Failure, IncludedGoes, LinesGo, ProgramGoes, State};
+ghost use Rattle.rz_lex.specs.declared.raw_line.RawLine.{RawLine};
+ghost use Rattle.rz_pre.specs.Answers.{Then};
+ghost use Rattle.rz_pre.specs.Line.{is_kept};
+ghost use Rattle.rz_pre.specs.declared.conditional.Open.{Open};
+ghost use Rattle.rz_pre.specs.Program.{innermost, start, Failure, IncludedGoes, LinesGo, ProgramGoes, State};
 ghost use Rattle.rz_pre.specs.Unfolding.{outcome, EachActs, Entry, ProgramUnfolds};
 ghost use Rattle.rz_pre.specs.declared.condition.Tool.{Tool};
 ghost use Rattle.rz_pre.specs.declared.program.Def.{Def};
@@ -53,13 +57,18 @@ pub fn every_token_expands()
         → (out : List Shape) × (work : ℕ) × Expansion (live_in rows) shape out work }
 {}
 
-/// A law, with nothing to run: in each conditional the chosen part is read, the first one whose test holds,
-/// else that of `#else`, and nothing of the others.
+/// A law, with nothing to run: of lines in groups that are read, of each conditional the chosen part is read,
+/// the first one whose test holds, else that of `#else`, and nothing of the others, whatever stands around
+/// them and whatever lines follow; and of lines in groups that aren't read, nothing is.
 pub fn chosen_parts()
-    ensures forward { (tool : Tool) (files : Files) (paths : List (List ℕ)) (levels : ℕ) (group : Group) (s : State) (answer : Result State Failure)
-        → is_group group ≡ true → GroupGoes (IncludedGoes tool files paths levels) tool group s answer
-        → LinesGo (IncludedGoes tool files paths levels) tool (lines_of group []) None [] s answer }
-    ensures backward { (tool : Tool) (files : Files) (paths : List (List ℕ)) (levels : ℕ) (group : Group) (s : State) (answer : Result State Failure)
-        → is_group group ≡ true → LinesGo (IncludedGoes tool files paths levels) tool (lines_of group []) None [] s answer
-        → GroupGoes (IncludedGoes tool files paths levels) tool group s answer }
+    ensures read { (tool : Tool) (files : Files) (paths : List (List ℕ)) (levels : ℕ) (group : Group) (rest : List RawLine) (ending : Option Fault)
+        (opens : List Open) (s : State) (answer : Result State Failure)
+        → is_group group ≡ true → is_kept (innermost opens) ≡ true
+        → Then (GroupGoes (IncludedGoes tool files paths levels) tool group s) (λ t. LinesGo (IncludedGoes tool files paths levels) tool rest ending opens t) answer
+        ↔ LinesGo (IncludedGoes tool files paths levels) tool (lines_of group rest) ending opens s answer }
+    ensures passed { (tool : Tool) (files : Files) (paths : List (List ℕ)) (levels : ℕ) (group : Group) (rest : List RawLine) (ending : Option Fault)
+        (opens : List Open) (s : State) (answer : Result State Failure)
+        → is_group group ≡ true → is_kept (innermost opens) ≡ false
+        → LinesGo (IncludedGoes tool files paths levels) tool rest ending opens s answer
+        ↔ LinesGo (IncludedGoes tool files paths levels) tool (lines_of group rest) ending opens s answer }
 {}

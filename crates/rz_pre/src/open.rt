@@ -33,6 +33,7 @@ pub fn open_file<F: Folder>(
     ensures short { IfOk result (λ text. length text < 2 ^ 32) }
     ensures unchanged { F.files folder.new ≡ F.files folder.old }
     ensures counted { F.read_faults folder.old ≤ F.read_faults folder.new }
+    ensures other_count { F.write_faults folder.new ≡ F.write_faults folder.old }
     ensures cause { OnReadFault result (Rose (F.read_faults folder.old) (F.read_faults folder.new)) }
 {
     match find(alloc, folder, names)? {
@@ -56,6 +57,7 @@ fn find<'a, F: Folder>(
     ensures short { IfOk result (λ found. IfSome found (λ found. length found.1 < 2 ^ 32)) }
     ensures unchanged { F.files folder.new ≡ F.files folder.old }
     ensures counted { F.read_faults folder.old ≤ F.read_faults folder.new }
+    ensures other_count { F.write_faults folder.new ≡ F.write_faults folder.old }
     ensures cause { OnReadFault result (Rose (F.read_faults folder.old) (F.read_faults folder.new)) }
     ensures no_rule { IsUnread result }
 {

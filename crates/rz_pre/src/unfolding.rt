@@ -51,6 +51,7 @@ fn read_file<F: Folder>(
     ensures nameable { OnRefused result (length reading.new.files) }
     ensures unchanged { F.files folder.new ≡ F.files folder.old }
     ensures counted { F.read_faults folder.old ≤ F.read_faults folder.new }
+    ensures other_count { F.write_faults folder.new ≡ F.write_faults folder.old }
     ensures cause { OnReadFault result (Rose (F.read_faults folder.old) (F.read_faults folder.new)) }
 {
     every_text_has_lines();
@@ -142,6 +143,7 @@ fn open_included<F: Folder>(
     ensures nameable { OnRefused result (length reading.new.files) }
     ensures unchanged { F.files folder.new ≡ F.files folder.old }
     ensures counted { F.read_faults folder.old ≤ F.read_faults folder.new }
+    ensures other_count { F.write_faults folder.new ≡ F.write_faults folder.old }
     ensures cause { OnReadFault result (Rose (F.read_faults folder.old) (F.read_faults folder.new)) }
 {
     if levels == 0 {
@@ -167,6 +169,7 @@ fn read_names<F: Folder>(
     ensures nameable { OnRefused result (length reading.new.files) }
     ensures unchanged { F.files folder.new ≡ F.files folder.old }
     ensures counted { F.read_faults folder.old ≤ F.read_faults folder.new }
+    ensures other_count { F.write_faults folder.new ≡ F.write_faults folder.old }
     ensures cause { OnReadFault result (Rose (F.read_faults folder.old) (F.read_faults folder.new)) }
 {
     let mut k = 0;
@@ -193,6 +196,7 @@ fn read_named<F: Folder>(
     ensures nameable { OnRefused result (length reading.new.files) }
     ensures unchanged { F.files folder.new ≡ F.files folder.old }
     ensures counted { F.read_faults folder.old ≤ F.read_faults folder.new }
+    ensures other_count { F.write_faults folder.new ≡ F.write_faults folder.old }
     ensures cause { OnReadFault result (Rose (F.read_faults folder.old) (F.read_faults folder.new)) }
 {
     let file = reading.files.len();
@@ -240,6 +244,7 @@ fn read_all<F: Folder>(
     ensures nameable { OnRefused result (length reading.new.files) }
     ensures unchanged { F.files folder.new ≡ F.files folder.old }
     ensures counted { F.read_faults folder.old ≤ F.read_faults folder.new }
+    ensures other_count { F.write_faults folder.new ≡ F.write_faults folder.old }
     ensures cause { OnReadFault result (Rose (F.read_faults folder.old) (F.read_faults folder.new)) }
 {
     define_all(alloc, defs, &mut reading.macros)?;
@@ -304,6 +309,7 @@ pub fn preprocess<F: Folder>(
     ensures stands { StandsInFiles result }
     ensures unchanged { F.files folder.new ≡ F.files folder.old }
     ensures counted { F.read_faults folder.old ≤ F.read_faults folder.new }
+    ensures other_count { F.write_faults folder.new ≡ F.write_faults folder.old }
     ensures cause { result ≡ Err ReadFault → Rose (F.read_faults folder.old) (F.read_faults folder.new) }
 {
     one_program();

@@ -14,5 +14,6 @@ loop-k-preserved g c = record {
       (reads_missing c.at-name.result.now _ files (c.loop-k.invariant.unchanged ∙ told) c.in-Missing.ensures.told);
   within = let lt = slice_get_within c.args.names.now c.loop-k.k c.at-name.result.now c.at-name.ensures in omega (arith, lt);
   unchanged = c.in-Missing.ensures.unchanged ∙ c.loop-k.invariant.unchanged;
+  other_count = c.in-Missing.ensures.other_count ∙ c.loop-k.invariant.other_count;
   counted = omega (arith, c.in-Missing.ensures.counted, c.loop-k.invariant.counted);
 }

@@ -8,6 +8,7 @@ invariant-loop-k g l = record {
   left : (files : Files) → g.F.Folder.files l.fn.folder ≡ Some files → file_of files l.names ≡ file_of files (drop l.k l.names);
   within : l.k ≤ length l.names;
   unchanged : g.F.Folder.files l.folder ≡ g.F.Folder.files l.fn.folder;
+  other_count : g.F.Folder.write_faults l.folder ≡ g.F.Folder.write_faults l.fn.folder;
   counted : g.F.Folder.read_faults l.fn.folder ≤ g.F.Folder.read_faults l.folder;
 }
 

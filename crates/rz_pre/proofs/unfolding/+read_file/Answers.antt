@@ -106,6 +106,10 @@ loop-opens-preserved g t c = record {
         (omega (arith, ap (λ (files : List (List ℕ)). length files) (steps_files c.args.setting.tool c.in-Some.line (reverse c.loop-opens.opens.items) (state_of c.loop-opens.reading) c.in_ok-name.field-0 (reverse c.step.new.opens.items) (state_of c.step.new.reading) c.in_ok-name.ensures.steps)))
         (steps_open c.args.setting.tool c.in-Some.line (reverse c.loop-opens.opens.items) (state_of c.loop-opens.reading) c.in_ok-name.field-0 (reverse c.step.new.opens.items) (state_of c.step.new.reading) c.in_ok-name.ensures.steps (length c.loop-opens.reading.files) (omega (arith, rw c.in-Some.is at c.in_ok-line.ensures.mark, c.requires.open, c.loop-opens.invariant.more)) c.loop-opens.invariant.opened))
   ];
+  other_count = elim c.match-branch-4.branch [
+    | in-Some-2+in_ok-source+in_ok-read_file w ↦ rw w.folder-is (w.in_ok-read_file.ensures.other_count ∙ w.in_ok-source.ensures.other_count ∙ c.loop-opens.invariant.other_count)
+    | in_default-2 w ↦ rw w.folder-is c.loop-opens.invariant.other_count
+  ];
   counted = elim c.match-branch-4.branch [
     | in-Some-2+in_ok-source+in_ok-read_file w ↦ rw w.folder-is (omega (arith, w.in_ok-read_file.ensures.counted, w.in_ok-source.ensures.counted, c.loop-opens.invariant.counted))
     | in_default-2 w ↦ rw w.folder-is c.loop-opens.invariant.counted

@@ -20,6 +20,7 @@ invariant-loop-opens g l = record {
   placed : IsPlaced l.reading;
   more : length l.fn.reading.files ≤ length l.reading.files;
   opened : AreOpenIn (length l.reading.files) (reverse l.opens.items);
+  other_count : g.F.Folder.write_faults l.folder ≡ g.F.Folder.write_faults l.fn.folder;
   counted : g.F.Folder.read_faults l.fn.folder ≤ g.F.Folder.read_faults l.folder;
 }
 

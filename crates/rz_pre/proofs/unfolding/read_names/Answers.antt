@@ -27,6 +27,7 @@ loop-k-preserved g c = record {
   unchanged = c.in_ok-read_named.ensures.unchanged ∙ c.loop-k.invariant.unchanged;
   placed = c.in_ok-read_named.ensures.placed;
   more = omega (arith, c.in_ok-read_named.ensures.more, c.loop-k.invariant.more);
+  other_count = c.in_ok-read_named.ensures.other_count ∙ c.loop-k.invariant.other_count;
   counted = omega (arith, c.in_ok-read_named.ensures.counted, c.loop-k.invariant.counted);
 }
 

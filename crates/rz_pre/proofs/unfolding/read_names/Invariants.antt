@@ -13,6 +13,7 @@ invariant-loop-k g l = record {
   unchanged : g.F.Folder.files l.folder ≡ g.F.Folder.files l.fn.folder;
   placed : IsPlaced l.reading;
   more : length l.fn.reading.files ≤ length l.reading.files;
+  other_count : g.F.Folder.write_faults l.folder ≡ g.F.Folder.write_faults l.fn.folder;
   counted : g.F.Folder.read_faults l.fn.folder ≤ g.F.Folder.read_faults l.folder;
 }
 
