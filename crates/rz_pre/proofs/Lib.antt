@@ -19,3 +19,4 @@ pub mod OneProgram
 pub mod Placing
 pub mod Unfolded
 pub mod Chosen
+pub mod Numbers

@@ -3,7 +3,7 @@ use Rattle.std.proofs.Common.{◌≡◌, ℕ, ℤ, ◌+◌, ◌<◌, ◌≤◌, 
 use Rattle.std.specs.Prelude.{if◌then◌else◌, option_map}
 use Rattle.std.specs.List.{AllByRecursion}
 use Rattle.std.specs.declared.result.Result.{Result}
-use Rattle.rz_core.specs.Message.{IsNameable}
+use Rattle.rz_core.specs.Message.{is_between}
 use Rattle.rz_core.specs.Message as message
 use Rattle.rz_core.specs.Stop.{OnFault}
 use Rattle.rz_core.specs.declared.fault.Fault.{Fault}
@@ -23,7 +23,7 @@ use Rattle.rz_source.specs.Directive.{behind_hash, directive_in, has_parameters,
 use Rattle.rz_pre.specs.Expanded.{too_long, ExpandInto, FirstTooLong}
 use Rattle.rz_pre.specs.Line.{Acts, Directs, Does, IsComputed, IsReplaced, Obeys, PutsOut, Says, Turns, WhereKept, behind_first, defined, ended, free_word, included, is_kept, open_part, or_bad, otherwise, passed_over, simple, tested, text_in, undefined, word_in}
 use Rattle.rz_pre.specs.Live.{Live}
-use Rattle.rz_pre.specs.Placed.{AreOn, AreOpenIn, AreWithin, OnRefused, PutsOn}
+use Rattle.rz_pre.specs.Placed.{AreOn, AreOpenIn, AreWithin, IsSourceFault, OnRefused, PutsOn}
 use Rattle.rz_pre.specs.Program.{opens_after, state_after, State}
 use Rattle.rz_pre.specs.Reading.{halt_of, IsUnread, Steps}
 use Rattle.rz_pre.specs.declared.reading.Halt.{Halt}
@@ -65,16 +65,16 @@ behind_on mark (token ∷ tokens) on = on.1
 
 -- Faults.
 
-too_long_nameable : (mark : Mark) (token : Token) (fault : Fault) → token.mark ≡ mark → fault ≡ too_long token → IsNameable (mark.file + 1) fault
-too_long_nameable mark token fault same is = subst (IsNameable (mark.file + 1)) (sym is) (record { number = refl; place = omega (arith, ap (λ (m : Mark). m.file) same) })
+too_long_nameable : (mark : Mark) (token : Token) (fault : Fault) → token.mark ≡ mark → fault ≡ too_long token → IsSourceFault (mark.file + 1) fault
+too_long_nameable mark token fault same is = subst (IsSourceFault (mark.file + 1)) (sym is) (record { number = refl; nameable = record { number = refl; place = omega (arith, ap (λ (m : Mark). m.file) same) } })
 
-long_nameable : (mark : Mark) (live : Live) (tokens : List Token) (fault : Fault) → FirstTooLong live tokens fault → AreOn mark tokens → IsNameable (mark.file + 1) fault
+long_nameable : (mark : Mark) (live : Live) (tokens : List Token) (fault : Fault) → FirstTooLong live tokens fault → AreOn mark tokens → IsSourceFault (mark.file + 1) fault
 long_nameable mark live [] fault long on = absurd long
 long_nameable mark live (token ∷ tokens) fault (inl long) on = too_long_nameable mark token fault on.0 long.1
 long_nameable mark live (token ∷ tokens) fault (inr long) on = long_nameable mark live tokens fault long.2 on.1
 
 pub replaced_nameable : (Y : Type 0) (mark : Mark) (live : Live) (tokens : List Token) (stop : Stop Fault) → Meets {X = List Token} (Err stop) (IsReplaced live tokens)
-    → AreOn mark tokens → OnFault {X = Y} (Err stop) (IsNameable (mark.file + 1))
+    → AreOn mark tokens → OnFault {X = Y} (Err stop) (IsSourceFault (mark.file + 1))
 replaced_nameable Y mark live tokens (stops.Refused fault) meets on = long_nameable mark live tokens fault meets on
 replaced_nameable Y mark live tokens stops.NoMemory meets on = tt
 
@@ -117,14 +117,14 @@ module _ (mark : Mark) where
   told_on (condition.stays back asks tells is) on = subst (AreOn mark) (sym is) (on.0, told_on tells on.1)
 
   pub computed_nameable : (Y : Type 0) (live : Live) (tool : Tool) (tokens : List Token) (stop : Stop Fault) → Meets {X = ℤ} (Err stop) (IsComputed live tool mark tokens)
-      → AreOn mark tokens → OnFault {X = Y} (Err stop) (IsNameable (mark.file + 1))
+      → AreOn mark tokens → OnFault {X = Y} (Err stop) (IsSourceFault (mark.file + 1))
   computed_nameable Y live tool tokens (stops.Refused fault) (told, tells, inl long) on = long_nameable mark live told fault long (told_on tells on)
   computed_nameable Y live tool tokens (stops.Refused fault) (told, tells, inr (out, replaced, none, is)) on =
-      subst (IsNameable (mark.file + 1)) (sym is) (record { number = refl; place = omega arith })
+      subst (IsSourceFault (mark.file + 1)) (sym is) (record { number = refl; nameable = record { number = refl; place = omega arith } })
   computed_nameable Y live tool tokens stops.NoMemory meets on = tt
 
   pub computed_so : (live : Live) (tool : Tool) (tokens : List Token) (result : Result ℤ (Stop Fault)) → Meets result (IsComputed live tool mark tokens)
-      → AreOn mark tokens → OnFault result (IsNameable (mark.file + 1))
+      → AreOn mark tokens → OnFault result (IsSourceFault (mark.file + 1))
   computed_so live tool tokens (Ok value) meets on = tt
   computed_so live tool tokens (Err stop) meets on = computed_nameable ℤ live tool tokens stop meets on
 
@@ -319,8 +319,8 @@ pub open_more : (files more : ℕ) (opens : List Open) → files ≤ more → Ar
 open_more files more [] le all = tt
 open_more files more (one ∷ opens) le all = (omega (arith, le, all.0), open_more files more opens le all.1)
 
-pub nameable_more : (files more : ℕ) (fault : Fault) → files ≤ more → IsNameable files fault → IsNameable more fault
-nameable_more files more fault le n = record { number = n.number; place = by fault.mark n.place }
+pub nameable_more : (files more : ℕ) (fault : Fault) → files ≤ more → IsSourceFault files fault → IsSourceFault more fault
+nameable_more files more fault le n = record { number = n.number; nameable = record { number = n.nameable.number; place = by fault.mark n.nameable.place } }
   where
     by : (o : Option Mark) → message.IsMarked files o → message.IsMarked more o
     by None is = tt
@@ -328,12 +328,12 @@ nameable_more files more fault le n = record { number = n.number; place = by fau
 
 -- What a call that stopped leaves to be named.
 
-pub halt_nameable : (X Y : Type 0) (stop : Stop Fault) (files more : ℕ) → OnFault {X = X} (Err stop) (IsNameable files) → files ≤ more → OnRefused {X = Y} (Err (halt_of stop)) more
+pub halt_nameable : (X Y : Type 0) (stop : Stop Fault) (files more : ℕ) → OnFault {X = X} (Err stop) (IsSourceFault files) → files ≤ more → OnRefused {X = Y} (Err (halt_of stop)) more
 halt_nameable X Y (stops.Refused fault) files more nameable le = nameable_more files more fault le nameable
 halt_nameable X Y stops.NoMemory files more nameable le = tt
 
 pub step_nameable : (tool : Tool) (line : RawLine) (opens : List Open) (s : State) (stop : Stop Fault) (after : List Open) (t : State)
-    → Steps tool line opens s (Err stop) after t → OnFault {X = Option (List ℕ)} (Err stop) (IsNameable (line.mark.file + 1)) → line.mark.file < length s.files
+    → Steps tool line opens s (Err stop) after t → OnFault {X = Option (List ℕ)} (Err stop) (IsSourceFault (line.mark.file + 1)) → line.mark.file < length s.files
     → OnRefused {X = Unit {0}} (Err (halt_of stop)) (length t.files)
 step_nameable tool line opens s (stops.Refused fault) after t steps nameable below =
     nameable_more (line.mark.file + 1) (length t.files) fault (omega (arith, below, ap (λ (u : State). length u.files) steps.1)) nameable

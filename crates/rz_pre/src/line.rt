@@ -1,6 +1,6 @@
 ghost use Rattle.std.specs.Prelude.{◌≡◌, ◌+◌, IfOk, Ok};
-ghost use Rattle.rz_core.specs.Message.{IsNameable};
 ghost use Rattle.rz_core.specs.Stop.{OnFault};
+ghost use Rattle.rz_pre.specs.Placed.{IsSourceFault};
 ghost use Rattle.rz_core.specs.declared.fault.Fault.{Fault};
 ghost use Rattle.rz_pre.specs.Answers.{Meets};
 ghost use Rattle.rz_source.specs.Directive.{directive_in, unblanked};
@@ -31,7 +31,7 @@ pub fn act_of(
     line: &RawLine,
 ) -> Result<Act, Stop<Fault>>
     ensures act { Meets result (Does (live_in (rows_of macros.now)) tool around line.now) }
-    ensures nameable { OnFault result (IsNameable (line.now.mark.file + 1)) }
+    ensures nameable { OnFault result (IsSourceFault (line.now.mark.file + 1)) }
 {
     match directive_text(line.bytes.as_slice()) {
         Some(text) => direct(alloc, macros, tool, around, line.mark, text),
@@ -58,7 +58,7 @@ fn is_kept(around: Option<Open>) -> bool
 /// A line that is no directive.
 fn put_out(alloc: Global, macros: &Macros, mark: Mark, bytes: &[u8]) -> Result<Act, Stop<Fault>>
     ensures act { Meets result (PutsOut (live_in (rows_of macros.now)) mark bytes.now) }
-    ensures nameable { OnFault result (IsNameable (mark.file + 1)) }
+    ensures nameable { OnFault result (IsSourceFault (mark.file + 1)) }
 {
     let tokens = cut_bytes(alloc, mark, bytes)?;
     let replaced = replace(alloc, macros, tokens.as_slice())?;
@@ -68,7 +68,7 @@ fn put_out(alloc: Global, macros: &Macros, mark: Mark, bytes: &[u8]) -> Result<A
 /// The tokens of bytes of a line.
 fn cut_bytes(alloc: Global, mark: Mark, bytes: &[u8]) -> Result<Tokens, Stop<Fault>>
     ensures act { Meets result (IsCut mark bytes.now) }
-    ensures nameable { OnFault result (IsNameable (mark.file + 1)) }
+    ensures nameable { OnFault result (IsSourceFault (mark.file + 1)) }
 {
     let line = RawLine {
         bytes: Bytes::of(alloc, bytes)?,
@@ -94,7 +94,7 @@ fn direct(
     text: &[u8],
 ) -> Result<Act, Stop<Fault>>
     ensures act { Meets result (Directs (live_in (rows_of macros.now)) tool around mark text.now (directive_in (unblanked text.now))) }
-    ensures nameable { OnFault result (IsNameable (mark.file + 1)) }
+    ensures nameable { OnFault result (IsSourceFault (mark.file + 1)) }
 {
     match directive_in(text) {
         Directive::Elif => turn(alloc, macros, tool, open_part(around), mark, text),
@@ -121,7 +121,7 @@ fn direct_kept(
     directive: Directive,
 ) -> Result<Act, Stop<Fault>>
     ensures act { Meets result (Obeys (live_in (rows_of macros.now)) tool mark text.now directive) }
-    ensures nameable { OnFault result (IsNameable (mark.file + 1)) }
+    ensures nameable { OnFault result (IsSourceFault (mark.file + 1)) }
 {
     match directive {
         Directive::If => Ok(Act::Begin(part_of(compute(alloc, macros, tool, mark, text)?))),
@@ -159,7 +159,7 @@ fn turn(
     text: &[u8],
 ) -> Result<Act, Stop<Fault>>
     ensures act { Meets result (Turns (live_in (rows_of macros.now)) tool mark text.now part) }
-    ensures nameable { OnFault result (IsNameable (mark.file + 1)) }
+    ensures nameable { OnFault result (IsSourceFault (mark.file + 1)) }
 {
     match part {
         Some(Part::Waiting) => Ok(Act::Turn(
@@ -174,7 +174,7 @@ fn turn(
 /// What `#else` does.
 fn otherwise(mark: Mark, part: Option<Part>) -> Result<Act, Stop<Fault>>
     ensures act { Meets result (λ answer. answer ≡ otherwise mark part) }
-    ensures nameable { OnFault result (IsNameable (mark.file + 1)) }
+    ensures nameable { OnFault result (IsSourceFault (mark.file + 1)) }
 {
     match part {
         Some(Part::Waiting) => Ok(Act::Turn(Part::Chosen, true)),
@@ -186,7 +186,7 @@ fn otherwise(mark: Mark, part: Option<Part>) -> Result<Act, Stop<Fault>>
 /// What `#endif` does.
 fn ended(mark: Mark, around: Option<Open>) -> Result<Act, Stop<Fault>>
     ensures act { Meets result (λ answer. answer ≡ ended mark around) }
-    ensures nameable { OnFault result (IsNameable (mark.file + 1)) }
+    ensures nameable { OnFault result (IsSourceFault (mark.file + 1)) }
 {
     match around {
         Some(_) => Ok(Act::End),
@@ -196,7 +196,7 @@ fn ended(mark: Mark, around: Option<Open>) -> Result<Act, Stop<Fault>>
 
 fn stray(mark: Mark) -> Fault
     ensures fault { result ≡ stray mark }
-    ensures nameable { IsNameable (mark.file + 1) result }
+    ensures nameable { IsSourceFault (mark.file + 1) result }
 {
     Fault {
         number: 106,
@@ -214,7 +214,7 @@ fn compute(
     text: &[u8],
 ) -> Result<i32, Stop<Fault>>
     ensures act { Meets result (HasCondition (live_in (rows_of macros.now)) tool mark text.now) }
-    ensures nameable { OnFault result (IsNameable (mark.file + 1)) }
+    ensures nameable { OnFault result (IsSourceFault (mark.file + 1)) }
 {
     let tokens = cut_bytes(alloc, mark, text)?;
     compute_condition(alloc, macros, tool, mark, behind_first(tokens.as_slice()))
@@ -240,7 +240,7 @@ fn say(
     directive: Directive,
 ) -> Result<Act, Stop<Fault>>
     ensures act { Meets result (Says (live_in (rows_of macros.now)) mark text.now directive) }
-    ensures nameable { OnFault result (IsNameable (mark.file + 1)) }
+    ensures nameable { OnFault result (IsSourceFault (mark.file + 1)) }
 {
     let tokens = cut_bytes(alloc, mark, text)?;
     said(alloc, macros, mark, text, directive, tokens.as_slice())
@@ -255,7 +255,7 @@ fn said(
     tokens: &[Token],
 ) -> Result<Act, Stop<Fault>>
     ensures act { Meets result (λ answer. answer ≡ or_bad mark tokens.now (simple (live_in (rows_of macros.now)) text.now directive (behind_first tokens.now))) }
-    ensures nameable { OnFault result (IsNameable (mark.file + 1)) }
+    ensures nameable { OnFault result (IsSourceFault (mark.file + 1)) }
 {
     match simple(alloc, macros, text, directive, behind_first(tokens))? {
         Some(act) => Ok(act),
@@ -368,7 +368,7 @@ fn tested(
 /// 104 for the directive with these tokens.
 fn bad_directive(alloc: Global, mark: Mark, tokens: &[Token]) -> Result<Fault, NoMemory>
     ensures fault { IfOk result (λ fault. fault ≡ bad_directive mark tokens.now) }
-    ensures nameable { IfOk result (IsNameable (mark.file + 1)) }
+    ensures nameable { IfOk result (IsSourceFault (mark.file + 1)) }
 {
     Ok(Fault {
         number: 104,

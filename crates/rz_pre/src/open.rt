@@ -1,8 +1,8 @@
 ghost use Rattle.std.specs.Prelude.{◌≡◌, ℕ, ◌+◌, ◌<◌, ◌≤◌, ◌^◌, OnOk, ◌∷◌, ◌++◌, length, IfOk, IfSome, option_map};
 ghost use Rattle.std.specs.String.{string_bytes};
-ghost use Rattle.rz_core.specs.Message.{IsMarked, IsNameable};
+ghost use Rattle.rz_core.specs.Message.{IsMarked};
 ghost use Rattle.rz_core.specs.Stop.{OnFault};
-ghost use Rattle.rz_pre.specs.Placed.{OnRefused};
+ghost use Rattle.rz_pre.specs.Placed.{IsSourceFault, OnRefused};
 ghost use Rattle.rz_folder.specs.Counts.{Rose};
 ghost use Rattle.rz_pre.specs.Answers.{Meets};
 ghost use Rattle.rz_pre.specs.Program.{bad_text, file_of, missing_file, names_of, utf8_name, HasText, Opens};
@@ -78,7 +78,7 @@ fn find<'a, F: Folder>(
 fn text_of(alloc: Global, file: u64, source: Bytes) -> Result<Bytes, Stop<Fault>>
     requires { length source < 2 ^ 32 }
     ensures text { Meets result (HasText file source) }
-    ensures nameable { OnFault result (IsNameable (file + 1)) }
+    ensures nameable { OnFault result (IsSourceFault (file + 1)) }
     ensures short { IfOk result (λ text. length text < 2 ^ 32) }
 {
     match to_mac_roman(alloc, source) {
@@ -92,7 +92,7 @@ fn text_of(alloc: Global, file: u64, source: Bytes) -> Result<Bytes, Stop<Fault>
 fn bad_text(file: u64, offset: u64) -> Fault
     requires { offset < 2 ^ 63 }
     ensures fault { result ≡ bad_text file offset }
-    ensures nameable { IsNameable (file + 1) result }
+    ensures nameable { IsSourceFault (file + 1) result }
 {
     Fault {
         number: 102,
@@ -104,7 +104,7 @@ fn bad_text(file: u64, offset: u64) -> Fault
 /// 101 for a name.
 fn missing_file(alloc: Global, mark: Option<Mark>, name: &[u8]) -> Result<Fault, NoMemory>
     ensures fault { IfOk result (λ fault. fault ≡ missing_file mark name.now) }
-    ensures nameable { (files : ℕ) → IsMarked files mark → IfOk result (IsNameable files) }
+    ensures nameable { (files : ℕ) → IsMarked files mark → IfOk result (IsSourceFault files) }
 {
     Ok(Fault {
         number: 101,

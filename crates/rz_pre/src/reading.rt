@@ -1,6 +1,6 @@
 ghost use Rattle.std.specs.Prelude.{◌≡◌, ◌+◌, [], reverse, IfOk, OnOk};
-ghost use Rattle.rz_core.specs.Message.{IsNameable};
 ghost use Rattle.rz_core.specs.Stop.{OnFault};
+ghost use Rattle.rz_pre.specs.Placed.{IsSourceFault};
 ghost use Rattle.rz_core.specs.declared.fault.Mark.{Mark};
 ghost use Rattle.rz_pre.specs.declared.act.Act.TheVariants.{Turn};
 ghost use Rattle.rz_pre.specs.Program.{opens_after, start, state_after};
@@ -80,7 +80,7 @@ pub fn step(
     reading: &mut Reading,
 ) -> Result<Option<Bytes>, Stop<Fault>>
     ensures steps { Steps tool line.now (reverse opens.old.items) (state_of reading.old) result (reverse opens.new.items) (state_of reading.new) }
-    ensures nameable { OnFault result (IsNameable (line.now.mark.file + 1)) }
+    ensures nameable { OnFault result (IsSourceFault (line.now.mark.file + 1)) }
 {
     let act = act_of(alloc, &reading.macros, tool, opens.last().copied(), line)?;
     Ok(follow(alloc, act, line.mark, opens, reading)?)

@@ -1,9 +1,8 @@
 ghost use Rattle.std.specs.Prelude.{◌≡◌, ℕ, ◌+◌, ◌<◌, ◌≤◌, ◌^◌, [], length, reverse, Result, Err, IfOk, IfSome, OnOk};
 ghost use Rattle.rz_pre.specs.Live.{live_in};
 ghost use Rattle.rz_pre.specs.Macros.{rows_of};
-ghost use Rattle.rz_core.specs.Message.{IsNameable};
 ghost use Rattle.rz_folder.specs.Counts.{Rose};
-ghost use Rattle.rz_pre.specs.Placed.{AreOpenIn, IsPlaced, OnRefused, StandsInFiles};
+ghost use Rattle.rz_pre.specs.Placed.{AreOpenIn, IsPlaced, IsSourceFault, OnRefused, StandsInFiles};
 ghost use Rattle.rz_pre.specs.Program.{ends, live_after, open_if, start, too_deep, Enters, Failure, IncludedGoes, NamedGoes, NamesGo, ProgramGoes, State, TextGoes};
 ghost use Rattle.rz_pre.specs.Reading.{alone, state_of, together, Answers, Finishes, IsProgram, IsQuiet, Leaves, Matches, OnReadFault};
 ghost use Rattle.rz_pre.specs.declared.program.PreFault.TheVariants.{ReadFault};
@@ -102,7 +101,7 @@ fn end(opens: &[Open]) -> Result<(), Halt>
 /// 105 for a conditional.
 fn open_if(conditional: Open) -> Fault
     ensures fault { result ≡ open_if conditional }
-    ensures nameable { (files : ℕ) → conditional.mark.file < files → IsNameable files result }
+    ensures nameable { (files : ℕ) → conditional.mark.file < files → IsSourceFault files result }
 {
     Fault {
         number: 105,
@@ -114,7 +113,7 @@ fn open_if(conditional: Open) -> Fault
 /// 103 on a line.
 fn too_deep(mark: Mark) -> Fault
     ensures fault { result ≡ too_deep mark }
-    ensures nameable { (files : ℕ) → mark.file < files → IsNameable files result }
+    ensures nameable { (files : ℕ) → mark.file < files → IsSourceFault files result }
 {
     Fault {
         number: 103,
