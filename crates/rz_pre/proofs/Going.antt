@@ -21,7 +21,7 @@ use Rattle.rz_pre.specs.Program.{ends, fails, innermost, opens_after, state_afte
 use Rattle.rz_pre.specs.Answers.{Meets}
 use Rattle.rz_pre.specs.Live.{live_in, put, shapes_of, Live}
 use Rattle.rz_pre.specs.Macros.{rows_of}
-use Rattle.rz_pre.specs.Reading.{alone, halt_of, included_in, state_of, together, Answers, Finishes, IsUnread, Leaves, Matches, OnReadFault, Steps}
+use Rattle.rz_pre.specs.Reading.{alone, halt_of, included_in, state_of, together, Answers, Finishes, IsUnrefused, Leaves, Matches, OnReadFault, Steps}
 use Rattle.rz_pre.specs.declared.program.Def.{Def}
 use Rattle.rz_pre.specs.declared.program.PreFault.{PreFault}
 use Rattle.rz_pre.specs.declared.program.PreFault.TheVariants as prefaults
@@ -248,7 +248,7 @@ module _ (tool : Tool) (files : Files) (paths names rest : List (List ℕ)) (bef
 
 -- What a call leaves, from what it left before.
 
-pub unread_leaves : {X Y : Type 0} (make : X → State → Y) (halt : Halt) (s : State) (answers : Result Y Failure → Type 0) → IsUnread {X = X} (Err halt) → Leaves make (Err halt) s answers
+pub unread_leaves : {X Y : Type 0} (make : X → State → Y) (halt : Halt) (s : State) (answers : Result Y Failure → Type 0) → IsUnrefused {X = X} (Err halt) → Leaves make (Err halt) s answers
 unread_leaves make (halts.Refused fault) s answers never = absurd never
 unread_leaves make halts.ReadFault s answers never = tt
 unread_leaves make halts.NoMemory s answers never = tt

@@ -25,7 +25,7 @@ use Rattle.rz_pre.specs.Line.{Acts, Directs, Does, IsComputed, IsReplaced, Obeys
 use Rattle.rz_pre.specs.Live.{Live}
 use Rattle.rz_pre.specs.Placed.{AreOn, AreOpenIn, AreWithin, IsSourceFault, OnRefused, PutsOn}
 use Rattle.rz_pre.specs.Program.{opens_after, state_after, State}
-use Rattle.rz_pre.specs.Reading.{halt_of, IsUnread, Steps}
+use Rattle.rz_pre.specs.Reading.{halt_of, IsUnrefused, Steps}
 use Rattle.rz_pre.specs.declared.reading.Halt.{Halt}
 use Rattle.rz_pre.specs.declared.reading.Halt.TheVariants as halts
 use Rattle.rz_pre.specs.declared.act.Act.{Act}
@@ -339,7 +339,7 @@ step_nameable tool line opens s (stops.Refused fault) after t steps nameable bel
     nameable_more (line.mark.file + 1) (length t.files) fault (omega (arith, below, ap (λ (u : State). length u.files) steps.1)) nameable
 step_nameable tool line opens s stops.NoMemory after t steps nameable below = tt
 
-pub unread_nameable : (X Y : Type 0) (halt : Halt) (files : ℕ) → IsUnread {X = X} (Err halt) → OnRefused {X = Y} (Err halt) files
+pub unread_nameable : (X Y : Type 0) (halt : Halt) (files : ℕ) → IsUnrefused {X = X} (Err halt) → OnRefused {X = Y} (Err halt) files
 unread_nameable X Y (halts.Refused fault) files never = absurd never
 unread_nameable X Y halts.ReadFault files never = tt
 unread_nameable X Y halts.NoMemory files never = tt

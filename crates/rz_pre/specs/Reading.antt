@@ -66,13 +66,13 @@ Steps tool line opens s (Err (stops.Refused fault)) after t = Does s.live tool (
 Steps tool line opens s (Err stops.NoMemory) after t = Unit {0}
 
 -- no rule is broken
-abbrev pub IsUnread : {X : Type 0} → Result X Halt → Type 0
-IsUnread (Ok value) = Unit {0}
-IsUnread (Err (Refused fault)) = ⊥
-IsUnread (Err ReadFault) = Unit {0}
-IsUnread (Err NoMemory) = Unit {0}
+abbrev pub IsUnrefused : {X : Type 0} → Result X Halt → Type 0
+IsUnrefused (Ok value) = Unit {0}
+IsUnrefused (Err (Refused fault)) = ⊥
+IsUnrefused (Err ReadFault) = Unit {0}
+IsUnrefused (Err NoMemory) = Unit {0}
 
--- no file was read, so that there is no read fault
+-- there is no read fault
 abbrev pub IsQuiet : {X : Type 0} → Result X Halt → Type 0
 IsQuiet result = OnReadFault result ⊥
 

@@ -6,7 +6,7 @@ ghost use Rattle.rz_pre.specs.Placed.{IsSourceFault, OnRefused};
 ghost use Rattle.rz_folder.specs.Counts.{Rose};
 ghost use Rattle.rz_pre.specs.Answers.{Meets};
 ghost use Rattle.rz_pre.specs.Program.{bad_text, file_of, missing_file, names_of, utf8_name, HasText, Opens};
-ghost use Rattle.rz_pre.specs.Reading.{state_of, together, IsUnread, Leaves, OnReadFault};
+ghost use Rattle.rz_pre.specs.Reading.{state_of, together, IsUnrefused, Leaves, OnReadFault};
 
 use crate::reading::{Halt, Reading};
 use rz_core::{Bytes, Fault, FileNames, Kept, Mark, NoMemory, Stop, from_roman};
@@ -59,7 +59,7 @@ fn find<'a, F: Folder>(
     ensures counted { F.read_faults folder.old ≤ F.read_faults folder.new }
     ensures other_count { F.write_faults folder.new ≡ F.write_faults folder.old }
     ensures cause { OnReadFault result (Rose (F.read_faults folder.old) (F.read_faults folder.new)) }
-    ensures no_rule { IsUnread result }
+    ensures no_rule { IsUnrefused result }
 {
     let mut k = 0;
     while k < names.len() {

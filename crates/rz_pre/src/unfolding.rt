@@ -288,10 +288,13 @@ fn into_program(alloc: Global, reading: Reading) -> Result<Program, NoMemory>
 /// - 101 where no file has the name, of an included file with the line's mark (kept: the name as it was given);
 /// - 102 for a source in UTF-8 that can't be turned into Mac Roman, on its line 1 (kept: the offset);
 /// - 103 for an included file on level 17, where a file that the words name is on level 1 (kept: 17);
-/// - 104 for a directive of another form, 105 for a conditional that is open at the end of its file, 106 for an
-///   `#else`, `#elif` or `#endif` that belongs to none;
-/// - 107 to 111, 113 and 115 as for `next_line` and `cut`, 112 as for `expand_all`, 114 as for
-///   `compute_condition`.
+/// - 104 for a directive of another form (kept: its first token, where that is a word);
+/// - 105 for a conditional that is open at the end of its file, 106 for an `#else`, `#elif` or `#endif` that
+///   belongs to none, each kept nothing;
+/// - 107 to 111, 113 and 115 of the lines and their tokens, as for `next_line` and `cut` of `rz_lex`;
+/// - 112 for a word for which more than 65,536 tokens are handled (kept: the word);
+/// - 114 for a condition with more than 1,024 tokens behind its macros, with the name of a function, that is no
+///   expression or has no value.
 ///
 /// A read fault comes only where the folder's count of read faults rose. No file changes. (MPW Rez.)
 pub fn preprocess<F: Folder>(

@@ -68,8 +68,8 @@ const PASSED: &str = r#"
 #if 0|a|#elif 1/0|b|#endif => 114 on 3
 #if 0|a|#elif|b|#endif => 114 on 3
 #if 0|a|#elif '|b|#endif => 108 on 3
-#ifdef x|a|#elif 0|b|#elif @|c|#endif => 111 on 5 64
-#if 1|x|@|#endif => 111 on 3 64
+#ifdef x|a|#elif 0|b|#elif @|c|#endif => 111 on 5 #64
+#if 1|x|@|#endif => 111 on 3 #64
 // a line without a directive has its `#` not first
 #if 0|x #endif|#endif|a => 4:a
 #if 0|"|#endif|a => 4:a
@@ -93,7 +93,7 @@ fn other_parts_are_passed_over(rt: HostRuntime) -> Result<(), Fail> {
 const UNPAIRED: &str = r#"
 // open at the end: the last that was opened
 #if 1 => 105 on 1
-#if 1|@ => 111 on 2 64
+#if 1|@ => 111 on 2 #64
 #if 0|@ => 105 on 1
 |#ifdef a => 105 on 2
 #ifndef a|x|y => 105 on 1
@@ -104,7 +104,7 @@ const UNPAIRED: &str = r#"
 #if 1|#else => 105 on 1
 #if 0|#elif 1|x => 105 on 1
 #if 0|#elif 0|#ifdef|#else => 105 on 3
-#if 1|x #endif => 111 on 2 35
+#if 1|x #endif => 111 on 2 #35
 #if 1|/* #endif */ => 105 on 1
 // belonging to none
 #else => 106 on 1

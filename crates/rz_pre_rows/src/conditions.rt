@@ -127,9 +127,17 @@ one / zero => 114 on 2
 0 && 1 / 0 => 114 on 2
 // functions
 $$ID => 114 on 2
-$$CountOf(rows) => 114 on 2
-$$Byte(here) => 114 on 2
+$$CountOf == 0 => 114 on 2
+1 || $$Byte => 114 on 2
 1 || $$Year => 114 on 2
+$$Name => 114 on 2
+$$Date == 0 => 114 on 2
+1 || $$TIME => 114 on 2
+$$version == 0 => 114 on 2
+$$read == 0 => 114 on 2
+1 || $$Resource => 114 on 2
+1 || $$Format => 114 on 2
+1 || $$Formats => 3:yes
 // many tokens
 N => 3:yes
 M => 114 on 2
@@ -138,13 +146,13 @@ M => 114 on 2
 508 == - 1 R => 5:no
 511 == - - 1 R => 114 on 2
 none N none => 3:yes
-N defined => 114 on 2
+defined + N => 114 on 2
 // too many for a word come first, and the faults of tokens before these
 $$ID M A => 112 on 2 A
 1 / 0 a => 112 on 2 a
 defined A => 3:yes
 defined A A => 112 on 2 A
-A @ => 111 on 2 64
+A @ => 111 on 2 #64
 M '' => 110 on 2 ''
 1 / 0 " => 108 on 2
 "#;

@@ -6,8 +6,8 @@ const TOLD: &str = r##"
 // no directive
  => nothing
  a => 1:a
-a # if => 111 on 1 35
-a # => 111 on 1 35
+a # if => 111 on 1 #35
+a # => 111 on 1 #35
 "#if" => 1:"#if"
 '#if' => 1:'#if'
 |// #if|a => 3:a
@@ -103,13 +103,13 @@ const REFUSED: &str = r#"
 #ifndef => 104 on 1 ifndef
 #IFNDEF 'a' => 104 on 1 IFNDEF
 // the faults of tokens come before
-## => 111 on 1 35
-#foo @ => 111 on 1 64
+## => 111 on 1 #35
+#foo @ => 111 on 1 #64
 #1x => 110 on 1 1x
 #include "a => 108 on 1
 #define type "\q" => 109 on 1 "\q"
 #define a $"0" => 113 on 1
-#undef a @ => 111 on 1 64
+#undef a @ => 111 on 1 #64
 #ifdef a 08 => 110 on 1 08
 "#;
 
@@ -147,7 +147,7 @@ const LINES: &str = "
 #\\|define a 1|a => 3:1
 #if 1 \\| - 1|a|#el\\|se|b|#endif => 6:b
 #include \\|\"a\"|x ;; a:y => 1/1:y 3:x in main a
-x \\|#define a 1|a => 111 on 1 35
+x \\|#define a 1|a => 111 on 1 #35
 #if 0|\\|#endif|a => 4:a
 |#foo \\||a => 104 on 2 foo
 // behind, inside and before comments
@@ -160,7 +160,7 @@ x \\|#define a 1|a => 111 on 1 35
 #define a 1 // 2\\|3|a => 3:1
 #define a \"x//y/*\"|a => 2:\"x//y/*\"
 #def/* */ine a => 104 on 1 def
-x /* |*/ #define a 1 => 111 on 1 35
+x /* |*/ #define a 1 => 111 on 1 #35
 |// #define a 2|#define a 1|a => 4:1
 ";
 

@@ -119,7 +119,7 @@ fn word_that_takes_more_tokens_is_refused(rt: HostRuntime) -> Result<(), Fail> {
         ("#define P Q\nx A y", "112 on 17 A"),
         ("#define Y A\n#define Z Y\nZ", "112 on 18 Z"),
         ("#define Z A x\nB\nx z Z", "112 on 18 z"),
-        ("#define Z A x\nZ @", "111 on 17 64"),
+        ("#define Z A x\nZ @", "111 on 17 #64"),
         ("#define Z A x\n\n#include \"f\"", "112 on 1/2 Z in main f"),
         (
             "#define Z A x\n#ifdef Z\n#endif\n#if 0\nZ\n#endif\nx",

@@ -41,17 +41,17 @@ fn included_files_stand_in_their_place(rt: HostRuntime) -> Result<(), Fail> {
 /// Sources and what they mean, see `wrong_rows`.
 const DEEP: &str = r#"
 // a file that includes itself
-#include "main" => 103 on 15/1 17 in main main main main main main main main main main main main main main main main
-x|#include "main"|@ => 103 on 15/2 17 in main main main main main main main main main main main main main main main main
-#include "a" ;; a:|#include "a" => 103 on 15/2 17 in main a a a a a a a a a a a a a a a
-#include "a" ;; a:#include "main" => 103 on 15/1 17 in main a main a main a main a main a main a main a main a
+#include "main" => 103 on 15/1 #17 in main main main main main main main main main main main main main main main main
+x|#include "main"|@ => 103 on 15/2 #17 in main main main main main main main main main main main main main main main main
+#include "a" ;; a:|#include "a" => 103 on 15/2 #17 in main a a a a a a a a a a a a a a a
+#include "a" ;; a:#include "main" => 103 on 15/1 #17 in main a main a main a main a main a main a main a main a
 // sixteen levels
 #include "a" ;; a:#include "b" ;; b:#include "c" ;; c:#include "d" ;; d:#include "e" ;; e:#include "f" ;; f:#include "g" ;; g:#include "h" ;; h:#include "i" ;; i:#include "j" ;; j:#include "k" ;; k:#include "l" ;; l:#include "m" ;; m:#include "n" ;; n:#include "o"|y ;; o:x => 15/1:x 14/2:y in main a b c d e f g h i j k l m n o
 #include "b"|y ;; b:#include "c" ;; c:#include "d" ;; d:#include "e" ;; e:#include "f" ;; f:#include "g" ;; g:#include "h" ;; h:#include "i" ;; i:#include "j" ;; j:#include "k" ;; k:#include "l" ;; l:#include "m" ;; m:#include "n" ;; n:#include "o" ;; o:#include "p"|#include "p"|z ;; p:x => 15/1:x 16/1:x 14/3:z 2:y in main b c d e f g h i j k l m n o p p
 // a seventeenth isn't looked for
-#include "a" ;; a:#include "b" ;; b:#include "c" ;; c:#include "d" ;; d:#include "e" ;; e:#include "f" ;; f:#include "g" ;; g:#include "h" ;; h:#include "i" ;; i:#include "j" ;; j:#include "k" ;; k:#include "l" ;; l:#include "m" ;; m:#include "n" ;; n:#include "o" ;; o:x|#include "none"|y => 103 on 15/2 17 in main a b c d e f g h i j k l m n o
+#include "a" ;; a:#include "b" ;; b:#include "c" ;; c:#include "d" ;; d:#include "e" ;; e:#include "f" ;; f:#include "g" ;; g:#include "h" ;; h:#include "i" ;; i:#include "j" ;; j:#include "k" ;; k:#include "l" ;; l:#include "m" ;; m:#include "n" ;; n:#include "o" ;; o:x|#include "none"|y => 103 on 15/2 #17 in main a b c d e f g h i j k l m n o
 #include "a" ;; a:#include "b" ;; b:#include "c" ;; c:#include "d" ;; d:#include "e" ;; e:#include "f" ;; f:#include "g" ;; g:#include "h" ;; h:#include "i" ;; i:#include "j" ;; j:#include "k" ;; k:#include "l" ;; l:#include "m" ;; m:#include "n" ;; n:#include "o" ;; o:#include none => 104 on 15/1 include in main a b c d e f g h i j k l m n o
-x ;; -n a ;; a:#include "a" => 103 on 16/1 17 in main a a a a a a a a a a a a a a a a
+x ;; -n a ;; a:#include "a" => 103 on 16/1 #17 in main a a a a a a a a a a a a a a a a
 "#;
 
 #[test]
@@ -208,10 +208,22 @@ fn failed_read_is_told(rt: HostRuntime) -> Result<(), Fail> {
 }
 
 #[test]
+fn seventeenth_level_is_not_asked_for(rt: HostRuntime) -> Result<(), Fail> {
+    let mut asked = Asked::of_row(rt.alloc(), "#include \"main\"")?;
+    // a seventeenth read would fail
+    asked.folder.fail_at(17);
+    let outcome = asked.outcome()?;
+    let files = " main main main main main main main main main main main main main main main main";
+    let wanted = format!(in rt.alloc(); "103 on 15/1 #17 in{files}")?;
+    assert_eq!(rt; outcome.as_str(), wanted.as_str());
+    Ok(())
+}
+
+#[test]
 fn files_are_unchanged(rt: HostRuntime) -> Result<(), Fail> {
     let mut asked = Asked::of_row(rt.alloc(), "#include \"f\" ;; f:x@")?;
     let outcome = asked.outcome()?;
-    assert_eq!(rt; outcome.as_str(), "111 on 1/1 64 in main f");
+    assert_eq!(rt; outcome.as_str(), "111 on 1/1 #64 in main f");
     let held = asked.folder.bytes("f").ok_or("no file")?;
     assert_eq!(rt; held, b"x@".as_slice());
     Ok(())

@@ -94,8 +94,8 @@ fn append_shape(shape: &Shape, text: &mut Bytes) -> Result<(), Fail> {
     }
 }
 
-/// The fault's number, its place where it has one, and what it keeps: a number in decimal, a name as it
-/// is, and `empty` for one without bytes.
+/// The fault's number, its place where it has one, and what it keeps: a number in decimal behind `#`, a name
+/// as it is, and `empty` for one without bytes.
 fn text_of_fault(alloc: Global, fault: &Fault) -> Result<Bytes, Fail> {
     let mut text = Bytes::new(alloc);
     write_decimal(u64::from(fault.number), &mut text)?;
@@ -106,7 +106,7 @@ fn text_of_fault(alloc: Global, fault: &Fault) -> Result<Bytes, Fail> {
     match &fault.kept {
         Kept::Nothing => {}
         Kept::Number(number) => {
-            text.push(b' ')?;
+            text.append(b" #")?;
             write_signed(*number, &mut text)?;
         }
         Kept::Name(name) => {
