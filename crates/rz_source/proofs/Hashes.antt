@@ -6,7 +6,7 @@ use Rattle.std.proofs.lemmas.List.Sums.{take_while-cons}
 use Rattle.rz_lex.specs.Classes.{is_blank, is_word_byte}
 use Rattle.rz_lex.specs.Extent.{are_word_bytes}
 use Rattle.rz_lex.specs.Printed.{begins_word}
-use Rattle.rz_source.specs.Directive.{AreBlanks, behind_hash, directive_in, front_word, named, unblanked}
+use Rattle.rz_source.specs.Directive.{AreBlanks, behind_hash, directive_in, front_word, named, unblanked, behind_word, has_parameters, starts_with}
 use Rattle.rz_source.specs.declared.directive.Directive.TheVariants.{Empty, Other}
 
 by_test : (P : Type 0) (b : Bool) → (b ≡ true → P) → (b ≡ false → P) → P
@@ -82,3 +82,28 @@ pub byte_other : (blanks : List ℕ) (byte : ℕ) (after : List ℕ) → AreBlan
     → directive_in (unblanked (blanks ++ byte ∷ after)) ≡ Other
 byte_other blanks byte after all solid ends =
     ap directive_in (skipped blanks (byte ∷ after) all ∙ first_kept byte after solid) ∙ ap named (word_front [] (byte ∷ after) refl ends)
+
+-- The bracket behind a name.
+
+behind_front : (word after : List ℕ) → are_word_bytes word ≡ true → begins_word after ≡ false → behind_word (word ++ after) ≡ after
+behind_front [] [] all ends = refl
+behind_front [] (x ∷ after) all ends = rw ends refl
+behind_front (b ∷ word) after all ends =
+    let parts = and_parts (is_word_byte b) (are_word_bytes word) all in
+    rw parts.0 (behind_front word after parts.1 ends)
+
+front_kept : (word after : List ℕ) → word ≢ [] → are_word_bytes word ≡ true → unblanked (word ++ after) ≡ word ++ after
+front_kept [] after some all = absurd (some refl)
+front_kept (b ∷ word) after some all = first_kept b (word ++ after) (no_blank b (and_parts (is_word_byte b) (are_word_bytes word) all).0)
+
+blank_ends : (gap after : List ℕ) → gap ≢ [] → AreBlanks gap → begins_word (gap ++ after) ≡ false
+blank_ends [] after some all = absurd (some refl)
+blank_ends (b ∷ gap) after some all = by_test (is_word_byte b ≡ false) (is_word_byte b) (λ yes. absurd (false≢true (sym (no_blank b yes) ∙ all.0))) (λ h. h)
+
+pub name_bracket : (blanks word gap name after : List ℕ) → AreBlanks blanks → word ≢ [] → are_word_bytes word ≡ true → AreBlanks gap → gap ≢ [] → name ≢ []
+    → are_word_bytes name ≡ true → begins_word after ≡ false → has_parameters (blanks ++ (word ++ (gap ++ (name ++ after)))) ≡ starts_with 40 after
+name_bracket blanks word gap name after all some bytes between far there letters ends =
+    ap (λ (l : List ℕ). starts_with 40 (behind_word (unblanked (behind_word l)))) (skipped blanks (word ++ (gap ++ (name ++ after))) all ∙ front_kept word (gap ++ (name ++ after)) some bytes)
+    ∙ ap (λ (l : List ℕ). starts_with 40 (behind_word (unblanked l))) (behind_front word (gap ++ (name ++ after)) bytes (blank_ends gap (name ++ after) far between))
+    ∙ ap (λ (l : List ℕ). starts_with 40 (behind_word l)) (skipped gap (name ++ after) between ∙ front_kept name after there letters)
+    ∙ ap (starts_with 40) (behind_front name after letters ends)

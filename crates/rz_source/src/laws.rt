@@ -2,7 +2,7 @@ ghost use Rattle.std.specs.Prelude.{◌≡◌, ◌≢◌, ◌↔◌, ℕ, true, 
 ghost use Rattle.rz_lex.specs.Classes.{is_blank, is_word_byte};
 ghost use Rattle.rz_lex.specs.Extent.{are_word_bytes};
 ghost use Rattle.rz_lex.specs.Printed.{begins_word};
-ghost use Rattle.rz_source.specs.Directive.{AreBlanks, behind_hash, directive_in, named, unblanked};
+ghost use Rattle.rz_source.specs.Directive.{behind_hash, directive_in, has_parameters, named, starts_with, unblanked, AreBlanks};
 ghost use Rattle.rz_source.specs.Source.{IsBadAt, IsTextOf};
 ghost use Rattle.rz_source.specs.declared.directive.Directive.TheVariants.{Empty, Other};
 
@@ -16,6 +16,7 @@ pub fn one_text()
 /// A law, with nothing to run: a text stands behind the `#` of a line exactly where the line is blanks, `#` and
 /// that text. The text is the directive of its first word, whatever stands behind the word; blanks alone are the
 /// directive that does nothing, and where anything but a word stands first, the directive is none of the known.
+/// A second word, behind blanks, has parameters exactly where `(` stands directly behind it.
 pub fn directives_are_lines()
     ensures hash { (line text : List ℕ)
         → (behind_hash (unblanked line) ≡ Some text)
@@ -28,4 +29,8 @@ pub fn directives_are_lines()
     ensures unnamed { (blanks : List ℕ) (byte : ℕ) (after : List ℕ)
         → AreBlanks blanks → is_blank byte ≡ false → is_word_byte byte ≡ false
         → directive_in (unblanked (blanks ++ byte ∷ after)) ≡ Other }
+    ensures parameters { (blanks word gap name after : List ℕ)
+        → AreBlanks blanks → word ≢ [] → are_word_bytes word ≡ true → AreBlanks gap → gap ≢ []
+        → name ≢ [] → are_word_bytes name ≡ true → begins_word after ≡ false
+        → has_parameters (blanks ++ (word ++ (gap ++ (name ++ after)))) ≡ starts_with 40 after }
 {}

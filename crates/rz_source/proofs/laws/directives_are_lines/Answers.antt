@@ -1,4 +1,4 @@
-use Rattle.rz_source.proofs.Hashes.{byte_other, hash_line, no_word, word_named}
+use Rattle.rz_source.proofs.Hashes.{byte_other, hash_line, name_bracket, no_word, word_named}
 use Rattle.rz_source.proofs.laws.directives_are_lines.Goals as goal
 
 pub returns-clause-hash : goal.returns-clause-hash
@@ -12,3 +12,6 @@ returns-clause-empty c = no_word
 
 pub returns-clause-unnamed : goal.returns-clause-unnamed
 returns-clause-unnamed c = byte_other
+
+pub returns-clause-parameters : goal.returns-clause-parameters
+returns-clause-parameters c = name_bracket
