@@ -21,7 +21,7 @@ use Rattle.rz_pre.specs.Program.{ends, fails, innermost, opens_after, state_afte
 use Rattle.rz_pre.specs.Answers.{Meets}
 use Rattle.rz_pre.specs.Live.{live_in, put, shapes_of, Live}
 use Rattle.rz_pre.specs.Macros.{rows_of}
-use Rattle.rz_pre.specs.Reading.{alone, halt_of, included_in, state_of, together, Answers, Finishes, IsUnrefused, Leaves, Matches, OnReadFault, Steps}
+use Rattle.rz_pre.specs.Reading.{alone, halt_of, included_in, state_of, together, Finishes, Gave, IsUnrefused, Leaves, Matches, OnReadFault, Steps}
 use Rattle.rz_pre.specs.declared.program.Def.{Def}
 use Rattle.rz_pre.specs.declared.program.PreFault.{PreFault}
 use Rattle.rz_pre.specs.declared.program.PreFault.TheVariants as prefaults
@@ -298,7 +298,7 @@ starts reading live defs empty set = λ i. record {
 
 -- At the end.
 
-pub matches_from : (result : Result Program PreFault) (answers : Result State Failure → Type 0) → Once answers → Answers result answers
+pub matches_from : (result : Result Program PreFault) (answers : Result State Failure → Type 0) → Once answers → Gave result answers
     → (answer : Result State Failure) → answers answer → Matches result answer
 matches_from (Ok program) answers once gave answer other = subst (Matches (Ok program)) (once (Ok gave.0) answer gave.2 other) gave.1
 matches_from (Err (prefaults.Refused fault files)) answers once gave answer other =
@@ -325,7 +325,7 @@ memory_not_read : not_given prefaults.NoMemory ≡ not_given prefaults.ReadFault
 memory_not_read is = cc is
 
 pub answers_from : (ended : Result (Unit {0}) Halt) (s : State) (gave : Result Program PreFault) (answers : Result State Failure → Type 0)
-    → Leaves alone ended s answers → Finishes ended s gave → Answers gave answers
+    → Leaves alone ended s answers → Finishes ended s gave → Gave gave answers
 answers_from (Ok nothing) s (Ok program) answers leaves f = (s, f.0, leaves)
 answers_from (Ok nothing) s (Err (prefaults.Refused fault files)) answers leaves f = absurd f.0
 answers_from (Ok nothing) s (Err prefaults.ReadFault) answers leaves f = tt

@@ -10,7 +10,7 @@ use Rattle.rz_lex.specs.declared.token.Shape.TheVariants as shapes
 use Rattle.rz_lex.specs.declared.token.Token.{Token}
 use Rattle.rz_pre.specs.Expand.{bare, limit, Expansion, ExpandsTo, IsTooLong}
 use Rattle.rz_pre.specs.Live.{body_at, body_of, hide, live_in, live_row, name_of, shapes_of, token_row, Live, Row}
-use Rattle.rz_pre.specs.Steps.{is_inside, is_opened, Frame, Handles, Opens, PutsOut}
+use Rattle.rz_pre.specs.Steps.{is_inside, is_opened, Frame, Handles, Replaces, Keeps}
 use Rattle.rz_pre.proofs.Frames.{all_first_front, all_first_more, hidden_inside, none_stays, one_inside, opened_by, row_is, row_is_not, shown_inside, visible, visible_inside, AllFirst}
 use Rattle.rz_pre.proofs.Halfway.{begun, closed, ended, kept, one_left, opened, Halfway, Open}
 
@@ -110,7 +110,7 @@ module _ (rows : List Row) (s : Shape) (mark : Mark) (fs : List Frame) (i n : �
   all_first : AllFirst rows (fs ++ (i, n + 1) ∷ [])
   all_first = let r = all_first_front rows fs (i, n) m.first in all_first_more rows fs (i, n + 1) r.0 r.1
 
-  put_out : (after : List Frame) (new : List Token) → 0 < budget → PutsOut rows token mark (fs ++ (i, n + 1) ∷ []) after done new → Making rows s mark after new (budget - 1)
+  put_out : (after : List Frame) (new : List Token) → 0 < budget → Keeps rows token mark (fs ++ (i, n + 1) ∷ []) after done new → Making rows s mark after new (budget - 1)
   put_out after new some p = record {
     spent = m.spent + 1;
     sum = omega (arith, m.sum, some);
@@ -132,7 +132,7 @@ module _ (rows : List Row) (s : Shape) (mark : Mark) (fs : List Frame) (i n : �
           ∙ sym (map-append (token_of mark) (shapes_of done) (token.shape ∷ []))
           ∙ ap (map (token_of mark)) (sym (shapes_put put))
 
-  open_next : (after : List Frame) (new : List Token) → 0 < budget → Opens rows token (fs ++ (i, n + 1) ∷ []) after done new → Making rows s mark after new (budget - 1)
+  open_next : (after : List Frame) (new : List Token) → 0 < budget → Replaces rows token (fs ++ (i, n + 1) ∷ []) after done new → Making rows s mark after new (budget - 1)
   open_next after new some o =
       let found = row_is rows (name_of token.shape) o.row (named rows token.shape o.row o.found) in
       let inside = visible rows (live_in rows) (fs ++ (i, n + 1) ∷ []) in

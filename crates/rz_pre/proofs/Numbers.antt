@@ -1,6 +1,6 @@
 -- The numbers of the faults of a line.
-use Rattle.std.proofs.Common.{◌≡◌, ◌+◌, ℕ, Bool, false, true, List, [], ◌∷◌, Option, Some, None, length, inl, inr, Result, Ok, Err, refl, ap, subst, sym, ◌∙◌}
-use Rattle.std.specs.Prelude.{nat_lt, nat_le, ◌==◌, ◌&&◌, if◌then◌else◌, IfOk}
+use Rattle.std.proofs.Common.{◌≡◌, ◌+◌, ℕ, Bool, false, true, List, [], ◌∷◌, Option, Some, None, length, inl, inr, Result, Ok, Err, refl, ap, subst, sym}
+use Rattle.std.specs.Prelude.{nat_lt, nat_le, ◌==◌, ◌&&◌, if◌then◌else◌}
 use Rattle.rz_core.specs.Message.{is_between, IsNameable}
 use Rattle.rz_core.specs.Stop.{OnFault}
 use Rattle.rz_core.specs.declared.fault.Fault.{Fault}
@@ -18,7 +18,6 @@ use Rattle.rz_lex.specs.Sign.{sign_of}
 use Rattle.rz_lex.specs.declared.joined.Placed.{Placed}
 use Rattle.rz_lex.specs.declared.sign.Sign.{Sign}
 use Rattle.rz_lex.specs.declared.token.Shape.{Shape}
-use Rattle.rz_pre.specs.Line.{IsCut}
 use Rattle.rz_pre.specs.Placed.{IsSourceFault}
 
 -- a fault of sources

@@ -97,7 +97,7 @@ module _ (mark : Mark) where
   asked_on [] on = tt
   asked_on (first ∷ rest) on = by (condition.is_defined first.shape) (behind rest on.1)
     where
-      named_on : (o : Option (List ℕ)) (b : Bool) (tokens : List Token) → AreOn mark tokens → BehindOn (condition.named o b tokens)
+      named_on : (o : Option (List ℕ)) (b : Bool) (tokens : List Token) → AreOn mark tokens → BehindOn (condition.asked_name o b tokens)
       named_on (Some word) b tokens on = on
       named_on None true tokens on = brackets_on tokens on
       named_on None false tokens on = tt

@@ -1,5 +1,5 @@
 -- A program is what its entries give.
-use Rattle.std.proofs.Common.{◌≡◌, ℕ, zero, suc, ◌+◌, inl, inr, List, [], ◌∷◌, ◌++◌, length, Option, Some, None, Ok, Err, refl, sym, ap, subst, ◌∙◌}
+use Rattle.std.proofs.Common.{◌≡◌, ℕ, zero, suc, ◌-◌, inl, inr, List, [], ◌∷◌, ◌++◌, length, Option, Some, None, Ok, Err, refl, sym, ap, subst, ◌∙◌}
 use Rattle.std.specs.declared.result.Result.{Result}
 use Rattle.rz_core.specs.declared.fault.Fault.{Fault}
 use Rattle.rz_core.specs.declared.fault.Mark.{Mark}
@@ -125,7 +125,7 @@ module _ (tool : Tool) where
               let u = subst (λ (p : List Open × State). Unfolded (LinesUnfold Inner tool level ls ending p.0 p.1) p.1 answer) point (later further) in record {
                 entries = Line level (innermost opens) line act ∷ (f.inner ++ u.entries);
                 fault = u.fault;
-                unfolds = inr (act, f.inner, does, inr (u.entries, inner, refl, u.unfolds));
+                unfolds = inr (inr (act, f.inner, u.entries, does, inner, refl, u.unfolds));
                 each = (does, each_append f.inner u.entries (state_after act s) f.each u.each);
                 is = u.is ∙ outcome_line level (innermost opens) line act f.inner u.entries u.fault s;
               }
@@ -144,7 +144,7 @@ module _ (tool : Tool) where
           by (Some fault) inner same = record {
             entries = Line level (innermost opens) line act ∷ f.inner;
             fault = Some fault;
-            unfolds = inr (act, f.inner, does, inl (fault, inner, refl, refl));
+            unfolds = inr (inl (act, f.inner, fault, does, inner, refl, refl));
             each = (does, f.each);
             is = is ∙ ap err (err_is (List Open × State) failure (record { fault = fault; files = (behind_all f.inner (state_after act s)).files }) same);
           }
@@ -212,7 +212,7 @@ module _ (tool : Tool) where
 
   module _ (files : Files) (paths : List (List ℕ)) where
     abbrev NamedUnfolds : List ℕ → State → Stretch
-    NamedUnfolds name s = FileUnfolds (IncludedUnfolds tool files paths levels_below 2) tool 1 (missing_file None name) s (file_of files (name ∷ []))
+    NamedUnfolds name s = FileUnfolds (IncludedUnfolds tool files paths levels_below) tool 1 (missing_file None name) s (file_of files (name ∷ []))
 
     first_named : (name : List ℕ) (names : List (List ℕ)) (s after : State) (answer : Result State Failure) → Unfolded (NamedUnfolds name s) s (Ok after)
         → Unfolded (NamesUnfold tool files paths names after) after answer → Unfolded (NamesUnfold tool files paths (name ∷ names) s) s answer
@@ -237,25 +237,25 @@ module _ (tool : Tool) where
         by None unfolds same = absurd (ok_err (behind_all u.entries s) failure (sym same))
         by (Some fault) unfolds same = record { entries = u.entries; fault = Some fault; unfolds = inl (fault, unfolds, refl); each = u.each; is = is ∙ same }
 
-    at_included : (levels level : ℕ) (name : List ℕ) (mark : Mark) (s : State) (answer : Result State Failure) → IncludedGoes tool files paths levels name mark s answer
-        → Unfolded (IncludedUnfolds tool files paths levels level name mark s) s answer
-    at_included zero level name mark s answer is = record { entries = []; fault = Some (too_deep mark); unfolds = (refl, refl); each = tt; is = is }
-    at_included (suc levels) level name mark s answer (inl (opened, enters, goes)) =
-        in_file (IncludedGoes tool files paths levels) (IncludedUnfolds tool files paths levels (level + 1)) (at_included levels (level + 1)) level
+    at_included : (levels : ℕ) (name : List ℕ) (mark : Mark) (s : State) (answer : Result State Failure) → IncludedGoes tool files paths levels name mark s answer
+        → Unfolded (IncludedUnfolds tool files paths levels name mark s) s answer
+    at_included zero name mark s answer is = record { entries = []; fault = Some (too_deep mark); unfolds = (refl, refl); each = tt; is = is }
+    at_included (suc levels) name mark s answer (inl (opened, enters, goes)) =
+        in_file (IncludedGoes tool files paths levels) (IncludedUnfolds tool files paths levels) (at_included levels) (16 - levels)
         (missing_file (Some mark) name) s (file_of files (names_of paths (utf8_name name))) opened answer enters goes
-    at_included (suc levels) level name mark s answer (inr (failure, enters, is)) =
-        again (IncludedUnfolds tool files paths (suc levels) level name mark s) s answer failure is
-        (opened_is (IncludedGoes tool files paths levels) (IncludedUnfolds tool files paths levels (level + 1)) (at_included levels (level + 1)) level
+    at_included (suc levels) name mark s answer (inr (failure, enters, is)) =
+        again (IncludedUnfolds tool files paths (suc levels) name mark s) s answer failure is
+        (opened_is (IncludedGoes tool files paths levels) (IncludedUnfolds tool files paths levels) (at_included levels) (16 - levels)
         (missing_file (Some mark) name) s (file_of files (names_of paths (utf8_name name))) failure enters)
 
     named : (name : List ℕ) (s : State) (answer : Result State Failure) → NamedGoes tool files paths name s answer
-        → Unfolded (FileUnfolds (IncludedUnfolds tool files paths levels_below 2) tool 1 (missing_file None name) s (file_of files (name ∷ []))) s answer
+        → Unfolded (FileUnfolds (IncludedUnfolds tool files paths levels_below) tool 1 (missing_file None name) s (file_of files (name ∷ []))) s answer
     named name s answer (inl (opened, enters, goes)) =
-        in_file (IncludedGoes tool files paths levels_below) (IncludedUnfolds tool files paths levels_below 2) (at_included levels_below 2) 1
+        in_file (IncludedGoes tool files paths levels_below) (IncludedUnfolds tool files paths levels_below) (at_included levels_below) 1
         (missing_file None name) s (file_of files (name ∷ [])) opened answer enters goes
     named name s answer (inr (failure, enters, is)) =
         again _ s answer failure is
-        (opened_is (IncludedGoes tool files paths levels_below) (IncludedUnfolds tool files paths levels_below 2) (at_included levels_below 2) 1
+        (opened_is (IncludedGoes tool files paths levels_below) (IncludedUnfolds tool files paths levels_below) (at_included levels_below) 1
         (missing_file None name) s (file_of files (name ∷ [])) failure enters)
 
     pub all_names : (names : List (List ℕ)) (s : State) (answer : Result State Failure) → NamesGo tool files paths names s answer
@@ -299,13 +299,13 @@ module _ (tool : Tool) where
       lines_back [] (Some open_comment) opens s entries fault none = λ i. outcome (none.0 i) (none.1 i) s
       lines_back (line ∷ ls) ending opens s entries fault (inl (own, does, none, is)) =
           inr (record { fault = own; files = s.files }, inr (record { fault = own; files = s.files }, (does, refl), refl), λ i. outcome (none i) (is i) s)
-      lines_back (line ∷ ls) ending opens s entries fault (inr (act, inner, does, inl (own, unfolds, are, is))) =
+      lines_back (line ∷ ls) ending opens s entries fault (inr (inl (act, inner, own, does, unfolds, are, is))) =
           inr (
             record { fault = own; files = (behind_all inner (state_after act s)).files },
             inl (act, does, follow_back line.mark act opens s inner (Some own) unfolds),
             λ i. outcome (are i) (is i) s,
           )
-      lines_back (line ∷ ls) ending opens s entries fault (inr (act, inner, does, inr (more, unfolds, are, further))) =
+      lines_back (line ∷ ls) ending opens s entries fault (inr (inr (act, inner, more, does, unfolds, are, further))) =
           inl (
             (opens_after line.mark act opens, behind_all inner (state_after act s)),
             inl (act, does, follow_back line.mark act opens s inner None unfolds),
@@ -339,16 +339,16 @@ module _ (tool : Tool) where
           )
 
   module _ (files : Files) (paths : List (List ℕ)) where
-    included_back : (levels level : ℕ) (name : List ℕ) (mark : Mark) (s : State) (entries : List Entry) (fault : Option Fault)
-        → IncludedUnfolds tool files paths levels level name mark s entries fault → IncludedGoes tool files paths levels name mark s (outcome entries fault s)
-    included_back zero level name mark s entries fault none = λ i. outcome (none.0 i) (none.1 i) s
-    included_back (suc levels) level name mark s entries fault unfolds =
-        file_back (IncludedGoes tool files paths levels) (IncludedUnfolds tool files paths levels (level + 1)) (included_back levels (level + 1)) level
+    included_back : (levels : ℕ) (name : List ℕ) (mark : Mark) (s : State) (entries : List Entry) (fault : Option Fault)
+        → IncludedUnfolds tool files paths levels name mark s entries fault → IncludedGoes tool files paths levels name mark s (outcome entries fault s)
+    included_back zero name mark s entries fault none = λ i. outcome (none.0 i) (none.1 i) s
+    included_back (suc levels) name mark s entries fault unfolds =
+        file_back (IncludedGoes tool files paths levels) (IncludedUnfolds tool files paths levels) (included_back levels) (16 - levels)
         (missing_file (Some mark) name) s (file_of files (names_of paths (utf8_name name))) entries fault unfolds
 
     named_back : (name : List ℕ) (s : State) (entries : List Entry) (fault : Option Fault) → NamedUnfolds tool files paths name s entries fault → NamedGoes tool files paths name s (outcome entries fault s)
     named_back name s entries fault unfolds =
-        file_back (IncludedGoes tool files paths levels_below) (IncludedUnfolds tool files paths levels_below 2) (included_back levels_below 2) 1
+        file_back (IncludedGoes tool files paths levels_below) (IncludedUnfolds tool files paths levels_below) (included_back levels_below) 1
         (missing_file None name) s (file_of files (name ∷ [])) entries fault unfolds
 
     pub names_back : (names : List (List ℕ)) (s : State) (entries : List Entry) (fault : Option Fault)

@@ -51,14 +51,14 @@ abbrev pub in_brackets : List Token → Asked
 in_brackets (name ∷ close ∷ rest) = if closes close.shape then option_map (λ word. (word, rest)) (word_name name.shape) else None
 in_brackets other = None
 
-abbrev pub named : Option (List ℕ) → Bool → List Token → Asked
-named (Some word) bracket rest = Some (word, rest)
-named None true rest = in_brackets rest
-named None false rest = None
+abbrev pub asked_name : Option (List ℕ) → Bool → List Token → Asked
+asked_name (Some word) bracket rest = Some (word, rest)
+asked_name None true rest = in_brackets rest
+asked_name None false rest = None
 
 abbrev pub behind_defined : List Token → Asked
 behind_defined [] = None
-behind_defined (next ∷ rest) = named (word_name next.shape) (opens next.shape) rest
+behind_defined (next ∷ rest) = asked_name (word_name next.shape) (opens next.shape) rest
 
 abbrev pub asked : List Token → Asked
 asked [] = None

@@ -88,11 +88,11 @@ pub record IsProgram (program : Program) (s : State) : Type 0 where
   pub macros : (name : List ℕ) → is_among name program.macros ≡ is_some (s.live name)
 
 -- what is answered holds of the program or of the fault that the call gave
-abbrev pub Answers : Result Program PreFault → (Result State Failure → Type 0) → Type 0
-Answers (Ok program) answers = (s : State) × IsProgram program s × answers (Ok s)
-Answers (Err (prefaults.Refused fault files)) answers = answers (Err (record { fault = fault; files = files }))
-Answers (Err prefaults.ReadFault) answers = Unit {0}
-Answers (Err prefaults.NoMemory) answers = Unit {0}
+abbrev pub Gave : Result Program PreFault → (Result State Failure → Type 0) → Type 0
+Gave (Ok program) answers = (s : State) × IsProgram program s × answers (Ok s)
+Gave (Err (prefaults.Refused fault files)) answers = answers (Err (record { fault = fault; files = files }))
+Gave (Err prefaults.ReadFault) answers = Unit {0}
+Gave (Err prefaults.NoMemory) answers = Unit {0}
 
 -- the call gave the program or the fault that is answered; a read fault and want of memory say nothing
 abbrev pub Matches : Result Program PreFault → Result State Failure → Type 0

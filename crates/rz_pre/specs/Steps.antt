@@ -20,13 +20,13 @@ is_opened None frames = false
 is_opened (Some k) frames = if is_inside k frames then false else true
 
 -- the token is put out at a place
-pub record PutsOut (rows : List Row) (token : Token) (mark : Mark) (frames after : List Frame) (done new : List Token) : Type 0 where
+pub record Keeps (rows : List Row) (token : Token) (mark : Mark) (frames after : List Frame) (done new : List Token) : Type 0 where
   pub plain : is_opened (token_row rows token.shape) frames ≡ false
   pub same : after ≡ frames
   pub put : new ≡ done ++ token_of mark token.shape ∷ []
 
 -- the token is replaced next
-pub record Opens (rows : List Row) (token : Token) (frames after : List Frame) (done new : List Token) : Type 0 where
+pub record Replaces (rows : List Row) (token : Token) (frames after : List Frame) (done new : List Token) : Type 0 where
   pub row : ℕ
   pub found : token_row rows token.shape ≡ Some row
   pub fresh : is_inside row frames ≡ false
@@ -34,4 +34,4 @@ pub record Opens (rows : List Row) (token : Token) (frames after : List Frame) (
   pub same : new ≡ done
 
 abbrev pub Handles : List Row → Token → Mark → List Frame → List Frame → List Token → List Token → Type 0
-Handles rows token mark frames after done new = PutsOut rows token mark frames after done new ⊎ Opens rows token frames after done new
+Handles rows token mark frames after done new = Keeps rows token mark frames after done new ⊎ Replaces rows token frames after done new

@@ -1,6 +1,6 @@
 -- A program as one list of what is read: line by line, and directly behind a line that includes a file what is read of
 -- that file. (MPW Rez.)
-use Rattle.std.specs.Prelude.{◌≡◌, ◌⊎◌, ℕ, zero, suc, ◌+◌, List, [], ◌∷◌, ◌++◌, length, Option, Some, None, Ok, Err}
+use Rattle.std.specs.Prelude.{◌≡◌, ◌⊎◌, ℕ, zero, suc, ◌-◌, List, [], ◌∷◌, ◌++◌, length, Option, Some, None, Ok, Err}
 use Rattle.std.specs.declared.result.Result.{Result}
 use Rattle.rz_core.specs.declared.fault.Fault.{Fault}
 use Rattle.rz_core.specs.declared.fault.Mark.{Mark}
@@ -57,18 +57,33 @@ abbrev pub BehindLine : (List ℕ → Mark → State → Stretch) → Mark → A
 BehindLine Inner mark (Include name) s = Inner name mark s
 BehindLine Inner mark act s = λ entries fault. (entries ≡ []) × (fault ≡ None)
 
--- a line, what stands directly behind it, and then the lines that follow, unless there is a fault before
+-- a line has a fault; or it does something, and there is a fault in the file that it includes; or it does something, and
+-- behind it and what stands directly behind it the lines that follow are read
+abbrev pub StopsAt : Tool → List Open → State → RawLine → Stretch
+StopsAt tool opens s line entries fault =
+    (own : Fault) × Does s.live tool (innermost opens) line (Err own) × (entries ≡ []) × (fault ≡ Some own)
+
+abbrev pub StopsBehind : (List ℕ → Mark → State → Stretch) → Tool → ℕ → List Open → State → RawLine → Stretch
+StopsBehind Inner tool level opens s line entries fault =
+    (act : Act) × (inner : List Entry) × (own : Fault) × Does s.live tool (innermost opens) line (Ok act)
+    × BehindLine Inner line.mark act (state_after act s) inner (Some own)
+    × (entries ≡ Line level (innermost opens) line act ∷ inner) × (fault ≡ Some own)
+
+abbrev pub GoesOn : (List ℕ → Mark → State → Stretch) → Tool → ℕ → List Open → State → RawLine → (List Open → State → Stretch) → Stretch
+GoesOn Inner tool level opens s line Later entries fault =
+    (act : Act) × (inner : List Entry) × (more : List Entry) × Does s.live tool (innermost opens) line (Ok act)
+    × BehindLine Inner line.mark act (state_after act s) inner None
+    × (entries ≡ Line level (innermost opens) line act ∷ (inner ++ more))
+    × Later (opens_after line.mark act opens) (behind_all inner (state_after act s)) more fault
+
+-- the lines of a file on some level, from some line on
 abbrev pub LinesUnfold : (List ℕ → Mark → State → Stretch) → Tool → ℕ → List RawLine → Option Fault → List Open → State → Stretch
 LinesUnfold Inner tool level [] None opens s entries fault = (entries ≡ []) × (fault ≡ left_open opens)
 LinesUnfold Inner tool level [] (Some open_comment) opens s entries fault = (entries ≡ []) × (fault ≡ Some open_comment)
 LinesUnfold Inner tool level (line ∷ lines) ending opens s entries fault =
-    ((own : Fault) × Does s.live tool (innermost opens) line (Err own) × (entries ≡ []) × (fault ≡ Some own))
-    ⊎ ((act : Act) × (inner : List Entry) × Does s.live tool (innermost opens) line (Ok act)
-    × (((own : Fault) × BehindLine Inner line.mark act (state_after act s) inner (Some own)
-    × (entries ≡ Line level (innermost opens) line act ∷ inner) × (fault ≡ Some own))
-    ⊎ ((more : List Entry) × BehindLine Inner line.mark act (state_after act s) inner None
-    × (entries ≡ Line level (innermost opens) line act ∷ (inner ++ more))
-    × LinesUnfold Inner tool level lines ending (opens_after line.mark act opens) (behind_all inner (state_after act s)) more fault)))
+    StopsAt tool opens s line entries fault
+    ⊎ (StopsBehind Inner tool level opens s line entries fault
+    ⊎ GoesOn Inner tool level opens s line (λ after t. LinesUnfold Inner tool level lines ending after t) entries fault)
 
 -- a file that was found: its text, or 102 before its first line
 abbrev pub FileUnfolds : (List ℕ → Mark → State → Stretch) → Tool → ℕ → Fault → State → Option (List ℕ × List ℕ) → Stretch
@@ -79,19 +94,19 @@ FileUnfolds Inner tool level missing s (Some found) entries fault =
     ⊎ ((text : List ℕ) × (lines : List RawLine) × (ending : Option Fault) × IsTextOf found.1 text
     × HasLines (length s.files) (joined 1 text) lines ending × LinesUnfold Inner tool level lines ending [] (with_file found.0 s) rest fault))
 
--- an included file on some level, with so many levels from there on
-abbrev pub IncludedUnfolds : Tool → Files → List (List ℕ) → ℕ → ℕ → List ℕ → Mark → State → Stretch
-IncludedUnfolds tool files paths zero level name mark s entries fault = (entries ≡ []) × (fault ≡ Some (too_deep mark))
-IncludedUnfolds tool files paths (suc levels) level name mark s entries fault =
-    FileUnfolds (IncludedUnfolds tool files paths levels (level + 1)) tool level (missing_file (Some mark) name) s
+-- an included file, where so many levels are left of 16, its own counted: with one left it stands on level 16
+abbrev pub IncludedUnfolds : Tool → Files → List (List ℕ) → ℕ → List ℕ → Mark → State → Stretch
+IncludedUnfolds tool files paths zero name mark s entries fault = (entries ≡ []) × (fault ≡ Some (too_deep mark))
+IncludedUnfolds tool files paths (suc left) name mark s entries fault =
+    FileUnfolds (IncludedUnfolds tool files paths left) tool (16 - left) (missing_file (Some mark) name) s
     (file_of files (names_of paths (utf8_name name))) entries fault
 
 -- the named files, one behind the other, on level 1
 abbrev pub NamesUnfold : Tool → Files → List (List ℕ) → List (List ℕ) → State → Stretch
 NamesUnfold tool files paths [] s entries fault = (entries ≡ []) × (fault ≡ None)
 NamesUnfold tool files paths (name ∷ names) s entries fault =
-    ((own : Fault) × FileUnfolds (IncludedUnfolds tool files paths levels_below 2) tool 1 (missing_file None name) s (file_of files (name ∷ [])) entries (Some own) × (fault ≡ Some own))
-    ⊎ ((first : List Entry) × (more : List Entry) × FileUnfolds (IncludedUnfolds tool files paths levels_below 2) tool 1 (missing_file None name) s (file_of files (name ∷ [])) first None
+    ((own : Fault) × FileUnfolds (IncludedUnfolds tool files paths levels_below) tool 1 (missing_file None name) s (file_of files (name ∷ [])) entries (Some own) × (fault ≡ Some own))
+    ⊎ ((first : List Entry) × (more : List Entry) × FileUnfolds (IncludedUnfolds tool files paths levels_below) tool 1 (missing_file None name) s (file_of files (name ∷ [])) first None
     × (entries ≡ first ++ more) × NamesUnfold tool files paths names (behind_all first s) more fault)
 
 -- the entries of a program, and the first fault behind them, if there is one

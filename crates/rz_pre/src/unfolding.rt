@@ -4,7 +4,7 @@ ghost use Rattle.rz_pre.specs.Macros.{rows_of};
 ghost use Rattle.rz_folder.specs.Counts.{Rose};
 ghost use Rattle.rz_pre.specs.Placed.{AreOpenIn, IsPlaced, IsSourceFault, OnRefused, StandsInFiles};
 ghost use Rattle.rz_pre.specs.Program.{ends, live_after, open_if, start, too_deep, Enters, Failure, IncludedGoes, NamedGoes, NamesGo, ProgramGoes, State, TextGoes};
-ghost use Rattle.rz_pre.specs.Reading.{alone, state_of, together, Answers, Finishes, IsProgram, IsQuiet, Leaves, Matches, OnReadFault};
+ghost use Rattle.rz_pre.specs.Reading.{alone, state_of, together, Finishes, Gave, IsProgram, IsQuiet, Leaves, Matches, OnReadFault};
 ghost use Rattle.rz_pre.specs.declared.program.PreFault.TheVariants.{ReadFault};
 
 use crate::condition::Tool;
@@ -305,7 +305,7 @@ pub fn preprocess<F: Folder>(
     paths: &FileNames,
     defs: &Defs,
 ) -> Result<Program, PreFault>
-    ensures program { IfSome (F.files folder.old) (λ files. Answers result (ProgramGoes files tool names.now paths.now defs.now)) }
+    ensures program { IfSome (F.files folder.old) (λ files. Gave result (ProgramGoes files tool names.now paths.now defs.now)) }
     ensures every { IfSome (F.files folder.old) (λ files. (answer : Result State Failure)
         → ProgramGoes files tool names.now paths.now defs.now answer → Matches result answer) }
     ensures stands { StandsInFiles result }
