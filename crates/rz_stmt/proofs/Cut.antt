@@ -1,5 +1,5 @@
 -- Where the first statement ends, and how reading goes on behind it.
-use Rattle.std.proofs.Common.{◌≡◌, ◌≢◌, ℕ, suc, ◌+◌, ◌<◌, ◌≤◌, Bool, true, false, ◌||◌, inl, inr, List, [], ◌∷◌, ◌++◌, length, take, drop, refl, sym, ap, subst, ◌∙◌, arith, append_assoc, append-nil, length-append}
+use Rattle.std.proofs.Common.{◌≡◌, ◌≢◌, ℕ, zero, suc, ◌+◌, ◌<◌, ◌≤◌, Bool, true, false, ◌||◌, inl, inr, List, [], ◌∷◌, ◌++◌, length, take, drop, refl, sym, ap, subst, ◌∙◌, arith, append_assoc, append-nil, length-append}
 use Rattle.std.specs.Prelude.{◌⊎◌, if◌then◌else◌}
 use Rattle.rz_lex.specs.declared.token.Token.{Token}
 use Rattle.rz_stmt.specs.Cutting.{size_of}
@@ -60,7 +60,7 @@ none_cut tokens = record { leads = λ statements are. (statements, are, refl); p
 pub all_cut : (tokens : List Token) (start : ℕ) (spans : List Span) → Cutting tokens [] start spans → HasSpans tokens spans
 all_cut tokens start spans c = let l = c.leads [] refl in (l.0, l.1, sym (append-nil spans) ∙ l.2)
 
-take_front : (xs ys : List Token) (n : ℕ) → n ≡ length xs → take n (xs ++ ys) ≡ xs
+pub take_front : (xs ys : List Token) (n : ℕ) → n ≡ length xs → take n (xs ++ ys) ≡ xs
 take_front [] ys n is = subst (λ k. take k ys ≡ []) (sym is) refl
 take_front (x ∷ xs) ys n is = subst (λ k. take k ((x ∷ xs) ++ ys) ≡ x ∷ xs) (sym is) (ap (λ (ts : List Token). x ∷ ts) (take_front xs ys (length xs) refl))
 
@@ -82,13 +82,13 @@ size_within tokens = by (first_of 0 tokens)
     by (ended front last behind are size none ends) = omega (arith, size, ap (λ (ts : List Token). length ts) are, length-append (front ++ last ∷ []) behind)
     by (all size none) = omega (arith, size)
 
-module _ (tokens rest : List Token) (start : ℕ) (spans : List Span) (c : Cutting tokens rest start spans) (some : rest ≢ []) where
+module _ (rest : List Token) (some : rest ≢ []) where
   -- the first of the rest, whose tokens are so many
-  abbrev Next : Type 0
+  abbrev pub Next : Type 0
   Next = (behind statement : List Token) × (rest ≡ statement ++ behind) × (drop (size_of 0 rest) rest ≡ behind) × (size_of 0 rest ≡ length statement)
       × (IsStatement statement ⊎ (IsRest statement × (behind ≡ [])))
 
-  next : Next
+  pub next : Next
   next = by (first_of 0 rest)
     where
       by : First 0 rest → Next
@@ -109,24 +109,27 @@ module _ (tokens rest : List Token) (start : ℕ) (spans : List Span) (c : Cutti
         inr (record { some = some; goes_on = none }, refl),
       )
 
-  step : (n : Next) (statements : List (List Token)) → AreStatements n.0 statements → AreStatements rest (n.1 ∷ statements)
+  pub step : (n : Next) (statements : List (List Token)) → AreStatements n.0 statements → AreStatements rest (n.1 ∷ statements)
   step (behind, statement, are, dropped, size, inl ends) statements others = (behind, are, inl (ends, others))
   step (behind, statement, are, dropped, size, inr (ends, none)) statements others =
       (behind, are, inr (ends, none, none_left statements (subst (λ (ts : List Token). AreStatements ts statements) none others)))
 
-  pub cut_more : (end : ℕ) (after : List Span) → end ≡ start + size_of 0 rest → after ≡ spans ++ record { start = start; end = end } ∷ []
-      → Cutting tokens (drop (size_of 0 rest) rest) end after
-  cut_more end after is more = record {
-    leads = λ statements others.
-        let l = c.leads (next.1 ∷ statements) (step next statements (subst (λ (ts : List Token). AreStatements ts statements) next.3 others)) in
-        let at : end ≡ start + length next.1 = is ∙ ap (λ n. start + n) next.4 in (
-          l.0,
-          l.1,
-          ap (λ (ss : List Span). ss ++ spans_from end statements) more ∙ append_assoc spans (record { start = start; end = end } ∷ []) (spans_from end statements)
-              ∙ ap (λ (e : ℕ). spans ++ record { start = start; end = e } ∷ spans_from e statements) at ∙ l.2,
-        );
-    placed = omega (arith, c.placed, is, ap (λ (ts : List Token). length ts) next.2, length-append next.1 next.0, next.4, ap (λ (ts : List Token). length ts) next.3);
-  }
+pub cut_more : (tokens rest : List Token) (start : ℕ) (spans : List Span) → Cutting tokens rest start spans → (some : rest ≢ [])
+    → (end : ℕ) (after : List Span) → end ≡ start + size_of 0 rest → after ≡ spans ++ record { start = start; end = end } ∷ []
+    → Cutting tokens (drop (size_of 0 rest) rest) end after
+cut_more tokens rest start spans c some end after is more =
+    let first = next rest some in
+    record {
+      leads = λ statements others.
+          let l = c.leads (first.1 ∷ statements) (step rest some first statements (subst (λ (ts : List Token). AreStatements ts statements) first.3 others)) in
+          let at : end ≡ start + length first.1 = is ∙ ap (λ n. start + n) first.4 in (
+            l.0,
+            l.1,
+            ap (λ (ss : List Span). ss ++ spans_from end statements) more ∙ append_assoc spans (record { start = start; end = end } ∷ []) (spans_from end statements)
+                ∙ ap (λ (e : ℕ). spans ++ record { start = start; end = e } ∷ spans_from e statements) at ∙ l.2,
+          );
+      placed = omega (arith, c.placed, is, ap (λ (ts : List Token). length ts) first.2, length-append first.1 first.0, first.4, ap (λ (ts : List Token). length ts) first.3);
+    }
 
 -- One way.
 
@@ -204,3 +207,20 @@ one_way tokens (s ∷ ss) (o ∷ os) (b, are, inr (x, none, no_others)) (d, also
 one_way tokens (s ∷ ss) (o ∷ os) (b, are, inr (x, none, no_others)) (d, also, inr (y, none_too, no_others_too)) =
     let same : s ≡ o = sym (append-nil s) ∙ ap (λ (ts : List Token). s ++ ts) (sym none) ∙ sym are ∙ also ∙ ap (λ (ts : List Token). o ++ ts) none_too ∙ append-nil o in
     (λ i. same i ∷ (no_others ∙ sym no_others_too) i)
+
+-- Some way: so many tokens at most are statements.
+pub some_way : (count : ℕ) (tokens : List Token) → length tokens ≤ count → (statements : List (List Token)) × AreStatements tokens statements
+some_way count [] few = ([], refl)
+some_way zero (token ∷ tokens) few = absurd (omega (arith, few))
+some_way (suc count) (token ∷ tokens) few = by (some_way count) (first_of 0 (token ∷ tokens))
+  where
+    some : token ∷ tokens ≢ []
+    some is = cc is
+
+    by : ((behind : List Token) → length behind ≤ count → (statements : List (List Token)) × AreStatements behind statements)
+        → First 0 (token ∷ tokens) → (statements : List (List Token)) × AreStatements (token ∷ tokens) statements
+    by fewer (ended front last behind are size none ends) =
+        let others = fewer behind (omega (arith, few, ap (λ (ts : List Token). length ts) are, length-append (front ++ last ∷ []) behind, length-append front (last ∷ []))) in
+        ((front ++ last ∷ []) ∷ others.0, (behind, are, inl (record { front = front; last = last; are = refl; goes_on = none; ends = ends }, others.1)))
+    by fewer (all size none) =
+        ((token ∷ tokens) ∷ [], ([], sym (append-nil (token ∷ tokens)), inr (record { some = some; goes_on = none }, refl, refl)))

@@ -31,7 +31,7 @@ pub fn statements(alloc: Global, tokens: &Tokens) -> Result<Spans, NoMemory>
 }
 
 /// How many tokens the first statement has.
-fn statement_size(tokens: &[Token]) -> usize
+pub fn statement_size(tokens: &[Token]) -> usize
     requires { 0 < length tokens.now }
     ensures size { result ≡ size_of 0 tokens.now }
     ensures some { 0 < result }

@@ -1,3 +1,4 @@
+use crate::data::is_row;
 use rz_core::{Bytes, write_decimal};
 use rz_lex::lex;
 use rz_stmt::statements;
@@ -45,11 +46,6 @@ a ] ; ( ; ) ; => 0-3.3-7.
 ";" ';' /* ; */ a ; b => 0-4.4-5.
 "{" ; b => 0-2.2-3.
 "#;
-
-/// Whether a line of a table is a row.
-fn is_row(line: &str) -> bool {
-    !line.is_empty() && !line.starts_with("//")
-}
 
 /// Where the statements of a text stand.
 fn outcome_of(alloc: Global, text: &str) -> Result<Bytes, Fail> {

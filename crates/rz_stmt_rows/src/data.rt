@@ -56,12 +56,12 @@ data 'Test' (32768) { "a", }; => 201 on 1
 "#;
 
 /// Whether a line of a table is a row.
-fn is_row(line: &str) -> bool {
+pub fn is_row(line: &str) -> bool {
     !line.is_empty() && !line.starts_with("//")
 }
 
 /// The tokens of a text, in which `|` is the line end LF.
-fn tokens_of(alloc: Global, text: &str) -> Result<Tokens, Fail> {
+pub fn tokens_of(alloc: Global, text: &str) -> Result<Tokens, Fail> {
     let mut bytes = Bytes::new(alloc);
     for byte in text.as_bytes() {
         bytes.push(if *byte == b'|' { b'\n' } else { *byte })?;
@@ -77,7 +77,7 @@ fn tokens_of(alloc: Global, text: &str) -> Result<Tokens, Fail> {
 }
 
 /// A resource as text; a byte of its type that is no plain one is a `.`.
-fn text_of_resource(alloc: Global, resource: &Resource) -> Result<Bytes, Fail> {
+pub fn text_of_resource(alloc: Global, resource: &Resource) -> Result<Bytes, Fail> {
     let mut text = Bytes::of(alloc, b"'")?;
     for byte in resource.kind.code.to_be_bytes() {
         text.push(if byte.is_ascii_graphic() || byte == b' ' {
@@ -97,7 +97,7 @@ fn text_of_resource(alloc: Global, resource: &Resource) -> Result<Bytes, Fail> {
 }
 
 /// A fault as text: its number, its line and the number that it keeps.
-fn text_of_fault(alloc: Global, fault: &Fault) -> Result<Bytes, Fail> {
+pub fn text_of_fault(alloc: Global, fault: &Fault) -> Result<Bytes, Fail> {
     let mut text = Bytes::new(alloc);
     write_decimal(u64::from(fault.number), &mut text)?;
     if let Some(mark) = fault.mark {

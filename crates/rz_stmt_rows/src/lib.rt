@@ -5,3 +5,5 @@
 mod cuts;
 #[cfg(test)]
 mod data;
+#[cfg(test)]
+mod programs;

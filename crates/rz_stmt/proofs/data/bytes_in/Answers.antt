@@ -1,4 +1,3 @@
-use Rattle.std.proofs.Common.{◌∙◌, ap, ◌++◌, List, ℕ}
 use Rattle.rz_stmt.proofs.Texts.{text_more}
 use Rattle.rz_stmt.proofs.data.bytes_in.Goals as goal
 
