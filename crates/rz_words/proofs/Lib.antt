@@ -1,0 +1,7 @@
+pub mod Found
+pub mod Names
+pub mod Splits
+pub mod Items
+pub mod Words
+pub mod Alone
+pub mod Once

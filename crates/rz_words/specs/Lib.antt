@@ -1,0 +1,4 @@
+pub mod Definition
+pub mod Line
+pub mod Command
+pub mod Item

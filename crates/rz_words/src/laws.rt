@@ -1,0 +1,16 @@
+ghost use Rattle.std.specs.Prelude.{◌≡◌, ℕ, List};
+ghost use Rattle.rz_words.specs.Command.{Asked, IsCommand, IsMisplaced};
+
+use rz_lex::one_cut;
+use rz_source::one_text;
+
+/// A law, with nothing to run: words are one command at most, and where they are none, one position at most is
+/// one past their longest front that begins a command.
+pub fn one_command()
+    ensures command { (words : List (List ℕ)) (asked others : Asked) → IsCommand words asked → IsCommand words others → asked ≡ others }
+    ensures position { (words : List (List ℕ)) (position another : ℕ)
+        → IsMisplaced words position → IsMisplaced words another → position ≡ another }
+{
+    one_cut();
+    one_text();
+}
