@@ -25,7 +25,8 @@ struct Parts {
 /// The resource of a `data` statement of today: `data`, a literal of four bytes, `(`, a number, `)`, `{`,
 /// texts with at most one `;` behind them, `}` and `;`. A refusal has the mark of its first token: 201 where
 /// the tokens are no such statement, else 204 for a number over 32,767 (kept: the number), else 301 for texts
-/// of more than 16,777,212 bytes (kept: how many). (MPW Rez.)
+/// of more than 16,777,212 bytes (kept: how many). At least one token is handed in, as each statement of
+/// [`statements`](crate::statements) has. (MPW Rez.)
 pub fn read_data(alloc: Global, tokens: &[Token]) -> Result<Resource, Stop<Fault>>
     requires { 0 < length tokens.now }
     ensures resource { Gives (data_of tokens.now) result }

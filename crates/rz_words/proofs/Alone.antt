@@ -8,7 +8,8 @@ use Rattle.rz_core.specs.declared.stop.Stop.{Stop}
 use Rattle.rz_core.specs.declared.stop.Stop.TheVariants.{Refused}
 use Rattle.rz_words.specs.Command.{is_file, Asked, DeRez, Help, IsCommand, IsMisplaced, Rez, Version}
 use Rattle.rz_words.specs.declared.read.UsageFault.{UsageFault}
-use Rattle.rz_words.proofs.Words.{differ, head, tail, Words}
+use Rattle.rz_words.proofs.Found.{differ}
+use Rattle.rz_words.proofs.Words.{head, tail, Words}
 
 -- the commands by their first words
 data Kind (word : List ℕ) (words : Words) : Type 0 where

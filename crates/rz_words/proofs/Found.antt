@@ -1,11 +1,20 @@
 -- What is found of one kind is found of another.
-use Rattle.std.proofs.Common.{◌≡◌, Some, None, Ok, Err, subst, IfOk}
+use Rattle.std.proofs.Common.{List, ℕ, true, false, ◌≡◌, Some, None, Ok, Err, subst, IfOk}
 use Rattle.std.specs.Prelude.{Option}
 use Rattle.std.specs.declared.result.Result.{Result}
+use Rattle.std.specs.Str.{bytes_eq}
+use Rattle.std.proofs.lemmas.Slice.Eq.{bytes_eq-Decides}
 use Rattle.rz_core.specs.Stop.{Gives, OnFault}
 use Rattle.rz_core.specs.declared.stop.Stop.{Stop}
 use Rattle.rz_core.specs.declared.stop.Stop.TheVariants.{Refused, NoMemory}
 use Rattle.rz_words.specs.Definition.{Decided}
+
+-- words by the test of their bytes
+pub same_word : (a b : List ℕ) → bytes_eq a b ≡ true → a ≡ b
+same_word a b is = (bytes_eq-Decides a b).0 is
+
+pub differ : (a b : List ℕ) → bytes_eq a b ≡ false → a ≡ b → ⊥
+differ a b is eq = let holds : bytes_eq a b ≡ true = (bytes_eq-Decides a b).1 eq in cc
 
 pub never : {X F : Type 0} (x : X) (stop : Stop F) (fault : F) → Gives {X = X} {F = F} (Ok x) (Err stop) → stop ≡ Refused fault → ⊥
 never {X = X} {F = F} x stop fault gives is = refused (subst (λ (s : Stop F). Gives {X = X} {F = F} (Ok x) (Err s)) is gives)

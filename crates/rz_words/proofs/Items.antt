@@ -2,17 +2,15 @@
 use Rattle.std.proofs.Common.{◌≡◌, ℕ, zero, suc, Bool, true, false, ◌||◌, inl, inr, List, [], ◌∷◌, ◌++◌, Some, None, refl, sym, ap, subst, ◌∙◌, arith}
 use Rattle.std.specs.Prelude.{codes}
 use Rattle.std.specs.Str.{bytes_eq}
-use Rattle.std.proofs.lemmas.Slice.Eq.{bytes_eq-Decides}
 use Rattle.rz_lex.specs.Cutting.{Next}
 use Rattle.rz_lex.specs.declared.token.Shape.TheVariants as shapes
 use Rattle.rz_pre.specs.declared.program.Def.{Def}
-use Rattle.rz_words.specs.Command.{and_item, and_items, is_file, is_option, AreItems, Define, IsDefinition, IsItem, Item, Output, Path, RezAsked, Source}
+use Rattle.rz_words.specs.Command.{and_item, and_items, is_file, AreItems, Define, IsDefinition, IsItem, Item, Output, Path, RezAsked, Source}
 use Rattle.rz_words.specs.Definition.{nowhere, Defines, HasNoSign, IsName, Undefines}
 use Rattle.rz_words.specs.Definition.Defines.{alone}
-use Rattle.rz_words.specs.Item.{BeginsWith, IsStuck}
-
-same : (a b : List ℕ) → bytes_eq a b ≡ true → a ≡ b
-same a b is = (bytes_eq-Decides a b).0 is
+use Rattle.rz_words.specs.Item.{is_option, BeginsWith, IsStuck}
+use Rattle.rz_words.proofs.Found.{differ, same_word}
+use Rattle.rz_words.proofs.Words.{head, tail}
 
 -- Options.
 
@@ -27,20 +25,14 @@ flag_of word is = first (bytes_eq word (codes "-o")) (bytes_eq word (codes "-i")
   where
     first : (a b c d : Bool) → bytes_eq word (codes "-o") ≡ a → bytes_eq word (codes "-i") ≡ b → bytes_eq word (codes "-d") ≡ c → bytes_eq word (codes "-u") ≡ d
         → (a || (b || (c || d))) ≡ true → Flag word
-    first true b c d o i e u any = for_output (same word (codes "-o") o)
-    first false true c d o i e u any = for_path (same word (codes "-i") i)
-    first false false true d o i e u any = for_text (same word (codes "-d") e)
-    first false false false true o i e u any = for_none (same word (codes "-u") u)
+    first true b c d o i e u any = for_output (same_word word (codes "-o") o)
+    first false true c d o i e u any = for_path (same_word word (codes "-i") i)
+    first false false true d o i e u any = for_text (same_word word (codes "-d") e)
+    first false false false true o i e u any = for_none (same_word word (codes "-u") u)
     first false false false false o i e u any = absurd (cc any)
 
 is_flag : (word flag : List ℕ) → word ≡ flag → is_option flag ≡ true → is_option word ≡ true
 is_flag word flag eq is = ap is_option eq ∙ is
-
-head : (a b : List ℕ) (xs ys : List (List ℕ)) → a ∷ xs ≡ b ∷ ys → a ≡ b
-head a b xs ys is = cc is
-
-tail : (a b : List ℕ) (xs ys : List (List ℕ)) → a ∷ xs ≡ b ∷ ys → xs ≡ ys
-tail a b xs ys is = cc is
 
 -- the item at the front, where the first word is no file
 record Valued (first : List ℕ) (rest : List (List ℕ)) (one : Item) : Type 0 where
@@ -157,9 +149,6 @@ module _ (back : Next nowhere (codes "a") (record { shape = shapes.Word (record 
 
 -- Values of options.
 
-differ : (a b : List ℕ) → bytes_eq a b ≡ false → a ≡ b → ⊥
-differ a b is eq = let holds : bytes_eq a b ≡ true = (bytes_eq-Decides a b).1 eq in cc
-
 module _ (flag value : List ℕ) where
   pub define_there : flag ≡ codes "-d" → (def : Def) → Defines value def → IsDefinition flag value def
   define_there is def it = inl (is, it)
@@ -183,6 +172,3 @@ module _ (flag value : List ℕ) where
   no_item no_output no_path none (Define def) (f, v, is, it) option =
       none def (subst (λ (w : List ℕ). IsDefinition flag w def) (sym (head value v [] [] (tail flag f (value ∷ []) (v ∷ []) is)))
       (subst (λ (w : List ℕ). IsDefinition w v def) (sym (head flag f (value ∷ []) (v ∷ []) is)) it))
-
-pub same_word : (a b : List ℕ) → bytes_eq a b ≡ true → a ≡ b
-same_word a b is = same a b is

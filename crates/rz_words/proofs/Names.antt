@@ -10,15 +10,13 @@ use Rattle.rz_lex.specs.declared.token.Shape.TheVariants as shapes
 use Rattle.rz_lex.specs.declared.token.Token.{Token}
 use Rattle.rz_words.specs.Definition.{nowhere, IsName}
 use Rattle.rz_words.specs.Line.{is_one_word, is_word}
-
-same : (a b : List ℕ) → bytes_eq a b ≡ true → a ≡ b
-same a b is = (bytes_eq-Decides a b).0 is
+use Rattle.rz_words.proofs.Found.{same_word}
 
 alike : (a : List ℕ) → bytes_eq a a ≡ true
 alike a = (bytes_eq-Decides a a).1 refl
 
 word_of : (shape : Shape) (bytes : List ℕ) → is_word shape bytes ≡ true → shape ≡ shapes.Word (record { bytes = bytes })
-word_of (shapes.Word word) bytes is = λ i. shapes.Word (record { bytes = same word.bytes bytes is i })
+word_of (shapes.Word word) bytes is = λ i. shapes.Word (record { bytes = same_word word.bytes bytes is i })
 word_of (shapes.Number number) bytes is = cc
 word_of (shapes.Literal literal) bytes is = cc
 word_of (shapes.Text text) bytes is = cc

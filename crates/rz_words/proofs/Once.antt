@@ -18,7 +18,8 @@ use Rattle.rz_words.specs.Item.{asked, Answers}
 use Rattle.rz_words.specs.declared.command.Command.{Command}
 use Rattle.rz_words.specs.declared.read.UsageFault.{UsageFault}
 use Rattle.rz_words.proofs.Splits.{has_sign}
-use Rattle.rz_words.proofs.Words.{differ, head, same_front, shape_of, some, tail, Words}
+use Rattle.rz_words.proofs.Found.{differ}
+use Rattle.rz_words.proofs.Words.{head, same_front, shape_of, some, tail, Words}
 
 -- texts in Mac Roman and tokens are one
 module _ (one_text : (source text others : List ℕ) → IsTextOf source text → IsTextOf source others → text ≡ others)

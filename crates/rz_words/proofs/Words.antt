@@ -1,16 +1,12 @@
 -- Items one behind the other, and where they end.
-use Rattle.std.proofs.Common.{◌≡◌, ◌≢◌, ℕ, zero, suc, ◌+◌, ◌≤◌, true, false, inl, inr, List, [], ◌∷◌, ◌++◌, length, map, ◌==◌, take, drop, refl, sym, ap, subst, ◌∙◌, arith, append_assoc, append-nil, length-append}
+use Rattle.std.proofs.Common.{◌≡◌, ◌≢◌, ℕ, suc, ◌+◌, ◌≤◌, true, false, inl, inr, List, [], ◌∷◌, ◌++◌, length, map, ◌==◌, take, drop, refl, sym, ap, subst, ◌∙◌, arith, append_assoc, append-nil, length-append}
 use Rattle.std.specs.Prelude.{codes}
-use Rattle.std.specs.Str.{bytes_eq}
-use Rattle.std.proofs.lemmas.Slice.Eq.{bytes_eq-Decides}
 use Rattle.rz_words.specs.Command.{and_item, and_items, asked_of, is_file, nothing_asked, AreItems, Asked, Begins, Define, DeRez, Help, IsCommand, IsItem, IsMisplaced, Item, Output, Path, Rez, RezAsked, Source, Version}
 use Rattle.rz_words.specs.Item.{size_of, BeginsWith, IsRead, IsStuck}
+use Rattle.rz_words.proofs.Found.{differ}
 
 abbrev pub Words : Type 0
 Words = List (List ℕ)
-
-pub differ : (a b : List ℕ) → bytes_eq a b ≡ false → a ≡ b → ⊥
-differ a b is eq = let holds : bytes_eq a b ≡ true = (bytes_eq-Decides a b).1 eq in cc
 
 pub head : (a b : List ℕ) (xs ys : Words) → a ∷ xs ≡ b ∷ ys → a ≡ b
 head a b xs ys is = cc is
@@ -253,15 +249,6 @@ no_source words asked (items, are, asks) files = record {
 pub filled : {X : Type 0} (f : X → List ℕ) (xs : List X) → (length xs == 0) ≡ false → map f xs ≡ [] → ⊥
 filled f [] is none = cc is
 filled f (x ∷ xs) is none = cc none
-
-pub as_many : {X : Type 0} (f : X → List ℕ) (xs : List X) → length (map f xs) ≡ length xs
-as_many f [] = refl
-as_many f (x ∷ xs) = ap suc (as_many f xs)
-
-pub dropped : {X : Type 0} (f : X → List ℕ) (n : ℕ) (xs : List X) → drop n (map f xs) ≡ map f (drop n xs)
-dropped f zero xs = refl
-dropped f (suc n) [] = refl
-dropped f (suc n) (x ∷ xs) = dropped f n xs
 
 -- the rest isn't longer than the words
 pub no_longer : (words rest : Words) (asked : RezAsked) → Reading words rest asked → length rest ≤ length words

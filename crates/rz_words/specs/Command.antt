@@ -1,6 +1,5 @@
 -- The commands.
-use Rattle.std.specs.Prelude.{◌≡◌, ◌≢◌, ◌≤◌, ◌⊎◌, ℕ, suc, ◌==◌, ◌||◌, not, Bool, true, List, [], ◌∷◌, ◌++◌, length, take, codes, fold}
-use Rattle.std.specs.Str.{bytes_eq}
+use Rattle.std.specs.Prelude.{◌≡◌, ◌≢◌, ◌≤◌, ◌⊎◌, ℕ, suc, ◌==◌, not, Bool, true, List, [], ◌∷◌, ◌++◌, length, take, codes, fold}
 use Rattle.rz_pre.specs.declared.program.Def.{Def}
 use Rattle.rz_words.specs.Definition.{Defines, Undefines}
 
@@ -10,10 +9,6 @@ use Rattle.rz_words.specs.Definition.{Defines, Undefines}
 abbrev pub is_file : List ℕ → Bool
 is_file [] = true
 is_file (b ∷ bs) = not (b == 45)
-
--- a word behind which a value stands
-abbrev pub is_option : List ℕ → Bool
-is_option word = bytes_eq word (codes "-o") || (bytes_eq word (codes "-i") || (bytes_eq word (codes "-d") || bytes_eq word (codes "-u")))
 
 -- a source, the name of the file to write, a path for included files, or a definition
 pub data Item : Type 0 where

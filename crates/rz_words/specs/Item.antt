@@ -1,5 +1,6 @@
 -- Items and commands of the code, by the words' bytes.
-use Rattle.std.specs.Prelude.{◌≡◌, ◌≤◌, ℕ, suc, List, [], ◌++◌, take, length, Ok, Err}
+use Rattle.std.specs.Prelude.{◌||◌, Bool, codes, ◌≡◌, ◌≤◌, ℕ, suc, List, [], ◌++◌, take, length, Ok, Err}
+use Rattle.std.specs.Str.{bytes_eq}
 use Rattle.std.specs.declared.result.Result.{Result}
 use Rattle.rz_core.specs.declared.stop.Stop.{Stop}
 use Rattle.rz_core.specs.declared.stop.Stop.TheVariants.{Refused, NoMemory}
@@ -33,6 +34,10 @@ size_of (command.Source file) = 1
 size_of (command.Output name) = 2
 size_of (command.Path path) = 2
 size_of (command.Define def) = 2
+
+-- a word behind which a value stands
+abbrev pub is_option : List ℕ → Bool
+is_option word = bytes_eq word (codes "-o") || (bytes_eq word (codes "-i") || (bytes_eq word (codes "-d") || bytes_eq word (codes "-u")))
 
 -- the first words are this item
 abbrev pub BeginsWith : List (List ℕ) → command.Item → Type 0

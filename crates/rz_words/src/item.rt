@@ -1,9 +1,9 @@
 ghost use Rattle.std.specs.Prelude.{◌≡◌, ℕ, true, IfOk, [], ◌∷◌, map};
 ghost use Rattle.std.specs.String.{string_bytes};
 ghost use Rattle.rz_core.specs.Stop.{OnFault};
-ghost use Rattle.rz_words.specs.Command.{IsItem, is_file, is_option, IsDefinition, Item as item_of_words};
+ghost use Rattle.rz_words.specs.Command.{IsItem, is_file, IsDefinition, Item as item_of_words};
 ghost use Rattle.rz_words.specs.Definition.{Decided};
-ghost use Rattle.rz_words.specs.Item.{item, size_of, BeginsWith, IsStuck};
+ghost use Rattle.rz_words.specs.Item.{is_option, item, size_of, BeginsWith, IsStuck};
 
 use crate::definition::{define, undefine};
 use rz_core::{NoMemory, Stop};

@@ -1,8 +1,8 @@
 use Rattle.std.proofs.Common.{sym}
 use Rattle.rz_words.specs.Command.{IsDefinition}
 use Rattle.rz_words.specs.Definition.{Defines, Undefines}
-use Rattle.rz_words.proofs.Found.{decided_all}
-use Rattle.rz_words.proofs.Items.{define_back, define_there, same_word, undefine_back, undefine_there}
+use Rattle.rz_words.proofs.Found.{decided_all, same_word}
+use Rattle.rz_words.proofs.Items.{define_back, define_there, undefine_back, undefine_there}
 use Rattle.rz_words.proofs.item.read_definition.Goals as goal
 
 pub returns-then-eq : goal.returns-then-eq

@@ -5,9 +5,9 @@ use Rattle.std.proofs.lemmas.Result.{IfOk-weaker}
 use Rattle.std.proofs.lemmas.List.{nil_from_length}
 use Rattle.rz_core.specs.Stop.{fault_so}
 use Rattle.rz_words.specs.Command as command
-use Rattle.rz_words.specs.Command.{is_option, IsItem}
+use Rattle.rz_words.specs.Command.{IsItem}
 use Rattle.rz_words.specs.Definition.{nowhere}
-use Rattle.rz_words.specs.Item.{item, IsStuck}
+use Rattle.rz_words.specs.Item.{is_option, item, IsStuck}
 use Rattle.rz_words.proofs.Items.{stuck_missing, stuck_unknown, stuck_value}
 use Rattle.rz_words.proofs.item.read_item.Goals as goal
 

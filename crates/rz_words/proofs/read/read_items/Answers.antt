@@ -1,9 +1,10 @@
 use Rattle.std.proofs.Common.{◌≡◌, List, ℕ, map, ◌∷◌, drop, sym, ap, subst, ◌∙◌, arith}
 use Rattle.std.specs.String.{string_bytes}
+use Rattle.std.proofs.lemmas.List.{drop-map, length-map}
 use Rattle.rz_words.specs.Item.{item, rez, size_of, BeginsWith, IsStuck}
 use Rattle.rz_words.proofs.Alone.{more}
 use Rattle.rz_words.proofs.Found.{fault_of, on_stop}
-use Rattle.rz_words.proofs.Words.{as_many, dropped, no_longer, none_read, one_read, stuck_at, Reading}
+use Rattle.rz_words.proofs.Words.{no_longer, none_read, one_read, stuck_at, Reading}
 use Rattle.rz_words.proofs.read.read_items.Goals as goal
 
 pub loop-first-init : goal.loop-first-init
@@ -16,7 +17,7 @@ loop-first-preserved c =
     let read = one_read (map string_bytes c.args.words.now) (map string_bytes c.loop-first.rest.now) (rez c.loop-first.asked) (rez c.add.new.self) (item c.in-Ok.item)
     c.loop-first.invariant (subst (λ (ws : List (List ℕ)). BeginsWith ws (item c.in-Ok.item)) (sym are) c.in-Ok.ensures.item) c.in_ok-add-in-Ok.ensures in
     subst (λ (ws : List (List ℕ)). Reading (map string_bytes c.args.words.now) ws (rez c.add.new.self))
-    (dropped string_bytes (size_of (item c.in-Ok.item)) c.loop-first.rest.now
+    (drop-map string_bytes (size_of (item c.in-Ok.item)) c.loop-first.rest.now
     ∙ ap (λ n. map string_bytes (drop n c.loop-first.rest.now)) (sym c.size-size.ensures) ∙ ap (λ ws. map string_bytes ws) (sym c.split_at.ensures.back)) read
 
 pub returns-in-Err-Refused-clause-misplaced : goal.returns-in-Err-Refused-clause-misplaced
@@ -30,7 +31,7 @@ returns-in-Err-Refused-clause-misplaced c =
     (omega (
       arith,
       ap (λ m. m.fitting) c.in-Err-Refused.misfit-is,
-      as_many string_bytes c.args.words.now,
-      as_many string_bytes c.loop-first.rest.now,
+      length-map c.args.words.now string_bytes,
+      length-map c.loop-first.rest.now string_bytes,
       no_longer (map string_bytes c.args.words.now) (map string_bytes c.loop-first.rest.now) (rez c.loop-first.asked) c.loop-first.invariant,
     ))
