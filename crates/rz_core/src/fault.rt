@@ -20,7 +20,7 @@ pub enum Kept {
     Pair(i64, i64),
     /// Which check failed, the stored number and the computed one.
     Check(u8, u16, u16),
-    /// A name: of a file in UTF-8, of a word in Mac Roman.
+    /// A name: of a file that the words name in UTF-8, any other in Mac Roman.
     Name(Bytes),
     /// The type and the id of a resource.
     Key(OsType, i32),

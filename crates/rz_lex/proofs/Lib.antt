@@ -1,5 +1,3 @@
-pub mod Texts
-pub mod Runs
 pub mod Fronts
 pub mod Takes
 pub mod OneLine

@@ -1,13 +1,10 @@
-//! Text as the tools read it: the logical lines of a source, the tokens of a line, and so far sources of
-//! early statements, `data` statements with hexadecimal texts alone.
+//! Text as the tools read it: the logical lines of a source, and the tokens of a line.
 #![tactic(auto)]
 
 mod classes;
 mod cover;
 mod cutting;
 mod digits;
-mod early;
-mod early_statement;
 mod escape;
 mod extent;
 mod hex;
@@ -22,7 +19,6 @@ mod token;
 
 pub use cover::one_cover;
 pub use cutting::cut;
-pub use early::read_early;
 pub use joined::{Placed, Position};
 pub use laws::{cut_back, one_cut};
 pub use lexed::{lex, one_lex};

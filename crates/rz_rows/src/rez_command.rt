@@ -33,6 +33,12 @@ fn sources_that_mean_the_example(rt: HostRuntime) -> Result<(), Fail> {
         "\n\n data \n 'Test' \n ( \n 128 \n ) \n { \n $\"01\" \n $\"02\" \n } \n ; \n ",
         "data 'Test' (128) { $\" 0 1 0 2 \" };",
         "data 'Test' (128) { $\"\" $\"0102\" $\"\" };",
+        "data 'Test' (128) { \"\\0x01\" \"\\0B00000010\"; };",
+        "DATA 'Test' ($80) { $\"0102\" };",
+        "Data\t'T\\0x65st' (0b10000000) { $\"01\" \"\\0x02\" };\r\n",
+        "// a comment\ndata /* and\none */ 'Test' (0x80) { $\"0102\" };\r// the last",
+        "#define kind 'Test'\n#define statement data kind (128)\nstatement { $\"0102\" };",
+        "#if rez\ndata 'Test' (128) { $\"0102\" };\n#else\nnothing\n#endif",
     ];
     for source in sources {
         let mut desk = Desk::new(rt.alloc())?;
@@ -78,38 +84,43 @@ fn resources_stand_by_type_in_the_order_of_their_types(rt: HostRuntime) -> Resul
 }
 
 #[test]
-fn other_sources_are_refused_on_the_line_of_what_may_not_stand(
-    rt: HostRuntime,
-) -> Result<(), Fail> {
+fn first_fault_is_named_with_its_line(rt: HostRuntime) -> Result<(), Fail> {
     let sources = [
-        ("data 'Test' (128) { $\"0102\" };\ntype;", 2),
-        ("x", 1),
-        ("\n \n\n x", 4),
-        ("data 'Test' (128) { $\"01\" }", 1),
-        ("data 'Test' (128) { $\"012\" };", 1),
-        ("data 'Test' (128) { $\"0g\" };", 1),
-        ("data 'Test' (128) { $ \"01\" };", 1),
-        ("data 'Test' (128) { $\"0\n1\" };", 1),
-        ("data 'Test' (128) { \"ab\" };", 1),
-        ("data 'Test' (0128) { };", 1),
-        ("data 'Test' (32768) { };", 1),
-        ("data 'Test' (-1) { };", 1),
-        ("data 'Test' () { };", 1),
-        ("data 'Tes' (1) { };", 1),
-        ("data 'Te\\t' (1) { };", 1),
-        ("data 'Te't' (1) { };", 1),
-        ("data 'T\u{e9}st' (1) { };", 1),
-        ("Data 'Test' (1) { };", 1),
-        ("data\t'Test' (1) { };", 1),
-        ("data 'Test' (1) { };\r\n", 1),
-        ("data 'Test' (1) { };\n\ndata 'Test' (2) { } data", 3),
-        ("data 'Test' (1) { };\n// comment", 2),
+        (
+            "data 'Test' (128) { $\"0102\" };\ntype;",
+            "2: error 201 Syntax",
+        ),
+        ("x", "1: error 201 Syntax"),
+        ("\n \n\n x", "4: error 201 Syntax"),
+        ("data 'Test' (128) { $\"01\" }", "1: error 201 Syntax"),
+        ("data 'Test' (-1) { };", "1: error 201 Syntax"),
+        ("data 'Test' () { };", "1: error 201 Syntax"),
+        ("data 'Tes' (1) { };", "1: error 201 Syntax"),
+        ("data 'Test' (1) { ;; };", "1: error 201 Syntax"),
+        (
+            "data 'Test' (1) { };\n\ndata\n'Test' (2) { } data",
+            "3: error 201 Syntax",
+        ),
+        ("data 'Test' (32768) { };", "1: error 204 BadId: 32768"),
+        (
+            "\ndata 'Test'\n(4294967295) { };",
+            "2: error 204 BadId: 4294967295",
+        ),
+        ("data 'Test' (32768) { 1 };", "1: error 201 Syntax"),
+        ("data 'Test' (32768) { };\nx;", "1: error 204 BadId: 32768"),
+        ("x;\ndata 'Test' (32768) { };", "1: error 201 Syntax"),
+        ("data 'Test' (1) { $\"012\" };", "1: error 113 BadHex"),
+        ("data 'Test' (1) { $\"0g\" };", "1: error 113 BadHex"),
+        ("x;\n\"ab", "2: error 108 OpenString"),
+        ("#if 1\nx;", "1: error 105 OpenIf"),
+        ("#include \"no.r\"", "1: error 101 MissingFile: \"no.r\""),
+        ("x;\n#if 1/0", "2: error 114 BadCondition"),
     ];
-    for (source, line) in sources {
+    for (source, fault) in sources {
         let mut desk = Desk::new(rt.alloc())?;
         desk.insert("one.r", source.as_bytes())?;
         let outcome = desk.run(&["rez", "one.r", "-o", "one.rsrc"])?;
-        let wanted = format!(in rt.alloc(); "rezkit: one.r:{line}: error 201 Syntax\n")?;
+        let wanted = format!(in rt.alloc(); "rezkit: one.r:{fault}\n")?;
         assert_eq!(rt; outcome.status(), 2, "{source}");
         assert_eq!(rt; desk.err.bytes(), wanted.as_bytes(), "{source}");
         assert!(rt; desk.folder.bytes("one.rsrc").is_none(), "{source}");
@@ -118,42 +129,98 @@ fn other_sources_are_refused_on_the_line_of_what_may_not_stand(
 }
 
 #[test]
-fn source_may_have_32768_bytes(rt: HostRuntime) -> Result<(), Fail> {
-    for (blanks, status) in [(32_738usize, 0), (32_739, 2)] {
+fn files_of_a_program_are_named_by_the_name_that_was_opened(rt: HostRuntime) -> Result<(), Fail> {
+    let mut desk = Desk::new(rt.alloc())?;
+    desk.insert("one.r", ONE)?;
+    desk.insert("two.r", b"#include \"in.r\"\n")?;
+    desk.insert("dir/in.r", b"\n\ntype;\n")?;
+    let outcome = desk.run(&["rez", "one.r", "-i", "no", "two.r", "-i", "dir"])?;
+    assert_eq!(rt; outcome.status(), 2);
+    assert_eq!(rt;
+        desk.err.bytes(),
+        b"rezkit: dir/in.r:3: error 201 Syntax\n".as_slice()
+    );
+    assert!(rt; desk.folder.bytes("Rez.Out").is_none());
+    Ok(())
+}
+
+#[test]
+fn options_choose_what_is_compiled(rt: HostRuntime) -> Result<(), Fail> {
+    let choice = b"#if A\ndata 'Test' (128) { $\"0102\" };\n#else\ndata 5\n#endif";
+    let commands: [(&[&str], u8); 8] = [
+        (&["rez", "-d", "A=1", "one.r"], 0),
+        (&["rez", "one.r"], 2),
+        (&["rez", "one.r", "-d", "A"], 2),
+        (&["rez", "-d", "A=0", "one.r", "-d", "a=2"], 0),
+        (&["rez", "-d", "A=1", "one.r", "-u", "A"], 2),
+        (&["rez", "-u", "A", "one.r", "-d", "A=1"], 0),
+        (&["rez", "one.r", "-d", "A=B", "-d", "B=1"], 0),
+        (&["rez", "one.r", "-d", "A=!derez"], 0),
+    ];
+    for (words, status) in commands {
         let mut desk = Desk::new(rt.alloc())?;
-        let mut source = ONE.to_vec(rt.alloc())?;
-        source.resize(ONE.len() + blanks, b'\n')?;
-        desk.insert("one.r", &source)?;
-        let outcome = desk.run(&["rez", "one.r", "-o", "one.rsrc"])?;
-        assert_eq!(rt; outcome.status(), status);
-        assert_eq!(rt; desk.folder.bytes("one.rsrc").is_some(), status == 0);
-        if status == 2 {
-            assert_eq!(rt;
-                desk.err.bytes(),
-                b"rezkit: one.r:1: error 201 Syntax\n".as_slice()
-            );
+        desk.insert("one.r", choice)?;
+        assert_eq!(rt; desk.run(words)?.status(), status);
+        if status == 0 {
+            assert!(rt; desk.folder.bytes("Rez.Out").is_some_and(is_one));
+        } else {
+            assert!(rt; desk.folder.bytes("Rez.Out").is_none());
         }
     }
     Ok(())
 }
 
 #[test]
+fn sources_are_one_program(rt: HostRuntime) -> Result<(), Fail> {
+    let mut desk = Desk::new(rt.alloc())?;
+    desk.insert("a.r", b"#define body { $\"0102\" }\ndata 'Test' (128")?;
+    desk.insert("b.r", b") body;")?;
+    assert_eq!(rt;
+        desk.run(&["rez", "a.r", "b.r", "-o", "x", "-o", "y"])?
+            .status(),
+        0
+    );
+    assert!(rt; desk.folder.bytes("y").is_some_and(is_one));
+    assert!(rt; desk.folder.bytes("x").is_none());
+    assert_eq!(rt; desk.run(&["rez", "b.r", "a.r"])?.status(), 2);
+    assert_eq!(rt;
+        desk.err.bytes(),
+        b"rezkit: b.r:1: error 201 Syntax\n".as_slice()
+    );
+    Ok(())
+}
+
+#[test]
+fn words_of_tools_are_numbers(rt: HostRuntime) -> Result<(), Fail> {
+    let mut desk = Desk::new(rt.alloc())?;
+    desk.insert(
+        "n.r",
+        b"data 'Test' (REZ) { \"rez\" }; data 'Test' (derez) { };",
+    )?;
+    assert_eq!(rt; desk.run(&["rez", "n.r", "-o", "n"])?.status(), 0);
+    assert_eq!(rt; desk.run(&["derez", "n"])?.status(), 0);
+    assert_eq!(rt;
+        desk.out.bytes(),
+        b"data 'Test' (1) {\n    $\"7265 7A\"\n};\n\ndata 'Test' (0) {\n    $\"\"\n};\n\n".as_slice()
+    );
+    Ok(())
+}
+
+#[test]
 fn words_that_are_no_command(rt: HostRuntime) -> Result<(), Fail> {
-    let lists: [(&[&str], u64); 14] = [
+    let lists: [(&[&str], u64); 12] = [
         (&[], 1),
         (&["DeRez", "f"], 1),
-        (&["Rez", "one.r", "-o", "x"], 1),
         (&["-o", "x", "rez", "one.r"], 1),
         (&["rez"], 2),
-        (&["rez", "-o", "x"], 2),
-        (&["rez", "-o", "x", "one.r"], 2),
-        (&["rez", "one.r"], 3),
-        (&["rez", "one.r", "two.r", "-o", "x"], 3),
+        (&["rez", "-o", "x"], 4),
         (&["rez", "one.r", "-O", "x"], 3),
         (&["rez", "one.r", "-ox"], 3),
         (&["rez", "one.r", "-o"], 4),
-        (&["rez", "one.r", "-o", "x", "y"], 5),
-        (&["rez", "one.r", "-o", "-o", "-o"], 5),
+        (&["rez", "one.r", "-o", "x", "-d", "type"], 6),
+        (&["derez", "f", "-p"], 3),
+        (&["--help", "rez"], 2),
+        (&["--version", "--version"], 2),
     ];
     for (words, position) in lists {
         let mut desk = Desk::new(rt.alloc())?;
@@ -164,6 +231,23 @@ fn words_that_are_no_command(rt: HostRuntime) -> Result<(), Fail> {
         assert_eq!(rt; desk.err.bytes(), wanted.as_bytes());
         assert!(rt; desk.folder.bytes("x").is_none() && desk.out.bytes().is_empty());
     }
+    Ok(())
+}
+
+#[test]
+fn help_and_version_are_written_to_the_output(rt: HostRuntime) -> Result<(), Fail> {
+    let mut desk = Desk::new(rt.alloc())?;
+    assert_eq!(rt; desk.run(&["--version"])?.status(), 0);
+    assert_eq!(rt; desk.out.bytes(), b"rezkit 0.1.0\n".as_slice());
+    let mut desk = Desk::new(rt.alloc())?;
+    assert_eq!(rt; desk.run(&["--help"])?.status(), 0);
+    let help = desk.out.bytes();
+    assert!(rt; help.starts_with(b"usage: rezkit rez FILE... [-o NAME] [-i PATH]..."));
+    assert!(rt; help.ends_with(b"or written, 4 no memory, 5 the host gives no words\n"));
+    assert!(rt; desk.err.bytes().is_empty());
+    desk.out.fail_at(2, 6);
+    assert_eq!(rt; desk.run(&["--version"])?.status(), 3);
+    assert!(rt; desk.out.bytes().ends_with(b"no words\nrezkit"));
     Ok(())
 }
 
@@ -202,11 +286,13 @@ fn missing_source_is_named(rt: HostRuntime) -> Result<(), Fail> {
 fn failed_read_and_failed_write_end_the_run(rt: HostRuntime) -> Result<(), Fail> {
     let calls = [
         (1, b"rezkit: read fault\n".as_slice()),
-        (2, b"rezkit: write fault\n".as_slice()),
+        (2, b"rezkit: read fault\n".as_slice()),
+        (3, b"rezkit: write fault\n".as_slice()),
     ];
     for (call, line) in calls {
         let mut desk = Desk::new(rt.alloc())?;
-        desk.insert("one.r", ONE)?;
+        desk.insert("one.r", b"#include \"in.r\"")?;
+        desk.insert("in.r", ONE)?;
         desk.folder.fail_at(call);
         let outcome = desk.run(&["rez", "one.r", "-o", "x"])?;
         assert_eq!(rt; outcome.status(), 3);

@@ -1,6 +1,4 @@
-use crate::desk::ONE;
-use rz_core::{Attr, Bytes, Facts, Moment, OsType};
-use rz_lex::read_early;
+use rz_core::{Attr, Bytes, Facts, Moment, OsType, Resource};
 use rz_show::{show_bytes, show_resource};
 use std::test::Fail;
 
@@ -39,16 +37,18 @@ fn long_names_and_odd_types_are_shown(rt: HostRuntime) -> Result<(), Fail> {
 }
 
 #[test]
-fn resource_that_was_read_is_shown(rt: HostRuntime) -> Result<(), Fail> {
+fn resource_is_shown_behind_another_text(rt: HostRuntime) -> Result<(), Fail> {
     let alloc = rt.alloc();
-    let Ok(resources) = read_early(alloc, ONE, 0) else {
-        return Err(Fail::from("refused"));
+    let resource = Resource {
+        kind: OsType { code: 0x5465_7374 },
+        id: 128,
+        name: Bytes::new(alloc),
+        attr: Attr::of(0),
+        bytes: Bytes::of(alloc, b"\x01\x02")?,
     };
-    let mut text = Bytes::new(alloc);
-    for resource in resources.as_slice() {
-        show_resource(resource, &mut text)?;
-    }
-    let wanted = b"data 'Test' (128) {\n    $\"0102\"\n};\n\n";
+    let mut text = Bytes::of(alloc, b"first\n")?;
+    show_resource(&resource, &mut text)?;
+    let wanted = b"first\ndata 'Test' (128) {\n    $\"0102\"\n};\n\n";
     assert_eq!(rt; text.as_slice(), wanted.as_slice());
     Ok(())
 }

@@ -4,7 +4,5 @@
 
 mod data;
 mod head;
-mod reads_again;
 
 pub use data::{show_bytes, show_resource};
-pub use reads_again::shown_list_reads_again;

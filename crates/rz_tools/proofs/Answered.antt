@@ -1,89 +1,216 @@
--- The line that is said is the answer's.
-use Rattle.std.proofs.Common.{◌≡◌, ℕ, List, [], ◌∷◌, Some, None, Ok, Err, IfSome, refl, sym, ap, subst, inl, inr, ◌∙◌}
+-- What a command does is what a run does, and what is said is the answer's line.
+use Rattle.std.proofs.Common.{◌≡◌, ◌⊎◌, inl, inr, ℕ, List, [], Some, None, refl, sym, ap, subst, ◌∙◌}
+use Rattle.std.specs.Prelude.{IfSome}
 use Rattle.std.specs.declared.option.Option.{Option}
-use Rattle.std.specs.declared.result.Result.{Result}
-use Rattle.std.specs.FinMap as map
-use Rattle.rz_core.specs.declared.fault.Fault.{Fault}
 use Rattle.rz_core.specs.declared.moment.Moment.{Moment}
 use Rattle.rz_folder.specs.Folder.{Files}
-use Rattle.rz_tools.specs.Answer.{Answer}
-use Rattle.rz_tools.specs.Command.{Rez, DeRez, command_of}
-use Rattle.rz_tools.specs.DeRez.{derez_answer, derez_fork_answer, derez_text_answer, fork_text}
+use Rattle.rz_words.specs.Command.{Asked, IsCommand, IsMisplaced}
+use Rattle.rz_tools.specs.Answer.{Answer, ended}
 use Rattle.rz_tools.specs.Message.{message}
-use Rattle.rz_tools.specs.Rez.{rez_answer, rez_fork_answer, rez_source_answer, source_fork}
-use Rattle.rz_tools.specs.Program.{answer, answer_to, EndsAs, StaysSo, Says, SaysAnswer}
+use Rattle.rz_tools.specs.Program.{Answers, AnswersTo, command, misplaced, Completes, Follows, HasLine, IsAnswered, Keeps, OnUsage, Runs, Says, SaysAnswer, StaysSo}
+use Rattle.rz_tools.proofs.OneAnswer.{OneCommand, OnePosition}
+use Rattle.rz_words.specs.declared.read.UsageFault.{UsageFault}
+use Rattle.rz_core.specs.declared.fault.Fault.{Fault}
+use Rattle.rz_tools.proofs.Commands.{completes_late, plain, refuses_late, same_output}
+use Rattle.rz_tools.specs.declared.outcome.Ended.{Ended}
 use Rattle.rz_tools.specs.declared.outcome.Outcome.{Outcome}
 use Rattle.rz_tools.specs.declared.outcome.Outcome.TheVariants.{Done, Usage, Refused, ReadFault, WriteFault, NoMemory}
 
--- the outcome is the answer's still where there was no memory for its line
-ends : (wanted : Answer) (outcome result : Outcome) → EndsAs wanted outcome → StaysSo outcome result → EndsAs wanted result
-ends wanted Done result is so = subst (EndsAs wanted) (sym so) is
-ends wanted (Usage fault) result is (inl so) = subst (EndsAs wanted) (sym so) is
-ends wanted (Usage fault) result is (inr so) = subst (EndsAs wanted) (sym so) tt
-ends wanted (Refused fault) result is (inl so) = subst (EndsAs wanted) (sym so) is
-ends wanted (Refused fault) result is (inr so) = subst (EndsAs wanted) (sym so) tt
-ends wanted ReadFault result is so = subst (EndsAs wanted) (sym so) is
-ends wanted WriteFault result is so = subst (EndsAs wanted) (sym so) is
-ends wanted NoMemory result is so = subst (EndsAs wanted) (sym so) is
+-- A weaker cause.
 
-module _ (wanted : Answer) (named : List (List ℕ)) (line : wanted.err ≡ message named wanted.outcome)
-    (before after : Option (List ℕ)) (faults_before faults_after : ℕ) where
-  says : (result : Outcome) → EndsAs wanted result → Says (message named result) before after faults_before faults_after
-      → SaysAnswer wanted result before after faults_before faults_after
-  says Done is said = subst (λ text. Says text before after faults_before faults_after) (sym (line ∙ ap (message named) is)) said
-  says (Usage fault) is said = subst (λ text. Says text before after faults_before faults_after) (sym (line ∙ ap (message named) is)) said
-  says (Refused fault) is said = subst (λ text. Says text before after faults_before faults_after) (sym (line ∙ ap (message named) is)) said
-  says ReadFault is said = tt
-  says WriteFault is said = tt
-  says NoMemory is said = tt
+completes_wider : (wanted result : Outcome) (failed wider : Type 0) → (failed → wider) → Completes wanted result failed → Completes wanted result wider
+completes_wider Done result failed wider so (inl is) = inl is
+completes_wider Done result failed wider so (inr (inl is)) = inr (inl is)
+completes_wider Done result failed wider so (inr (inr is)) = inr (inr (so is))
+completes_wider (Usage fault) result failed wider so is = tt
+completes_wider (Refused fault) result failed wider so is = tt
+completes_wider ReadFault result failed wider so is = tt
+completes_wider WriteFault result failed wider so is = tt
+completes_wider NoMemory result failed wider so is = tt
 
-rez_fork_line : (file output : List ℕ) (files : Files) (fork : Result (List ℕ) Fault)
-    → (rez_fork_answer file output files fork).err ≡ message (file ∷ []) (rez_fork_answer file output files fork).outcome
-rez_fork_line file output files (Ok fork) = refl
-rez_fork_line file output files (Err fault) = refl
+one_more : (read_failed write_failed wider : Type 0) → (write_failed → wider) → read_failed ⊎ write_failed → read_failed ⊎ wider
+one_more read_failed write_failed wider so (inl is) = inl is
+one_more read_failed write_failed wider so (inr is) = inr (so is)
 
-rez_line : (file output : List ℕ) (files : Files) (source : Option (List ℕ))
-    → (rez_source_answer file output files source).err ≡ message (file ∷ []) (rez_source_answer file output files source).outcome
-rez_line file output files None = refl
-rez_line file output files (Some source) = rez_fork_line file output files (source_fork source)
+-- The words' answers are those to their command.
 
-derez_text_line : (file : List ℕ) (files : Files) (text : Result (List ℕ) Fault)
-    → (derez_text_answer file files text).err ≡ message (file ∷ []) (derez_text_answer file files text).outcome
-derez_text_line file files (Ok text) = refl
-derez_text_line file files (Err fault) = refl
+module _ (words : List (List ℕ)) (moment : Moment) (commands : OneCommand) (before after : Option Files) (out_before out_after : Option (List ℕ))
+    (read_failed write_failed wider : Type 0) (so : write_failed → wider) where
+  of_asked : (asked : Asked) → IsCommand words asked → (files : Files) (wanted : Answer) → Answers words files moment wanted → AnswersTo asked files moment wanted
+  of_asked asked is files wanted (command others also to) = subst (λ (x : Asked). AnswersTo x files moment wanted) (commands words others asked also is) to
+  of_asked asked is files wanted (misplaced position also says) = absurd (also.none asked is)
 
-derez_line : (file : List ℕ) (files : Files) (bytes : Option (List ℕ))
-    → (derez_fork_answer file files bytes).err ≡ message (file ∷ []) (derez_fork_answer file files bytes).outcome
-derez_line file files None = refl
-derez_line file files (Some bytes) = derez_text_line file files (fork_text bytes)
+  any_answered : (asked : Asked) → IsCommand words asked → (files : Files) (result : Outcome)
+      → IsAnswered (AnswersTo asked files moment) result → IsAnswered (λ answer. Answers words files moment answer) result
+  any_answered asked is files Done there = (there.0, command asked is there.1)
+  any_answered asked is files (Usage fault) there = (there.0, command asked is there.1)
+  any_answered asked is files (Refused fault) there = (there.0, command asked is there.1)
+  any_answered asked is files ReadFault there = tt
+  any_answered asked is files WriteFault there = (there.0, command asked is there.1)
+  any_answered asked is files NoMemory there = tt
 
-module _ (files : Option Files) (words named : List (List ℕ)) (moment : Moment) (outcome result : Outcome)
-    (before after : Option (List ℕ)) (faults_before faults_after : ℕ) (so : StaysSo outcome result)
-    (said : Says (message named result) before after faults_before faults_after) where
-  pub rez_answered : (file output : List ℕ) → command_of words ≡ Ok (Rez file output) → named ≡ file ∷ []
-      → IfSome files (λ files. EndsAs (rez_answer file output files) outcome)
-      → IfSome files (λ files. SaysAnswer (answer words files moment) result before after faults_before faults_after)
-  rez_answered file output is name ending = by files ending
+  pub as_command : (asked : Asked) (result : Ended) → IsCommand words asked
+      → Runs (λ files. AnswersTo asked files moment) result before after out_before out_after read_failed write_failed
+      → Runs (λ files. Answers words files moment) result before after out_before out_after read_failed wider
+  as_command asked result is runs = record {
+    follows = follows before runs.follows;
+    lines = lines before runs.lines;
+    answered = answered before runs.answered;
+    nameable = runs.nameable;
+    read_fault = runs.read_fault;
+    write_fault = λ ends. so (runs.write_fault ends);
+    kept_files = runs.kept_files;
+    kept_output = runs.kept_output;
+  }
     where
-      by : (files : Option Files) → IfSome files (λ files. EndsAs (rez_answer file output files) outcome)
-          → IfSome files (λ files. SaysAnswer (answer words files moment) result before after faults_before faults_after)
-      by None ending = tt
-      by (Some files) ending =
-          subst (λ asked. SaysAnswer (answer_to asked files moment) result before after faults_before faults_after) (sym is)
-          (says (rez_answer file output files) (file ∷ []) (rez_line file output files (map.get files file)) before after faults_before faults_after result
-          (ends (rez_answer file output files) outcome result ending so)
-          (subst (λ names. Says (message names result) before after faults_before faults_after) name said))
+      follows : (before : Option Files)
+          → IfSome before (λ files. (wanted : Answer) → AnswersTo asked files moment wanted → Follows wanted result.outcome files after out_before out_after read_failed write_failed)
+          → IfSome before (λ files. (wanted : Answer) → Answers words files moment wanted → Follows wanted result.outcome files after out_before out_after read_failed wider)
+      follows None own = tt
+      follows (Some files) own = λ wanted meets.
+          let one = own wanted (of_asked asked is files wanted meets) in record {
+            outcome = one.outcome;
+            files = one.files;
+            output = one.output;
+            refused = one.refused;
+            complete = completes_wider wanted.outcome result.outcome (read_failed ⊎ write_failed) (read_failed ⊎ wider) (one_more read_failed write_failed wider so) one.complete;
+          }
 
-  pub derez_answered : (file : List ℕ) → command_of words ≡ Ok (DeRez file) → named ≡ file ∷ []
-      → IfSome files (λ files. EndsAs (derez_answer file files) outcome)
-      → IfSome files (λ files. SaysAnswer (answer words files moment) result before after faults_before faults_after)
-  derez_answered file is name ending = by files ending
+      lines : (before : Option Files)
+          → IfSome before (λ files. (wanted : Answer) → AnswersTo asked files moment wanted → HasLine wanted result.files result.outcome)
+          → IfSome before (λ files. (wanted : Answer) → Answers words files moment wanted → HasLine wanted result.files result.outcome)
+      lines None own = tt
+      lines (Some files) own = λ wanted meets. own wanted (of_asked asked is files wanted meets)
+
+      answered : (before : Option Files) → IfSome before (λ files. IsAnswered (AnswersTo asked files moment) result.outcome)
+          → IfSome before (λ files. IsAnswered (Answers words files moment) result.outcome)
+      answered None own = tt
+      answered (Some files) own = any_answered asked is files result.outcome own
+
+-- Words that are no command.
+
+module _ (words : List (List ℕ)) (moment : Moment) (before : Option Files) (out : Option (List ℕ)) (read_failed write_failed : Type 0) where
+  the_position : OnePosition → (position : ℕ) → IsMisplaced words position → (files : Files) (wanted : Answer) → Answers words files moment wanted
+      → ended [] (Usage (record { position = position })) files ≡ wanted
+  the_position positions position is files wanted (command asked also to) = absurd (is.none asked also)
+  the_position positions position is files wanted (misplaced another also says) =
+      ap (λ n. ended [] (Usage (record { position = n })) files) (positions words position another is also) ∙ sym says
+
+  pub as_usage : OnePosition → (position : ℕ) → IsMisplaced words position
+      → Runs (λ files. Answers words files moment) (plain (Usage (record { position = position }))) before before out out read_failed write_failed
+  as_usage positions position is = record {
+    follows = follows before;
+    lines = lines before;
+    answered = answered before;
+    nameable = tt;
+    read_fault = λ ends. cc;
+    write_fault = λ ends. cc;
+    kept_files = refl;
+    kept_output = refl;
+  }
     where
-      by : (files : Option Files) → IfSome files (λ files. EndsAs (derez_answer file files) outcome)
-          → IfSome files (λ files. SaysAnswer (answer words files moment) result before after faults_before faults_after)
-      by None ending = tt
-      by (Some files) ending =
-          subst (λ asked. SaysAnswer (answer_to asked files moment) result before after faults_before faults_after) (sym is)
-          (says (derez_answer file files) (file ∷ []) (derez_line file files (map.get files file)) before after faults_before faults_after result
-          (ends (derez_answer file files) outcome result ending so)
-          (subst (λ names. Says (message names result) before after faults_before faults_after) name said))
+      follows : (b : Option Files)
+          → IfSome b (λ files. (wanted : Answer) → Answers words files moment wanted → Follows wanted (Usage (record { position = position })) files b out out read_failed write_failed)
+      follows None = tt
+      follows (Some files) = λ wanted meets.
+          subst (λ answer. Follows answer (Usage (record { position = position })) files (Some files) out out read_failed write_failed) (the_position positions position is files wanted meets)
+          (record { outcome = refl; files = refl; output = same_output out; refused = tt; complete = tt })
+
+      lines : (b : Option Files) → IfSome b (λ files. (wanted : Answer) → Answers words files moment wanted → HasLine wanted [] (Usage (record { position = position })))
+      lines None = tt
+      lines (Some files) = λ wanted meets. subst (λ answer. HasLine answer [] (Usage (record { position = position }))) (the_position positions position is files wanted meets) refl
+
+      answered : (b : Option Files) → IfSome b (λ files. IsAnswered (Answers words files moment) (Usage (record { position = position })))
+      answered None = tt
+      answered (Some files) = (ended [] (Usage (record { position = position })) files, misplaced position is refl)
+
+-- Where there was no memory for the line of Usage or Refused, all but the outcome is as it was.
+
+by_stay : (P : Outcome → Type 0) (outcome result : Outcome) → StaysSo outcome result → P outcome
+    → ((fault : UsageFault) → outcome ≡ Usage fault → P NoMemory) → ((fault : Fault) → outcome ≡ Refused fault → P NoMemory) → P result
+by_stay P Done result so own usage refused = subst P (sym so) own
+by_stay P (Usage fault) result (inl so) own usage refused = subst P (sym so) own
+by_stay P (Usage fault) result (inr so) own usage refused = subst P (sym so) (usage fault refl)
+by_stay P (Refused fault) result (inl so) own usage refused = subst P (sym so) own
+by_stay P (Refused fault) result (inr so) own usage refused = subst P (sym so) (refused fault refl)
+by_stay P ReadFault result so own usage refused = subst P (sym so) own
+by_stay P WriteFault result so own usage refused = subst P (sym so) own
+by_stay P NoMemory result so own usage refused = subst P (sym so) own
+
+module _ (Meets : Files → Answer → Type 0) (ended : Ended) (result : Outcome) (before after : Option Files) (out_before out_after : Option (List ℕ))
+    (read_failed write_failed : Type 0) (runs : Runs Meets ended before after out_before out_after read_failed write_failed)
+    (so : StaysSo ended.outcome result) where
+  pub kept_files : Keeps result before after
+  kept_files = by_stay (λ r. Keeps r before after) ended.outcome result so runs.kept_files
+      (λ fault is. subst (λ r. Keeps r before after) is runs.kept_files) (λ fault is. subst (λ r. Keeps r before after) is runs.kept_files)
+
+  pub kept_output : Keeps result out_before out_after
+  kept_output = by_stay (λ r. Keeps r out_before out_after) ended.outcome result so runs.kept_output
+      (λ fault is. subst (λ r. Keeps r out_before out_after) is runs.kept_output) (λ fault is. subst (λ r. Keeps r out_before out_after) is runs.kept_output)
+
+  late : after ≡ before → out_after ≡ out_before
+      → IfSome before (λ files. (wanted : Answer) → Meets files wanted → Follows wanted NoMemory files after out_before out_after read_failed write_failed)
+  late same kept = by before same
+    where
+      output : (out : Option (List ℕ)) → out_after ≡ out → IfSome out (λ written. out_after ≡ Some written)
+      output None kept = tt
+      output (Some written) kept = kept
+
+      by : (b : Option Files) → after ≡ b → IfSome b (λ files. (wanted : Answer) → Meets files wanted → Follows wanted NoMemory files after out_before out_after read_failed write_failed)
+      by None same = tt
+      by (Some files) same = λ wanted meets. record {
+        outcome = tt;
+        files = same;
+        output = output out_before kept;
+        refused = refuses_late wanted.outcome NoMemory read_failed (inl refl);
+        complete = completes_late wanted.outcome NoMemory (read_failed ⊎ write_failed) (inl refl);
+      }
+
+  pub follows : IfSome before (λ files. (wanted : Answer) → Meets files wanted → Follows wanted result files after out_before out_after read_failed write_failed)
+  follows = by_stay (λ r. IfSome before (λ files. (wanted : Answer) → Meets files wanted → Follows wanted r files after out_before out_after read_failed write_failed))
+      ended.outcome result so runs.follows
+      (λ fault is. late (subst (λ r. Keeps r before after) is runs.kept_files) (subst (λ r. Keeps r out_before out_after) is runs.kept_output))
+      (λ fault is. late (subst (λ r. Keeps r before after) is runs.kept_files) (subst (λ r. Keeps r out_before out_after) is runs.kept_output))
+
+  unasked : IfSome before (λ files. IsAnswered (Meets files) NoMemory)
+  unasked = by before
+    where
+      by : (b : Option Files) → IfSome b (λ files. IsAnswered (Meets files) NoMemory)
+      by None = tt
+      by (Some files) = tt
+
+  pub answered : IfSome before (λ files. IsAnswered (Meets files) result)
+  answered = by_stay (λ r. IfSome before (λ files. IsAnswered (Meets files) r)) ended.outcome result so runs.answered (λ fault is. unasked) (λ fault is. unasked)
+
+  pub read_fault : result ≡ ReadFault → read_failed
+  read_fault = by_stay (λ r. r ≡ ReadFault → read_failed) ended.outcome result so runs.read_fault (λ fault is ends. cc) (λ fault is ends. cc)
+
+  pub write_fault : result ≡ WriteFault → write_failed
+  write_fault = by_stay (λ r. r ≡ WriteFault → write_failed) ended.outcome result so runs.write_fault (λ fault is ends. cc) (λ fault is ends. cc)
+
+  pub usage : (P : ℕ → Type 0) → OnUsage ended.outcome P → OnUsage result P
+  usage P own = by_stay (λ r. OnUsage r P) ended.outcome result so own (λ fault is. tt) (λ fault is. tt)
+
+  pub every_usage : (fault : UsageFault) → (ended.outcome ≡ Usage fault) ⊎ (ended.outcome ≡ NoMemory) → (result ≡ Usage fault) ⊎ (result ≡ NoMemory)
+  every_usage fault own = by_stay (λ r. (r ≡ Usage fault) ⊎ (r ≡ NoMemory)) ended.outcome result so own (λ fault is. inr refl) (λ fault is. inr refl)
+
+  module _ (err_before err_after : Option (List ℕ)) (faults_before faults_after : ℕ) where
+    says_of : (wanted : Answer) (named : List (List ℕ)) (r : Outcome) → HasLine wanted named r → Says (message named r) err_before err_after faults_before faults_after
+        → SaysAnswer wanted r err_before err_after faults_before faults_after
+    says_of wanted named Done line said = subst (λ text. Says text err_before err_after faults_before faults_after) (sym line) said
+    says_of wanted named (Usage fault) line said = subst (λ text. Says text err_before err_after faults_before faults_after) (sym line) said
+    says_of wanted named (Refused fault) line said = subst (λ text. Says text err_before err_after faults_before faults_after) (sym line) said
+    says_of wanted named ReadFault line said = tt
+    says_of wanted named WriteFault line said = tt
+    says_of wanted named NoMemory line said = tt
+
+    pub says : Says (message ended.files result) err_before err_after faults_before faults_after
+        → IfSome before (λ files. (wanted : Answer) → Meets files wanted → SaysAnswer wanted result err_before err_after faults_before faults_after)
+    says said = by before runs.lines
+      where
+        by : (b : Option Files) → IfSome b (λ files. (wanted : Answer) → Meets files wanted → HasLine wanted ended.files ended.outcome)
+            → IfSome b (λ files. (wanted : Answer) → Meets files wanted → SaysAnswer wanted result err_before err_after faults_before faults_after)
+        by None lines = tt
+        by (Some files) lines = λ wanted meets.
+            says_of wanted ended.files result
+            (by_stay (λ r. HasLine wanted ended.files r) ended.outcome result so (lines wanted meets) (λ fault is. tt) (λ fault is. tt)) said

@@ -1,213 +1,328 @@
--- What the reading of the words tells.
-use Rattle.std.proofs.Common.{◌≡◌, ◌≤◌, ℕ, suc, Bool, true, false, if◌then◌else◌, List, [], ◌∷◌, ◌++◌, length, take, Ok, Err, refl, sym, ap, ◌∙◌, arith}
-use Rattle.std.specs.Prelude.{codes}
+-- What a command does, against its answers.
+use Rattle.std.proofs.Common.{◌≡◌, ◌⊎◌, inl, inr, ℕ, List, [], ◌++◌, Ok, Err, Some, None, refl, sym, ap, subst, ◌∙◌}
+use Rattle.std.specs.Prelude.{IfSome}
+use Rattle.std.specs.declared.option.Option.{Option}
 use Rattle.std.specs.declared.result.Result.{Result}
-use Rattle.std.specs.Str.{bytes_eq}
-use Rattle.std.proofs.lemmas.Slice.Eq.{bytes_eq-Decides}
-use Rattle.rz_tools.specs.Command.{Asked, Rez, DeRez, is_file, after_dash, after_file, after_rez, after_fork, after_derez, command_of, IsCommand, Begins, IsMisplaced, Tells, ReadsCommands}
+use Rattle.std.proofs.lemmas.List.{append-nil}
+use Rattle.rz_folder.specs.Counts.{Rose}
+use Rattle.rz_folder.specs.Folder.{Files, Writes}
+use Rattle.rz_folder.specs.declared.folder.Written.{Written}
+use Rattle.rz_folder.specs.declared.folder.Written.TheVariants as ends
+use Rattle.rz_pre.specs.Program.{Failure}
+use Rattle.rz_pre.specs.declared.program.PreFault.{PreFault}
+use Rattle.rz_pre.specs.declared.program.PreFault.TheVariants as stops
+use Rattle.rz_tools.specs.Answer.{Answer, Answered, or_refused, shown, written}
+use Rattle.rz_tools.specs.Made.{ended_by, IsNamed, Made}
+use Rattle.rz_tools.specs.Program.{Completes, Follows, GotFront, HasLine, IsAnswered, RefusesAll, Runs, Shows}
+use Rattle.rz_tools.specs.declared.outcome.Ended.{Ended}
+use Rattle.rz_tools.specs.declared.outcome.Outcome.{Outcome}
+use Rattle.rz_tools.specs.declared.outcome.Outcome.TheVariants.{Done, Usage, Refused, ReadFault, WriteFault, NoMemory}
 
--- Words and tests.
+-- a command that didn't end with its answer, as a read failed or memory was refused
+pub refuses_late : (wanted result : Outcome) (read_failed : Type 0) → (result ≡ NoMemory) ⊎ read_failed → RefusesAll wanted result read_failed
+refuses_late Done result read_failed why = tt
+refuses_late (Usage fault) result read_failed why = tt
+refuses_late (Refused fault) result read_failed why = inr why
+refuses_late ReadFault result read_failed why = tt
+refuses_late WriteFault result read_failed why = tt
+refuses_late NoMemory result read_failed why = tt
 
-same : (a b : List ℕ) → bytes_eq a b ≡ true → a ≡ b
-same a b is = (bytes_eq-Decides a b).0 is
+pub completes_late : (wanted result : Outcome) (failed : Type 0) → (result ≡ NoMemory) ⊎ failed → Completes wanted result failed
+completes_late Done result failed why = inr why
+completes_late (Usage fault) result failed why = tt
+completes_late (Refused fault) result failed why = tt
+completes_late ReadFault result failed why = tt
+completes_late WriteFault result failed why = tt
+completes_late NoMemory result failed why = tt
 
-differ : (a b : List ℕ) → bytes_eq a b ≡ false → a ≡ b → ⊥
-differ a b is eq = let holds : bytes_eq a b ≡ true = (bytes_eq-Decides a b).1 eq in cc
+-- an output that nothing was written to
+pub same_output : (out : Option (List ℕ)) → IfSome out (λ written. out ≡ Some written)
+same_output None = tt
+same_output (Some written) = refl
 
-two_words : codes "rez" ≡ codes "derez" → ⊥
-two_words eq = differ (codes "rez") (codes "derez") refl eq
+nothing_more : (out : Option (List ℕ)) → IfSome out (λ written. out ≡ Some (written ++ []))
+nothing_more None = tt
+nothing_more (Some written) = ap Some (sym (append-nil written))
 
--- What begins no command.
+no_front : (out : Option (List ℕ)) → IfSome out (λ written. GotFront [] written out)
+no_front None = tt
+no_front (Some written) = (0, ap Some (sym (append-nil written)))
 
-nothing_asked : (asked : Asked) → IsCommand [] asked → ⊥
-nothing_asked (Rez file output) is = cc
-nothing_asked (DeRez file) is = cc
+-- a command that makes bytes, and does this with them
+module _ (done : Files → List ℕ → Answer) (Makes : Files → Result (List ℕ) Failure → Type 0)
+    (one : (files : Files) (a b : Result (List ℕ) Failure) → Makes files a → Makes files b → a ≡ b) where
+  -- each answer is that of what was made
+  the_answer : (files : Files) (made : Result (List ℕ) Failure) (wanted : Answer) → Makes files made → Answered (done files) (Makes files) files wanted
+      → or_refused (done files) files made ≡ wanted
+  the_answer files made wanted is meets = ap (or_refused (done files) files) (one files made meets.0 is meets.1) ∙ sym meets.2
 
-other_word : (word : List ℕ) (more : List (List ℕ)) → bytes_eq word (codes "rez") ≡ false → bytes_eq word (codes "derez") ≡ false
-    → (asked : Asked) → IsCommand (word ∷ more) asked → ⊥
-other_word word more no_rez no_derez (Rez file output) is = let eq : word ≡ codes "rez" = cc in differ word (codes "rez") no_rez eq
-other_word word more no_rez no_derez (DeRez file) is = let eq : word ≡ codes "derez" = cc in differ word (codes "derez") no_derez eq
-
-one_word : (word : List ℕ) (asked : Asked) → IsCommand (word ∷ []) asked → ⊥
-one_word word (Rez file output) is = cc
-one_word word (DeRez file) is = cc
-
-no_file : (word file : List ℕ) (more : List (List ℕ)) → is_file file ≡ false → (asked : Asked) → IsCommand (word ∷ file ∷ more) asked → ⊥
-no_file word file more fails (Rez source output) is = let eq : file ≡ source = cc in let holds : is_file file ≡ true = ap is_file eq ∙ is.1 in cc
-no_file word file more fails (DeRez fork) is = let eq : file ≡ fork = cc in let holds : is_file file ≡ true = ap is_file eq ∙ is.1 in cc
-
-rez_of_two : (word file : List ℕ) → word ≡ codes "rez" → (asked : Asked) → IsCommand (word ∷ file ∷ []) asked → ⊥
-rez_of_two word file eq (Rez source output) is = cc
-rez_of_two word file eq (DeRez fork) is = let also : word ≡ codes "derez" = cc in two_words (sym eq ∙ also)
-
-no_dash : (word file dash : List ℕ) (more : List (List ℕ)) → bytes_eq dash (codes "-o") ≡ false
-    → (asked : Asked) → IsCommand (word ∷ file ∷ dash ∷ more) asked → ⊥
-no_dash word file dash more fails (Rez source output) is = let eq : dash ≡ codes "-o" = cc in differ dash (codes "-o") fails eq
-no_dash word file dash more fails (DeRez fork) is = cc
-
-three_words : (word file dash : List ℕ) (asked : Asked) → IsCommand (word ∷ file ∷ dash ∷ []) asked → ⊥
-three_words word file dash (Rez source output) is = cc
-three_words word file dash (DeRez fork) is = cc
-
-five_words : (word file dash output other : List ℕ) (more : List (List ℕ)) (asked : Asked)
-    → IsCommand (word ∷ file ∷ dash ∷ output ∷ other ∷ more) asked → ⊥
-five_words word file dash output other more (Rez source name) is = cc
-five_words word file dash output other more (DeRez fork) is = cc
-
-derez_of_three : (word file other : List ℕ) (more : List (List ℕ)) → bytes_eq word (codes "rez") ≡ false
-    → (asked : Asked) → IsCommand (word ∷ file ∷ other ∷ more) asked → ⊥
-derez_of_three word file other more fails (Rez source output) is = let eq : word ≡ codes "rez" = cc in differ word (codes "rez") fails eq
-derez_of_three word file other more fails (DeRez fork) is = cc
-
--- Fronts of commands.
-
-begins_rez : (word : List ℕ) → word ≡ codes "rez" → Begins (word ∷ [])
-begins_rez word eq = record { more = [] ∷ codes "-o" ∷ [] ∷ []; asked = Rez [] []; is = (ap (λ (w : List ℕ). w ∷ [] ∷ codes "-o" ∷ [] ∷ []) eq, refl) }
-
-begins_derez : (word : List ℕ) → word ≡ codes "derez" → Begins (word ∷ [])
-begins_derez word eq = record { more = [] ∷ []; asked = DeRez []; is = (ap (λ (w : List ℕ). w ∷ [] ∷ []) eq, refl) }
-
--- The words behind `rez FILE -o`, behind `rez FILE`, and behind `rez`.
-
-told_dash : (word file dash : List ℕ) (words : List (List ℕ)) → word ≡ codes "rez" → is_file file ≡ true → dash ≡ codes "-o"
-    → Tells (word ∷ file ∷ dash ∷ words) (after_dash file words)
-told_dash word file dash [] eq holds dash_eq = record {
-  none = three_words word file dash;
-  front = 3;
-  next = refl;
-  within = omega arith;
-  begins = record { more = [] ∷ []; asked = Rez file []; is = ((λ i. eq i ∷ file ∷ dash_eq i ∷ [] ∷ []), holds) };
-  longest = λ within begins. absurd (omega arith);
-}
-told_dash word file dash (output ∷ []) eq holds dash_eq = ((λ i. eq i ∷ file ∷ dash_eq i ∷ output ∷ []), holds)
-told_dash word file dash (output ∷ other ∷ words) eq holds dash_eq = record {
-  none = five_words word file dash output other words;
-  front = 4;
-  next = refl;
-  within = omega arith;
-  begins = record { more = []; asked = Rez file output; is = ((λ i. eq i ∷ file ∷ dash_eq i ∷ output ∷ []), holds) };
-  longest = λ within begins. five_words word file dash output other begins.more begins.asked begins.is;
-}
-
-told_file : (word file : List ℕ) (words : List (List ℕ)) → word ≡ codes "rez" → is_file file ≡ true
-    → Tells (word ∷ file ∷ words) (after_file file words)
-told_file word file [] eq holds = record {
-  none = rez_of_two word file eq;
-  front = 2;
-  next = refl;
-  within = omega arith;
-  begins = record { more = codes "-o" ∷ [] ∷ []; asked = Rez file []; is = (ap (λ (w : List ℕ). w ∷ file ∷ codes "-o" ∷ [] ∷ []) eq, holds) };
-  longest = λ within begins. absurd (omega arith);
-}
-told_file word file (dash ∷ words) eq holds = by (bytes_eq dash (codes "-o")) refl
-  where
-    by : (b : Bool) → bytes_eq dash (codes "-o") ≡ b → Tells (word ∷ file ∷ dash ∷ words) (if b then after_dash file words else Err 3)
-    by true is = told_dash word file dash words eq holds (same dash (codes "-o") is)
-    by false is = record {
-      none = no_dash word file dash words is;
-      front = 2;
-      next = refl;
-      within = omega arith;
-      begins = record { more = codes "-o" ∷ [] ∷ []; asked = Rez file []; is = (ap (λ (w : List ℕ). w ∷ file ∷ codes "-o" ∷ [] ∷ []) eq, holds) };
-      longest = λ within begins. no_dash word file dash begins.more is begins.asked begins.is;
+  module _ (after : Option Files) (out : Option (List ℕ)) (read_failed write_failed : Type 0) where
+    -- it was stopped
+    pub stopped : (before : Option Files) (stop : PreFault) → after ≡ before → IfSome before (λ files. Made (Err stop) (Makes files)) → IsNamed (Err stop)
+        → (◌≡◌ {A = Result (List ℕ) PreFault} (Err stop) (Err stops.ReadFault) → read_failed)
+        → Runs (λ files. Answered (done files) (Makes files) files) (ended_by stop) before after out out read_failed write_failed
+    stopped before (stops.Refused fault named) same made nameable cause = record {
+      follows = follows before same made;
+      lines = lines before made;
+      answered = answered before made;
+      nameable = nameable;
+      read_fault = λ is. cc;
+      write_fault = λ is. cc;
+      kept_files = same;
+      kept_output = refl;
     }
+      where
+        failure : Failure
+        failure = record { fault = fault; files = named }
 
-told_rez : (word : List ℕ) (words : List (List ℕ)) → word ≡ codes "rez" → Tells (word ∷ words) (after_rez words)
-told_rez word [] eq = record {
-  none = one_word word;
-  front = 1;
-  next = refl;
-  within = omega arith;
-  begins = begins_rez word eq;
-  longest = λ within begins. absurd (omega arith);
-}
-told_rez word (file ∷ words) eq = by (is_file file) refl
-  where
-    by : (b : Bool) → is_file file ≡ b → Tells (word ∷ file ∷ words) (if b then after_file file words else Err 2)
-    by true is = told_file word file words eq is
-    by false is = record {
-      none = no_file word file words is;
-      front = 1;
-      next = refl;
-      within = omega arith;
-      begins = begins_rez word eq;
-      longest = λ within begins. no_file word file begins.more is begins.asked begins.is;
+        follows : (before : Option Files) → after ≡ before → IfSome before (λ files. Makes files (Err failure))
+            → IfSome before (λ files. (wanted : Answer) → Answered (done files) (Makes files) files wanted → Follows wanted (Refused fault) files after out out read_failed write_failed)
+        follows None same made = tt
+        follows (Some files) same made = λ wanted meets.
+            subst (λ answer. Follows answer (Refused fault) files after out out read_failed write_failed) (the_answer files (Err failure) wanted made meets)
+            (record { outcome = refl; files = same; output = same_output out; refused = inl refl; complete = tt })
+
+        lines : (before : Option Files) → IfSome before (λ files. Makes files (Err failure))
+            → IfSome before (λ files. (wanted : Answer) → Answered (done files) (Makes files) files wanted → HasLine wanted named (Refused fault))
+        lines None made = tt
+        lines (Some files) made = λ wanted meets. subst (λ answer. HasLine answer named (Refused fault)) (the_answer files (Err failure) wanted made meets) refl
+
+        answered : (before : Option Files) → IfSome before (λ files. Makes files (Err failure))
+            → IfSome before (λ files. IsAnswered (Answered (done files) (Makes files) files) (Refused fault))
+        answered None made = tt
+        answered (Some files) made = (or_refused (done files) files (Err failure), (Err failure, made, refl))
+    stopped before stops.ReadFault same made nameable cause = record {
+      follows = follows before same;
+      lines = lines before;
+      answered = answered before;
+      nameable = tt;
+      read_fault = λ is. cause refl;
+      write_fault = λ is. cc;
+      kept_files = same;
+      kept_output = refl;
     }
+      where
+        follows : (before : Option Files) → after ≡ before
+            → IfSome before (λ files. (wanted : Answer) → Answered (done files) (Makes files) files wanted → Follows wanted ReadFault files after out out read_failed write_failed)
+        follows None same = tt
+        follows (Some files) same = λ wanted meets. record {
+          outcome = tt;
+          files = same;
+          output = same_output out;
+          refused = refuses_late wanted.outcome ReadFault read_failed (inr (cause refl));
+          complete = completes_late wanted.outcome ReadFault (read_failed ⊎ write_failed) (inr (inl (cause refl)));
+        }
 
--- The words behind `derez FILE`, and behind `derez`.
+        lines : (before : Option Files) → IfSome before (λ files. (wanted : Answer) → Answered (done files) (Makes files) files wanted → HasLine wanted [] ReadFault)
+        lines None = tt
+        lines (Some files) = λ wanted meets. tt
 
-told_fork : (word file : List ℕ) (words : List (List ℕ)) → bytes_eq word (codes "rez") ≡ false → word ≡ codes "derez" → is_file file ≡ true
-    → Tells (word ∷ file ∷ words) (after_fork file words)
-told_fork word file [] no_rez eq holds = (ap (λ (w : List ℕ). w ∷ file ∷ []) eq, holds)
-told_fork word file (other ∷ words) no_rez eq holds = record {
-  none = derez_of_three word file other words no_rez;
-  front = 2;
-  next = refl;
-  within = omega arith;
-  begins = record { more = []; asked = DeRez file; is = (ap (λ (w : List ℕ). w ∷ file ∷ []) eq, holds) };
-  longest = λ within begins. derez_of_three word file other begins.more no_rez begins.asked begins.is;
-}
-
-told_derez : (word : List ℕ) (words : List (List ℕ)) → bytes_eq word (codes "rez") ≡ false → word ≡ codes "derez"
-    → Tells (word ∷ words) (after_derez words)
-told_derez word [] no_rez eq = record {
-  none = one_word word;
-  front = 1;
-  next = refl;
-  within = omega arith;
-  begins = begins_derez word eq;
-  longest = λ within begins. absurd (omega arith);
-}
-told_derez word (file ∷ words) no_rez eq = by (is_file file) refl
-  where
-    by : (b : Bool) → is_file file ≡ b → Tells (word ∷ file ∷ words) (if b then after_fork file words else Err 2)
-    by true is = told_fork word file words no_rez eq is
-    by false is = record {
-      none = no_file word file words is;
-      front = 1;
-      next = refl;
-      within = omega arith;
-      begins = begins_derez word eq;
-      longest = λ within begins. no_file word file begins.more is begins.asked begins.is;
+        answered : (before : Option Files) → IfSome before (λ files. IsAnswered (Answered (done files) (Makes files) files) ReadFault)
+        answered None = tt
+        answered (Some files) = tt
+    stopped before stops.NoMemory same made nameable cause = record {
+      follows = follows before same;
+      lines = lines before;
+      answered = answered before;
+      nameable = tt;
+      read_fault = λ is. cc;
+      write_fault = λ is. cc;
+      kept_files = same;
+      kept_output = refl;
     }
+      where
+        follows : (before : Option Files) → after ≡ before
+            → IfSome before (λ files. (wanted : Answer) → Answered (done files) (Makes files) files wanted → Follows wanted NoMemory files after out out read_failed write_failed)
+        follows None same = tt
+        follows (Some files) same = λ wanted meets. record {
+          outcome = tt;
+          files = same;
+          output = same_output out;
+          refused = refuses_late wanted.outcome NoMemory read_failed (inl refl);
+          complete = completes_late wanted.outcome NoMemory (read_failed ⊎ write_failed) (inl refl);
+        }
 
--- All words.
+        lines : (before : Option Files) → IfSome before (λ files. (wanted : Answer) → Answered (done files) (Makes files) files wanted → HasLine wanted [] NoMemory)
+        lines None = tt
+        lines (Some files) = λ wanted meets. tt
 
-told : (words : List (List ℕ)) → Tells words (command_of words)
-told [] = record {
-  none = nothing_asked;
-  front = 0;
-  next = refl;
-  within = omega arith;
-  begins = record { more = codes "rez" ∷ [] ∷ codes "-o" ∷ [] ∷ []; asked = Rez [] []; is = (refl, refl) };
-  longest = λ within begins. absurd (omega arith);
-}
-told (word ∷ words) = by (bytes_eq word (codes "rez")) refl
-  where
-    neither : bytes_eq word (codes "rez") ≡ false → (b : Bool) → bytes_eq word (codes "derez") ≡ b
-        → Tells (word ∷ words) (if b then after_derez words else Err 1)
-    neither no_rez true is = told_derez word words no_rez (same word (codes "derez") is)
-    neither no_rez false is = record {
-      none = other_word word words no_rez is;
-      front = 0;
-      next = refl;
-      within = omega arith;
-      begins = record { more = codes "rez" ∷ [] ∷ codes "-o" ∷ [] ∷ []; asked = Rez [] []; is = (refl, refl) };
-      longest = λ within begins. other_word word begins.more no_rez is begins.asked begins.is;
-    }
+        answered : (before : Option Files) → IfSome before (λ files. IsAnswered (Answered (done files) (Makes files) files) NoMemory)
+        answered None = tt
+        answered (Some files) = tt
 
-    by : (b : Bool) → bytes_eq word (codes "rez") ≡ b
-        → Tells (word ∷ words) (if b then after_rez words else if bytes_eq word (codes "derez") then after_derez words else Err 1)
-    by true is = told_rez word words (same word (codes "rez") is)
-    by false is = neither is (bytes_eq word (codes "derez")) refl
+-- how a write of a file ends the command
+abbrev pub written_outcome : Written → Outcome
+written_outcome ends.Done = Done
+written_outcome ends.Failed = WriteFault
 
--- The words of a command.
+abbrev pub plain : Outcome → Ended
+plain outcome = record { outcome = outcome; files = [] }
 
-read_as : (words : List (List ℕ)) (asked : Asked) → IsCommand words asked → command_of words ≡ Ok asked
-read_as words (Rez file output) is =
-    ap command_of is.0 ∙ ap (λ (b : Bool). if b then Ok (Rez file output) else Err 2) is.1
-read_as words (DeRez file) is =
-    ap command_of is.0 ∙ ap (λ (b : Bool). if b then Ok (DeRez file) else Err 2) is.1
+-- the bytes that were made are written under a name
+module _ (name bytes : List ℕ) (Makes : Files → Result (List ℕ) Failure → Type 0)
+    (one : (files : Files) (a b : Result (List ℕ) Failure) → Makes files a → Makes files b → a ≡ b)
+    (after : Option Files) (out : Option (List ℕ)) (read_failed write_failed : Type 0) where
+  pub writes : (before : Option Files) (end : Written) → IfSome before (λ files. Makes files (Ok bytes)) → Writes name bytes before after end
+      → (end ≡ ends.Failed → write_failed)
+      → Runs (λ files. Answered (written name files) (Makes files) files) (plain (written_outcome end)) before after out out read_failed write_failed
+  writes before ends.Done made told cause = record {
+    follows = follows before made told;
+    lines = lines before made;
+    answered = answered before made;
+    nameable = tt;
+    read_fault = λ is. cc;
+    write_fault = λ is. cc;
+    kept_files = tt;
+    kept_output = tt;
+  }
+    where
+      follows : (before : Option Files) → IfSome before (λ files. Makes files (Ok bytes)) → Writes name bytes before after ends.Done
+          → IfSome before (λ files. (wanted : Answer) → Answered (written name files) (Makes files) files wanted → Follows wanted Done files after out out read_failed write_failed)
+      follows None made told = tt
+      follows (Some files) made told = λ wanted meets.
+          subst (λ answer. Follows answer Done files after out out read_failed write_failed) (the_answer (written name) Makes one files (Ok bytes) wanted made meets)
+          (record { outcome = refl; files = told; output = nothing_more out; refused = tt; complete = inl refl })
 
-pub reads_commands : ReadsCommands
-reads_commands = record { reads = read_as; tells = told }
+      lines : (before : Option Files) → IfSome before (λ files. Makes files (Ok bytes))
+          → IfSome before (λ files. (wanted : Answer) → Answered (written name files) (Makes files) files wanted → HasLine wanted [] Done)
+      lines None made = tt
+      lines (Some files) made = λ wanted meets. subst (λ answer. HasLine answer [] Done) (the_answer (written name) Makes one files (Ok bytes) wanted made meets) refl
+
+      answered : (before : Option Files) → IfSome before (λ files. Makes files (Ok bytes))
+          → IfSome before (λ files. IsAnswered (Answered (written name files) (Makes files) files) Done)
+      answered None made = tt
+      answered (Some files) made = (written name files bytes, (Ok bytes, made, refl))
+  writes before ends.Failed made told cause = record {
+    follows = follows before made told;
+    lines = lines before made;
+    answered = answered before made;
+    nameable = tt;
+    read_fault = λ is. cc;
+    write_fault = λ is. cause refl;
+    kept_files = tt;
+    kept_output = tt;
+  }
+    where
+      follows : (before : Option Files) → IfSome before (λ files. Makes files (Ok bytes)) → Writes name bytes before after ends.Failed
+          → IfSome before (λ files. (wanted : Answer) → Answered (written name files) (Makes files) files wanted → Follows wanted WriteFault files after out out read_failed write_failed)
+      follows None made told = tt
+      follows (Some files) made told = λ wanted meets.
+          subst (λ answer. Follows answer WriteFault files after out out read_failed write_failed) (the_answer (written name) Makes one files (Ok bytes) wanted made meets)
+          (record { outcome = refl; files = told; output = no_front out; refused = tt; complete = inr (inr (inr (cause refl))) })
+
+      lines : (before : Option Files) → IfSome before (λ files. Makes files (Ok bytes))
+          → IfSome before (λ files. (wanted : Answer) → Answered (written name files) (Makes files) files wanted → HasLine wanted [] WriteFault)
+      lines None made = tt
+      lines (Some files) made = λ wanted meets. tt
+
+      answered : (before : Option Files) → IfSome before (λ files. Makes files (Ok bytes))
+          → IfSome before (λ files. IsAnswered (Answered (written name files) (Makes files) files) WriteFault)
+      answered None made = tt
+      answered (Some files) made = (written name files bytes, (Ok bytes, made, refl))
+
+-- the same, where the bytes and the folder before the write are known by other names
+module _ (name bytes piece : List ℕ) (Makes : Files → Result (List ℕ) Failure → Type 0)
+    (one : (files : Files) (a b : Result (List ℕ) Failure) → Makes files a → Makes files b → a ≡ b)
+    (before mid after : Option Files) (out : Option (List ℕ)) (read_failed : Type 0) (faults_before faults_mid faults_after : ℕ) where
+  pub writes_through : (end : Written) → IfSome before (λ files. Makes files (Ok bytes)) → piece ≡ bytes → mid ≡ before → faults_mid ≡ faults_before
+      → Writes name piece mid after end → (end ≡ ends.Failed → Rose faults_mid faults_after)
+      → Runs (λ files. Answered (written name files) (Makes files) files) (plain (written_outcome end)) before after out out read_failed (Rose faults_before faults_after)
+  writes_through end made same_bytes same_files same_faults told cause =
+      writes name bytes Makes one after out read_failed (Rose faults_before faults_after) before end made
+      (subst (λ (x : Option Files). Writes name bytes x after end) same_files (subst (λ (x : List ℕ). Writes name x mid after end) same_bytes told))
+      (λ failed. subst (λ n. Rose n faults_after) same_faults (cause failed))
+
+-- a text that was written to the output, where each answer is to write it
+module _ (text : List ℕ) (Meets : Files → Answer → Type 0) (after : Option Files) (out_before out_after : Option (List ℕ)) (read_failed write_failed : Type 0) where
+  pub shows : (before : Option Files) (result : Outcome)
+      → IfSome before (λ files. (wanted : Answer) → Meets files wanted → shown files text ≡ wanted)
+      → IfSome before (λ files. Meets files (shown files text))
+      → after ≡ before → Shows text result out_before out_after write_failed
+      → Runs Meets (plain result) before after out_before out_after read_failed write_failed
+  shows before Done is there same shown_so = record {
+    follows = follows before same is;
+    lines = lines before is;
+    answered = answered before there;
+    nameable = tt;
+    read_fault = λ is. cc;
+    write_fault = λ is. cc;
+    kept_files = tt;
+    kept_output = tt;
+  }
+    where
+      follows : (before : Option Files) → after ≡ before → IfSome before (λ files. (wanted : Answer) → Meets files wanted → shown files text ≡ wanted)
+          → IfSome before (λ files. (wanted : Answer) → Meets files wanted → Follows wanted Done files after out_before out_after read_failed write_failed)
+      follows None same is = tt
+      follows (Some files) same is = λ wanted meets.
+          subst (λ answer. Follows answer Done files after out_before out_after read_failed write_failed) (is wanted meets)
+          (record { outcome = refl; files = same; output = shown_so; refused = tt; complete = inl refl })
+
+      lines : (before : Option Files) → IfSome before (λ files. (wanted : Answer) → Meets files wanted → shown files text ≡ wanted)
+          → IfSome before (λ files. (wanted : Answer) → Meets files wanted → HasLine wanted [] Done)
+      lines None is = tt
+      lines (Some files) is = λ wanted meets. subst (λ answer. HasLine answer [] Done) (is wanted meets) refl
+
+      answered : (before : Option Files) → IfSome before (λ files. Meets files (shown files text)) → IfSome before (λ files. IsAnswered (Meets files) Done)
+      answered None there = tt
+      answered (Some files) there = (shown files text, there)
+  shows before WriteFault is there same shown_so = record {
+    follows = follows before same is;
+    lines = lines before;
+    answered = answered before there;
+    nameable = tt;
+    read_fault = λ is. cc;
+    write_fault = λ is. shown_so.1;
+    kept_files = tt;
+    kept_output = tt;
+  }
+    where
+      follows : (before : Option Files) → after ≡ before → IfSome before (λ files. (wanted : Answer) → Meets files wanted → shown files text ≡ wanted)
+          → IfSome before (λ files. (wanted : Answer) → Meets files wanted → Follows wanted WriteFault files after out_before out_after read_failed write_failed)
+      follows None same is = tt
+      follows (Some files) same is = λ wanted meets.
+          subst (λ answer. Follows answer WriteFault files after out_before out_after read_failed write_failed) (is wanted meets)
+          (record { outcome = refl; files = same; output = shown_so.0; refused = tt; complete = inr (inr (inr shown_so.1)) })
+
+      lines : (before : Option Files) → IfSome before (λ files. (wanted : Answer) → Meets files wanted → HasLine wanted [] WriteFault)
+      lines None = tt
+      lines (Some files) = λ wanted meets. tt
+
+      answered : (before : Option Files) → IfSome before (λ files. Meets files (shown files text)) → IfSome before (λ files. IsAnswered (Meets files) WriteFault)
+      answered None there = tt
+      answered (Some files) there = (shown files text, there)
+  shows before (Usage fault) is there same shown_so = absurd shown_so
+  shows before (Refused fault) is there same shown_so = absurd shown_so
+  shows before ReadFault is there same shown_so = absurd shown_so
+  shows before NoMemory is there same shown_so = absurd shown_so
+
+if_all : (b : Option Files) (P : Files → Type 0) → ((files : Files) → P files) → IfSome b P
+if_all None P all = tt
+if_all (Some files) P all = all files
+
+if_so : (b : Option Files) (P Q : Files → Type 0) → ((files : Files) → P files → Q files) → IfSome b P → IfSome b Q
+if_so None P Q so holds = tt
+if_so (Some files) P Q so holds = so files holds
+
+-- the text that was made is written to the output
+module _ (text piece : List ℕ) (Makes : Files → Result (List ℕ) Failure → Type 0)
+    (one : (files : Files) (a b : Result (List ℕ) Failure) → Makes files a → Makes files b → a ≡ b)
+    (before after : Option Files) (out_before out_after : Option (List ℕ)) (read_failed write_failed : Type 0) where
+  pub shows_made : (result : Outcome) → IfSome before (λ files. Makes files (Ok text)) → piece ≡ text → after ≡ before → Shows piece result out_before out_after write_failed
+      → Runs (λ files. Answered (shown files) (Makes files) files) (plain result) before after out_before out_after read_failed write_failed
+  shows_made result made same same_files shown_so =
+      shows text (λ files. Answered (shown files) (Makes files) files) after out_before out_after read_failed write_failed before result
+      (if_so before (λ files. Makes files (Ok text)) (λ files. (wanted : Answer) → Answered (shown files) (Makes files) files wanted → shown files text ≡ wanted)
+      (λ files is wanted meets. the_answer shown Makes one files (Ok text) wanted is meets) made)
+      (if_so before (λ files. Makes files (Ok text)) (λ files. Answered (shown files) (Makes files) files (shown files text))
+      (λ files is. (Ok text, is, refl)) made)
+      same_files (subst (λ (x : List ℕ). Shows x result out_before out_after write_failed) same shown_so)
+
+-- a text that is the same for all files is written to the output
+module _ (text piece : List ℕ) (before : Option Files) (out_before out_after : Option (List ℕ)) (read_failed write_failed : Type 0) where
+  pub shows_text : (result : Outcome) → piece ≡ text → Shows piece result out_before out_after write_failed
+      → Runs (λ files answer. answer ≡ shown files text) (plain result) before before out_before out_after read_failed write_failed
+  shows_text result same shown_so =
+      shows text (λ files answer. answer ≡ shown files text) before out_before out_after read_failed write_failed before result
+      (if_all before (λ files. (wanted : Answer) → wanted ≡ shown files text → shown files text ≡ wanted) (λ files wanted is. sym is))
+      (if_all before (λ files. shown files text ≡ shown files text) (λ files. refl))
+      refl (subst (λ (x : List ℕ). Shows x result out_before out_after write_failed) same shown_so)

@@ -1,8 +1,10 @@
 pub mod Outcome
-pub mod Command
 pub mod Message
 pub mod ResourceList
+pub mod ToolWords
+pub mod Made
 pub mod Answer
 pub mod Rez
 pub mod DeRez
+pub mod Help
 pub mod Program

@@ -1,5 +1,5 @@
 -- The exit status of each outcome.
-use Rattle.std.specs.Prelude.{◌≡◌, ℕ}
+use Rattle.std.specs.Prelude.{ℕ}
 use Rattle.rz_core.specs.declared.fault.Fault.{Fault}
 use Rattle.rz_tools.specs.declared.outcome.Outcome.{Outcome}
 use Rattle.rz_tools.specs.declared.outcome.Outcome.TheVariants.{Done, Usage, Refused, ReadFault, WriteFault, NoMemory}

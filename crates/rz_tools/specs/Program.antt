@@ -1,29 +1,40 @@
 -- What a run does, against the answer to its words.
-use Rattle.std.specs.Prelude.{◌≡◌, ◌⊎◌, ℕ, ◌++◌, take, List, [], Ok, Err, IsSomeAnd}
-use Rattle.std.specs.declared.result.Result.{Result}
+use Rattle.std.specs.Prelude.{◌≡◌, ◌⊎◌, ℕ, ◌++◌, take, length, List, [], IfSome, IsSomeAnd}
 use Rattle.std.specs.declared.option.Option.{Option}
 use Rattle.std.specs.declared.option.Option.TheVariants.{Some, None}
 use Rattle.std.specs.FinMap as map
+use Rattle.rz_core.specs.Message.{IsNameable}
 use Rattle.rz_core.specs.declared.moment.Moment.{Moment}
 use Rattle.rz_folder.specs.Counts.{Rose}
 use Rattle.rz_folder.specs.Folder.{Files}
-use Rattle.rz_tools.specs.Command.{Asked, Rez, DeRez, command_of}
-use Rattle.rz_tools.specs.Answer.{Answer, ended}
-use Rattle.rz_tools.specs.DeRez.{derez_answer, MeansAgain}
-use Rattle.rz_tools.specs.Rez.{rez_answer}
-use Rattle.rz_tools.specs.Outcome.{IsNoUsage}
+use Rattle.rz_words.specs.Command.{Asked, Rez, DeRez, Help, Version, IsCommand, IsMisplaced}
+use Rattle.rz_tools.specs.Answer.{Answer, ended, shown}
+use Rattle.rz_tools.specs.DeRez.{AnswersDeRez}
+use Rattle.rz_tools.specs.Help.{help_text, version_text}
+use Rattle.rz_tools.specs.Message.{message}
+use Rattle.rz_tools.specs.Rez.{AnswersRez}
+use Rattle.rz_tools.specs.Outcome.{IfRefused}
+use Rattle.rz_tools.specs.declared.outcome.Ended.{Ended}
 use Rattle.rz_tools.specs.declared.outcome.Outcome.{Outcome}
 use Rattle.rz_tools.specs.declared.outcome.Outcome.TheVariants.{Done, Usage, Refused, ReadFault, WriteFault, NoMemory}
 
--- the answer to a command, or to words that are none; each command is one case
-abbrev pub answer_to : Result Asked ℕ → Files → Moment → Answer
-answer_to (Err position) files moment = ended [] (Usage (record { position = position })) files
-answer_to (Ok (Rez file output)) files moment = rez_answer file output files
-answer_to (Ok (DeRez file)) files moment = derez_answer file files
+-- The answer.
 
--- the answer to a list of words, where each name holds this, at this moment
-abbrev pub answer : List (List ℕ) → Files → Moment → Answer
-answer words files moment = answer_to (command_of words) files moment
+-- the answer to a command, where each name holds this, at this moment; each command is one case
+abbrev pub AnswersTo : Asked → Files → Moment → Answer → Type 0
+AnswersTo (Rez asked) files moment answer = AnswersRez asked files answer
+AnswersTo (DeRez file) files moment answer = AnswersDeRez file files answer
+AnswersTo Help files moment answer = answer ≡ shown files help_text
+AnswersTo Version files moment answer = answer ≡ shown files version_text
+
+-- the answer to a list of words: that to the command that they are, or Usage with the position of the first word
+-- that is misplaced
+pub data Answers (words : List (List ℕ)) (files : Files) (moment : Moment) (answer : Answer) : Type 0 where
+  command : (asked : Asked) → IsCommand words asked → AnswersTo asked files moment answer → Answers words files moment answer
+  misplaced : (position : ℕ) → IsMisplaced words position → answer ≡ ended [] (Usage (record { position = position })) files
+      → Answers words files moment answer
+
+-- What a run does.
 
 -- Done, Usage and Refused are the answer's outcome, whole. A write fails only where the answer is to write.
 abbrev pub EndsAs : Answer → Outcome → Type 0
@@ -53,24 +64,53 @@ LeavesFiles wanted before NoMemory after = after ≡ Some before
 abbrev pub GotFront : List ℕ → List ℕ → Option (List ℕ) → Type 0
 GotFront text before after = (count : ℕ) × (after ≡ Some (before ++ take count text))
 
--- The output has got the answer's text after Done, nothing after Usage, Refused and ReadFault, and a front of
--- the text after WriteFault and NoMemory.
+-- the output has got the answer's text after Done, a front of it after WriteFault, and nothing else
 abbrev pub LeavesOutput : Answer → List ℕ → Outcome → Option (List ℕ) → Type 0
 LeavesOutput wanted before Done after = after ≡ Some (before ++ wanted.out)
 LeavesOutput wanted before (Usage fault) after = after ≡ Some before
 LeavesOutput wanted before (Refused fault) after = after ≡ Some before
 LeavesOutput wanted before ReadFault after = after ≡ Some before
 LeavesOutput wanted before WriteFault after = GotFront wanted.out before after
-LeavesOutput wanted before NoMemory after = GotFront wanted.out before after
+LeavesOutput wanted before NoMemory after = after ≡ Some before
 
--- after Usage, Refused and ReadFault the output is as before, whether or not anything is told of the files
-abbrev pub KeepsOutput : Outcome → Option (List ℕ) → Option (List ℕ) → Type 0
-KeepsOutput Done before after = Unit {0}
-KeepsOutput (Usage fault) before after = after ≡ before
-KeepsOutput (Refused fault) before after = after ≡ before
-KeepsOutput ReadFault before after = after ≡ before
-KeepsOutput WriteFault before after = Unit {0}
-KeepsOutput NoMemory before after = Unit {0}
+-- where the answer is a refusal the run ends with it, unless memory was refused or a read failed
+abbrev pub RefusesAll : Outcome → Outcome → Type 0 → Type 0
+RefusesAll (Refused fault) result read_failed = (result ≡ Refused fault) ⊎ (result ≡ NoMemory) ⊎ read_failed
+RefusesAll wanted result read_failed = Unit {0}
+
+-- where the answer is Done the run ends with it, unless memory was refused or a read or a write failed
+abbrev pub Completes : Outcome → Outcome → Type 0 → Type 0
+Completes Done result failed = (result ≡ Done) ⊎ (result ≡ NoMemory) ⊎ failed
+Completes wanted result failed = Unit {0}
+
+-- a run that follows an answer: its outcome, the files, the output, and when it ends as the answer does
+pub record Follows (wanted : Answer) (result : Outcome) (before : Files) (after : Option Files)
+    (written_before written_after : Option (List ℕ)) (read_failed write_failed : Type 0) : Type 0 where
+  pub outcome : EndsAs wanted result
+  pub files : LeavesFiles wanted before result after
+  pub output : IfSome written_before (λ written. LeavesOutput wanted written result written_after)
+  pub refused : RefusesAll wanted.outcome result read_failed
+  pub complete : Completes wanted.outcome result (read_failed ⊎ write_failed)
+
+-- there is an answer, where the run ends with one or was to write it
+abbrev pub IsAnswered : (Answer → Type 0) → Outcome → Type 0
+IsAnswered Meets Done = (wanted : Answer) × Meets wanted
+IsAnswered Meets (Usage fault) = (wanted : Answer) × Meets wanted
+IsAnswered Meets (Refused fault) = (wanted : Answer) × Meets wanted
+IsAnswered Meets ReadFault = Unit {0}
+IsAnswered Meets WriteFault = (wanted : Answer) × Meets wanted
+IsAnswered Meets NoMemory = Unit {0}
+
+-- what stays, whether or not anything is told of it: all but Done and WriteFault leave it
+abbrev pub Keeps : {X : Type 0} → Outcome → Option X → Option X → Type 0
+Keeps Done before after = Unit {0}
+Keeps (Usage fault) before after = after ≡ before
+Keeps (Refused fault) before after = after ≡ before
+Keeps ReadFault before after = after ≡ before
+Keeps WriteFault before after = Unit {0}
+Keeps NoMemory before after = after ≡ before
+
+-- What is said.
 
 -- a sink that tells what it has got has got a front of the text, and the whole text where its count of faults
 -- didn't rise
@@ -88,6 +128,45 @@ SaysAnswer wanted ReadFault before after faults_before faults_after = Unit {0}
 SaysAnswer wanted WriteFault before after faults_before faults_after = Unit {0}
 SaysAnswer wanted NoMemory before after faults_before faults_after = Unit {0}
 
+-- Usage comes only with the position of a misplaced word
+abbrev pub OnUsage : Outcome → (ℕ → Type 0) → Type 0
+OnUsage Done P = Unit {0}
+OnUsage (Usage fault) P = P fault.position
+OnUsage (Refused fault) P = Unit {0}
+OnUsage ReadFault P = Unit {0}
+OnUsage WriteFault P = Unit {0}
+OnUsage NoMemory P = Unit {0}
+
+-- Within the run.
+
+-- after Done, Usage and Refused the answer's line is that of the outcome, where these are the files that marks count
+abbrev pub HasLine : Answer → List (List ℕ) → Outcome → Type 0
+HasLine wanted named Done = wanted.err ≡ message named Done
+HasLine wanted named (Usage fault) = wanted.err ≡ message named (Usage fault)
+HasLine wanted named (Refused fault) = wanted.err ≡ message named (Refused fault)
+HasLine wanted named ReadFault = Unit {0}
+HasLine wanted named WriteFault = Unit {0}
+HasLine wanted named NoMemory = Unit {0}
+
+-- what a command does: it follows each answer, and there is one
+pub record Runs (Meets : Files → Answer → Type 0) (result : Ended) (before after : Option Files)
+    (written_before written_after : Option (List ℕ)) (read_failed write_failed : Type 0) : Type 0 where
+  pub follows : IfSome before (λ files. (wanted : Answer) → Meets files wanted
+      → Follows wanted result.outcome files after written_before written_after read_failed write_failed)
+  pub lines : IfSome before (λ files. (wanted : Answer) → Meets files wanted → HasLine wanted result.files result.outcome)
+  pub answered : IfSome before (λ files. IsAnswered (Meets files) result.outcome)
+  pub nameable : IfRefused result.outcome (IsNameable (length result.files))
+  pub read_fault : result.outcome ≡ ReadFault → read_failed
+  pub write_fault : result.outcome ≡ WriteFault → write_failed
+  pub kept_files : Keeps result.outcome before after
+  pub kept_output : Keeps result.outcome written_before written_after
+
+-- a text was written to the output, or a front of it where that failed
+abbrev pub Shows : List ℕ → Outcome → Option (List ℕ) → Option (List ℕ) → Type 0 → Type 0
+Shows text Done before after failed = IfSome before (λ before. after ≡ Some (before ++ text))
+Shows text WriteFault before after failed = IfSome before (λ before. GotFront text before after) × failed
+Shows text result before after failed = ⊥
+
 -- the outcome stays as it is, but there may be no memory for the line of Usage and Refused
 abbrev pub StaysSo : Outcome → Outcome → Type 0
 StaysSo Done result = result ≡ Done
@@ -96,24 +175,3 @@ StaysSo (Refused fault) result = (result ≡ Refused fault) ⊎ (result ≡ NoMe
 StaysSo ReadFault result = result ≡ ReadFault
 StaysSo WriteFault result = result ≡ WriteFault
 StaysSo NoMemory result = result ≡ NoMemory
-
--- Usage comes exactly where the words are no command, with the position; but want of memory may come in its place
-abbrev pub IsUsageExactly : Result Asked ℕ → Outcome → Type 0
-IsUsageExactly (Err position) result = (result ≡ Usage (record { position = position })) ⊎ (result ≡ NoMemory)
-IsUsageExactly (Ok asked) result = IsNoUsage result
-
--- where the answer is a refusal the run ends with it, unless memory was refused or a read failed
-abbrev pub RefusesAll : Outcome → Outcome → Type 0 → Type 0
-RefusesAll (Refused fault) result read_failed = (result ≡ Refused fault) ⊎ (result ≡ NoMemory) ⊎ read_failed
-RefusesAll wanted result read_failed = Unit {0}
-
--- where the answer is Done the run ends with it, unless memory was refused or a read or a write failed
-abbrev pub Completes : Outcome → Outcome → Type 0 → Type 0
-Completes Done result failed = (result ≡ Done) ⊎ (result ≡ NoMemory) ⊎ failed
-Completes wanted result failed = Unit {0}
-
--- where `derez` is Done, the text of a fork that a source can say today means the fork's resources again
-abbrev pub ReadsAgain : Result Asked ℕ → Files → Outcome → Type 0
-ReadsAgain (Err position) files result = Unit {0}
-ReadsAgain (Ok (Rez file output)) files result = Unit {0}
-ReadsAgain (Ok (DeRez file)) files result = MeansAgain (map.get files file) result

@@ -1,9 +1,6 @@
--- What `rez FILE -o NAME` means.
-use Rattle.std.specs.Prelude.{ℕ, ◌<◌, ◌^◌, pos, ◌≡◌, true, List, [], ◌∷◌, Ok, Err}
+-- What `rez` means: the sources as a program, its statements, their resources, and the fork. (MPW Rez.)
+use Rattle.std.specs.Prelude.{ℕ, ◌<◌, ◌^◌, pos, ◌≡◌, true, List, [], map, Ok, Err, None}
 use Rattle.std.specs.declared.result.Result.{Result}
-use Rattle.std.specs.declared.option.Option.{Option}
-use Rattle.std.specs.declared.option.Option.TheVariants.{Some, None}
-use Rattle.std.specs.FinMap as map
 use Rattle.rz_core.specs.Message.{is_fault}
 use Rattle.rz_core.specs.Resources.{put_all}
 use Rattle.rz_core.specs.Stop.{◌>>=◌}
@@ -13,13 +10,15 @@ use Rattle.rz_core.specs.declared.fault.Kept.TheVariants as kept
 use Rattle.rz_folder.specs.Folder.{Files}
 use Rattle.rz_fork.specs.Image.{fork_of}
 use Rattle.rz_fork.specs.declared.fault.LimitFault.{LimitFault}
-use Rattle.rz_lex.specs.Early.{early}
-use Rattle.rz_tools.specs.Answer.{Answer, ended, written}
-use Rattle.rz_tools.specs.declared.outcome.Outcome.TheVariants.{Refused}
-
--- a file that is not there
-abbrev pub missing_file : List ℕ → Fault
-missing_file name = record { number = 101; mark = None; kept = kept.Name name }
+use Rattle.rz_lex.specs.declared.token.Token.{Token}
+use Rattle.rz_pre.specs.Answers.{Then}
+use Rattle.rz_pre.specs.Program.{Failure, ProgramGoes, WithFiles}
+use Rattle.rz_pre.specs.declared.condition.Tool.TheVariants as tools
+use Rattle.rz_stmt.specs.Resources.{resources_of}
+use Rattle.rz_stmt.specs.Statements.{AreStatements}
+use Rattle.rz_words.specs.Command.{RezAsked}
+use Rattle.rz_tools.specs.Answer.{Answer, Answered, written}
+use Rattle.rz_tools.specs.ToolWords.{numbered}
 
 -- a length past its limit
 abbrev pub past_limit : LimitFault → Fault
@@ -30,9 +29,9 @@ pub record IsLimit (fault : LimitFault) : Type 0 where
   pub number : is_fault fault.number ≡ true
   pub length : fault.length < 2 ^ 63
 
--- the resources that a source means: those of its statements, each put into the list after those before it
-unfoldable pub meaning : List ℕ → Result (List Resource) Fault
-meaning source = early source 0 >>= λ resources. Ok (put_all [] resources)
+-- the resources that statements mean: those of each, put into the list after those before it
+unfoldable pub meaning : List (List Token) → Result (List Resource) Fault
+meaning statements = resources_of statements >>= λ resources. Ok (put_all [] resources)
 
 abbrev pub fork_or_fault : Result (List ℕ) LimitFault → Result (List ℕ) Fault
 fork_or_fault (Ok fork) = Ok fork
@@ -42,18 +41,19 @@ fork_or_fault (Err fault) = Err (past_limit fault)
 unfoldable pub list_fork : List Resource → Result (List ℕ) Fault
 list_fork list = fork_or_fault (fork_of list 0 [])
 
--- the fork that a source means, or the first rule that it breaks
-abbrev pub source_fork : List ℕ → Result (List ℕ) Fault
-source_fork source = meaning source >>= list_fork
+-- the fork that statements mean, or the first rule that they break
+abbrev pub statements_fork : List (List Token) → Result (List ℕ) Fault
+statements_fork statements = meaning statements >>= list_fork
 
--- the fork is written, or the fault ends the run; the source is the one file that marks count
-abbrev pub rez_fork_answer : List ℕ → List ℕ → Files → Result (List ℕ) Fault → Answer
-rez_fork_answer file output files (Ok fork) = written output fork files
-rez_fork_answer file output files (Err fault) = ended (file ∷ []) (Refused fault) files
+-- the fork that the tokens of a program mean, or the first rule that their statements break
+abbrev pub HasFork : List Token → Result (List ℕ) Fault → Type 0
+HasFork tokens fork = (statements : List (List Token)) × AreStatements tokens statements × (fork ≡ statements_fork statements)
 
-abbrev pub rez_source_answer : List ℕ → List ℕ → Files → Option (List ℕ) → Answer
-rez_source_answer file output files None = ended (file ∷ []) (Refused (missing_file file)) files
-rez_source_answer file output files (Some source) = rez_fork_answer file output files (source_fork source)
+-- the fork that the sources mean, or the first fault, with the files that were opened until then
+abbrev pub Compiles : RezAsked → Files → Result (List ℕ) Failure → Type 0
+Compiles asked files =
+    Then (ProgramGoes files tools.Rez asked.files asked.paths asked.defs) (λ program. WithFiles program.files (HasFork (map (numbered tools.Rez) program.tokens)))
 
-abbrev pub rez_answer : List ℕ → List ℕ → Files → Answer
-rez_answer file output files = rez_source_answer file output files (map.get files file)
+-- the fork is written, or the fault ends the run
+abbrev pub AnswersRez : RezAsked → Files → Answer → Type 0
+AnswersRez asked files = Answered (written asked.output files) (Compiles asked files) files

@@ -1,21 +1,24 @@
-ghost use Rattle.std.specs.Prelude.{◌≡◌, ◌<◌, ◌⊎◌, ◌^◌, length, IfOk, IfSome};
-ghost use Rattle.std.specs.FinMap as map;
+ghost use Rattle.std.specs.Prelude.{◌≡◌, ◌≤◌, ◌<◌, ◌^◌, Err, ℕ, length, IfOk, IfSome};
 ghost use Rattle.rz_core.specs.Message.{IsNameable};
 ghost use Rattle.rz_core.specs.Stop.{Gives, OnFault};
 ghost use Rattle.rz_folder.specs.Counts.{Rose};
 ghost use Rattle.rz_fork.specs.Admit.{IsSayable};
+ghost use Rattle.rz_pre.specs.declared.program.PreFault.TheVariants.{ReadFault};
+ghost use Rattle.rz_pre.specs.Program.{missing_file};
 ghost use Rattle.rz_show.specs.Data.{list_text};
-ghost use Rattle.rz_tools.specs.DeRez.{broken_rule, derez_answer, fork_text, MeansAgain, TextMeansFork};
-ghost use Rattle.rz_tools.specs.Outcome.{IfRefused, IsNoUsage};
-ghost use Rattle.rz_tools.specs.Program.{Completes, EndsAs, KeepsOutput, LeavesFiles, LeavesOutput, RefusesAll};
+ghost use Rattle.rz_tools.specs.DeRez.{broken_rule, derez_text, fork_text, without_files, AnswersDeRez};
+ghost use Rattle.rz_tools.specs.Made.{IsNamed, Made};
+ghost use Rattle.rz_tools.specs.Outcome.{IsNoUsage};
+ghost use Rattle.rz_tools.specs.Program.{Runs, Shows};
 
 use crate::Outcome;
-use crate::command::DeRezWords;
-use crate::rez::missing_file;
-use rz_core::{Bytes, Fault, Kept, NoMemory, Resources, Stop};
+use crate::outcome::Ended;
+use rz_core::{Bytes, Fault, FileNames, Kept, NoMemory, Resources, Stop};
 use rz_folder::{Folder, Put, Read, Sink};
 use rz_fork::{ForkFault, read_fork};
-use rz_show::{show_resource, shown_list_reads_again};
+use rz_pre::PreFault;
+use rz_show::show_resource;
+use rz_words::DeRezWords;
 use std::alloc::Global;
 
 /// Shows the fork that the words name as `data` statements on `out`.
@@ -24,44 +27,67 @@ pub fn run_derez<F: Folder, O: Sink>(
     folder: &mut F,
     out: &mut O,
     words: DeRezWords<'_>,
-) -> Outcome
-    ensures outcome { IfSome (F.files folder.old) (λ files. EndsAs (derez_answer words.entry.file.now files) result) }
-    ensures files { IfSome (F.files folder.old) (λ files.
-        LeavesFiles (derez_answer words.entry.file.now files) files result (F.files folder.new)) }
-    ensures output { IfSome (F.files folder.old) (λ files. IfSome (O.written out.old) (λ before.
-        LeavesOutput (derez_answer words.entry.file.now files) before result (O.written out.new))) }
-    ensures refused { IfSome (F.files folder.old) (λ files.
-        RefusesAll (derez_answer words.entry.file.now files).outcome result
-        (Rose (F.read_faults folder.old) (F.read_faults folder.new))) }
-    ensures complete { IfSome (F.files folder.old) (λ files.
-        Completes (derez_answer words.entry.file.now files).outcome result
-        (Rose (F.read_faults folder.old) (F.read_faults folder.new) ⊎ Rose (O.faults out.old) (O.faults out.new))) }
-    ensures no_usage { IsNoUsage result }
-    ensures nameable { IfRefused result (IsNameable 1) }
-    ensures read_fault { result ≡ Outcome.ReadFault → Rose (F.read_faults folder.old) (F.read_faults folder.new) }
-    ensures write_fault { result ≡ Outcome.WriteFault → Rose (O.faults out.old) (O.faults out.new) }
-    ensures kept_output { KeepsOutput result (O.written out.old) (O.written out.new) }
-    ensures again { IfSome (F.files folder.old) (λ files. MeansAgain (map.get files words.entry.file.now) result) }
+) -> Ended
+    ensures runs { Runs (AnswersDeRez words.entry.file.now) result (F.files folder.old) (F.files folder.new) (O.written out.old) (O.written out.new)
+        (Rose (F.read_faults folder.old) (F.read_faults folder.new)) (Rose (O.faults out.old) (O.faults out.new)) }
+    ensures no_usage { IsNoUsage result.outcome }
 {
-    let bytes = match folder.read(alloc, words.file) {
-        Read::Bytes(bytes) => bytes,
-        Read::Missing => {
-            return match missing_file(alloc, words.file) {
-                Ok(fault) => Outcome::Refused(fault),
-                Err(NoMemory) => Outcome::NoMemory,
-            };
-        }
-        Read::Failed => return Outcome::ReadFault,
-        Read::NoMemory => return Outcome::NoMemory,
-    };
-    let text = match show(alloc, bytes.as_slice()) {
-        Ok(text) => text,
-        Err(Stop::Refused(fault)) => return Outcome::Refused(fault),
-        Err(Stop::NoMemory) => return Outcome::NoMemory,
-    };
-    match out.put(text.as_slice()) {
+    match read_text(alloc, folder, words.file) {
+        Ok(text) => Ended::with(alloc, show_text(text.as_slice(), out)),
+        Err(stop) => Ended::by(alloc, stop),
+    }
+}
+
+/// Writes a text to `out`.
+pub fn show_text<O: Sink>(text: &[u8], out: &mut O) -> Outcome
+    ensures { Shows text.now result (O.written out.old) (O.written out.new) (Rose (O.faults out.old) (O.faults out.new)) }
+{
+    match out.put(text) {
         Put::Done => Outcome::Done,
         Put::Failed => Outcome::WriteFault,
+    }
+}
+
+/// The text of the fork that a name holds, or what stopped the command.
+fn read_text<F: Folder>(alloc: Global, folder: &mut F, file: &str) -> Result<Bytes, PreFault>
+    ensures text { IfSome (F.files folder.old) (λ files. Made result (λ answer. answer ≡ derez_text file.now files)) }
+    ensures nameable { IsNamed result }
+    ensures unchanged { F.files folder.new ≡ F.files folder.old }
+    ensures cause { result ≡ Err ReadFault → Rose (F.read_faults folder.old) (F.read_faults folder.new) }
+{
+    match folder.read(alloc, file) {
+        Read::Bytes(bytes) => text_of(alloc, bytes.as_slice()),
+        Read::Missing => {
+            let fault = missing_file(alloc, file)?;
+            Err(PreFault::Refused(fault, FileNames::new(alloc)))
+        }
+        Read::Failed => Err(PreFault::ReadFault),
+        Read::NoMemory => Err(PreFault::NoMemory),
+    }
+}
+
+/// The fault of a file that is not there.
+fn missing_file(alloc: Global, name: &str) -> Result<Fault, NoMemory>
+    ensures { IfOk result (λ fault. fault ≡ missing_file None name.now) }
+{
+    Ok(Fault {
+        number: 101,
+        mark: None,
+        kept: Kept::Name(Bytes::of(alloc, name.as_bytes())?),
+    })
+}
+
+/// The text of a fork, or what stopped the command.
+fn text_of(alloc: Global, bytes: &[u8]) -> Result<Bytes, PreFault>
+    requires { length bytes.now < 2 ^ 32 }
+    ensures text { Made result (λ answer. answer ≡ without_files (fork_text bytes.now)) }
+    ensures nameable { IsNamed result }
+    ensures quiet { result ≡ Err ReadFault → ⊥ }
+{
+    match show(alloc, bytes) {
+        Ok(text) => Ok(text),
+        Err(Stop::Refused(fault)) => Err(PreFault::Refused(fault, FileNames::new(alloc))),
+        Err(Stop::NoMemory) => Err(PreFault::NoMemory),
     }
 }
 
@@ -70,10 +96,8 @@ pub fn run_derez<F: Folder, O: Sink>(
 fn show(alloc: Global, bytes: &[u8]) -> Result<Bytes, Stop<Fault>>
     requires { length bytes.now < 2 ^ 32 }
     ensures text { Gives (fork_text bytes.now) result }
-    ensures nameable { OnFault result (IsNameable 1) }
-    ensures again { IfOk result (λ text. TextMeansFork bytes.now) }
+    ensures nameable { OnFault result (IsNameable 0) }
 {
-    shown_list_reads_again();
     match read_fork(alloc, bytes) {
         Ok(fork) => Ok(show_list(alloc, &fork.list)?),
         Err(Stop::Refused(fault)) => Err(Stop::Refused(broken_rule(fault))),
@@ -97,7 +121,7 @@ fn show_list(alloc: Global, list: &Resources) -> Result<Bytes, NoMemory>
 fn broken_rule(fault: ForkFault) -> Fault
     requires { IsSayable fault }
     ensures fault { result ≡ broken_rule fault }
-    ensures nameable { IsNameable 1 result }
+    ensures nameable { IsNameable 0 result }
 {
     Fault {
         number: fault.number,

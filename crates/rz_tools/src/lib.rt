@@ -1,14 +1,17 @@
 //! The commands of rezkit: what the words ask for, and the run that does it.
 #![tactic(auto)]
 
-mod command;
 mod derez;
+mod help;
+mod laws;
 mod message;
 mod outcome;
 mod program;
 mod resource_list;
 mod rez;
+mod tool_words;
 
-pub use command::commands_are_read;
-pub use outcome::{Outcome, UsageFault};
+pub use laws::one_answer;
+pub use outcome::Outcome;
 pub use program::run;
+pub use rz_words::UsageFault;

@@ -3,8 +3,9 @@ ghost use Rattle.rz_core.specs.Message.{IsNameable};
 ghost use Rattle.rz_tools.specs.Message.{message, usage_line};
 ghost use Rattle.rz_tools.specs.Outcome.{IfRefused};
 
-use crate::{Outcome, UsageFault};
+use crate::Outcome;
 use rz_core::{Bytes, FileNames, NoMemory, write_decimal, write_fault};
+use rz_words::UsageFault;
 use std::alloc::Global;
 
 /// The line that says how a run ended, where these are the files that marks count; nothing for Done.

@@ -1,16 +1,11 @@
-ghost use Rattle.std.specs.Prelude.{◌≡◌};
+ghost use Rattle.std.specs.Prelude.{◌≡◌, []};
+ghost use Rattle.rz_tools.specs.Made.{ended_by};
 ghost use Rattle.rz_tools.specs.Outcome.{status_of};
 
-use rz_core::Fault;
-use thiserror::Error;
-
-/// The words are no command.
-#[derive(Clone, Copy, Debug, Drop, PartialEq, Eq, Error)]
-#[error("word {position} can't stand where it stands")]
-pub struct UsageFault {
-    /// The first word that can't stand where it stands, from 1; one past the last where a word is missing.
-    pub position: u64,
-}
+use rz_core::{Fault, FileNames};
+use rz_pre::PreFault;
+use rz_words::UsageFault;
+use std::alloc::Global;
 
 /// How a run ended.
 #[derive(Debug, Drop)]
@@ -41,6 +36,40 @@ impl Outcome {
             Outcome::Refused(_) => 2,
             Outcome::ReadFault | Outcome::WriteFault => 3,
             Outcome::NoMemory => 4,
+        }
+    }
+}
+
+/// How a command ended.
+#[derive(Drop)]
+pub struct Ended {
+    pub outcome: Outcome,
+    /// The files that marks of its fault count.
+    pub files: FileNames,
+}
+
+impl Ended {
+    /// With this outcome, and without files.
+    pub fn with(alloc: Global, outcome: Outcome) -> Ended
+        ensures { result ≡ record { outcome = outcome; files = [] } }
+    {
+        Ended {
+            outcome,
+            files: FileNames::new(alloc),
+        }
+    }
+
+    /// With what stopped the command.
+    pub fn by(alloc: Global, stop: PreFault) -> Ended
+        ensures { result ≡ ended_by stop }
+    {
+        match stop {
+            PreFault::Refused(fault, files) => Ended {
+                outcome: Outcome::Refused(fault),
+                files,
+            },
+            PreFault::ReadFault => Ended::with(alloc, Outcome::ReadFault),
+            PreFault::NoMemory => Ended::with(alloc, Outcome::NoMemory),
         }
     }
 }

@@ -1,19 +1,22 @@
-ghost use Rattle.std.specs.Prelude.{length, ◌≡◌, ◌⊎◌, map, IfSome};
+ghost use Rattle.std.specs.Prelude.{length, ◌≡◌, ◌⊎◌, ℕ, List, map, IfSome};
 ghost use Rattle.std.specs.String.{string_bytes};
-ghost use Rattle.rz_folder.specs.Counts.{Rose};
 ghost use Rattle.rz_core.specs.Message.{IsNameable};
-ghost use Rattle.rz_tools.specs.Command.{command_of, files_named};
+ghost use Rattle.rz_folder.specs.Counts.{Rose};
+ghost use Rattle.rz_tools.specs.Answer.{Answer};
 ghost use Rattle.rz_tools.specs.Message.{message};
 ghost use Rattle.rz_tools.specs.Outcome.{IfRefused};
-ghost use Rattle.rz_tools.specs.Program.{answer, Completes, EndsAs, IsUsageExactly, KeepsOutput, LeavesFiles, LeavesOutput, ReadsAgain, RefusesAll, Says, SaysAnswer, StaysSo};
+ghost use Rattle.rz_tools.specs.Program.{Answers, Follows, IsAnswered, Keeps, OnUsage, Runs, Says, SaysAnswer, StaysSo};
+ghost use Rattle.rz_words.specs.Command.{IsMisplaced};
 
 use crate::Outcome;
-use crate::command::{Command, read_words};
-use crate::derez::run_derez;
+use crate::derez::{run_derez, show_text};
+use crate::help::{help_text, version_text};
 use crate::message::message_of;
+use crate::outcome::Ended;
 use crate::rez::run_rez;
-use rz_core::{FileNames, Moment};
+use rz_core::{FileNames, Moment, Stop};
 use rz_folder::{Folder, Sink};
+use rz_words::{Command, one_command, read_words};
 use std::alloc::Global;
 
 /// Does all that the program does. `words` are the words behind the program's name.
@@ -21,10 +24,10 @@ use std::alloc::Global;
 /// The outcome, the files and what `out` gets are those of the answer to the words. Usage comes exactly
 /// where the words are no command. Refused comes exactly where the answer is a refusal, unless a read of
 /// the folder failed in this call, and it is always that refusal. ReadFault and WriteFault come only
-/// where a read, or a write of the folder or of `out`, failed in this call. After Usage, Refused and
-/// ReadFault the folder is as before and `out` has got nothing; after WriteFault all files but the one
-/// that was being written are as before; after NoMemory the folder is as before. What `err` does changes
-/// no outcome. NoMemory may come in place of any other answer.
+/// where a read, or a write of the folder or of `out`, failed in this call. After Usage, Refused,
+/// ReadFault and NoMemory the folder is as before and `out` has got nothing; after WriteFault all files
+/// but the one that was being written are as before. What `err` does changes no outcome. NoMemory may
+/// come in place of any other answer.
 pub fn run<F: Folder, O: Sink, E: Sink>(
     alloc: Global,
     words: &[String],
@@ -33,54 +36,57 @@ pub fn run<F: Folder, O: Sink, E: Sink>(
     err: &mut E,
     moment: Moment,
 ) -> Outcome
-    // The outcome, the folder and `out` are the answer's.
-    ensures outcome { IfSome (F.files folder.old) (λ files.
-        EndsAs (answer (map string_bytes words.now) files moment) result) }
-    ensures files { IfSome (F.files folder.old) (λ files.
-        LeavesFiles (answer (map string_bytes words.now) files moment) files result (F.files folder.new)) }
-    ensures output { IfSome (F.files folder.old) (λ files. IfSome (O.written out.old) (λ before.
-        LeavesOutput (answer (map string_bytes words.now) files moment) before result (O.written out.new))) }
+    // There is an answer, and what is done is the answer's.
+    ensures answered { IfSome (F.files folder.old) (λ files. IsAnswered (Answers (map string_bytes words.now) files moment) result) }
+    ensures follows { IfSome (F.files folder.old) (λ files. (wanted : Answer) → Answers (map string_bytes words.now) files moment wanted
+        → Follows wanted result files (F.files folder.new) (O.written out.old) (O.written out.new)
+        (Rose (F.read_faults folder.old) (F.read_faults folder.new))
+        (Rose (F.write_faults folder.old) (F.write_faults folder.new) ⊎ Rose (O.faults out.old) (O.faults out.new))) }
 
-    // When each outcome comes.
-    ensures usage { IsUsageExactly (command_of (map string_bytes words.now)) result }
-    ensures refused { IfSome (F.files folder.old) (λ files.
-        RefusesAll (answer (map string_bytes words.now) files moment).outcome result
-        (Rose (F.read_faults folder.old) (F.read_faults folder.new))) }
+    // When each outcome comes, whether or not the folder tells what it holds.
+    ensures usage { OnUsage result (IsMisplaced (map string_bytes words.now)) }
+    ensures every_usage { (position : ℕ) → IsMisplaced (map string_bytes words.now) position
+        → (result ≡ Outcome.Usage (record { position = position })) ⊎ (result ≡ Outcome.NoMemory) }
     ensures read_fault { result ≡ Outcome.ReadFault → Rose (F.read_faults folder.old) (F.read_faults folder.new) }
     ensures write_fault { result ≡ Outcome.WriteFault →
         Rose (F.write_faults folder.old) (F.write_faults folder.new) ⊎ Rose (O.faults out.old) (O.faults out.new) }
-    ensures complete { IfSome (F.files folder.old) (λ files.
-        Completes (answer (map string_bytes words.now) files moment).outcome result
-        (Rose (F.read_faults folder.old) (F.read_faults folder.new)
-        ⊎ Rose (F.write_faults folder.old) (F.write_faults folder.new)
-        ⊎ Rose (O.faults out.old) (O.faults out.new))) }
 
     // What stays, and what is said.
-    ensures kept_output { KeepsOutput result (O.written out.old) (O.written out.new) }
-    ensures err { Says (message (files_named (command_of (map string_bytes words.now))) result)
+    ensures kept_files { Keeps result (F.files folder.old) (F.files folder.new) }
+    ensures kept_output { Keeps result (O.written out.old) (O.written out.new) }
+    ensures err { (named : List (List ℕ)) × Says (message named result)
         (E.written err.old) (E.written err.new) (E.faults err.old) (E.faults err.new) }
-    ensures again { IfSome (F.files folder.old) (λ files. ReadsAgain (command_of (map string_bytes words.now)) files result) }
-    ensures err_answered { IfSome (F.files folder.old) (λ files.
-        SaysAnswer (answer (map string_bytes words.now) files moment) result
-        (E.written err.old) (E.written err.new) (E.faults err.old) (E.faults err.new)) }
+    ensures err_answered { IfSome (F.files folder.old) (λ files. (wanted : Answer) → Answers (map string_bytes words.now) files moment wanted
+        → SaysAnswer wanted result (E.written err.old) (E.written err.new) (E.faults err.old) (E.faults err.new)) }
 {
-    let mut named = FileNames::new(alloc);
-    match read_words(words) {
-        Err(fault) => say(alloc, Outcome::Usage(fault), &named, err),
-        Ok(Command::Rez(asked)) => {
-            if named.push(asked.file).is_err() {
-                return say(alloc, Outcome::NoMemory, &named, err);
-            }
-            let outcome = run_rez(alloc, folder, asked);
-            say(alloc, outcome, &named, err)
-        }
-        Ok(Command::DeRez(asked)) => {
-            if named.push(asked.file).is_err() {
-                return say(alloc, Outcome::NoMemory, &named, err);
-            }
-            let outcome = run_derez(alloc, folder, out, asked);
-            say(alloc, outcome, &named, err)
-        }
+    let Ended { outcome, files } = run_words(alloc, words, folder, out, moment);
+    say(alloc, outcome, &files, err)
+}
+
+/// Does what the words ask for, and says nothing.
+fn run_words<F: Folder, O: Sink>(
+    alloc: Global,
+    words: &[String],
+    folder: &mut F,
+    out: &mut O,
+    moment: Moment,
+) -> Ended
+    ensures runs { Runs (λ files. Answers (map string_bytes words.now) files moment) result
+        (F.files folder.old) (F.files folder.new) (O.written out.old) (O.written out.new)
+        (Rose (F.read_faults folder.old) (F.read_faults folder.new))
+        (Rose (F.write_faults folder.old) (F.write_faults folder.new) ⊎ Rose (O.faults out.old) (O.faults out.new)) }
+    ensures usage { OnUsage result.outcome (IsMisplaced (map string_bytes words.now)) }
+    ensures every_usage { (position : ℕ) → IsMisplaced (map string_bytes words.now) position
+        → (result.outcome ≡ Outcome.Usage (record { position = position })) ⊎ (result.outcome ≡ Outcome.NoMemory) }
+{
+    one_command();
+    match read_words(alloc, words) {
+        Ok(Command::Rez(asked)) => run_rez(alloc, folder, &asked),
+        Ok(Command::DeRez(asked)) => run_derez(alloc, folder, out, asked),
+        Ok(Command::Help) => Ended::with(alloc, show_text(help_text(), out)),
+        Ok(Command::Version) => Ended::with(alloc, show_text(version_text(), out)),
+        Err(Stop::Refused(fault)) => Ended::with(alloc, Outcome::Usage(fault)),
+        Err(Stop::NoMemory) => Ended::with(alloc, Outcome::NoMemory),
     }
 }
 

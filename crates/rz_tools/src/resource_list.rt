@@ -1,6 +1,6 @@
 ghost use Rattle.std.specs.Prelude.{◌≡◌, [], IfOk};
 ghost use Rattle.rz_core.specs.Resources.{put_all, KeysDiffer};
-ghost use Rattle.rz_lex.specs.Early.{AreBare};
+ghost use Rattle.rz_stmt.specs.Resources.{AreBare};
 ghost use Rattle.rz_tools.specs.ResourceList.{key_of, keyed, values_of};
 
 use indexmap::IndexMap;

@@ -1,93 +1,98 @@
-ghost use Rattle.std.specs.Prelude.{◌≡◌, ◌⊎◌, [], ◌<◌, ◌^◌, length, IfSome, IfOk};
-ghost use Rattle.rz_core.specs.Stop.{Gives, OnFault};
-ghost use Rattle.rz_core.specs.Resources.{KeysDiffer};
-ghost use Rattle.rz_folder.specs.Counts.{Rose};
-ghost use Rattle.rz_lex.specs.Early.{AreBare};
+ghost use Rattle.std.specs.Prelude.{◌≡◌, [], ◌<◌, ◌≤◌, ◌^◌, ℕ, List, Option, length, IfSome, IfOk, Err};
 ghost use Rattle.rz_core.specs.Message.{IsNameable};
-ghost use Rattle.rz_tools.specs.Outcome.{IfRefused, IsNoUsage};
-ghost use Rattle.rz_tools.specs.Program.{Completes, EndsAs, LeavesFiles, RefusesAll};
-ghost use Rattle.rz_tools.specs.Rez.{list_fork, meaning, missing_file, past_limit, rez_answer, source_fork, IsLimit};
+ghost use Rattle.rz_core.specs.Resources.{KeysDiffer};
+ghost use Rattle.rz_core.specs.Stop.{Gives, OnFault};
+ghost use Rattle.rz_folder.specs.Counts.{Rose};
+ghost use Rattle.rz_lex.specs.declared.token.Token.{Token};
+ghost use Rattle.rz_pre.specs.declared.program.PreFault.TheVariants.{ReadFault};
+ghost use Rattle.rz_stmt.specs.Resources.{AreBare, AreWithin};
+ghost use Rattle.rz_stmt.specs.Statements.{AreStatements};
+ghost use Rattle.rz_words.specs.Item.{rez};
+ghost use Rattle.rz_tools.specs.Made.{IsNamed, Made};
+ghost use Rattle.rz_tools.specs.Outcome.{IsNoUsage};
+ghost use Rattle.rz_tools.specs.Program.{Runs};
+ghost use Rattle.rz_tools.specs.Rez.{list_fork, meaning, past_limit, statements_fork, AnswersRez, Compiles, IsLimit};
 
 use crate::Outcome;
-use crate::command::RezWords;
+use crate::outcome::Ended;
 use crate::resource_list::put_in_order;
-use rz_core::{Bytes, Fault, Kept, NoMemory, Resources, Stop};
-use rz_folder::{Folder, Read, Written};
+use crate::tool_words::number_tool_words;
+use rz_core::{Bytes, Fault, Kept, Resources, Stop};
+use rz_folder::{Folder, Written};
 use rz_fork::{LimitFault, write_fork};
-use rz_lex::read_early;
+use rz_lex::Tokens;
+use rz_pre::{PreFault, Program, Tool, one_program, preprocess};
+use rz_stmt::{all_tokens_are_statements, one_cutting, read_resources};
+use rz_words::RezWords;
 use std::alloc::Global;
 
-/// The position of the source in the list of files.
-const SOURCE: u64 = 0;
-
-/// Compiles the source that the words name into a raw fork, and writes the fork.
-pub fn run_rez<F: Folder>(alloc: Global, folder: &mut F, words: RezWords<'_>) -> Outcome
-    ensures outcome { IfSome (F.files folder.old) (λ files. EndsAs (rez_answer words.entry.file.now words.entry.output.now files) result) }
-    ensures files { IfSome (F.files folder.old) (λ files.
-        LeavesFiles (rez_answer words.entry.file.now words.entry.output.now files) files result (F.files folder.new)) }
-    ensures refused { IfSome (F.files folder.old) (λ files.
-        RefusesAll (rez_answer words.entry.file.now words.entry.output.now files).outcome result
-        (Rose (F.read_faults folder.old) (F.read_faults folder.new))) }
-    ensures no_usage { IsNoUsage result }
-    ensures nameable { IfRefused result (IsNameable 1) }
-    ensures read_fault { result ≡ Outcome.ReadFault → Rose (F.read_faults folder.old) (F.read_faults folder.new) }
-    ensures write_fault { result ≡ Outcome.WriteFault → Rose (F.write_faults folder.old) (F.write_faults folder.new) }
-    ensures complete { IfSome (F.files folder.old) (λ files.
-        Completes (rez_answer words.entry.file.now words.entry.output.now files).outcome result
-        (Rose (F.read_faults folder.old) (F.read_faults folder.new) ⊎ Rose (F.write_faults folder.old) (F.write_faults folder.new))) }
+/// Compiles the sources that the words name into a raw fork, and writes the fork.
+pub fn run_rez<F: Folder>(alloc: Global, folder: &mut F, words: &RezWords<'_>) -> Ended
+    ensures runs { (written : Option (List ℕ)) → Runs (AnswersRez (rez words.now)) result (F.files folder.old) (F.files folder.new) written written
+        (Rose (F.read_faults folder.old) (F.read_faults folder.new)) (Rose (F.write_faults folder.old) (F.write_faults folder.new)) }
+    ensures no_usage { IsNoUsage result.outcome }
 {
-    let source = match folder.read(alloc, words.file) {
-        Read::Bytes(source) => source,
-        Read::Missing => {
-            return match missing_file(alloc, words.file) {
-                Ok(fault) => Outcome::Refused(fault),
-                Err(NoMemory) => Outcome::NoMemory,
-            };
-        }
-        Read::Failed => return Outcome::ReadFault,
-        Read::NoMemory => return Outcome::NoMemory,
-    };
-    let fork = match compile(alloc, source.as_slice()) {
-        Ok(fork) => fork,
-        Err(Stop::Refused(fault)) => return Outcome::Refused(fault),
-        Err(Stop::NoMemory) => return Outcome::NoMemory,
-    };
-    match folder.write(words.output, fork.as_slice()) {
-        Written::Done => Outcome::Done,
-        Written::Failed => Outcome::WriteFault,
+    one_program();
+    one_cutting();
+    match compile(alloc, folder, words) {
+        Ok(fork) => match folder.write(words.output, fork.as_slice()) {
+            Written::Done => Ended::with(alloc, Outcome::Done),
+            Written::Failed => Ended::with(alloc, Outcome::WriteFault),
+        },
+        Err(stop) => Ended::by(alloc, stop),
     }
 }
 
-/// The fault of a file that is not there.
-pub fn missing_file(alloc: Global, name: &str) -> Result<Fault, NoMemory>
-    ensures { IfOk result (λ fault. fault ≡ missing_file name.now) }
+/// The fork that the sources mean, or what stopped the command.
+fn compile<F: Folder>(
+    alloc: Global,
+    folder: &mut F,
+    words: &RezWords<'_>,
+) -> Result<Bytes, PreFault>
+    ensures fork { IfSome (F.files folder.old) (λ files. Made result (Compiles (rez words.now) files)) }
+    ensures nameable { IsNamed result }
+    ensures short { IfOk result (λ fork. length fork < 2 ^ 32) }
+    ensures unchanged { F.files folder.new ≡ F.files folder.old }
+    ensures other_count { F.write_faults folder.new ≡ F.write_faults folder.old }
+    ensures counted { F.read_faults folder.old ≤ F.read_faults folder.new }
+    ensures cause { result ≡ Err ReadFault → Rose (F.read_faults folder.old) (F.read_faults folder.new) }
 {
-    Ok(Fault {
-        number: 101,
-        mark: None,
-        kept: Kept::Name(Bytes::of(alloc, name.as_bytes())?),
-    })
+    all_tokens_are_statements();
+    let program = preprocess(
+        alloc,
+        folder,
+        Tool::Rez,
+        &words.files,
+        &words.paths,
+        &words.defs,
+    )?;
+    let Program { files, tokens, .. } = program;
+    match fork_in(alloc, &number_tool_words(Tool::Rez, tokens)) {
+        Ok(fork) => Ok(fork),
+        Err(Stop::Refused(fault)) => Err(PreFault::Refused(fault, files)),
+        Err(Stop::NoMemory) => Err(PreFault::NoMemory),
+    }
 }
 
-/// The fork that a source means, or the first rule that it breaks.
-fn compile(alloc: Global, source: &[u8]) -> Result<Bytes, Stop<Fault>>
-    ensures fork { Gives (source_fork source.now) result }
-    ensures nameable { OnFault result (IsNameable 1) }
+/// The fork that the tokens of a program mean, or the first rule that they break.
+fn fork_in(alloc: Global, tokens: &Tokens) -> Result<Bytes, Stop<Fault>>
+    ensures fork { (statements : List (List Token)) → AreStatements tokens.now statements → Gives (statements_fork statements) result }
+    ensures nameable { (files : ℕ) → AreWithin files tokens.now → OnFault result (IsNameable files) }
     ensures short { IfOk result (λ fork. length fork < 2 ^ 32) }
 {
-    let list = read_list(alloc, source)?;
+    let list = list_in(alloc, tokens)?;
     write_list(alloc, &list)
 }
 
-/// The resources that a source means.
+/// The resources that the tokens of a program mean.
 #[tactic(auto, unfolding(crate::specs::Rez::meaning))]
-fn read_list(alloc: Global, source: &[u8]) -> Result<Resources, Stop<Fault>>
-    ensures list { Gives (meaning source.now) result }
-    ensures nameable { OnFault result (IsNameable 1) }
+fn list_in(alloc: Global, tokens: &Tokens) -> Result<Resources, Stop<Fault>>
+    ensures list { (statements : List (List Token)) → AreStatements tokens.now statements → Gives (meaning statements) result }
+    ensures nameable { (files : ℕ) → AreWithin files tokens.now → OnFault result (IsNameable files) }
     ensures keys { IfOk result (KeysDiffer []) }
     ensures bare { IfOk result AreBare }
 {
-    let resources = read_early(alloc, source, SOURCE)?;
+    let resources = read_resources(alloc, tokens)?;
     Ok(put_in_order(alloc, resources)?)
 }
 
@@ -97,7 +102,7 @@ fn write_list(alloc: Global, list: &Resources) -> Result<Bytes, Stop<Fault>>
     requires keys { KeysDiffer [] list.now }
     requires bare { AreBare list.now }
     ensures fork { Gives (list_fork list.now) result }
-    ensures nameable { OnFault result (IsNameable 1) }
+    ensures nameable { (files : ℕ) → OnFault result (IsNameable files) }
     ensures short { IfOk result (λ fork. length fork < 2 ^ 32) }
 {
     match write_fork(alloc, list, 0, &[]) {
@@ -111,7 +116,7 @@ fn write_list(alloc: Global, list: &Resources) -> Result<Bytes, Stop<Fault>>
 fn past_limit(fault: LimitFault) -> Fault
     requires { IsLimit fault }
     ensures fault { result ≡ past_limit fault }
-    ensures nameable { IsNameable 1 result }
+    ensures nameable { (files : ℕ) → IsNameable files result }
 {
     Fault {
         number: fault.number,

@@ -39,6 +39,7 @@ rez -d n= a => rez a -o Rez.Out -d n 0
 rez -d n=1 a => rez a -o Rez.Out -d n 1
 rez -d n=1+2 a => rez a -o Rez.Out -d n 3
 rez -d n=a=b a => rez a -o Rez.Out -d n 3
+rez -d n=-1 a => rez a -o Rez.Out -d n 2
 rez -d n=x -d n=1+2 a => rez a -o Rez.Out -d n 1 -d n 3
 rez -u n a => rez a -o Rez.Out -u n
 rez -u n -d n=1 -u N a => rez a -o Rez.Out -u n -d n 1 -u N
@@ -104,6 +105,7 @@ derez -f => word 2
 derez f g => word 3
 derez f -p => word 3
 derez f -d n => word 3
+derez --help => word 2
 // help and version stand alone
 --help => help
 --version => version

@@ -1,4 +1,4 @@
-use Rattle.std.proofs.Common.{◌≡◌, ◌++◌, ◌∷◌, [], List, ℕ, ap, ◌∙◌, append_assoc}
+use Rattle.std.proofs.Common.{◌++◌, ◌∷◌, [], List, ℕ, ap, ◌∙◌, append_assoc}
 use Rattle.rz_core.specs.Decimal.{decimal_of}
 use Rattle.rz_tools.specs.Message.{usage_line}
 use Rattle.rz_tools.proofs.message.append_usage.Goals as goal

@@ -1,4 +1,4 @@
-use Rattle.std.proofs.Common.{◌≡◌, [], ◌++◌}
+use Rattle.std.proofs.Common.{◌≡◌, []}
 use Rattle.rz_core.specs.Resources.{put_all}
 use Rattle.rz_tools.specs.ResourceList.{keyed}
 use Rattle.rz_tools.proofs.resource_list.hold.Given as goal

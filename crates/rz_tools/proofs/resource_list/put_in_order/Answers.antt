@@ -1,7 +1,6 @@
-use Rattle.std.proofs.Common.{◌≡◌, [], List, subst, sym, ap, ◌∙◌}
+use Rattle.std.proofs.Common.{[], subst, sym, ap, ◌∙◌}
 use Rattle.rz_core.specs.Resources.{put_all, KeysDiffer}
-use Rattle.rz_core.specs.declared.resource.Resource.{Resource}
-use Rattle.rz_lex.specs.Early.{AreBare, IsBare}
+use Rattle.rz_stmt.specs.Resources.{AreBare, IsBare}
 use Rattle.rz_tools.specs.ResourceList.{values_of, keyed}
 use Rattle.rz_tools.proofs.Puts.{values_keyed, all_put_all, differ_put_all}
 use Rattle.rz_tools.proofs.resource_list.put_in_order.Goals as goal

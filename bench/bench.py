@@ -1,0 +1,210 @@
+#!/usr/bin/env python3
+"""Measures the built program on sources and forks of 1, 4 and 16 MB (of 1,000,000 bytes each).
+
+usage: bench/bench.py [PROGRAM [SEED]]
+
+The sources and forks are made from the seed in a folder of their own, which is removed at the end. Each
+kind is run at each size; the length of each result is compared with the one worked out here, from the
+layout of a resource fork and the form of the shown text. Printed are the bytes read, the seconds, MB/s,
+the peak memory in MB and for each byte read, and how much of both the next size takes in place of the one
+before. The status is 1 where a length is wrong, or where from 4 to 16 MB more than five times the time or
+the memory is taken, or where a source of hexadecimal texts takes more than 12 bytes for each of its own.
+"""
+
+import os
+import random
+import shutil
+import struct
+import sys
+import tempfile
+import time
+
+MB = 1_000_000
+SIZES = (1, 4, 16)
+MOST_GROWTH = 5.0
+MOST_HEX_BYTES = 12.0
+
+
+def hex_line(rng, count):
+    """A hexadecimal text of so many bytes."""
+    return '    $"%s"\n' % rng.randbytes(count).hex().upper()
+
+
+def fork_length(resources):
+    """The length of the fork of these resources: a map from (type, id) to the number of their bytes."""
+    kinds = {kind for kind, _ in resources}
+    area = sum(4 + size for size in resources.values())
+    return 256 + area + 28 + 2 + 8 * len(kinds) + 12 * len(resources)
+
+
+def write_hex(folder, rng, size):
+    """`data` statements of 16,000 bytes each, in lines of 16 bytes."""
+    resources, made = {}, 0
+    with open(os.path.join(folder, "main.r"), "w") as source:
+        while made < size:
+            number = len(resources)
+            lines = "".join(hex_line(rng, 16) for _ in range(1000))
+            made += source.write("data 'Hexa' (%d) {\n%s};\n" % (number, lines))
+            resources["Hexa", number] = 16_000
+    return resources
+
+
+def write_small(folder, rng, size):
+    """Statements of a few bytes on 5,000 ids; a later one takes the place of an earlier one."""
+    resources, made, number = {}, 0, 0
+    with open(os.path.join(folder, "main.r"), "w") as source:
+        while made < size:
+            count = rng.randrange(4)
+            text = '$"%s"' % rng.randbytes(count).hex()
+            made += source.write("data 'Smal' (%d) { %s };\n" % (number % 5000, text))
+            resources["Smal", number % 5000] = count
+            number += 1
+    return resources
+
+
+def write_macros(folder, rng, size):
+    """Macros of macros, defined and undefined again, and conditionals around each statement."""
+    resources, made, number = {}, 0, 0
+    with open(os.path.join(folder, "main.r"), "w") as source:
+        made += source.write("#define open {\n#define close } ;\n#define both open bytes close\n")
+        while made < size:
+            count = rng.randrange(1, 9)
+            made += source.write(
+                "#define bytes $\"%s\"\n"
+                "#define level%d (%d)\n"
+                "#if defined(level%d) && %d %% 2 == %d\n"
+                "data 'Macr' level%d both\n"
+                "#elif rez\n"
+                "data 5;\n"
+                "#endif\n"
+                "#undef level%d\n"
+                % (rng.randbytes(count).hex(), number, number % 4000, number, number, number % 2, number, number)
+            )
+            resources["Macr", number % 4000] = count
+            number += 1
+    return resources
+
+
+def write_includes(folder, rng, size):
+    """Files of about 2,000 bytes; the source includes those with even numbers, and each of them the next."""
+    resources, made, number = {}, 0, 0
+    with open(os.path.join(folder, "main.r"), "w") as source:
+        while made < size:
+            name = "part%d.r" % number
+            if number % 2 == 0:
+                made += source.write('#include "%s"\n' % name)
+            with open(os.path.join(folder, name), "w") as part:
+                if number % 2 == 0:
+                    made += part.write('#include "part%d.r"\n' % (number + 1))
+                lines = "".join(hex_line(rng, 16) for _ in range(48))
+                made += part.write("data 'Incl' (%d) {\n%s};\n" % (number % 5000, lines))
+                resources["Incl", number % 5000] = 48 * 16
+            number += 1
+        if number % 2 == 1:
+            with open(os.path.join(folder, "part%d.r" % number), "w") as part:
+                made += part.write("// the last\n")
+    return resources
+
+
+def write_fork(folder, rng, size):
+    """A fork of 4,000 resources in 500 types. Gives the length of its text."""
+    count, kinds = 4000, 500
+    each = (size - 256 - 30 - 8 * kinds - 12 * count) // count - 4
+    area, references, text = bytearray(), [[] for _ in range(kinds)], 0
+    for number in range(count):
+        place = len(area)
+        area += struct.pack(">I", each) + rng.randbytes(each)
+        references[number % kinds].append((number // kinds, place))
+        text += len("data 'k%03d' (%d) {\n" % (number % kinds, number // kinds)) + len("};\n\n")
+        full, rest = divmod(each, 16)
+        text += full * len('    $"0001 0203 0405 0607 0809 0A0B 0C0D 0E0F"\n')
+        if rest:
+            text += len('    $""\n') + 2 * rest + (rest - 1) // 2
+    entries, lists = bytearray(), bytearray()
+    for number, members in enumerate(references):
+        at = 2 + 8 * kinds + len(lists)
+        entries += b"k%03d" % number + struct.pack(">HH", len(members) - 1, at)
+        for name, place in members:
+            lists += struct.pack(">hHII", name, 0xFFFF, place, 0)
+    end = 28 + 2 + len(entries) + len(lists)
+    header = struct.pack(">IIII", 256, 256 + len(area), len(area), end)
+    with open(os.path.join(folder, "main"), "wb") as fork:
+        fork.write(header + bytes(240) + area + header + bytes(8) + struct.pack(">HH", 28, end))
+        fork.write(struct.pack(">H", kinds - 1) + entries + lists)
+    return text
+
+
+def run(program, folder, words):
+    """The seconds, the peak memory in bytes, and the status of a run in a folder."""
+    start = time.monotonic()
+    child = os.fork()
+    if child == 0:
+        os.chdir(folder)
+        out = os.open("out", os.O_WRONLY | os.O_CREAT | os.O_TRUNC)
+        os.dup2(out, 1)
+        os.execv(program, [program] + words)
+    _, status, usage = os.wait4(child, 0)
+    return time.monotonic() - start, usage.ru_maxrss * 1024, os.waitstatus_to_exitcode(status)
+
+
+def bytes_in(folder):
+    """The bytes of all files of a folder."""
+    return sum(entry.stat().st_size for entry in os.scandir(folder))
+
+
+def measure(program, rng, kind, make, size):
+    """One run: the bytes read, the seconds, the peak memory, and whether the result has its length."""
+    folder = tempfile.mkdtemp(prefix="rezkit-bench-")
+    try:
+        wanted = make(folder, rng, size * MB)
+        read = bytes_in(folder)
+        if kind == "fork":
+            seconds, memory, status = run(program, folder, ["derez", "main"])
+            found = os.path.getsize(os.path.join(folder, "out"))
+        else:
+            seconds, memory, status = run(program, folder, ["rez", "main.r", "-o", "fork"])
+            wanted = fork_length(wanted)
+            fork = os.path.join(folder, "fork")
+            found = os.path.getsize(fork) if os.path.exists(fork) else -1
+        if status != 0 or found != wanted:
+            print("%s: status %d, %d bytes and not %d" % (kind, status, found, wanted))
+        return read, seconds, memory, status == 0 and found == wanted
+    finally:
+        shutil.rmtree(folder)
+
+
+def main():
+    here = os.path.dirname(os.path.abspath(__file__))
+    built = os.path.join(here, "..", "crates", "rezkit", "out", "rezkit")
+    program = os.path.abspath(sys.argv[1] if len(sys.argv) > 1 else built)
+    seed = int(sys.argv[2]) if len(sys.argv) > 2 else 1984
+    kinds = (
+        ("hex", write_hex),
+        ("small", write_small),
+        ("macros", write_macros),
+        ("includes", write_includes),
+        ("fork", write_fork),
+    )
+    print("%s, seed %d, %d cores" % (program, seed, os.cpu_count()))
+    print("%-9s %5s %10s %8s %7s %8s %7s %12s" % ("kind", "MB", "bytes", "seconds", "MB/s", "peak MB", "/byte", "growth"))
+    good = True
+    for kind, make in kinds:
+        before = None
+        for size in SIZES:
+            read, seconds, memory, right = measure(program, random.Random(seed), kind, make, size)
+            growth = "" if before is None else "%.1f %.1f" % (seconds / before[0], memory / before[1])
+            print(
+                "%-9s %5d %10d %8.2f %7.1f %8.1f %7.1f %12s"
+                % (kind, size, read, seconds, read / MB / seconds, memory / MB, memory / read, growth)
+            )
+            good = good and right
+            if size == SIZES[-1]:
+                good = good and max(seconds / before[0], memory / before[1]) <= MOST_GROWTH
+                good = good and (kind != "hex" or memory / read <= MOST_HEX_BYTES)
+            before = (seconds, memory)
+    print("all lengths and limits hold" if good else "a length or a limit does not hold")
+    sys.exit(0 if good else 1)
+
+
+if __name__ == "__main__":
+    main()
