@@ -46,7 +46,7 @@ fn forks_without_resources_show_nothing(rt: HostRuntime) -> Result<(), Fail> {
     let mut desk = Desk::new(rt.alloc())?;
     desk.insert("e.r", b"")?;
     desk.insert("none", b"")?;
-    assert_eq!(rt; desk.run(&["rez", "e.r", "-o", "Rez.Out"])?.status(), 0);
+    assert_eq!(rt; desk.run(&["rez", "e.r"])?.status(), 0);
     let fork = desk.folder.bytes("Rez.Out").ok_or("no fork")?;
     assert_eq!(rt; fork.len(), 286);
     assert_eq!(rt; &fork[280..286], [0, 28, 0, 30, 0xFF, 0xFF].as_slice());

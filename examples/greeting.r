@@ -1,0 +1,11 @@
+// Greetings as bytes. Compile with -d French for the French ones.
+#include "kinds.r"
+
+#ifdef French
+#define hello "bonjour"
+#else
+#define hello "hello"
+#endif
+
+data kText (128) { hello };
+data kText (129) { hello ", " hello "\n" };
