@@ -7,3 +7,4 @@ pub mod Literals
 pub mod Prefixes
 pub mod OneExpression
 pub mod FaultsStay
+pub mod Whole

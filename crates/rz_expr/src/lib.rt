@@ -12,6 +12,6 @@ mod words;
 pub use env::{Env, predefined};
 pub use expr::{BinaryOp, Expr, UnaryOp};
 pub use laws::{faults_stay, one_expression, values_stay};
-pub use read::{ReadExpr, read_expr};
+pub use read::{ReadExpr, read_expr, read_whole};
 pub use value::{EvalFault, eval};
 pub use words::{FactWord, Function, Role, role_of};

@@ -1,6 +1,6 @@
 ghost use Rattle.std.specs.Prelude.{◌≡◌, ◌+◌, ◌*◌, ◌%◌, ◌^◌, ◌<◌, ◌≤◌, true, None, pos, length, drop, List, IfOk, IfSome, MatchOption};
 ghost use Rattle.rz_expr.specs.Fronts.{NoneBegins};
-ghost use Rattle.rz_expr.specs.Grammar.{bytes_number, is_bracket, loosest, sign_start, word_start, Bracket, Calls, LongestExpression, NoExpression};
+ghost use Rattle.rz_expr.specs.Grammar.{bytes_number, is_bracket, loosest, sign_start, word_start, Bracket, Calls, IsExpression, LongestExpression, NoExpression};
 ghost use Rattle.rz_expr.specs.Reading.{prefix_count, prefix_of, prefixed_term, Begins, IsEnded, IsFront, NoneEnds};
 ghost use Rattle.rz_expr.specs.Term.{term_of, BitsAt, Constant, Term};
 ghost use Rattle.rz_expr.specs.Value.{reduced};
@@ -66,6 +66,24 @@ fn read_at(alloc: Global, tokens: &Tokens, start: u64) -> Result<Option<ReadExpr
             expr: front.expr,
             end: start + front.length as u64,
         })),
+        None => Ok(None),
+    }
+}
+
+/// The expression that the tokens are, whole. `None` comes exactly where they are none. Time and depth are
+/// those of `read_expr`. (MPW Rez.)
+pub fn read_whole(alloc: Global, tokens: &[Token]) -> Result<Option<Expr>, NoMemory>
+    ensures { IfOk result (λ found. MatchOption found ((term : Term) → IsExpression tokens.now term → ⊥)
+        (λ expr. IsExpression tokens.now (term_of expr))) }
+{
+    match read_level(alloc, tokens, LOOSEST)? {
+        Some(front) => {
+            if front.length == tokens.len() {
+                Ok(Some(front.expr))
+            } else {
+                Ok(None)
+            }
+        }
         None => Ok(None),
     }
 }

@@ -93,7 +93,6 @@ fn first_fault_is_named_with_its_line(rt: HostRuntime) -> Result<(), Fail> {
         ("x", "1: error 201 Syntax"),
         ("\n \n\n x", "4: error 201 Syntax"),
         ("data 'Test' (128) { $\"01\" }", "1: error 201 Syntax"),
-        ("data 'Test' (-1) { };", "1: error 201 Syntax"),
         ("data 'Test' () { };", "1: error 201 Syntax"),
         ("data 'Tes' (1) { };", "1: error 201 Syntax"),
         ("data 'Test' (1) { ;; };", "1: error 201 Syntax"),
@@ -103,8 +102,8 @@ fn first_fault_is_named_with_its_line(rt: HostRuntime) -> Result<(), Fail> {
         ),
         ("data 'Test' (32768) { };", "1: error 204 BadId: 32768"),
         (
-            "\ndata 'Test'\n(4294967295) { };",
-            "2: error 204 BadId: 4294967295",
+            "\ndata 'Test'\n(-32768 - 1) { };",
+            "2: error 204 BadId: -32769",
         ),
         ("data 'Test' (32768) { 1 };", "1: error 201 Syntax"),
         ("data 'Test' (32768) { };\nx;", "1: error 204 BadId: 32768"),

@@ -1,5 +1,11 @@
+pub mod Decided
 pub mod Statements
 pub mod Cutting
-pub mod Data
+pub mod Limit
+pub mod Text
+pub mod Piece
 pub mod Held
-pub mod Resources
+pub mod Head
+pub mod Raw
+pub mod Grammar
+pub mod Number

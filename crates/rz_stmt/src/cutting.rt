@@ -31,7 +31,7 @@ pub fn statements(alloc: Global, tokens: &Tokens) -> Result<Spans, NoMemory>
 }
 
 /// How many tokens the first statement has.
-pub fn statement_size(tokens: &[Token]) -> usize
+fn statement_size(tokens: &[Token]) -> usize
     requires { 0 < length tokens.now }
     ensures size { result ≡ size_of 0 tokens.now }
     ensures some { 0 < result }
@@ -58,7 +58,7 @@ fn is_end(shape: &Shape, depth: usize) -> bool
 }
 
 /// How many brackets are open behind a token.
-fn open_behind(shape: &Shape, depth: usize) -> usize
+pub fn open_behind(shape: &Shape, depth: usize) -> usize
     requires { depth + 1 < 2 ^ 64 }
     ensures count { result ≡ open_behind shape.now depth }
     ensures slow { result ≤ depth + 1 }

@@ -2,11 +2,21 @@
 #![tactic(auto)]
 
 mod cutting;
-mod data;
-mod resources;
+mod grammar;
+mod head;
+mod laws;
+mod limit;
+mod number;
+mod piece;
+mod raw;
 mod span;
+mod text;
 
 pub use cutting::{one_cutting, statements};
-pub use data::{data_statements, read_data};
-pub use resources::{all_tokens_are_statements, read_resources};
+pub use grammar::{Stmt, parse};
+pub use head::{AttrPart, AttrParts, HeadExpr};
+pub use laws::{all_tokens_are_statements, one_statement};
+pub use number::number_of;
+pub use raw::RawStmt;
 pub use span::{Span, Spans};
+pub use text::{TextPart, Texts, text_of};

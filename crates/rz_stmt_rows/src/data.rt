@@ -1,14 +1,16 @@
-use rz_core::{Bytes, Fault, Kept, Resource, Stop, write_decimal, write_signed};
-use rz_lex::{Shape, Token, Tokens, lex};
-use rz_stmt::read_data;
+use rz_core::{Bytes, Fault, Kept, Mark, Stop, write_decimal, write_signed};
+use rz_expr::Expr;
+use rz_lex::{Tokens, lex};
+use rz_stmt::{AttrPart, HeadExpr, RawStmt, Span, Stmt, Texts, number_of, parse, text_of};
 use std::alloc::Global;
 use std::test::Fail;
 
 /// The most bytes of a text of a test.
 const MOST: usize = 100_000;
 
-/// Statements, and what they mean: a type, an id and bytes in decimal, or a fault with its line and what it
-/// keeps.
+/// Statements, and what they are: a type, the value of the id, a name between `<` and `>`, attributes (`+` a
+/// bit that is set, `-` one that is cleared, `=` a number) and bytes in decimal; or a fault with its line and
+/// what it keeps.
 const ROWS: &str = r#"
 // texts of either kind, none, and a `;` behind them
 data 'Test' (128) { $"0102" }; => 'Test' 128 1 2.
@@ -17,15 +19,31 @@ data 'Test' (1) { ; }; => 'Test' 1.
 data 'Test' (0) { "AB" }; => 'Test' 0 65 66.
 data 'Test' (1) { "A" $"00FF" "\n" "" }; => 'Test' 1 65 0 255 13.
 data 'Test' (1) { "A"; }; => 'Test' 1 65.
-// the word in whatever case, the type as it is, the number in whatever form
+// the word in whatever case, the type as it is
 DATA 'tEST' (0x10) { $"" }; => 'tEST' 16.
 Data'A\0x01b '(32767){"a"}; => 'A.b ' 32767 97.
-data 'Test' ($7F) {}; => 'Test' 127.
-// a number that is too great
-data 'Test' (32768) { "a" }; => 204 on 1 32768
-data 'Test' (4294967295) { }; => 204 on 1 4294967295
-// no such statement
-; => 201 on 1
+// the id is an expression, of whatever value
+data 'Test' (-1) { }; => 'Test' -1.
+data 'Test' (2 * (3 + 4), "n") { }; => 'Test' 14 <n>.
+data 'Test' ('a') { }; => 'Test' 97.
+data 'Test' (TRUE + !false) { }; => 'Test' 2.
+data 'Test' (99999) { }; => 'Test' 99999.
+data 'Test' (4294967295) { }; => 'Test' -1.
+data 'Test' (1 / 0) { }; => 'Test' 211 on 1.
+data 'Test' (1 << 32) { }; => 'Test' 215 on 1 32.
+// a name, in one piece or in more, and attributes in any order behind it
+data 'Test' (1, "name") { }; => 'Test' 1 <name>.
+data 'Test' (1, "") { }; => 'Test' 1 <>.
+data 'Test' (1, "na" $"6D" "e") { }; => 'Test' 1 <name>.
+data 'Test' (1, locked) { }; => 'Test' 1 +16.
+data 'Test' (1, "n", sysheap, purgeable, locked, protected, preload, changed) { }; => 'Test' 1 <n> +64 +32 +16 +8 +4 +2.
+data 'Test' (1, appheap, nonpurgeable, unlocked, unprotected, nonpreload, unchanged) { }; => 'Test' 1 -64 -32 -16 -8 -4 -2.
+data 'Test' (1, LOCKED, UnLocked, $81, 1 + 1) { }; => 'Test' 1 +16 -16 =129 =2.
+data 'Test' (1, -5, 256) { }; => 'Test' 1 =-5 =256.
+data 'Test' (1, true, 5 % 0) { }; => 'Test' 1 =1 =211 on 1.
+// a `;` alone
+; => empty
+// no statement
 data => 201 on 1
 data; => 201 on 1
 data 'Test' (1) { "a" } => 201 on 1
@@ -39,20 +57,34 @@ data 'Test' (1) { 'a' }; => 201 on 1
 data 'Test' (1) [ "a" ]; => 201 on 1
 data 'Test' 1 { "a" }; => 201 on 1
 data 'Test' (1 { "a" }; => 201 on 1
-data 'Test' (-1) { "a" }; => 201 on 1
-data 'Test' ('a') { "a" }; => 201 on 1
-data 'Test' (1, "n") { "a" }; => 201 on 1
+data 'Test' (1)) { "a" }; => 201 on 1
+data 'Test' () { "a" }; => 201 on 1
+data 'Test' ("n") { "a" }; => 201 on 1
+data 'Test' (1,) { "a" }; => 201 on 1
+data 'Test' (1, , 2) { "a" }; => 201 on 1
+data 'Test' (1, locked, "n") { "a" }; => 201 on 1
+data 'Test' (1, "n", "m") { "a" }; => 201 on 1
+data 'Test' (1, "n" locked) { "a" }; => 201 on 1
+data 'Test' (1, locked unlocked) { "a" }; => 201 on 1
+data 'Test' (1, (locked)) { "a" }; => 201 on 1
+data 'Test' (1, name) { "a" }; => 201 on 1
+data 'Test' (x) { "a" }; => 201 on 1
+data 'Test' (locked) { "a" }; => 201 on 1
+data 'Test' (1 + ) { "a" }; => 201 on 1
+data 'Test' (1 2) { "a" }; => 201 on 1
+data 'Test' ($$ID) { "a" }; => 201 on 1
+data 'Test' ($$CountOf(a)) { "a" }; => 201 on 1
+data 'Test' ($$BitField(a, 1, 2)) { "a" }; => 201 on 1
+data 'Test' (1, $$Name) { "a" }; => 201 on 1
 data 'Tes' (1) { "a" }; => 201 on 1
 data "Test" (1) { "a" }; => 201 on 1
 dat 'Test' (1) { "a" }; => 201 on 1
 datas 'Test' (1) { "a" }; => 201 on 1
 resource 'Test' (1) { "a" }; => 201 on 1
 "data" 'Test' (1) { "a" }; => 201 on 1
-// 201 before 204
-data 'Test' (32768) { "a", }; => 201 on 1
 // the mark is that of the first token
 /* |*/ |data |'Test' (1) => 201 on 3
-||data|'Test'|(99999)|{|}; => 204 on 3 99999
+||data|'Test'|(1 / 0)|{|}; => 'Test' 211 on 3.
 "#;
 
 /// Whether a line of a table is a row.
@@ -76,26 +108,6 @@ pub fn tokens_of(alloc: Global, text: &str) -> Result<Tokens, Fail> {
     Ok(tokens)
 }
 
-/// A resource as text; a byte of its type that is no plain one is a `.`.
-pub fn text_of_resource(alloc: Global, resource: &Resource) -> Result<Bytes, Fail> {
-    let mut text = Bytes::of(alloc, b"'")?;
-    for byte in resource.kind.code.to_be_bytes() {
-        text.push(if byte.is_ascii_graphic() || byte == b' ' {
-            byte
-        } else {
-            b'.'
-        })?;
-    }
-    text.append(b"' ")?;
-    write_signed(i64::from(resource.id), &mut text)?;
-    for byte in resource.bytes.as_slice() {
-        text.push(b' ')?;
-        write_decimal(u64::from(*byte), &mut text)?;
-    }
-    text.push(b'.')?;
-    Ok(text)
-}
-
 /// A fault as text: its number, its line and the number that it keeps.
 pub fn text_of_fault(alloc: Global, fault: &Fault) -> Result<Bytes, Fail> {
     let mut text = Bytes::new(alloc);
@@ -111,72 +123,98 @@ pub fn text_of_fault(alloc: Global, fault: &Fault) -> Result<Bytes, Fail> {
     Ok(text)
 }
 
-/// What a statement means, as text.
-fn outcome_of(alloc: Global, tokens: &[Token]) -> Result<Bytes, Fail> {
-    if tokens.is_empty() {
+/// Appends a value, or its fault.
+fn show_value(alloc: Global, expr: &Expr, mark: Mark, text: &mut Bytes) -> Result<(), Fail> {
+    match number_of(alloc, expr, mark) {
+        Ok(value) => write_signed(i64::from(value), text)?,
+        Err(Stop::Refused(fault)) => text.append(text_of_fault(alloc, &fault)?.as_slice())?,
+        Err(Stop::NoMemory) => return Err(Fail::from("no memory")),
+    }
+    Ok(())
+}
+
+/// The bytes of a text.
+fn bytes_of(alloc: Global, texts: &Texts) -> Result<Bytes, Fail> {
+    match text_of(alloc, texts) {
+        Ok(bytes) => Ok(bytes),
+        Err(_) => Err(Fail::from("no bytes")),
+    }
+}
+
+/// Appends what stands in the brackets of a head.
+fn show_head(alloc: Global, head: &HeadExpr, mark: Mark, text: &mut Bytes) -> Result<(), Fail> {
+    show_value(alloc, &head.id, mark, text)?;
+    if let Some(name) = &head.name {
+        text.append(b" <")?;
+        text.append(bytes_of(alloc, name)?.as_slice())?;
+        text.push(b'>')?;
+    }
+    for attribute in head.attributes.as_slice() {
+        match attribute {
+            AttrPart::Set(bit) => {
+                text.append(b" +")?;
+                write_decimal(u64::from(*bit), text)?;
+            }
+            AttrPart::Clear(bit) => {
+                text.append(b" -")?;
+                write_decimal(u64::from(*bit), text)?;
+            }
+            AttrPart::Value(expr) => {
+                text.append(b" =")?;
+                show_value(alloc, expr, mark, text)?;
+            }
+        }
+    }
+    Ok(())
+}
+
+/// A `data` statement as text; a byte of its type that is no plain one is a `.`.
+fn show_raw(alloc: Global, raw: &RawStmt, mark: Mark) -> Result<Bytes, Fail> {
+    let mut text = Bytes::of(alloc, b"'")?;
+    for byte in raw.kind.code.to_be_bytes() {
+        text.push(if byte.is_ascii_graphic() || byte == b' ' {
+            byte
+        } else {
+            b'.'
+        })?;
+    }
+    text.append(b"' ")?;
+    show_head(alloc, &raw.head, mark, &mut text)?;
+    for byte in bytes_of(alloc, &raw.texts)?.as_slice() {
+        text.push(b' ')?;
+        write_decimal(u64::from(*byte), &mut text)?;
+    }
+    text.push(b'.')?;
+    Ok(text)
+}
+
+/// What all tokens are as one statement, as text.
+pub fn outcome_of(alloc: Global, tokens: &Tokens) -> Result<Bytes, Fail> {
+    let end = tokens.len();
+    if end == 0 {
         return Err(Fail::from("no statement"));
     }
-    match read_data(alloc, tokens) {
-        Ok(resource) => text_of_resource(alloc, &resource),
+    let mark = tokens.at(0).mark;
+    match parse(alloc, tokens, Span { start: 0, end }) {
+        Ok(Stmt::Empty) => Ok(Bytes::of(alloc, b"empty")?),
+        Ok(Stmt::Raw(raw)) => show_raw(alloc, &raw, mark),
         Err(Stop::Refused(fault)) => text_of_fault(alloc, &fault),
         Err(Stop::NoMemory) => Err(Fail::from("no memory")),
     }
 }
 
 #[test]
-fn statements_give_resources(rt: HostRuntime) -> Result<(), Fail> {
+fn tokens_are_statements(rt: HostRuntime) -> Result<(), Fail> {
     let alloc = rt.alloc();
-    for row in ROWS.lines().filter(|line| is_row(line)) {
+    for row in ROWS.lines() {
+        if !is_row(row) {
+            continue;
+        }
         let Some((text, wanted)) = row.split_once(" => ") else {
             return Err(Fail::from("no row"));
         };
-        let outcome = outcome_of(alloc, tokens_of(alloc, text)?.as_slice())?;
+        let outcome = outcome_of(alloc, &tokens_of(alloc, text)?)?;
         assert_eq!(rt; outcome.as_slice(), wanted.as_bytes(), "{row}");
     }
-    Ok(())
-}
-
-/// The statement with a text of so many bytes and a number.
-fn long_statement(alloc: Global, number: u32, count: u32) -> Result<Vec<Token>, Fail> {
-    let mut tokens = Vec::new(alloc);
-    for token in tokens_of(alloc, "data 'Test' (7) { \"\" };")?.into_vec() {
-        let mut token = token;
-        if matches!(token.shape, Shape::Text(_)) {
-            let mut bytes = Bytes::new(alloc);
-            for _ in 0..count {
-                bytes.push(b'a')?;
-            }
-            token.shape = Shape::Text(bytes);
-        }
-        if matches!(token.shape, Shape::Number(_)) {
-            token.shape = Shape::Number(number);
-        }
-        tokens.push(token)?;
-    }
-    Ok(tokens)
-}
-
-/// How many bytes the resource of a statement has.
-fn size_of(alloc: Global, tokens: &[Token]) -> Result<u64, Fail> {
-    if tokens.is_empty() {
-        return Err(Fail::from("no statement"));
-    }
-    match read_data(alloc, tokens) {
-        Ok(resource) => Ok(resource.bytes.len()),
-        Err(_) => Err(Fail::from("refused")),
-    }
-}
-
-#[test]
-fn bytes_of_a_resource_have_a_limit(rt: HostRuntime) -> Result<(), Fail> {
-    let alloc = rt.alloc();
-    let tokens = long_statement(alloc, 7, 16_777_212)?;
-    assert_eq!(rt; size_of(alloc, tokens.as_slice())?, 16_777_212);
-    let tokens = long_statement(alloc, 7, 16_777_213)?;
-    let outcome = outcome_of(alloc, tokens.as_slice())?;
-    assert_eq!(rt; outcome.as_slice(), b"301 on 1 16777213".as_slice());
-    let tokens = long_statement(alloc, 32_768, 16_777_213)?;
-    let outcome = outcome_of(alloc, tokens.as_slice())?;
-    assert_eq!(rt; outcome.as_slice(), b"204 on 1 32768".as_slice());
     Ok(())
 }

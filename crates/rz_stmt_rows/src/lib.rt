@@ -6,4 +6,4 @@ mod cuts;
 #[cfg(test)]
 mod data;
 #[cfg(test)]
-mod programs;
+mod limits;

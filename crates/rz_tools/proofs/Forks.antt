@@ -11,9 +11,11 @@ use Rattle.rz_pre.specs.Reading.{Gave, IsProgram}
 use Rattle.rz_pre.specs.declared.condition.Tool.{Tool}
 use Rattle.rz_pre.specs.declared.condition.Tool.TheVariants as tools
 use Rattle.rz_pre.specs.declared.program.Program.{Program}
-use Rattle.rz_stmt.specs.Resources.{AreWithin}
+use Rattle.rz_pre.specs.Answers.{Then}
+use Rattle.rz_stmt.specs.Grammar.{AreWithin}
+use Rattle.rz_tools.specs.Step.{Means}
 use Rattle.rz_stmt.specs.Statements.{AreStatements}
-use Rattle.rz_tools.specs.Rez.{statements_fork, Compiles, HasFork}
+use Rattle.rz_tools.specs.Rez.{list_fork, Compiles, HasFork}
 use Rattle.rz_tools.specs.ToolWords.{numbered}
 use Rattle.rz_words.specs.Command.{RezAsked}
 
@@ -27,16 +29,18 @@ still_within tool files tokens numbers are all = subst (AreWithin files) (sym ar
 
 module _ (asked : RezAsked) (program : Program) (numbers : List Token) (are : numbers ≡ map (numbered tools.Rez) program.tokens)
     (cut : (statements : List (List Token)) × AreStatements numbers statements) where
-  has_fork : (s : State) → IsProgram program s → (fork : Result (List ℕ) Fault) → fork ≡ statements_fork cut.0 → HasFork (map (numbered tools.Rez) s.tokens) fork
-  has_fork s is fork says =
-      (cut.0, subst (λ (ts : List Token). AreStatements ts cut.0) (are ∙ ap (map (numbered tools.Rez)) is.tokens) cut.1, says)
+  has_fork : (s : State) → IsProgram program s → (fork : Result (List ℕ) Fault) → Then (Means [] cut.0) (λ list answer. answer ≡ list_fork list) fork
+      → HasFork (map (numbered tools.Rez) s.tokens) fork
+  has_fork s is fork makes =
+      (cut.0, subst (λ (ts : List Token). AreStatements ts cut.0) (are ∙ ap (map (numbered tools.Rez)) is.tokens) cut.1, makes)
 
   pub compiled : (before : Option Files) → IfSome before (λ files. Gave (Ok program) (ProgramGoes files tools.Rez asked.files asked.paths asked.defs))
-      → (bytes : List ℕ) → statements_fork cut.0 ≡ Ok bytes → IfSome before (λ files. Compiles asked files (Ok bytes))
-  compiled None gave bytes says = tt
-  compiled (Some files) gave bytes says = inl (gave.0, gave.2, has_fork gave.0 gave.1 (Ok bytes) (sym says))
+      → (bytes : List ℕ) → Then (Means [] cut.0) (λ list answer. answer ≡ list_fork list) (Ok bytes) → IfSome before (λ files. Compiles asked files (Ok bytes))
+  compiled None gave bytes makes = tt
+  compiled (Some files) gave bytes makes = inl (gave.0, gave.2, has_fork gave.0 gave.1 (Ok bytes) makes)
 
   pub refused : (before : Option Files) → IfSome before (λ files. Gave (Ok program) (ProgramGoes files tools.Rez asked.files asked.paths asked.defs))
-      → (fault : Fault) → statements_fork cut.0 ≡ Err fault → IfSome before (λ files. Compiles asked files (Err (record { fault = fault; files = program.files })))
-  refused None gave fault says = tt
-  refused (Some files) gave fault says = inl (gave.0, gave.2, (has_fork gave.0 gave.1 (Err fault) (sym says), gave.1.files))
+      → (fault : Fault) → Then (Means [] cut.0) (λ list answer. answer ≡ list_fork list) (Err fault)
+      → IfSome before (λ files. Compiles asked files (Err (record { fault = fault; files = program.files })))
+  refused None gave fault makes = tt
+  refused (Some files) gave fault makes = inl (gave.0, gave.2, (has_fork gave.0 gave.1 (Err fault) makes, gave.1.files))

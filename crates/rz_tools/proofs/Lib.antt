@@ -5,3 +5,4 @@ pub mod Commands
 pub mod Answered
 pub mod OneAnswer
 pub mod Forks
+pub mod Stepping

@@ -1,5 +1,5 @@
 -- Words have one answer at most.
-use Rattle.std.proofs.Common.{◌≡◌, inl, inr, ℕ, List, [], map, Ok, Err, sym, ap, subst, ◌∙◌}
+use Rattle.std.proofs.Common.{◌≡◌, inl, inr, ℕ, List, [], ◌∷◌, map, Ok, Err, sym, ap, subst, ◌∙◌}
 use Rattle.std.specs.declared.result.Result.{Result}
 use Rattle.rz_core.specs.declared.fault.Fault.{Fault}
 use Rattle.rz_core.specs.declared.moment.Moment.{Moment}
@@ -13,7 +13,11 @@ use Rattle.rz_stmt.specs.Statements.{AreStatements}
 use Rattle.rz_words.specs.Command.{Asked, Rez, DeRez, Help, Version, IsCommand, IsMisplaced, RezAsked}
 use Rattle.rz_tools.specs.Answer.{Answer, ended, or_refused, shown, written}
 use Rattle.rz_tools.specs.Program.{Answers, AnswersTo, command, misplaced}
-use Rattle.rz_tools.specs.Rez.{statements_fork, Compiles, HasFork}
+use Rattle.rz_tools.specs.Rez.{list_fork, Compiles, HasFork}
+use Rattle.rz_tools.specs.Step.{list_behind, Means, Steps}
+use Rattle.rz_stmt.specs.Grammar.{mark_of, Parses, Statement}
+use Rattle.rz_core.specs.declared.resource.Resource.{Resource}
+use Rattle.rz_pre.specs.Answers.{Then}
 use Rattle.rz_tools.specs.ToolWords.{numbered}
 use Rattle.rz_tools.specs.declared.outcome.Outcome.TheVariants.{Usage}
 
@@ -53,9 +57,45 @@ same_failure : (fault another : Fault) (files others : List (List ℕ)) → faul
     → ◌≡◌ {A = Failure} (record { fault = fault; files = files }) (record { fault = another; files = others })
 same_failure fault another files others a b = λ i. record { fault = a i; files = b i }
 
-module _ (cutting : OneCutting) where
+abbrev pub OneStatement : Type 0
+OneStatement = (tokens : List Token) (answer another : Result Statement Fault) → Parses tokens answer → Parses tokens another → answer ≡ another
+
+-- at most one answer
+abbrev Once : {X : Type 0} → (Result X Fault → Type 0) → Type 0
+Once {X} answers = (one other : Result X Fault) → answers one → answers other → one ≡ other
+
+same_value : {X : Type 0} (x y : X) → ok {F = Fault} x ≡ ok y → x ≡ y
+same_value x y is = cc
+
+same_fault : {X : Type 0} (f g : Fault) → err {X = X} f ≡ err g → f ≡ g
+same_fault f g is = cc
+
+value_or_fault : {X : Type 0} (x : X) (f : Fault) → ok x ≡ err f → ⊥
+value_or_fault x f is = cc
+
+once_then : {X Y : Type 0} (first : Result X Fault → Type 0) (next : X → Result Y Fault → Type 0) → Once first → ((x : X) → Once (next x)) → Once (Then first next)
+once_then {X} {Y} first next f n one other (inl a) (inl b) =
+    let same : a.0 ≡ b.0 = same_value a.0 b.0 (f (Ok a.0) (Ok b.0) a.1 b.1) in
+    n b.0 one other (subst (λ (x : X). next x one) same a.2) b.2
+once_then first next f n one other (inl a) (inr b) = absurd (value_or_fault a.0 b.0 (f (Ok a.0) (Err b.0) a.1 b.1))
+once_then first next f n one other (inr a) (inl b) = absurd (value_or_fault b.0 a.0 (f (Ok b.0) (Err a.0) b.1 a.1))
+once_then {X} {Y} first next f n one other (inr a) (inr b) = a.2 ∙ ap (λ (g : Fault). err {X = Y} g) (same_fault {X = X} a.0 b.0 (f (Err a.0) (Err b.0) a.1 b.1)) ∙ sym b.2
+
+once_is : {X : Type 0} (answer : Result X Fault) → Once (λ given. given ≡ answer)
+once_is answer one other a b = a ∙ sym b
+
+module _ (cutting : OneCutting) (statement_law : OneStatement) where
+  one_meaning : (list : List Resource) (statements : List (List Token)) → Once (Means list statements)
+  one_meaning list [] = once_is (Ok list)
+  one_meaning list (tokens ∷ statements) =
+      once_then (Steps list tokens) (λ next. Means next statements)
+      (once_then (Parses tokens) (λ statement answer. answer ≡ list_behind (mark_of tokens) list statement) (statement_law tokens) (λ statement. once_is (list_behind (mark_of tokens) list statement)))
+      (λ next. one_meaning next statements)
+
   one_fork : (tokens : List Token) (a b : Result (List ℕ) Fault) → HasFork tokens a → HasFork tokens b → a ≡ b
-  one_fork tokens a b is also = is.2 ∙ ap statements_fork (cutting tokens is.0 also.0 is.1 also.1) ∙ sym also.2
+  one_fork tokens a b is also =
+      once_then (Means [] is.0) (λ list answer. answer ≡ list_fork list) (one_meaning [] is.0) (λ list. once_is (list_fork list)) a b is.2
+      (subst (λ (ss : List (List Token)). Then (Means [] ss) (λ list answer. answer ≡ list_fork list) b) (sym (cutting tokens is.0 also.0 is.1 also.1)) also.2)
 
   one_with_files : (files : List (List ℕ)) (tokens : List Token) (a b : Result (List ℕ) Failure)
       → WithFiles files (HasFork tokens) a → WithFiles files (HasFork tokens) b → a ≡ b

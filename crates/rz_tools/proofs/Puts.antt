@@ -1,17 +1,17 @@
 -- What `put` keeps, and its step in a map from keys.
-use Rattle.std.proofs.Common.{◌≡◌, ℕ, ◌==◌, ◌&&◌, ◌||◌, Bool, true, false, if◌then◌else◌, List, [], ◌∷◌, ◌++◌, map, refl, sym, ap, subst, ◌∙◌, append_assoc, arith}
+use Rattle.std.proofs.Common.{◌≡◌, ℕ, ◌==◌, ◌&&◌, ◌||◌, Bool, true, false, if◌then◌else◌, List, [], ◌∷◌, ◌++◌, length, map, ◌<◌, Some, Ok, Err, refl, sym, ap, subst, ◌∙◌, append_assoc, arith}
 use Rattle.std.proofs.lemmas.Bool.{eqb-true}
 use Rattle.std.proofs.lemmas.Bool.Decides.{nat_tests}
 use Rattle.std.specs.List.{AllByRecursion, list_any}
 use Rattle.std.proofs.lemmas.List.Folds.{list_any-append}
 use Rattle.indexmap.specs.IndexMap.{insert_entry}
-use Rattle.rz_core.specs.Resources.{id_bits, same_key, put, put_all, KeysDiffer}
+use Rattle.std.specs.Map.{lookup}
+use Rattle.rz_fork.specs.Image.{AreNamed}
+use Rattle.rz_tools.specs.Step.{namesake, protected_fault, protects, put_unless_protected}
+use Rattle.rz_core.specs.declared.fault.Mark.{Mark}
+use Rattle.rz_core.specs.Resources.{id_bits, same_key, put, KeysDiffer}
 use Rattle.rz_core.specs.declared.resource.Resource.{Resource}
-use Rattle.rz_tools.specs.ResourceList.{key_of, keyed}
-
--- the test by which the map compares keys
-abbrev pub key_eq : ℕ × ℕ → ℕ × ℕ → Bool
-key_eq x y = (x.0 == y.0) && (x.1 == y.1)
+use Rattle.rz_tools.specs.ResourceList.{holds_protected, key_eq, key_of, keyed, values_of, IsKeyed}
 
 both : (a b : Bool) → (a && b) ≡ true → (a ≡ true) × (b ≡ true)
 both true b is = (refl, is)
@@ -44,10 +44,6 @@ all_put P (x ∷ xs) r all one = by (all_put P xs r all.1 one) (same_key r x)
     by : AllByRecursion P (put xs r) → (b : Bool) → AllByRecursion P (if b then r ∷ xs else x ∷ put xs r)
     by later true = (one, all.1)
     by later false = (all.0, later)
-
-pub all_put_all : (P : Resource → Type 0) (list rs : List Resource) → AllByRecursion P list → AllByRecursion P rs → AllByRecursion P (put_all list rs)
-all_put_all P list [] all more = all
-all_put_all P list (r ∷ rs) all more = all_put_all P (put list r) rs (all_put P list r all more.0) more.1
 
 -- two resources of one key are alike to every test of keys
 same_to : (r x y : Resource) → same_key r x ≡ true → same_key x y ≡ same_key r y
@@ -86,11 +82,50 @@ differ_put before (x ∷ xs) r differ new = by (differ_put (before ++ x ∷ []) 
           ),
     )
 
-pub differ_put_all : (list rs : List Resource) → KeysDiffer [] list → KeysDiffer [] (put_all list rs)
-differ_put_all list [] differ = differ
-differ_put_all list (r ∷ rs) differ = differ_put_all (put list r) rs (differ_put [] list r differ refl)
+-- The list as a map.
 
--- one resource more
-pub put_one_more : (list rs : List Resource) (r : Resource) → put_all list (rs ++ r ∷ []) ≡ put (put_all list rs) r
-put_one_more list [] r = refl
-put_one_more list (x ∷ rs) r = put_one_more (put list x) rs r
+-- the first entry under a key is the namesake
+found_namesake : (list : List Resource) (r : Resource) → lookup (key_eq (key_of r)) (keyed list) ≡ namesake list r
+found_namesake [] r = refl
+found_namesake (x ∷ xs) r = by (found_namesake xs r) (same_key r x) refl
+  where
+    by : lookup (key_eq (key_of r)) (keyed xs) ≡ namesake xs r → (b : Bool) → same_key r x ≡ b
+        → (if b then Some x else lookup (key_eq (key_of r)) (keyed xs)) ≡ (if b then Some x else namesake xs r)
+    by later true is = refl
+    by later false is = later
+
+module _ (entries after : List ((ℕ × ℕ) × Resource)) (r : Resource) (is : IsKeyed entries) where
+  -- a protected namesake
+  pub same_protected : (key : ℕ × ℕ) → key ≡ key_of r → holds_protected entries key ≡ protects (namesake (values_of entries) r)
+  same_protected key same =
+      ap (holds_protected entries) same
+      ∙ ap (λ (es : List ((ℕ × ℕ) × Resource)). holds_protected es (key_of r)) is
+      ∙ ap protects (found_namesake (values_of entries) r)
+
+  module _ (key : ℕ × ℕ) (same : key ≡ key_of r) (inserted : after ≡ insert_entry key_eq entries key r) where
+    stands : after ≡ keyed (put (values_of entries) r)
+    stands =
+        inserted
+        ∙ (λ i. insert_entry key_eq (is i) (same i) r)
+        ∙ insert_keyed (values_of entries) r
+
+    pub put_values : values_of after ≡ put (values_of entries) r
+    put_values = ap values_of stands ∙ values_keyed (put (values_of entries) r)
+
+    pub put_keyed : IsKeyed after
+    put_keyed = stands ∙ ap keyed (sym put_values)
+
+    pub put_named : length r.name < 256 → AreNamed (values_of entries) → AreNamed (values_of after)
+    put_named short named = subst AreNamed (sym put_values) (all_put (λ x. length x.name < 256) (values_of entries) r named short)
+
+    pub put_differ : KeysDiffer [] (values_of entries) → KeysDiffer [] (values_of after)
+    put_differ differ = subst (KeysDiffer []) (sym put_values) (differ_put [] (values_of entries) r differ refl)
+
+-- What a put answers.
+
+module _ (mark : Mark) (list : List Resource) (r : Resource) where
+  pub put_refused : protects (namesake list r) ≡ true → Err (protected_fault mark r) ≡ put_unless_protected mark list r
+  put_refused is = ap (λ (b : Bool). if b then Err (protected_fault mark r) else Ok (put list r)) (sym is)
+
+  pub put_done : (after : List Resource) → protects (namesake list r) ≡ false → after ≡ put list r → Ok after ≡ put_unless_protected mark list r
+  put_done after is same = ap (λ (l : List Resource). Ok l) same ∙ ap (λ (b : Bool). if b then Err (protected_fault mark r) else Ok (put list r)) (sym is)

@@ -1,9 +1,11 @@
 pub mod Outcome
 pub mod Message
-pub mod ResourceList
 pub mod ToolWords
 pub mod Made
 pub mod Answer
+pub mod Data
+pub mod Step
+pub mod ResourceList
 pub mod Rez
 pub mod DeRez
 pub mod Help

@@ -2,8 +2,6 @@
 use Rattle.std.specs.Prelude.{ℕ, ◌<◌, ◌^◌, pos, ◌≡◌, true, List, [], map, Ok, Err, None}
 use Rattle.std.specs.declared.result.Result.{Result}
 use Rattle.rz_core.specs.Message.{is_fault}
-use Rattle.rz_core.specs.Resources.{put_all}
-use Rattle.rz_core.specs.Stop.{◌>>=◌}
 use Rattle.rz_core.specs.declared.resource.Resource.{Resource}
 use Rattle.rz_core.specs.declared.fault.Fault.{Fault}
 use Rattle.rz_core.specs.declared.fault.Kept.TheVariants as kept
@@ -14,10 +12,10 @@ use Rattle.rz_lex.specs.declared.token.Token.{Token}
 use Rattle.rz_pre.specs.Answers.{Then}
 use Rattle.rz_pre.specs.Program.{Failure, ProgramGoes, WithFiles}
 use Rattle.rz_pre.specs.declared.condition.Tool.TheVariants as tools
-use Rattle.rz_stmt.specs.Resources.{resources_of}
 use Rattle.rz_stmt.specs.Statements.{AreStatements}
 use Rattle.rz_words.specs.Command.{RezAsked}
 use Rattle.rz_tools.specs.Answer.{Answer, Answered, written}
+use Rattle.rz_tools.specs.Step.{Means}
 use Rattle.rz_tools.specs.ToolWords.{numbered}
 
 -- a length past its limit
@@ -29,10 +27,6 @@ pub record IsLimit (fault : LimitFault) : Type 0 where
   pub number : is_fault fault.number ≡ true
   pub length : fault.length < 2 ^ 63
 
--- the resources that statements mean: those of each, put into the list after those before it
-unfoldable pub meaning : List (List Token) → Result (List Resource) Fault
-meaning statements = resources_of statements >>= λ resources. Ok (put_all [] resources)
-
 abbrev pub fork_or_fault : Result (List ℕ) LimitFault → Result (List ℕ) Fault
 fork_or_fault (Ok fork) = Ok fork
 fork_or_fault (Err fault) = Err (past_limit fault)
@@ -41,13 +35,10 @@ fork_or_fault (Err fault) = Err (past_limit fault)
 unfoldable pub list_fork : List Resource → Result (List ℕ) Fault
 list_fork list = fork_or_fault (fork_of list 0 [])
 
--- the fork that statements mean, or the first rule that they break
-abbrev pub statements_fork : List (List Token) → Result (List ℕ) Fault
-statements_fork statements = meaning statements >>= list_fork
-
 -- the fork that the tokens of a program mean, or the first rule that their statements break
 abbrev pub HasFork : List Token → Result (List ℕ) Fault → Type 0
-HasFork tokens fork = (statements : List (List Token)) × AreStatements tokens statements × (fork ≡ statements_fork statements)
+HasFork tokens fork =
+    (statements : List (List Token)) × AreStatements tokens statements × Then (Means [] statements) (λ list answer. answer ≡ list_fork list) fork
 
 -- the fork that the sources mean, or the first fault, with the files that were opened until then
 abbrev pub Compiles : RezAsked → Files → Result (List ℕ) Failure → Type 0

@@ -5,7 +5,7 @@ ghost use Rattle.rz_tools.specs.Answer.{Answer};
 ghost use Rattle.rz_tools.specs.Program.{Answers};
 
 use rz_pre::one_program;
-use rz_stmt::one_cutting;
+use rz_stmt::{one_cutting, one_statement};
 use rz_words::one_command;
 
 /// A law, with nothing to run: words have one answer at most, where each name holds the same and at the same
@@ -16,5 +16,6 @@ pub fn one_answer()
 {
     one_program();
     one_cutting();
+    one_statement();
     one_command();
 }

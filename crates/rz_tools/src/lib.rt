@@ -1,14 +1,15 @@
 //! The commands of rezkit: what the words ask for, and the run that does it.
 #![tactic(auto)]
 
+mod data;
 mod derez;
 mod help;
 mod laws;
 mod message;
 mod outcome;
 mod program;
-mod resource_list;
 mod rez;
+mod step;
 mod tool_words;
 
 pub use laws::one_answer;

@@ -5,24 +5,27 @@ ghost use Rattle.rz_core.specs.Stop.{Gives, OnFault};
 ghost use Rattle.rz_folder.specs.Counts.{Rose};
 ghost use Rattle.rz_lex.specs.declared.token.Token.{Token};
 ghost use Rattle.rz_pre.specs.declared.program.PreFault.TheVariants.{ReadFault};
-ghost use Rattle.rz_stmt.specs.Resources.{AreBare, AreWithin};
+ghost use Rattle.rz_fork.specs.Image.{AreNamed};
+ghost use Rattle.rz_pre.specs.Answers.{Meets, Then};
+ghost use Rattle.rz_stmt.specs.Grammar.{AreWithin};
 ghost use Rattle.rz_stmt.specs.Statements.{AreStatements};
 ghost use Rattle.rz_words.specs.Item.{rez};
 ghost use Rattle.rz_tools.specs.Made.{IsNamed, Made};
 ghost use Rattle.rz_tools.specs.Outcome.{IsNoUsage};
 ghost use Rattle.rz_tools.specs.Program.{Runs};
-ghost use Rattle.rz_tools.specs.Rez.{list_fork, meaning, past_limit, statements_fork, AnswersRez, Compiles, IsLimit};
+ghost use Rattle.rz_tools.specs.Step.{Means};
+ghost use Rattle.rz_tools.specs.Rez.{list_fork, past_limit, AnswersRez, Compiles, IsLimit};
 
 use crate::Outcome;
 use crate::outcome::Ended;
-use crate::resource_list::put_in_order;
+use crate::step::compile_statements;
 use crate::tool_words::number_tool_words;
 use rz_core::{Bytes, Fault, Kept, Resources, Stop};
 use rz_folder::{Folder, Written};
 use rz_fork::{LimitFault, write_fork};
 use rz_lex::Tokens;
 use rz_pre::{PreFault, Program, Tool, one_program, preprocess};
-use rz_stmt::{all_tokens_are_statements, one_cutting, read_resources};
+use rz_stmt::{all_tokens_are_statements, one_cutting, one_statement};
 use rz_words::RezWords;
 use std::alloc::Global;
 
@@ -34,6 +37,7 @@ pub fn run_rez<F: Folder>(alloc: Global, folder: &mut F, words: &RezWords<'_>) -
 {
     one_program();
     one_cutting();
+    one_statement();
     match compile(alloc, folder, words) {
         Ok(fork) => match folder.write(words.output, fork.as_slice()) {
             Written::Done => Ended::with(alloc, Outcome::Done),
@@ -76,31 +80,20 @@ fn compile<F: Folder>(
 
 /// The fork that the tokens of a program mean, or the first rule that they break.
 fn fork_in(alloc: Global, tokens: &Tokens) -> Result<Bytes, Stop<Fault>>
-    ensures fork { (statements : List (List Token)) → AreStatements tokens.now statements → Gives (statements_fork statements) result }
+    ensures fork { (statements : List (List Token)) → AreStatements tokens.now statements
+        → Meets result (Then (Means [] statements) (λ list answer. answer ≡ list_fork list)) }
     ensures nameable { (files : ℕ) → AreWithin files tokens.now → OnFault result (IsNameable files) }
     ensures short { IfOk result (λ fork. length fork < 2 ^ 32) }
 {
-    let list = list_in(alloc, tokens)?;
+    let list = compile_statements(alloc, tokens)?;
     write_list(alloc, &list)
 }
 
-/// The resources that the tokens of a program mean.
-#[tactic(auto, unfolding(crate::specs::Rez::meaning))]
-fn list_in(alloc: Global, tokens: &Tokens) -> Result<Resources, Stop<Fault>>
-    ensures list { (statements : List (List Token)) → AreStatements tokens.now statements → Gives (meaning statements) result }
-    ensures nameable { (files : ℕ) → AreWithin files tokens.now → OnFault result (IsNameable files) }
-    ensures keys { IfOk result (KeysDiffer []) }
-    ensures bare { IfOk result AreBare }
-{
-    let resources = read_resources(alloc, tokens)?;
-    Ok(put_in_order(alloc, resources)?)
-}
-
-/// The fork of a list of resources without names.
+/// The fork of a list of resources.
 #[tactic(auto, unfolding(crate::specs::Rez::list_fork))]
 fn write_list(alloc: Global, list: &Resources) -> Result<Bytes, Stop<Fault>>
     requires keys { KeysDiffer [] list.now }
-    requires bare { AreBare list.now }
+    requires named { AreNamed list.now }
     ensures fork { Gives (list_fork list.now) result }
     ensures nameable { (files : ℕ) → OnFault result (IsNameable files) }
     ensures short { IfOk result (λ fork. length fork < 2 ^ 32) }

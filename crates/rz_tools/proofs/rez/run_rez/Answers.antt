@@ -11,19 +11,19 @@ pub returns-in-Done-clause-runs : goal.returns-in-Done-clause-runs
 returns-in-Done-clause-runs g c out =
     let asked = rez c.args.words.now in
     rw c.with.ensures (writes_through asked.output c.in-Ok.fork _ (Compiles asked)
-    (one_compiled c.one_cutting.ensures c.one_program.ensures asked) _ _ _ out _ _ _ _ ends.Done c.in-Ok.ensures.fork c.as_slice.ensures
+    (one_compiled c.one_cutting.ensures c.one_statement.ensures c.one_program.ensures asked) _ _ _ out _ _ _ _ ends.Done c.in-Ok.ensures.fork c.as_slice.ensures
     c.in-Ok.ensures.unchanged c.in-Ok.ensures.other_count c.in-Done.ensures.told (λ (is : ends.Done ≡ ends.Failed). cc))
 
 pub returns-in-Ok-clause-runs : goal.returns-in-Ok-clause-runs
 returns-in-Ok-clause-runs g c out =
     let asked = rez c.args.words.now in
     rw c.with-in-Failed.ensures (writes_through asked.output c.in-Ok.fork _ (Compiles asked)
-    (one_compiled c.one_cutting.ensures c.one_program.ensures asked) _ _ _ out _ _ _ _ ends.Failed c.in-Ok.ensures.fork c.as_slice.ensures
+    (one_compiled c.one_cutting.ensures c.one_statement.ensures c.one_program.ensures asked) _ _ _ out _ _ _ _ ends.Failed c.in-Ok.ensures.fork c.as_slice.ensures
     c.in-Ok.ensures.unchanged c.in-Ok.ensures.other_count c.in-Failed.ensures.told c.in-Failed.ensures.cause)
 
 pub returns-clause-runs : goal.returns-clause-runs
 returns-clause-runs g c out =
     let asked = rez c.args.words.now in
     rw c.by.ensures (stopped (written asked.output) (Compiles asked)
-    (one_compiled c.one_cutting.ensures c.one_program.ensures asked) _ out _ _ _ c.in-Err.stop c.in-Err.ensures.unchanged
+    (one_compiled c.one_cutting.ensures c.one_statement.ensures c.one_program.ensures asked) _ out _ _ _ c.in-Err.stop c.in-Err.ensures.unchanged
     c.in-Err.ensures.fork c.in-Err.ensures.nameable c.in-Err.ensures.cause)

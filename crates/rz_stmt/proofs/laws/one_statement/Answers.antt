@@ -1,0 +1,5 @@
+use Rattle.rz_stmt.proofs.OneStatement.{one_answer}
+use Rattle.rz_stmt.proofs.laws.one_statement.Goals as goal
+
+pub returns : goal.returns
+returns c = one_answer c.one_expression.ensures.expression

@@ -1,0 +1,76 @@
+ghost use Rattle.std.specs.Prelude.{◌≡◌, ◌<◌, ◌≤◌, ◌-◌, ℕ, Some, drop, length, take};
+ghost use Rattle.rz_core.specs.Message.{IsNameable};
+ghost use Rattle.rz_core.specs.Stop.{OnFault};
+ghost use Rattle.rz_stmt.specs.Grammar.{is_empty, AreWithin, Gave, Parses};
+ghost use Rattle.rz_core.specs.declared.fault.Kept.TheVariants.{Nothing};
+
+use crate::limit::is_within_limits;
+use crate::raw::{RawStmt, is_semicolon, read_raw};
+use crate::span::Span;
+use rz_core::{Fault, Kept, Mark, Stop};
+use rz_lex::{Token, Tokens};
+use std::alloc::Global;
+
+/// A statement. (MPW Rez.)
+#[derive(Debug, Drop)]
+pub enum Stmt {
+    /// A `;` alone.
+    Empty,
+    /// `data`.
+    Raw(RawStmt),
+}
+
+/// The statement that the tokens of a span are. A refusal has the mark of its first token: 221 where more
+/// than 64 brackets are open, in a `type` statement 60, or more than 1,024 tokens other than texts stand in a
+/// row without one of `{ } , ;`; else 201 where the tokens are no statement. The span lies within the tokens
+/// and isn't empty, as each of [`statements`](crate::statements). (MPW Rez.)
+pub fn parse(alloc: Global, tokens: &Tokens, span: Span) -> Result<Stmt, Stop<Fault>>
+    requires { (span.start < span.end) × (span.end ≤ length tokens.now) }
+    ensures parsed { Gave result (Parses (take (span.end - span.start) (drop span.start tokens.now))) }
+    ensures nameable { (files : ℕ) → AreWithin files tokens.now → OnFault result (IsNameable files) }
+{
+    parse_all(
+        alloc,
+        &tokens.as_slice()[span.start as usize..span.end as usize],
+    )
+}
+
+/// The same of all these tokens.
+fn parse_all(alloc: Global, tokens: &[Token]) -> Result<Stmt, Stop<Fault>>
+    requires { 0 < length tokens.now }
+    ensures parsed { Gave result (Parses tokens.now) }
+    ensures nameable { (files : ℕ) → AreWithin files tokens.now → OnFault result (IsNameable files) }
+{
+    let mark = tokens[0].mark;
+    if !is_within_limits(tokens) {
+        return Err(Stop::Refused(fault(221, mark)));
+    }
+    if is_empty_statement(tokens) {
+        return Ok(Stmt::Empty);
+    }
+    match read_raw(alloc, tokens)? {
+        Some(raw) => Ok(Stmt::Raw(raw)),
+        None => Err(Stop::Refused(fault(201, mark))),
+    }
+}
+
+/// Whether these are a `;` alone.
+fn is_empty_statement(tokens: &[Token]) -> bool
+    ensures { result ≡ is_empty tokens.now }
+{
+    match tokens {
+        [token] => is_semicolon(token),
+        _ => false,
+    }
+}
+
+/// A fault that keeps nothing.
+fn fault(number: u16, mark: Mark) -> Fault
+    ensures { result ≡ record { number = number; mark = Some mark; kept = Nothing } }
+{
+    Fault {
+        number,
+        mark: Some(mark),
+        kept: Kept::Nothing,
+    }
+}

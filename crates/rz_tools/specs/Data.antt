@@ -1,0 +1,61 @@
+-- The resource of a `data` statement: its values from left to right, or the first fault. (MPW Rez.)
+use Rattle.std.specs.Prelude.{ℕ, ◌-◌, ℤ, pos, negsuc, int_le, nat_lt, ◌&&◌, if◌then◌else◌, List, [], ◌∷◌, length, bit_and, bit_or, Option, Some, None, Ok, Err}
+use Rattle.std.specs.declared.result.Result.{Result}
+use Rattle.rz_core.specs.Stop.{◌>>=◌}
+use Rattle.rz_core.specs.declared.fault.Fault.{Fault}
+use Rattle.rz_core.specs.declared.fault.Kept.TheVariants.{Number}
+use Rattle.rz_core.specs.declared.fault.Mark.{Mark}
+use Rattle.rz_core.specs.declared.resource.Resource.{Resource}
+use Rattle.rz_stmt.specs.Head.{Attribute, Clear, Set, Value}
+use Rattle.rz_stmt.specs.Number.{number_of}
+use Rattle.rz_stmt.specs.Raw.{Raw}
+use Rattle.rz_stmt.specs.Text.{bytes_of}
+use Rattle.rz_stmt.specs.declared.text.TextPart.{TextPart}
+
+-- the most bytes of a resource
+abbrev pub most_bytes : ℕ
+most_bytes = 16777212
+
+abbrev pub keeps_number : ℕ → Mark → ℤ → Fault
+keeps_number number mark value = record { number = number; mark = Some mark; kept = Number value }
+
+-- an id is from -32768 to 32767: 204
+abbrev pub id_of : Mark → ℤ → Result ℤ Fault
+id_of mark value = if int_le (negsuc 32767) value && int_le value (pos 32767) then Ok value else Err (keeps_number 204 mark value)
+
+-- a name has at most 255 bytes: 216
+abbrev pub short_name : Mark → List ℕ → Result (List ℕ) Fault
+short_name mark bytes = if nat_lt 255 (length bytes) then Err (keeps_number 216 mark (pos (length bytes))) else Ok bytes
+
+abbrev pub name_of : Mark → Option (List TextPart) → Result (List ℕ) Fault
+name_of mark None = Ok []
+name_of mark (Some parts) = bytes_of parts >>= short_name mark
+
+-- a number that sets all eight bits is from 0 to 255: 207
+abbrev pub byte_of : Mark → ℤ → Result ℕ Fault
+byte_of mark (pos value) = if nat_lt 255 value then Err (keeps_number 207 mark (pos value)) else Ok value
+byte_of mark (negsuc n) = Err (keeps_number 207 mark (negsuc n))
+
+-- the bits behind an attribute
+abbrev pub bits_behind : Mark → ℕ → Attribute → Result ℕ Fault
+bits_behind mark byte (Set bit) = Ok (bit_or byte bit)
+bits_behind mark byte (Clear bit) = Ok (bit_and byte (255 - bit))
+bits_behind mark byte (Value term) = number_of mark term >>= byte_of mark
+
+-- and behind several, from left to right
+abbrev pub bits_behind_all : Mark → ℕ → List Attribute → Result ℕ Fault
+bits_behind_all mark byte [] = Ok byte
+bits_behind_all mark byte (attribute ∷ attributes) = bits_behind mark byte attribute >>= λ next. bits_behind_all mark next attributes
+
+-- the bytes of a resource, as many as one may have: 301
+abbrev pub short_bytes : Mark → List ℕ → Result (List ℕ) Fault
+short_bytes mark bytes = if nat_lt most_bytes (length bytes) then Err (keeps_number 301 mark (pos (length bytes))) else Ok bytes
+
+abbrev pub contents_of : Mark → List TextPart → Result (List ℕ) Fault
+contents_of mark parts = bytes_of parts >>= short_bytes mark
+
+-- the resource of a statement on this line
+abbrev pub resource_of : Mark → Raw → Result Resource Fault
+resource_of mark raw =
+    number_of mark raw.head.id >>= id_of mark >>= λ id. name_of mark raw.head.name >>= λ name. bits_behind_all mark 0 raw.head.attributes
+    >>= λ attr. contents_of mark raw.texts >>= λ bytes. Ok (record { kind = record { code = raw.kind }; id = id; name = name; attr = attr; bytes = bytes })
