@@ -7,5 +7,5 @@
 #define hello "hello"
 #endif
 
-data kText (128) { hello };
-data kText (129) { hello ", " hello "\n" };
+data kText (128, "greeting", purgeable) { hello };
+data kText (kFirst + 1) { hello ", " hello "\n" };

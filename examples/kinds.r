@@ -1,1 +1,2 @@
 #define kText 'TEXT'
+#define kFirst 128
