@@ -1,11 +1,11 @@
 -- How deep and how long a statement may be. (MPW Rez bounds both; the bounds are rezkit's.)
-use Rattle.std.specs.Prelude.{ℕ, suc, nat_le, Bool, true, false, ◌&&◌, if◌then◌else◌, List, [], ◌∷◌, codes}
+use Rattle.std.specs.Prelude.{◌++◌, not, ◌≤◌, ◌≡◌, ℕ, suc, nat_le, Bool, true, false, ◌&&◌, if◌then◌else◌, List, [], ◌∷◌, codes}
 use Rattle.std.specs.Str.{str_eq_ignore_ascii_case}
 use Rattle.rz_lex.specs.declared.sign.Sign.TheVariants.{CloseBrace, Comma, OpenBrace, Semicolon}
 use Rattle.rz_lex.specs.declared.token.Shape.{Shape}
 use Rattle.rz_lex.specs.declared.token.Shape.TheVariants as shapes
 use Rattle.rz_lex.specs.declared.token.Token.{Token}
-use Rattle.rz_stmt.specs.Statements.{open_behind}
+use Rattle.rz_stmt.specs.Statements.{open_behind, open_behind_all}
 
 -- the most brackets that may be open in a `type` statement, and in any other
 abbrev pub deepest_type : ℕ
@@ -53,3 +53,20 @@ keeps_limits most depth row (token ∷ tokens) =
 -- a statement within its limits
 abbrev pub is_within_limits : List Token → Bool
 is_within_limits tokens = keeps_limits (depth_limit tokens) 0 0 tokens
+
+-- In the words of the language.
+
+-- tokens without one that ends a row
+abbrev pub is_row : List Token → Bool
+is_row [] = true
+is_row (token ∷ tokens) = not (ends_row token.shape) && is_row tokens
+
+-- how many of them are no texts
+abbrev pub counted : List Token → ℕ
+counted [] = 0
+counted (token ∷ tokens) = if is_text token.shape then counted tokens else suc (counted tokens)
+
+-- behind no front of the tokens are more brackets open than may be, and no row among them is longer than it may be
+pub record KeepsLimits (tokens : List Token) : Type 0 where
+  pub shallow : (front behind : List Token) → tokens ≡ front ++ behind → open_behind_all front 0 ≤ depth_limit tokens
+  pub short : (front row behind : List Token) → tokens ≡ front ++ (row ++ behind) → is_row row ≡ true → counted row ≤ longest_row

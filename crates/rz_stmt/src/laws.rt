@@ -1,7 +1,8 @@
-ghost use Rattle.std.specs.Prelude.{◌≡◌, List, Result};
+ghost use Rattle.std.specs.Prelude.{◌≡◌, ◌↔◌, true, List, Result};
 ghost use Rattle.rz_core.specs.declared.fault.Fault.{Fault};
 ghost use Rattle.rz_lex.specs.declared.token.Token.{Token};
 ghost use Rattle.rz_stmt.specs.Grammar.{Parses, Statement};
+ghost use Rattle.rz_stmt.specs.Limit.{is_within_limits, KeepsLimits};
 ghost use Rattle.rz_stmt.specs.Statements.{AreStatements};
 
 use rz_expr::one_expression;
@@ -9,6 +10,13 @@ use rz_expr::one_expression;
 /// A law, with nothing to run: all tokens are statements.
 pub fn all_tokens_are_statements()
     ensures { (tokens : List Token) → (statements : List (List Token)) × AreStatements tokens statements }
+{}
+
+/// A law, with nothing to run: a statement is within its limits exactly where behind none of its fronts more
+/// brackets are open than may be, and none of its rows without one of `{ } , ;` has more tokens other than
+/// texts than may be.
+pub fn limits_are_kept()
+    ensures { (tokens : List Token) → (is_within_limits tokens ≡ true) ↔ KeepsLimits tokens }
 {}
 
 /// A law, with nothing to run: tokens are one statement at most, or have one fault, and never both.
