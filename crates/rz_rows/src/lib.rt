@@ -11,8 +11,6 @@ mod folders;
 #[cfg(test)]
 mod forks;
 #[cfg(test)]
-mod heads;
-#[cfg(test)]
 mod rez_command;
 #[cfg(test)]
 mod shown;
