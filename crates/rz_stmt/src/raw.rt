@@ -137,6 +137,7 @@ fn is_close(tokens: &[Token]) -> bool
     }
 }
 
+/// Whether it is `;`.
 pub fn is_semicolon(token: &Token) -> bool
     ensures { result ≡ is_semicolon token.now.shape }
 {
