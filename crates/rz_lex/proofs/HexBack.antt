@@ -1,6 +1,6 @@
 -- Numbers and texts in hex digits that are written are read back.
-use Rattle.std.proofs.Common.{◌≡◌, ◌≢◌, ℕ, ◌+◌, ◌-◌, ◌<◌, ◌≤◌, Bool, true, false, List, [], ◌∷◌, ◌++◌, Option, Some, None, Ok, length, refl, sym, ap, ◌∙◌, arith, append_assoc, length-append}
-use Rattle.std.specs.Prelude.{nat_lt, ◌==◌, ◌*◌}
+use Rattle.std.proofs.Common.{◌≡◌, ◌≢◌, ℕ, ◌+◌, ◌-◌, ◌≤◌, true, false, List, [], ◌∷◌, ◌++◌, Option, Some, None, Ok, length, refl, sym, ap, ◌∙◌, arith, append_assoc, length-append}
+use Rattle.std.specs.Prelude.{nat_lt, ◌*◌}
 use Rattle.std.proofs.lemmas.Bool.{false≢true, ne_eqb, le-ltb}
 use Rattle.std.proofs.Math.Seq.{take-append_seam}
 use Rattle.rz_core.specs.declared.fault.Mark.{Mark}
@@ -11,7 +11,7 @@ use Rattle.rz_lex.specs.Escape.{before}
 use Rattle.rz_lex.specs.Extent.{are_word_bytes}
 use Rattle.rz_lex.specs.Hex.{hex_value, hex_behind}
 use Rattle.rz_lex.specs.Printed.{begins_word, token_of}
-use Rattle.rz_lex.specs.Scan.{after_lexeme, after_quote, after_run}
+use Rattle.rz_lex.specs.Scan.{after_lexeme, after_quote}
 use Rattle.rz_lex.specs.Shape.{inside, number_shape, shape_of}
 use Rattle.rz_lex.specs.declared.token.Shape.TheVariants as shapes
 use Rattle.rz_lex.proofs.Ends.{by_test, longest_read}

@@ -16,3 +16,4 @@ pub mod LexedTo
 pub mod OneLex
 pub mod Nameable
 pub mod Only
+pub mod Pages

@@ -1,5 +1,5 @@
 -- A message can say every fault of a line or a text.
-use Rattle.std.proofs.Common.{◌≡◌, ℕ, ◌+◌, ◌<◌, Bool, false, List, [], ◌∷◌, Option, Some, None, length, true, inl, inr, Result, Ok, Err, refl, arith, subst, sym}
+use Rattle.std.proofs.Common.{◌≡◌, ℕ, ◌+◌, Bool, false, List, [], ◌∷◌, Option, Some, None, length, true, inl, inr, Result, Ok, Err, refl, arith, subst, sym}
 use Rattle.std.specs.Prelude.{nat_lt, nat_le, ◌==◌, ◌&&◌, if◌then◌else◌}
 use Rattle.rz_core.specs.Message.{is_fault, IsNameable}
 use Rattle.rz_core.specs.declared.fault.Mark.{Mark}
@@ -10,10 +10,8 @@ use Rattle.rz_lex.specs.Cutting.{IsBad, Refuses}
 use Rattle.rz_lex.specs.Digits.{number_value}
 use Rattle.rz_lex.specs.Escape.{text_value}
 use Rattle.rz_lex.specs.Hex.{hex_value}
-use Rattle.rz_lex.specs.Lines.{HasOpenComment}
 use Rattle.rz_lex.specs.Shape.{dollar_shape, fault_at, hex_shape, inside, is_long, literal_shape, no_lexeme_fault, number_shape, opens_quote, shape_of, sign_shape, text_shape, valued_shape, word_shape}
 use Rattle.rz_lex.specs.Sign.{sign_of}
-use Rattle.rz_lex.specs.declared.joined.Placed.{Placed}
 use Rattle.rz_lex.specs.declared.sign.Sign.{Sign}
 use Rattle.rz_lex.specs.declared.token.Shape.{Shape}
 use Rattle.rz_lex.proofs.Ends.{by_test}

@@ -13,3 +13,4 @@ pub mod Shape
 pub mod Cutting
 pub mod Lexed
 pub mod Printed
+pub mod Page

@@ -1,4 +1,5 @@
-ghost use Rattle.std.specs.Prelude.{◌≡◌, ◌<◌, ◌≤◌, ◌^◌, ℕ, List, [], ◌∷◌, ◌++◌, false, length, Some, true};
+ghost use Rattle.std.specs.Prelude.{◌≡◌, ◌<◌, ◌≤◌, ◌^◌, ℕ, List, [], ◌∷◌, ◌++◌, false, length, None, Some, true};
+ghost use Rattle.std.specs.List.{AllByRecursion};
 ghost use Rattle.rz_core.specs.Decimal.{decimal_of};
 ghost use Rattle.rz_core.specs.Quoted.{quoted};
 ghost use Rattle.rz_core.specs.declared.fault.Fault.{Fault};
@@ -8,6 +9,9 @@ ghost use Rattle.rz_lex.specs.Cutting.{Cuts, Next, Refuses};
 ghost use Rattle.rz_lex.specs.Digits.{number_value};
 ghost use Rattle.rz_lex.specs.Extent.{are_word_bytes};
 ghost use Rattle.rz_lex.specs.Hex.{hex_value};
+ghost use Rattle.rz_lex.specs.Joined.{joined};
+ghost use Rattle.rz_lex.specs.Lines.{HasLines};
+ghost use Rattle.rz_lex.specs.Page.{lines_from, page, StandsOnPage};
 ghost use Rattle.rz_lex.specs.Printed.{begins_word, goes_on, is_word, token_of, word_of, AreBytes};
 ghost use Rattle.rz_lex.specs.Sign.{sign_text};
 ghost use Rattle.rz_lex.specs.declared.sign.Sign.{Sign};
@@ -61,4 +65,11 @@ pub fn cut_back()
         → Next mark line token after → Cuts mark after tokens → Cuts mark line (token ∷ tokens) }
     ensures blank { (mark : Mark) (blank : ℕ) (line : List ℕ) (tokens : List Token)
         → is_blank blank ≡ true → Cuts mark line tokens → Cuts mark (blank ∷ line) tokens }
+{}
+
+/// A law, with nothing to run: lines that are cut into tokens, none of which is a slash, are the logical lines
+/// of the page on which they stand one below the other.
+pub fn lines_of_page()
+    ensures { (file first : ℕ) (lines : List (List ℕ)) → AllByRecursion StandsOnPage lines
+        → HasLines file (joined first (page lines)) (lines_from file first lines) None }
 {}

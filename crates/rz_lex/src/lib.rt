@@ -20,7 +20,7 @@ mod token;
 pub use cover::one_cover;
 pub use cutting::cut;
 pub use joined::{Placed, Position};
-pub use laws::{cut_back, one_cut};
+pub use laws::{cut_back, lines_of_page, one_cut};
 pub use lexed::{lex, one_lex};
 pub use lines::{every_text_has_lines, next_line, one_list_of_lines};
 pub use raw_line::RawLine;

@@ -1,6 +1,6 @@
 use Rattle.std.proofs.Common.{arith}
 use Rattle.rz_lex.specs.Joined.{ahead, joined}
-use Rattle.rz_lex.proofs.LexedTo.{none_lexed, lexed_all, lexed_more, stopped_in_line, stopped_at_comment}
+use Rattle.rz_lex.proofs.LexedTo.{lexed_all, lexed_more, stopped_in_line, stopped_at_comment}
 use Rattle.rz_lex.proofs.lexed.lex_lines.Goals as goal
 
 pub returns-in-Ok-None-clause-tokens : goal.returns-in-Ok-None-clause-tokens
