@@ -1,5 +1,6 @@
 -- What stands in brackets, cut at its commas.
-use Rattle.std.specs.Prelude.{ℕ, ◌+◌, ◌-◌, ◌==◌, Bool, true, false, ◌&&◌, if◌then◌else◌, List, [], ◌∷◌, Option, Some, None, option_map}
+use Rattle.std.specs.Prelude.{◌≡◌, ℕ, ◌+◌, ◌-◌, ◌==◌, Bool, true, false, not, ◌&&◌, ◌||◌, if◌then◌else◌, List, [], ◌∷◌, ◌++◌, Option, Some, None, option_map}
+use Rattle.std.specs.List.{AllByRecursion}
 use Rattle.rz_lex.specs.declared.sign.Sign.TheVariants.{CloseParen, Comma, OpenParen}
 use Rattle.rz_lex.specs.declared.token.Shape.{Shape}
 use Rattle.rz_lex.specs.declared.token.Shape.TheVariants as shapes
@@ -48,3 +49,22 @@ pieces_in count (token ∷ tokens) =
 -- all pieces, and what stands behind them
 abbrev pub pieces_of : Cut → List (List Token) × List Token
 pieces_of cut = (cut.first ∷ cut.others, cut.rest)
+
+-- In the words of the language.
+
+-- a piece: further brackets in it are closed, and no comma stands outside them
+abbrev pub is_piece : ℕ → List Token → Bool
+is_piece count [] = count == 0
+is_piece count (token ∷ tokens) =
+    not ((is_close_paren token.shape || is_comma token.shape) && (count == 0)) && is_piece (parens_behind token.shape count) tokens
+
+-- pieces with one comma between each and the next, then the bracket that closes them, and a rest
+abbrev pub AreJoined : List Token → List Token → List (List Token) → List Token → Type 0
+AreJoined tokens first [] rest = (close : Token) × (is_close_paren close.shape ≡ true) × (tokens ≡ first ++ close ∷ rest)
+AreJoined tokens first (next ∷ others) rest =
+    (comma : Token) × (behind : List Token) × (is_comma comma.shape ≡ true) × (tokens ≡ first ++ comma ∷ behind) × AreJoined behind next others rest
+
+pub record IsCut (tokens : List Token) (cut : Cut) : Type 0 where
+  pub first : is_piece 0 cut.first ≡ true
+  pub others : AllByRecursion (λ piece. is_piece 0 piece ≡ true) cut.others
+  pub joined : AreJoined tokens cut.first cut.others cut.rest

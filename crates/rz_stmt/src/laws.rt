@@ -1,8 +1,9 @@
-ghost use Rattle.std.specs.Prelude.{◌≡◌, ◌↔◌, true, List, Result};
+ghost use Rattle.std.specs.Prelude.{◌≡◌, ◌↔◌, true, List, Result, Some};
 ghost use Rattle.rz_core.specs.declared.fault.Fault.{Fault};
 ghost use Rattle.rz_lex.specs.declared.token.Token.{Token};
 ghost use Rattle.rz_stmt.specs.Grammar.{Parses, Statement};
 ghost use Rattle.rz_stmt.specs.Limit.{is_within_limits, KeepsLimits};
+ghost use Rattle.rz_stmt.specs.Piece.{pieces_in, Cut, IsCut};
 ghost use Rattle.rz_stmt.specs.Statements.{AreStatements};
 
 use rz_expr::one_expression;
@@ -17,6 +18,13 @@ pub fn all_tokens_are_statements()
 /// texts than may be.
 pub fn limits_are_kept()
     ensures { (tokens : List Token) → (is_within_limits tokens ≡ true) ↔ KeepsLimits tokens }
+{}
+
+/// A law, with nothing to run: what stands in brackets is cut into these pieces exactly where they are the
+/// tokens, with one comma between each and the next and the bracket that closes them behind the last, and no
+/// comma stands in a piece outside further brackets.
+pub fn pieces_are_joined()
+    ensures { (tokens : List Token) (cut : Cut) → (pieces_in 0 tokens ≡ Some cut) ↔ IsCut tokens cut }
 {}
 
 /// A law, with nothing to run: tokens are one statement at most, or have one fault, and never both.

@@ -15,7 +15,7 @@ mod text;
 pub use cutting::{one_cutting, statements};
 pub use grammar::{Stmt, parse};
 pub use head::{AttrPart, AttrParts, HeadExpr};
-pub use laws::{all_tokens_are_statements, limits_are_kept, one_statement};
+pub use laws::{all_tokens_are_statements, limits_are_kept, one_statement, pieces_are_joined};
 pub use number::number_of;
 pub use raw::RawStmt;
 pub use span::{Span, Spans};
