@@ -1,2 +1,4 @@
 pub mod Head
 pub mod Data
+pub mod Page
+pub mod Statement

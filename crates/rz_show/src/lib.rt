@@ -4,5 +4,7 @@
 
 mod data;
 mod head;
+mod laws;
 
 pub use data::{show_bytes, show_resource};
+pub use laws::{shown_statement, shown_text};

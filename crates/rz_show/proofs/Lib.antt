@@ -1,0 +1,5 @@
+pub mod Lines
+pub mod Pieces
+pub mod Heads
+pub mod Texts
+pub mod Shown

@@ -1,0 +1,28 @@
+ghost use Rattle.std.specs.Prelude.{◌≡◌, ℕ, List, map};
+ghost use Rattle.std.specs.List.{AllByRecursion};
+ghost use Rattle.rz_core.specs.declared.resource.Resource.{Resource};
+ghost use Rattle.rz_lex.specs.declared.token.Token.{Token};
+ghost use Rattle.rz_show.specs.Data.{list_text};
+ghost use Rattle.rz_show.specs.Statement.{shown_raw, statement_shapes, IsPrintedAs, IsStored, IsWhole};
+
+use rz_lex::{cut_back, lines_of_page};
+use rz_stmt::pieces_are_joined;
+
+/// A law, with nothing to run: the text of resources is lines that are cut into the tokens of their
+/// statements, wherever it stands.
+pub fn shown_text()
+    ensures { (list : List Resource) → AllByRecursion IsStored list → IsPrintedAs (list_text list) list }
+{
+    cut_back();
+    lines_of_page();
+}
+
+/// A law, with nothing to run: the tokens that are shown of a resource are one statement, within the limits of
+/// statements, and it is the `data` statement with the resource's type, id, name, attributes and bytes,
+/// whatever pieces the texts have.
+pub fn shown_statement()
+    ensures { (r : Resource) (name bytes : List (List ℕ)) (tokens : List Token) → IsStored r
+        → map (λ token. token.shape) tokens ≡ statement_shapes r name bytes → IsWhole tokens (shown_raw r name bytes) }
+{
+    pieces_are_joined();
+}
