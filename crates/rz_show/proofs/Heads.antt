@@ -1,9 +1,9 @@
 -- The line that begins a statement, as it is printed.
-use Rattle.std.proofs.Common.{◌≡◌, ℕ, zero, suc, ◌+◌, ◌/◌, ◌%◌, ◌<◌, ◌≤◌, ◌^◌, ℤ, pos, negsuc, Bool, true, false, List, [], ◌∷◌, ◌++◌, map, length, Option, Some, None, refl, sym, ap, subst, ◌∙◌, arith, append_assoc}
-use Rattle.std.specs.Prelude.{◌==◌, ◌&&◌, ◌||◌, nat_le, nat_lt, codes, decimal, if◌then◌else◌, FitsSigned}
+use Rattle.std.proofs.Common.{◌≡◌, ℕ, suc, ◌+◌, ◌/◌, ◌%◌, ◌<◌, ◌≤◌, ◌^◌, ℤ, pos, negsuc, Bool, true, false, List, [], ◌∷◌, ◌++◌, map, length, Option, Some, None, refl, sym, ap, subst, ◌∙◌, arith, append_assoc}
+use Rattle.std.specs.Prelude.{◌==◌, ◌||◌, nat_le, codes, decimal, FitsSigned}
 use Rattle.std.specs.Int.{w16}
 use Rattle.std.specs.List.{flat_map}
-use Rattle.std.proofs.lemmas.Bool.{agree_below_at, and_parts, eqb-true, ne_eqb}
+use Rattle.std.proofs.lemmas.Bool.{agree_below_at, eqb-true, ne_eqb}
 use Rattle.std.proofs.lemmas.Fmt.{decimal_by_steps}
 use Rattle.std.proofs.lemmas.Grind.{flat_map-append}
 use Rattle.std.proofs.lemmas.List.{append-nil, map-append}
@@ -16,11 +16,11 @@ use Rattle.rz_lex.specs.Digits.{number_value}
 use Rattle.rz_lex.specs.Extent.{are_word_bytes}
 use Rattle.rz_lex.specs.Page.{AreInLine}
 use Rattle.rz_lex.specs.Printed.{begins_word, goes_on, is_word, word_of, AreBytes}
-use Rattle.rz_lex.specs.Sign.{is_sign, sign_text}
+use Rattle.rz_lex.specs.Sign.{is_sign}
 use Rattle.rz_lex.specs.declared.sign.Sign.TheVariants as signs
 use Rattle.rz_lex.specs.declared.token.Shape.{Shape}
 use Rattle.rz_lex.specs.declared.token.Shape.TheVariants as shapes
-use Rattle.rz_show.specs.Head.{attr_text, data_head, name_byte, name_text, word_text}
+use Rattle.rz_show.specs.Head.{attr_text, name_byte, name_text, word_text}
 use Rattle.rz_show.specs.Statement.{attribute_word, attributes_of, behind_commas, id_shapes, name_pieces, text_shapes}
 use Rattle.rz_expr.specs.Term.{Constant}
 use Rattle.rz_stmt.specs.Head.{Attribute, Value}
@@ -154,10 +154,9 @@ module _ (law : CutBack) where
   attributes_both : (one other : List ℕ) (front back : List (Shape × Attribute)) → IsAttributeText one front → IsAttributeText other back → IsAttributeText (one ++ other) (front ++ back)
   attributes_both one other front back first second = record {
     on = λ text tokens p clear. let behind = second.on text tokens p clear in
-        let all = first.on (other ++ text) (attribute_tokens back ++ tokens) behind.0 behind.1 in
-        (
+        let all = first.on (other ++ text) (attribute_tokens back ++ tokens) behind.0 behind.1 in (
           subst (λ (x : List ℕ). InLine x (attribute_tokens (front ++ back) ++ tokens)) (sym (append_assoc one other text))
-          (subst (λ (x : List Shape). InLine (one ++ (other ++ text)) x) (tokens_both front back tokens) all.0),
+              (subst (λ (x : List Shape). InLine (one ++ (other ++ text)) x) (tokens_both front back tokens) all.0),
           ap begins_word (append_assoc one other text) ∙ all.1,
         );
   }
@@ -187,7 +186,7 @@ module _ (law : CutBack) where
       record {
         on = λ text tokens p clear. (
           comma (32 ∷ 36 ∷ high ∷ low ∷ text) (shapes.Number attr ∷ tokens)
-          (blank law (36 ∷ high ∷ low ∷ text) (shapes.Number attr ∷ tokens) (dollar law text tokens p high (low ∷ []) attr first second (omega arith) value (inside (36 ∷ high ∷ low ∷ []) at) clear)),
+              (blank law (36 ∷ high ∷ low ∷ text) (shapes.Number attr ∷ tokens) (dollar law text tokens p high (low ∷ []) attr first second (omega arith) value (inside (36 ∷ high ∷ low ∷ []) at) clear)),
           refl,
         );
       }

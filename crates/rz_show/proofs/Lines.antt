@@ -7,21 +7,21 @@ use Rattle.std.proofs.lemmas.List.Concat.{flat_map-cons}
 use Rattle.rz_core.specs.Decimal.{decimal_of}
 use Rattle.rz_core.specs.Quoted.{quoted}
 use Rattle.rz_core.specs.declared.fault.Mark.{Mark}
-use Rattle.rz_lex.specs.Classes.{is_blank, is_hex_digit, is_word_byte}
+use Rattle.rz_lex.specs.Classes.{is_blank, is_hex_digit}
 use Rattle.rz_lex.specs.Cutting.{Cuts, Next}
 use Rattle.rz_lex.specs.Digits.{number_value}
 use Rattle.rz_lex.specs.Extent.{are_word_bytes}
 use Rattle.rz_lex.specs.Hex.{hex_value}
 use Rattle.rz_lex.specs.Joined.{joined}
 use Rattle.rz_lex.specs.Lines.{HasLines}
-use Rattle.rz_lex.specs.Page.{has_slash, is_slash, lines_from, page, AreInLine, StandsOnPage}
+use Rattle.rz_lex.specs.Page.{is_slash, lines_from, page, AreInLine, StandsOnPage}
 use Rattle.rz_lex.specs.Printed.{begins_word, goes_on, is_word, token_of, word_of, AreBytes}
 use Rattle.rz_lex.specs.Sign.{sign_text}
 use Rattle.rz_lex.specs.declared.sign.Sign.{Sign}
 use Rattle.rz_lex.specs.declared.token.Shape.{Shape}
 use Rattle.rz_lex.specs.declared.token.Shape.TheVariants as shapes
 use Rattle.rz_lex.specs.declared.token.Token.{Token}
-use Rattle.rz_show.specs.Page.{AreCut, IsPage, IsPrinted}
+use Rattle.rz_show.specs.Page.{AreCut, IsPage}
 use Rattle.rz_show.specs.Statement.{HasTokens}
 
 -- tokens that are written are cut back

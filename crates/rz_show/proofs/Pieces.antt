@@ -1,7 +1,6 @@
 -- Bytes that are shown as texts of several pieces, each on a line of its own.
-use Rattle.std.proofs.Common.{◌≡◌, ◌⊎◌, inl, inr, ℕ, ◌<◌, List, [], ◌∷◌, ◌++◌, length, refl, sym, ap, subst, ◌∙◌, append_assoc}
+use Rattle.std.proofs.Common.{◌≡◌, ◌⊎◌, inl, inr, ℕ, ◌<◌, List, [], ◌∷◌, ◌++◌, length, refl, ap, subst, ◌∙◌, append_assoc}
 use Rattle.std.specs.List.{flat_map}
-use Rattle.std.proofs.lemmas.List.{append-nil}
 use Rattle.rz_core.specs.Lists.{with_front}
 use Rattle.rz_lex.specs.Printed.{AreBytes}
 use Rattle.rz_lex.specs.declared.token.Shape.{Shape}

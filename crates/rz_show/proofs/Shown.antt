@@ -1,7 +1,7 @@
 -- The text of a list of resources, as it is printed.
 use Rattle.std.proofs.Common.{◌≡◌, ℕ, List, [], ◌∷◌, ◌++◌, map, None, refl, sym, ap, subst, ◌∙◌, append_assoc}
 use Rattle.std.specs.Prelude.{codes}
-use Rattle.std.specs.List.{flat_map, AllByRecursion}
+use Rattle.std.specs.List.{AllByRecursion}
 use Rattle.std.proofs.lemmas.Grind.{flat_map-append}
 use Rattle.rz_core.specs.Decimal.{signed_of}
 use Rattle.rz_core.specs.Quoted.{literal_text}
@@ -16,7 +16,7 @@ use Rattle.rz_lex.specs.declared.token.Shape.{Shape}
 use Rattle.rz_lex.specs.declared.token.Shape.TheVariants as shapes
 use Rattle.rz_show.specs.Data.{lines_text, list_text, resource_text, statement_text}
 use Rattle.rz_show.specs.Head.{attr_text, data_head, name_text}
-use Rattle.rz_show.specs.Statement.{attributes_of, behind_commas, id_shapes, name_pieces, shown_raw, statement_shapes, text_shapes, AreShown, IsPrintedAs, IsShown, IsStored}
+use Rattle.rz_show.specs.Statement.{attributes_of, behind_commas, id_shapes, name_pieces, statement_shapes, text_shapes, AreShown, IsPrintedAs, IsShown, IsStored}
 use Rattle.rz_show.proofs.Heads.{alone, attribute_tokens, head_line, shape_alone}
 use Rattle.rz_show.proofs.Lines.{has_tokens, inside, line_end, no_lines, sign, whole, CutBack, InLine, Page}
 use Rattle.rz_show.proofs.Texts.{bytes_lines}

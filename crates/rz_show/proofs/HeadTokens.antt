@@ -1,0 +1,217 @@
+-- The tokens of the head of a shown resource, as the pieces of a head.
+use Rattle.std.proofs.Common.{◌≡◌, ℕ, suc, ◌<◌, ◌^◌, ℤ, pos, negsuc, Bool, true, false, List, [], ◌∷◌, ◌++◌, map, Some, None, refl, sym, ap, subst, ◌∙◌, arith, append_assoc}
+use Rattle.std.specs.Prelude.{◌==◌, ◌&&◌, ◌||◌, ◌/◌, ◌%◌, nat_le, not, codes, FitsSigned}
+use Rattle.std.specs.Int.{w16, w32}
+use Rattle.std.specs.List.{AllByRecursion}
+use Rattle.std.proofs.lemmas.Int.{int_wrap_fits}
+use Rattle.std.proofs.lemmas.List.Concat.{flat_map-cons}
+use Rattle.rz_expr.specs.Grammar.{start_of, Derives, IsExpression, Operand}
+use Rattle.rz_expr.specs.Term.{Constant, Term}
+use Rattle.rz_lex.specs.Printed.{token_of, word_of}
+use Rattle.rz_lex.specs.declared.sign.Sign.TheVariants as signs
+use Rattle.rz_lex.specs.declared.token.Shape.{Shape}
+use Rattle.rz_lex.specs.declared.token.Shape.TheVariants as shapes
+use Rattle.rz_lex.specs.declared.token.Token.{Token}
+use Rattle.rz_stmt.specs.Head.{cleared_by, set_by, AreAttributes, Attribute, IsAttribute, IsHeadExpression, IsRest, Set}
+use Rattle.rz_stmt.specs.Limit.{is_text}
+use Rattle.rz_stmt.specs.Piece.{is_close_paren, is_comma, is_piece, parens_behind, AreJoined}
+use Rattle.rz_stmt.specs.Text.{part_in, parts_in, text_in, with_part}
+use Rattle.rz_show.specs.Statement.{attribute_word, attributes_of, behind_commas, id_shapes, id_term, name_part, name_pieces, text_parts, text_shapes}
+use Rattle.rz_show.proofs.Split.{front_and_back, none_left, one_and_more, shapes_in}
+use Rattle.rz_show.proofs.Texts.{by_test}
+
+-- Shapes that stand inside a piece of a head: no commas, brackets and semicolons; and those that stand in a head.
+
+abbrev pub is_inner : Shape → Bool
+is_inner (shapes.Sign signs.Minus) = true
+is_inner (shapes.Sign sign) = false
+is_inner shape = true
+
+abbrev pub is_flat : Shape → Bool
+is_flat shape = is_inner shape || is_comma shape
+
+abbrev pub AreInner : List Token → Type 0
+AreInner tokens = AllByRecursion (λ token. is_inner token.shape ≡ true) tokens
+
+abbrev pub AreFlat : List Token → Type 0
+AreFlat tokens = AllByRecursion (λ token. is_flat token.shape ≡ true) tokens
+
+pub all_of : (P : Shape → Type 0) (tokens : List Token) (shapes : List Shape) → shapes_in tokens ≡ shapes → AllByRecursion P shapes → AllByRecursion (λ (token : Token). P token.shape) tokens
+all_of P tokens shapes is all = go tokens (subst (AllByRecursion P) (sym is) all)
+  where
+    go : (tokens : List Token) → AllByRecursion P (shapes_in tokens) → AllByRecursion (λ (token : Token). P token.shape) tokens
+    go [] all = tt
+    go (t ∷ tokens) all = (all.0, go tokens all.1)
+
+pub all_both : {X : Type 0} (P : X → Type 0) (xs ys : List X) → AllByRecursion P xs → AllByRecursion P ys → AllByRecursion P (xs ++ ys)
+all_both P [] ys front back = back
+all_both P (x ∷ xs) ys front back = (front.0, all_both P xs ys front.1 back)
+
+pub inner_is_flat : (shapes : List Shape) → AllByRecursion (λ shape. is_inner shape ≡ true) shapes → AllByRecursion (λ shape. is_flat shape ≡ true) shapes
+inner_is_flat [] all = tt
+inner_is_flat (shape ∷ shapes) all = (ap (λ b. b || is_comma shape) all.0, inner_is_flat shapes all.1)
+
+pub texts_are_inner : (pieces : List (List ℕ)) → AllByRecursion (λ shape. is_inner shape ≡ true) (text_shapes pieces)
+texts_are_inner [] = tt
+texts_are_inner (piece ∷ pieces) = (refl, texts_are_inner pieces)
+
+pub id_is_inner : (id : ℤ) → AllByRecursion (λ shape. is_inner shape ≡ true) (id_shapes id)
+id_is_inner (pos n) = (refl, tt)
+id_is_inner (negsuc n) = (refl, (refl, tt))
+
+-- The attributes.
+
+-- an attribute and the token that it is
+pub record IsShownAttribute (a : Shape × Attribute) : Type 0 where
+  pub inner : is_inner a.0 ≡ true
+  pub no_text : is_text a.0 ≡ false
+  pub means : (token : Token) → token.shape ≡ a.0 → IsAttribute (token ∷ []) a.1
+
+pub record AreShownAttributes (attributes : List (Shape × Attribute)) : Type 0 where
+  pub each : AllByRecursion IsShownAttribute attributes
+
+shown_both : {xs ys : List (Shape × Attribute)} → AreShownAttributes xs → AreShownAttributes ys → AreShownAttributes (xs ++ ys)
+shown_both {xs} {ys} front back = record { each = all_both IsShownAttribute xs ys front.each back.each }
+
+shown_word : (attr bit : ℕ) (word : List ℕ) → ((token : Token) → token.shape ≡ word_of word → IsAttribute (token ∷ []) (Set bit)) → AreShownAttributes (attribute_word attr bit word)
+shown_word attr bit word means = by_test (AreShownAttributes (attribute_word attr bit word)) (attr / bit % 2 == 1)
+    (λ h. rw h (record { each = (record { inner = refl; no_text = refl; means = means }, tt) }))
+    (λ h. rw h (record { each = tt }))
+
+tighter_than : {tokens : List Token} {term : Term} → Derives 0 tokens term → IsExpression tokens term
+tighter_than d = Derives.tighter (Derives.tighter (Derives.tighter (Derives.tighter (Derives.tighter (Derives.tighter (Derives.tighter (Derives.tighter (Derives.tighter (Derives.tighter d)))))))))
+
+number_term : (token : Token) (n : ℕ) → token.shape ≡ shapes.Number n → n < 2 ^ 31 → Derives 0 (token ∷ []) (Constant (pos n))
+number_term token n is small =
+    Derives.operand (rw is (ap (λ (z : ℤ). Operand (Constant z)) (int_wrap_fits w32 (pos n) (omega arith))))
+
+pub shown_attributes : (attr : ℕ) → attr < 256 → AreShownAttributes (attributes_of attr)
+unfolding set_by cleared_by
+shown_attributes attr small = by_test (AreShownAttributes (attributes_of attr)) (attr == 0)
+    (λ h. rw h (record { each = tt }))
+    (λ h. by_test (AreShownAttributes (attributes_of attr)) (nat_le 128 attr || (attr % 2 == 1))
+    (λ k. rw (h, k) (record {
+      each = (record { inner = refl; no_text = refl; means = λ token is. rw is (Constant (pos attr), (tighter_than (number_term (token_of token.mark (shapes.Number attr)) attr refl (omega arith)), refl), refl) }, tt);
+    }))
+    (λ k. rw (h, k) (shown_both (shown_both (shown_both (shown_both (shown_both (shown_word attr 64 (codes "sysheap") (λ token is. rw is refl)) (shown_word attr 32 (codes "purgeable") (λ token is. rw is refl)))
+    (shown_word attr 16 (codes "locked") (λ token is. rw is refl))) (shown_word attr 8 (codes "protected") (λ token is. rw is refl)))
+    (shown_word attr 4 (codes "preload") (λ token is. rw is refl))) (shown_word attr 2 (codes "changed") (λ token is. rw is refl)))))
+
+-- The pieces of the head, behind the id.
+
+-- the pieces are these attributes
+attribute_pieces : (attributes : List (Shape × Attribute)) → AllByRecursion IsShownAttribute attributes → (pieces : List (List Token)) → map shapes_in pieces ≡ map (λ a. a.0 ∷ []) attributes
+    → AreAttributes pieces (map (λ a. a.1) attributes)
+attribute_pieces [] shown [] is = refl
+attribute_pieces [] shown (piece ∷ pieces) is = absurd cc
+attribute_pieces (a ∷ attributes) shown [] is = absurd cc
+attribute_pieces (a ∷ attributes) shown (piece ∷ pieces) is =
+    let first : shapes_in piece ≡ a.0 ∷ [] = cc in
+    let others : map shapes_in pieces ≡ map (λ a. a.0 ∷ []) attributes = cc in
+    let one = one_and_more piece a.0 [] first in
+    let alone : piece ≡ one.one ∷ [] = one.are ∙ ap (λ (x : List Token). one.one ∷ x) (none_left one.more one.more_are) in (
+      a.1,
+      map (λ a. a.1) attributes,
+      subst (λ (x : List Token). IsAttribute x a.1) (sym alone) (shown.0.means one.one one.one_is),
+      attribute_pieces attributes shown.1 pieces others,
+      refl,
+    )
+
+-- texts of these pieces
+pub texts_again : (pieces : List (List ℕ)) (tokens : List Token) → shapes_in tokens ≡ text_shapes pieces → parts_in tokens ≡ Some (text_parts pieces)
+texts_again [] tokens is = ap parts_in (none_left tokens is)
+texts_again (piece ∷ pieces) tokens is =
+    let one = one_and_more tokens (shapes.Text piece) (text_shapes pieces) is in
+    ap parts_in one.are ∙ rw one.one_is (rw (texts_again pieces one.more one.more_are) refl)
+
+text_again : (part : List ℕ) (name : List (List ℕ)) (piece : List Token) → shapes_in piece ≡ text_shapes (part ∷ name) → text_in piece ≡ Some (text_parts (part ∷ name))
+text_again part name [] is = absurd cc
+text_again part name (token ∷ piece) is = texts_again (part ∷ name) (token ∷ piece) is
+
+no_text_piece : (a : Shape × Attribute) → IsShownAttribute a → (piece : List Token) → shapes_in piece ≡ a.0 ∷ [] → text_in piece ≡ None
+no_text_piece a shown piece is =
+    let one = one_and_more piece a.0 [] is in
+    ap text_in one.are ∙ go one.one.shape (ap is_text one.one_is ∙ shown.no_text) one.more
+  where
+    go : (shape : Shape) → is_text shape ≡ false → (more : List Token) → with_part (part_in shape) (parts_in more) ≡ None
+    go (shapes.Text bytes) other more = absurd cc
+    go _ other more = refl
+
+pub rest_is : (name : List (List ℕ)) (attributes : List (Shape × Attribute)) → AllByRecursion IsShownAttribute attributes → (pieces : List (List Token))
+    → map shapes_in pieces ≡ name_pieces name ++ map (λ a. a.0 ∷ []) attributes → IsRest pieces (name_part name) (map (λ a. a.1) attributes)
+rest_is [] [] shown [] is = (refl, refl)
+rest_is [] [] shown (piece ∷ pieces) is = absurd cc
+rest_is [] (a ∷ attributes) shown [] is = absurd cc
+rest_is [] (a ∷ attributes) shown (piece ∷ pieces) is =
+    let first : shapes_in piece ≡ a.0 ∷ [] = cc in
+    rw (no_text_piece a shown.0 piece first) (refl, attribute_pieces (a ∷ attributes) shown (piece ∷ pieces) is)
+rest_is (part ∷ name) attributes shown [] is = absurd cc
+rest_is (part ∷ name) attributes shown (piece ∷ pieces) is =
+    let first : shapes_in piece ≡ text_shapes (part ∷ name) = cc in
+    let others : map shapes_in pieces ≡ map (λ a. a.0 ∷ []) attributes = cc in
+    rw (text_again part name piece first) (refl, attribute_pieces attributes shown pieces others)
+
+-- the id
+pub id_is : (id : ℤ) → FitsSigned w16 id → (tokens : List Token) → shapes_in tokens ≡ id_shapes id → IsHeadExpression tokens (id_term id)
+id_is (pos n) fits tokens is =
+    let one = one_and_more tokens (shapes.Number n) [] is in
+    let alone : tokens ≡ one.one ∷ [] = one.are ∙ ap (λ (x : List Token). one.one ∷ x) (none_left one.more one.more_are) in
+    (subst (λ (x : List Token). IsExpression x (Constant (pos n))) (sym alone) (tighter_than (number_term one.one n one.one_is (omega (arith, fits)))), refl)
+id_is (negsuc n) fits tokens is =
+    let one = one_and_more tokens (shapes.Sign signs.Minus) (shapes.Number (suc n) ∷ []) is in
+    let two = one_and_more one.more (shapes.Number (suc n)) [] one.more_are in
+    let both : tokens ≡ one.one ∷ two.one ∷ [] = one.are ∙ ap (λ (x : List Token). one.one ∷ x) (two.are ∙ ap (λ (x : List Token). two.one ∷ x) (none_left two.more two.more_are)) in (
+      subst (λ (x : List Token). IsExpression x (id_term (negsuc n))) (sym both)
+          (tighter_than (Derives.prefixed (ap start_of one.one_is) (number_term two.one (suc n) two.one_is (omega (arith, fits))))),
+      refl,
+    )
+
+-- From the tokens of the head to its pieces.
+
+comma_is_comma : (token : Token) → token.shape ≡ shapes.Sign signs.Comma → is_comma token.shape ≡ true
+comma_is_comma token is = ap is_comma is
+
+pub inner_piece : (tokens : List Token) → AreInner tokens → is_piece 0 tokens ≡ true
+inner_piece [] inner = refl
+inner_piece (token ∷ tokens) inner = go token.shape inner.0 (inner_piece tokens inner.1)
+  where
+    go : (shape : Shape) → is_inner shape ≡ true → is_piece 0 tokens ≡ true
+        → (not ((is_close_paren shape || is_comma shape) && (0 == 0)) && is_piece (parens_behind shape 0) tokens) ≡ true
+    go (shapes.Sign signs.Minus) is rest = rest
+    go (shapes.Sign sign) is rest = absurd cc
+    go _ is rest = rest
+
+abbrev pub ArePieces : List (List Shape) → Type 0
+ArePieces pieces = AllByRecursion (λ piece. AllByRecursion (λ shape. is_inner shape ≡ true) piece) pieces
+
+pub record IsHeadOf (first named : List Token) (close : Token) (rest : List Token) (pieces : List (List Shape)) : Type 0 where
+  pub others : List (List Token)
+  pub are : map shapes_in others ≡ pieces
+  pub each : AllByRecursion (λ piece. is_piece 0 piece ≡ true) others
+  pub joined : AreJoined (first ++ (named ++ close ∷ rest)) first others rest
+
+pub head_of : (first named : List Token) (close : Token) (rest : List Token) (pieces : List (List Shape)) → ArePieces pieces → is_close_paren close.shape ≡ true → shapes_in named ≡ behind_commas pieces
+    → IsHeadOf first named close rest pieces
+head_of first named close rest [] inner closes is = record {
+  others = [];
+  are = refl;
+  each = tt;
+  joined = (close, closes, ap (λ (x : List Token). first ++ (x ++ close ∷ rest)) (none_left named is));
+}
+head_of first named close rest (piece ∷ pieces) inner closes is =
+    let comma = one_and_more named (shapes.Sign signs.Comma) (piece ++ behind_commas pieces) (is ∙ flat_map-cons (λ (piece : List Shape). shapes.Sign signs.Comma ∷ piece) piece pieces) in
+    let both = front_and_back comma.more piece (behind_commas pieces) comma.more_are in
+    let behind = head_of both.front both.back close rest pieces inner.1 closes both.back_is in
+    record {
+      others = both.front ∷ behind.others;
+      are = (λ i. both.front_is i ∷ behind.are i);
+      each = (inner_piece both.front (all_of (λ shape. is_inner shape ≡ true) both.front piece both.front_is inner.0), behind.each);
+      joined = (
+        comma.one,
+        both.front ++ (both.back ++ close ∷ rest),
+        comma_is_comma comma.one comma.one_is,
+        ap (λ (x : List Token). first ++ (x ++ close ∷ rest)) (comma.are ∙ ap (λ (x : List Token). comma.one ∷ x) both.are)
+            ∙ ap (λ (x : List Token). first ++ comma.one ∷ x) (append_assoc both.front both.back (close ∷ rest)),
+        behind.joined,
+      );
+    }
