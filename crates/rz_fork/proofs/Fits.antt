@@ -29,6 +29,14 @@ pub ids_fit : (bytes : List ℕ) (t : TypeEntry) → AreBytes bytes → AllByRec
 unfolding references reference_at
 ids_fit bytes t small = all_items HasId (reference_at bytes) 12 t.list t.count (λ place. omega (arith, number_fits 2 bytes place small))
 
+-- the attribute byte
+abbrev HasAttr : Reference → Type 0
+HasAttr r = r.attr < 256
+
+attrs_fit : (bytes : List ℕ) (t : TypeEntry) → AreBytes bytes → AllByRecursion HasAttr (references bytes t)
+unfolding references reference_at
+attrs_fit bytes t small = all_items HasAttr (reference_at bytes) 12 t.list t.count (λ place. omega (arith, number_fits 1 bytes (place + 4) small))
+
 signed_fits : (n : ℕ) → n < 2 ^ 16 → FitsSigned w16 (cast_signed w16 n)
 signed_fits n small =
     let wrapped = wrapping_add-bits w16 n 0 small (omega arith) in
@@ -53,18 +61,30 @@ name_fits bytes o r small =
     let place = o.header.map_at + name_at o r in
     name_by (r.name == 65535) (number 1 bytes place) (drop (place + 1) bytes) (omega (arith, number_fits 1 bytes place small))
 
-resource_fits : (bytes : List ℕ) (o : Outline) (t : TypeEntry) (r : Reference) → AreBytes bytes → t.code < 2 ^ 32 → HasId r → FitsFork (resource_of bytes o t r)
+name_bytes_by : (b : Bool) (xs : List ℕ) → AllByRecursion (λ b. b < 256) xs → AllByRecursion (λ b. b < 256) (if b then [] else xs)
+name_bytes_by true xs small = tt
+name_bytes_by false xs small = small
+
+name_bytes : (bytes : List ℕ) (o : Outline) (r : Reference) → AreBytes bytes → AllByRecursion (λ b. b < 256) (name_of bytes o r)
+unfolding name_of
+name_bytes bytes o r small =
+    let place = o.header.map_at + name_at o r in
+    name_bytes_by (r.name == 65535) (take (number 1 bytes place) (drop (place + 1) bytes)) (all_take (number 1 bytes place) (drop (place + 1) bytes) (drop_small (place + 1) bytes small))
+
+resource_fits : (bytes : List ℕ) (o : Outline) (t : TypeEntry) (r : Reference) → AreBytes bytes → t.code < 2 ^ 32 → HasId r → HasAttr r → FitsFork (resource_of bytes o t r)
 unfolding resource_of data_of
-resource_fits bytes o t r small code id = record {
+resource_fits bytes o t r small code id attr = record {
   code = code;
   id = signed_fits r.id id;
   name = name_fits bytes o r small;
+  name_bytes = name_bytes bytes o r small;
+  attr = attr;
   bytes = all_take (number 4 bytes (data_place o r)) (drop (data_place o r + 4) bytes) (drop_small (data_place o r + 4) bytes small);
 }
 
-resources_fit : (bytes : List ℕ) (o : Outline) (t : TypeEntry) (rs : List Reference) → AreBytes bytes → t.code < 2 ^ 32 → AllByRecursion HasId rs → AllByRecursion FitsFork (map (resource_of bytes o t) rs)
-resources_fit bytes o t [] small code ids = tt
-resources_fit bytes o t (r ∷ rs) small code ids = (resource_fits bytes o t r small code ids.0, resources_fit bytes o t rs small code ids.1)
+resources_fit : (bytes : List ℕ) (o : Outline) (t : TypeEntry) (rs : List Reference) → AreBytes bytes → t.code < 2 ^ 32 → AllByRecursion HasId rs → AllByRecursion HasAttr rs → AllByRecursion FitsFork (map (resource_of bytes o t) rs)
+resources_fit bytes o t [] small code ids attrs = tt
+resources_fit bytes o t (r ∷ rs) small code ids attrs = (resource_fits bytes o t r small code ids.0 attrs.0, resources_fit bytes o t rs small code ids.1 attrs.1)
 
 -- the code of an entry
 abbrev HasCode : TypeEntry → Type 0
@@ -78,7 +98,7 @@ types_fit : (bytes : List ℕ) (o : Outline) (ts : List TypeEntry) → AreBytes 
 types_fit bytes o [] small codes = tt
 types_fit bytes o (t ∷ ts) small codes =
     all_append FitsFork (resources_of bytes o t) (flat_map (resources_of bytes o) ts)
-    (resources_fit bytes o t (references bytes t) small codes.0 (ids_fit bytes t small)) (types_fit bytes o ts small codes.1)
+    (resources_fit bytes o t (references bytes t) small codes.0 (ids_fit bytes t small) (attrs_fit bytes t small)) (types_fit bytes o ts small codes.1)
 
 -- every resource that bytes hold fits
 pub all_fit : (bytes : List ℕ) (o : Outline) → AreBytes bytes → AllByRecursion FitsFork (resources bytes o)

@@ -69,4 +69,6 @@ pub record FitsFork (r : Resource) : Type 0 where
   pub code : r.kind.code < 2 ^ 32
   pub id : FitsSigned w16 r.id
   pub name : length r.name < 256
+  pub name_bytes : AllByRecursion (λ b. b < 256) r.name
+  pub attr : r.attr < 256
   pub bytes : AllByRecursion (λ b. b < 256) r.bytes
