@@ -1,8 +1,9 @@
 pub mod Lines
 pub mod Pieces
-pub mod Heads
 pub mod Texts
-pub mod Shown
+pub mod Heads
 pub mod Split
 pub mod HeadTokens
+pub mod Words
+pub mod Shown
 pub mod Whole

@@ -20,6 +20,7 @@ use Rattle.rz_show.specs.Statement.{attributes_of, behind_commas, id_shapes, nam
 use Rattle.rz_show.proofs.Heads.{alone, attribute_tokens, head_line, shape_alone}
 use Rattle.rz_show.proofs.Lines.{has_tokens, inside, line_end, no_lines, sign, whole, CutBack, InLine, Page}
 use Rattle.rz_show.proofs.Texts.{bytes_lines}
+use Rattle.rz_show.proofs.Words.{statement_words, words_both, AreWords}
 
 regroup : (id named attributes : List Shape) (a b : Shape) (texts : List Shape) (c d : Shape) (tokens : List Shape)
     → id ++ (named ++ (attributes ++ a ∷ b ∷ (texts ++ c ∷ d ∷ tokens))) ≡ (id ++ ((named ++ attributes) ++ a ∷ b ∷ (texts ++ c ∷ d ∷ []))) ++ tokens
@@ -32,6 +33,7 @@ same_text {text} {other} {tokens} is line = subst (λ (x : List ℕ). InLine x t
 record IsStatementPage (text : List ℕ) (r : Resource) (tokens : List Shape) : Type 0 where
   front : List Shape
   shown : IsShown r front
+  words : AreWords front
   page : Page text (front ++ tokens)
 
 module _ (law : CutBack) where
@@ -76,6 +78,7 @@ module _ (law : CutBack) where
           named = head.none;
           are = refl;
         };
+        words = statement_words r head.pieces bytes.pieces;
         page = whole (resource_text r ++ text) (statement_shapes r head.pieces bytes.pieces ++ tokens)
             (subst (InLine (resource_text r ++ text)) (tokens_are r head.pieces bytes.pieces tokens)
             (same_text text_is head.line));
@@ -85,9 +88,10 @@ module _ (law : CutBack) where
     tokens : List Shape
     page : Page (list_text rs) tokens
     shown : AreShown rs tokens
+    words : AreWords tokens
 
   list_page : (rs : List Resource) → AllByRecursion IsStored rs → IsListPage rs
-  list_page [] stored = record { tokens = []; page = no_lines; shown = refl }
+  list_page [] stored = record { tokens = []; page = no_lines; shown = refl; words = record { each = tt } }
   list_page (r ∷ rs) stored =
       let behind = list_page rs stored.1 in
       let here = statement_page (list_text rs) behind.tokens behind.page r stored.0 in
@@ -95,10 +99,11 @@ module _ (law : CutBack) where
         tokens = here.front ++ behind.tokens;
         page = here.page;
         shown = (here.front, behind.tokens, refl, here.shown, behind.shown);
+        words = words_both here.words behind.words;
       }
 
   pub printed_as : ((file first : ℕ) (lines : List (List ℕ)) → AllByRecursion StandsOnPage lines → HasLines file (joined first (page lines)) (lines_from file first lines) None)
       → (rs : List Resource) → AllByRecursion IsStored rs → IsPrintedAs (list_text rs) rs
   printed_as lines rs stored =
       let all = list_page rs stored in
-      record { tokens = all.tokens; has = has_tokens lines (list_text rs) all.tokens all.page; shown = all.shown }
+      record { tokens = all.tokens; has = has_tokens lines (list_text rs) all.tokens all.page; shown = all.shown; words = all.words.each }

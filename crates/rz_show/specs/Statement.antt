@@ -1,7 +1,8 @@
 -- What a shown resource is: the tokens of its statement, and the `data` statement that they are.
-use Rattle.std.specs.Prelude.{◌≡◌, ℕ, true, suc, ◌/◌, ◌%◌, ◌<◌, ◌^◌, ℤ, pos, negsuc, FitsSigned, nat_le, ◌==◌, ◌||◌, if◌then◌else◌, List, [], ◌∷◌, ◌++◌, codes, map, Option, Some, None}
+use Rattle.std.specs.Prelude.{◌≡◌, ℕ, true, suc, ◌/◌, ◌%◌, ◌<◌, ◌^◌, ℤ, pos, negsuc, FitsSigned, nat_le, Bool, ◌==◌, ◌||◌, if◌then◌else◌, List, [], ◌∷◌, ◌++◌, codes, map, Option, Some, None}
 use Rattle.std.specs.Int.{w16}
-use Rattle.std.specs.List.{flat_map}
+use Rattle.std.specs.List.{flat_map, list_any, AllByRecursion}
+use Rattle.std.specs.Str.{bytes_eq}
 use Rattle.rz_core.specs.Numbers.{be}
 use Rattle.rz_core.specs.declared.resource.Resource.{Resource}
 use Rattle.rz_expr.specs.Term.{Constant, OfOne, Term}
@@ -113,11 +114,22 @@ pub record HasTokens (text : List ℕ) (tokens : List Shape) : Type 0 where
   pub are : tokens ≡ flat_map (λ line. line) lines
   pub read : (file first : ℕ) → (raw_lines : List RawLine) × HasLines file (joined first text) raw_lines None × AreCut raw_lines lines
 
+-- the words of such a text
+abbrev pub shown_words : List (List ℕ)
+shown_words =
+    codes "data" ∷ codes "sysheap" ∷ codes "purgeable" ∷ codes "locked" ∷ codes "protected" ∷ codes "preload" ∷ codes "changed" ∷ []
+
+-- a word that is one of them, or no word
+abbrev pub is_shown : Shape → Bool
+is_shown (shapes.Word word) = list_any (λ shown. bytes_eq shown word.bytes) shown_words
+is_shown shape = true
+
 -- the text of these resources is the tokens of their statements
 pub record IsPrintedAs (text : List ℕ) (list : List Resource) : Type 0 where
   pub tokens : List Shape
   pub has : HasTokens text tokens
   pub shown : AreShown list tokens
+  pub words : AllByRecursion (λ shape. is_shown shape ≡ true) tokens
 
 -- tokens that are one statement, within its limits, and this one
 pub record IsWhole (tokens : List Token) (raw : Raw) : Type 0 where
