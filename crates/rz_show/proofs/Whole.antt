@@ -18,7 +18,7 @@ use Rattle.rz_stmt.specs.Limit.{counted, depth_limit, is_text, keeps_limits, row
 use Rattle.rz_stmt.specs.Piece.{is_close_paren, pieces_in, Cut, IsCut}
 use Rattle.rz_stmt.specs.Raw.{kind_in, texts_in, IsRaw}
 use Rattle.rz_stmt.specs.Statements.{has_end, is_end, is_semicolon, open_behind, open_behind_all}
-use Rattle.rz_show.specs.Statement.{attribute_word, attributes_of, behind_commas, head_pieces, id_shapes, name_pieces, shown_raw, statement_shapes, text_parts, text_shapes, IsStored, IsWhole}
+use Rattle.rz_show.specs.Statement.{attribute_word, attributes_of, behind_commas, head_pieces, id_shapes, name_pieces, shown_raw, statement_shapes, text_parts, text_shapes, AreShown, AreWhole, IsStored, IsWhole}
 use Rattle.rz_show.proofs.HeadTokens.{all_both, all_of, head_of, inner_piece, id_is, id_is_inner, inner_is_flat, is_flat, is_inner, rest_is, shown_attributes, texts_are_inner, AreFlat, ArePieces, IsShownAttribute}
 use Rattle.rz_show.proofs.Split.{front_and_back, none_left, one_and_more, shapes_in}
 use Rattle.rz_show.proofs.Texts.{by_test}
@@ -255,7 +255,7 @@ module _ (law : (tokens : List Token) (cut : Cut) → (pieces_in 0 tokens ≡ So
     is = raw;
   }
 
-pub whole : ((tokens : List Token) (cut : Cut) → (pieces_in 0 tokens ≡ Some cut) ↔ IsCut tokens cut) → (r : Resource) (name bytes : List (List ℕ)) (tokens : List Token) → IsStored r
+whole : ((tokens : List Token) (cut : Cut) → (pieces_in 0 tokens ≡ Some cut) ↔ IsCut tokens cut) → (r : Resource) (name bytes : List (List ℕ)) (tokens : List Token) → IsStored r
     → shapes_in tokens ≡ statement_shapes r name bytes → IsWhole tokens (shown_raw r name bytes)
 whole law r name bytes tokens stored is =
     let word = one_and_more tokens (word_of (codes "data")) _ is in
@@ -277,3 +277,23 @@ whole law r name bytes tokens stored is =
     subst (λ (x : List Token). IsWhole x (shown_raw r name bytes)) (sym are)
     (is_whole law r name bytes stored word.one kind.one paren.one id.front named.front close.one brace.one texts.front end.one semicolon.one
     word.one_is kind.one_is paren.one_is id.front_is named.front_is close.one_is brace.one_is texts.front_is end.one_is semicolon.one_is)
+
+pub all_whole : ((tokens : List Token) (cut : Cut) → (pieces_in 0 tokens ≡ Some cut) ↔ IsCut tokens cut) → (list : List Resource) (tokens : List Token) → AllByRecursion IsStored list
+    → AreShown list (shapes_in tokens) → AreWhole tokens list
+all_whole law [] tokens stored shown = none_left tokens shown
+all_whole law (r ∷ rs) tokens stored shown =
+    let one = shown.3 in
+    let parts = front_and_back tokens shown.0 shown.1 shown.2 in
+    (
+      parts.front,
+      parts.back,
+      parts.are,
+      record {
+        name = one.name;
+        bytes = one.bytes;
+        whole_name = one.whole_name;
+        whole_bytes = one.whole_bytes;
+        is = whole law r one.name one.bytes parts.front stored.0 (parts.front_is ∙ one.are);
+      },
+      all_whole law rs parts.back stored.1 (subst (AreShown rs) (sym parts.back_is) shown.4),
+    )

@@ -136,3 +136,16 @@ pub record IsWhole (tokens : List Token) (raw : Raw) : Type 0 where
   pub statement : IsStatement tokens
   pub within : is_within_limits tokens ≡ true
   pub is : IsRaw tokens raw
+
+-- tokens that are the statement of a resource, whatever pieces its texts have
+pub record IsWholeOf (tokens : List Token) (r : Resource) : Type 0 where
+  pub name : List (List ℕ)
+  pub bytes : List (List ℕ)
+  pub whole_name : flat_map (λ piece. piece) name ≡ r.name
+  pub whole_bytes : flat_map (λ piece. piece) bytes ≡ r.bytes
+  pub is : IsWhole tokens (shown_raw r name bytes)
+
+-- and the statements of these, one behind the other
+abbrev pub AreWhole : List Token → List Resource → Type 0
+AreWhole tokens [] = tokens ≡ []
+AreWhole tokens (r ∷ rs) = (front : List Token) × (back : List Token) × (tokens ≡ front ++ back) × IsWholeOf front r × AreWhole back rs

@@ -1,9 +1,9 @@
-ghost use Rattle.std.specs.Prelude.{◌≡◌, ℕ, List, map};
+ghost use Rattle.std.specs.Prelude.{List, map};
 ghost use Rattle.std.specs.List.{AllByRecursion};
 ghost use Rattle.rz_core.specs.declared.resource.Resource.{Resource};
 ghost use Rattle.rz_lex.specs.declared.token.Token.{Token};
 ghost use Rattle.rz_show.specs.Data.{list_text};
-ghost use Rattle.rz_show.specs.Statement.{shown_raw, statement_shapes, IsPrintedAs, IsStored, IsWhole};
+ghost use Rattle.rz_show.specs.Statement.{AreShown, AreWhole, IsPrintedAs, IsStored};
 
 use rz_lex::{cut_back, lines_of_page};
 use rz_stmt::pieces_are_joined;
@@ -17,12 +17,12 @@ pub fn shown_text()
     lines_of_page();
 }
 
-/// A law, with nothing to run: the tokens that are shown of a resource are one statement, within the limits of
-/// statements, and it is the `data` statement with the resource's type, id, name, attributes and bytes,
-/// whatever pieces the texts have.
-pub fn shown_statement()
-    ensures { (r : Resource) (name bytes : List (List ℕ)) (tokens : List Token) → IsStored r
-        → map (λ token. token.shape) tokens ≡ statement_shapes r name bytes → IsWhole tokens (shown_raw r name bytes) }
+/// A law, with nothing to run: the tokens that are shown of resources are statements, one for each, within the
+/// limits of statements, and each is the `data` statement with the resource's type, id, name, attributes and
+/// bytes, whatever pieces its texts have.
+pub fn shown_statements()
+    ensures { (list : List Resource) (tokens : List Token) → AllByRecursion IsStored list
+        → AreShown list (map (λ token. token.shape) tokens) → AreWhole tokens list }
 {
     pieces_are_joined();
 }

@@ -7,4 +7,4 @@ mod head;
 mod laws;
 
 pub use data::{show_bytes, show_resource};
-pub use laws::{shown_statement, shown_text};
+pub use laws::{shown_statements, shown_text};

@@ -6,3 +6,6 @@ pub mod Answered
 pub mod OneAnswer
 pub mod Forks
 pub mod Stepping
+pub mod PutOut
+pub mod Values
+pub mod Again

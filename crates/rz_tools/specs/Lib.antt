@@ -9,4 +9,5 @@ pub mod ResourceList
 pub mod Rez
 pub mod DeRez
 pub mod Help
+pub mod Again
 pub mod Program

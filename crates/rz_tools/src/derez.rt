@@ -1,4 +1,5 @@
 ghost use Rattle.std.specs.Prelude.{◌≡◌, ◌≤◌, ◌<◌, ◌^◌, Err, ℕ, length, IfOk, IfSome};
+ghost use Rattle.std.specs.FinMap as map;
 ghost use Rattle.rz_core.specs.Message.{IsNameable};
 ghost use Rattle.rz_core.specs.Stop.{Gives, OnFault};
 ghost use Rattle.rz_folder.specs.Counts.{Rose};
@@ -6,6 +7,7 @@ ghost use Rattle.rz_fork.specs.Admit.{IsSayable};
 ghost use Rattle.rz_pre.specs.declared.program.PreFault.TheVariants.{ReadFault};
 ghost use Rattle.rz_pre.specs.Program.{missing_file};
 ghost use Rattle.rz_show.specs.Data.{list_text};
+ghost use Rattle.rz_tools.specs.Again.{MeansFork, ShowsAgain};
 ghost use Rattle.rz_tools.specs.DeRez.{broken_rule, derez_text, fork_text, without_files, AnswersDeRez};
 ghost use Rattle.rz_tools.specs.Made.{IsNamed, Made};
 ghost use Rattle.rz_tools.specs.Outcome.{IsNoUsage};
@@ -17,7 +19,7 @@ use rz_core::{Bytes, Fault, FileNames, Kept, NoMemory, Resources, Stop};
 use rz_folder::{Folder, Put, Read, Sink};
 use rz_fork::{ForkFault, read_fork};
 use rz_pre::PreFault;
-use rz_show::show_resource;
+use rz_show::{show_resource, shown_statements, shown_text};
 use rz_words::DeRezWords;
 use std::alloc::Global;
 
@@ -31,6 +33,8 @@ pub fn run_derez<F: Folder, O: Sink>(
     ensures runs { Runs (AnswersDeRez words.entry.file.now) result (F.files folder.old) (F.files folder.new) (O.written out.old) (O.written out.new)
         (Rose (F.read_faults folder.old) (F.read_faults folder.new)) (Rose (O.faults out.old) (O.faults out.new)) }
     ensures no_usage { IsNoUsage result.outcome }
+    ensures again { result.outcome ≡ Outcome.Done → IfSome (F.files folder.old) (λ files. IfSome (O.written out.old) (λ before.
+        ShowsAgain words.entry.file.now files before (O.written out.new))) }
 {
     match read_text(alloc, folder, words.file) {
         Ok(text) => Ended::with(alloc, show_text(text.as_slice(), out)),
@@ -51,6 +55,7 @@ pub fn show_text<O: Sink>(text: &[u8], out: &mut O) -> Outcome
 /// The text of the fork that a name holds, or what stopped the command.
 fn read_text<F: Folder>(alloc: Global, folder: &mut F, file: &str) -> Result<Bytes, PreFault>
     ensures text { IfSome (F.files folder.old) (λ files. Made result (λ answer. answer ≡ derez_text file.now files)) }
+    ensures again { IfSome (F.files folder.old) (λ files. IfSome (map.get files file.now) (λ bytes. IfOk result (MeansFork bytes))) }
     ensures nameable { IsNamed result }
     ensures unchanged { F.files folder.new ≡ F.files folder.old }
     ensures cause { result ≡ Err ReadFault → Rose (F.read_faults folder.old) (F.read_faults folder.new) }
@@ -81,6 +86,7 @@ fn missing_file(alloc: Global, name: &str) -> Result<Fault, NoMemory>
 fn text_of(alloc: Global, bytes: &[u8]) -> Result<Bytes, PreFault>
     requires { length bytes.now < 2 ^ 32 }
     ensures text { Made result (λ answer. answer ≡ without_files (fork_text bytes.now)) }
+    ensures again { IfOk result (MeansFork bytes.now) }
     ensures nameable { IsNamed result }
     ensures quiet { result ≡ Err ReadFault → ⊥ }
 {
@@ -96,8 +102,11 @@ fn text_of(alloc: Global, bytes: &[u8]) -> Result<Bytes, PreFault>
 fn show(alloc: Global, bytes: &[u8]) -> Result<Bytes, Stop<Fault>>
     requires { length bytes.now < 2 ^ 32 }
     ensures text { Gives (fork_text bytes.now) result }
+    ensures again { IfOk result (MeansFork bytes.now) }
     ensures nameable { OnFault result (IsNameable 0) }
 {
+    shown_text();
+    shown_statements();
     match read_fork(alloc, bytes) {
         Ok(fork) => Ok(show_list(alloc, &fork.list)?),
         Err(Stop::Refused(fault)) => Err(Stop::Refused(broken_rule(fault))),

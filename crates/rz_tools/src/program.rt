@@ -6,7 +6,8 @@ ghost use Rattle.rz_tools.specs.Answer.{Answer};
 ghost use Rattle.rz_tools.specs.Message.{message};
 ghost use Rattle.rz_tools.specs.Outcome.{IfRefused};
 ghost use Rattle.rz_tools.specs.Program.{Answers, Follows, IsAnswered, Keeps, OnUsage, Runs, Says, SaysAnswer, StaysSo};
-ghost use Rattle.rz_words.specs.Command.{IsMisplaced};
+ghost use Rattle.rz_tools.specs.Again.{ShowsAgain};
+ghost use Rattle.rz_words.specs.Command.{DeRez, IsCommand, IsMisplaced};
 
 use crate::Outcome;
 use crate::derez::{run_derez, show_text};
@@ -26,7 +27,9 @@ use std::alloc::Global;
 /// the folder failed in this call, and it is always that refusal. ReadFault and WriteFault come only
 /// where a read, or a write of the folder or of `out`, failed in this call. After Usage, Refused,
 /// ReadFault and NoMemory the folder is as before and `out` has got nothing; after WriteFault all files
-/// but the one that was being written are as before. What `err` does changes no outcome. NoMemory may
+/// but the one that was being written are as before. After `derez` of a fork whose resources have at most
+/// 16,777,212 bytes each, the text on `out` means the fork's resources again to `rez`, wherever it reads the
+/// text and no word of it is a live macro. What `err` does changes no outcome. NoMemory may
 /// come in place of any other answer.
 pub fn run<F: Folder, O: Sink, E: Sink>(
     alloc: Global,
@@ -42,6 +45,10 @@ pub fn run<F: Folder, O: Sink, E: Sink>(
         → Follows wanted result files (F.files folder.new) (O.written out.old) (O.written out.new)
         (Rose (F.read_faults folder.old) (F.read_faults folder.new))
         (Rose (F.write_faults folder.old) (F.write_faults folder.new) ⊎ Rose (O.faults out.old) (O.faults out.new))) }
+
+    // What is shown of a fork is its resources again, when rez reads it.
+    ensures again { result ≡ Outcome.Done → (file : List ℕ) → IsCommand (map string_bytes words.now) (DeRez file)
+        → IfSome (F.files folder.old) (λ files. IfSome (O.written out.old) (λ before. ShowsAgain file files before (O.written out.new))) }
 
     // When each outcome comes, whether or not the folder tells what it holds.
     ensures usage { OnUsage result (IsMisplaced (map string_bytes words.now)) }
@@ -78,6 +85,8 @@ fn run_words<F: Folder, O: Sink>(
     ensures usage { OnUsage result.outcome (IsMisplaced (map string_bytes words.now)) }
     ensures every_usage { (position : ℕ) → IsMisplaced (map string_bytes words.now) position
         → (result.outcome ≡ Outcome.Usage (record { position = position })) ⊎ (result.outcome ≡ Outcome.NoMemory) }
+    ensures again { result.outcome ≡ Outcome.Done → (file : List ℕ) → IsCommand (map string_bytes words.now) (DeRez file)
+        → IfSome (F.files folder.old) (λ files. IfSome (O.written out.old) (λ before. ShowsAgain file files before (O.written out.new))) }
 {
     one_command();
     match read_words(alloc, words) {

@@ -1,0 +1,58 @@
+-- The values of a statement that is shown are those of its resource.
+use Rattle.std.proofs.Common.{◌≡◌, ℕ, zero, suc, ◌-◌, ◌<◌, ◌≤◌, ◌^◌, ℤ, pos, negsuc, Bool, true, false, List, [], ◌∷◌, ◌++◌, map, length, Option, Some, None, Ok, Err, refl, sym, ap, ◌∙◌, arith}
+use Rattle.std.specs.Prelude.{◌==◌, ◌&&◌, nat_le, nat_lt, int_le, if◌then◌else◌, FitsSigned}
+use Rattle.std.specs.Int.{w16, w32}
+use Rattle.std.specs.List.{flat_map}
+use Rattle.std.proofs.lemmas.Bool.{agree_below_at, eqb-true, le-leb, le-ltb}
+use Rattle.std.proofs.lemmas.Int.{int_wrap_fits}
+use Rattle.std.proofs.lemmas.List.Folds.{flat_map-map}
+use Rattle.std.specs.declared.result.Result.{Result}
+use Rattle.rz_core.specs.Stop.{◌>>=◌}
+use Rattle.rz_core.specs.declared.fault.Fault.{Fault}
+use Rattle.rz_core.specs.declared.fault.Mark.{Mark}
+use Rattle.rz_core.specs.declared.resource.Resource.{Resource}
+use Rattle.rz_show.specs.Statement.{attributes_of, id_term, name_part, shown_raw, text_parts, IsStored}
+use Rattle.rz_stmt.specs.Number.{number_of}
+use Rattle.rz_stmt.specs.Text.{bytes_in, bytes_of}
+use Rattle.rz_stmt.specs.declared.text.TextPart.{TextPart}
+use Rattle.rz_stmt.specs.declared.text.TextPart.TheVariants.{Plain}
+use Rattle.rz_tools.specs.Data.{bits_behind_all, contents_of, id_of, keeps_number, most_bytes, name_of, resource_of, short_bytes, short_name}
+
+module _ (mark : Mark) where
+  id_value : (id : ℤ) → FitsSigned w16 id → number_of mark (id_term id) ≡ Ok id
+  id_value (pos n) fits = refl
+  id_value (negsuc n) fits = ap (λ (z : ℤ). Ok z) (int_wrap_fits w32 (negsuc n) (omega (arith, fits)))
+
+  id_inside : (id : ℤ) → FitsSigned w16 id → id_of mark id ≡ Ok id
+  id_inside (pos n) fits = rw (le-leb n 32767 (omega (arith, fits))) refl
+  id_inside (negsuc n) fits = rw (le-leb n 32767 (omega (arith, fits))) refl
+
+  pieces_again : (pieces : List (List ℕ)) (whole : List ℕ) → flat_map (λ piece. piece) pieces ≡ whole → bytes_of (text_parts pieces) ≡ Ok whole
+  pieces_again pieces whole is = ap (λ (x : List ℕ). Ok x) (flat_map-map bytes_in (λ (piece : List ℕ). Plain piece) pieces ∙ is)
+
+  name_value : (pieces : List (List ℕ)) (name : List ℕ) → flat_map (λ piece. piece) pieces ≡ name → length name < 256 → name_of mark (name_part pieces) ≡ Ok name
+  name_value [] name is short = ap (λ (x : List ℕ). Ok x) is
+  name_value (piece ∷ pieces) name is short =
+      ap (λ o. o >>= short_name mark) (pieces_again (piece ∷ pieces) name is) ∙ rw (le-ltb 255 (length name) (omega (arith, short))) refl
+
+  bytes_value : (pieces : List (List ℕ)) (bytes : List ℕ) → flat_map (λ piece. piece) pieces ≡ bytes → length bytes ≤ most_bytes → contents_of mark (text_parts pieces) ≡ Ok bytes
+  bytes_value pieces bytes is short = ap (λ o. o >>= short_bytes mark) (pieces_again pieces bytes is) ∙ rw (le-ltb most_bytes (length bytes) short) refl
+
+  is_byte : Result ℕ Fault → ℕ → Bool
+  is_byte (Ok value) byte = value == byte
+  is_byte (Err fault) byte = false
+
+  same_byte : (value : Result ℕ Fault) (byte : ℕ) → is_byte value byte ≡ true → value ≡ Ok byte
+  unfolding is_byte
+  same_byte (Ok value) byte h = ap (λ (x : ℕ). Ok x) (eqb-true value byte h)
+  same_byte (Err fault) byte h = absurd cc
+
+  attributes_value : (attr : ℕ) → attr < 256 → bits_behind_all mark 0 (map (λ a. a.1) (attributes_of attr)) ≡ Ok attr
+  unfolding is_byte
+  attributes_value attr small = same_byte (bits_behind_all mark 0 (map (λ a. a.1) (attributes_of attr))) attr
+      (agree_below_at (λ x. is_byte (bits_behind_all mark 0 (map (λ a. a.1) (attributes_of x))) x) (λ x. true) 256 attr refl small)
+
+  pub resource_again : (r : Resource) (name bytes : List (List ℕ)) → IsStored r → flat_map (λ piece. piece) name ≡ r.name → flat_map (λ piece. piece) bytes ≡ r.bytes
+      → length r.name < 256 → length r.bytes ≤ most_bytes → resource_of mark (shown_raw r name bytes) ≡ Ok r
+  resource_again r name bytes stored name_is bytes_is named short =
+      rw (id_value r.id stored.id, id_inside r.id stored.id, name_value name r.name name_is named, attributes_value r.attr stored.attr, bytes_value bytes r.bytes bytes_is short) refl

@@ -1,0 +1,47 @@
+-- The text that DeRez writes, read by Rez.
+use Rattle.std.specs.Prelude.{◌≡◌, ◌≤◌, ℕ, List, [], ◌∷◌, ◌++◌, length, map, Option, Some, None, Ok}
+use Rattle.std.specs.FinMap as finite
+use Rattle.std.specs.List.{AllByRecursion}
+use Rattle.rz_core.specs.declared.resource.Resource.{Resource}
+use Rattle.rz_folder.specs.Folder.{Files}
+use Rattle.rz_fork.specs.Admit.{admitted}
+use Rattle.rz_fork.specs.declared.read.ForkList.{ForkList}
+use Rattle.rz_lex.specs.declared.token.Token.{Token}
+use Rattle.rz_pre.specs.Live.{Live}
+use Rattle.rz_pre.specs.Program.{NamedGoes, State}
+use Rattle.rz_pre.specs.declared.condition.Tool.TheVariants as tools
+use Rattle.rz_show.specs.Statement.{shown_words}
+use Rattle.rz_stmt.specs.Statements.{AreStatements}
+use Rattle.rz_tools.specs.Data.{most_bytes}
+use Rattle.rz_tools.specs.Step.{Means}
+use Rattle.rz_tools.specs.ToolWords.{numbered}
+
+-- none of the words of such a text is a live macro
+abbrev pub NoneIsLive : Live → Type 0
+NoneIsLive live = AllByRecursion (λ word. live word ≡ None) shown_words
+
+-- the tokens mean these resources: as statements they make this list of nothing
+abbrev pub MeanResources : List Token → List Resource → Type 0
+MeanResources tokens list = (statements : List (List Token)) × AreStatements (map (numbered tools.Rez) tokens) statements × Means [] statements (Ok list)
+
+-- a text means these resources to Rez: as a file of whatever name, behind whatever was read before, where none of its
+-- words is a live macro, it is read to its end, leaves all macros as they are, and its tokens mean the resources
+pub record MeansAgain (text : List ℕ) (list : List Resource) : Type 0 where
+  pub read : (files : Files) (name : List ℕ) (paths : List (List ℕ)) (before : State) → finite.get files name ≡ Some text → NoneIsLive before.live
+      → (tokens : List Token)
+      × NamedGoes tools.Rez files paths name before (Ok (record { live = before.live; tokens = before.tokens ++ tokens; files = before.files ++ name ∷ [] }))
+      × MeanResources tokens list
+
+-- each resource has at most as many bytes as Rez takes
+abbrev pub AreShort : List Resource → Type 0
+AreShort list = AllByRecursion (λ r. length r.bytes ≤ most_bytes) list
+
+-- where these bytes are a fork whose resources are short, the text means its resources again
+abbrev pub MeansFork : List ℕ → List ℕ → Type 0
+MeansFork bytes text = (fork : ForkList) → admitted bytes ≡ Ok fork → AreShort fork.list → MeansAgain text fork.list
+
+-- where a file is such a fork, behind what the output had stands a text that means its resources again
+abbrev pub ShowsAgain : List ℕ → Files → List ℕ → Option (List ℕ) → Type 0
+ShowsAgain file files before after =
+    (bytes : List ℕ) → finite.get files file ≡ Some bytes → (fork : ForkList) → admitted bytes ≡ Ok fork → AreShort fork.list
+    → (text : List ℕ) × (after ≡ Some (before ++ text)) × MeansAgain text fork.list
