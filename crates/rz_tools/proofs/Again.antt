@@ -1,6 +1,6 @@
 -- The text that is shown of a list means the list again.
 use Rattle.std.proofs.Common.{◌≡◌, ◌≢◌, ℕ, ◌<◌, ◌≤◌, Bool, true, false, List, [], ◌∷◌, ◌++◌, map, length, Option, Some, None, Ok, inl, refl, sym, ap, subst, ◌∙◌, append_assoc, arith}
-use Rattle.std.specs.Prelude.{◌==◌, ◌&&◌, ◌||◌, codes, if◌then◌else◌}
+use Rattle.std.specs.Prelude.{◌==◌, ◌&&◌, IfSome}
 use Rattle.std.specs.FinMap as finite
 use Rattle.std.specs.List.{flat_map, list_any, AllByRecursion}
 use Rattle.std.specs.Str.{bytes_eq, str_to_ascii_lowercase}
@@ -36,9 +36,10 @@ use Rattle.rz_source.specs.Source.{mark, IsTextOf, IsUnmarked}
 use Rattle.rz_stmt.specs.Grammar.{mark_of, Data, Parses}
 use Rattle.rz_stmt.specs.Raw.{Raw}
 use Rattle.rz_stmt.specs.Statements.{AreStatements}
-use Rattle.rz_tools.specs.Again.{AreShort, MeanResources, MeansAgain, MeansFork, NoneIsLive}
+use Rattle.rz_tools.specs.Again.{AreShort, MeanResources, MeansAgain, MeansFork, NoneIsLive, ShowsAgain}
 use Rattle.rz_tools.specs.Data.{resource_of}
 use Rattle.rz_tools.specs.Step.{list_behind, namesake, protects, put_unless_protected, Means, Steps}
+use Rattle.rz_words.specs.Command.{DeRez}
 use Rattle.rz_tools.specs.ToolWords.{number_in, numbered, tool_named}
 use Rattle.rz_tools.proofs.PutOut.{by_test, lines_go, tokens_of, AreBare}
 use Rattle.rz_tools.proofs.Values.{resource_again}
@@ -235,3 +236,12 @@ means_fork text_law statements_law bytes text given is text_is differ fits fork 
     let same = same_fork given fork (sym is ∙ also) in
     subst (λ (x : List ℕ). MeansAgain x fork.list) (sym (text_is ∙ ap (λ (f : ForkList). list_text f.list) same))
     (means_again text_law statements_law fork.list (subst (λ (f : ForkList). AllByRecursion FitsFork f.list) same fits) short (subst (λ (f : ForkList). KeysDiffer [] f.list) same differ))
+
+-- Words name one file.
+
+pub same_file : (file other : List ℕ) → DeRez file ≡ DeRez other → file ≡ other
+same_file file other e = cc
+
+pub for_file : (file other : List ℕ) (files : Option Files) (before after : Option (List ℕ)) → file ≡ other
+    → IfSome files (λ files. IfSome before (λ before. ShowsAgain file files before after)) → IfSome files (λ files. IfSome before (λ before. ShowsAgain other files before after))
+for_file file other files before after same = subst (λ (x : List ℕ). IfSome files (λ files. IfSome before (λ before. ShowsAgain x files before after))) same

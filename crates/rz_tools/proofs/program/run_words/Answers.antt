@@ -5,6 +5,7 @@ use Rattle.rz_tools.specs.declared.outcome.Outcome.TheVariants.{Usage}
 use Rattle.rz_words.specs.Command.{Rez, DeRez, Help, Version}
 use Rattle.rz_words.specs.Item.{rez}
 use Rattle.rz_tools.proofs.Answered.{as_command, as_usage}
+use Rattle.rz_tools.proofs.Again.{for_file, same_file}
 use Rattle.rz_tools.proofs.Commands.{shows_text}
 use Rattle.rz_tools.proofs.program.run_words.Goals as goal
 
@@ -38,3 +39,10 @@ returns-in-Err-Refused-clause-every_usage g c position is =
     rw c.with-in-Err-Refused.ensures (inl (ap (λ n. Usage (record { position = n }))
     (c.one_command.ensures.position (map string_bytes c.args.words.now) c.in-Err-Refused.fault.position position
     (rw c.in-Err-Refused.field-0-is at c.in-Err-Refused.ensures.misplaced) is)))
+
+pub returns-in-Ok-DeRez-clause-again : goal.returns-in-Ok-DeRez-clause-again
+returns-in-Ok-DeRez-clause-again g c done file is =
+    let asked = rw c.in-Ok-DeRez.field-0-is at c.in-Ok-DeRez.ensures.command in
+    for_file c.in-Ok-DeRez.asked.file.now file _ _ _
+    (same_file c.in-Ok-DeRez.asked.file.now file (c.one_command.ensures.command (map string_bytes c.args.words.now) (DeRez c.in-Ok-DeRez.asked.file.now) (DeRez file) asked is))
+    (c.run_derez.ensures.again done)
