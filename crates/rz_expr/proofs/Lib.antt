@@ -8,3 +8,4 @@ pub mod Prefixes
 pub mod OneExpression
 pub mod FaultsStay
 pub mod Whole
+pub mod Cases

@@ -5,3 +5,4 @@ pub mod Value
 pub mod Grammar
 pub mod Fronts
 pub mod Reading
+pub mod Constant

@@ -1,6 +1,8 @@
 //! Expressions: their grammar, and their values in an environment.
 #![tactic(auto)]
 
+mod constant;
+mod copies;
 mod env;
 mod expr;
 mod laws;
@@ -9,6 +11,8 @@ mod read;
 mod value;
 mod words;
 
+pub use constant::{ConstantEnv, constant_of, is_constant};
+pub use copies::{copy, copy_word};
 pub use env::{Env, predefined};
 pub use expr::{BinaryOp, Expr, UnaryOp};
 pub use laws::{faults_stay, one_expression, values_stay};

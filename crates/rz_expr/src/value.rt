@@ -7,8 +7,9 @@ ghost use Rattle.rz_expr.specs.Term.{has_names, term_of};
 ghost use Rattle.rz_expr.specs.declared.value.EvalFault.TheVariants as fault;
 ghost use Rattle.rz_expr.specs.Value.{divided, known_value, IsUnknown, number_at, operate, operate_one, reduced, shifted, truth, value_of};
 
+use crate::copies::copy_word;
 use crate::{BinaryOp, Env, Expr, UnaryOp};
-use rz_core::{Bytes, NoMemory, Stop, Word};
+use rz_core::{Stop, Word};
 use std::alloc::Global;
 
 /// Why an expression has no value.
@@ -79,17 +80,8 @@ fn known(alloc: Global, name: &Word, value: Option<i32>) -> Result<i32, Stop<Eva
 {
     match value {
         Some(value) => Ok(value),
-        None => Err(Stop::Refused(EvalFault::UnknownName(copy_of(alloc, name)?))),
+        None => Err(Stop::Refused(EvalFault::UnknownName(copy_word(alloc, name)?))),
     }
-}
-
-/// A word with the same bytes.
-pub fn copy_of(alloc: Global, word: &Word) -> Result<Word, NoMemory>
-    ensures { IfOk result (λ copy. copy.bytes ≡ word.now.bytes) }
-{
-    Ok(Word {
-        bytes: Bytes::of(alloc, word.bytes.as_slice())?,
-    })
 }
 
 /// The number in the bits, as many as `width` says, that begin `start` bits behind a name whose value is

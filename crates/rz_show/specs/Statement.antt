@@ -20,8 +20,8 @@ use Rattle.rz_stmt.specs.Head.{Attribute, Set, Value}
 use Rattle.rz_stmt.specs.Limit.{is_within_limits}
 use Rattle.rz_stmt.specs.Raw.{IsRaw, Raw}
 use Rattle.rz_stmt.specs.Statements.{IsStatement}
-use Rattle.rz_stmt.specs.declared.text.TextPart.{TextPart}
-use Rattle.rz_stmt.specs.declared.text.TextPart.TheVariants.{Plain}
+use Rattle.rz_types.specs.declared.text.TextPart.{TextPart}
+use Rattle.rz_types.specs.declared.text.TextPart.TheVariants.{Plain}
 
 -- what every resource has: a type of 32 bits, an id of 16, bytes in its name and its contents, and an attribute byte
 pub record IsStored (r : Resource) : Type 0 where

@@ -10,7 +10,7 @@ use Rattle.rz_stmt.specs.Head.{word_attribute, AreAttributes, Attribute, Head, I
 use Rattle.rz_stmt.specs.Piece.{pieces_in, Cut}
 use Rattle.rz_stmt.specs.Raw.{kind_in, texts_in, IsRaw, Raw}
 use Rattle.rz_stmt.specs.Text.{text_in}
-use Rattle.rz_stmt.specs.declared.text.TextPart.{TextPart}
+use Rattle.rz_types.specs.declared.text.TextPart.{TextPart}
 
 abbrev pub OneExpression : Type 0
 OneExpression = (ts : List Token) (e other : Term) → IsExpression ts e → IsExpression ts other → e ≡ other

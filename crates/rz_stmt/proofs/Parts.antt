@@ -4,7 +4,7 @@ use Rattle.std.specs.Prelude.{option_map}
 use Rattle.rz_lex.specs.declared.token.Token.{Token}
 use Rattle.rz_stmt.specs.Raw.{is_end, or_end, texts_in}
 use Rattle.rz_stmt.specs.Text.{part_in, parts_in, with_part}
-use Rattle.rz_stmt.specs.declared.text.TextPart.{TextPart}
+use Rattle.rz_types.specs.declared.text.TextPart.{TextPart}
 
 both : (parts : List TextPart) (part : TextPart) (o : Option (List TextPart))
     → option_map (λ more. parts ++ more) (option_map (λ more. part ∷ more) o) ≡ option_map (λ more. (parts ++ part ∷ []) ++ more) o

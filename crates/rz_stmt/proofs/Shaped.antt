@@ -7,7 +7,7 @@ use Rattle.rz_stmt.specs.Head.{AreAttributes, Attribute, Head, IsHead, IsRestBy,
 use Rattle.rz_stmt.specs.Piece.{is_open_paren, pieces_in, pieces_of, Cut}
 use Rattle.rz_stmt.specs.Raw.{is_data, is_open_brace, kind_in, texts_in, IsRaw, Raw}
 use Rattle.rz_stmt.specs.Text.{text_in}
-use Rattle.rz_stmt.specs.declared.text.TextPart.{TextPart}
+use Rattle.rz_types.specs.declared.text.TextPart.{TextPart}
 
 -- what stands behind the first so many, as a pattern has it
 abbrev pub behind_of : ℕ → List Token → List Token

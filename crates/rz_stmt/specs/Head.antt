@@ -12,7 +12,7 @@ use Rattle.rz_stmt.specs.Text.{text_in}
 use Rattle.rz_stmt.specs.declared.head.AttrPart.{AttrPart}
 use Rattle.rz_stmt.specs.declared.head.AttrPart.TheVariants as parts
 use Rattle.rz_stmt.specs.declared.head.HeadExpr.{HeadExpr}
-use Rattle.rz_stmt.specs.declared.text.TextPart.{TextPart}
+use Rattle.rz_types.specs.declared.text.TextPart.{TextPart}
 
 -- a word that sets or clears a bit, or an expression whose value sets all eight
 pub data Attribute : Type 0 where

@@ -1,22 +1,14 @@
 -- The values of expressions in heads.
-use Rattle.std.specs.Prelude.{ℤ, pos, Option, Some, None, Ok, Err}
+use Rattle.std.specs.Prelude.{ℤ, Some, Ok, Err}
 use Rattle.std.specs.declared.result.Result.{Result}
 use Rattle.rz_core.specs.declared.fault.Fault.{Fault}
 use Rattle.rz_core.specs.declared.fault.Kept.TheVariants.{Name, Nothing, Number}
 use Rattle.rz_core.specs.declared.fault.Mark.{Mark}
-use Rattle.rz_expr.specs.Environment.{place_of, predefined, rows_of, Key, Sight}
+use Rattle.rz_expr.specs.Constant.{constant_sight}
 use Rattle.rz_expr.specs.Term.{Term}
 use Rattle.rz_expr.specs.Value.{value_of}
 use Rattle.rz_expr.specs.declared.value.EvalFault.{EvalFault}
 use Rattle.rz_expr.specs.declared.value.EvalFault.TheVariants.{BadShift, DataWidth, LaterData, UnknownName, ZeroDivisor}
-
--- nothing but `true` and `false` has a value there
-abbrev pub predefined_key : Key → Option ℤ
-predefined_key (place_of name) = predefined name
-predefined_key (rows_of name) = None
-
-abbrev pub head_sight : Sight
-head_sight = record { names = record { give = predefined_key }; bits = λ first width. None; fact = λ which. pos 0 }
 
 -- the fault of a value that is computed on this line
 abbrev pub value_fault : Mark → EvalFault → Fault
@@ -32,4 +24,4 @@ with_fault mark (Err fault) = Err (value_fault mark fault)
 
 -- the value of an expression of a head, or its first fault
 abbrev pub number_of : Mark → Term → Result ℤ Fault
-number_of mark term = with_fault mark (value_of term head_sight)
+number_of mark term = with_fault mark (value_of term constant_sight)

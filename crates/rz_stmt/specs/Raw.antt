@@ -11,7 +11,7 @@ use Rattle.rz_stmt.specs.Piece.{is_open_paren, pieces_in, Cut}
 use Rattle.rz_stmt.specs.Statements.{is_semicolon}
 use Rattle.rz_stmt.specs.Text.{part_in}
 use Rattle.rz_stmt.specs.declared.raw.RawStmt.{RawStmt}
-use Rattle.rz_stmt.specs.declared.text.TextPart.{TextPart}
+use Rattle.rz_types.specs.declared.text.TextPart.{TextPart}
 
 pub record Raw : Type 0 where
   pub kind : ℕ

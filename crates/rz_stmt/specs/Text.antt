@@ -6,8 +6,8 @@ use Rattle.rz_core.specs.declared.fault.Fault.{Fault}
 use Rattle.rz_lex.specs.declared.token.Shape.{Shape}
 use Rattle.rz_lex.specs.declared.token.Shape.TheVariants as shapes
 use Rattle.rz_lex.specs.declared.token.Token.{Token}
-use Rattle.rz_stmt.specs.declared.text.TextPart.{TextPart}
-use Rattle.rz_stmt.specs.declared.text.TextPart.TheVariants.{Plain}
+use Rattle.rz_types.specs.declared.text.TextPart.{TextPart}
+use Rattle.rz_types.specs.declared.text.TextPart.TheVariants.{Plain}
 
 -- the part that a token is
 abbrev pub part_in : Shape → Option TextPart

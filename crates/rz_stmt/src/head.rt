@@ -3,10 +3,11 @@ ghost use Rattle.rz_expr.specs.Term.{term_of, Term};
 ghost use Rattle.rz_stmt.specs.Decided.{Decided};
 ghost use Rattle.rz_stmt.specs.Head.{attribute_of, cleared_by, head_of, set_by, set_or_cleared, stands_in_heads, word_attribute, AreAttributes, Attribute, Head, IsAttribute, IsHead, IsHeadExpression, IsRestOf};
 
-use crate::text::{Texts, text_in};
+use crate::text::text_in;
 use rz_core::{Listing, NoMemory};
 use rz_expr::{Expr, one_expression, predefined, read_whole};
 use rz_lex::{Shape, Token};
+use rz_types::Texts;
 use std::alloc::Global;
 
 /// An attribute of a head. (MPW Rez.)

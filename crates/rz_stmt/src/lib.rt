@@ -19,4 +19,4 @@ pub use laws::{all_tokens_are_statements, limits_are_kept, one_statement, pieces
 pub use number::number_of;
 pub use raw::RawStmt;
 pub use span::{Span, Spans};
-pub use text::{TextPart, Texts, text_of};
+pub use text::text_of;

@@ -1,40 +1,12 @@
-ghost use Rattle.std.specs.Prelude.{◌≡◌, ◌<◌, ℕ, pos, None, true};
-ghost use Rattle.std.proofs.Common.{rules};
+ghost use Rattle.std.specs.Prelude.{◌≡◌, ◌<◌, ℕ};
 ghost use Rattle.rz_core.specs.Message.{IsNameable};
 ghost use Rattle.rz_core.specs.Stop.{Gives, OnFault};
 ghost use Rattle.rz_expr.specs.Term.{term_of};
-ghost use Rattle.rz_stmt.specs.Number.{head_sight, number_of, value_fault};
+ghost use Rattle.rz_stmt.specs.Number.{number_of, value_fault};
 
-use rz_core::{Fault, Kept, Mark, Stop, Word};
-use rz_expr::{Env, EvalFault, Expr, FactWord, eval, predefined};
+use rz_core::{Fault, Kept, Mark, Stop};
+use rz_expr::{ConstantEnv, EvalFault, Expr, eval};
 use std::alloc::Global;
-
-/// What an expression of a head sees: `true` and `false` alone have a value.
-struct HeadNames;
-
-impl Env for HeadNames {
-    ghost view = { λ _. head_sight };
-
-    ghost belongs = { λ _ finished. finished ≡ head_sight };
-
-    fn place(&self, name: &Word) -> Option<i32> {
-        predefined(name)
-    }
-
-    fn count(&self, _name: &Word) -> Option<i32> {
-        None
-    }
-
-    fn bits(&self, _name: &Word, _start: i32, _width: i32) -> Option<u32> {
-        None
-    }
-
-    fn fact(&self, _which: FactWord) -> i32 {
-        0
-    }
-
-    ghost law = { Prim.search rules };
-}
 
 /// The value of an expression of a head, or its first fault, on this line: 211 for a zero divisor, 215 for a
 /// shift by a count outside 0 to 31 (kept: the count).
@@ -42,7 +14,7 @@ pub fn number_of(alloc: Global, expr: &Expr, place: Mark) -> Result<i32, Stop<Fa
     ensures value { Gives (number_of place (term_of expr.now)) result }
     ensures nameable { (files : ℕ) → place.file < files → OnFault result (IsNameable files) }
 {
-    match eval(alloc, expr, &HeadNames) {
+    match eval(alloc, expr, &ConstantEnv) {
         Ok(value) => Ok(value),
         Err(Stop::Refused(fault)) => Err(Stop::Refused(value_fault(place, fault))),
         Err(Stop::NoMemory) => Err(Stop::NoMemory),

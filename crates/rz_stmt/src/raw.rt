@@ -6,9 +6,10 @@ ghost use Rattle.rz_stmt.specs.Statements.{is_semicolon};
 
 use crate::head::{HeadExpr, read_head};
 use crate::piece::pieces_in;
-use crate::text::{Texts, part_in};
+use crate::text::part_in;
 use rz_core::{NoMemory, OsType};
 use rz_lex::{Shape, Sign, Token};
+use rz_types::Texts;
 use std::alloc::Global;
 
 /// A `data` statement. (MPW Rez.)

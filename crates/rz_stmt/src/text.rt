@@ -2,19 +2,10 @@ ghost use Rattle.std.specs.Prelude.{◌≡◌, IfOk};
 ghost use Rattle.rz_core.specs.Stop.{Gives};
 ghost use Rattle.rz_stmt.specs.Text.{bytes_of, part_in, text_in};
 
-use rz_core::{Bytes, Fault, Listing, NoMemory, Stop};
+use rz_core::{Bytes, Fault, NoMemory, Stop};
 use rz_lex::{Shape, Token};
+use rz_types::{TextPart, Texts};
 use std::alloc::Global;
-
-/// A part of a text. (MPW Rez.)
-#[derive(Debug, Drop)]
-pub enum TextPart {
-    /// Bytes that stood between quote marks.
-    Plain(Bytes),
-}
-
-/// The parts of a text, in order.
-pub type Texts = Listing<TextPart>;
 
 /// The bytes of the parts of a text, in order.
 pub fn text_of(alloc: Global, texts: &Texts) -> Result<Bytes, Stop<Fault>>

@@ -1,7 +1,8 @@
 use rz_core::{Bytes, Fault, Kept, Mark, Stop, write_decimal, write_signed};
 use rz_expr::Expr;
 use rz_lex::{Tokens, lex};
-use rz_stmt::{AttrPart, HeadExpr, RawStmt, Span, Stmt, Texts, number_of, parse, text_of};
+use rz_stmt::{AttrPart, HeadExpr, RawStmt, Span, Stmt, number_of, parse, text_of};
+use rz_types::Texts;
 use std::alloc::Global;
 use std::test::Fail;
 

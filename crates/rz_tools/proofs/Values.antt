@@ -14,8 +14,8 @@ use Rattle.rz_core.specs.declared.resource.Resource.{Resource}
 use Rattle.rz_show.specs.Statement.{attributes_of, id_term, name_part, shown_raw, text_parts, IsStored}
 use Rattle.rz_stmt.specs.Number.{number_of}
 use Rattle.rz_stmt.specs.Text.{bytes_in, bytes_of}
-use Rattle.rz_stmt.specs.declared.text.TextPart.{TextPart}
-use Rattle.rz_stmt.specs.declared.text.TextPart.TheVariants.{Plain}
+use Rattle.rz_types.specs.declared.text.TextPart.{TextPart}
+use Rattle.rz_types.specs.declared.text.TextPart.TheVariants.{Plain}
 use Rattle.rz_tools.specs.Data.{bits_behind_all, contents_of, id_of, keeps_number, most_bytes, name_of, resource_of, short_bytes, short_name}
 
 module _ (mark : Mark) where

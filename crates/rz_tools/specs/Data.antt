@@ -10,7 +10,7 @@ use Rattle.rz_stmt.specs.Head.{Attribute, Clear, Set, Value}
 use Rattle.rz_stmt.specs.Number.{number_of}
 use Rattle.rz_stmt.specs.Raw.{Raw}
 use Rattle.rz_stmt.specs.Text.{bytes_of}
-use Rattle.rz_stmt.specs.declared.text.TextPart.{TextPart}
+use Rattle.rz_types.specs.declared.text.TextPart.{TextPart}
 
 -- the most bytes of a resource
 abbrev pub most_bytes : ℕ

@@ -6,7 +6,8 @@ ghost use Rattle.rz_stmt.specs.Raw.{raw_of};
 ghost use Rattle.rz_tools.specs.Data.{bits_behind, bits_behind_all, byte_of, contents_of, id_of, keeps_number, name_of, resource_of};
 
 use rz_core::{Attr, Bytes, Fault, Kept, Mark, Resource, Stop};
-use rz_stmt::{AttrPart, AttrParts, RawStmt, Texts, number_of, text_of};
+use rz_stmt::{AttrPart, AttrParts, RawStmt, number_of, text_of};
+use rz_types::Texts;
 use std::alloc::Global;
 
 /// The most bytes of a name, and of a resource.

@@ -1,5 +1,5 @@
 use Rattle.rz_expr.specs.Term.{term_of}
-use Rattle.rz_expr.proofs.Whole.{none_whole, not_whole, whole}
+use Rattle.rz_expr.proofs.Whole.{none_whole, not_whole}
 use Rattle.rz_expr.proofs.read.read_whole.Goals as goal
 
 pub returns-else-front-tokens : goal.returns-else-front-tokens

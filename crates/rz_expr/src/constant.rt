@@ -1,0 +1,63 @@
+ghost use Rattle.std.specs.Prelude.{◌≡◌, IfOk};
+ghost use Rattle.std.proofs.Common.{rules};
+ghost use Rattle.rz_expr.specs.Constant.{constant_of, constant_sight, is_constant};
+ghost use Rattle.rz_expr.specs.Term.{term_of};
+
+use crate::{Env, Expr, FactWord, eval, predefined};
+use rz_core::{NoMemory, Stop, Word};
+use std::alloc::Global;
+
+/// What an expression sees that stands for itself: `true` and `false` alone have a value.
+pub struct ConstantEnv;
+
+impl Env for ConstantEnv {
+    ghost view = { λ _. constant_sight };
+
+    ghost belongs = { λ _ finished. finished ≡ constant_sight };
+
+    fn place(&self, name: &Word) -> Option<i32> {
+        predefined(name)
+    }
+
+    fn count(&self, _name: &Word) -> Option<i32> {
+        None
+    }
+
+    fn bits(&self, _name: &Word, _start: i32, _width: i32) -> Option<u32> {
+        None
+    }
+
+    fn fact(&self, _which: FactWord) -> i32 {
+        0
+    }
+
+    ghost law = { Prim.search rules };
+}
+
+/// Whether an expression is a constant: it has no names but `true` and `false`, and no `$$` functions. (MPW
+/// Rez.)
+pub fn is_constant(expr: &Expr) -> bool
+    ensures { result ≡ is_constant (term_of expr.now) }
+{
+    match expr {
+        Expr::Number(_) => true,
+        Expr::Name(name) => predefined(name).is_some(),
+        Expr::Count(_) | Expr::Bits(..) | Expr::Fact(_) => false,
+        Expr::Unary(_, operand) => is_constant(operand),
+        Expr::Binary(_, left, right) => is_constant(left) && is_constant(right),
+    }
+}
+
+/// The value of an expression that is a constant and has one, and `None` for every other.
+pub fn constant_of(alloc: Global, expr: &Expr) -> Result<Option<i32>, NoMemory>
+    ensures { IfOk result (λ value. value ≡ constant_of (term_of expr.now)) }
+{
+    if !is_constant(expr) {
+        return Ok(None);
+    }
+    match eval(alloc, expr, &ConstantEnv) {
+        Ok(value) => Ok(Some(value)),
+        Err(Stop::Refused(_)) => Ok(None),
+        Err(Stop::NoMemory) => Err(NoMemory),
+    }
+}

@@ -1,0 +1,12 @@
+use Rattle.std.proofs.Common.{◌≡◌, map, take}
+use Rattle.std.specs.Prelude.{option_map}
+use Rattle.rz_types.specs.Table.{is_any, is_for, is_id, is_range_of, last_such}
+use Rattle.rz_types.specs.TypeTable.{declaration_of}
+use Rattle.rz_types.proofs.table.find_in.Given as goal
+
+abbrev pub invariant-loop-one : goal.invariant-loop-one
+invariant-loop-one l = record {
+  by_id : option_map (λ one. declaration_of one.now) l.by_id ≡ last_such (is_for l.kind (is_id l.id)) (map declaration_of (take l.one-index l.table));
+  by_range : option_map (λ one. declaration_of one.now) l.by_range ≡ last_such (is_for l.kind (is_range_of l.id)) (map declaration_of (take l.one-index l.table));
+  for_any : option_map (λ one. declaration_of one.now) l.for_any ≡ last_such (is_for l.kind is_any) (map declaration_of (take l.one-index l.table));
+}

@@ -1,0 +1,145 @@
+ghost use Rattle.std.specs.Prelude.{◌≡◌, IfOk, map, option_map};
+ghost use Rattle.rz_expr.specs.Term.{term_of};
+ghost use Rattle.rz_types.specs.Field.{plain_body, plain_field, plain_number, plain_points, plain_text};
+
+use crate::{
+    Body, Exprs, Field, NumField, PointField, Symbol, Symbols, TextField, TextPart, Texts,
+};
+use rz_core::{Bytes, NoMemory};
+use rz_expr::{Expr, copy, copy_word};
+use std::alloc::Global;
+
+/// A copy of a body.
+pub fn copy_body(alloc: Global, body: &Body) -> Result<Body, NoMemory>
+    ensures { IfOk result (λ copy. plain_body copy ≡ plain_body body.now) }
+{
+    let mut copies = Body::new(alloc);
+    for field in body.as_slice() {
+        copies.push(copy_field(alloc, field)?)?;
+    }
+    Ok(copies)
+}
+
+fn copy_field(alloc: Global, field: &Field) -> Result<Field, NoMemory>
+    ensures { IfOk result (λ copy. plain_field copy ≡ plain_field field.now) }
+{
+    match field {
+        Field::Num(number) => Ok(Field::Num(copy_number(alloc, number)?)),
+        Field::Text(text) => Ok(Field::Text(copy_text(alloc, text)?)),
+        Field::Points(points) => Ok(Field::Points(copy_points(alloc, points)?)),
+        Field::Fill(unit, count) => Ok(Field::Fill(*unit, *count)),
+        Field::Align(unit) => Ok(Field::Align(*unit)),
+    }
+}
+
+fn copy_number(alloc: Global, field: &NumField) -> Result<NumField, NoMemory>
+    ensures { IfOk result (λ copy. plain_number copy ≡ plain_number field.now) }
+{
+    let symbols = copy_symbols(alloc, &field.symbols)?;
+    let fixed = copy_value(alloc, &field.fixed)?;
+    Ok(NumField {
+        form: field.form,
+        width: field.width,
+        unsigned: field.unsigned,
+        radix: field.radix,
+        symbols,
+        fixed,
+    })
+}
+
+fn copy_text(alloc: Global, field: &TextField) -> Result<TextField, NoMemory>
+    ensures { IfOk result (λ copy. plain_text copy ≡ plain_text field.now) }
+{
+    let size = copy_value(alloc, &field.size)?;
+    let fixed = copy_fixed_text(alloc, &field.fixed)?;
+    Ok(TextField {
+        form: field.form,
+        hex: field.hex,
+        size,
+        fixed,
+    })
+}
+
+fn copy_points(alloc: Global, field: &PointField) -> Result<PointField, NoMemory>
+    ensures { IfOk result (λ copy. plain_points copy ≡ plain_points field.now) }
+{
+    let fixed = copy_values(alloc, &field.fixed)?;
+    Ok(PointField {
+        rect: field.rect,
+        fixed,
+    })
+}
+
+fn copy_value(alloc: Global, value: &Option<Expr>) -> Result<Option<Expr>, NoMemory>
+    ensures { IfOk result (λ made. option_map term_of made ≡ option_map term_of value.now) }
+{
+    match value {
+        Some(expr) => Ok(Some(copy(alloc, expr)?)),
+        None => Ok(None),
+    }
+}
+
+fn copy_values(alloc: Global, values: &Option<Exprs>) -> Result<Option<Exprs>, NoMemory>
+    ensures { IfOk result (λ made. option_map (map term_of) made ≡ option_map (map term_of) values.now) }
+{
+    match values {
+        Some(exprs) => Ok(Some(copy_exprs(alloc, exprs)?)),
+        None => Ok(None),
+    }
+}
+
+fn copy_exprs(alloc: Global, exprs: &Exprs) -> Result<Exprs, NoMemory>
+    ensures { IfOk result (λ copies. map term_of copies ≡ map term_of exprs.now) }
+{
+    let mut copies = Exprs::new(alloc);
+    for expr in exprs.as_slice() {
+        copies.push(copy(alloc, expr)?)?;
+    }
+    Ok(copies)
+}
+
+fn copy_fixed_text(alloc: Global, text: &Option<Texts>) -> Result<Option<Texts>, NoMemory>
+    ensures { IfOk result (λ made. made ≡ text.now) }
+{
+    match text {
+        Some(parts) => Ok(Some(copy_parts(alloc, parts)?)),
+        None => Ok(None),
+    }
+}
+
+fn copy_parts(alloc: Global, parts: &Texts) -> Result<Texts, NoMemory>
+    ensures { IfOk result (λ copies. copies ≡ parts.now) }
+{
+    let mut copies = Texts::new(alloc);
+    for part in parts.as_slice() {
+        copies.push(copy_part(alloc, part)?)?;
+    }
+    Ok(copies)
+}
+
+fn copy_part(alloc: Global, part: &TextPart) -> Result<TextPart, NoMemory>
+    ensures { IfOk result (λ copy. copy ≡ part.now) }
+{
+    match part {
+        TextPart::Plain(bytes) => Ok(TextPart::Plain(Bytes::of(alloc, bytes.as_slice())?)),
+    }
+}
+
+fn copy_symbols(alloc: Global, symbols: &Symbols) -> Result<Symbols, NoMemory>
+    ensures { IfOk result (λ copies. copies ≡ symbols.now) }
+{
+    let mut copies = Symbols::new(alloc);
+    for symbol in symbols.as_slice() {
+        copies.push(copy_symbol(alloc, symbol)?)?;
+    }
+    Ok(copies)
+}
+
+fn copy_symbol(alloc: Global, symbol: &Symbol) -> Result<Symbol, NoMemory>
+    ensures { IfOk result (λ copy. copy ≡ symbol.now) }
+{
+    Ok(Symbol {
+        name: copy_word(alloc, &symbol.name)?,
+        value: symbol.value,
+    })
+}

@@ -1,0 +1,22 @@
+//! Type declarations: fields, templates that keep the rules, and the table in which they are found.
+#![tactic(auto)]
+
+mod copies;
+mod field;
+mod laws;
+mod rules;
+mod table;
+mod template;
+mod text;
+
+pub use field::{
+    Body, Exprs, Field, NumField, NumForm, PointField, Radix, Symbol, Symbols, TextField, TextForm,
+};
+pub use laws::{
+    first_broken_rule, last_declared_is_found, order_stays, others_are_found_as_before,
+    places_stay_different,
+};
+pub use rules::{TypeFault, check};
+pub use table::{Scope, TypeTable};
+pub use template::Template;
+pub use text::{TextPart, Texts};

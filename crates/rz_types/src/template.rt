@@ -1,0 +1,45 @@
+ghost use Rattle.std.specs.Prelude.{◌≡◌, true};
+ghost use Rattle.rz_types.specs.Field.{plain_body};
+ghost use Rattle.rz_types.specs.Rules.{keeps_rules};
+
+use crate::Body;
+use crate::copies::copy_body;
+use rz_core::NoMemory;
+use std::alloc::Global;
+
+/// A body that keeps the rules, as [`check`](crate::check) gives it.
+#[derive(Debug, Drop)]
+pub struct Template {
+    body: Body,
+    ghost kept: { keeps_rules (plain_body body) ≡ true },
+}
+
+impl Template {
+    ghost use Rattle.std.specs.Prelude.{IfOk};
+    ghost use Rattle.rz_types.specs.Template.{template_of};
+
+    /// The template of a body that keeps the rules.
+    pub(crate) fn of(body: Body) -> Template
+        requires { keeps_rules (plain_body body) ≡ true }
+        ensures { template_of result ≡ plain_body body }
+    {
+        Template { body }
+    }
+
+    /// Its fields.
+    pub fn body(&self) -> &Body
+        ensures body { plain_body result.now ≡ template_of self.now }
+        ensures kept { keeps_rules (template_of self.now) ≡ true }
+    {
+        &self.body
+    }
+
+    /// A copy of it.
+    pub(crate) fn copy(&self, alloc: Global) -> Result<Template, NoMemory>
+        ensures { IfOk result (λ copy. template_of copy ≡ template_of self.now) }
+    {
+        Ok(Template {
+            body: copy_body(alloc, &self.body)?,
+        })
+    }
+}

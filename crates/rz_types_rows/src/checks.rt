@@ -1,0 +1,185 @@
+use rz_core::{Kept, Listing, NoMemory, Stop, Word};
+use rz_expr::{BinaryOp, Expr, FactWord};
+use rz_types::{
+    Body, Field, NumField, NumForm, PointField, Radix, TextField, TextForm, TypeFault, check,
+};
+use std::alloc::Global;
+use std::test::Fail;
+
+/// A number field.
+fn number(alloc: Global, form: NumForm, width: i32) -> Field {
+    Field::Num(NumField {
+        form,
+        width,
+        unsigned: false,
+        radix: Radix::Plain,
+        symbols: Listing::new(alloc),
+        fixed: None,
+    })
+}
+
+/// A text field with a size.
+fn sized(form: TextForm, size: Expr) -> Field {
+    Field::Text(TextField {
+        form,
+        hex: false,
+        size: Some(size),
+        fixed: None,
+    })
+}
+
+/// The field and the value of 238, or nothing for a template.
+fn told(alloc: Global, body: Body) -> Result<Option<(u64, i64)>, Fail> {
+    match check(alloc, body) {
+        Ok(_) => Ok(None),
+        Err(
+            Stop::Refused(
+                TypeFault {
+                    number: 238,
+                    field,
+                    kept: Kept::Number(value),
+                },
+            ),
+        ) => Ok(Some((field, value))),
+        Err(_) => Err(Fail::from("another answer")),
+    }
+}
+
+/// What is told of a body of one field.
+fn told_of(alloc: Global, field: Field) -> Result<Option<i64>, Fail> {
+    let mut body = Body::new(alloc);
+    body.push(field)?;
+    match told(alloc, body)? {
+        Some((0, value)) => Ok(Some(value)),
+        Some(_) => Err(Fail::from("another field")),
+        None => Ok(None),
+    }
+}
+
+/// Widths, and which are told.
+const WIDTHS: [(NumForm, i32, Option<i64>); 8] = [
+    (NumForm::Bits, -1, Some(-1)),
+    (NumForm::Bits, 0, Some(0)),
+    (NumForm::Bits, 1, None),
+    (NumForm::Bits, 32, None),
+    (NumForm::Bits, 33, Some(33)),
+    (NumForm::Byte, 8, None),
+    (NumForm::Boolean, 1, None),
+    (NumForm::Longint, 32, None),
+];
+
+#[test]
+fn widths_are_1_to_32(rt: HostRuntime) -> Result<(), Fail> {
+    let alloc = rt.alloc();
+    for (form, width, wanted) in WIDTHS {
+        assert_eq!(rt;
+            told_of(alloc, number(alloc, form, width))?,
+            wanted,
+            "{width}"
+        );
+    }
+    Ok(())
+}
+
+/// Counts of `fill`, and which are told.
+const COUNTS: [(i32, Option<i64>); 5] = [
+    (-1, Some(-1)),
+    (0, None),
+    (16_777_212, None),
+    (16_777_213, Some(16_777_213)),
+    (2_147_483_647, Some(2_147_483_647)),
+];
+
+#[test]
+fn fills_are_no_longer_than_a_resource(rt: HostRuntime) -> Result<(), Fail> {
+    let alloc = rt.alloc();
+    for (count, wanted) in COUNTS {
+        assert_eq!(rt; told_of(alloc, Field::Fill(1, count))?, wanted, "{count}");
+    }
+    Ok(())
+}
+
+/// Sizes of texts, and which are told.
+const SIZES: [(TextForm, i32, Option<i64>); 13] = [
+    (TextForm::Open, -1, Some(-1)),
+    (TextForm::Open, 0, None),
+    (TextForm::Open, 2_147_483_647, None),
+    (TextForm::Pascal, -1, Some(-1)),
+    (TextForm::Pascal, 0, None),
+    (TextForm::Pascal, 255, None),
+    (TextForm::Pascal, 256, Some(256)),
+    (TextForm::WordLong, -1, Some(-1)),
+    (TextForm::WordLong, 65_535, None),
+    (TextForm::WordLong, 65_536, Some(65_536)),
+    (TextForm::Zero, -1, Some(-1)),
+    (TextForm::Zero, 0, Some(0)),
+    (TextForm::Zero, 1, None),
+];
+
+#[test]
+fn sizes_are_those_of_the_type(rt: HostRuntime) -> Result<(), Fail> {
+    let alloc = rt.alloc();
+    for (form, size, wanted) in SIZES {
+        let field = sized(form, Expr::Number(size));
+        assert_eq!(rt; told_of(alloc, field)?, wanted, "{size}");
+    }
+    Ok(())
+}
+
+/// An operator between two numbers.
+fn operation(alloc: Global, op: BinaryOp, left: i32, right: i32) -> Result<Expr, NoMemory> {
+    Ok(Expr::Binary(
+        op,
+        Box::new(alloc, Expr::Number(left))?,
+        Box::new(alloc, Expr::Number(right))?,
+    ))
+}
+
+/// A name.
+fn name(alloc: Global, spelling: &str) -> Result<Expr, NoMemory> {
+    Ok(Expr::Name(Word {
+        bytes: rz_core::Bytes::of(alloc, spelling.as_bytes())?,
+    }))
+}
+
+#[test]
+fn a_size_that_is_no_constant_is_told_later(rt: HostRuntime) -> Result<(), Fail> {
+    let alloc = rt.alloc();
+    let pascal = TextForm::Pascal;
+    let product = operation(alloc, BinaryOp::Times, 2, 128)?;
+    assert_eq!(rt; told_of(alloc, sized(pascal, product))?, Some(256));
+    let quotient = operation(alloc, BinaryOp::Divide, 256, 0)?;
+    assert_eq!(rt; told_of(alloc, sized(pascal, quotient))?, None);
+    let falsity = name(alloc, "FALSE")?;
+    assert_eq!(rt; told_of(alloc, sized(TextForm::Zero, falsity))?, Some(0));
+    let label = name(alloc, "label")?;
+    assert_eq!(rt; told_of(alloc, sized(TextForm::Zero, label))?, None);
+    let id = Expr::Fact(FactWord::Id);
+    assert_eq!(rt; told_of(alloc, sized(TextForm::Zero, id))?, None);
+    Ok(())
+}
+
+#[test]
+fn the_first_field_counts(rt: HostRuntime) -> Result<(), Fail> {
+    let alloc = rt.alloc();
+    let mut body = Body::new(alloc);
+    body.push(Field::Align(8))?;
+    body.push(Field::Points(PointField {
+        rect: true,
+        fixed: None,
+    }))?;
+    body.push(sized(TextForm::Zero, Expr::Number(0)))?;
+    body.push(number(alloc, NumForm::Bits, 33))?;
+    assert_eq!(rt; told(alloc, body)?, Some((2, 0)));
+    Ok(())
+}
+
+#[test]
+fn a_body_without_fields_is_a_template(rt: HostRuntime) -> Result<(), Fail> {
+    let alloc = rt.alloc();
+    let Ok(template) = check(alloc, Body::new(alloc)) else {
+        return Err(Fail::from("no template"));
+    };
+    assert!(rt; template.body().is_empty());
+    Ok(())
+}
