@@ -206,6 +206,52 @@ fn words_of_tools_are_numbers(rt: HostRuntime) -> Result<(), Fail> {
 }
 
 #[test]
+fn head_is_compiled_shown_and_compiled_again(rt: HostRuntime) -> Result<(), Fail> {
+    let mut desk = Desk::new(rt.alloc())?;
+    desk.insert(
+        "a.r",
+        b"data 'Test' (-1, \"n\", locked, preload) { \"A\" };\ndata 'Test' (128, \"\", $81) { $\"00\" };\n",
+    )?;
+    let outcome = desk.run(&["rez", "a.r", "-o", "a.rsrc"])?;
+    assert_eq!(rt; outcome.status(), 0);
+    let fork = desk.folder.bytes("a.rsrc").ok_or("no fork")?;
+    let data = [0, 0, 0, 1, 0x41, 0, 0, 0, 1, 0];
+    assert!(rt; fork.len() == 330 && fork[256..266] == data);
+    let references = [
+        0, 0, b'T', b'e', b's', b't', 0, 1, 0, 10, // one type with two references
+        0xFF, 0xFF, 0, 0, 0x14, 0, 0, 0, 0, 0, 0, 0, // id -1, its name at 0, locked and preload
+        0, 128, 0xFF, 0xFF, 0x81, 0, 0, 5, 0, 0, 0, 0, // id 128, no name, the bits 80 and 01
+        1, b'n',
+    ];
+    assert!(rt; fork[294..] == references);
+    let outcome = desk.run(&["derez", "a.rsrc"])?;
+    assert_eq!(rt; outcome.status(), 0);
+    let text: &[u8] = b"data 'Test' (-1, \"n\", locked, preload) {\n    $\"41\"\n};\n\ndata 'Test' (128, $81) {\n    $\"00\"\n};\n\n";
+    assert!(rt; desk.out.bytes() == text);
+    desk.insert("b.r", text)?;
+    let outcome = desk.run(&["rez", "b.r", "-o", "b.rsrc"])?;
+    assert_eq!(rt; outcome.status(), 0);
+    let same = desk.folder.bytes("a.rsrc") == desk.folder.bytes("b.rsrc");
+    assert!(rt; same);
+    Ok(())
+}
+
+#[test]
+fn protected_resource_and_attribute_out_of_range_are_refused(rt: HostRuntime) -> Result<(), Fail> {
+    let mut desk = Desk::new(rt.alloc())?;
+    desk.insert("p.r", b"data 'Test' (1, protected) { };\ndata 'Test' (1, protected) { };\n")?;
+    desk.insert("a.r", b"data 'Test' (1, 256) { };\n")?;
+    let outcome = desk.run(&["rez", "p.r"])?;
+    assert_eq!(rt; outcome.status(), 2);
+    let outcome = desk.run(&["rez", "a.r"])?;
+    assert_eq!(rt; outcome.status(), 2);
+    let said: &[u8] = b"rezkit: p.r:2: error 219 Protected: 'Test' 1\nrezkit: a.r:1: error 207 OutOfRange: 256\n";
+    assert!(rt; desk.err.bytes() == said && desk.out.bytes().is_empty());
+    assert!(rt; desk.folder.bytes("Rez.Out").is_none());
+    Ok(())
+}
+
+#[test]
 fn words_that_are_no_command(rt: HostRuntime) -> Result<(), Fail> {
     let lists: [(&[&str], u64); 12] = [
         (&[], 1),

@@ -38,8 +38,9 @@ use Rattle.rz_stmt.specs.Raw.{Raw}
 use Rattle.rz_stmt.specs.Statements.{AreStatements}
 use Rattle.rz_tools.specs.Again.{AreShort, MeanResources, MeansAgain, MeansFork, NoneIsLive, ShowsAgain}
 use Rattle.rz_tools.specs.Data.{resource_of}
-use Rattle.rz_tools.specs.Step.{list_behind, namesake, protects, put_unless_protected, Means, Steps}
+use Rattle.rz_tools.specs.Step.{namesake, protects, put_unless_protected, with_list, Means, Steps, Work}
 use Rattle.rz_words.specs.Command.{DeRez}
+use Rattle.rz_types.specs.Table.{Declaration}
 use Rattle.rz_tools.specs.ToolWords.{number_in, numbered, tool_named}
 use Rattle.rz_tools.proofs.PutOut.{by_test, lines_go, tokens_of, AreBare}
 use Rattle.rz_tools.proofs.Values.{resource_again}
@@ -142,23 +143,30 @@ put_new (x ∷ front) r new =
 
 -- The statements of a list.
 
+-- the work with these resources
+work : List Declaration → List Fault → List Resource → Work
+work types warnings list = record { types = types; list = list; warnings = warnings }
+
 record HasStatements (list : List Resource) (tokens : List Token) : Type 0 where
   statements : List (List Token)
   are : AreStatements tokens statements
-  mean : (front : List Resource) → KeysDiffer front list → Means front statements (Ok (front ++ list))
+  mean : (redeclare : Bool) (types : List Declaration) (warnings : List Fault) (front : List Resource) → KeysDiffer front list
+      → Means redeclare (work types warnings front) statements (Ok (work types warnings (front ++ list)))
 
 -- the step of one statement
-one_step : (front : List Resource) (tokens : List Token) (raw : Raw) (r : Resource) → IsWhole tokens raw → resource_of (mark_of tokens) raw ≡ Ok r → list_any (λ b. same_key b r) front ≡ false
-    → Steps front tokens (Ok (front ++ r ∷ []))
-one_step front tokens raw r whole value new =
+one_step : (redeclare : Bool) (types : List Declaration) (warnings : List Fault) (front : List Resource) (tokens : List Token) (raw : Raw) (r : Resource)
+    → IsWhole tokens raw → resource_of (mark_of tokens) raw ≡ Ok r → list_any (λ b. same_key b r) front ≡ false
+    → Steps redeclare (work types warnings front) tokens (Ok (work types warnings (front ++ r ∷ [])))
+unfolding work
+one_step redeclare types warnings front tokens raw r whole value new =
     let behind : put_unless_protected (mark_of tokens) front r ≡ Ok (front ++ r ∷ []) = rw (new_name front r new, put_new front r new) refl in
-    inl (Data raw, Parses.statement (Data raw) whole.within whole.is refl, sym (ap (λ o. o >>= put_unless_protected (mark_of tokens) front) value ∙ behind))
+    inl (Data raw, Parses.statement (Data raw) whole.within whole.is refl, sym (ap (with_list (work types warnings front)) (ap (λ o. o >>= put_unless_protected (mark_of tokens) front) value ∙ behind)))
 
 has_statements : (list : List Resource) (tokens : List Token) → AreWhole tokens list → AllByRecursion IsStored list → AllByRecursion FitsFork list → AreShort list → HasStatements list tokens
 has_statements [] tokens whole stored fits short = record {
   statements = [];
   are = whole;
-  mean = λ front differ. ap (λ (l : List Resource). Ok l) (append-nil front);
+  mean = λ redeclare types warnings front differ. ap (λ (l : List Resource). Ok (work types warnings l)) (append-nil front);
 }
 has_statements (r ∷ rs) tokens whole stored fits short =
     let one = whole.3 in
@@ -167,18 +175,20 @@ has_statements (r ∷ rs) tokens whole stored fits short =
     record {
       statements = whole.0 ∷ behind.statements;
       are = (whole.1, whole.2, inl (one.is.statement, behind.are));
-      mean = λ front differ. inl (
-        front ++ r ∷ [],
-        one_step front whole.0 raw r one.is (resource_again (mark_of whole.0) r one.name one.bytes stored.0 one.whole_name one.whole_bytes fits.0.name short.0) differ.0,
-        subst (λ (l : List Resource). Means (front ++ r ∷ []) behind.statements (Ok l)) (append_assoc front (r ∷ []) rs) (behind.mean (front ++ r ∷ []) differ.1),
+      mean = λ redeclare types warnings front differ. inl (
+        work types warnings (front ++ r ∷ []),
+        one_step redeclare types warnings front whole.0 raw r one.is (resource_again (mark_of whole.0) r one.name one.bytes stored.0 one.whole_name one.whole_bytes fits.0.name short.0) differ.0,
+        subst (λ (l : List Resource). Means redeclare (work types warnings (front ++ r ∷ [])) behind.statements (Ok (work types warnings l))) (append_assoc front (r ∷ []) rs)
+            (behind.mean redeclare types warnings (front ++ r ∷ []) differ.1),
       );
     }
 
 mean_resources : (list : List Resource) (tokens : List Token) → AreWhole tokens list → AllByRecursion (λ shape. is_shown shape ≡ true) (shapes_in tokens)
     → AllByRecursion IsStored list → AllByRecursion FitsFork list → AreShort list → KeysDiffer [] list → MeanResources tokens list
+unfolding work
 mean_resources list tokens whole words stored fits short differ =
     let all = has_statements list tokens whole stored fits short in
-    (all.statements, subst (λ (x : List Token). AreStatements x all.statements) (sym (numbered_same tokens words)) all.are, all.mean [] differ)
+    (all.statements, subst (λ (x : List Token). AreStatements x all.statements) (sym (numbered_same tokens words)) all.are, λ redeclare types warnings. all.mean redeclare types warnings [] differ)
 
 -- The text.
 

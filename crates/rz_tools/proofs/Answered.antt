@@ -1,13 +1,13 @@
 -- What a command does is what a run does, and what is said is the answer's line.
-use Rattle.std.proofs.Common.{◌≡◌, ◌⊎◌, inl, inr, ℕ, List, [], Some, None, refl, sym, ap, subst, ◌∙◌}
+use Rattle.std.proofs.Common.{◌≡◌, ◌⊎◌, inl, inr, ℕ, List, [], ◌++◌, Some, None, refl, sym, ap, subst, ◌∙◌}
 use Rattle.std.specs.Prelude.{IfSome}
 use Rattle.std.specs.declared.option.Option.{Option}
 use Rattle.rz_core.specs.declared.moment.Moment.{Moment}
 use Rattle.rz_folder.specs.Folder.{Files}
 use Rattle.rz_words.specs.Command.{Asked, IsCommand, IsMisplaced}
 use Rattle.rz_tools.specs.Answer.{Answer, ended}
-use Rattle.rz_tools.specs.Message.{message}
-use Rattle.rz_tools.specs.Program.{Answers, AnswersTo, command, misplaced, Completes, Follows, HasLine, IsAnswered, Keeps, OnUsage, Runs, Says, SaysAnswer, StaysSo}
+use Rattle.rz_tools.specs.Message.{message, told}
+use Rattle.rz_tools.specs.Program.{Answers, AnswersTo, command, misplaced, Completes, Follows, HasLine, IsAnswered, Keeps, OnUsage, Runs, SaidBefore, Says, SaysAnswer, StaysSo}
 use Rattle.rz_tools.proofs.OneAnswer.{OneCommand, OnePosition}
 use Rattle.rz_words.specs.declared.read.UsageFault.{UsageFault}
 use Rattle.rz_core.specs.declared.fault.Fault.{Fault}
@@ -56,6 +56,7 @@ module _ (words : List (List ℕ)) (moment : Moment) (commands : OneCommand) (be
     follows = follows before runs.follows;
     lines = lines before runs.lines;
     answered = answered before runs.answered;
+    said = runs.said;
     nameable = runs.nameable;
     read_fault = runs.read_fault;
     write_fault = λ ends. so (runs.write_fault ends);
@@ -77,8 +78,8 @@ module _ (words : List (List ℕ)) (moment : Moment) (commands : OneCommand) (be
           }
 
       lines : (before : Option Files)
-          → IfSome before (λ files. (wanted : Answer) → AnswersTo asked files moment wanted → HasLine wanted result.files result.outcome)
-          → IfSome before (λ files. (wanted : Answer) → Answers words files moment wanted → HasLine wanted result.files result.outcome)
+          → IfSome before (λ files. (wanted : Answer) → AnswersTo asked files moment wanted → HasLine wanted result.files result.said result.outcome)
+          → IfSome before (λ files. (wanted : Answer) → Answers words files moment wanted → HasLine wanted result.files result.said result.outcome)
       lines None own = tt
       lines (Some files) own = λ wanted meets. own wanted (of_asked asked is files wanted meets)
 
@@ -91,10 +92,10 @@ module _ (words : List (List ℕ)) (moment : Moment) (commands : OneCommand) (be
 
 module _ (words : List (List ℕ)) (moment : Moment) (before : Option Files) (out : Option (List ℕ)) (read_failed write_failed : Type 0) where
   the_position : OnePosition → (position : ℕ) → IsMisplaced words position → (files : Files) (wanted : Answer) → Answers words files moment wanted
-      → ended [] (Usage (record { position = position })) files ≡ wanted
+      → ended [] [] (Usage (record { position = position })) files ≡ wanted
   the_position positions position is files wanted (command asked also to) = absurd (is.none asked also)
   the_position positions position is files wanted (misplaced another also says) =
-      ap (λ n. ended [] (Usage (record { position = n })) files) (positions words position another is also) ∙ sym says
+      ap (λ n. ended [] [] (Usage (record { position = n })) files) (positions words position another is also) ∙ sym says
 
   pub as_usage : OnePosition → (position : ℕ) → IsMisplaced words position
       → Runs (λ files. Answers words files moment) (plain (Usage (record { position = position }))) before before out out read_failed write_failed
@@ -102,6 +103,7 @@ module _ (words : List (List ℕ)) (moment : Moment) (before : Option Files) (ou
     follows = follows before;
     lines = lines before;
     answered = answered before;
+    said = tt;
     nameable = tt;
     read_fault = λ ends. cc;
     write_fault = λ ends. cc;
@@ -116,13 +118,13 @@ module _ (words : List (List ℕ)) (moment : Moment) (before : Option Files) (ou
           subst (λ answer. Follows answer (Usage (record { position = position })) files (Some files) out out read_failed write_failed) (the_position positions position is files wanted meets)
           (record { outcome = refl; files = refl; output = same_output out; refused = tt; complete = tt })
 
-      lines : (b : Option Files) → IfSome b (λ files. (wanted : Answer) → Answers words files moment wanted → HasLine wanted [] (Usage (record { position = position })))
+      lines : (b : Option Files) → IfSome b (λ files. (wanted : Answer) → Answers words files moment wanted → HasLine wanted [] [] (Usage (record { position = position })))
       lines None = tt
-      lines (Some files) = λ wanted meets. subst (λ answer. HasLine answer [] (Usage (record { position = position }))) (the_position positions position is files wanted meets) refl
+      lines (Some files) = λ wanted meets. subst (λ answer. HasLine answer [] [] (Usage (record { position = position }))) (the_position positions position is files wanted meets) refl
 
       answered : (b : Option Files) → IfSome b (λ files. IsAnswered (Answers words files moment) (Usage (record { position = position })))
       answered None = tt
-      answered (Some files) = (ended [] (Usage (record { position = position })) files, misplaced position is refl)
+      answered (Some files) = (ended [] [] (Usage (record { position = position })) files, misplaced position is refl)
 
 -- Where there was no memory for the line of Usage or Refused, all but the outcome is as it was.
 
@@ -195,22 +197,26 @@ module _ (Meets : Files → Answer → Type 0) (ended : Ended) (result : Outcome
   every_usage fault own = by_stay (λ r. (r ≡ Usage fault) ⊎ (r ≡ NoMemory)) ended.outcome result so own (λ fault is. inr refl) (λ fault is. inr refl)
 
   module _ (err_before err_after : Option (List ℕ)) (faults_before faults_after : ℕ) where
-    says_of : (wanted : Answer) (named : List (List ℕ)) (r : Outcome) → HasLine wanted named r → Says (message named r) err_before err_after faults_before faults_after
+    says_of : (wanted : Answer) (named : List (List ℕ)) (text : List ℕ) (r : Outcome) → HasLine wanted named text r → Says (told named text r) err_before err_after faults_before faults_after
         → SaysAnswer wanted r err_before err_after faults_before faults_after
-    says_of wanted named Done line said = subst (λ text. Says text err_before err_after faults_before faults_after) (sym line) said
-    says_of wanted named (Usage fault) line said = subst (λ text. Says text err_before err_after faults_before faults_after) (sym line) said
-    says_of wanted named (Refused fault) line said = subst (λ text. Says text err_before err_after faults_before faults_after) (sym line) said
-    says_of wanted named ReadFault line said = tt
-    says_of wanted named WriteFault line said = tt
-    says_of wanted named NoMemory line said = tt
+    says_of wanted named text Done line said = subst (λ text. Says text err_before err_after faults_before faults_after) (sym line) said
+    says_of wanted named text (Usage fault) line said = subst (λ text. Says text err_before err_after faults_before faults_after) (sym line) said
+    says_of wanted named text (Refused fault) line said = subst (λ text. Says text err_before err_after faults_before faults_after) (sym line) said
+    says_of wanted named text ReadFault line said = tt
+    says_of wanted named text WriteFault line said = subst (λ text. Says (text ++ message [] WriteFault) err_before err_after faults_before faults_after) (sym line) said
+    says_of wanted named text NoMemory line said = tt
 
-    pub says : Says (message ended.files result) err_before err_after faults_before faults_after
+    pub says : Says (told ended.files ended.said result) err_before err_after faults_before faults_after
         → IfSome before (λ files. (wanted : Answer) → Meets files wanted → SaysAnswer wanted result err_before err_after faults_before faults_after)
     says said = by before runs.lines
       where
-        by : (b : Option Files) → IfSome b (λ files. (wanted : Answer) → Meets files wanted → HasLine wanted ended.files ended.outcome)
+        by : (b : Option Files) → IfSome b (λ files. (wanted : Answer) → Meets files wanted → HasLine wanted ended.files ended.said ended.outcome)
             → IfSome b (λ files. (wanted : Answer) → Meets files wanted → SaysAnswer wanted result err_before err_after faults_before faults_after)
         by None lines = tt
         by (Some files) lines = λ wanted meets.
-            says_of wanted ended.files result
-            (by_stay (λ r. HasLine wanted ended.files r) ended.outcome result so (lines wanted meets) (λ fault is. tt) (λ fault is. tt)) said
+            says_of wanted ended.files ended.said result
+            (by_stay (λ r. HasLine wanted ended.files ended.said r) ended.outcome result so (lines wanted meets) (λ fault is. tt) (λ fault is. tt)) said
+
+  -- before the line of a read fault nothing is said
+  pub said_before : SaidBefore ended.said result
+  said_before = by_stay (λ r. SaidBefore ended.said r) ended.outcome result so runs.said (λ fault is. tt) (λ fault is. tt)

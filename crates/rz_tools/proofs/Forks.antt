@@ -1,5 +1,5 @@
 -- The fork of a program.
-use Rattle.std.proofs.Common.{◌≡◌, inl, ℕ, List, [], ◌∷◌, map, Ok, Err, Some, None, sym, ap, subst, ◌∙◌}
+use Rattle.std.proofs.Common.{◌≡◌, inl, inr, ℕ, Bool, List, [], ◌∷◌, map, Ok, Err, Some, None, refl, sym, ap, subst, ◌∙◌}
 use Rattle.std.specs.Prelude.{IfSome}
 use Rattle.std.specs.declared.option.Option.{Option}
 use Rattle.std.specs.declared.result.Result.{Result}
@@ -13,34 +13,83 @@ use Rattle.rz_pre.specs.declared.condition.Tool.TheVariants as tools
 use Rattle.rz_pre.specs.declared.program.Program.{Program}
 use Rattle.rz_pre.specs.Answers.{Then}
 use Rattle.rz_stmt.specs.Grammar.{AreWithin}
-use Rattle.rz_tools.specs.Step.{Means}
 use Rattle.rz_stmt.specs.Statements.{AreStatements}
-use Rattle.rz_tools.specs.Rez.{list_fork, Compiles, HasFork}
+use Rattle.rz_tools.specs.Answer.{Failing, Making}
+use Rattle.rz_tools.specs.Made.{MadeSo, Refuses}
+use Rattle.rz_tools.specs.Rez.{fork_of_work, warning_lines, Compiles, Forked, HasFork, Said}
+use Rattle.rz_tools.specs.Step.{nothing_made, Means, Stopped, Work}
 use Rattle.rz_tools.specs.ToolWords.{numbered}
+use Rattle.rz_tools.specs.declared.made.Made.{Made}
+use Rattle.rz_tools.specs.declared.made.Stopped.{Stopped as Stops}
+use Rattle.rz_tools.specs.declared.made.Stopped.TheVariants as stops
 use Rattle.rz_words.specs.Command.{RezAsked}
 
 -- numbers in place of words leave the tokens where they are
-pub within : (tool : Tool) (files : ℕ) (tokens : List Token) → AreWithin files tokens → AreWithin files (map (numbered tool) tokens)
+within : (tool : Tool) (files : ℕ) (tokens : List Token) → AreWithin files tokens → AreWithin files (map (numbered tool) tokens)
 within tool files [] all = tt
 within tool files (token ∷ tokens) all = (all.0, within tool files tokens all.1)
 
 pub still_within : (tool : Tool) (files : ℕ) (tokens numbers : List Token) → numbers ≡ map (numbered tool) tokens → AreWithin files tokens → AreWithin files numbers
 still_within tool files tokens numbers are all = subst (AreWithin files) (sym are) (within tool files tokens all)
 
+-- what is made so is made otherwise too, where each such answer is one of the others
+made_so : (A B : Result Making Failing → Type 0) → ((answer : Result Making Failing) → A answer → B answer) → (result : Result Made Stops) → MadeSo result A → MadeSo result B
+made_so A B so (Ok made) is = so _ is
+made_so A B so (Err (stops.Refused fault files said)) is = so _ is
+made_so A B so (Err stops.ReadFault) is = tt
+made_so A B so (Err stops.NoMemory) is = tt
+
+said_so : (files names : List (List ℕ)) → names ≡ files → (P Q : Result Forked Stopped → Type 0) → ((answer : Result Forked Stopped) → P answer → Q answer)
+    → (answer : Result Making Failing) → Said files P answer → Said names Q answer
+said_so files names same P Q so (Ok making) is = (is.0, so (Ok is.0) is.1, is.2 ∙ ap (λ (f : List (List ℕ)). record { bytes = is.0.bytes; said = warning_lines f is.0.warnings }) (sym same))
+said_so files names same P Q so (Err failing) is =
+    (is.0, so (Err is.0) is.1, is.2 ∙ ap (λ (f : List (List ℕ)). record { fault = is.0.fault; files = f; said = warning_lines f is.0.warnings }) (sym same))
+
+-- What the tokens mean.
+
+module _ (redeclare : Bool) (files : List (List ℕ)) (statements : List (List Token)) (work : Work) where
+  pub made_of_work : (result : Result Made Stops) → Means redeclare nothing_made statements (Ok work) → MadeSo result (Said files (λ answer. answer ≡ fork_of_work work))
+      → MadeSo result (Said files (Then (Means redeclare nothing_made statements) (λ work answer. answer ≡ fork_of_work work)))
+  made_of_work result means made =
+      made_so (Said files (λ answer. answer ≡ fork_of_work work)) (Said files (Then (Means redeclare nothing_made statements) (λ work answer. answer ≡ fork_of_work work)))
+      (said_so files files refl (λ answer. answer ≡ fork_of_work work) (Then (Means redeclare nothing_made statements) (λ work answer. answer ≡ fork_of_work work)) (λ answer is. inl (work, means, is)))
+      result made
+
+-- a refusal behind these warnings
+pub refused_so : (files : List (List ℕ)) (fault : Fault) (warnings : List Fault) (P : Result Forked Stopped → Type 0) → P (Err (record { fault = fault; warnings = warnings }))
+    → (result : Result Made Stops) → Refuses fault files (warning_lines files warnings) result → MadeSo result (Said files P)
+refused_so files fault warnings P is (Ok made) refuses = absurd refuses
+refused_so files fault warnings P is (Err (stops.Refused given names lines)) refuses =
+    (record { fault = fault; warnings = warnings }, is, λ i. record { fault = refuses.0 i; files = refuses.1 i; said = refuses.2 i })
+refused_so files fault warnings P is (Err stops.ReadFault) refuses = absurd refuses
+refused_so files fault warnings P is (Err stops.NoMemory) refuses = tt
+
+-- What the program means.
+
 module _ (asked : RezAsked) (program : Program) (numbers : List Token) (are : numbers ≡ map (numbered tools.Rez) program.tokens)
     (cut : (statements : List (List Token)) × AreStatements numbers statements) where
-  has_fork : (s : State) → IsProgram program s → (fork : Result (List ℕ) Fault) → Then (Means [] cut.0) (λ list answer. answer ≡ list_fork list) fork
-      → HasFork (map (numbered tools.Rez) s.tokens) fork
+  has_fork : (s : State) → IsProgram program s → (fork : Result Forked Stopped) → Then (Means asked.redeclare nothing_made cut.0) (λ work answer. answer ≡ fork_of_work work) fork
+      → HasFork asked.redeclare (map (numbered tools.Rez) s.tokens) fork
   has_fork s is fork makes =
       (cut.0, subst (λ (ts : List Token). AreStatements ts cut.0) (are ∙ ap (map (numbered tools.Rez)) is.tokens) cut.1, makes)
 
   pub compiled : (before : Option Files) → IfSome before (λ files. Gave (Ok program) (ProgramGoes files tools.Rez asked.files asked.paths asked.defs))
-      → (bytes : List ℕ) → Then (Means [] cut.0) (λ list answer. answer ≡ list_fork list) (Ok bytes) → IfSome before (λ files. Compiles asked files (Ok bytes))
-  compiled None gave bytes makes = tt
-  compiled (Some files) gave bytes makes = inl (gave.0, gave.2, has_fork gave.0 gave.1 (Ok bytes) makes)
+      → (result : Result Made Stops) → MadeSo result (Said program.files (Then (Means asked.redeclare nothing_made cut.0) (λ work answer. answer ≡ fork_of_work work)))
+      → IfSome before (λ files. MadeSo result (Compiles asked files))
+  compiled None gave result makes = tt
+  compiled (Some files) gave result makes =
+      made_so (Said program.files (Then (Means asked.redeclare nothing_made cut.0) (λ work answer. answer ≡ fork_of_work work))) (Compiles asked files)
+      (λ answer is. inl (
+        gave.0,
+        gave.2,
+        said_so program.files gave.0.files (sym gave.1.files) (Then (Means asked.redeclare nothing_made cut.0) (λ work answer. answer ≡ fork_of_work work))
+            (HasFork asked.redeclare (map (numbered tools.Rez) gave.0.tokens)) (has_fork gave.0 gave.1) answer is,
+      ))
+      result makes
 
-  pub refused : (before : Option Files) → IfSome before (λ files. Gave (Ok program) (ProgramGoes files tools.Rez asked.files asked.paths asked.defs))
-      → (fault : Fault) → Then (Means [] cut.0) (λ list answer. answer ≡ list_fork list) (Err fault)
-      → IfSome before (λ files. Compiles asked files (Err (record { fault = fault; files = program.files })))
-  refused None gave fault makes = tt
-  refused (Some files) gave fault makes = inl (gave.0, gave.2, (has_fork gave.0 gave.1 (Err fault) makes, gave.1.files))
+-- a program that is refused
+pub no_program : (asked : RezAsked) (fault : Fault) (named : List (List ℕ)) (before : Option Files)
+    → IfSome before (λ files. ProgramGoes files tools.Rez asked.files asked.paths asked.defs (Err (record { fault = fault; files = named })))
+    → IfSome before (λ files. Compiles asked files (Err (record { fault = fault; files = named; said = [] })))
+no_program asked fault named None gave = tt
+no_program asked fault named (Some files) gave = inr (record { fault = fault; files = named; said = [] }, (gave, refl), refl)

@@ -1,22 +1,21 @@
 -- Words have one answer at most.
-use Rattle.std.proofs.Common.{◌≡◌, inl, inr, ℕ, List, [], ◌∷◌, map, Ok, Err, sym, ap, subst, ◌∙◌}
+use Rattle.std.proofs.Common.{◌≡◌, inl, inr, ℕ, Bool, List, [], ◌∷◌, map, Ok, Err, sym, ap, subst, ◌∙◌}
 use Rattle.std.specs.declared.result.Result.{Result}
 use Rattle.rz_core.specs.declared.fault.Fault.{Fault}
 use Rattle.rz_core.specs.declared.moment.Moment.{Moment}
 use Rattle.rz_folder.specs.Folder.{Files}
 use Rattle.rz_lex.specs.declared.token.Token.{Token}
-use Rattle.rz_pre.specs.Program.{Failure, ProgramGoes, State, WithFiles}
+use Rattle.rz_pre.specs.Program.{Failure, ProgramGoes, State}
 use Rattle.rz_pre.specs.declared.condition.Tool.{Tool}
 use Rattle.rz_pre.specs.declared.condition.Tool.TheVariants as tools
 use Rattle.rz_pre.specs.declared.program.Def.{Def}
 use Rattle.rz_stmt.specs.Statements.{AreStatements}
 use Rattle.rz_words.specs.Command.{Asked, Rez, DeRez, Help, Version, IsCommand, IsMisplaced, RezAsked}
-use Rattle.rz_tools.specs.Answer.{Answer, ended, or_refused, shown, written}
+use Rattle.rz_tools.specs.Answer.{Answer, ended, or_refused, shown_made, written}
 use Rattle.rz_tools.specs.Program.{Answers, AnswersTo, command, misplaced}
-use Rattle.rz_tools.specs.Rez.{list_fork, Compiles, HasFork}
-use Rattle.rz_tools.specs.Step.{list_behind, Means, Steps}
+use Rattle.rz_tools.specs.Rez.{fork_of_work, warning_lines, Compiles, Forked, HasFork, Said, Unsaid}
+use Rattle.rz_tools.specs.Step.{nothing_made, work_behind, Means, Steps, Stopped, WithWarnings, Work}
 use Rattle.rz_stmt.specs.Grammar.{mark_of, Parses, Statement}
-use Rattle.rz_core.specs.declared.resource.Resource.{Resource}
 use Rattle.rz_pre.specs.Answers.{Then}
 use Rattle.rz_tools.specs.ToolWords.{numbered}
 use Rattle.rz_tools.specs.declared.outcome.Outcome.TheVariants.{Usage}
@@ -44,96 +43,88 @@ ok value = Ok value
 abbrev err : {X F : Type 0} → F → Result X F
 err fault = Err fault
 
-same_ok : (a b : State) → ok {F = Failure} a ≡ ok b → a ≡ b
-same_ok a b is = cc
-
-same_err : (a b : Failure) → err {X = State} a ≡ err b → a ≡ b
-same_err a b is = cc
-
-ok_is_no_err : (a : State) (b : Failure) → ok a ≡ err b → ⊥
-ok_is_no_err a b is = cc
-
-same_failure : (fault another : Fault) (files others : List (List ℕ)) → fault ≡ another → files ≡ others
-    → ◌≡◌ {A = Failure} (record { fault = fault; files = files }) (record { fault = another; files = others })
-same_failure fault another files others a b = λ i. record { fault = a i; files = b i }
-
 abbrev pub OneStatement : Type 0
 OneStatement = (tokens : List Token) (answer another : Result Statement Fault) → Parses tokens answer → Parses tokens another → answer ≡ another
 
 -- at most one answer
-abbrev Once : {X : Type 0} → (Result X Fault → Type 0) → Type 0
-Once {X} answers = (one other : Result X Fault) → answers one → answers other → one ≡ other
+abbrev Once : {X F : Type 0} → (Result X F → Type 0) → Type 0
+Once {X} {F} answers = (one other : Result X F) → answers one → answers other → one ≡ other
 
-same_value : {X : Type 0} (x y : X) → ok {F = Fault} x ≡ ok y → x ≡ y
+same_value : {X F : Type 0} (x y : X) → ok {F = F} x ≡ ok y → x ≡ y
 same_value x y is = cc
 
-same_fault : {X : Type 0} (f g : Fault) → err {X = X} f ≡ err g → f ≡ g
+same_fault : {X F : Type 0} (f g : F) → err {X = X} f ≡ err g → f ≡ g
 same_fault f g is = cc
 
-value_or_fault : {X : Type 0} (x : X) (f : Fault) → ok x ≡ err f → ⊥
+value_or_fault : {X F : Type 0} (x : X) (f : F) → ok x ≡ err f → ⊥
 value_or_fault x f is = cc
 
-once_then : {X Y : Type 0} (first : Result X Fault → Type 0) (next : X → Result Y Fault → Type 0) → Once first → ((x : X) → Once (next x)) → Once (Then first next)
-once_then {X} {Y} first next f n one other (inl a) (inl b) =
-    let same : a.0 ≡ b.0 = same_value a.0 b.0 (f (Ok a.0) (Ok b.0) a.1 b.1) in
+once_then : {X Y F : Type 0} (first : Result X F → Type 0) (next : X → Result Y F → Type 0) → Once first → ((x : X) → Once (next x)) → Once (Then first next)
+once_then {X} {Y} {F} first next f n one other (inl a) (inl b) =
+    let same : a.0 ≡ b.0 = same_value {F = F} a.0 b.0 (f (Ok a.0) (Ok b.0) a.1 b.1) in
     n b.0 one other (subst (λ (x : X). next x one) same a.2) b.2
 once_then first next f n one other (inl a) (inr b) = absurd (value_or_fault a.0 b.0 (f (Ok a.0) (Err b.0) a.1 b.1))
 once_then first next f n one other (inr a) (inl b) = absurd (value_or_fault b.0 a.0 (f (Ok b.0) (Err a.0) b.1 a.1))
-once_then {X} {Y} first next f n one other (inr a) (inr b) = a.2 ∙ ap (λ (g : Fault). err {X = Y} g) (same_fault {X = X} a.0 b.0 (f (Err a.0) (Err b.0) a.1 b.1)) ∙ sym b.2
+once_then {X} {Y} {F} first next f n one other (inr a) (inr b) = a.2 ∙ ap (λ (g : F). err {X = Y} g) (same_fault {X = X} a.0 b.0 (f (Err a.0) (Err b.0) a.1 b.1)) ∙ sym b.2
 
-once_is : {X : Type 0} (answer : Result X Fault) → Once (λ given. given ≡ answer)
+once_is : {X F : Type 0} (answer : Result X F) → Once (λ given. given ≡ answer)
 once_is answer one other a b = a ∙ sym b
 
+once_with : {X : Type 0} (warnings : List Fault) (answers : Result X Fault → Type 0) → Once answers → Once (WithWarnings warnings answers)
+once_with warnings answers once (Ok a) (Ok b) is also = ap ok (same_value {F = Fault} a b (once (Ok a) (Ok b) is also))
+once_with warnings answers once (Ok a) (Err b) is also = absurd (value_or_fault a b.fault (once (Ok a) (Err b.fault) is also.0))
+once_with warnings answers once (Err a) (Ok b) is also = absurd (value_or_fault b a.fault (once (Ok b) (Err a.fault) also is.0))
+once_with {X} warnings answers once (Err a) (Err b) is also =
+    let fault : a.fault ≡ b.fault = same_fault {X = X} a.fault b.fault (once (Err a.fault) (Err b.fault) is.0 also.0) in
+    λ i. Err (record { fault = fault i; warnings = (is.1 ∙ sym also.1) i })
+
+once_said : (files : List (List ℕ)) (answers : Result Forked Stopped → Type 0) → Once answers → Once (Said files answers)
+once_said files answers once (Ok a) (Ok b) is also =
+    let same : is.0 ≡ also.0 = same_value {F = Stopped} is.0 also.0 (once (Ok is.0) (Ok also.0) is.1 also.1) in
+    ap ok (is.2 ∙ ap (λ (f : Forked). record { bytes = f.bytes; said = warning_lines files f.warnings }) same ∙ sym also.2)
+once_said files answers once (Ok a) (Err b) is also = absurd (value_or_fault is.0 also.0 (once (Ok is.0) (Err also.0) is.1 also.1))
+once_said files answers once (Err a) (Ok b) is also = absurd (value_or_fault also.0 is.0 (once (Ok also.0) (Err is.0) also.1 is.1))
+once_said files answers once (Err a) (Err b) is also =
+    let same : is.0 ≡ also.0 = same_fault {X = Forked} is.0 also.0 (once (Err is.0) (Err also.0) is.1 also.1) in
+    ap err (is.2 ∙ ap (λ (s : Stopped). record { fault = s.fault; files = files; said = warning_lines files s.warnings }) same ∙ sym also.2)
+
+once_unsaid : {X : Type 0} (answers : Result X Failure → Type 0) → Once answers → Once (Unsaid answers)
+once_unsaid answers once (Ok a) (Ok b) is also = ap ok (same_value {F = Failure} a b (once (Ok a) (Ok b) is also))
+once_unsaid answers once (Ok a) (Err b) is also =
+    absurd (value_or_fault {F = Failure} a (record { fault = b.fault; files = b.files }) (once (Ok a) (Err (record { fault = b.fault; files = b.files })) is also.0))
+once_unsaid answers once (Err a) (Ok b) is also =
+    absurd (value_or_fault {F = Failure} b (record { fault = a.fault; files = a.files }) (once (Ok b) (Err (record { fault = a.fault; files = a.files })) also is.0))
+once_unsaid {X} answers once (Err a) (Err b) is also =
+    let same : ◌≡◌ {A = Failure} (record { fault = a.fault; files = a.files }) (record { fault = b.fault; files = b.files }) =
+    same_fault {X = X} _ _ (once (Err (record { fault = a.fault; files = a.files })) (Err (record { fault = b.fault; files = b.files })) is.0 also.0) in
+    λ i. Err (record { fault = (same i).fault; files = (same i).files; said = (is.1 ∙ sym also.1) i })
+
 module _ (cutting : OneCutting) (statement_law : OneStatement) where
-  one_meaning : (list : List Resource) (statements : List (List Token)) → Once (Means list statements)
-  one_meaning list [] = once_is (Ok list)
-  one_meaning list (tokens ∷ statements) =
-      once_then (Steps list tokens) (λ next. Means next statements)
-      (once_then (Parses tokens) (λ statement answer. answer ≡ list_behind (mark_of tokens) list statement) (statement_law tokens) (λ statement. once_is (list_behind (mark_of tokens) list statement)))
-      (λ next. one_meaning next statements)
+  one_meaning : (redeclare : Bool) (work : Work) (statements : List (List Token)) → Once (Means redeclare work statements)
+  one_meaning redeclare work [] = once_is (Ok work)
+  one_meaning redeclare work (tokens ∷ statements) =
+      once_then (Steps redeclare work tokens) (λ next. Means redeclare next statements)
+      (once_with work.warnings (Then (Parses tokens) (λ statement answer. answer ≡ work_behind redeclare (mark_of tokens) work statement))
+      (once_then (Parses tokens) (λ statement answer. answer ≡ work_behind redeclare (mark_of tokens) work statement) (statement_law tokens)
+      (λ statement. once_is (work_behind redeclare (mark_of tokens) work statement))))
+      (λ next. one_meaning redeclare next statements)
 
-  one_fork : (tokens : List Token) (a b : Result (List ℕ) Fault) → HasFork tokens a → HasFork tokens b → a ≡ b
-  one_fork tokens a b is also =
-      once_then (Means [] is.0) (λ list answer. answer ≡ list_fork list) (one_meaning [] is.0) (λ list. once_is (list_fork list)) a b is.2
-      (subst (λ (ss : List (List Token)). Then (Means [] ss) (λ list answer. answer ≡ list_fork list) b) (sym (cutting tokens is.0 also.0 is.1 also.1)) also.2)
-
-  one_with_files : (files : List (List ℕ)) (tokens : List Token) (a b : Result (List ℕ) Failure)
-      → WithFiles files (HasFork tokens) a → WithFiles files (HasFork tokens) b → a ≡ b
-  one_with_files files tokens (Ok a) (Ok b) is also = ap ok (same a b (one_fork tokens (Ok a) (Ok b) is also))
-    where
-      same : (a b : List ℕ) → ok {F = Fault} a ≡ ok b → a ≡ b
-      same a b is = cc
-  one_with_files files tokens (Ok a) (Err b) is also = absurd (never a b.fault (one_fork tokens (Ok a) (Err b.fault) is also.0))
-    where
-      never : (a : List ℕ) (b : Fault) → ok a ≡ err b → ⊥
-      never a b is = cc
-  one_with_files files tokens (Err a) (Ok b) is also = absurd (never b a.fault (one_fork tokens (Ok b) (Err a.fault) also is.0))
-    where
-      never : (a : List ℕ) (b : Fault) → ok a ≡ err b → ⊥
-      never a b is = cc
-  one_with_files files tokens (Err a) (Err b) is also =
-      ap err (same_failure a.fault b.fault a.files b.files (same a.fault b.fault (one_fork tokens (Err a.fault) (Err b.fault) is.0 also.0)) (is.1 ∙ sym also.1))
-    where
-      same : (a b : Fault) → err {X = List ℕ} a ≡ err b → a ≡ b
-      same a b is = cc
+  one_fork : (redeclare : Bool) (tokens : List Token) → Once (HasFork redeclare tokens)
+  one_fork redeclare tokens a b is also =
+      once_then (Means redeclare nothing_made is.0) (λ work answer. answer ≡ fork_of_work work) (one_meaning redeclare nothing_made is.0) (λ work. once_is (fork_of_work work)) a b is.2
+      (subst (λ (ss : List (List Token)). Then (Means redeclare nothing_made ss) (λ work answer. answer ≡ fork_of_work work) b) (sym (cutting tokens is.0 also.0 is.1 also.1)) also.2)
 
   module _ (program : OneProgram) where
-    pub one_compiled : (asked : RezAsked) (files : Files) (a b : Result (List ℕ) Failure) → Compiles asked files a → Compiles asked files b → a ≡ b
-    one_compiled asked files a b (inl is) (inl also) =
-        let same = same_ok is.0 also.0 (program files tools.Rez asked.files asked.paths asked.defs (Ok is.0) (Ok also.0) is.1 also.1) in
-        one_with_files is.0.files (map (numbered tools.Rez) is.0.tokens) a b is.2
-        (subst (λ (s : State). WithFiles s.files (HasFork (map (numbered tools.Rez) s.tokens)) b) (sym same) also.2)
-    one_compiled asked files a b (inl is) (inr also) =
-        absurd (ok_is_no_err is.0 also.0 (program files tools.Rez asked.files asked.paths asked.defs (Ok is.0) (Err also.0) is.1 also.1))
-    one_compiled asked files a b (inr is) (inl also) =
-        absurd (ok_is_no_err also.0 is.0 (program files tools.Rez asked.files asked.paths asked.defs (Ok also.0) (Err is.0) also.1 is.1))
-    one_compiled asked files a b (inr is) (inr also) =
-        is.2 ∙ ap err (same_err is.0 also.0 (program files tools.Rez asked.files asked.paths asked.defs (Err is.0) (Err also.0) is.1 also.1)) ∙ sym also.2
+    pub one_compiled : (asked : RezAsked) (files : Files) → Once (Compiles asked files)
+    one_compiled asked files =
+        once_then (Unsaid (ProgramGoes files tools.Rez asked.files asked.paths asked.defs)) (λ s. Said s.files (HasFork asked.redeclare (map (numbered tools.Rez) s.tokens)))
+        (once_unsaid (ProgramGoes files tools.Rez asked.files asked.paths asked.defs) (program files tools.Rez asked.files asked.paths asked.defs))
+        (λ s. once_said s.files (HasFork asked.redeclare (map (numbered tools.Rez) s.tokens)) (one_fork asked.redeclare (map (numbered tools.Rez) s.tokens)))
 
     one_to : (asked : Asked) (files : Files) (moment : Moment) (a b : Answer) → AnswersTo asked files moment a → AnswersTo asked files moment b → a ≡ b
     one_to (Rez asked) files moment a b is also =
         is.2 ∙ ap (or_refused (written asked.output files) files) (one_compiled asked files is.0 also.0 is.1 also.1) ∙ sym also.2
-    one_to (DeRez file) files moment a b is also = is.2 ∙ ap (or_refused (shown files) files) (is.1 ∙ sym also.1) ∙ sym also.2
+    one_to (DeRez file) files moment a b is also = is.2 ∙ ap (or_refused (shown_made files) files) (is.1 ∙ sym also.1) ∙ sym also.2
     one_to Help files moment a b is also = is ∙ sym also
     one_to Version files moment a b is also = is ∙ sym also
 
@@ -144,4 +135,4 @@ module _ (cutting : OneCutting) (statement_law : OneStatement) where
     one_answer commands positions words files moment a b (command asked is to) (misplaced position also says) = absurd (also.none asked is)
     one_answer commands positions words files moment a b (misplaced position is says) (command others also to_others) = absurd (is.none others also)
     one_answer commands positions words files moment a b (misplaced position is says) (misplaced another also tells) =
-        says ∙ ap (λ n. ended [] (Usage (record { position = n })) files) (positions words position another is also) ∙ sym tells
+        says ∙ ap (λ n. ended [] [] (Usage (record { position = n })) files) (positions words position another is also) ∙ sym tells

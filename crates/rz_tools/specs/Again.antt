@@ -1,7 +1,8 @@
 -- The text that DeRez writes, read by Rez.
-use Rattle.std.specs.Prelude.{◌≡◌, ◌≤◌, ℕ, List, [], ◌∷◌, ◌++◌, length, map, Option, Some, None, Ok}
+use Rattle.std.specs.Prelude.{◌≡◌, ◌≤◌, ℕ, Bool, List, [], ◌∷◌, ◌++◌, length, map, Option, Some, None, Ok}
 use Rattle.std.specs.FinMap as finite
 use Rattle.std.specs.List.{AllByRecursion}
+use Rattle.rz_core.specs.declared.fault.Fault.{Fault}
 use Rattle.rz_core.specs.declared.resource.Resource.{Resource}
 use Rattle.rz_folder.specs.Folder.{Files}
 use Rattle.rz_fork.specs.Admit.{admitted}
@@ -15,14 +16,19 @@ use Rattle.rz_stmt.specs.Statements.{AreStatements}
 use Rattle.rz_tools.specs.Data.{most_bytes}
 use Rattle.rz_tools.specs.Step.{Means}
 use Rattle.rz_tools.specs.ToolWords.{numbered}
+use Rattle.rz_types.specs.Table.{Declaration}
 
 -- none of the words of such a text is a live macro
 abbrev pub NoneIsLive : Live → Type 0
 NoneIsLive live = AllByRecursion (λ word. live word ≡ None) shown_words
 
--- the tokens mean these resources: as statements they make this list of nothing
+-- the tokens mean these resources: whatever types are declared, as statements they make this list of nothing, declare
+-- nothing and are warned of nowhere
 abbrev pub MeanResources : List Token → List Resource → Type 0
-MeanResources tokens list = (statements : List (List Token)) × AreStatements (map (numbered tools.Rez) tokens) statements × Means [] statements (Ok list)
+MeanResources tokens list =
+    (statements : List (List Token)) × AreStatements (map (numbered tools.Rez) tokens) statements
+    × ((redeclare : Bool) (types : List Declaration) (warnings : List Fault)
+    → Means redeclare (record { types = types; list = []; warnings = warnings }) statements (Ok (record { types = types; list = list; warnings = warnings })))
 
 -- a text means these resources to Rez: as a file of whatever name, behind whatever was read before, where none of its
 -- words is a live macro, it is read to its end, leaves all macros as they are, and its tokens mean the resources

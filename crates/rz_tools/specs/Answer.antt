@@ -5,8 +5,8 @@ use Rattle.std.specs.declared.option.Option.TheVariants.{Some, None}
 use Rattle.std.specs.declared.result.Result.{Result}
 use Rattle.std.specs.FinMap as map
 use Rattle.rz_folder.specs.Folder.{Files}
-use Rattle.rz_pre.specs.Program.{Failure}
-use Rattle.rz_tools.specs.Message.{message}
+use Rattle.rz_core.specs.declared.fault.Fault.{Fault}
+use Rattle.rz_tools.specs.Message.{told}
 use Rattle.rz_tools.specs.declared.outcome.Outcome.{Outcome}
 use Rattle.rz_tools.specs.declared.outcome.Outcome.TheVariants.{Done, Refused}
 
@@ -19,23 +19,37 @@ pub record Answer : Type 0 where
   pub out : List ℕ
   pub err : List ℕ
 
--- the run ends so, and leaves the files as they are; these are the files that marks count
-abbrev pub ended : List (List ℕ) → Outcome → Files → Answer
-ended named outcome files = record { outcome = outcome; target = None; files = files; out = []; err = message named outcome }
+-- what a command makes: bytes, and what is said beside them
+pub record Making : Type 0 where
+  pub bytes : List ℕ
+  pub said : List ℕ
+
+-- the first fault, the files that marks count, and what is said before it
+pub record Failing : Type 0 where
+  pub fault : Fault
+  pub files : List (List ℕ)
+  pub said : List ℕ
+
+-- the run ends so behind what was said, and leaves the files as they are; these are the files that marks count
+abbrev pub ended : List (List ℕ) → List ℕ → Outcome → Files → Answer
+ended named said outcome files = record { outcome = outcome; target = None; files = files; out = []; err = told named said outcome }
 
 -- the run writes this file, with these bytes
-abbrev pub written : List ℕ → Files → List ℕ → Answer
-written name files bytes = record { outcome = Done; target = Some name; files = map.insert files name bytes; out = []; err = [] }
+abbrev pub written : List ℕ → Files → Making → Answer
+written name files making = record { outcome = Done; target = Some name; files = map.insert files name making.bytes; out = []; err = making.said }
 
 -- the run writes this text to the output
 abbrev pub shown : Files → List ℕ → Answer
 shown files text = record { outcome = Done; target = None; files = files; out = text; err = [] }
 
--- what is done with the bytes that a command makes, or the first fault ends the run
-abbrev pub or_refused : (List ℕ → Answer) → Files → Result (List ℕ) Failure → Answer
-or_refused done files (Ok bytes) = done bytes
-or_refused done files (Err failure) = ended failure.files (Refused failure.fault) files
+abbrev pub shown_made : Files → Making → Answer
+shown_made files making = record { outcome = Done; target = None; files = files; out = making.bytes; err = making.said }
 
--- the answer of a command that makes bytes, and does this with them
-abbrev pub Answered : (List ℕ → Answer) → (Result (List ℕ) Failure → Type 0) → Files → Answer → Type 0
-Answered done Makes files answer = (made : Result (List ℕ) Failure) × Makes made × (answer ≡ or_refused done files made)
+-- what is done with what a command makes, or the first fault ends the run
+abbrev pub or_refused : (Making → Answer) → Files → Result Making Failing → Answer
+or_refused done files (Ok making) = done making
+or_refused done files (Err failing) = ended failing.files failing.said (Refused failing.fault) files
+
+-- the answer of a command that makes something, and does this with it
+abbrev pub Answered : (Making → Answer) → (Result Making Failing → Type 0) → Files → Answer → Type 0
+Answered done Makes files answer = (made : Result Making Failing) × Makes made × (answer ≡ or_refused done files made)

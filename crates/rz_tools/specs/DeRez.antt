@@ -8,9 +8,9 @@ use Rattle.rz_folder.specs.Folder.{Files}
 use Rattle.rz_fork.specs.Admit.{admitted}
 use Rattle.rz_fork.specs.declared.fault.ForkFault.{ForkFault}
 use Rattle.rz_fork.specs.declared.read.ForkList.{ForkList}
-use Rattle.rz_pre.specs.Program.{missing_file, Failure}
+use Rattle.rz_pre.specs.Program.{missing_file}
 use Rattle.rz_show.specs.Data.{list_text}
-use Rattle.rz_tools.specs.Answer.{Answer, Answered, shown}
+use Rattle.rz_tools.specs.Answer.{Answer, Answered, Failing, Making, shown_made}
 
 -- a broken rule of a fork, with its offset and its value
 abbrev pub broken_rule : ForkFault → Fault
@@ -29,14 +29,14 @@ abbrev pub file_text : List ℕ → Option (List ℕ) → Result (List ℕ) Faul
 file_text file None = Err (missing_file None file)
 file_text file (Some bytes) = fork_text bytes
 
--- no mark counts files here
-abbrev pub without_files : Result (List ℕ) Fault → Result (List ℕ) Failure
-without_files (Ok text) = Ok text
-without_files (Err fault) = Err (record { fault = fault; files = [] })
+-- no mark counts files here, and nothing is said beside the text
+abbrev pub without_files : Result (List ℕ) Fault → Result Making Failing
+without_files (Ok text) = Ok (record { bytes = text; said = [] })
+without_files (Err fault) = Err (record { fault = fault; files = []; said = [] })
 
-abbrev pub derez_text : List ℕ → Files → Result (List ℕ) Failure
+abbrev pub derez_text : List ℕ → Files → Result Making Failing
 derez_text file files = without_files (file_text file (map.get files file))
 
 -- the text is written to the output, or the fault ends the run
 abbrev pub AnswersDeRez : List ℕ → Files → Answer → Type 0
-AnswersDeRez file files = Answered (shown files) (λ text. text ≡ derez_text file files) files
+AnswersDeRez file files = Answered (shown_made files) (λ text. text ≡ derez_text file files) files

@@ -4,7 +4,7 @@ use Rattle.std.specs.Prelude.{ℕ, List, ◌++◌, codes}
 -- the forms of each command, its options, and the exit statuses
 unfoldable pub help_text : List ℕ
 help_text =
-    codes "usage: rezkit rez FILE... [-o NAME] [-i PATH]... [-d NAME[=TEXT]]... [-u NAME]...\n"
+    codes "usage: rezkit rez FILE... [-o NAME] [-i PATH]... [-d NAME[=TEXT]]... [-u NAME]... [-rd]\n"
     ++ codes "       rezkit derez FORK\n"
     ++ codes "       rezkit --help\n"
     ++ codes "       rezkit --version\n"
@@ -14,6 +14,7 @@ help_text =
     ++ codes "  -i PATH         a folder in which included files are looked for\n"
     ++ codes "  -d NAME[=TEXT]  a macro that stands for the text, or for nothing\n"
     ++ codes "  -u NAME         a macro that is undefined again\n"
+    ++ codes "  -rd             types may be declared again without a warning\n"
     ++ codes "derez writes the resources of a fork as text to standard output.\n"
     ++ codes "\n"
     ++ codes "exit status: 0 done, 1 the words are no command, 2 refused, 3 a file can't be read\n"

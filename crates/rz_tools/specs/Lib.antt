@@ -4,8 +4,10 @@ pub mod ToolWords
 pub mod Made
 pub mod Answer
 pub mod Data
+pub mod Declare
 pub mod Step
 pub mod ResourceList
+pub mod Held
 pub mod Rez
 pub mod DeRez
 pub mod Help

@@ -1,29 +1,41 @@
 -- What the calls that make a text or a fork give.
-use Rattle.std.specs.Prelude.{ℕ, List, [], length, Ok, Err}
+use Rattle.std.specs.Prelude.{◌≡◌, ℕ, List, [], length, Ok, Err}
 use Rattle.std.specs.declared.result.Result.{Result}
 use Rattle.rz_core.specs.Message.{IsNameable}
-use Rattle.rz_pre.specs.Program.{Failure}
-use Rattle.rz_pre.specs.declared.program.PreFault.{PreFault}
-use Rattle.rz_pre.specs.declared.program.PreFault.TheVariants as stops
+use Rattle.rz_core.specs.declared.fault.Fault.{Fault}
+use Rattle.rz_tools.specs.Answer.{Failing, Making}
+use Rattle.rz_tools.specs.declared.made.Made.{Made}
+use Rattle.rz_tools.specs.declared.made.Stopped.{Stopped}
+use Rattle.rz_tools.specs.declared.made.Stopped.TheVariants as stops
 use Rattle.rz_tools.specs.declared.outcome.Ended.{Ended}
 use Rattle.rz_tools.specs.declared.outcome.Outcome.TheVariants.{Refused, ReadFault, NoMemory}
 
+abbrev pub making_of : Made → Making
+making_of made = record { bytes = made.bytes; said = made.said }
+
 -- what is answered holds of what the call gave; a read fault and want of memory say nothing
-abbrev pub Made : Result (List ℕ) PreFault → (Result (List ℕ) Failure → Type 0) → Type 0
-Made (Ok bytes) answers = answers (Ok bytes)
-Made (Err (stops.Refused fault files)) answers = answers (Err (record { fault = fault; files = files }))
-Made (Err stops.ReadFault) answers = Unit {0}
-Made (Err stops.NoMemory) answers = Unit {0}
+abbrev pub MadeSo : Result Made Stopped → (Result Making Failing → Type 0) → Type 0
+MadeSo (Ok made) answers = answers (Ok (making_of made))
+MadeSo (Err (stops.Refused fault files said)) answers = answers (Err (record { fault = fault; files = files; said = said }))
+MadeSo (Err stops.ReadFault) answers = Unit {0}
+MadeSo (Err stops.NoMemory) answers = Unit {0}
+
+-- the call refused with this, or memory was refused
+abbrev pub Refuses : Fault → List (List ℕ) → List ℕ → Result Made Stopped → Type 0
+Refuses fault files said (Ok made) = ⊥
+Refuses fault files said (Err (stops.Refused given names lines)) = (given ≡ fault) × (names ≡ files) × (lines ≡ said)
+Refuses fault files said (Err stops.ReadFault) = ⊥
+Refuses fault files said (Err stops.NoMemory) = Unit {0}
 
 -- where the call refused, the files can name the fault
-abbrev pub IsNamed : Result (List ℕ) PreFault → Type 0
-IsNamed (Ok bytes) = Unit {0}
-IsNamed (Err (stops.Refused fault files)) = IsNameable (length files) fault
+abbrev pub IsNamed : Result Made Stopped → Type 0
+IsNamed (Ok made) = Unit {0}
+IsNamed (Err (stops.Refused fault files said)) = IsNameable (length files) fault
 IsNamed (Err stops.ReadFault) = Unit {0}
 IsNamed (Err stops.NoMemory) = Unit {0}
 
 -- how a command ends that is stopped by this
-abbrev pub ended_by : PreFault → Ended
-ended_by (stops.Refused fault files) = record { outcome = Refused fault; files = files }
-ended_by stops.ReadFault = record { outcome = ReadFault; files = [] }
-ended_by stops.NoMemory = record { outcome = NoMemory; files = [] }
+abbrev pub ended_by : Stopped → Ended
+ended_by (stops.Refused fault files said) = record { outcome = Refused fault; files = files; said = said }
+ended_by stops.ReadFault = record { outcome = ReadFault; files = []; said = [] }
+ended_by stops.NoMemory = record { outcome = NoMemory; files = []; said = [] }

@@ -17,3 +17,8 @@ message files (Refused fault) = fault_line files fault
 message files ReadFault = codes "rezkit: read fault\n"
 message files WriteFault = codes "rezkit: write fault\n"
 message files NoMemory = codes "rezkit: no memory\n"
+
+-- what is said in all: the warnings, and the line
+abbrev pub told : List (List ℕ) → List ℕ → Outcome → List ℕ
+told files said Done = said
+told files said outcome = said ++ message files outcome

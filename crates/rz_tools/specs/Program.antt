@@ -11,7 +11,7 @@ use Rattle.rz_words.specs.Command.{Asked, Rez, DeRez, Help, Version, IsCommand, 
 use Rattle.rz_tools.specs.Answer.{Answer, ended, shown}
 use Rattle.rz_tools.specs.DeRez.{AnswersDeRez}
 use Rattle.rz_tools.specs.Help.{help_text, version_text}
-use Rattle.rz_tools.specs.Message.{message}
+use Rattle.rz_tools.specs.Message.{message, told}
 use Rattle.rz_tools.specs.Rez.{AnswersRez}
 use Rattle.rz_tools.specs.Outcome.{IfRefused}
 use Rattle.rz_tools.specs.declared.outcome.Ended.{Ended}
@@ -31,7 +31,7 @@ AnswersTo Version files moment answer = answer ≡ shown files version_text
 -- that is misplaced
 pub data Answers (words : List (List ℕ)) (files : Files) (moment : Moment) (answer : Answer) : Type 0 where
   command : (asked : Asked) → IsCommand words asked → AnswersTo asked files moment answer → Answers words files moment answer
-  misplaced : (position : ℕ) → IsMisplaced words position → answer ≡ ended [] (Usage (record { position = position })) files
+  misplaced : (position : ℕ) → IsMisplaced words position → answer ≡ ended [] [] (Usage (record { position = position })) files
       → Answers words files moment answer
 
 -- What a run does.
@@ -119,13 +119,13 @@ Says text None after faults_before faults_after = Unit {0}
 Says text (Some before) after faults_before faults_after =
     GotFront text before after × ((Rose faults_before faults_after → ⊥) → after ≡ Some (before ++ text))
 
--- after Done, Usage and Refused the sink has got the answer's text
+-- after Done, Usage and Refused the sink has got the answer's text, and after WriteFault that and then its line
 abbrev pub SaysAnswer : Answer → Outcome → Option (List ℕ) → Option (List ℕ) → ℕ → ℕ → Type 0
 SaysAnswer wanted Done before after faults_before faults_after = Says wanted.err before after faults_before faults_after
 SaysAnswer wanted (Usage fault) before after faults_before faults_after = Says wanted.err before after faults_before faults_after
 SaysAnswer wanted (Refused fault) before after faults_before faults_after = Says wanted.err before after faults_before faults_after
 SaysAnswer wanted ReadFault before after faults_before faults_after = Unit {0}
-SaysAnswer wanted WriteFault before after faults_before faults_after = Unit {0}
+SaysAnswer wanted WriteFault before after faults_before faults_after = Says (wanted.err ++ message [] WriteFault) before after faults_before faults_after
 SaysAnswer wanted NoMemory before after faults_before faults_after = Unit {0}
 
 -- Usage comes only with the position of a misplaced word
@@ -139,22 +139,29 @@ OnUsage NoMemory P = Unit {0}
 
 -- Within the run.
 
--- after Done, Usage and Refused the answer's line is that of the outcome, where these are the files that marks count
-abbrev pub HasLine : Answer → List (List ℕ) → Outcome → Type 0
-HasLine wanted named Done = wanted.err ≡ message named Done
-HasLine wanted named (Usage fault) = wanted.err ≡ message named (Usage fault)
-HasLine wanted named (Refused fault) = wanted.err ≡ message named (Refused fault)
-HasLine wanted named ReadFault = Unit {0}
-HasLine wanted named WriteFault = Unit {0}
-HasLine wanted named NoMemory = Unit {0}
+-- after Done, Usage and Refused the answer's text is what is told of the outcome, where these are the files that marks
+-- count and this is said before the line; after WriteFault it is what is said before the line
+abbrev pub HasLine : Answer → List (List ℕ) → List ℕ → Outcome → Type 0
+HasLine wanted named said Done = wanted.err ≡ said
+HasLine wanted named said (Usage fault) = wanted.err ≡ told named said (Usage fault)
+HasLine wanted named said (Refused fault) = wanted.err ≡ told named said (Refused fault)
+HasLine wanted named said ReadFault = Unit {0}
+HasLine wanted named said WriteFault = wanted.err ≡ said
+HasLine wanted named said NoMemory = Unit {0}
+
+-- before the line of a read fault nothing is said
+abbrev pub SaidBefore : List ℕ → Outcome → Type 0
+SaidBefore said ReadFault = said ≡ []
+SaidBefore said outcome = Unit {0}
 
 -- what a command does: it follows each answer, and there is one
 pub record Runs (Meets : Files → Answer → Type 0) (result : Ended) (before after : Option Files)
     (written_before written_after : Option (List ℕ)) (read_failed write_failed : Type 0) : Type 0 where
   pub follows : IfSome before (λ files. (wanted : Answer) → Meets files wanted
       → Follows wanted result.outcome files after written_before written_after read_failed write_failed)
-  pub lines : IfSome before (λ files. (wanted : Answer) → Meets files wanted → HasLine wanted result.files result.outcome)
+  pub lines : IfSome before (λ files. (wanted : Answer) → Meets files wanted → HasLine wanted result.files result.said result.outcome)
   pub answered : IfSome before (λ files. IsAnswered (Meets files) result.outcome)
+  pub said : SaidBefore result.said result.outcome
   pub nameable : IfRefused result.outcome (IsNameable (length result.files))
   pub read_fault : result.outcome ≡ ReadFault → read_failed
   pub write_fault : result.outcome ≡ WriteFault → write_failed

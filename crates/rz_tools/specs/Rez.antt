@@ -1,7 +1,8 @@
 -- What `rez` means: the sources as a program, its statements, their resources, and the fork. (MPW Rez.)
-use Rattle.std.specs.Prelude.{ℕ, ◌<◌, ◌^◌, pos, ◌≡◌, true, List, [], map, Ok, Err, None}
+use Rattle.std.specs.Prelude.{ℕ, ◌<◌, ◌^◌, pos, ◌≡◌, true, Bool, List, [], map, Ok, Err, None}
 use Rattle.std.specs.declared.result.Result.{Result}
-use Rattle.rz_core.specs.Message.{is_fault}
+use Rattle.std.specs.List.{flat_map}
+use Rattle.rz_core.specs.Message.{fault_line, is_fault}
 use Rattle.rz_core.specs.declared.resource.Resource.{Resource}
 use Rattle.rz_core.specs.declared.fault.Fault.{Fault}
 use Rattle.rz_core.specs.declared.fault.Kept.TheVariants as kept
@@ -10,12 +11,12 @@ use Rattle.rz_fork.specs.Image.{fork_of}
 use Rattle.rz_fork.specs.declared.fault.LimitFault.{LimitFault}
 use Rattle.rz_lex.specs.declared.token.Token.{Token}
 use Rattle.rz_pre.specs.Answers.{Then}
-use Rattle.rz_pre.specs.Program.{Failure, ProgramGoes, WithFiles}
+use Rattle.rz_pre.specs.Program.{Failure, ProgramGoes}
 use Rattle.rz_pre.specs.declared.condition.Tool.TheVariants as tools
 use Rattle.rz_stmt.specs.Statements.{AreStatements}
 use Rattle.rz_words.specs.Command.{RezAsked}
-use Rattle.rz_tools.specs.Answer.{Answer, Answered, written}
-use Rattle.rz_tools.specs.Step.{Means}
+use Rattle.rz_tools.specs.Answer.{Answer, Answered, Failing, Making, written}
+use Rattle.rz_tools.specs.Step.{nothing_made, Means, Stopped, Work}
 use Rattle.rz_tools.specs.ToolWords.{numbered}
 
 -- a length past its limit
@@ -35,15 +36,46 @@ fork_or_fault (Err fault) = Err (past_limit fault)
 unfoldable pub list_fork : List Resource → Result (List ℕ) Fault
 list_fork list = fork_or_fault (fork_of list 0 [])
 
--- the fork that the tokens of a program mean, or the first rule that their statements break
-abbrev pub HasFork : List Token → Result (List ℕ) Fault → Type 0
-HasFork tokens fork =
-    (statements : List (List Token)) × AreStatements tokens statements × Then (Means [] statements) (λ list answer. answer ≡ list_fork list) fork
+-- a fork, and what was warned of
+pub record Forked : Type 0 where
+  pub bytes : List ℕ
+  pub warnings : List Fault
 
--- the fork that the sources mean, or the first fault, with the files that were opened until then
-abbrev pub Compiles : RezAsked → Files → Result (List ℕ) Failure → Type 0
+abbrev pub forked : List Fault → Result (List ℕ) Fault → Result Forked Stopped
+forked warnings (Ok bytes) = Ok (record { bytes = bytes; warnings = warnings })
+forked warnings (Err fault) = Err (record { fault = fault; warnings = warnings })
+
+-- the fork of what was made, or the first limit that it passes
+abbrev pub fork_of_work : Work → Result Forked Stopped
+fork_of_work work = forked work.warnings (list_fork work.list)
+
+-- the fork that the tokens of a program mean, or the first rule that their statements break
+abbrev pub HasFork : Bool → List Token → Result Forked Stopped → Type 0
+HasFork redeclare tokens fork =
+    (statements : List (List Token)) × AreStatements tokens statements
+    × Then (Means redeclare nothing_made statements) (λ work answer. answer ≡ fork_of_work work) fork
+
+-- the lines of warnings, where these are the files that marks count
+abbrev pub warning_lines : List (List ℕ) → List Fault → List ℕ
+warning_lines files warnings = flat_map (fault_line files) warnings
+
+-- an answer with the lines of its warnings
+abbrev pub Said : List (List ℕ) → (Result Forked Stopped → Type 0) → Result Making Failing → Type 0
+Said files answers (Ok making) =
+    (fork : Forked) × answers (Ok fork) × (making ≡ record { bytes = fork.bytes; said = warning_lines files fork.warnings })
+Said files answers (Err failing) =
+    (stopped : Stopped) × answers (Err stopped) × (failing ≡ record { fault = stopped.fault; files = files; said = warning_lines files stopped.warnings })
+
+-- an answer before which nothing was said
+abbrev pub Unsaid : {X : Type 0} → (Result X Failure → Type 0) → Result X Failing → Type 0
+Unsaid answers (Ok value) = answers (Ok value)
+Unsaid answers (Err failing) = answers (Err (record { fault = failing.fault; files = failing.files })) × (failing.said ≡ [])
+
+-- the fork that the sources mean, or the first fault, with the files that were opened until then and what was said before
+abbrev pub Compiles : RezAsked → Files → Result Making Failing → Type 0
 Compiles asked files =
-    Then (ProgramGoes files tools.Rez asked.files asked.paths asked.defs) (λ program. WithFiles program.files (HasFork (map (numbered tools.Rez) program.tokens)))
+    Then (Unsaid (ProgramGoes files tools.Rez asked.files asked.paths asked.defs))
+    (λ program. Said program.files (HasFork asked.redeclare (map (numbered tools.Rez) program.tokens)))
 
 -- the fork is written, or the fault ends the run
 abbrev pub AnswersRez : RezAsked → Files → Answer → Type 0

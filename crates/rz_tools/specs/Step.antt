@@ -1,5 +1,5 @@
--- What the statements of a program do to the list of resources, one after the other. (MPW Rez.)
-use Rattle.std.specs.Prelude.{◌≡◌, ◌<◌, ◌≤◌, ◌-◌, ◌==◌, length, not, Bool, false, if◌then◌else◌, List, [], ◌∷◌, bit_and, drop, map, take, Option, Some, None, Ok, Err}
+-- What the statements of a program do, one after the other. (MPW Rez.)
+use Rattle.std.specs.Prelude.{◌≡◌, ◌++◌, ◌&&◌, ◌<◌, ◌≤◌, ◌-◌, ◌==◌, length, not, Bool, false, if◌then◌else◌, List, [], ◌∷◌, bit_and, drop, map, take, Option, Some, None, Ok, Err}
 use Rattle.std.specs.List.{AllByRecursion}
 use Rattle.std.specs.declared.result.Result.{Result}
 use Rattle.rz_core.specs.Resources.{put, same_key}
@@ -12,9 +12,16 @@ use Rattle.rz_core.specs.declared.stop.Stop.{Stop}
 use Rattle.rz_core.specs.declared.stop.Stop.TheVariants.{Refused, NoMemory}
 use Rattle.rz_lex.specs.declared.token.Token.{Token}
 use Rattle.rz_pre.specs.Answers.{Then}
-use Rattle.rz_stmt.specs.Grammar.{mark_of, Data, Empty, Parses, Statement}
+use Rattle.rz_core.specs.declared.resource.OsType.{OsType}
+use Rattle.rz_stmt.specs.Declare as declare
+use Rattle.rz_stmt.specs.Grammar.{mark_of, Data, Declare, Empty, Parses, Statement}
+use Rattle.rz_stmt.specs.Raw.{Raw}
 use Rattle.rz_stmt.specs.declared.span.Span.{Span}
 use Rattle.rz_tools.specs.Data.{resource_of}
+use Rattle.rz_tools.specs.Declare.{redeclared, scope_of, template_of}
+use Rattle.rz_types.specs.Field.{PlainField}
+use Rattle.rz_types.specs.Table.{declared_behind, has_place, Declaration}
+use Rattle.rz_types.specs.declared.table.Scope.{Scope}
 
 -- the resource is protected: the bit 08 of its attributes is set
 abbrev pub is_protected : Resource → Bool
@@ -37,18 +44,67 @@ protected_fault mark r = record { number = 219; mark = Some mark; kept = Key r.k
 abbrev pub put_unless_protected : Mark → List Resource → Resource → Result (List Resource) Fault
 put_unless_protected mark list r = if protects (namesake list r) then Err (protected_fault mark r) else Ok (put list r)
 
--- the list behind a statement on this line
-abbrev pub list_behind : Mark → List Resource → Statement → Result (List Resource) Fault
-list_behind mark list Empty = Ok list
-list_behind mark list (Data raw) = resource_of mark raw >>= put_unless_protected mark list
+-- the list behind a `data` statement on this line
+abbrev pub list_behind : Mark → List Resource → Raw → Result (List Resource) Fault
+list_behind mark list raw = resource_of mark raw >>= put_unless_protected mark list
 
-abbrev pub Steps : List Resource → List Token → Result (List Resource) Fault → Type 0
-Steps list tokens = Then (Parses tokens) (λ statement answer. answer ≡ list_behind (mark_of tokens) list statement)
+-- What was made so far: the declarations of types, the resources, and what is to be warned of.
+pub record Work : Type 0 where
+  pub types : List Declaration
+  pub list : List Resource
+  pub warnings : List Fault
 
--- the list behind all statements, or the first fault
-abbrev pub Means : List Resource → List (List Token) → Result (List Resource) Fault → Type 0
-Means list [] answer = answer ≡ Ok list
-Means list (tokens ∷ statements) answer = Then (Steps list tokens) (λ next. Means next statements) answer
+-- nothing is made before the first statement
+abbrev pub nothing_made : Work
+nothing_made = record { types = []; list = []; warnings = [] }
+
+-- with a resource list
+abbrev pub with_list : Work → Result (List Resource) Fault → Result Work Fault
+with_list work (Ok list) = Ok (record work { list = list })
+with_list work (Err fault) = Err fault
+
+-- the warnings behind a declaration on this line: it is warned of where one of the type and scope is there, unless
+-- types may be declared again
+abbrev pub warned : Bool → Mark → Work → OsType → Scope → List Fault
+warned redeclare mark work kind scope =
+    if has_place kind scope work.types && not redeclare then work.warnings ++ redeclared mark kind scope ∷ [] else work.warnings
+
+-- with a declaration
+abbrev pub with_type : Bool → Mark → Work → OsType → Scope → List PlainField → Work
+with_type redeclare mark work kind scope template = record {
+  types = declared_behind work.types (record { kind = kind; scope = scope; template = template });
+  list = work.list;
+  warnings = warned redeclare mark work kind scope;
+}
+
+abbrev pub declared : Bool → Mark → Work → declare.Declare → Result Work Fault
+declared redeclare mark work one =
+    scope_of mark one.bounds >>= (λ scope. template_of mark work.types one.made >>= (λ template. Ok (with_type redeclare mark work (record { code = one.kind }) scope template)))
+
+-- what is made behind a statement on this line
+abbrev pub work_behind : Bool → Mark → Work → Statement → Result Work Fault
+work_behind redeclare mark work Empty = Ok work
+work_behind redeclare mark work (Data raw) = with_list work (list_behind mark work.list raw)
+work_behind redeclare mark work (Declare one) = declared redeclare mark work one
+
+-- a fault, and what was warned of before it
+pub record Stopped : Type 0 where
+  pub fault : Fault
+  pub warnings : List Fault
+
+-- an answer whose fault comes behind these warnings
+abbrev pub WithWarnings : {X : Type 0} → List Fault → (Result X Fault → Type 0) → Result X Stopped → Type 0
+WithWarnings warnings answers (Ok value) = answers (Ok value)
+WithWarnings warnings answers (Err stopped) = answers (Err stopped.fault) × (stopped.warnings ≡ warnings)
+
+abbrev pub Steps : Bool → Work → List Token → Result Work Stopped → Type 0
+Steps redeclare work tokens =
+    WithWarnings work.warnings (Then (Parses tokens) (λ statement answer. answer ≡ work_behind redeclare (mark_of tokens) work statement))
+
+-- what is made behind all statements, or the first fault
+abbrev pub Means : Bool → Work → List (List Token) → Result Work Stopped → Type 0
+Means redeclare work [] answer = answer ≡ Ok work
+Means redeclare work (tokens ∷ statements) answer = Then (Steps redeclare work tokens) (λ next. Means redeclare next statements) answer
 
 -- the tokens of a span
 abbrev pub tokens_at : List Token → Span → List Token
@@ -67,8 +123,14 @@ pub record IsSpan (tokens : List Token) (span : Span) : Type 0 where
 abbrev pub AreSpans : List Token → List Span → Type 0
 AreSpans tokens spans = AllByRecursion (IsSpan tokens) spans
 
--- the call left this list, or gave this fault; want of memory says nothing
-abbrev pub Stepped : (Result (List Resource) Fault → Type 0) → Result (Unit {0}) (Stop Fault) → List Resource → Type 0
-Stepped answers (Ok nothing) list = answers (Ok list)
-Stepped answers (Err (Refused fault)) list = answers (Err fault)
-Stepped answers (Err NoMemory) list = Unit {0}
+-- the call left this, or gave this fault; want of memory says nothing
+abbrev pub Stepped : {X : Type 0} → (Result X Fault → Type 0) → Result (Unit {0}) (Stop Fault) → X → Type 0
+Stepped answers (Ok nothing) left = answers (Ok left)
+Stepped answers (Err (Refused fault)) left = answers (Err fault)
+Stepped answers (Err NoMemory) left = Unit {0}
+
+-- the same, where a fault comes behind the warnings that are left
+abbrev pub Worked : (Result Work Stopped → Type 0) → Result (Unit {0}) (Stop Fault) → Work → Type 0
+Worked answers (Ok nothing) work = answers (Ok work)
+Worked answers (Err (Refused fault)) work = answers (Err (record { fault = fault; warnings = work.warnings }))
+Worked answers (Err NoMemory) work = Unit {0}

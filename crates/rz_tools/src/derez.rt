@@ -4,21 +4,21 @@ ghost use Rattle.rz_core.specs.Message.{IsNameable};
 ghost use Rattle.rz_core.specs.Stop.{Gives, OnFault};
 ghost use Rattle.rz_folder.specs.Counts.{Rose};
 ghost use Rattle.rz_fork.specs.Admit.{IsSayable};
-ghost use Rattle.rz_pre.specs.declared.program.PreFault.TheVariants.{ReadFault};
+ghost use Rattle.rz_tools.specs.declared.made.Stopped.TheVariants.{ReadFault};
 ghost use Rattle.rz_pre.specs.Program.{missing_file};
 ghost use Rattle.rz_show.specs.Data.{list_text};
 ghost use Rattle.rz_tools.specs.Again.{MeansFork, ShowsAgain};
 ghost use Rattle.rz_tools.specs.DeRez.{broken_rule, derez_text, fork_text, without_files, AnswersDeRez};
-ghost use Rattle.rz_tools.specs.Made.{IsNamed, Made};
+ghost use Rattle.rz_tools.specs.Made.{IsNamed, MadeSo};
 ghost use Rattle.rz_tools.specs.Outcome.{IsNoUsage};
 ghost use Rattle.rz_tools.specs.Program.{Runs, Shows};
 
 use crate::Outcome;
+use crate::made::{Made, Stopped};
 use crate::outcome::Ended;
 use rz_core::{Bytes, Fault, FileNames, Kept, NoMemory, Resources, Stop};
 use rz_folder::{Folder, Put, Read, Sink};
 use rz_fork::{ForkFault, read_fork};
-use rz_pre::PreFault;
 use rz_show::{show_resource, shown_statements, shown_text};
 use rz_words::DeRezWords;
 use std::alloc::Global;
@@ -37,7 +37,7 @@ pub fn run_derez<F: Folder, O: Sink>(
         ShowsAgain words.entry.file.now files before (O.written out.new))) }
 {
     match read_text(alloc, folder, words.file) {
-        Ok(text) => Ended::with(alloc, show_text(text.as_slice(), out)),
+        Ok(text) => Ended::saying(alloc, show_text(text.bytes.as_slice(), out), text.said),
         Err(stop) => Ended::by(alloc, stop),
     }
 }
@@ -53,9 +53,9 @@ pub fn show_text<O: Sink>(text: &[u8], out: &mut O) -> Outcome
 }
 
 /// The text of the fork that a name holds, or what stopped the command.
-fn read_text<F: Folder>(alloc: Global, folder: &mut F, file: &str) -> Result<Bytes, PreFault>
-    ensures text { IfSome (F.files folder.old) (λ files. Made result (λ answer. answer ≡ derez_text file.now files)) }
-    ensures again { IfSome (F.files folder.old) (λ files. IfSome (map.get files file.now) (λ bytes. IfOk result (MeansFork bytes))) }
+fn read_text<F: Folder>(alloc: Global, folder: &mut F, file: &str) -> Result<Made, Stopped>
+    ensures text { IfSome (F.files folder.old) (λ files. MadeSo result (λ answer. answer ≡ derez_text file.now files)) }
+    ensures again { IfSome (F.files folder.old) (λ files. IfSome (map.get files file.now) (λ bytes. IfOk result (λ made. MeansFork bytes made.bytes))) }
     ensures nameable { IsNamed result }
     ensures unchanged { F.files folder.new ≡ F.files folder.old }
     ensures cause { result ≡ Err ReadFault → Rose (F.read_faults folder.old) (F.read_faults folder.new) }
@@ -64,10 +64,10 @@ fn read_text<F: Folder>(alloc: Global, folder: &mut F, file: &str) -> Result<Byt
         Read::Bytes(bytes) => text_of(alloc, bytes.as_slice()),
         Read::Missing => {
             let fault = missing_file(alloc, file)?;
-            Err(PreFault::Refused(fault, FileNames::new(alloc)))
+            Err(Stopped::Refused(fault, FileNames::new(alloc), Bytes::new(alloc)))
         }
-        Read::Failed => Err(PreFault::ReadFault),
-        Read::NoMemory => Err(PreFault::NoMemory),
+        Read::Failed => Err(Stopped::ReadFault),
+        Read::NoMemory => Err(Stopped::NoMemory),
     }
 }
 
@@ -83,17 +83,20 @@ fn missing_file(alloc: Global, name: &str) -> Result<Fault, NoMemory>
 }
 
 /// The text of a fork, or what stopped the command.
-fn text_of(alloc: Global, bytes: &[u8]) -> Result<Bytes, PreFault>
+fn text_of(alloc: Global, bytes: &[u8]) -> Result<Made, Stopped>
     requires { length bytes.now < 2 ^ 32 }
-    ensures text { Made result (λ answer. answer ≡ without_files (fork_text bytes.now)) }
-    ensures again { IfOk result (MeansFork bytes.now) }
+    ensures text { MadeSo result (λ answer. answer ≡ without_files (fork_text bytes.now)) }
+    ensures again { IfOk result (λ made. MeansFork bytes.now made.bytes) }
     ensures nameable { IsNamed result }
     ensures quiet { result ≡ Err ReadFault → ⊥ }
 {
     match show(alloc, bytes) {
-        Ok(text) => Ok(text),
-        Err(Stop::Refused(fault)) => Err(PreFault::Refused(fault, FileNames::new(alloc))),
-        Err(Stop::NoMemory) => Err(PreFault::NoMemory),
+        Ok(bytes) => Ok(Made {
+            bytes,
+            said: Bytes::new(alloc),
+        }),
+        Err(Stop::Refused(fault)) => Err(Stopped::Refused(fault, FileNames::new(alloc), Bytes::new(alloc))),
+        Err(Stop::NoMemory) => Err(Stopped::NoMemory),
     }
 }
 

@@ -6,7 +6,7 @@ ghost use Rattle.rz_tools.specs.Help.{help_text, version_text};
 pub fn help_text() -> &'static [u8]
     ensures { result.now ≡ help_text }
 {
-    b"usage: rezkit rez FILE... [-o NAME] [-i PATH]... [-d NAME[=TEXT]]... [-u NAME]...
+    b"usage: rezkit rez FILE... [-o NAME] [-i PATH]... [-d NAME[=TEXT]]... [-u NAME]... [-rd]
        rezkit derez FORK
        rezkit --help
        rezkit --version
@@ -16,6 +16,7 @@ rez compiles the sources into one resource fork; its words stand in any order:
   -i PATH         a folder in which included files are looked for
   -d NAME[=TEXT]  a macro that stands for the text, or for nothing
   -u NAME         a macro that is undefined again
+  -rd             types may be declared again without a warning
 derez writes the resources of a fork as text to standard output.
 
 exit status: 0 done, 1 the words are no command, 2 refused, 3 a file can't be read

@@ -2,9 +2,11 @@
 #![tactic(auto)]
 
 mod data;
+mod declare;
 mod derez;
 mod help;
 mod laws;
+mod made;
 mod message;
 mod outcome;
 mod program;

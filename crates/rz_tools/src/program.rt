@@ -1,11 +1,11 @@
-ghost use Rattle.std.specs.Prelude.{length, ◌≡◌, ◌⊎◌, ℕ, List, map, IfSome};
+ghost use Rattle.std.specs.Prelude.{length, ◌++◌, ◌≡◌, ◌⊎◌, ℕ, List, map, IfSome};
 ghost use Rattle.std.specs.String.{string_bytes};
 ghost use Rattle.rz_core.specs.Message.{IsNameable};
 ghost use Rattle.rz_folder.specs.Counts.{Rose};
 ghost use Rattle.rz_tools.specs.Answer.{Answer};
-ghost use Rattle.rz_tools.specs.Message.{message};
+ghost use Rattle.rz_tools.specs.Message.{told};
 ghost use Rattle.rz_tools.specs.Outcome.{IfRefused};
-ghost use Rattle.rz_tools.specs.Program.{Answers, Follows, IsAnswered, Keeps, OnUsage, Runs, Says, SaysAnswer, StaysSo};
+ghost use Rattle.rz_tools.specs.Program.{Answers, Follows, IsAnswered, Keeps, OnUsage, Runs, SaidBefore, Says, SaysAnswer, StaysSo};
 ghost use Rattle.rz_tools.specs.Again.{ShowsAgain};
 ghost use Rattle.rz_words.specs.Command.{DeRez, IsCommand, IsMisplaced};
 
@@ -15,8 +15,8 @@ use crate::help::{help_text, version_text};
 use crate::message::message_of;
 use crate::outcome::Ended;
 use crate::rez::run_rez;
-use rz_core::{FileNames, Moment, Stop};
-use rz_folder::{Folder, Sink};
+use rz_core::{Moment, Stop};
+use rz_folder::{Folder, Put, Sink};
 use rz_words::{Command, one_command, read_words};
 use std::alloc::Global;
 
@@ -61,13 +61,13 @@ pub fn run<F: Folder, O: Sink, E: Sink>(
     // What stays, and what is said.
     ensures kept_files { Keeps result (F.files folder.old) (F.files folder.new) }
     ensures kept_output { Keeps result (O.written out.old) (O.written out.new) }
-    ensures err { (named : List (List ℕ)) × Says (message named result)
+    ensures err { (named : List (List ℕ)) × (said : List ℕ) × SaidBefore said result × Says (told named said result)
         (E.written err.old) (E.written err.new) (E.faults err.old) (E.faults err.new) }
     ensures err_answered { IfSome (F.files folder.old) (λ files. (wanted : Answer) → Answers (map string_bytes words.now) files moment wanted
         → SaysAnswer wanted result (E.written err.old) (E.written err.new) (E.faults err.old) (E.faults err.new)) }
 {
-    let Ended { outcome, files } = run_words(alloc, words, folder, out, moment);
-    say(alloc, outcome, &files, err)
+    let ended = run_words(alloc, words, folder, out, moment);
+    say(alloc, ended, err)
 }
 
 /// Does what the words ask for, and says nothing.
@@ -99,31 +99,52 @@ fn run_words<F: Folder, O: Sink>(
     }
 }
 
-/// Writes the line of an outcome. Where there is no memory for the line, that is the outcome.
-fn say<E: Sink>(alloc: Global, outcome: Outcome, files: &FileNames, err: &mut E) -> Outcome
-    requires { IfRefused outcome (IsNameable (length files.now)) }
-    ensures outcome { StaysSo outcome result }
-    ensures err { Says (message files.now result) (E.written err.old) (E.written err.new) (E.faults err.old) (E.faults err.new) }
+/// Writes what is said before the line of the outcome, and the line. Where there is no memory for the line, that
+/// is the outcome.
+fn say<E: Sink>(alloc: Global, ended: Ended, err: &mut E) -> Outcome
+    requires { IfRefused ended.outcome (IsNameable (length ended.files)) }
+    ensures outcome { StaysSo ended.outcome result }
+    ensures err { Says (told ended.files ended.said result) (E.written err.old) (E.written err.new) (E.faults err.old) (E.faults err.new) }
 {
+    let Ended {
+        outcome,
+        files,
+        said,
+    } = ended;
+    let said = said.as_slice();
     match &outcome {
-        Outcome::Done => {}
-        Outcome::ReadFault => put_line(b"rezkit: read fault\n", err),
-        Outcome::WriteFault => put_line(b"rezkit: write fault\n", err),
-        Outcome::NoMemory => put_line(b"rezkit: no memory\n", err),
+        Outcome::Done => put_lines(said, b"", err),
+        Outcome::ReadFault => put_lines(said, b"rezkit: read fault\n", err),
+        Outcome::WriteFault => put_lines(said, b"rezkit: write fault\n", err),
+        Outcome::NoMemory => put_lines(said, b"rezkit: no memory\n", err),
         Outcome::Usage(_) | Outcome::Refused(_) => {
-            let Ok(line) = message_of(alloc, &outcome, files) else {
-                put_line(b"rezkit: no memory\n", err);
+            let Ok(line) = message_of(alloc, &outcome, &files) else {
+                put_lines(said, b"rezkit: no memory\n", err);
                 return Outcome::NoMemory;
             };
-            put_line(line.as_slice(), err);
+            put_lines(said, line.as_slice(), err);
         }
     }
     outcome
 }
 
-/// Puts a line. A failure changes nothing here: there is no other place to report it to.
+/// Puts lines and then a line. A failure changes nothing here, for there is no other place to report it to; behind
+/// it nothing more is put.
+fn put_lines<E: Sink>(lines: &[u8], line: &[u8], err: &mut E)
+    ensures { Says (lines.now ++ line.now) (E.written err.old) (E.written err.new) (E.faults err.old) (E.faults err.new) }
+{
+    if lines.is_empty() {
+        put_line(line, err);
+    } else if matches!(err.put(lines), Put::Done) {
+        put_line(line, err);
+    }
+}
+
+/// Puts a line, where it isn't empty.
 fn put_line<E: Sink>(line: &[u8], err: &mut E)
     ensures { Says line.now (E.written err.old) (E.written err.new) (E.faults err.old) (E.faults err.new) }
 {
-    let _ = err.put(line);
+    if !line.is_empty() {
+        let _ = err.put(line);
+    }
 }

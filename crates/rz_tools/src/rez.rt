@@ -4,23 +4,26 @@ ghost use Rattle.rz_core.specs.Resources.{KeysDiffer};
 ghost use Rattle.rz_core.specs.Stop.{Gives, OnFault};
 ghost use Rattle.rz_folder.specs.Counts.{Rose};
 ghost use Rattle.rz_lex.specs.declared.token.Token.{Token};
-ghost use Rattle.rz_pre.specs.declared.program.PreFault.TheVariants.{ReadFault};
 ghost use Rattle.rz_fork.specs.Image.{AreNamed};
-ghost use Rattle.rz_pre.specs.Answers.{Meets, Then};
+ghost use Rattle.rz_pre.specs.Answers.{Then};
 ghost use Rattle.rz_stmt.specs.Grammar.{AreWithin};
 ghost use Rattle.rz_stmt.specs.Statements.{AreStatements};
 ghost use Rattle.rz_words.specs.Item.{rez};
-ghost use Rattle.rz_tools.specs.Made.{IsNamed, Made};
+ghost use Rattle.rz_tools.specs.Held.{work_of, AreNameable};
+ghost use Rattle.rz_tools.specs.Made.{IsNamed, MadeSo, Refuses};
 ghost use Rattle.rz_tools.specs.Outcome.{IsNoUsage};
 ghost use Rattle.rz_tools.specs.Program.{Runs};
-ghost use Rattle.rz_tools.specs.Step.{Means};
-ghost use Rattle.rz_tools.specs.Rez.{list_fork, past_limit, AnswersRez, Compiles, IsLimit};
+ghost use Rattle.rz_tools.specs.ResourceList.{values_of};
+ghost use Rattle.rz_tools.specs.Step.{nothing_made, Means};
+ghost use Rattle.rz_tools.specs.Rez.{fork_of_work, list_fork, past_limit, warning_lines, AnswersRez, Compiles, IsLimit, Said};
+ghost use Rattle.rz_tools.specs.declared.made.Stopped.TheVariants.{ReadFault};
 
 use crate::Outcome;
+use crate::made::{Made, Stopped};
 use crate::outcome::Ended;
-use crate::step::compile_statements;
+use crate::step::{Faults, Work, compile_statements, release};
 use crate::tool_words::number_tool_words;
-use rz_core::{Bytes, Fault, Kept, Resources, Stop};
+use rz_core::{Bytes, Fault, FileNames, Kept, NoMemory, Resources, Stop, write_fault};
 use rz_folder::{Folder, Written};
 use rz_fork::{LimitFault, write_fork};
 use rz_lex::Tokens;
@@ -39,9 +42,9 @@ pub fn run_rez<F: Folder>(alloc: Global, folder: &mut F, words: &RezWords<'_>) -
     one_cutting();
     one_statement();
     match compile(alloc, folder, words) {
-        Ok(fork) => match folder.write(words.output, fork.as_slice()) {
-            Written::Done => Ended::with(alloc, Outcome::Done),
-            Written::Failed => Ended::with(alloc, Outcome::WriteFault),
+        Ok(made) => match folder.write(words.output, made.bytes.as_slice()) {
+            Written::Done => Ended::saying(alloc, Outcome::Done, made.said),
+            Written::Failed => Ended::saying(alloc, Outcome::WriteFault, made.said),
         },
         Err(stop) => Ended::by(alloc, stop),
     }
@@ -52,41 +55,111 @@ fn compile<F: Folder>(
     alloc: Global,
     folder: &mut F,
     words: &RezWords<'_>,
-) -> Result<Bytes, PreFault>
-    ensures fork { IfSome (F.files folder.old) (λ files. Made result (Compiles (rez words.now) files)) }
+) -> Result<Made, Stopped>
+    ensures fork { IfSome (F.files folder.old) (λ files. MadeSo result (Compiles (rez words.now) files)) }
     ensures nameable { IsNamed result }
-    ensures short { IfOk result (λ fork. length fork < 2 ^ 32) }
+    ensures short { IfOk result (λ made. length made.bytes < 2 ^ 32) }
     ensures unchanged { F.files folder.new ≡ F.files folder.old }
     ensures other_count { F.write_faults folder.new ≡ F.write_faults folder.old }
     ensures counted { F.read_faults folder.old ≤ F.read_faults folder.new }
     ensures cause { result ≡ Err ReadFault → Rose (F.read_faults folder.old) (F.read_faults folder.new) }
 {
     all_tokens_are_statements();
-    let program = preprocess(
+    match preprocess(
         alloc,
         folder,
         Tool::Rez,
         &words.files,
         &words.paths,
         &words.defs,
-    )?;
-    let Program { files, tokens, .. } = program;
-    match fork_in(alloc, &number_tool_words(Tool::Rez, tokens)) {
-        Ok(fork) => Ok(fork),
-        Err(Stop::Refused(fault)) => Err(PreFault::Refused(fault, files)),
-        Err(Stop::NoMemory) => Err(PreFault::NoMemory),
+    ) {
+        Ok(program) => {
+            let Program { files, tokens, .. } = program;
+            let tokens = number_tool_words(Tool::Rez, tokens);
+            compile_tokens(alloc, &tokens, files, words.redeclare)
+        }
+        Err(PreFault::Refused(fault, files)) => {
+            Err(Stopped::Refused(fault, files, Bytes::new(alloc)))
+        }
+        Err(PreFault::ReadFault) => Err(Stopped::ReadFault),
+        Err(PreFault::NoMemory) => Err(Stopped::NoMemory),
     }
 }
 
 /// The fork that the tokens of a program mean, or the first rule that they break.
-fn fork_in(alloc: Global, tokens: &Tokens) -> Result<Bytes, Stop<Fault>>
+fn compile_tokens(
+    alloc: Global,
+    tokens: &Tokens,
+    files: FileNames,
+    redeclare: bool,
+) -> Result<Made, Stopped>
+    requires { AreWithin (length files) tokens.now }
     ensures fork { (statements : List (List Token)) → AreStatements tokens.now statements
-        → Meets result (Then (Means [] statements) (λ list answer. answer ≡ list_fork list)) }
-    ensures nameable { (files : ℕ) → AreWithin files tokens.now → OnFault result (IsNameable files) }
-    ensures short { IfOk result (λ fork. length fork < 2 ^ 32) }
+        → MadeSo result (Said files (Then (Means redeclare nothing_made statements) (λ work answer. answer ≡ fork_of_work work))) }
+    ensures nameable { IsNamed result }
+    ensures short { IfOk result (λ made. length made.bytes < 2 ^ 32) }
+    ensures quiet { result ≡ Err ReadFault → ⊥ }
 {
-    let list = compile_statements(alloc, tokens)?;
-    write_list(alloc, &list)
+    let mut work = Work::new(alloc);
+    match compile_statements(alloc, tokens, redeclare, &mut work) {
+        Ok(()) => write_work(alloc, work, files),
+        Err(Stop::Refused(fault)) => refuse(alloc, fault, &work.warnings, files),
+        Err(Stop::NoMemory) => Err(Stopped::NoMemory),
+    }
+}
+
+/// The fork of what the statements have made.
+fn write_work(alloc: Global, work: Work, files: FileNames) -> Result<Made, Stopped>
+    requires keys { KeysDiffer [] (values_of work.held.entries) }
+    requires named { AreNamed (values_of work.held.entries) }
+    requires nameable { AreNameable (length files) work.warnings }
+    ensures fork { MadeSo result (Said files (λ answer. answer ≡ fork_of_work (work_of work))) }
+    ensures nameable { IsNamed result }
+    ensures short { IfOk result (λ made. length made.bytes < 2 ^ 32) }
+    ensures quiet { result ≡ Err ReadFault → ⊥ }
+{
+    let Work { held, warnings, .. } = work;
+    let list = release(alloc, held)?;
+    match write_list(alloc, &list) {
+        Ok(bytes) => {
+            let said = warning_lines(alloc, &warnings, &files)?;
+            Ok(Made { bytes, said })
+        }
+        Err(Stop::Refused(fault)) => refuse(alloc, fault, &warnings, files),
+        Err(Stop::NoMemory) => Err(Stopped::NoMemory),
+    }
+}
+
+/// The refusal with a fault, behind the lines of the warnings.
+fn refuse(
+    alloc: Global,
+    fault: Fault,
+    warnings: &Faults,
+    files: FileNames,
+) -> Result<Made, Stopped>
+    requires fault { IsNameable (length files) fault }
+    requires warnings { AreNameable (length files) warnings.now }
+    ensures refused { Refuses fault files (warning_lines files warnings.now) result }
+    ensures nameable { IsNamed result }
+{
+    let said = warning_lines(alloc, warnings, &files)?;
+    Err(Stopped::Refused(fault, files, said))
+}
+
+/// The lines of warnings.
+fn warning_lines(
+    alloc: Global,
+    warnings: &Faults,
+    files: &FileNames,
+) -> Result<Bytes, NoMemory>
+    requires { AreNameable (length files.now) warnings.now }
+    ensures { IfOk result (λ lines. lines ≡ warning_lines files.now warnings.now) }
+{
+    let mut lines = Bytes::new(alloc);
+    for warning in warnings.as_slice() {
+        write_fault(warning, files, &mut lines)?;
+    }
+    Ok(lines)
 }
 
 /// The fork of a list of resources.

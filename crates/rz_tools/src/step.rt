@@ -4,72 +4,131 @@ ghost use Rattle.rz_core.specs.Resources.{KeysDiffer, put};
 ghost use Rattle.rz_core.specs.Stop.{OnFault};
 ghost use Rattle.rz_fork.specs.Image.{AreNamed};
 ghost use Rattle.rz_lex.specs.declared.token.Token.{Token};
-ghost use Rattle.rz_pre.specs.Answers.{Meets};
-ghost use Rattle.rz_stmt.specs.Grammar.{AreWithin, Data};
+ghost use Rattle.rz_stmt.specs.Grammar.{AreWithin};
 ghost use Rattle.rz_stmt.specs.Raw.{raw_of};
 ghost use Rattle.rz_stmt.specs.Statements.{AreStatements};
+ghost use Rattle.rz_tools.specs.Held.{work_of, AreNameable};
 ghost use Rattle.rz_tools.specs.ResourceList.{holds_protected, key_of, values_of, IsKeyed};
-ghost use Rattle.rz_tools.specs.Step.{all_at, is_protected, list_behind, protected_fault, put_unless_protected, tokens_at, AreSpans, IsSpan, Means, Stepped, Steps};
+ghost use Rattle.rz_tools.specs.Step.{all_at, is_protected, list_behind, nothing_made, protected_fault, put_unless_protected, tokens_at, AreSpans, IsSpan, Means, Stepped, Steps, Worked};
 
 use crate::data::resource_of;
+use crate::declare::declare_type;
 use indexmap::IndexMap;
-use rz_core::{Fault, Kept, Mark, NoMemory, Resource, Resources, Stop};
+use rz_core::{Fault, Kept, Listing, Mark, NoMemory, Resource, Resources, Stop};
 use rz_lex::Tokens;
 use rz_stmt::{RawStmt, Span, Spans, Stmt, one_cutting, parse, statements};
+use rz_types::TypeTable;
 use std::alloc::Global;
 
 /// The attribute bit of a protected resource.
 const PROTECTED: u8 = 0x08;
 
 /// What tells a resource of a list from the others: its type and the 16 bits of its id.
-type Key = (u32, u16);
+pub type Key = (u32, u16);
 
 /// The resources while statements are read, by their keys and in order.
-type Held = IndexMap<Key, Resource>;
+pub type Held = IndexMap<Key, Resource>;
 
-/// The list of resources that the statements of a program make, one after the other, or the first fault: a
-/// resource with the type and id of an earlier one takes its place, and every other one goes to the end.
-/// Work and memory are in proportion to the tokens.
-pub fn compile_statements(alloc: Global, tokens: &Tokens) -> Result<Resources, Stop<Fault>>
-    ensures list { (statements : List (List Token)) → AreStatements tokens.now statements → Meets result (Means [] statements) }
-    ensures keys { IfOk result (KeysDiffer []) }
-    ensures named { IfOk result AreNamed }
+/// A list of faults.
+pub type Faults = Listing<Fault>;
+
+/// What the statements so far have made.
+#[derive(Drop)]
+pub struct Work {
+    /// The declarations of types.
+    pub types: TypeTable,
+    /// The resources.
+    pub held: Held,
+    /// What is to be warned of.
+    pub warnings: Faults,
+}
+
+impl Work {
+    /// Nothing.
+    pub fn new(alloc: Global) -> Work
+        ensures work { work_of result ≡ nothing_made }
+        ensures keyed { IsKeyed result.held.entries }
+    {
+        Work {
+            types: TypeTable::new(alloc),
+            held: IndexMap::new(alloc),
+            warnings: Faults::new(alloc),
+        }
+    }
+}
+
+/// Does what the statements of a program say, one after the other, up to the first fault. A resource with the
+/// type and id of an earlier one takes its place, unless that one is protected (219), and every other one goes
+/// to the end. A type that is declared again goes to the end of the table, and is warned of unless `redeclare`
+/// holds. Work and memory are in proportion to the tokens.
+pub fn compile_statements(
+    alloc: Global,
+    tokens: &Tokens,
+    redeclare: bool,
+    work: &mut Work,
+) -> Result<(), Stop<Fault>>
+    requires nothing { work_of work.now ≡ nothing_made }
+    requires keyed { IsKeyed work.now.held.entries }
+    ensures work { (statements : List (List Token)) → AreStatements tokens.now statements
+        → Worked (Means redeclare nothing_made statements) result (work_of work.new) }
+    ensures keys { OnOk result (KeysDiffer [] (values_of work.new.held.entries)) }
+    ensures named { OnOk result (AreNamed (values_of work.new.held.entries)) }
     ensures nameable { (files : ℕ) → AreWithin files tokens.now → OnFault result (IsNameable files) }
+    ensures warned { (files : ℕ) → AreWithin files tokens.now → AreNameable files work.new.warnings }
 {
     one_cutting();
     let spans = statements(alloc, tokens)?;
-    compile_spans(alloc, tokens, &spans)
+    compile_spans(alloc, tokens, &spans, redeclare, work)
 }
 
 /// The same of the statements that stand there.
-fn compile_spans(alloc: Global, tokens: &Tokens, spans: &Spans) -> Result<Resources, Stop<Fault>>
-    requires { AreSpans tokens.now spans.now }
-    ensures list { Meets result (Means [] (all_at tokens.now spans.now)) }
-    ensures keys { IfOk result (KeysDiffer []) }
-    ensures named { IfOk result AreNamed }
+fn compile_spans(
+    alloc: Global,
+    tokens: &Tokens,
+    spans: &Spans,
+    redeclare: bool,
+    work: &mut Work,
+) -> Result<(), Stop<Fault>>
+    requires spans { AreSpans tokens.now spans.now }
+    requires nothing { work_of work.now ≡ nothing_made }
+    requires keyed { IsKeyed work.now.held.entries }
+    ensures work { Worked (Means redeclare nothing_made (all_at tokens.now spans.now)) result (work_of work.new) }
+    ensures keys { OnOk result (KeysDiffer [] (values_of work.new.held.entries)) }
+    ensures named { OnOk result (AreNamed (values_of work.new.held.entries)) }
     ensures nameable { (files : ℕ) → AreWithin files tokens.now → OnFault result (IsNameable files) }
+    ensures warned { (files : ℕ) → AreWithin files tokens.now → AreNameable files work.new.warnings }
 {
-    let mut held = IndexMap::new(alloc);
     for span in spans.as_slice() {
-        step(alloc, tokens, *span, &mut held)?;
+        match step(alloc, tokens, *span, redeclare, work) {
+            Ok(()) => {}
+            Err(stop) => return Err(stop),
+        }
     }
-    Ok(release(alloc, held)?)
+    Ok(())
 }
 
 /// What one statement does.
-fn step(alloc: Global, tokens: &Tokens, span: Span, held: &mut Held) -> Result<(), Stop<Fault>>
+fn step(
+    alloc: Global,
+    tokens: &Tokens,
+    span: Span,
+    redeclare: bool,
+    work: &mut Work,
+) -> Result<(), Stop<Fault>>
     requires span { IsSpan tokens.now span }
-    requires keyed { IsKeyed held.now.entries }
-    ensures stepped { Stepped (Steps (values_of held.old.entries) (tokens_at tokens.now span)) result (values_of held.new.entries) }
-    ensures keyed { OnOk result (IsKeyed held.new.entries) }
-    ensures named { AreNamed (values_of held.old.entries) → OnOk result (AreNamed (values_of held.new.entries)) }
-    ensures keys { KeysDiffer [] (values_of held.old.entries) → OnOk result (KeysDiffer [] (values_of held.new.entries)) }
+    requires keyed { IsKeyed work.now.held.entries }
+    ensures stepped { Worked (Steps redeclare (work_of work.old) (tokens_at tokens.now span)) result (work_of work.new) }
+    ensures keyed { OnOk result (IsKeyed work.new.held.entries) }
+    ensures named { AreNamed (values_of work.old.held.entries) → OnOk result (AreNamed (values_of work.new.held.entries)) }
+    ensures keys { KeysDiffer [] (values_of work.old.held.entries) → OnOk result (KeysDiffer [] (values_of work.new.held.entries)) }
     ensures nameable { (files : ℕ) → AreWithin files tokens.now → OnFault result (IsNameable files) }
+    ensures warned { (files : ℕ) → AreWithin files tokens.now → AreNameable files work.old.warnings → AreNameable files work.new.warnings }
 {
     let mark = tokens.at(span.start).mark;
     match parse(alloc, tokens, span) {
         Ok(Stmt::Empty) => Ok(()),
-        Ok(Stmt::Raw(raw)) => put_raw(alloc, &raw, mark, held),
+        Ok(Stmt::Raw(raw)) => put_raw(alloc, &raw, mark, &mut work.held),
+        Ok(Stmt::Declare(declare)) => declare_type(alloc, declare, mark, redeclare, work),
         Err(stop) => Err(stop),
     }
 }
@@ -77,7 +136,7 @@ fn step(alloc: Global, tokens: &Tokens, span: Span, held: &mut Held) -> Result<(
 /// What a `data` statement on this line does.
 fn put_raw(alloc: Global, raw: &RawStmt, mark: Mark, held: &mut Held) -> Result<(), Stop<Fault>>
     requires keyed { IsKeyed held.now.entries }
-    ensures put { Stepped (λ answer. answer ≡ list_behind mark (values_of held.old.entries) (Data (raw_of raw.now))) result (values_of held.new.entries) }
+    ensures put { Stepped (λ answer. answer ≡ list_behind mark (values_of held.old.entries) (raw_of raw.now)) result (values_of held.new.entries) }
     ensures keyed { OnOk result (IsKeyed held.new.entries) }
     ensures named { AreNamed (values_of held.old.entries) → OnOk result (AreNamed (values_of held.new.entries)) }
     ensures keys { KeysDiffer [] (values_of held.old.entries) → OnOk result (KeysDiffer [] (values_of held.new.entries)) }
@@ -145,7 +204,7 @@ fn protected_fault(resource: &Resource, mark: Mark) -> Fault
 }
 
 /// The resources of a map, in order.
-fn release(alloc: Global, held: Held) -> Result<Resources, NoMemory>
+pub fn release(alloc: Global, held: Held) -> Result<Resources, NoMemory>
     ensures { IfOk result (λ list. list ≡ values_of held.entries) }
 {
     let mut list = Resources::new(alloc);

@@ -5,7 +5,7 @@ use Rattle.std.specs.Str.{bytes_eq}
 use Rattle.rz_lex.specs.Cutting.{Next}
 use Rattle.rz_lex.specs.declared.token.Shape.TheVariants as shapes
 use Rattle.rz_pre.specs.declared.program.Def.{Def}
-use Rattle.rz_words.specs.Command.{and_item, and_items, is_file, AreItems, Define, IsDefinition, IsItem, Item, Output, Path, RezAsked, Source}
+use Rattle.rz_words.specs.Command.{and_item, and_items, is_file, AreItems, Define, IsDefinition, IsItem, Item, Output, Path, Redeclare, RezAsked, Source}
 use Rattle.rz_words.specs.Definition.{nowhere, Defines, HasNoSign, IsName, Undefines}
 use Rattle.rz_words.specs.Definition.Defines.{alone}
 use Rattle.rz_words.specs.Item.{is_option, BeginsWith, IsStuck}
@@ -57,16 +57,22 @@ module _ (first : List ℕ) (rest : List (List ℕ)) where
   defines flag value def (inl (is, it)) = is_flag flag (codes "-d") is refl
   defines flag value def (inr (is, it)) = is_flag flag (codes "-u") is refl
 
-  value_of : is_file first ≡ false → (one : Item) → BeginsWith (first ∷ rest) one → Valued first rest one
-  value_of fails (Source file) (front, behind, eq, (is, holds)) =
+  value_of : is_file first ≡ false → (first ≡ codes "-rd" → ⊥) → (one : Item) → BeginsWith (first ∷ rest) one → Valued first rest one
+  value_of fails valued_first (Source file) (front, behind, eq, (is, holds)) =
       let first_is : first ≡ file = head first file rest behind (eq ∙ ap (λ (ws : List (List ℕ)). ws ++ behind) is) in
       let also : is_file first ≡ true = ap is_file first_is ∙ holds in absurd cc
-  value_of fails (Output name) (front, behind, eq, is) =
+  value_of fails valued_first (Output name) (front, behind, eq, is) =
       valued (Output name) (codes "-o") name behind (eq ∙ ap (λ (ws : List (List ℕ)). ws ++ behind) is) refl refl
-  value_of fails (Path path) (front, behind, eq, is) =
+  value_of fails valued_first (Path path) (front, behind, eq, is) =
       valued (Path path) (codes "-i") path behind (eq ∙ ap (λ (ws : List (List ℕ)). ws ++ behind) is) refl refl
-  value_of fails (Define def) (front, behind, eq, (flag, value, is, it)) =
+  value_of fails valued_first (Define def) (front, behind, eq, (flag, value, is, it)) =
       valued (Define def) flag value behind (eq ∙ ap (λ (ws : List (List ℕ)). ws ++ behind) is) (defines flag value def it) (flag, value, refl, it)
+  value_of fails valued_first Redeclare (front, behind, eq, is) =
+      absurd (valued_first (head first (codes "-rd") rest behind (eq ∙ ap (λ (ws : List (List ℕ)). ws ++ behind) is)))
+
+-- an option with a value is no other
+no_redeclare : (first : List ℕ) → is_option first ≡ true → first ≡ codes "-rd" → ⊥
+no_redeclare first option is = let also : is_option (codes "-rd") ≡ true = ap is_option (sym is) ∙ option in cc
 
 -- Words at whose front no item stands.
 
@@ -74,8 +80,8 @@ has_one : (files : List (List ℕ)) (file : List ℕ) → files ++ file ∷ [] �
 has_one [] file is = cc is
 has_one (x ∷ files) file is = cc is
 
-pub stuck_unknown : (first : List ℕ) (rest : List (List ℕ)) → is_file first ≡ false → is_option first ≡ false → IsStuck (first ∷ rest) 0
-stuck_unknown first rest no_file no_option = record {
+pub stuck_unknown : (first : List ℕ) (rest : List (List ℕ)) → is_file first ≡ false → bytes_eq first (codes "-rd") ≡ false → is_option first ≡ false → IsStuck (first ∷ rest) 0
+stuck_unknown first rest no_file no_again no_option = record {
   none = λ one begins. never rest one begins;
   within = omega arith;
   more = [] ∷ [];
@@ -86,7 +92,7 @@ stuck_unknown first rest no_file no_option = record {
 }
   where
     never : (after : List (List ℕ)) (one : Item) → BeginsWith (first ∷ after) one → ⊥
-    never after one begins = let option = (value_of first after no_file one begins).option in cc
+    never after one begins = let option = (value_of first after no_file (differ first (codes "-rd") no_again) one begins).option in cc
 
 -- a definition of a name of one letter
 module _ (back : Next nowhere (codes "a") (record { shape = shapes.Word (record { bytes = codes "a" }); mark = nowhere }) []) where
@@ -118,7 +124,7 @@ module _ (back : Next nowhere (codes "a") (record { shape = shapes.Word (record 
 
     pub stuck_missing : IsStuck (first ∷ []) 1
     stuck_missing = record {
-      none = λ one begins. missing (value_of first [] no_file one begins);
+      none = λ one begins. missing (value_of first [] no_file (no_redeclare first option) one begins);
       within = omega arith;
       more = codes "a" ∷ [] ∷ [];
       others = good.0 ∷ Source [] ∷ [];
@@ -144,7 +150,7 @@ module _ (back : Next nowhere (codes "a") (record { shape = shapes.Word (record 
       where
         bad : (after : List (List ℕ)) (one : Item) → BeginsWith (first ∷ value ∷ after) one → ⊥
         bad after one begins =
-            let v = value_of first (value ∷ after) no_file one begins in
+            let v = value_of first (value ∷ after) no_file (no_redeclare first option) one begins in
             none one (subst (λ (w : List ℕ). IsItem (first ∷ w ∷ []) one) (sym (head value v.value after v.more v.are)) v.item) option
 
 -- Values of options.
@@ -169,6 +175,7 @@ module _ (flag value : List ℕ) where
   no_item no_output no_path none (Source file) (is, holds) option = absurd (cc (tail flag file (value ∷ []) [] is))
   no_item no_output no_path none (Output output) is option = differ flag (codes "-o") no_output (head flag (codes "-o") (value ∷ []) (output ∷ []) is)
   no_item no_output no_path none (Path path) is option = differ flag (codes "-i") no_path (head flag (codes "-i") (value ∷ []) (path ∷ []) is)
+  no_item no_output no_path none Redeclare is option = absurd (cc (tail flag (codes "-rd") (value ∷ []) [] is))
   no_item no_output no_path none (Define def) (f, v, is, it) option =
       none def (subst (λ (w : List ℕ). IsDefinition flag w def) (sym (head value v [] [] (tail flag f (value ∷ []) (v ∷ []) is)))
       (subst (λ (w : List ℕ). IsDefinition w v def) (sym (head flag f (value ∷ []) (v ∷ []) is)) it))

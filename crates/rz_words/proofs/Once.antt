@@ -1,6 +1,6 @@
 -- Words are one command at most.
 use Rattle.std.proofs.Common.{◌≡◌, ℕ, zero, suc, ◌<◌, ◌≤◌, inl, inr, List, [], ◌∷◌, ◌++◌, take, drop, Some, refl, sym, ap, subst, ◌∙◌, arith, append_assoc, Ok, Err, IfOk}
-use Rattle.std.specs.Prelude.{codes}
+use Rattle.std.specs.Prelude.{codes, true}
 use Rattle.std.specs.declared.result.Result.{Result}
 use Rattle.rz_core.specs.Stop.{OnFault}
 use Rattle.rz_core.specs.declared.stop.Stop.{Stop}
@@ -11,7 +11,7 @@ use Rattle.rz_lex.specs.Cutting.{Cuts}
 use Rattle.rz_lex.specs.declared.token.Token.{Token}
 use Rattle.rz_pre.specs.declared.program.Def.{Def}
 use Rattle.rz_source.specs.Source.{mark, IsTextOf}
-use Rattle.rz_words.specs.Command.{asked_of, AreItems, Asked, Begins, Define, DeRez, Help, IsCommand, IsDefinition, IsItem, IsMisplaced, Item, Output, Path, Rez, RezAsked, Source, Version}
+use Rattle.rz_words.specs.Command.{asked_of, AreItems, Asked, Begins, Define, DeRez, Help, IsCommand, IsDefinition, is_file, IsItem, IsMisplaced, Item, Output, Path, Redeclare, Rez, RezAsked, Source, Version}
 use Rattle.rz_words.specs.Definition.{nowhere, Defines, HasNoSign, IsName, IsText}
 use Rattle.rz_words.specs.Definition.Defines.{alone, with_text}
 use Rattle.rz_words.specs.Item.{asked, Answers}
@@ -77,6 +77,9 @@ module _ (one_text : (source text others : List ℕ) → IsTextOf source text �
   single_double : (a f v : List ℕ) (front : Words) → front ≡ a ∷ [] → front ≡ f ∷ v ∷ [] → ⊥
   single_double a f v front is too = let eq : a ∷ [] ≡ f ∷ v ∷ [] = sym is ∙ too in cc
 
+  no_redeclare : (file : List ℕ) → is_file file ≡ true → file ≡ codes "-rd" → ⊥
+  no_redeclare file holds is = let also : is_file (codes "-rd") ≡ true = ap is_file (sym is) ∙ holds in cc
+
   flags : (f v g w : List ℕ) (front : Words) → front ≡ f ∷ v ∷ [] → front ≡ g ∷ w ∷ [] → f ≡ g
   flags f v g w front is too = head f g (v ∷ []) (w ∷ []) (sym is ∙ too)
 
@@ -99,6 +102,15 @@ module _ (one_text : (source text others : List ℕ) → IsTextOf source text �
   one_item front (Define a) (Source b) (flag, value, is, it) (too, holds) = absurd (single_double b flag value front too is)
   one_item front (Define a) (Output b) (flag, value, is, it) too = absurd (not_output flag value a it (flags flag value (codes "-o") b front is too))
   one_item front (Define a) (Path b) (flag, value, is, it) too = absurd (not_path flag value a it (flags flag value (codes "-i") b front is too))
+  one_item front (Source a) Redeclare (is, holds) too = absurd (no_redeclare a holds (head a (codes "-rd") [] [] (sym is ∙ too)))
+  one_item front (Output a) Redeclare is too = absurd (single_double (codes "-rd") (codes "-o") a front too is)
+  one_item front (Path a) Redeclare is too = absurd (single_double (codes "-rd") (codes "-i") a front too is)
+  one_item front (Define a) Redeclare (flag, value, is, it) too = absurd (single_double (codes "-rd") flag value front too is)
+  one_item front Redeclare (Source b) is (too, holds) = absurd (no_redeclare b holds (head b (codes "-rd") [] [] (sym too ∙ is)))
+  one_item front Redeclare (Output b) is too = absurd (single_double (codes "-rd") (codes "-o") b front is too)
+  one_item front Redeclare (Path b) is too = absurd (single_double (codes "-rd") (codes "-i") b front is too)
+  one_item front Redeclare (Define b) is (flag, value, too, it) = absurd (single_double (codes "-rd") flag value front is too)
+  one_item front Redeclare Redeclare is too = refl
   one_item front (Define a) (Define b) (flag, value, is, it) (flag_too, value_too, too, it_too) =
       ap (λ (d : Def). Define d) (same_definition flag_too value_too a b
       (subst (λ (f : List ℕ). IsDefinition f value_too a) (flags flag value flag_too value_too front is too)

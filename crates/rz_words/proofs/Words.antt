@@ -1,7 +1,9 @@
 -- Items one behind the other, and where they end.
 use Rattle.std.proofs.Common.{◌≡◌, ◌≢◌, ℕ, suc, ◌+◌, ◌≤◌, true, false, inl, inr, List, [], ◌∷◌, ◌++◌, length, map, ◌==◌, take, drop, refl, sym, ap, subst, ◌∙◌, arith, append_assoc, append-nil, length-append}
-use Rattle.std.specs.Prelude.{codes}
-use Rattle.rz_words.specs.Command.{and_item, and_items, asked_of, is_file, nothing_asked, AreItems, Asked, Begins, Define, DeRez, Help, IsCommand, IsItem, IsMisplaced, Item, Output, Path, Rez, RezAsked, Source, Version}
+use Rattle.std.specs.Prelude.{◌||◌, Bool, codes, if◌then◌else◌}
+use Rattle.std.specs.Str.{bytes_eq}
+use Rattle.std.proofs.lemmas.Bool.{or_left}
+use Rattle.rz_words.specs.Command.{and_item, and_items, asked_of, is_file, nothing_asked, AreItems, Asked, Begins, Define, DeRez, Help, IsCommand, IsItem, IsMisplaced, Item, Output, Path, Redeclare, Rez, RezAsked, Source, Version}
 use Rattle.rz_words.specs.Item.{size_of, BeginsWith, IsRead, IsStuck}
 use Rattle.rz_words.proofs.Found.{differ}
 
@@ -14,21 +16,26 @@ head a b xs ys is = cc is
 pub tail : (a b : List ℕ) (xs ys : Words) → a ∷ xs ≡ b ∷ ys → xs ≡ ys
 tail a b xs ys is = cc is
 
--- The words of an item: a file, or two of which the first is none.
+-- The words of an item: one that stands alone, or two of which the first doesn't.
+
+-- a file, or an option without a value
+abbrev pub is_alone : List ℕ → Bool
+is_alone word = is_file word || bytes_eq word (codes "-rd")
 
 pub data Shape (front : Words) (one : Item) : Type 0 where
-  single : (file : List ℕ) → front ≡ file ∷ [] → is_file file ≡ true → size_of one ≡ 1 → Shape front one
-  double : (flag value : List ℕ) → front ≡ flag ∷ value ∷ [] → is_file flag ≡ false → size_of one ≡ 2 → Shape front one
+  single : (word : List ℕ) → front ≡ word ∷ [] → is_alone word ≡ true → size_of one ≡ 1 → Shape front one
+  double : (flag value : List ℕ) → front ≡ flag ∷ value ∷ [] → is_alone flag ≡ false → size_of one ≡ 2 → Shape front one
 
 pub shape_of : (front : Words) (one : Item) → IsItem front one → Shape front one
-shape_of front (Source file) (is, holds) = single file is holds refl
+shape_of front (Source file) (is, holds) = single file is (or_left (is_file file) (bytes_eq file (codes "-rd")) holds) refl
 shape_of front (Output name) is = double (codes "-o") name is refl refl
 shape_of front (Path path) is = double (codes "-i") path is refl refl
-shape_of front (Define def) (flag, value, is, inl (text, it)) = double flag value is (ap is_file text) refl
-shape_of front (Define def) (flag, value, is, inr (none, it)) = double flag value is (ap is_file none) refl
+shape_of front (Define def) (flag, value, is, inl (text, it)) = double flag value is (ap is_alone text) refl
+shape_of front (Define def) (flag, value, is, inr (none, it)) = double flag value is (ap is_alone none) refl
+shape_of front Redeclare is = single (codes "-rd") is refl refl
 
-no_both : (a b : List ℕ) → a ≡ b → is_file a ≡ true → is_file b ≡ false → ⊥
-no_both a b is holds fails = let also : is_file b ≡ true = ap is_file (sym is) ∙ holds in cc
+no_both : (a b : List ℕ) → a ≡ b → is_alone a ≡ true → is_alone b ≡ false → ⊥
+no_both a b is holds fails = let also : is_alone b ≡ true = ap is_alone (sym is) ∙ holds in cc
 
 sized : (front : Words) (one : Item) → Shape front one → length front ≡ size_of one
 sized front one (single file is holds size) = ap (λ (ws : Words). length ws) is ∙ sym size
@@ -75,14 +82,15 @@ behind_items front rest (one ∷ items) (other ∷ others) (f, b, eq, is, are) (
 -- Sources.
 
 abbrev sources : Words → Words
-sources (file ∷ []) = file ∷ []
+sources (word ∷ []) = if is_file word then word ∷ [] else []
 sources words = []
 
 adds : (front : Words) (one : Item) (asked : RezAsked) → IsItem front one → (and_item asked one).files ≡ asked.files ++ sources front
-adds front (Source file) asked (is, holds) = ap (λ (ws : Words). asked.files ++ sources ws) (sym is)
+adds front (Source file) asked (is, holds) = sym (ap (λ (ws : Words). asked.files ++ sources ws) is ∙ rw holds refl)
 adds front (Output name) asked is = sym (ap (λ (ws : Words). asked.files ++ sources ws) is ∙ append-nil asked.files)
 adds front (Path path) asked is = sym (ap (λ (ws : Words). asked.files ++ sources ws) is ∙ append-nil asked.files)
 adds front (Define def) asked (flag, value, is, it) = sym (ap (λ (ws : Words). asked.files ++ sources ws) is ∙ append-nil asked.files)
+adds front Redeclare asked is = sym (ap (λ (ws : Words). asked.files ++ sources ws) is ∙ append-nil asked.files)
 
 pub same_files : (words : Words) (items others : List Item) (asked also : RezAsked) → AreItems words items → AreItems words others
     → asked.files ≡ also.files → (and_items asked items).files ≡ (and_items also others).files

@@ -1,5 +1,5 @@
 -- The commands.
-use Rattle.std.specs.Prelude.{◌≡◌, ◌≢◌, ◌≤◌, ◌⊎◌, ℕ, suc, ◌==◌, not, Bool, true, List, [], ◌∷◌, ◌++◌, length, take, codes, fold}
+use Rattle.std.specs.Prelude.{◌≡◌, ◌≢◌, ◌≤◌, ◌⊎◌, ℕ, suc, ◌==◌, not, Bool, true, false, List, [], ◌∷◌, ◌++◌, length, take, codes, fold}
 use Rattle.rz_pre.specs.declared.program.Def.{Def}
 use Rattle.rz_words.specs.Definition.{Defines, Undefines}
 
@@ -10,12 +10,13 @@ abbrev pub is_file : List ℕ → Bool
 is_file [] = true
 is_file (b ∷ bs) = not (b == 45)
 
--- a source, the name of the file to write, a path for included files, or a definition
+-- a source, the name of the file to write, a path for included files, a definition, or that types may be declared again
 pub data Item : Type 0 where
   Source : (file : List ℕ) → Item
   Output : (name : List ℕ) → Item
   Path : (path : List ℕ) → Item
   Define : (def : Def) → Item
+  Redeclare : Item
 
 abbrev pub IsDefinition : List ℕ → List ℕ → Def → Type 0
 IsDefinition flag value def = ((flag ≡ codes "-d") × Defines value def) ⊎ ((flag ≡ codes "-u") × Undefines value def)
@@ -26,6 +27,7 @@ IsItem words (Source file) = (words ≡ file ∷ []) × (is_file file ≡ true)
 IsItem words (Output name) = words ≡ codes "-o" ∷ name ∷ []
 IsItem words (Path path) = words ≡ codes "-i" ∷ path ∷ []
 IsItem words (Define def) = (flag value : List ℕ) × (words ≡ flag ∷ value ∷ []) × IsDefinition flag value def
+IsItem words Redeclare = words ≡ codes "-rd" ∷ []
 
 -- the words are these items, one behind the other
 abbrev pub AreItems : List (List ℕ) → List Item → Type 0
@@ -34,15 +36,17 @@ AreItems words (item ∷ items) = (front behind : List (List ℕ)) × (words ≡
 
 -- What the words ask for.
 
--- the sources, the name of the file to write, the paths and the definitions, each in the order of the words
+-- the sources, the name of the file to write, the paths and the definitions, each in the order of the words; and whether
+-- types may be declared again without a warning
 pub record RezAsked : Type 0 where
   pub files : List (List ℕ)
   pub output : List ℕ
   pub paths : List (List ℕ)
   pub defs : List Def
+  pub redeclare : Bool
 
 abbrev pub nothing_asked : RezAsked
-nothing_asked = record { files = []; output = codes "Rez.Out"; paths = []; defs = [] }
+nothing_asked = record { files = []; output = codes "Rez.Out"; paths = []; defs = []; redeclare = false }
 
 -- and an item more
 abbrev pub and_item : RezAsked → Item → RezAsked
@@ -50,6 +54,7 @@ and_item asked (Source file) = record asked { files = asked.files ++ file ∷ []
 and_item asked (Output name) = record asked { output = name }
 and_item asked (Path path) = record asked { paths = asked.paths ++ path ∷ [] }
 and_item asked (Define def) = record asked { defs = asked.defs ++ def ∷ [] }
+and_item asked Redeclare = record asked { redeclare = true }
 
 abbrev pub and_items : RezAsked → List Item → RezAsked
 and_items asked items = fold and_item asked items

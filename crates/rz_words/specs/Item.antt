@@ -18,9 +18,10 @@ item (items.Source file) = command.Source file.now
 item (items.Output name) = command.Output name.now
 item (items.Path path) = command.Path path.now
 item (items.Define def) = command.Define def
+item items.Redeclare = command.Redeclare
 
 abbrev pub rez : RezWords → RezAsked
-rez words = record { files = words.files; output = words.output.now; paths = words.paths; defs = words.defs }
+rez words = record { files = words.files; output = words.output.now; paths = words.paths; defs = words.defs; redeclare = words.redeclare }
 
 abbrev pub asked : Command → command.Asked
 asked (commands.Rez words) = command.Rez (rez words)
@@ -34,6 +35,7 @@ size_of (command.Source file) = 1
 size_of (command.Output name) = 2
 size_of (command.Path path) = 2
 size_of (command.Define def) = 2
+size_of command.Redeclare = 1
 
 -- a word behind which a value stands
 abbrev pub is_option : List ℕ → Bool

@@ -18,6 +18,8 @@ pub struct RezWords<'a> {
     pub paths: FileNames,
     /// The definitions.
     pub defs: Defs,
+    /// Types may be declared again without a warning.
+    pub redeclare: bool,
 }
 
 impl<'a> RezWords<'a> {
@@ -30,6 +32,7 @@ impl<'a> RezWords<'a> {
             output: "Rez.Out",
             paths: FileNames::new(alloc),
             defs: Defs::new(alloc),
+            redeclare: false,
         }
     }
 
@@ -42,6 +45,7 @@ impl<'a> RezWords<'a> {
             Item::Output(name) => self.output = name,
             Item::Path(path) => self.paths.push(path)?,
             Item::Define(def) => self.defs.push(def)?,
+            Item::Redeclare => self.redeclare = true,
         }
         Ok(())
     }

@@ -11,7 +11,7 @@ use rz_lex::cut_back;
 use rz_pre::Def;
 use std::alloc::Global;
 
-/// A source, or an option with its value.
+/// A source, an option with its value, or an option without one.
 #[derive(Drop)]
 pub enum Item<'a> {
     /// The name of a source.
@@ -22,6 +22,8 @@ pub enum Item<'a> {
     Path(&'a str),
     /// `-d` or `-u`: a definition.
     Define(Def),
+    /// `-rd`: types may be declared again without a warning.
+    Redeclare,
 }
 
 impl Item<'_> {
@@ -30,7 +32,7 @@ impl Item<'_> {
         ensures { result ≡ size_of (item self.now) }
     {
         match self {
-            Item::Source(_) => 1,
+            Item::Source(_) | Item::Redeclare => 1,
             Item::Output(_) | Item::Path(_) | Item::Define(_) => 2,
         }
     }
@@ -55,6 +57,9 @@ pub fn read_item<'a>(
     cut_back();
     if is_file(first) {
         return Ok(Item::Source(first));
+    }
+    if first == "-rd" {
+        return Ok(Item::Redeclare);
     }
     if !is_option(first) {
         return Err(Stop::Refused(Misfit { fitting: 0 }));

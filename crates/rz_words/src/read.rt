@@ -20,8 +20,9 @@ pub struct UsageFault {
 
 /// The command that the words behind the program's name are, or the position of the first word that can't
 /// stand where it stands:
-/// - `rez` with sources, at least one, and in whatever order `-o name`, `-i path`, `-d name[=text]` and
-///   `-u name`, each as often as may be; of several `-o` the last counts, and the others add up;
+/// - `rez` with sources, at least one, and in whatever order `-o name`, `-i path`, `-d name[=text]`, `-u name`
+///   and `-rd`, each as often as may be; of several `-o` the last counts, several `-rd` are as one, and the
+///   others add up;
 /// - `derez` with a fork;
 /// - `--help` or `--version` alone.
 pub fn read_words<'a>(alloc: Global, words: &'a [String]) -> Result<Command<'a>, Stop<UsageFault>>

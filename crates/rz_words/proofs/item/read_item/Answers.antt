@@ -13,7 +13,7 @@ use Rattle.rz_words.proofs.item.read_item.Goals as goal
 
 pub returns-then-not-is_option-clause-stuck : goal.returns-then-not-is_option-clause-stuck
 returns-then-not-is_option-clause-stuck c =
-    stuck_unknown c.args.first.now (map string_bytes c.args.behind.now) (sym c.if-is_file.ensures) (sym c.if-not-is_option.ensures)
+    stuck_unknown c.args.first.now (map string_bytes c.args.behind.now) (sym c.if-is_file.ensures) (sym c.if-eq.ensures) (sym c.if-not-is_option.ensures)
 
 pub returns-in-None-clause-stuck : goal.returns-in-None-clause-stuck
 returns-in-None-clause-stuck c =
