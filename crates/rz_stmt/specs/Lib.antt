@@ -4,8 +4,16 @@ pub mod Cutting
 pub mod Limit
 pub mod Text
 pub mod Piece
+pub mod Split
+pub mod FieldWord
 pub mod Held
 pub mod Head
 pub mod Raw
 pub mod Grammar
 pub mod Number
+pub mod Each
+pub mod Reads
+pub mod FieldValue
+pub mod Symbols
+pub mod NumberField
+pub mod FieldForm

@@ -2,15 +2,21 @@
 #![tactic(auto)]
 
 mod cutting;
+mod field;
+mod field_word;
 mod grammar;
 mod head;
 mod laws;
 mod limit;
 mod number;
+mod number_field;
 mod piece;
 mod raw;
 mod span;
+mod split;
+mod symbols;
 mod text;
+mod value;
 
 pub use cutting::{one_cutting, statements};
 pub use grammar::{Stmt, parse};
