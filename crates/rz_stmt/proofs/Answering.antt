@@ -1,10 +1,11 @@
 -- What is answered, made of what was answered below.
-use Rattle.std.proofs.Common.{◌≡◌, Option, Some, None, Ok, Err, sym, ap, subst, ◌∙◌}
+use Rattle.std.proofs.Common.{◌≡◌, Option, Some, None, Ok, Err, refl, sym, ap, subst, ◌∙◌}
 use Rattle.std.specs.declared.result.Result.{Result}
 use Rattle.rz_core.specs.Stop.{◌>>=◌, Gives}
 use Rattle.rz_core.specs.declared.stop.Stop.{Stop}
 use Rattle.rz_core.specs.declared.stop.Stop.TheVariants.{NoMemory, Refused}
 use Rattle.std.specs.Prelude.{option_map, IfOk}
+use Rattle.rz_stmt.specs.Both.{both, mapped}
 use Rattle.rz_stmt.specs.Decided.{Decided}
 use Rattle.rz_stmt.specs.Reads.{itself, Reads}
 
@@ -40,3 +41,40 @@ pub found_so : {X Y E : Type 0} (view : Y → X) (P Q : X → Type 0) → ((x : 
     → (result : Result (Option Y) E) → IfOk result (λ found. Decided Q (option_map view found)) → IfOk result (λ found. Decided P (option_map view found))
 found_so view P Q forth back (Ok found) holds = decided_so view P Q forth back found holds
 found_so view P Q forth back (Err fault) holds = holds
+
+-- Two parts, and what is made of parts.
+
+abbrev pub paired : {X Y F : Type 0} → Result X F → Result Y F → Result (X × Y) F
+paired one other = one >>= (λ x. other >>= (λ y. Ok (x, y)))
+
+abbrev pub BothAre : {X Y F : Type 0} → (Result X F → Type 0) → (Result Y F → Type 0) → Result (X × Y) F → Type 0
+BothAre P Q both = (one : Result _ _) × (other : Result _ _) × P one × Q other × (both ≡ paired one other)
+
+pub reads_both : {X Y A B F : Type 0} (seen : A → X) (sees : B → Y) (P : Result X F → Type 0) (Q : Result Y F → Type 0)
+    → (one : Result (Option A) (Stop F)) (other : Result (Option B) (Stop F)) → Reads seen P one → Reads sees Q other
+    → Reads {X = X × Y} {Y = A × B} (λ pair. (seen pair.0, sees pair.1)) (BothAre P Q) (both one other)
+reads_both seen sees P Q (Ok (Some a)) (Ok (Some b)) p q = (Ok (seen a), Ok (sees b), p, q, refl)
+reads_both seen sees P Q (Ok (Some a)) (Ok None) p q = λ meaning is. q is.1 is.3
+reads_both seen sees P Q (Ok (Some a)) (Err (Refused fault)) p q = (Ok (seen a), Err fault, p, q, refl)
+reads_both seen sees P Q (Ok (Some a)) (Err NoMemory) p q = tt
+reads_both seen sees P Q (Ok None) other p q = λ meaning is. p is.0 is.2
+reads_both seen sees P Q (Err (Refused fault)) (Ok (Some b)) p q = (Err fault, Ok (sees b), p, q, refl)
+reads_both seen sees P Q (Err (Refused fault)) (Ok None) p q = λ meaning is. q is.1 is.3
+reads_both seen sees P Q (Err (Refused fault)) (Err (Refused later)) p q = (Err fault, Err later, p, q, refl)
+reads_both seen sees P Q (Err (Refused fault)) (Err NoMemory) p q = tt
+reads_both seen sees P Q (Err NoMemory) other p q = tt
+
+pub pair_made : {X Y Z F : Type 0} (make : X → Y → Z) (one : Result X F) (other : Result Y F)
+    → (paired one other >>= (λ pair. Ok (make pair.0 pair.1))) ≡ (one >>= (λ x. other >>= (λ y. Ok (make x y))))
+pair_made make (Ok x) (Ok y) = refl
+pair_made make (Ok x) (Err fault) = refl
+pair_made make (Err fault) other = refl
+
+pub reads_mapped : {X Z A B F : Type 0} (seen : A → X) (sees : B → Z) (Q : Result X F → Type 0) (R : Result Z F → Type 0) (make : A → B) (made : X → Z)
+    → ((a : A) → sees (make a) ≡ made (seen a))
+    → ((r : Result X F) → Q r → R (r >>= (λ x. Ok (made x)))) → ((r : Result Z F) → R r → (q : Result X F) × Q q)
+    → (answer : Result (Option A) (Stop F)) → Reads seen Q answer → Reads sees R (mapped make answer)
+reads_mapped seen sees Q R make made same forth back (Ok (Some a)) q = subst (λ (z : _). R (Ok z)) (sym (same a)) (forth (Ok (seen a)) q)
+reads_mapped seen sees Q R make made same forth back (Ok None) q = λ meaning is. q (back meaning is).0 (back meaning is).1
+reads_mapped seen sees Q R make made same forth back (Err (Refused fault)) q = forth (Err fault) q
+reads_mapped seen sees Q R make made same forth back (Err NoMemory) q = tt

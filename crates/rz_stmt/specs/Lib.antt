@@ -17,3 +17,6 @@ pub mod FieldValue
 pub mod Symbols
 pub mod NumberField
 pub mod FieldForm
+pub mod Body
+pub mod Both
+pub mod Declare

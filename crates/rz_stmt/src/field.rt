@@ -4,17 +4,17 @@ ghost use Rattle.rz_types.specs.Field.{plain_field, plain_points, plain_text};
 ghost use Rattle.rz_stmt.specs.Decided.{Decided};
 ghost use Rattle.rz_stmt.specs.FieldForm.{align_of, begins_bracket, braced, count_of, fixed_text, is_bare, AreNumbers, IsAlignField, IsCount, IsField, IsFieldFront, IsFill, IsFillField, IsPoints, IsPointsField, IsSized, IsText, IsTextField, IsUnsized};
 ghost use Rattle.rz_stmt.specs.Held.{held_front};
-ghost use Rattle.rz_stmt.specs.Raw.{is_open_brace};
 ghost use Rattle.rz_stmt.specs.Reads.{itself, Reads};
 
 use crate::field_word::{FieldWord, Front, align_unit, front_in, hex_of, unit_in};
 use crate::number_field::read_number;
+use crate::raw::is_open_brace;
 use crate::split::{Divider, bracket_in, is_open_bracket, pieces_by, split_at};
 use crate::text::text_in;
 use crate::value::{constant_in, is_equals, read_expression, read_expressions};
 use rz_core::{Fault, Mark, NoMemory, Stop};
 use rz_expr::one_expression;
-use rz_lex::{Shape, Sign, Token};
+use rz_lex::Token;
 use rz_types::{Exprs, Field, PointField, TextField, TextForm, Texts};
 use std::alloc::Global;
 
@@ -295,10 +295,4 @@ fn align_of(tokens: &[Token]) -> Option<u8>
         [token] => align_unit(token),
         _ => None,
     }
-}
-
-fn is_open_brace(token: &Token) -> bool
-    ensures { result ≡ is_open_brace token.now.shape }
-{
-    matches!(token.shape, Shape::Sign(Sign::OpenBrace))
 }

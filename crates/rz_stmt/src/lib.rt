@@ -1,7 +1,10 @@
 //! The tokens of a program as statements.
 #![tactic(auto)]
 
+mod body;
+mod both;
 mod cutting;
+mod declare;
 mod field;
 mod field_word;
 mod grammar;
@@ -19,6 +22,7 @@ mod text;
 mod value;
 
 pub use cutting::{one_cutting, statements};
+pub use declare::{Bounds, DeclareStmt, Made};
 pub use grammar::{Stmt, parse};
 pub use head::{AttrPart, AttrParts, HeadExpr};
 pub use laws::{all_tokens_are_statements, limits_are_kept, one_statement};
