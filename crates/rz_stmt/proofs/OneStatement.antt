@@ -5,10 +5,11 @@ use Rattle.rz_core.specs.declared.fault.Fault.{Fault}
 use Rattle.rz_expr.specs.Grammar.{IsExpression}
 use Rattle.rz_expr.specs.Term.{Term}
 use Rattle.rz_lex.specs.declared.token.Token.{Token}
-use Rattle.rz_stmt.specs.Grammar.{beyond, is_empty, none, statement, Data, Empty, IsStatementOf, Parses, Statement}
+use Rattle.rz_stmt.specs.Grammar.{beyond, none, statement, Data, Empty, IsStatementOf, Parses, Statement}
 use Rattle.rz_stmt.specs.Head.{word_attribute, AreAttributes, Attribute, Head, IsAttribute, IsAttributeBy, IsHead, IsRest, IsRestBy, Value}
 use Rattle.rz_stmt.specs.Piece.{pieces_in, Cut}
 use Rattle.rz_stmt.specs.Raw.{kind_in, texts_in, IsRaw, Raw}
+use Rattle.rz_stmt.specs.Statements.{is_empty}
 use Rattle.rz_stmt.specs.Text.{text_in}
 use Rattle.rz_types.specs.declared.text.TextPart.{TextPart}
 

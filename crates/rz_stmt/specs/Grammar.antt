@@ -10,7 +10,7 @@ use Rattle.rz_core.specs.declared.stop.Stop.TheVariants.{Refused, NoMemory}
 use Rattle.rz_lex.specs.declared.token.Token.{Token}
 use Rattle.rz_stmt.specs.Limit.{is_within_limits}
 use Rattle.rz_stmt.specs.Raw.{raw_of, IsRaw, Raw}
-use Rattle.rz_stmt.specs.Statements.{is_semicolon}
+use Rattle.rz_stmt.specs.Statements.{is_empty}
 use Rattle.rz_stmt.specs.declared.grammar.Stmt.{Stmt}
 use Rattle.rz_stmt.specs.declared.grammar.Stmt.TheVariants as forms
 
@@ -21,11 +21,6 @@ pub data Statement : Type 0 where
 abbrev pub statement_of : Stmt → Statement
 statement_of forms.Empty = Empty
 statement_of (forms.Raw raw) = Data (raw_of raw)
-
--- a `;` alone
-abbrev pub is_empty : List Token → Bool
-is_empty (token ∷ []) = is_semicolon token.shape
-is_empty tokens = false
 
 -- the tokens are this statement
 abbrev pub IsStatementOf : List Token → Statement → Type 0

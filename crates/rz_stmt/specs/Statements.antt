@@ -25,6 +25,11 @@ abbrev pub is_semicolon : Shape → Bool
 is_semicolon (shapes.Sign Semicolon) = true
 is_semicolon shape = false
 
+-- a `;` alone
+abbrev pub is_empty : List Token → Bool
+is_empty (token ∷ []) = is_semicolon token.shape
+is_empty tokens = false
+
 -- the token is a `;` that stands outside all brackets
 abbrev pub is_end : Shape → ℕ → Bool
 is_end shape count = is_semicolon shape && (count == 0)

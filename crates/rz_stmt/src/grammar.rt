@@ -1,11 +1,11 @@
 ghost use Rattle.std.specs.Prelude.{◌≡◌, ◌<◌, ◌≤◌, ◌-◌, ℕ, Some, drop, length, take};
 ghost use Rattle.rz_core.specs.Message.{IsNameable};
 ghost use Rattle.rz_core.specs.Stop.{OnFault};
-ghost use Rattle.rz_stmt.specs.Grammar.{is_empty, AreWithin, Gave, Parses};
+ghost use Rattle.rz_stmt.specs.Grammar.{AreWithin, Gave, Parses};
 ghost use Rattle.rz_core.specs.declared.fault.Kept.TheVariants.{Nothing};
 
 use crate::limit::is_within_limits;
-use crate::raw::{RawStmt, is_semicolon, read_raw};
+use crate::raw::{RawStmt, is_empty_statement, read_raw};
 use crate::span::Span;
 use rz_core::{Fault, Kept, Mark, Stop};
 use rz_lex::{Token, Tokens};
@@ -51,16 +51,6 @@ fn parse_all(alloc: Global, tokens: &[Token]) -> Result<Stmt, Stop<Fault>>
     match read_raw(alloc, tokens)? {
         Some(raw) => Ok(Stmt::Raw(raw)),
         None => Err(Stop::Refused(fault(201, mark))),
-    }
-}
-
-/// Whether these are a `;` alone.
-fn is_empty_statement(tokens: &[Token]) -> bool
-    ensures { result ≡ is_empty tokens.now }
-{
-    match tokens {
-        [token] => is_semicolon(token),
-        _ => false,
     }
 }
 

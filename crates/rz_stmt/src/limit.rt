@@ -41,7 +41,7 @@ fn depth_limit(tokens: &[Token]) -> usize
 }
 
 /// Whether it is the word `type`.
-fn is_type_word(shape: &Shape) -> bool
+pub fn is_type_word(shape: &Shape) -> bool
     ensures { result ≡ is_type_word shape.now }
 {
     match shape {

@@ -2,7 +2,7 @@ ghost use Rattle.std.specs.Prelude.{◌≡◌, IfOk, option_map};
 ghost use Rattle.rz_stmt.specs.Decided.{Decided};
 ghost use Rattle.rz_stmt.specs.Raw.{is_close, is_data, is_end, is_open_brace, kind_in, raw_of, texts_in, IsRaw};
 ghost use Rattle.rz_stmt.specs.Piece.{is_open_paren};
-ghost use Rattle.rz_stmt.specs.Statements.{is_semicolon};
+ghost use Rattle.rz_stmt.specs.Statements.{is_empty, is_semicolon};
 
 use crate::head::{HeadExpr, read_head};
 use crate::piece::pieces_in;
@@ -69,7 +69,7 @@ fn is_data(token: &Token) -> bool
 }
 
 /// A literal of four bytes as a number, the first byte highest.
-fn kind_in(token: &Token) -> Option<u32>
+pub fn kind_in(token: &Token) -> Option<u32>
     ensures { result ≡ kind_in token.now.shape }
 {
     match &token.shape {
@@ -81,13 +81,13 @@ fn kind_in(token: &Token) -> Option<u32>
     }
 }
 
-fn is_open_paren(token: &Token) -> bool
+pub fn is_open_paren(token: &Token) -> bool
     ensures { result ≡ is_open_paren token.now.shape }
 {
     matches!(token.shape, Shape::Sign(Sign::OpenParen))
 }
 
-fn is_open_brace(token: &Token) -> bool
+pub fn is_open_brace(token: &Token) -> bool
     ensures { result ≡ is_open_brace token.now.shape }
 {
     matches!(token.shape, Shape::Sign(Sign::OpenBrace))
@@ -143,4 +143,14 @@ pub fn is_semicolon(token: &Token) -> bool
     ensures { result ≡ is_semicolon token.now.shape }
 {
     matches!(token.shape, Shape::Sign(Sign::Semicolon))
+}
+
+/// Whether these are a `;` alone.
+pub fn is_empty_statement(tokens: &[Token]) -> bool
+    ensures { result ≡ is_empty tokens.now }
+{
+    match tokens {
+        [token] => is_semicolon(token),
+        _ => false,
+    }
 }
