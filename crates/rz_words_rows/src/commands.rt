@@ -5,7 +5,7 @@ use std::alloc::Global;
 use std::test::Fail;
 
 /// Words with a blank between them, and what they ask for; `~` is the empty word. `rez` shows its sources, the
-/// file to write, its paths and its definitions, each text by the number of its tokens. `word` shows the
+/// file to write, its paths, its definitions, each text by the number of its tokens, and `-rd`. `word` shows the
 /// position of the first word that can't stand where it stands.
 const ROWS: &str = r#"
 // no command
@@ -46,6 +46,15 @@ rez -u n -d n=1 -u N a => rez a -o Rez.Out -u n -d n 1 -u N
 rez -d _a1 -i p -o x -u b a => rez a -o x -i p -d _a1 0 -u b
 rez -d n="é" a => rez a -o Rez.Out -d n 1
 rez -d n=$"0A" a => rez a -o Rez.Out -d n 1
+// types may be declared again: an option without a value
+rez -rd a => rez a -o Rez.Out -rd
+rez a -rd -rd => rez a -o Rez.Out -rd
+rez -rd -o x a => rez a -o x -rd
+rez -o -rd a => rez a -o -rd
+rez -rd => word 3
+rez a -RD => word 3
+rez -r d a => word 2
+derez f -rd => word 3
 // a word behind an option is its value, whatever it begins with
 rez -o -o a => rez a -o -o
 rez -o -d a => rez a -o -d
@@ -159,6 +168,9 @@ fn show_rez(asked: &RezWords<'_>, text: &mut Bytes) -> Result<(), Fail> {
     }
     for def in asked.defs.as_slice() {
         show_definition(def, text)?;
+    }
+    if asked.redeclare {
+        text.append(b" -rd")?;
     }
     Ok(())
 }
