@@ -10,7 +10,7 @@ use Rattle.rz_stmt.specs.Body.{joined, AreFields, AreSomeFields, HasFault, IsPie
 use Rattle.rz_stmt.specs.Each.{AreEach}
 use Rattle.rz_stmt.proofs.Each.{leads_all, leads_first, leads_more, leads_nowhere, one_each, Leads}
 use Rattle.rz_stmt.proofs.OneField.{one_field}
-use Rattle.rz_stmt.proofs.OneStatement.{OneExpression}
+use Rattle.rz_stmt.proofs.OneTerm.{OneExpression}
 use Rattle.rz_types.specs.Field.{PlainField}
 
 abbrev Outcome : Type 0

@@ -1,12 +1,12 @@
 -- Fields are one at most.
-use Rattle.std.proofs.Common.{◌≡◌, ◌==◌, ℕ, ℤ, pos, Bool, true, false, List, [], ◌∷◌, length, Option, Some, None, Ok, refl, sym, ap, subst, ◌∙◌}
+use Rattle.std.proofs.Common.{◌≡◌, ◌==◌, ℕ, ℤ, Bool, true, false, List, [], ◌∷◌, length, Option, Some, None, Ok, refl, sym, ap, subst, ◌∙◌}
 use Rattle.std.specs.declared.result.Result.{Result}
 use Rattle.rz_core.specs.Stop.{◌>>=◌}
 use Rattle.rz_core.specs.declared.fault.Fault.{Fault}
 use Rattle.rz_core.specs.declared.fault.Mark.{Mark}
 use Rattle.rz_expr.specs.Term.{Term}
 use Rattle.rz_lex.specs.declared.token.Token.{Token}
-use Rattle.rz_stmt.specs.FieldForm.{align_of, begins_bracket, braced, fixed_text, AreNumbers, IsAlignField, IsCount, IsField, IsFieldBy, IsFieldOf, IsFill, IsFillField, IsFillOf, IsPoints, IsPointsField, IsSized, IsText, IsTextBy, IsTextField, IsUnsized}
+use Rattle.rz_stmt.specs.FieldForm.{align_of, begins_bracket, braced, fixed_text, AreNumbers, IsCount, IsField, IsFieldBy, IsFieldOf, IsFill, IsFillOf, IsPoints, IsPointsField, IsSized, IsText, IsTextBy, IsTextField, IsUnsized}
 use Rattle.rz_stmt.specs.FieldValue.{IsConstant, IsFieldExpression}
 use Rattle.rz_stmt.specs.FieldWord.{front_in, hex_of, unit_in, FieldFront}
 use Rattle.rz_stmt.specs.Split.{bracket_in, pieces_by, Parted}
@@ -15,7 +15,7 @@ use Rattle.rz_stmt.specs.declared.field_word.FieldWord.TheVariants as words
 use Rattle.rz_stmt.specs.declared.split.Divider.TheVariants.{Comma}
 use Rattle.rz_stmt.proofs.Each.{one_each}
 use Rattle.rz_stmt.proofs.OneNumber.{one_number, same_some}
-use Rattle.rz_stmt.proofs.OneStatement.{OneExpression}
+use Rattle.rz_stmt.proofs.OneTerm.{OneExpression}
 use Rattle.rz_stmt.proofs.OneValue.{one_constant, one_field_expression}
 use Rattle.rz_types.specs.Field.{Align, Fill, PlainField, PlainPoints, PlainText, Points, Text}
 use Rattle.rz_types.specs.declared.field.TextForm.{TextForm}

@@ -13,7 +13,7 @@ use Rattle.rz_stmt.specs.Split.{bracket_in, pieces_by, Parted}
 use Rattle.rz_stmt.specs.Symbols.{IsSymbol, NamedTerm}
 use Rattle.rz_stmt.specs.declared.split.Divider.TheVariants.{Comma}
 use Rattle.rz_stmt.proofs.Each.{one_each}
-use Rattle.rz_stmt.proofs.OneStatement.{OneExpression}
+use Rattle.rz_stmt.proofs.OneTerm.{OneExpression}
 use Rattle.rz_stmt.proofs.OneValue.{one_constant, one_value}
 use Rattle.rz_stmt.proofs.Valued.{one_symbol}
 use Rattle.rz_types.specs.Field.{PlainField}

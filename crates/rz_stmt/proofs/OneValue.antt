@@ -7,7 +7,7 @@ use Rattle.rz_expr.specs.Term.{Term}
 use Rattle.rz_lex.specs.declared.token.Token.{Token}
 use Rattle.rz_stmt.specs.FieldValue.{one_byte, IsConstant, IsFieldExpression, IsValue, IsValueBy}
 use Rattle.rz_stmt.specs.Number.{number_of}
-use Rattle.rz_stmt.proofs.OneStatement.{OneExpression}
+use Rattle.rz_stmt.proofs.OneTerm.{OneExpression}
 use Rattle.rz_types.specs.declared.field.NumForm.{NumForm}
 
 module _ (one : OneExpression) where

@@ -61,7 +61,7 @@ pieces_split divider depth (token ∷ tokens) =
 
     by : (b : Bool) → pieces_by divider (open_behind token.shape depth) tokens ≡ from_split divider (split_at divider (open_behind token.shape depth) tokens) tokens
         → (if b then [] ∷ pieces_by divider 0 tokens else in_first token (pieces_by divider (open_behind token.shape depth) tokens))
-          ≡ from_split divider (if b then Some (record { front = []; behind = tokens }) else option_map (longer token) (split_at divider (open_behind token.shape depth) tokens)) (token ∷ tokens)
+        ≡ from_split divider (if b then Some (record { front = []; behind = tokens }) else option_map (longer token) (split_at divider (open_behind token.shape depth) tokens)) (token ∷ tokens)
     by true same = refl
     by false same = ap (in_first token) same ∙ one_more (split_at divider (open_behind token.shape depth) tokens)
 

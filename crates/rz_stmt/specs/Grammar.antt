@@ -1,13 +1,15 @@
 -- Statements, each with the tokens that are it, or the first fault. (MPW Rez.)
-use Rattle.std.specs.Prelude.{◌≡◌, ◌<◌, ℕ, Bool, true, false, Some, List, [], ◌∷◌, Ok, Err}
+use Rattle.std.specs.Prelude.{◌≡◌, ◌⊎◌, ◌<◌, ℕ, true, false, Some, List, [], ◌∷◌, Ok, Err}
 use Rattle.std.specs.List.{AllByRecursion}
 use Rattle.std.specs.declared.result.Result.{Result}
+use Rattle.rz_core.specs.Stop.{◌>>=◌}
 use Rattle.rz_core.specs.declared.fault.Fault.{Fault}
 use Rattle.rz_core.specs.declared.fault.Kept.TheVariants.{Nothing}
 use Rattle.rz_core.specs.declared.fault.Mark.{Mark}
 use Rattle.rz_core.specs.declared.stop.Stop.{Stop}
 use Rattle.rz_core.specs.declared.stop.Stop.TheVariants.{Refused, NoMemory}
 use Rattle.rz_lex.specs.declared.token.Token.{Token}
+use Rattle.rz_stmt.specs.Declare.{declare_of, Declare, IsDeclare}
 use Rattle.rz_stmt.specs.Limit.{is_within_limits}
 use Rattle.rz_stmt.specs.Raw.{raw_of, IsRaw, Raw}
 use Rattle.rz_stmt.specs.Statements.{is_empty}
@@ -17,15 +19,12 @@ use Rattle.rz_stmt.specs.declared.grammar.Stmt.TheVariants as forms
 pub data Statement : Type 0 where
   Empty : Statement
   Data : (raw : Raw) → Statement
+  Declares : (declare : Declare) → Statement
 
 abbrev pub statement_of : Stmt → Statement
 statement_of forms.Empty = Empty
 statement_of (forms.Raw raw) = Data (raw_of raw)
-
--- the tokens are this statement
-abbrev pub IsStatementOf : List Token → Statement → Type 0
-IsStatementOf tokens Empty = is_empty tokens ≡ true
-IsStatementOf tokens (Data raw) = IsRaw tokens raw
+statement_of (forms.Declare stmt) = Declares (declare_of stmt)
 
 -- 221 and 201
 abbrev pub too_deep : Mark → Fault
@@ -39,11 +38,23 @@ abbrev pub mark_of : List Token → Mark
 mark_of [] = record { file = 0; line = 0 }
 mark_of (first ∷ rest) = first.mark
 
+-- the tokens are a statement: it, or the first fault of its constants
+pub data IsStatement (tokens : List Token) (answer : Result Statement Fault) : Type 0 where
+  alone : is_empty tokens ≡ true → answer ≡ Ok Empty → IsStatement tokens answer
+  data_statement : (one : Raw) → IsRaw tokens one → answer ≡ Ok (Data one) → IsStatement tokens answer
+  type_statement : (one : Result Declare Fault) → IsDeclare (mark_of tokens) tokens one → answer ≡ (one >>= (λ made. Ok (Declares made))) → IsStatement tokens answer
+
 -- the statement that tokens within the limits are, 221 for tokens beyond them, or 201 for tokens that are none
 pub data Parses (tokens : List Token) (answer : Result Statement Fault) : Type 0 where
   beyond : is_within_limits tokens ≡ false → answer ≡ Err (too_deep (mark_of tokens)) → Parses tokens answer
-  statement : (one : Statement) → is_within_limits tokens ≡ true → IsStatementOf tokens one → answer ≡ Ok one → Parses tokens answer
-  none : is_within_limits tokens ≡ true → ((one : Statement) → IsStatementOf tokens one → ⊥) → answer ≡ Err (syntax (mark_of tokens)) → Parses tokens answer
+  statement : is_within_limits tokens ≡ true → IsStatement tokens answer → Parses tokens answer
+  none : is_within_limits tokens ≡ true → ((other : Result Statement Fault) → IsStatement tokens other → ⊥) → answer ≡ Err (syntax (mark_of tokens)) → Parses tokens answer
+
+-- the `type` statement that the tokens are, or else 201
+abbrev pub Declared : Mark → List Token → Result Statement Fault → Type 0
+Declared mark tokens answer =
+    ((one : Result Declare Fault) × IsDeclare mark tokens one × (answer ≡ (one >>= (λ made. Ok (Declares made)))))
+    ⊎ (((one : Result Declare Fault) → IsDeclare mark tokens one → ⊥) × (answer ≡ Err (syntax mark)))
 
 -- the call gave what is answered, or memory was refused
 abbrev pub Gave : Result Stmt (Stop Fault) → (Result Statement Fault → Type 0) → Type 0

@@ -1,5 +1,5 @@
 -- The symbols of a number and their values. (MPW Rez.)
-use Rattle.std.specs.Prelude.{◌≡◌, ℕ, ◌-◌, ◌^◌, ℤ, pos, negsuc, ◌+ℤ◌, neg_ℤ, int_le, int_lt, Bool, true, false, not, ◌&&◌, ◌||◌, if◌then◌else◌, List, [], ◌∷◌, Option, Some, None, option_map, Ok, Err}
+use Rattle.std.specs.Prelude.{◌≡◌, ◌-◌, ◌^◌, ℤ, pos, negsuc, ◌+ℤ◌, neg_ℤ, int_le, int_lt, Bool, true, ◌&&◌, if◌then◌else◌, List, [], ◌∷◌, Option, Some, None, option_map, Ok, Err}
 use Rattle.std.specs.declared.result.Result.{Result}
 use lib.IntN.{nat_abs}
 use Rattle.rz_core.specs.Stop.{◌>>=◌}

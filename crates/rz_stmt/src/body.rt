@@ -22,11 +22,7 @@ pub fn read_body(alloc: Global, mark: Mark, tokens: &[Token]) -> Result<Option<B
 }
 
 /// The fields that the pieces are.
-fn read_pieces(
-    alloc: Global,
-    mark: Mark,
-    pieces: &[&[Token]],
-) -> Result<Option<Body>, Stop<Fault>>
+fn read_pieces(alloc: Global, mark: Mark, pieces: &[&[Token]]) -> Result<Option<Body>, Stop<Fault>>
     ensures { Reads plain_body (AreFields mark (map (λ piece. piece.now) pieces.now)) result }
 {
     one_expression();

@@ -57,11 +57,7 @@ fn read_text_field(
     }
 }
 
-fn read_points_field(
-    alloc: Global,
-    rect: bool,
-    front: &Front,
-) -> Result<Option<Field>, Stop<Fault>>
+fn read_points_field(alloc: Global, rect: bool, front: &Front) -> Result<Option<Field>, Stop<Fault>>
     ensures { Reads plain_field (IsPointsField rect (held_front front.now)) result }
 {
     if !is_bare(front) {
@@ -189,11 +185,7 @@ fn fixed_text(alloc: Global, tokens: &[Token]) -> Result<Option<Option<Texts>>, 
 }
 
 /// The point or rectangle that the tokens behind its type are.
-fn read_points(
-    alloc: Global,
-    rect: bool,
-    tokens: &[Token],
-) -> Result<Option<PointField>, NoMemory>
+fn read_points(alloc: Global, rect: bool, tokens: &[Token]) -> Result<Option<PointField>, NoMemory>
     ensures { IfOk result (λ points. Decided (IsPoints rect tokens.now) (option_map plain_points points)) }
 {
     let Some((first, rest)) = tokens.split_first() else {

@@ -1,9 +1,10 @@
 ghost use Rattle.std.specs.Prelude.{◌≡◌, ◌<◌, ◌≤◌, ◌-◌, ℕ, Some, drop, length, take};
 ghost use Rattle.rz_core.specs.Message.{IsNameable};
 ghost use Rattle.rz_core.specs.Stop.{OnFault};
-ghost use Rattle.rz_stmt.specs.Grammar.{AreWithin, Gave, Parses};
+ghost use Rattle.rz_stmt.specs.Grammar.{AreWithin, Declared, Gave, Parses};
 ghost use Rattle.rz_core.specs.declared.fault.Kept.TheVariants.{Nothing};
 
+use crate::declare::{DeclareStmt, read_declare};
 use crate::limit::is_within_limits;
 use crate::raw::{RawStmt, is_empty_statement, read_raw};
 use crate::span::Span;
@@ -18,12 +19,16 @@ pub enum Stmt {
     Empty,
     /// `data`.
     Raw(RawStmt),
+    /// `type`.
+    Declare(DeclareStmt),
 }
 
 /// The statement that the tokens of a span are. A refusal has the mark of its first token: 221 where more
 /// than 64 brackets are open, in a `type` statement 60, or more than 1,024 tokens other than texts stand in a
-/// row without one of `{ } , ;`; else 201 where the tokens are no statement. The span lies within the tokens
-/// and isn't empty, as each of [`statements`](crate::statements). (MPW Rez.)
+/// row without one of `{ } , ;`; else 201 where the tokens are no statement; else that of the first constant of
+/// a `type` statement, from left to right, without a value: 211 for a zero divisor, 215 for a shift by a count
+/// outside 0 to 31 (kept: the count), or 207 for the value of a symbol outside the range of its field (kept:
+/// the value). The span lies within the tokens and isn't empty, as each of [`statements`](crate::statements). (MPW Rez.)
 pub fn parse(alloc: Global, tokens: &Tokens, span: Span) -> Result<Stmt, Stop<Fault>>
     requires { (span.start < span.end) × (span.end ≤ length tokens.now) }
     ensures parsed { Gave result (Parses (take (span.end - span.start) (drop span.start tokens.now))) }
@@ -50,7 +55,19 @@ fn parse_all(alloc: Global, tokens: &[Token]) -> Result<Stmt, Stop<Fault>>
     }
     match read_raw(alloc, tokens)? {
         Some(raw) => Ok(Stmt::Raw(raw)),
-        None => Err(Stop::Refused(fault(201, mark))),
+        None => parse_declare(alloc, mark, tokens),
+    }
+}
+
+/// The `type` statement that the tokens are, or else 201.
+fn parse_declare(alloc: Global, mark: Mark, tokens: &[Token]) -> Result<Stmt, Stop<Fault>>
+    ensures parsed { Gave result (Declared mark tokens.now) }
+    ensures nameable { (files : ℕ) → mark.file < files → OnFault result (IsNameable files) }
+{
+    match read_declare(alloc, mark, tokens) {
+        Ok(Some(stmt)) => Ok(Stmt::Declare(stmt)),
+        Ok(None) => Err(Stop::Refused(fault(201, mark))),
+        Err(stop) => Err(stop),
     }
 }
 

@@ -6,7 +6,7 @@ ghost use Rattle.rz_stmt.specs.Reads.{Reads, itself};
 ghost use Rattle.rz_stmt.specs.FieldValue.{byte_in, is_equals, one_byte, IsConstant, IsFieldExpression, IsValue};
 
 use crate::number::number_of;
-use rz_core::{Mark, NoMemory, Stop, Fault};
+use rz_core::{Fault, Mark, NoMemory, Stop};
 use rz_expr::{Expr, is_constant, one_expression, read_whole};
 use rz_lex::{Shape, Sign, Token};
 use rz_types::{Exprs, NumForm};
@@ -45,11 +45,7 @@ pub fn constant_in(alloc: Global, mark: Mark, tokens: &[Token]) -> Result<Option
 }
 
 /// The value of a number field that the tokens are: an expression, or behind `char` a text of one byte.
-pub fn read_value(
-    alloc: Global,
-    form: NumForm,
-    tokens: &[Token],
-) -> Result<Option<Expr>, NoMemory>
+pub fn read_value(alloc: Global, form: NumForm, tokens: &[Token]) -> Result<Option<Expr>, NoMemory>
     ensures { IfOk result (λ expr. Decided (IsValue form tokens.now) (option_map term_of expr)) }
 {
     match one_byte(form, tokens) {

@@ -1,3 +1,4 @@
+use crate::declares::show_declare;
 use rz_core::{Bytes, Fault, Kept, Mark, Stop, write_decimal, write_signed};
 use rz_expr::Expr;
 use rz_lex::{Tokens, lex};
@@ -125,7 +126,7 @@ pub fn text_of_fault(alloc: Global, fault: &Fault) -> Result<Bytes, Fail> {
 }
 
 /// Appends a value, or its fault.
-fn show_value(alloc: Global, expr: &Expr, mark: Mark, text: &mut Bytes) -> Result<(), Fail> {
+pub fn show_value(alloc: Global, expr: &Expr, mark: Mark, text: &mut Bytes) -> Result<(), Fail> {
     match number_of(alloc, expr, mark) {
         Ok(value) => write_signed(i64::from(value), text)?,
         Err(Stop::Refused(fault)) => text.append(text_of_fault(alloc, &fault)?.as_slice())?,
@@ -135,7 +136,7 @@ fn show_value(alloc: Global, expr: &Expr, mark: Mark, text: &mut Bytes) -> Resul
 }
 
 /// The bytes of a text.
-fn bytes_of(alloc: Global, texts: &Texts) -> Result<Bytes, Fail> {
+pub fn bytes_of(alloc: Global, texts: &Texts) -> Result<Bytes, Fail> {
     match text_of(alloc, texts) {
         Ok(bytes) => Ok(bytes),
         Err(_) => Err(Fail::from("no bytes")),
@@ -199,6 +200,7 @@ pub fn outcome_of(alloc: Global, tokens: &Tokens) -> Result<Bytes, Fail> {
     match parse(alloc, tokens, Span { start: 0, end }) {
         Ok(Stmt::Empty) => Ok(Bytes::of(alloc, b"empty")?),
         Ok(Stmt::Raw(raw)) => show_raw(alloc, &raw, mark),
+        Ok(Stmt::Declare(stmt)) => show_declare(alloc, &stmt, mark),
         Err(Stop::Refused(fault)) => text_of_fault(alloc, &fault),
         Err(Stop::NoMemory) => Err(Fail::from("no memory")),
     }

@@ -6,4 +6,6 @@ mod cuts;
 #[cfg(test)]
 mod data;
 #[cfg(test)]
+mod declares;
+#[cfg(test)]
 mod limits;

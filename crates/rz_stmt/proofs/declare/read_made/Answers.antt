@@ -1,4 +1,4 @@
-use Rattle.std.proofs.Common.{◌∷◌, Bool, List, sym, subst}
+use Rattle.std.proofs.Common.{Bool, List, sym, subst}
 use Rattle.rz_lex.specs.declared.token.Token.{Token}
 use Rattle.rz_stmt.specs.Declare.{made_of, IsMade, IsMadeBy}
 use Rattle.rz_stmt.specs.Reads.{Reads}

@@ -1,4 +1,4 @@
-use Rattle.std.proofs.Common.{Option, sym, subst}
+use Rattle.std.proofs.Common.{Option, subst}
 use Rattle.rz_stmt.specs.Declare.{IsScopeBy}
 use Rattle.rz_stmt.specs.Reads.{itself, Reads}
 use Rattle.rz_stmt.specs.Split.{Parted}

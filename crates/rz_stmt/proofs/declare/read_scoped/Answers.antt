@@ -25,8 +25,15 @@ returns c =
     subst (λ answer. Reads declare_of (IsScoped c.args.mark c.args.kind c.args.tokens.now) answer) (sym (c.declared_of.ensures ∙ ap (mapped make) c.pair.ensures))
     (reads_mapped (λ (parts : Bounds × Made). (parts.0, made_of parts.1)) declare_of (BothAre P Q) (IsScoped c.args.mark c.args.kind c.args.tokens.now)
     make (λ (parts : Bounds × PlainMade). made parts.0 parts.1) (λ parts. refl)
-    (λ parts is. (parted, is.0, is.1, here, is.2, is.3,
-    ap (λ (r : Result (Bounds × PlainMade) Fault). r >>= (λ parts. Ok (made parts.0 parts.1))) is.4 ∙ pair_made made is.0 is.1))
+    (λ parts is. (
+      parted,
+      is.0,
+      is.1,
+      here,
+      is.2,
+      is.3,
+      ap (λ (r : Result (Bounds × PlainMade) Fault). r >>= (λ parts. Ok (made parts.0 parts.1))) is.4 ∙ pair_made made is.0 is.1,
+    ))
     (λ declare is.
     let same = same_some (paren_in c.args.tokens.now) is.0 parted is.3 here in
     (paired is.1 is.2, (is.1, is.2, subst (λ (p : Parted). IsScope c.args.mark p.front is.1) same is.4, subst (λ (p : Parted). IsMade c.args.mark p.behind is.2) same is.5, refl)))

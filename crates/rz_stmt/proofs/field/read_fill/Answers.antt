@@ -1,7 +1,5 @@
-use Rattle.std.proofs.Common.{rules, ℤ, Ok, sym, ap, subst, to_z, of_z, w32, SFits}
-use Rattle.std.specs.declared.result.Result.{Result}
+use Rattle.std.proofs.Common.{rules, Ok, sym, subst, w32, SFits}
 use Rattle.std.proofs.lemmas.Int.{to_z-of_z}
-use Rattle.rz_core.specs.declared.fault.Fault.{Fault}
 use Rattle.rz_stmt.specs.FieldForm.{IsCount, IsFill}
 use Rattle.rz_types.specs.Field.{plain_field, Fill}
 use Rattle.rz_stmt.proofs.Answering.{reads_part}

@@ -14,7 +14,9 @@ returns c =
     let pieces = map (λ piece. piece.now) items in
     let same = c.in_ok-pieces.ensures in
     found_so (map term_of) (AreNumbers c.args.rect c.args.tokens.now) (AreEach IsFieldExpression pieces)
-    (λ terms are. (sym (ap length same) ∙ length-map items (λ piece. piece.now) ∙ ap length (sym c.deref.ensures.value) ∙ c.deref.ensures.len ∙ sym c.len.ensures ∙ c.if-len-count_of.false ∙ c.count_of.ensures,
-    subst (λ (ps : List (List Token)). AreEach IsFieldExpression ps terms) same are))
+    (λ terms are. (
+      sym (ap length same) ∙ length-map items (λ piece. piece.now) ∙ ap length (sym c.deref.ensures.value) ∙ c.deref.ensures.len ∙ sym c.len.ensures ∙ c.if-len-count_of.false ∙ c.count_of.ensures,
+      subst (λ (ps : List (List Token)). AreEach IsFieldExpression ps terms) same are,
+    ))
     (λ terms are. subst (λ (ps : List (List Token)). AreEach IsFieldExpression ps terms) (sym same) are.1)
     c.read_expressions.result (rw c.deref.ensures.value at c.read_expressions.ensures)

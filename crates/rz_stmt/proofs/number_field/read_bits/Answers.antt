@@ -1,4 +1,4 @@
-use Rattle.std.proofs.Common.{rules, ◌≡◌, ℤ, Ok, Some, sym, refl, ap, subst, ◌∙◌, to_z, of_z, w32, SFits}
+use Rattle.std.proofs.Common.{rules, Ok, sym, refl, ap, to_z, of_z, w32, SFits}
 use Rattle.std.proofs.lemmas.Int.{to_z-of_z}
 use Rattle.rz_stmt.specs.FieldValue.{IsConstant}
 use Rattle.rz_stmt.specs.Held.{held_front, held_split}
@@ -10,9 +10,15 @@ use Rattle.rz_stmt.proofs.number_field.read_bits.Goals as goal
 
 pub returns-in-Ok : goal.returns-in-Ok
 returns-in-Ok c =
-    let fits : SFits w32 c.in-Ok-Some.width = search rules in
-    (held_split c.in-Some.split, Ok c.in-Ok-Some.width, tail_of c.in-Some-2.tail, sym c.in-Some.ensures, rw c.in-Ok-Some.field-0-is at c.in-Ok-Some.ensures,
-    rw c.in-Some-2.is at c.in_ok-tail.ensures, sym (rw (to_z-of_z w32 c.in-Ok-Some.width fits) at c.in-Ok.ensures))
+    let fits : SFits w32 c.in-Ok-Some.width = search rules in (
+      held_split c.in-Some.split,
+      Ok c.in-Ok-Some.width,
+      tail_of c.in-Some-2.tail,
+      sym c.in-Some.ensures,
+      rw c.in-Ok-Some.field-0-is at c.in-Ok-Some.ensures,
+      rw c.in-Some-2.is at c.in_ok-tail.ensures,
+      sym (rw (to_z-of_z w32 c.in-Ok-Some.width fits) at c.in-Ok.ensures),
+    )
 
 pub returns-in-Err-make_number : goal.returns-in-Err-make_number
 returns-in-Err-make_number c =
@@ -21,9 +27,15 @@ returns-in-Err-make_number c =
     (number_field c.args.mark c.args.form c.in-Ok-Some.width (held_front c.args.front.now) (tail_of c.in-Some-2.tail))
     (number_field c.args.mark c.args.form (to_z w32 (of_z w32 c.in-Ok-Some.width)) (held_front c.args.front.now) (tail_of c.in-Some-2.tail))
     (ap (λ z. number_field c.args.mark c.args.form z (held_front c.args.front.now) (tail_of c.in-Some-2.tail)) (to_z-of_z w32 c.in-Ok-Some.width fits))
-    c.in-Err-make_number.stop c.in-Err-make_number.ensures
-    (held_split c.in-Some.split, Ok c.in-Ok-Some.width, tail_of c.in-Some-2.tail, sym c.in-Some.ensures, rw c.in-Ok-Some.field-0-is at c.in-Ok-Some.ensures,
-    rw c.in-Some-2.is at c.in_ok-tail.ensures, refl)
+    c.in-Err-make_number.stop c.in-Err-make_number.ensures (
+      held_split c.in-Some.split,
+      Ok c.in-Ok-Some.width,
+      tail_of c.in-Some-2.tail,
+      sym c.in-Some.ensures,
+      rw c.in-Ok-Some.field-0-is at c.in-Ok-Some.ensures,
+      rw c.in-Some-2.is at c.in_ok-tail.ensures,
+      refl,
+    )
 
 pub returns-in-Ok-None : goal.returns-in-Ok-None
 returns-in-Ok-None c field is =

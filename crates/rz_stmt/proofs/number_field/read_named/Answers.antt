@@ -1,4 +1,4 @@
-use Rattle.std.proofs.Common.{sym, subst, map, List}
+use Rattle.std.proofs.Common.{sym, subst, List}
 use Rattle.rz_lex.specs.declared.token.Token.{Token}
 use Rattle.rz_stmt.specs.Each.{AreEach}
 use Rattle.rz_stmt.specs.Symbols.{IsSymbol}

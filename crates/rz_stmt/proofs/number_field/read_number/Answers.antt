@@ -1,4 +1,4 @@
-use Rattle.std.proofs.Common.{rules, ◌≡◌, ℤ, Option, Some, sym, ap, subst, ◌∙◌, w32, SFits}
+use Rattle.std.proofs.Common.{rules, ℤ, Option, Some, sym, ap, subst, ◌∙◌, w32, SFits}
 use Rattle.std.proofs.lemmas.Int.{to_z-of_z}
 use Rattle.rz_stmt.specs.Held.{held_front}
 use Rattle.rz_stmt.specs.NumberField.{IsNumberBy}

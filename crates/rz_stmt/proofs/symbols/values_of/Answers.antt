@@ -1,12 +1,11 @@
-use Rattle.std.proofs.Common.{rules, ◌≡◌, ◌+◌, ◌∷◌, ◌++◌, [], ℤ, List, drop, map, Err, Ok, sym, ap, ◌∙◌, to_z, of_z, w32, SFits}
+use Rattle.std.proofs.Common.{rules, ◌+◌, ◌∷◌, ◌++◌, [], ℤ, List, drop, map, Err, sym, ap, ◌∙◌, to_z, of_z, w32, SFits}
 use Rattle.std.specs.Prelude.{pos, ◌+ℤ◌}
 use Rattle.std.proofs.lemmas.Int.{to_z-of_z}
 use Rattle.std.proofs.lemmas.List.{at_drop_more}
 use Rattle.rz_core.specs.declared.fault.Fault.{Fault}
 use Rattle.rz_expr.specs.Value.{reduced}
-use Rattle.rz_stmt.specs.Symbols.{fits_number, named_of, out_of_range, values_of, NamedTerm}
+use Rattle.rz_stmt.specs.Symbols.{fits_number, named_of, out_of_range, values_of}
 use Rattle.rz_stmt.specs.declared.symbols.Named.{Named}
-use Rattle.rz_types.specs.declared.field.Symbol.{Symbol}
 use Rattle.rz_stmt.proofs.Valued.{behind_symbols, no_room, one_more}
 use Rattle.rz_stmt.proofs.symbols.values_of.Goals as goal
 
