@@ -33,7 +33,7 @@ use Rattle.rz_show.specs.Head.{data_head}
 use Rattle.rz_show.specs.Page.{AreCut}
 use Rattle.rz_show.specs.Statement.{is_shown, shown_raw, shown_words, AreShown, AreWhole, IsPrintedAs, IsStored, IsWhole}
 use Rattle.rz_source.specs.Source.{mark, IsTextOf, IsUnmarked}
-use Rattle.rz_stmt.specs.Grammar.{mark_of, Data, Parses}
+use Rattle.rz_stmt.specs.Grammar.{mark_of, Data, IsStatement, Parses}
 use Rattle.rz_stmt.specs.Raw.{Raw}
 use Rattle.rz_stmt.specs.Statements.{AreStatements}
 use Rattle.rz_tools.specs.Again.{AreShort, MeanResources, MeansAgain, MeansFork, NoneIsLive, ShowsAgain}
@@ -160,7 +160,7 @@ one_step : (redeclare : Bool) (types : List Declaration) (warnings : List Fault)
 unfolding work
 one_step redeclare types warnings front tokens raw r whole value new =
     let behind : put_unless_protected (mark_of tokens) front r ≡ Ok (front ++ r ∷ []) = rw (new_name front r new, put_new front r new) refl in
-    inl (Data raw, Parses.statement (Data raw) whole.within whole.is refl, sym (ap (with_list (work types warnings front)) (ap (λ o. o >>= put_unless_protected (mark_of tokens) front) value ∙ behind)))
+    inl (Data raw, Parses.statement whole.within (IsStatement.data_statement raw whole.is refl), sym (ap (with_list (work types warnings front)) (ap (λ o. o >>= put_unless_protected (mark_of tokens) front) value ∙ behind)))
 
 has_statements : (list : List Resource) (tokens : List Token) → AreWhole tokens list → AllByRecursion IsStored list → AllByRecursion FitsFork list → AreShort list → HasStatements list tokens
 has_statements [] tokens whole stored fits short = record {

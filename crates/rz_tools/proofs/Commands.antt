@@ -237,7 +237,7 @@ module _ (name piece : List ℕ) (making : Making) (Makes : Files → Result Mak
       → Runs (λ files. Answered (written name files) (Makes files) files) (saying making.said (written_outcome end)) before after out out read_failed (Rose faults_before faults_after)
   writes_through end made same_bytes same_files same_faults told cause =
       writes name making Makes one after out read_failed (Rose faults_before faults_after) before end made
-      (subst (λ (x : Option Files). Writes name bytes x after end) same_files (subst (λ (x : List ℕ). Writes name x mid after end) same_bytes told))
+      (subst (λ (x : Option Files). Writes name making.bytes x after end) same_files (subst (λ (x : List ℕ). Writes name x mid after end) same_bytes told))
       (λ failed. subst (λ n. Rose n faults_after) same_faults (cause failed))
 
 -- a text that was written to the output, where each answer is to write it

@@ -4,6 +4,7 @@ use Rattle.std.specs.Prelude.{IfSome}
 use Rattle.std.specs.declared.option.Option.{Option}
 use Rattle.std.specs.declared.result.Result.{Result}
 use Rattle.rz_core.specs.declared.fault.Fault.{Fault}
+use Rattle.rz_core.specs.declared.resource.Resource.{Resource}
 use Rattle.rz_folder.specs.Folder.{Files}
 use Rattle.rz_lex.specs.declared.token.Token.{Token}
 use Rattle.rz_pre.specs.Program.{ProgramGoes, State}
@@ -16,7 +17,7 @@ use Rattle.rz_stmt.specs.Grammar.{AreWithin}
 use Rattle.rz_stmt.specs.Statements.{AreStatements}
 use Rattle.rz_tools.specs.Answer.{Failing, Making}
 use Rattle.rz_tools.specs.Made.{MadeSo, Refuses}
-use Rattle.rz_tools.specs.Rez.{fork_of_work, warning_lines, Compiles, Forked, HasFork, Said}
+use Rattle.rz_tools.specs.Rez.{fork_of_work, forked, list_fork, warning_lines, Compiles, Forked, HasFork, Said}
 use Rattle.rz_tools.specs.Step.{nothing_made, Means, Stopped, Work}
 use Rattle.rz_tools.specs.ToolWords.{numbered}
 use Rattle.rz_tools.specs.declared.made.Made.{Made}
@@ -63,6 +64,19 @@ refused_so files fault warnings P is (Err (stops.Refused given names lines)) ref
     (record { fault = fault; warnings = warnings }, is, λ i. record { fault = refuses.0 i; files = refuses.1 i; said = refuses.2 i })
 refused_so files fault warnings P is (Err stops.ReadFault) refuses = absurd refuses
 refused_so files fault warnings P is (Err stops.NoMemory) refuses = tt
+
+-- The fork of what was made.
+module _ (work : Work) (list : List Resource) (files : List (List ℕ)) (same : list ≡ work.list) where
+  of_work : (fork : Result (List ℕ) Fault) → list_fork list ≡ fork → forked work.warnings fork ≡ fork_of_work work
+  of_work fork is = sym (ap (λ (l : List Resource). forked work.warnings (list_fork l)) (sym same) ∙ ap (forked work.warnings) is)
+
+  pub work_forked : (bytes said : List ℕ) → list_fork list ≡ Ok bytes → said ≡ warning_lines files work.warnings
+      → Said files (λ answer. answer ≡ fork_of_work work) (Ok (record { bytes = bytes; said = said }))
+  work_forked bytes said is lines = (record { bytes = bytes; warnings = work.warnings }, of_work (Ok bytes) is, λ i. record { bytes = bytes; said = lines i })
+
+  pub no_fork : (fault : Fault) (result : Result Made Stops) → list_fork list ≡ Err fault → Refuses fault files (warning_lines files work.warnings) result
+      → MadeSo result (Said files (λ answer. answer ≡ fork_of_work work))
+  no_fork fault result is refuses = refused_so files fault work.warnings (λ answer. answer ≡ fork_of_work work) (of_work (Err fault) is) result refuses
 
 -- What the program means.
 

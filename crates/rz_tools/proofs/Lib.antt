@@ -1,5 +1,6 @@
 pub mod Puts
 pub mod Limits
+pub mod TypeFaults
 pub mod Said
 pub mod Commands
 pub mod Answered

@@ -11,11 +11,16 @@ use Rattle.rz_core.specs.Stop.{Gives, OnFault, ◌>>=◌}
 use Rattle.rz_core.specs.declared.stop.Stop.{Stop}
 use Rattle.rz_core.specs.declared.stop.Stop.TheVariants.{Refused, NoMemory}
 use Rattle.rz_stmt.specs.Declare as declare
-use Rattle.rz_stmt.specs.Grammar.{mark_of, AreWithin, Data, Declare, Empty, Gave, Parses}
+use Rattle.rz_stmt.specs.Grammar.{mark_of, AreWithin, Data, Declares, Empty, Gave, Parses}
 use Rattle.rz_stmt.specs.Raw.{Raw}
 use Rattle.rz_tools.specs.Data.{resource_of}
 use Rattle.rz_stmt.specs.Statements.{spans_from, AreStatements, IsRest, IsStatement}
 use Rattle.rz_stmt.specs.declared.span.Span.{Span}
+use Rattle.rz_core.specs.Resources.{KeysDiffer}
+use Rattle.rz_fork.specs.Image.{AreNamed}
+use Rattle.rz_tools.specs.Held.{work_of, AreNameable}
+use Rattle.rz_tools.specs.ResourceList.{values_of}
+use Rattle.rz_tools.specs.declared.step.Work as held
 use Rattle.rz_tools.specs.Step.{all_at, declared, list_behind, nothing_made, put_unless_protected, tokens_at, with_list, AreSpans, IsSpan, Means, Stepped, Steps, Stopped, Work, Worked}
 
 -- whatever the statements of the rest mean behind this, all mean so
@@ -41,6 +46,20 @@ module _ (redeclare : Bool) (tokens : List Token) (all rest behind : List Span) 
 pub leads_end : (redeclare : Bool) (tokens : List Token) (all rest : List Span) (work : Work) → LeadsTo redeclare tokens all rest work → rest ≡ []
     → Means redeclare nothing_made (all_at tokens all) (Ok work)
 leads_end redeclare tokens all rest work leads none = leads (Ok work) (subst (λ (ss : List Span). Means redeclare work (all_at tokens ss) (Ok work)) (sym none) refl)
+
+-- nothing is made before the first
+module _ (held : held.Work) (nothing : work_of held ≡ nothing_made) where
+  pub leads_from : (redeclare : Bool) (tokens : List Token) (all : List Span) → LeadsTo redeclare tokens all all (work_of held)
+  leads_from redeclare tokens all answer means = subst (λ (w : Work). Means redeclare w (all_at tokens all) answer) nothing means
+
+  pub none_is_named : AreNamed (values_of held.held.entries)
+  none_is_named = subst (λ (w : Work). AreNamed w.list) (sym nothing) tt
+
+  pub none_is_twice : KeysDiffer [] (values_of held.held.entries)
+  none_is_twice = subst (λ (w : Work). KeysDiffer [] w.list) (sym nothing) tt
+
+  pub none_is_warned : (files : ℕ) → AreNameable files held.warnings
+  none_is_warned files = subst (λ (w : Work). AreNameable files w.warnings) (sym nothing) tt
 
 -- The spans of statements.
 
@@ -123,12 +142,12 @@ module _ (redeclare : Bool) (work : Work) (ts : List Token) where
       (inl (Data raw, parsed, ap (with_list work) (done ∙ ap (λ m. list_behind m work.list raw) (sym same))), refl)
   raw_done raw mark (Err NoMemory) after parsed same done = tt
 
-  pub declare_done : (one : declare.Declare) (mark : Mark) (result : Result (Unit {0}) (Stop Fault)) (after : Work) → Parses ts (Ok (Declare one)) → mark_of ts ≡ mark
+  pub declare_done : (one : declare.Declare) (mark : Mark) (result : Result (Unit {0}) (Stop Fault)) (after : Work) → Parses ts (Ok (Declares one)) → mark_of ts ≡ mark
       → Stepped (λ answer. answer ≡ declared redeclare mark work one) result after → OnFault result (λ fault. after.warnings ≡ work.warnings)
       → Worked (Steps redeclare work ts) result after
-  declare_done one mark (Ok nothing) after parsed same done kept = inl (Declare one, parsed, done ∙ ap (λ m. declared redeclare m work one) (sym same))
+  declare_done one mark (Ok nothing) after parsed same done kept = inl (Declares one, parsed, done ∙ ap (λ m. declared redeclare m work one) (sym same))
   declare_done one mark (Err (Refused fault)) after parsed same done kept =
-      (inl (Declare one, parsed, done ∙ ap (λ m. declared redeclare m work one) (sym same)), kept)
+      (inl (Declares one, parsed, done ∙ ap (λ m. declared redeclare m work one) (sym same)), kept)
   declare_done one mark (Err NoMemory) after parsed same done kept = tt
 
 module _ (mark : Mark) (list : List Resource) (raw : Raw) where

@@ -14,7 +14,7 @@ use Rattle.rz_lex.specs.declared.token.Token.{Token}
 use Rattle.rz_pre.specs.Answers.{Then}
 use Rattle.rz_core.specs.declared.resource.OsType.{OsType}
 use Rattle.rz_stmt.specs.Declare as declare
-use Rattle.rz_stmt.specs.Grammar.{mark_of, Data, Declare, Empty, Parses, Statement}
+use Rattle.rz_stmt.specs.Grammar.{mark_of, Data, Declares, Empty, Parses, Statement}
 use Rattle.rz_stmt.specs.Raw.{Raw}
 use Rattle.rz_stmt.specs.declared.span.Span.{Span}
 use Rattle.rz_tools.specs.Data.{resource_of}
@@ -85,7 +85,7 @@ declared redeclare mark work one =
 abbrev pub work_behind : Bool → Mark → Work → Statement → Result Work Fault
 work_behind redeclare mark work Empty = Ok work
 work_behind redeclare mark work (Data raw) = with_list work (list_behind mark work.list raw)
-work_behind redeclare mark work (Declare one) = declared redeclare mark work one
+work_behind redeclare mark work (Declares one) = declared redeclare mark work one
 
 -- a fault, and what was warned of before it
 pub record Stopped : Type 0 where

@@ -38,7 +38,7 @@ pub fn resource_of(alloc: Global, raw: &RawStmt, mark: Mark) -> Result<Resource,
 }
 
 /// The id that a value is.
-fn id_of(value: i32, mark: Mark) -> Result<i16, Stop<Fault>>
+pub fn id_of(value: i32, mark: Mark) -> Result<i16, Stop<Fault>>
     ensures id { Gives (id_of mark value) result }
     ensures nameable { (files : ℕ) → mark.file < files → OnFault result (IsNameable files) }
 {

@@ -1,6 +1,7 @@
 use Rattle.std.proofs.Common.{◌≡◌}
 use Rattle.rz_folder.specs.declared.folder.Written.TheVariants as ends
 use Rattle.rz_tools.specs.Answer.{written}
+use Rattle.rz_tools.specs.Made.{making_of}
 use Rattle.rz_tools.specs.Rez.{Compiles}
 use Rattle.rz_tools.proofs.Commands.{stopped, writes_through}
 use Rattle.rz_tools.proofs.OneAnswer.{one_compiled}
@@ -10,14 +11,14 @@ use Rattle.rz_tools.proofs.rez.run_rez.Goals as goal
 pub returns-in-Done-clause-runs : goal.returns-in-Done-clause-runs
 returns-in-Done-clause-runs g c out =
     let asked = rez c.args.words.now in
-    rw c.with.ensures (writes_through asked.output c.in-Ok.fork _ (Compiles asked)
+    rw c.saying.ensures (writes_through asked.output _ (making_of c.in-Ok.made) (Compiles asked)
     (one_compiled c.one_cutting.ensures c.one_statement.ensures c.one_program.ensures asked) _ _ _ out _ _ _ _ ends.Done c.in-Ok.ensures.fork c.as_slice.ensures
     c.in-Ok.ensures.unchanged c.in-Ok.ensures.other_count c.in-Done.ensures.told (λ (is : ends.Done ≡ ends.Failed). cc))
 
 pub returns-in-Ok-clause-runs : goal.returns-in-Ok-clause-runs
 returns-in-Ok-clause-runs g c out =
     let asked = rez c.args.words.now in
-    rw c.with-in-Failed.ensures (writes_through asked.output c.in-Ok.fork _ (Compiles asked)
+    rw c.saying-in-Failed.ensures (writes_through asked.output _ (making_of c.in-Ok.made) (Compiles asked)
     (one_compiled c.one_cutting.ensures c.one_statement.ensures c.one_program.ensures asked) _ _ _ out _ _ _ _ ends.Failed c.in-Ok.ensures.fork c.as_slice.ensures
     c.in-Ok.ensures.unchanged c.in-Ok.ensures.other_count c.in-Failed.ensures.told c.in-Failed.ensures.cause)
 

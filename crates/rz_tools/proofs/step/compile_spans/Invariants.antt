@@ -1,6 +1,8 @@
-use Rattle.std.proofs.Common.{[], drop}
+use Rattle.std.proofs.Common.{ℕ, [], drop}
 use Rattle.rz_core.specs.Resources.{KeysDiffer}
 use Rattle.rz_fork.specs.Image.{AreNamed}
+use Rattle.rz_stmt.specs.Grammar.{AreWithin}
+use Rattle.rz_tools.specs.Held.{work_of, AreNameable}
 use Rattle.rz_tools.specs.ResourceList.{values_of, IsKeyed}
 use Rattle.rz_tools.specs.Step.{AreSpans}
 use Rattle.rz_tools.proofs.Stepping.{LeadsTo}
@@ -8,9 +10,10 @@ use Rattle.rz_tools.proofs.step.compile_spans.Given as goal
 
 abbrev pub invariant-loop-span : goal.invariant-loop-span
 invariant-loop-span l = record {
-  leads : LeadsTo l.tokens l.span-items (drop l.span-index l.span-items) (values_of l.held.entries);
+  leads : LeadsTo l.redeclare l.tokens l.span-items (drop l.span-index l.span-items) (work_of l.work);
   spans : AreSpans l.tokens (drop l.span-index l.span-items);
-  keyed : IsKeyed l.held.entries;
-  named : AreNamed (values_of l.held.entries);
-  differ : KeysDiffer [] (values_of l.held.entries);
+  keyed : IsKeyed l.work.held.entries;
+  named : AreNamed (values_of l.work.held.entries);
+  differ : KeysDiffer [] (values_of l.work.held.entries);
+  warned : (files : ℕ) → AreWithin files l.tokens → AreNameable files l.work.warnings;
 }
