@@ -113,7 +113,7 @@ fn say<E: Sink>(alloc: Global, ended: Ended, err: &mut E) -> Outcome
     } = ended;
     let said = said.as_slice();
     match &outcome {
-        Outcome::Done => put_lines(said, b"", err),
+        Outcome::Done => put_line(said, err),
         Outcome::ReadFault => put_lines(said, b"rezkit: read fault\n", err),
         Outcome::WriteFault => put_lines(said, b"rezkit: write fault\n", err),
         Outcome::NoMemory => put_lines(said, b"rezkit: no memory\n", err),
@@ -135,8 +135,11 @@ fn put_lines<E: Sink>(lines: &[u8], line: &[u8], err: &mut E)
 {
     if lines.is_empty() {
         put_line(line, err);
-    } else if matches!(err.put(lines), Put::Done) {
-        put_line(line, err);
+    } else {
+        match err.put(lines) {
+            Put::Done => put_line(line, err),
+            Put::Failed => {}
+        }
     }
 }
 
