@@ -5,6 +5,7 @@ pub mod Limit
 pub mod Text
 pub mod Piece
 pub mod Split
+pub mod CutBy
 pub mod FieldWord
 pub mod Held
 pub mod Head

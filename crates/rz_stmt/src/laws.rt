@@ -1,9 +1,12 @@
 ghost use Rattle.std.specs.Prelude.{◌≡◌, ◌↔◌, true, List, Result};
 ghost use Rattle.rz_core.specs.declared.fault.Fault.{Fault};
 ghost use Rattle.rz_lex.specs.declared.token.Token.{Token};
+ghost use Rattle.rz_stmt.specs.CutBy.{AreCut};
 ghost use Rattle.rz_stmt.specs.Grammar.{Parses, Statement};
 ghost use Rattle.rz_stmt.specs.Limit.{is_within_limits, KeepsLimits};
+ghost use Rattle.rz_stmt.specs.Split.{pieces_by};
 ghost use Rattle.rz_stmt.specs.Statements.{AreStatements};
+ghost use Rattle.rz_stmt.specs.declared.split.Divider.{Divider};
 
 use rz_expr::one_expression;
 
@@ -25,3 +28,9 @@ pub fn one_statement()
 {
     one_expression();
 }
+
+/// A law, with nothing to run: the pieces of tokens are these tokens again, with one sign that divides between
+/// two of them, outside brackets, and no such sign within one of them.
+pub fn pieces_are_cut()
+    ensures { (divider : Divider) (tokens : List Token) → AreCut divider 0 tokens (pieces_by divider 0 tokens) }
+{}
