@@ -16,6 +16,7 @@ pub mod Each
 pub mod Reads
 pub mod FieldValue
 pub mod Symbols
+pub mod GoOn
 pub mod NumberField
 pub mod FieldForm
 pub mod Body
