@@ -2,6 +2,8 @@
 #![tactic(auto)]
 
 #[cfg(test)]
+mod constants;
+#[cfg(test)]
 mod expression_faults;
 #[cfg(test)]
 mod expressions;

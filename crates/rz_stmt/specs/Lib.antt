@@ -5,6 +5,7 @@ pub mod Limit
 pub mod Text
 pub mod Piece
 pub mod Split
+pub mod CutBy
 pub mod FieldWord
 pub mod Held
 pub mod Head
@@ -15,6 +16,7 @@ pub mod Each
 pub mod Reads
 pub mod FieldValue
 pub mod Symbols
+pub mod GoOn
 pub mod NumberField
 pub mod FieldForm
 pub mod Body

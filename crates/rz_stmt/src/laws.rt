@@ -1,10 +1,17 @@
-ghost use Rattle.std.specs.Prelude.{◌≡◌, ◌↔◌, true, List, Result, Some};
+ghost use Rattle.std.specs.Prelude.{◌≡◌, ◌↔◌, true, Bool, ℤ, List, Ok, Result, Some};
 ghost use Rattle.rz_core.specs.declared.fault.Fault.{Fault};
+ghost use Rattle.rz_core.specs.declared.fault.Mark.{Mark};
+ghost use Rattle.rz_types.specs.declared.field.Symbol.{Symbol};
+ghost use Rattle.rz_stmt.specs.GoOn.{HaveValues};
+ghost use Rattle.rz_stmt.specs.Symbols.{values_of, NamedTerm};
 ghost use Rattle.rz_lex.specs.declared.token.Token.{Token};
+ghost use Rattle.rz_stmt.specs.CutBy.{AreCut};
 ghost use Rattle.rz_stmt.specs.Grammar.{Parses, Statement};
 ghost use Rattle.rz_stmt.specs.Limit.{is_within_limits, KeepsLimits};
 ghost use Rattle.rz_stmt.specs.Piece.{pieces_in, Cut, IsCut};
+ghost use Rattle.rz_stmt.specs.Split.{pieces_by};
 ghost use Rattle.rz_stmt.specs.Statements.{AreStatements};
+ghost use Rattle.rz_stmt.specs.declared.split.Divider.{Divider};
 
 use rz_expr::one_expression;
 
@@ -33,3 +40,17 @@ pub fn one_statement()
 {
     one_expression();
 }
+
+/// A law, with nothing to run: the pieces of tokens are these tokens again, with one sign that divides between
+/// two of them, outside brackets, and no such sign within one of them.
+pub fn pieces_are_cut()
+    ensures { (divider : Divider) (tokens : List Token) → AreCut divider 0 tokens (pieces_by divider 0 tokens) }
+{}
+
+/// A law, with nothing to run: where symbols have values, there are as many as names; each has its name, a
+/// value in the range, and the one that is given, or else one more than the symbol before, wrapped to 32 bits;
+/// the first value at the front.
+pub fn symbols_have_values()
+    ensures { (fits : ℤ → Bool) (mark : Mark) (names : List NamedTerm) (first : ℤ) (symbols : List Symbol)
+        → values_of fits mark first names ≡ Ok symbols → HaveValues fits mark first names symbols }
+{}

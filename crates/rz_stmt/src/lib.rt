@@ -25,7 +25,10 @@ pub use cutting::{one_cutting, statements};
 pub use declare::{Bounds, DeclareStmt, Made};
 pub use grammar::{Stmt, parse};
 pub use head::{AttrPart, AttrParts, HeadExpr};
-pub use laws::{all_tokens_are_statements, limits_are_kept, one_statement, pieces_are_joined};
+pub use laws::{
+    all_tokens_are_statements, limits_are_kept, one_statement, pieces_are_cut, pieces_are_joined,
+    symbols_have_values,
+};
 pub use number::number_of;
 pub use raw::RawStmt;
 pub use span::{Span, Spans};

@@ -1,12 +1,15 @@
 -- Puts of lines, one behind the other.
-use Rattle.std.proofs.Common.{◌≡◌, ℕ, zero, suc, ◌+◌, ◌≤◌, List, [], ◌∷◌, ◌++◌, length, take, Some, None, refl, sym, ap, subst, ◌∙◌, arith, append_assoc}
+use Rattle.std.proofs.Common.{◌≡◌, ℕ, zero, suc, ◌+◌, ◌≤◌, List, [], ◌∷◌, ◌++◌, length, take, Some, None, refl, sym, ap, subst, ◌∙◌, arith, append_assoc, append-nil}
 use Rattle.std.specs.declared.option.Option.{Option}
 use Rattle.std.proofs.lemmas.List.{take_all}
 use Rattle.rz_folder.specs.Counts.{Rose}
 use Rattle.rz_folder.specs.Sink.{Puts}
 use Rattle.rz_folder.specs.declared.sink.Put.{Put}
 use Rattle.rz_folder.specs.declared.sink.Put.TheVariants.{Done, Failed}
+use Rattle.rz_tools.specs.Message.{message, told}
 use Rattle.rz_tools.specs.Program.{Says}
+use Rattle.rz_tools.specs.declared.outcome.Outcome.{Outcome}
+use Rattle.rz_tools.specs.declared.outcome.Outcome.TheVariants as outcomes
 
 pub said : (line : List ℕ) (before after : Option (List ℕ)) (faults_before faults_after : ℕ) (result : Put)
     → Puts line before after result → (result ≡ Failed → Rose faults_before faults_after) → Says line before after faults_before faults_after
@@ -28,7 +31,10 @@ front_of (suc n) (x ∷ xs) ys = let more = front_of n xs ys in (suc more.0, ap 
 
 -- the first text and a front of the second is a front of both
 front_behind : (n : ℕ) (xs ys : List ℕ) → xs ++ take n ys ≡ take (length xs + n) (xs ++ ys)
-front_behind n [] ys = refl
+front_behind n [] ys = ap (λ k. take k ys) same
+  where
+    same : n ≡ 0 + n
+    same = omega arith
 front_behind n (x ∷ xs) ys = ap (λ (l : List ℕ). x ∷ l) (front_behind n xs ys) ∙ ap (λ k. take k (x ∷ (xs ++ ys))) more
   where
     more : suc (length xs + n) ≡ length (x ∷ xs) + n
@@ -56,3 +62,16 @@ module _ (lines line : List ℕ) where
   failed_said (Some before) after faults_before faults_after told rose =
       let front = front_of told.0 lines line in
       ((front.0, told.1 ∙ ap (λ (l : List ℕ). Some (before ++ l)) front.1), λ kept. absurd (kept rose))
+
+-- the line comes behind what is said before it
+told_all : (files : List (List ℕ)) (before : List ℕ) (outcome : Outcome) → before ++ message files outcome ≡ told files before outcome
+told_all files before outcomes.Done = append-nil before
+told_all files before (outcomes.Usage fault) = refl
+told_all files before (outcomes.Refused fault) = refl
+told_all files before outcomes.ReadFault = refl
+told_all files before outcomes.WriteFault = refl
+told_all files before outcomes.NoMemory = refl
+
+pub told_line : (files : List (List ℕ)) (before : List ℕ) (outcome : Outcome) (lines line : List ℕ) → lines ≡ before → line ≡ message files outcome
+    → lines ++ line ≡ told files before outcome
+told_line files before outcome lines line same is = (λ i. same i ++ is i) ∙ told_all files before outcome

@@ -8,7 +8,7 @@ use Rattle.rz_tools.proofs.derez.run_derez.Goals as goal
 pub returns-in-Ok-clause-runs : goal.returns-in-Ok-clause-runs
 returns-in-Ok-clause-runs g c =
     let file = c.args.words.file.now in
-    rw c.saying.ensures (shows_made _ (making_of c.in-Ok.made) (λ files answer. answer ≡ derez_text file files) (λ files a b is also. is ∙ sym also)
+    rw c.saying.ensures (shows_made _ (making_of c.in-Ok.text) (λ files answer. answer ≡ derez_text file files) (λ files a b is also. is ∙ sym also)
     _ _ _ _ _ _ _ c.in-Ok.ensures.text c.as_slice.ensures c.in-Ok.ensures.unchanged c.show_text.ensures)
 
 pub returns-in-Err-clause-runs : goal.returns-in-Err-clause-runs

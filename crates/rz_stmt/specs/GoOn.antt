@@ -1,0 +1,26 @@
+-- The symbols of a number in the words of the language.
+use Rattle.std.specs.Prelude.{◌≡◌, ℕ, zero, suc, ℤ, pos, ◌+ℤ◌, Bool, true, List, length, slice_get, Some, None, Ok}
+use Rattle.rz_core.specs.declared.fault.Mark.{Mark}
+use Rattle.rz_expr.specs.Term.{Term}
+use Rattle.rz_expr.specs.Value.{reduced}
+use Rattle.rz_stmt.specs.Number.{number_of}
+use Rattle.rz_stmt.specs.Symbols.{NamedTerm}
+use Rattle.rz_types.specs.declared.field.Symbol.{Symbol}
+
+-- one more than the symbol before, or at the front the first value
+abbrev pub IsNext : ℤ → ℕ → List Symbol → ℤ → Type 0
+IsNext first zero symbols value = value ≡ first
+IsNext first (suc k) symbols value = (before : Symbol) → slice_get symbols k ≡ Some before → value ≡ reduced (before.value +ℤ pos 1)
+
+-- the symbol at this position has its name, a value in the range, and the one that is given, or else the next
+pub record HasItsValue (fits : ℤ → Bool) (mark : Mark) (first : ℤ) (symbols : List Symbol) (k : ℕ) (named : NamedTerm) (symbol : Symbol) : Type 0 where
+  pub name : symbol.name ≡ named.name
+  pub in_range : fits symbol.value ≡ true
+  pub given : (term : Term) → named.value ≡ Some term → number_of mark term ≡ Ok symbol.value
+  pub onward : named.value ≡ None → IsNext first k symbols symbol.value
+
+-- so have they all
+pub record HaveValues (fits : ℤ → Bool) (mark : Mark) (first : ℤ) (names : List NamedTerm) (symbols : List Symbol) : Type 0 where
+  pub each : (k : ℕ) (named : NamedTerm) (symbol : Symbol) → slice_get names k ≡ Some named → slice_get symbols k ≡ Some symbol
+      → HasItsValue fits mark first symbols k named symbol
+  pub as_many : length symbols ≡ length names
