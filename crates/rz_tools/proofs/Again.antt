@@ -1,12 +1,10 @@
 -- The text that is shown of a list means the list again.
-use Rattle.std.proofs.Common.{◌≡◌, ◌≢◌, ℕ, ◌<◌, ◌≤◌, Bool, true, false, List, [], ◌∷◌, ◌++◌, map, length, Option, Some, None, Ok, inl, refl, sym, ap, subst, ◌∙◌, append_assoc, arith}
+use Rattle.std.proofs.Common.{◌≡◌, ◌≢◌, ℕ, Bool, true, false, List, [], ◌∷◌, ◌++◌, map, length, Option, Some, None, Ok, inl, refl, sym, ap, subst, ◌∙◌, append_assoc, arith}
 use Rattle.std.specs.Prelude.{◌==◌, ◌&&◌, IfSome}
-use Rattle.std.specs.FinMap as finite
 use Rattle.std.specs.List.{flat_map, list_any, AllByRecursion}
 use Rattle.std.specs.Str.{bytes_eq, str_to_ascii_lowercase}
 use Rattle.std.proofs.lemmas.Bool.{or_parts, false≢true}
 use Rattle.std.proofs.lemmas.Bool.Decides.{nat_tests}
-use Rattle.std.proofs.lemmas.Grind.{flat_map-append}
 use Rattle.std.proofs.lemmas.List.{append-nil}
 use Rattle.std.proofs.lemmas.List.Concat.{flat_map-cons}
 use Rattle.std.proofs.lemmas.Slice.Eq.{bytes_eq-Decides}
@@ -38,7 +36,7 @@ use Rattle.rz_stmt.specs.Raw.{Raw}
 use Rattle.rz_stmt.specs.Statements.{AreStatements}
 use Rattle.rz_tools.specs.Again.{AreShort, MeanResources, MeansAgain, MeansFork, NoneIsLive, ShowsAgain}
 use Rattle.rz_tools.specs.Data.{resource_of}
-use Rattle.rz_tools.specs.Step.{namesake, protects, put_unless_protected, with_list, Means, Steps, Work}
+use Rattle.rz_tools.specs.Step.{namesake, put_unless_protected, with_list, Means, Steps, Work}
 use Rattle.rz_words.specs.Command.{DeRez}
 use Rattle.rz_types.specs.Table.{Declaration}
 use Rattle.rz_tools.specs.ToolWords.{number_in, numbered, tool_named}

@@ -1,10 +1,9 @@
 -- Lines that are cut into tokens, none of which is a live macro, put out these tokens.
-use Rattle.std.proofs.Common.{◌≡◌, ◌≢◌, ℕ, Bool, true, false, List, [], ◌∷◌, ◌++◌, map, Option, Some, None, Ok, inl, refl, sym, ap, subst, ◌∙◌, arith, append_assoc}
-use Rattle.std.specs.Prelude.{◌==◌, ◌≤◌}
-use Rattle.std.specs.List.{flat_map, AllByRecursion}
+use Rattle.std.proofs.Common.{◌≡◌, ℕ, Bool, true, false, List, [], ◌∷◌, ◌++◌, map, None, Ok, inl, refl, sym, ap, subst, ◌∙◌, arith, append_assoc}
+use Rattle.std.specs.Prelude.{◌==◌}
+use Rattle.std.specs.List.{AllByRecursion}
 use Rattle.std.proofs.lemmas.Bool.{eqb-true, false≢true}
 use Rattle.std.proofs.lemmas.List.{append-nil}
-use Rattle.std.specs.declared.result.Result.{Result}
 use Rattle.rz_core.specs.declared.fault.Mark.{Mark}
 use Rattle.rz_lex.specs.Classes.{is_blank}
 use Rattle.rz_lex.specs.Cutting.{after_blanks, Cuts}
@@ -14,11 +13,11 @@ use Rattle.rz_lex.specs.Sign.{is_sign}
 use Rattle.rz_lex.specs.declared.raw_line.RawLine.{RawLine}
 use Rattle.rz_lex.specs.declared.token.Shape.{Shape}
 use Rattle.rz_lex.specs.declared.token.Token.{Token}
-use Rattle.rz_pre.specs.Expand.{Expansion, ExpandsTo}
+use Rattle.rz_pre.specs.Expand.{Expansion}
 use Rattle.rz_pre.specs.Expanded.{ExpandInto}
 use Rattle.rz_pre.specs.Line.{Acts}
 use Rattle.rz_pre.specs.Live.{body_of, Live}
-use Rattle.rz_pre.specs.Program.{Failure, Includes, LinesGo, State}
+use Rattle.rz_pre.specs.Program.{Includes, LinesGo, State}
 use Rattle.rz_pre.specs.declared.act.Act.TheVariants.{Put}
 use Rattle.rz_pre.specs.declared.condition.Tool.{Tool}
 use Rattle.rz_show.specs.Page.{AreCut}

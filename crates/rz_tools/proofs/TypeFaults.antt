@@ -1,5 +1,5 @@
 -- What types are refused with is a rule of the table of faults.
-use Rattle.std.proofs.Common.{◌≡◌, ℕ, ℤ, List, [], ◌∷◌, ◌++◌, length, Err, Ok, Some, None, refl, sym, subst}
+use Rattle.std.proofs.Common.{◌≡◌, ℕ, ℤ, List, [], ◌∷◌, ◌++◌, length, Err, Ok, Some, None, refl, subst}
 use Rattle.std.specs.Prelude.{IfSome, option_map}
 use Rattle.std.specs.Option.{ok_or}
 use Rattle.std.specs.declared.option.Option.{Option}

@@ -1,6 +1,6 @@
 -- The values of a statement that is shown are those of its resource.
-use Rattle.std.proofs.Common.{◌≡◌, ℕ, zero, suc, ◌-◌, ◌<◌, ◌≤◌, ◌^◌, ℤ, pos, negsuc, Bool, true, false, List, [], ◌∷◌, ◌++◌, map, length, Option, Some, None, Ok, Err, refl, sym, ap, ◌∙◌, arith}
-use Rattle.std.specs.Prelude.{◌==◌, ◌&&◌, nat_le, nat_lt, int_le, if◌then◌else◌, FitsSigned}
+use Rattle.std.proofs.Common.{◌≡◌, ℕ, ◌<◌, ◌≤◌, ℤ, pos, negsuc, Bool, true, false, List, [], ◌∷◌, map, length, Ok, Err, refl, ap, ◌∙◌, arith}
+use Rattle.std.specs.Prelude.{◌==◌, FitsSigned}
 use Rattle.std.specs.Int.{w16, w32}
 use Rattle.std.specs.List.{flat_map}
 use Rattle.std.proofs.lemmas.Bool.{agree_below_at, eqb-true, le-leb, le-ltb}
@@ -14,9 +14,8 @@ use Rattle.rz_core.specs.declared.resource.Resource.{Resource}
 use Rattle.rz_show.specs.Statement.{attributes_of, id_term, name_part, shown_raw, text_parts, IsStored}
 use Rattle.rz_stmt.specs.Number.{number_of}
 use Rattle.rz_stmt.specs.Text.{bytes_in, bytes_of}
-use Rattle.rz_types.specs.declared.text.TextPart.{TextPart}
 use Rattle.rz_types.specs.declared.text.TextPart.TheVariants.{Plain}
-use Rattle.rz_tools.specs.Data.{bits_behind_all, contents_of, id_of, keeps_number, most_bytes, name_of, resource_of, short_bytes, short_name}
+use Rattle.rz_tools.specs.Data.{bits_behind_all, contents_of, id_of, most_bytes, name_of, resource_of, short_bytes, short_name}
 
 module _ (mark : Mark) where
   id_value : (id : ℤ) → FitsSigned w16 id → number_of mark (id_term id) ≡ Ok id

@@ -2,7 +2,7 @@ use Rattle.std.proofs.Common.{[], refl, sym, ap, subst, ◌∙◌, List}
 use Rattle.rz_lex.specs.declared.token.Token.{Token}
 use Rattle.rz_tools.specs.Held.{work_of}
 use Rattle.rz_tools.specs.Step.{all_at, nothing_made, AreSpans, Means, Worked}
-use Rattle.rz_tools.proofs.Stepping.{at_all, none_is_warned}
+use Rattle.rz_tools.proofs.Stepping.{at_all}
 use Rattle.rz_tools.proofs.step.compile_statements.Goals as goal
 
 pub compile_spans-requires-clause-spans : goal.compile_spans-requires-clause-spans
