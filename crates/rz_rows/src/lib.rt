@@ -14,3 +14,5 @@ mod forks;
 mod rez_command;
 #[cfg(test)]
 mod shown;
+#[cfg(test)]
+mod type_command;

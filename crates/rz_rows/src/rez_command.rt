@@ -226,7 +226,8 @@ fn head_is_compiled_shown_and_compiled_again(rt: HostRuntime) -> Result<(), Fail
     assert!(rt; fork[294..] == references);
     let outcome = desk.run(&["derez", "a.rsrc"])?;
     assert_eq!(rt; outcome.status(), 0);
-    let text: &[u8] = b"data 'Test' (-1, \"n\", locked, preload) {\n    $\"41\"\n};\n\ndata 'Test' (128, $81) {\n    $\"00\"\n};\n\n";
+    let text: &[u8] =
+        b"data 'Test' (-1, \"n\", locked, preload) {\n    $\"41\"\n};\n\ndata 'Test' (128, $81) {\n    $\"00\"\n};\n\n";
     assert!(rt; desk.out.bytes() == text);
     desk.insert("b.r", text)?;
     let outcome = desk.run(&["rez", "b.r", "-o", "b.rsrc"])?;
@@ -239,13 +240,17 @@ fn head_is_compiled_shown_and_compiled_again(rt: HostRuntime) -> Result<(), Fail
 #[test]
 fn protected_resource_and_attribute_out_of_range_are_refused(rt: HostRuntime) -> Result<(), Fail> {
     let mut desk = Desk::new(rt.alloc())?;
-    desk.insert("p.r", b"data 'Test' (1, protected) { };\ndata 'Test' (1, protected) { };\n")?;
+    desk.insert(
+        "p.r",
+        b"data 'Test' (1, protected) { };\ndata 'Test' (1, protected) { };\n",
+    )?;
     desk.insert("a.r", b"data 'Test' (1, 256) { };\n")?;
     let outcome = desk.run(&["rez", "p.r"])?;
     assert_eq!(rt; outcome.status(), 2);
     let outcome = desk.run(&["rez", "a.r"])?;
     assert_eq!(rt; outcome.status(), 2);
-    let said: &[u8] = b"rezkit: p.r:2: error 219 Protected: 'Test' 1\nrezkit: a.r:1: error 207 OutOfRange: 256\n";
+    let said: &[u8] =
+        b"rezkit: p.r:2: error 219 Protected: 'Test' 1\nrezkit: a.r:1: error 207 OutOfRange: 256\n";
     assert!(rt; desk.err.bytes() == said && desk.out.bytes().is_empty());
     assert!(rt; desk.folder.bytes("Rez.Out").is_none());
     Ok(())

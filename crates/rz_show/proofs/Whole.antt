@@ -283,8 +283,7 @@ pub all_whole : ((tokens : List Token) (cut : Cut) → (pieces_in 0 tokens ≡ S
 all_whole law [] tokens stored shown = none_left tokens shown
 all_whole law (r ∷ rs) tokens stored shown =
     let one = shown.3 in
-    let parts = front_and_back tokens shown.0 shown.1 shown.2 in
-    (
+    let parts = front_and_back tokens shown.0 shown.1 shown.2 in (
       parts.front,
       parts.back,
       parts.are,

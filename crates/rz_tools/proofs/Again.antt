@@ -78,10 +78,25 @@ record IsPlainWord (live : Live) (word : List ℕ) : Type 0 where
   no_tool : tool_named word ≡ None
 
 plain_words : (live : Live) → NoneIsLive live → AllByRecursion (IsPlainWord live) shown_words
-plain_words live none =
-    (record { bare = none.0; no_tool = refl }, (record { bare = none.1.0; no_tool = refl }, (record { bare = none.1.1.0; no_tool = refl },
-    (record { bare = none.1.1.1.0; no_tool = refl }, (record { bare = none.1.1.1.1.0; no_tool = refl }, (record { bare = none.1.1.1.1.1.0; no_tool = refl },
-    (record { bare = none.1.1.1.1.1.1.0; no_tool = refl }, tt)))))))
+plain_words live none = (
+  record { bare = none.0; no_tool = refl },
+  (
+    record { bare = none.1.0; no_tool = refl },
+    (
+      record { bare = none.1.1.0; no_tool = refl },
+      (
+        record { bare = none.1.1.1.0; no_tool = refl },
+        (
+          record { bare = none.1.1.1.1.0; no_tool = refl },
+          (
+            record { bare = none.1.1.1.1.1.0; no_tool = refl },
+            (record { bare = none.1.1.1.1.1.1.0; no_tool = refl }, tt),
+          ),
+        ),
+      ),
+    ),
+  ),
+)
 
 plain_word : (live : Live) → NoneIsLive live → (shape : Shape) → is_shown shape ≡ true → (body_of live shape ≡ None) × (number_in tools.Rez shape ≡ None)
 plain_word live none (shapes.Word word) is =
@@ -213,25 +228,24 @@ pub means_again : ((list : List Resource) → AllByRecursion IsStored list → I
     → (list : List Resource) → AllByRecursion FitsFork list → AreShort list → KeysDiffer [] list → MeansAgain (list_text list) list
 means_again text_law statements_law list fits short differ = record {
   read = λ files name paths before holds none.
-    let stored = stored_all list fits in
-    let printed = text_law list stored in
-    let file = length before.files in
-    let lines = printed.has.read file 1 in
-    let tokens = tokens_of lines.0 printed.has.lines in
-    let shapes_are : shapes_in tokens ≡ printed.tokens = shapes_of_lines lines.0 printed.has.lines lines.2 ∙ sym printed.has.are in
-    let opened : State = record { live = before.live; tokens = before.tokens; files = before.files ++ name ∷ [] } in
-    let bare = bare_lines before.live none printed.has.lines (subst (AllByRecursion (λ shape. is_shown shape ≡ true)) printed.has.are printed.words) in
-    let found : file_of files (name ∷ []) ≡ Some (name, list_text list) = rw holds refl in
-    (
-      tokens,
-      inl (
-        (list_text list, opened),
-        rw found (inl (list_text list, IsTextOf.unmarked (unmarked list) refl, refl)),
-        (lines.0, None, lines.1, lines_go (IncludedGoes tools.Rez files paths levels_below) tools.Rez lines.0 printed.has.lines opened lines.2 bare),
-      ),
-      mean_resources list tokens (statements_law list tokens stored (subst (AreShown list) (sym shapes_are) printed.shown))
-      (subst (AllByRecursion (λ shape. is_shown shape ≡ true)) (sym shapes_are) printed.words) stored fits short differ,
-    );
+      let stored = stored_all list fits in
+      let printed = text_law list stored in
+      let file = length before.files in
+      let lines = printed.has.read file 1 in
+      let tokens = tokens_of lines.0 printed.has.lines in
+      let shapes_are : shapes_in tokens ≡ printed.tokens = shapes_of_lines lines.0 printed.has.lines lines.2 ∙ sym printed.has.are in
+      let opened : State = record { live = before.live; tokens = before.tokens; files = before.files ++ name ∷ [] } in
+      let bare = bare_lines before.live none printed.has.lines (subst (AllByRecursion (λ shape. is_shown shape ≡ true)) printed.has.are printed.words) in
+      let found : file_of files (name ∷ []) ≡ Some (name, list_text list) = rw holds refl in (
+        tokens,
+        inl (
+          (list_text list, opened),
+          rw found (inl (list_text list, IsTextOf.unmarked (unmarked list) refl, refl)),
+          (lines.0, None, lines.1, lines_go (IncludedGoes tools.Rez files paths levels_below) tools.Rez lines.0 printed.has.lines opened lines.2 bare),
+        ),
+        mean_resources list tokens (statements_law list tokens stored (subst (AreShown list) (sym shapes_are) printed.shown))
+            (subst (AllByRecursion (λ shape. is_shown shape ≡ true)) (sym shapes_are) printed.words) stored fits short differ,
+      );
 }
 
 same_fork : (a b : ForkList) → ◌≡◌ {A = Result ForkList ForkFault} (Ok a) (Ok b) → a ≡ b

@@ -97,10 +97,7 @@ fn copied_id(id: Option<i32>, mark: Mark) -> Result<Option<i16>, Stop<Fault>>
 }
 
 /// The same, where a broken rule is on this line.
-fn on_line(
-    template: Result<Template, Stop<TypeFault>>,
-    mark: Mark,
-) -> Result<Template, Stop<Fault>>
+fn on_line(template: Result<Template, Stop<TypeFault>>, mark: Mark) -> Result<Template, Stop<Fault>>
     requires { OnFault template IsRule }
     ensures template { plain_templates result ≡ faults_on_line mark (plain_templates template) }
     ensures nameable { (files : ℕ) → mark.file < files → OnFault result (IsNameable files) }

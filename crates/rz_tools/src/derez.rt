@@ -95,7 +95,11 @@ fn text_of(alloc: Global, bytes: &[u8]) -> Result<Made, Stopped>
             bytes,
             said: Bytes::new(alloc),
         }),
-        Err(Stop::Refused(fault)) => Err(Stopped::Refused(fault, FileNames::new(alloc), Bytes::new(alloc))),
+        Err(Stop::Refused(fault)) => Err(Stopped::Refused(
+            fault,
+            FileNames::new(alloc),
+            Bytes::new(alloc),
+        )),
         Err(Stop::NoMemory) => Err(Stopped::NoMemory),
     }
 }

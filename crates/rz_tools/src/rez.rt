@@ -51,11 +51,7 @@ pub fn run_rez<F: Folder>(alloc: Global, folder: &mut F, words: &RezWords<'_>) -
 }
 
 /// The fork that the sources mean, or what stopped the command.
-fn compile<F: Folder>(
-    alloc: Global,
-    folder: &mut F,
-    words: &RezWords<'_>,
-) -> Result<Made, Stopped>
+fn compile<F: Folder>(alloc: Global, folder: &mut F, words: &RezWords<'_>) -> Result<Made, Stopped>
     ensures fork { IfSome (F.files folder.old) (λ files. MadeSo result (Compiles (rez words.now) files)) }
     ensures nameable { IsNamed result }
     ensures short { IfOk result (λ made. length made.bytes < 2 ^ 32) }
@@ -131,12 +127,7 @@ fn write_work(alloc: Global, work: Work, files: FileNames) -> Result<Made, Stopp
 }
 
 /// The refusal with a fault, behind the lines of the warnings.
-fn refuse(
-    alloc: Global,
-    fault: Fault,
-    warnings: &Faults,
-    files: FileNames,
-) -> Result<Made, Stopped>
+fn refuse(alloc: Global, fault: Fault, warnings: &Faults, files: FileNames) -> Result<Made, Stopped>
     requires fault { IsNameable (length files) fault }
     requires warnings { AreNameable (length files) warnings.now }
     ensures refused { Refuses fault files (warning_lines files warnings.now) result }
@@ -147,11 +138,7 @@ fn refuse(
 }
 
 /// The lines of warnings.
-fn warning_lines(
-    alloc: Global,
-    warnings: &Faults,
-    files: &FileNames,
-) -> Result<Bytes, NoMemory>
+fn warning_lines(alloc: Global, warnings: &Faults, files: &FileNames) -> Result<Bytes, NoMemory>
     requires { AreNameable (length files.now) warnings.now }
     ensures { IfOk result (λ lines. lines ≡ warning_lines files.now warnings.now) }
 {

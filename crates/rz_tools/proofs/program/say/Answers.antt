@@ -6,7 +6,7 @@ use Rattle.rz_tools.proofs.program.say.Goals.{in-Done, in-ReadFault, in-WriteFau
 
 pub returns-clause-err : goal.returns-clause-err
 returns-clause-err g c = elim c.match-outcome.branch [
-  in-Done w ↦ rw w.err-is (rw w.in-Done.is (rw c.as_slice-said.ensures at w.put_line.ensures))
+  | in-Done w ↦ rw w.err-is (rw w.in-Done.is (rw c.as_slice-said.ensures at w.put_line.ensures))
   | in-ReadFault w ↦ rw w.err-is (rw w.in-ReadFault.is (rw c.as_slice-said.ensures at w.put_lines.ensures))
   | in-WriteFault w ↦ rw w.err-is (rw w.in-WriteFault.is (rw c.as_slice-said.ensures at w.put_lines-in-WriteFault.ensures))
   | in-NoMemory w ↦ rw w.err-is (rw w.in-NoMemory.is (rw c.as_slice-said.ensures at w.put_lines-in-NoMemory.ensures))

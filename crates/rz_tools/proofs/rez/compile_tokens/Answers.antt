@@ -18,6 +18,9 @@ pub returns-in-Err-Refused-clause-fork : goal.returns-in-Err-Refused-clause-fork
 returns-in-Err-Refused-clause-fork c statements are =
     refused_so c.args.files c.in-Err-Refused.fault c.compile_statements.new.work.warnings
     (Then (Means c.args.redeclare nothing_made statements) (λ work answer. answer ≡ fork_of_work work))
-    (inr (record { fault = c.in-Err-Refused.fault; warnings = c.compile_statements.new.work.warnings },
-      rw c.in-Err-Refused.field-0-is at (c.in-Err-Refused.ensures.work statements are), refl))
+    (inr (
+      record { fault = c.in-Err-Refused.fault; warnings = c.compile_statements.new.work.warnings },
+      rw c.in-Err-Refused.field-0-is at (c.in-Err-Refused.ensures.work statements are),
+      refl,
+    ))
     c.refuse.result c.refuse.ensures.refused
