@@ -30,11 +30,11 @@ def hex_line(rng, count):
     return '    $"%s"\n' % rng.randbytes(count).hex().upper()
 
 
-def fork_length(resources):
+def fork_length(resources, names=()):
     """The length of the fork of these resources: a map from (type, id) to the number of their bytes."""
     kinds = {kind for kind, _ in resources}
     area = sum(4 + size for size in resources.values())
-    return 256 + area + 28 + 2 + 8 * len(kinds) + 12 * len(resources)
+    return 256 + area + 28 + 2 + 8 * len(kinds) + 12 * len(resources) + sum(1 + len(name) for name in names)
 
 
 def write_hex(folder, rng, size):
@@ -46,7 +46,7 @@ def write_hex(folder, rng, size):
             lines = "".join(hex_line(rng, 16) for _ in range(1000))
             made += source.write("data 'Hexa' (%d) {\n%s};\n" % (number, lines))
             resources["Hexa", number] = 16_000
-    return resources
+    return fork_length(resources)
 
 
 def write_small(folder, rng, size):
@@ -59,7 +59,7 @@ def write_small(folder, rng, size):
             made += source.write("data 'Smal' (%d) { %s };\n" % (number % 5000, text))
             resources["Smal", number % 5000] = count
             number += 1
-    return resources
+    return fork_length(resources)
 
 
 def write_macros(folder, rng, size):
@@ -82,7 +82,7 @@ def write_macros(folder, rng, size):
             )
             resources["Macr", number % 4000] = count
             number += 1
-    return resources
+    return fork_length(resources)
 
 
 def write_includes(folder, rng, size):
@@ -103,7 +103,33 @@ def write_includes(folder, rng, size):
         if number % 2 == 1:
             with open(os.path.join(folder, "part%d.r" % number), "w") as part:
                 made += part.write("// the last\n")
-    return resources
+    return fork_length(resources)
+
+
+def write_names(folder, rng, size):
+    """2,700 `data` statements with names of 1 to 22 bytes and attributes."""
+    count = 2700
+    resources, names = {}, []
+    with open(os.path.join(folder, "main.r"), "w") as source:
+        for number in range(count):
+            name = "n" * rng.randrange(1, 23)
+            head = "data 'Name' (%d, \"%s\", purgeable, locked) {\n" % (number - 1350, name)
+            lines = max(1, (size // count - len(head)) // len(hex_line(rng, 16)))
+            source.write(head + "".join(hex_line(rng, 16) for _ in range(lines)) + "};\n")
+            resources["Name", number] = 16 * lines
+            names.append(name)
+    return fork_length(resources, names)
+
+
+def write_types(folder, rng, size):
+    """A thousand declarations of types, with fields and symbols."""
+    count = 1000
+    field = "    integer zero, one, minus = -1, hundred = 10 * 10;\n    hex string [%d];\n    point = { 1, 2 };\n"
+    with open(os.path.join(folder, "main.r"), "w") as source:
+        for number in range(count):
+            fields = [field % rng.randrange(1000) for _ in range(max(1, size // count // len(field)))]
+            source.write("type 't%03d' (%d) {\n%s};\n" % (number, number, "".join(fields)))
+    return fork_length({})
 
 
 def write_fork(folder, rng, size):
@@ -163,7 +189,6 @@ def measure(program, rng, kind, make, size):
             found = os.path.getsize(os.path.join(folder, "out"))
         else:
             seconds, memory, status = run(program, folder, ["rez", "main.r", "-o", "fork"])
-            wanted = fork_length(wanted)
             fork = os.path.join(folder, "fork")
             found = os.path.getsize(fork) if os.path.exists(fork) else -1
         if status != 0 or found != wanted:
@@ -183,6 +208,8 @@ def main():
         ("small", write_small),
         ("macros", write_macros),
         ("includes", write_includes),
+        ("names", write_names),
+        ("types", write_types),
         ("fork", write_fork),
     )
     print("%s, seed %d, %d cores" % (program, seed, os.cpu_count()))

@@ -11,6 +11,8 @@ mod folders;
 #[cfg(test)]
 mod forks;
 #[cfg(test)]
+mod head_command;
+#[cfg(test)]
 mod rez_command;
 #[cfg(test)]
 mod shown;

@@ -216,14 +216,14 @@ fn head_is_compiled_shown_and_compiled_again(rt: HostRuntime) -> Result<(), Fail
     assert_eq!(rt; outcome.status(), 0);
     let fork = desk.folder.bytes("a.rsrc").ok_or("no fork")?;
     let data = [0, 0, 0, 1, 0x41, 0, 0, 0, 1, 0];
-    assert!(rt; fork.len() == 330 && fork[256..266] == data);
+    assert!(rt; fork.len() == 330 && &fork[256..266] == data.as_slice());
     let references = [
         0, 0, b'T', b'e', b's', b't', 0, 1, 0, 10, // one type with two references
         0xFF, 0xFF, 0, 0, 0x14, 0, 0, 0, 0, 0, 0, 0, // id -1, its name at 0, locked and preload
         0, 128, 0xFF, 0xFF, 0x81, 0, 0, 5, 0, 0, 0, 0, // id 128, no name, the bits 80 and 01
         1, b'n',
     ];
-    assert!(rt; fork[294..] == references);
+    assert!(rt; &fork[294..] == references.as_slice());
     let outcome = desk.run(&["derez", "a.rsrc"])?;
     assert_eq!(rt; outcome.status(), 0);
     let text: &[u8] =

@@ -7,7 +7,7 @@ use Rattle.rz_folder.specs.Folder.{Files}
 use Rattle.rz_words.specs.Command.{Asked, IsCommand, IsMisplaced}
 use Rattle.rz_tools.specs.Answer.{Answer, ended}
 use Rattle.rz_tools.specs.Message.{message, told}
-use Rattle.rz_tools.specs.Program.{Answers, AnswersTo, command, misplaced, Completes, Follows, HasLine, IsAnswered, Keeps, OnUsage, Runs, SaidBefore, Says, SaysAnswer, StaysSo}
+use Rattle.rz_tools.specs.Program.{Answers, AnswersTo, command, misplaced, Completes, Follows, HasLine, IsAnswered, Keeps, OnUsage, Runs, Says, SaysAnswer, StaysSo}
 use Rattle.rz_tools.proofs.OneAnswer.{OneCommand, OnePosition}
 use Rattle.rz_words.specs.declared.read.UsageFault.{UsageFault}
 use Rattle.rz_core.specs.declared.fault.Fault.{Fault}
@@ -56,7 +56,6 @@ module _ (words : List (List ℕ)) (moment : Moment) (commands : OneCommand) (be
     follows = follows before runs.follows;
     lines = lines before runs.lines;
     answered = answered before runs.answered;
-    said = runs.said;
     nameable = runs.nameable;
     read_fault = runs.read_fault;
     write_fault = λ ends. so (runs.write_fault ends);
@@ -103,7 +102,6 @@ module _ (words : List (List ℕ)) (moment : Moment) (before : Option Files) (ou
     follows = follows before;
     lines = lines before;
     answered = answered before;
-    said = tt;
     nameable = tt;
     read_fault = λ ends. cc;
     write_fault = λ ends. cc;
@@ -216,7 +214,3 @@ module _ (Meets : Files → Answer → Type 0) (ended : Ended) (result : Outcome
         by (Some files) lines = λ wanted meets.
             says_of wanted ended.files ended.said result
             (by_stay (λ r. HasLine wanted ended.files ended.said r) ended.outcome result so (lines wanted meets) (λ fault is. tt) (λ fault is. tt)) said
-
-  -- before the line of a read fault nothing is said
-  pub said_before : SaidBefore ended.said result
-  said_before = by_stay (λ r. SaidBefore ended.said r) ended.outcome result so runs.said (λ fault is. tt) (λ fault is. tt)

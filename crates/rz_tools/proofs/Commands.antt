@@ -65,7 +65,6 @@ module _ (done : Files → Making → Answer) (Makes : Files → Result Making F
       follows = follows before same made;
       lines = lines before made;
       answered = answered before made;
-      said = tt;
       nameable = nameable;
       read_fault = λ is. cc;
       write_fault = λ is. cc;
@@ -96,7 +95,6 @@ module _ (done : Files → Making → Answer) (Makes : Files → Result Making F
       follows = follows before same;
       lines = lines before;
       answered = answered before;
-      said = refl;
       nameable = tt;
       read_fault = λ is. cause refl;
       write_fault = λ is. cc;
@@ -126,7 +124,6 @@ module _ (done : Files → Making → Answer) (Makes : Files → Result Making F
       follows = follows before same;
       lines = lines before;
       answered = answered before;
-      said = tt;
       nameable = tt;
       read_fault = λ is. cc;
       write_fault = λ is. cc;
@@ -175,7 +172,6 @@ module _ (name : List ℕ) (making : Making) (Makes : Files → Result Making Fa
     follows = follows before made told;
     lines = lines before made;
     answered = answered before made;
-    said = tt;
     nameable = tt;
     read_fault = λ is. cc;
     write_fault = λ is. cc;
@@ -203,7 +199,6 @@ module _ (name : List ℕ) (making : Making) (Makes : Files → Result Making Fa
     follows = follows before made told;
     lines = lines before made;
     answered = answered before made;
-    said = tt;
     nameable = tt;
     read_fault = λ is. cc;
     write_fault = λ is. cause refl;
@@ -251,7 +246,6 @@ module _ (making : Making) (Meets : Files → Answer → Type 0) (after : Option
     follows = follows before same is;
     lines = lines before is;
     answered = answered before there;
-    said = tt;
     nameable = tt;
     read_fault = λ is. cc;
     write_fault = λ is. cc;
@@ -278,7 +272,6 @@ module _ (making : Making) (Meets : Files → Answer → Type 0) (after : Option
     follows = follows before same is;
     lines = lines before is;
     answered = answered before there;
-    said = tt;
     nameable = tt;
     read_fault = λ is. cc;
     write_fault = λ is. shown_so.1;

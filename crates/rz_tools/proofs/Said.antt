@@ -1,15 +1,12 @@
 -- Puts of lines, one behind the other.
-use Rattle.std.proofs.Common.{◌≡◌, ℕ, zero, suc, ◌+◌, ◌≤◌, List, [], ◌∷◌, ◌++◌, length, take, Some, None, refl, sym, ap, subst, ◌∙◌, arith, append_assoc, append-nil}
+use Rattle.std.proofs.Common.{◌≡◌, ℕ, zero, suc, ◌+◌, ◌≤◌, List, [], ◌∷◌, ◌++◌, length, take, Some, None, refl, sym, ap, subst, ◌∙◌, arith, append_assoc}
 use Rattle.std.specs.declared.option.Option.{Option}
 use Rattle.std.proofs.lemmas.List.{take_all}
 use Rattle.rz_folder.specs.Counts.{Rose}
 use Rattle.rz_folder.specs.Sink.{Puts}
 use Rattle.rz_folder.specs.declared.sink.Put.{Put}
 use Rattle.rz_folder.specs.declared.sink.Put.TheVariants.{Done, Failed}
-use Rattle.rz_tools.specs.Message.{message, told}
 use Rattle.rz_tools.specs.Program.{Says}
-use Rattle.rz_tools.specs.declared.outcome.Outcome.{Outcome}
-use Rattle.rz_tools.specs.declared.outcome.Outcome.TheVariants as outcomes
 
 pub said : (line : List ℕ) (before after : Option (List ℕ)) (faults_before faults_after : ℕ) (result : Put)
     → Puts line before after result → (result ≡ Failed → Rose faults_before faults_after) → Says line before after faults_before faults_after
@@ -62,16 +59,3 @@ module _ (lines line : List ℕ) where
   failed_said (Some before) after faults_before faults_after told rose =
       let front = front_of told.0 lines line in
       ((front.0, told.1 ∙ ap (λ (l : List ℕ). Some (before ++ l)) front.1), λ kept. absurd (kept rose))
-
--- the line comes behind what is said before it
-told_all : (files : List (List ℕ)) (before : List ℕ) (outcome : Outcome) → before ++ message files outcome ≡ told files before outcome
-told_all files before outcomes.Done = append-nil before
-told_all files before (outcomes.Usage fault) = refl
-told_all files before (outcomes.Refused fault) = refl
-told_all files before outcomes.ReadFault = refl
-told_all files before outcomes.WriteFault = refl
-told_all files before outcomes.NoMemory = refl
-
-pub told_line : (files : List (List ℕ)) (before : List ℕ) (outcome : Outcome) (lines line : List ℕ) → lines ≡ before → line ≡ message files outcome
-    → lines ++ line ≡ told files before outcome
-told_line files before outcome lines line same is = (λ i. same i ++ is i) ∙ told_all files before outcome

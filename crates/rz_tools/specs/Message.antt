@@ -18,7 +18,11 @@ message files ReadFault = codes "rezkit: read fault\n"
 message files WriteFault = codes "rezkit: write fault\n"
 message files NoMemory = codes "rezkit: no memory\n"
 
--- what is said in all: the warnings, and the line
+-- what is said in all: the warnings after Done; behind them the line of Refused and WriteFault; and else the line alone
 abbrev pub told : List (List ℕ) → List ℕ → Outcome → List ℕ
 told files said Done = said
-told files said outcome = said ++ message files outcome
+told files said (Usage fault) = message files (Usage fault)
+told files said (Refused fault) = said ++ message files (Refused fault)
+told files said ReadFault = message files ReadFault
+told files said WriteFault = said ++ message files WriteFault
+told files said NoMemory = message files NoMemory

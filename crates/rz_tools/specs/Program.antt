@@ -149,11 +149,6 @@ HasLine wanted named said ReadFault = Unit {0}
 HasLine wanted named said WriteFault = wanted.err ≡ said
 HasLine wanted named said NoMemory = Unit {0}
 
--- before the line of a read fault nothing is said
-abbrev pub SaidBefore : List ℕ → Outcome → Type 0
-SaidBefore said ReadFault = said ≡ []
-SaidBefore said outcome = Unit {0}
-
 -- what a command does: it follows each answer, and there is one
 pub record Runs (Meets : Files → Answer → Type 0) (result : Ended) (before after : Option Files)
     (written_before written_after : Option (List ℕ)) (read_failed write_failed : Type 0) : Type 0 where
@@ -161,12 +156,17 @@ pub record Runs (Meets : Files → Answer → Type 0) (result : Ended) (before a
       → Follows wanted result.outcome files after written_before written_after read_failed write_failed)
   pub lines : IfSome before (λ files. (wanted : Answer) → Meets files wanted → HasLine wanted result.files result.said result.outcome)
   pub answered : IfSome before (λ files. IsAnswered (Meets files) result.outcome)
-  pub said : SaidBefore result.said result.outcome
   pub nameable : IfRefused result.outcome (IsNameable (length result.files))
   pub read_fault : result.outcome ≡ ReadFault → read_failed
   pub write_fault : result.outcome ≡ WriteFault → write_failed
   pub kept_files : Keeps result.outcome before after
   pub kept_output : Keeps result.outcome written_before written_after
+
+-- the line of the outcome is said behind these lines, or there was no memory for it, and the line of that is said alone
+abbrev pub SaysLine : List ℕ → List (List ℕ) → Outcome → Outcome → Option (List ℕ) → Option (List ℕ) → ℕ → ℕ → Type 0
+SaysLine lines named outcome result before after faults_before faults_after =
+    ((result ≡ outcome) × Says (lines ++ message named outcome) before after faults_before faults_after)
+    ⊎ ((result ≡ NoMemory) × Says (message named NoMemory) before after faults_before faults_after)
 
 -- a text was written to the output, or a front of it where that failed
 abbrev pub Shows : List ℕ → Outcome → Option (List ℕ) → Option (List ℕ) → Type 0 → Type 0

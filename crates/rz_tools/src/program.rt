@@ -5,7 +5,7 @@ ghost use Rattle.rz_folder.specs.Counts.{Rose};
 ghost use Rattle.rz_tools.specs.Answer.{Answer};
 ghost use Rattle.rz_tools.specs.Message.{told};
 ghost use Rattle.rz_tools.specs.Outcome.{IfRefused};
-ghost use Rattle.rz_tools.specs.Program.{Answers, Follows, IsAnswered, Keeps, OnUsage, Runs, SaidBefore, Says, SaysAnswer, StaysSo};
+ghost use Rattle.rz_tools.specs.Program.{Answers, Follows, IsAnswered, Keeps, OnUsage, Runs, Says, SaysAnswer, SaysLine, StaysSo};
 ghost use Rattle.rz_tools.specs.Again.{ShowsAgain};
 ghost use Rattle.rz_words.specs.Command.{DeRez, IsCommand, IsMisplaced};
 
@@ -15,7 +15,7 @@ use crate::help::{help_text, version_text};
 use crate::message::message_of;
 use crate::outcome::Ended;
 use crate::rez::run_rez;
-use rz_core::{Moment, Stop};
+use rz_core::{FileNames, Moment, NoMemory, Stop};
 use rz_folder::{Folder, Put, Sink};
 use rz_words::{Command, one_command, read_words};
 use std::alloc::Global;
@@ -61,7 +61,7 @@ pub fn run<F: Folder, O: Sink, E: Sink>(
     // What stays, and what is said.
     ensures kept_files { Keeps result (F.files folder.old) (F.files folder.new) }
     ensures kept_output { Keeps result (O.written out.old) (O.written out.new) }
-    ensures err { (named : List (List ℕ)) × (said : List ℕ) × SaidBefore said result × Says (told named said result)
+    ensures err { (named : List (List ℕ)) × (said : List ℕ) × Says (told named said result)
         (E.written err.old) (E.written err.new) (E.faults err.old) (E.faults err.new) }
     ensures err_answered { IfSome (F.files folder.old) (λ files. (wanted : Answer) → Answers (map string_bytes words.now) files moment wanted
         → SaysAnswer wanted result (E.written err.old) (E.written err.new) (E.faults err.old) (E.faults err.new)) }
@@ -99,8 +99,8 @@ fn run_words<F: Folder, O: Sink>(
     }
 }
 
-/// Writes what is said before the line of the outcome, and the line. Where there is no memory for the line, that
-/// is the outcome.
+/// Writes the line of the outcome, behind what is said before it. Where there is no memory for the line, that is the
+/// outcome.
 fn say<E: Sink>(alloc: Global, ended: Ended, err: &mut E) -> Outcome
     requires { IfRefused ended.outcome (IsNameable (length ended.files)) }
     ensures outcome { StaysSo ended.outcome result }
@@ -112,20 +112,49 @@ fn say<E: Sink>(alloc: Global, ended: Ended, err: &mut E) -> Outcome
         said,
     } = ended;
     let said = said.as_slice();
-    match &outcome {
-        Outcome::Done => put_line(said, err),
-        Outcome::ReadFault => put_lines(said, b"rezkit: read fault\n", err),
-        Outcome::WriteFault => put_lines(said, b"rezkit: write fault\n", err),
-        Outcome::NoMemory => put_lines(said, b"rezkit: no memory\n", err),
-        Outcome::Usage(_) | Outcome::Refused(_) => {
-            let Ok(line) = message_of(alloc, &outcome, &files) else {
-                put_lines(said, b"rezkit: no memory\n", err);
-                return Outcome::NoMemory;
-            };
-            put_lines(said, line.as_slice(), err);
+    match outcome {
+        Outcome::Done => {
+            put_line(said, err);
+            Outcome::Done
+        }
+        Outcome::Usage(fault) => say_line(alloc, b"", Outcome::Usage(fault), &files, err),
+        Outcome::Refused(fault) => say_line(alloc, said, Outcome::Refused(fault), &files, err),
+        Outcome::ReadFault => {
+            put_line(b"rezkit: read fault\n", err);
+            Outcome::ReadFault
+        }
+        Outcome::WriteFault => {
+            put_lines(said, b"rezkit: write fault\n", err);
+            Outcome::WriteFault
+        }
+        Outcome::NoMemory => {
+            put_line(b"rezkit: no memory\n", err);
+            Outcome::NoMemory
         }
     }
-    outcome
+}
+
+/// Writes lines and then that of an outcome, or, where there is no memory for it, the line of that alone.
+fn say_line<E: Sink>(
+    alloc: Global,
+    lines: &[u8],
+    outcome: Outcome,
+    files: &FileNames,
+    err: &mut E,
+) -> Outcome
+    requires { IfRefused outcome (IsNameable (length files.now)) }
+    ensures { SaysLine lines.now files.now outcome result (E.written err.old) (E.written err.new) (E.faults err.old) (E.faults err.new) }
+{
+    match message_of(alloc, &outcome, files) {
+        Ok(line) => {
+            put_lines(lines, line.as_slice(), err);
+            outcome
+        }
+        Err(NoMemory) => {
+            put_line(b"rezkit: no memory\n", err);
+            Outcome::NoMemory
+        }
+    }
 }
 
 /// Puts lines and then a line. A failure changes nothing here, for there is no other place to report it to; behind

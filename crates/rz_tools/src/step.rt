@@ -60,7 +60,8 @@ impl Work {
 /// Does what the statements of a program say, one after the other, up to the first fault. A resource with the
 /// type and id of an earlier one takes its place, unless that one is protected (219), and every other one goes
 /// to the end. A type that is declared again goes to the end of the table, and is warned of unless `redeclare`
-/// holds. Work and memory are in proportion to the tokens.
+/// holds. Work and memory are in proportion to the tokens of `data` statements; each declaration of a type goes
+/// over the table of types once, and one that copies takes the memory of what it copies.
 pub fn compile_statements(
     alloc: Global,
     tokens: &Tokens,
