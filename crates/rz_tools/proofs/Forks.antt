@@ -17,7 +17,8 @@ use Rattle.rz_stmt.specs.Grammar.{AreWithin}
 use Rattle.rz_stmt.specs.Statements.{AreStatements}
 use Rattle.rz_tools.specs.Answer.{Failing, Making}
 use Rattle.rz_tools.specs.Made.{MadeSo, Refuses}
-use Rattle.rz_tools.specs.Rez.{fork_of_work, forked, list_fork, warning_lines, Compiles, Forked, HasFork, Said}
+use Rattle.rz_tools.specs.Rez.{fork_of_work, forked, list_fork, Compiles, Forked, HasFork, Said}
+use Rattle.rz_tools.specs.Warning.{warning_lines}
 use Rattle.rz_tools.specs.Step.{nothing_made, Means, Stopped, Work}
 use Rattle.rz_tools.specs.ToolWords.{numbered}
 use Rattle.rz_tools.specs.declared.made.Made.{Made}

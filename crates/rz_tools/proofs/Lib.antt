@@ -2,6 +2,7 @@ pub mod Puts
 pub mod Limits
 pub mod TypeFaults
 pub mod Said
+pub mod Warnings
 pub mod Commands
 pub mod Answered
 pub mod OneAnswer

@@ -13,7 +13,8 @@ use Rattle.rz_stmt.specs.Statements.{AreStatements}
 use Rattle.rz_words.specs.Command.{Asked, Rez, DeRez, Help, Version, IsCommand, IsMisplaced, RezAsked}
 use Rattle.rz_tools.specs.Answer.{Answer, ended, or_refused, shown_made, written}
 use Rattle.rz_tools.specs.Program.{Answers, AnswersTo, command, misplaced}
-use Rattle.rz_tools.specs.Rez.{fork_of_work, warning_lines, Compiles, Forked, HasFork, Said, Unsaid}
+use Rattle.rz_tools.specs.Rez.{fork_of_work, Compiles, Forked, HasFork, Said, Unsaid}
+use Rattle.rz_tools.specs.Warning.{warning_lines}
 use Rattle.rz_tools.specs.Step.{nothing_made, work_behind, Means, Steps, Stopped, WithWarnings, Work}
 use Rattle.rz_stmt.specs.Grammar.{mark_of, Parses, Statement}
 use Rattle.rz_pre.specs.Answers.{Then}

@@ -18,7 +18,8 @@ use Rattle.rz_stmt.specs.Statements.{spans_from, AreStatements, IsRest, IsStatem
 use Rattle.rz_stmt.specs.declared.span.Span.{Span}
 use Rattle.rz_core.specs.Resources.{KeysDiffer}
 use Rattle.rz_fork.specs.Image.{AreNamed}
-use Rattle.rz_tools.specs.Held.{work_of, AreNameable}
+use Rattle.rz_tools.specs.Held.{work_of}
+use Rattle.rz_tools.specs.Warning.{AreWarnings}
 use Rattle.rz_tools.specs.ResourceList.{values_of}
 use Rattle.rz_tools.specs.declared.step.Work as held
 use Rattle.rz_tools.specs.Step.{all_at, declared, list_behind, nothing_made, put_unless_protected, tokens_at, with_list, AreSpans, IsSpan, Means, Stepped, Steps, Stopped, Work, Worked}
@@ -58,8 +59,8 @@ module _ (held : held.Work) (nothing : work_of held ≡ nothing_made) where
   pub none_is_twice : KeysDiffer [] (values_of held.held.entries)
   none_is_twice = subst (λ (w : Work). KeysDiffer [] w.list) (sym nothing) tt
 
-  pub none_is_warned : (files : ℕ) → AreNameable files held.warnings
-  none_is_warned files = subst (λ (w : Work). AreNameable files w.warnings) (sym nothing) tt
+  pub none_is_warned : (files : ℕ) → AreWarnings files held.warnings
+  none_is_warned files = subst (λ (w : Work). AreWarnings files w.warnings) (sym nothing) tt
 
 -- The spans of statements.
 

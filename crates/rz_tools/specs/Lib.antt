@@ -1,6 +1,7 @@
 pub mod Outcome
 pub mod Message
 pub mod ToolWords
+pub mod Warning
 pub mod Made
 pub mod Answer
 pub mod Data

@@ -4,6 +4,7 @@ use Rattle.std.specs.declared.result.Result.{Result}
 use Rattle.rz_core.specs.Message.{IsNameable}
 use Rattle.rz_core.specs.declared.fault.Fault.{Fault}
 use Rattle.rz_tools.specs.Answer.{Failing, Making}
+use Rattle.rz_tools.specs.Warning.{IsWarningText}
 use Rattle.rz_tools.specs.declared.made.Made.{Made}
 use Rattle.rz_tools.specs.declared.made.Stopped.{Stopped}
 use Rattle.rz_tools.specs.declared.made.Stopped.TheVariants as stops
@@ -33,6 +34,13 @@ IsNamed (Ok made) = Unit {0}
 IsNamed (Err (stops.Refused fault files said)) = IsNameable (length files) fault
 IsNamed (Err stops.ReadFault) = Unit {0}
 IsNamed (Err stops.NoMemory) = Unit {0}
+
+-- what is said beside it, or before the line of the refusal, is the lines of warnings
+abbrev pub SaysWarnings : Result Made Stopped → Type 0
+SaysWarnings (Ok made) = IsWarningText made.said
+SaysWarnings (Err (stops.Refused fault files said)) = IsWarningText said
+SaysWarnings (Err stops.ReadFault) = Unit {0}
+SaysWarnings (Err stops.NoMemory) = Unit {0}
 
 -- how a command ends that is stopped by this
 abbrev pub ended_by : Stopped → Ended

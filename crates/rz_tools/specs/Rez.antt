@@ -1,8 +1,7 @@
 -- What `rez` means: the sources as a program, its statements, their resources, and the fork. (MPW Rez.)
 use Rattle.std.specs.Prelude.{ℕ, ◌<◌, ◌^◌, pos, ◌≡◌, true, Bool, List, [], map, Ok, Err, None}
 use Rattle.std.specs.declared.result.Result.{Result}
-use Rattle.std.specs.List.{flat_map}
-use Rattle.rz_core.specs.Message.{fault_line, is_fault}
+use Rattle.rz_core.specs.Message.{is_fault}
 use Rattle.rz_core.specs.declared.resource.Resource.{Resource}
 use Rattle.rz_core.specs.declared.fault.Fault.{Fault}
 use Rattle.rz_core.specs.declared.fault.Kept.TheVariants as kept
@@ -18,6 +17,7 @@ use Rattle.rz_words.specs.Command.{RezAsked}
 use Rattle.rz_tools.specs.Answer.{Answer, Answered, Failing, Making, written}
 use Rattle.rz_tools.specs.Step.{nothing_made, Means, Stopped, Work}
 use Rattle.rz_tools.specs.ToolWords.{numbered}
+use Rattle.rz_tools.specs.Warning.{warning_lines}
 
 -- a length past its limit
 abbrev pub past_limit : LimitFault → Fault
@@ -54,10 +54,6 @@ abbrev pub HasFork : Bool → List Token → Result Forked Stopped → Type 0
 HasFork redeclare tokens fork =
     (statements : List (List Token)) × AreStatements tokens statements
     × Then (Means redeclare nothing_made statements) (λ work answer. answer ≡ fork_of_work work) fork
-
--- the lines of warnings, where these are the files that marks count
-abbrev pub warning_lines : List (List ℕ) → List Fault → List ℕ
-warning_lines files warnings = flat_map (fault_line files) warnings
 
 -- an answer with the lines of its warnings
 abbrev pub Said : List (List ℕ) → (Result Forked Stopped → Type 0) → Result Making Failing → Type 0

@@ -3,7 +3,8 @@ ghost use Rattle.rz_core.specs.Message.{IsNameable};
 ghost use Rattle.rz_core.specs.Stop.{Gives, OnFault};
 ghost use Rattle.rz_stmt.specs.Declare.{declare_of, made_of};
 ghost use Rattle.rz_tools.specs.Declare.{copied_id, faults_on_line, first_id, redeclared, scope_of, template_of, type_fault, IsRule};
-ghost use Rattle.rz_tools.specs.Held.{work_of, AreNameable};
+ghost use Rattle.rz_tools.specs.Held.{work_of};
+ghost use Rattle.rz_tools.specs.Warning.{AreWarnings, IsWarning};
 ghost use Rattle.rz_tools.specs.Step.{declared, Stepped};
 ghost use Rattle.rz_types.specs.Template.{plain_templates};
 ghost use Rattle.rz_types.specs.TypeTable.{table_of};
@@ -28,7 +29,7 @@ pub fn declare_type(
     ensures declared { Stepped (λ answer. answer ≡ declared redeclare mark (work_of work.old) (declare_of declare)) result (work_of work.new) }
     ensures held { work.new.held ≡ work.old.held }
     ensures kept { OnFault result (λ _. work.new.warnings ≡ work.old.warnings) }
-    ensures warned { (files : ℕ) → mark.file < files → AreNameable files work.old.warnings → AreNameable files work.new.warnings }
+    ensures warned { (files : ℕ) → mark.file < files → AreWarnings files work.old.warnings → AreWarnings files work.new.warnings }
     ensures nameable { (files : ℕ) → mark.file < files → OnFault result (IsNameable files) }
 {
     let DeclareStmt { kind, bounds, made } = declare;
@@ -125,7 +126,7 @@ fn type_fault(fault: TypeFault, mark: Mark) -> Fault
 /// The warning of a declaration again: 240, with the type and the first id of the scope, or 0.
 fn redeclared(kind: OsType, scope: Scope, mark: Mark) -> Fault
     ensures fault { result ≡ redeclared mark kind scope }
-    ensures nameable { (files : ℕ) → mark.file < files → IsNameable files result }
+    ensures warning { (files : ℕ) → mark.file < files → IsWarning files result }
 {
     Fault {
         number: 240,

@@ -9,8 +9,9 @@ ghost use Rattle.rz_pre.specs.Program.{missing_file};
 ghost use Rattle.rz_show.specs.Data.{list_text};
 ghost use Rattle.rz_tools.specs.Again.{MeansFork, ShowsAgain};
 ghost use Rattle.rz_tools.specs.DeRez.{broken_rule, derez_text, fork_text, without_files, AnswersDeRez};
-ghost use Rattle.rz_tools.specs.Made.{IsNamed, MadeSo};
+ghost use Rattle.rz_tools.specs.Made.{IsNamed, MadeSo, SaysWarnings};
 ghost use Rattle.rz_tools.specs.Outcome.{IsNoUsage};
+ghost use Rattle.rz_tools.specs.Warning.{IsWarningText};
 ghost use Rattle.rz_tools.specs.Program.{Runs, Shows};
 
 use crate::Outcome;
@@ -33,6 +34,7 @@ pub fn run_derez<F: Folder, O: Sink>(
     ensures runs { Runs (AnswersDeRez words.entry.file.now) result (F.files folder.old) (F.files folder.new) (O.written out.old) (O.written out.new)
         (Rose (F.read_faults folder.old) (F.read_faults folder.new)) (Rose (O.faults out.old) (O.faults out.new)) }
     ensures no_usage { IsNoUsage result.outcome }
+    ensures said { IsWarningText result.said }
     ensures again { result.outcome ≡ Outcome.Done → IfSome (F.files folder.old) (λ files. IfSome (O.written out.old) (λ before.
         ShowsAgain words.entry.file.now files before (O.written out.new))) }
 {
@@ -57,6 +59,7 @@ fn read_text<F: Folder>(alloc: Global, folder: &mut F, file: &str) -> Result<Mad
     ensures text { IfSome (F.files folder.old) (λ files. MadeSo result (λ answer. answer ≡ derez_text file.now files)) }
     ensures again { IfSome (F.files folder.old) (λ files. IfSome (map.get files file.now) (λ bytes. IfOk result (λ made. MeansFork bytes made.bytes))) }
     ensures nameable { IsNamed result }
+    ensures warned { SaysWarnings result }
     ensures unchanged { F.files folder.new ≡ F.files folder.old }
     ensures cause { result ≡ Err ReadFault → Rose (F.read_faults folder.old) (F.read_faults folder.new) }
 {
@@ -88,6 +91,7 @@ fn text_of(alloc: Global, bytes: &[u8]) -> Result<Made, Stopped>
     ensures text { MadeSo result (λ answer. answer ≡ without_files (fork_text bytes.now)) }
     ensures again { IfOk result (λ made. MeansFork bytes.now made.bytes) }
     ensures nameable { IsNamed result }
+    ensures warned { SaysWarnings result }
     ensures quiet { result ≡ Err ReadFault → ⊥ }
 {
     match show(alloc, bytes) {

@@ -7,6 +7,7 @@ ghost use Rattle.rz_tools.specs.Message.{told};
 ghost use Rattle.rz_tools.specs.Outcome.{IfRefused};
 ghost use Rattle.rz_tools.specs.Program.{Answers, Follows, IsAnswered, Keeps, OnUsage, Runs, Says, SaysAnswer, SaysLine, StaysSo};
 ghost use Rattle.rz_tools.specs.Again.{ShowsAgain};
+ghost use Rattle.rz_tools.specs.Warning.{IsWarningText};
 ghost use Rattle.rz_words.specs.Command.{DeRez, IsCommand, IsMisplaced};
 
 use crate::Outcome;
@@ -61,7 +62,7 @@ pub fn run<F: Folder, O: Sink, E: Sink>(
     // What stays, and what is said.
     ensures kept_files { Keeps result (F.files folder.old) (F.files folder.new) }
     ensures kept_output { Keeps result (O.written out.old) (O.written out.new) }
-    ensures err { (named : List (List ℕ)) × (said : List ℕ) × Says (told named said result)
+    ensures err { (named : List (List ℕ)) × (said : List ℕ) × IsWarningText said × Says (told named said result)
         (E.written err.old) (E.written err.new) (E.faults err.old) (E.faults err.new) }
     ensures err_answered { IfSome (F.files folder.old) (λ files. (wanted : Answer) → Answers (map string_bytes words.now) files moment wanted
         → SaysAnswer wanted result (E.written err.old) (E.written err.new) (E.faults err.old) (E.faults err.new)) }
@@ -82,6 +83,7 @@ fn run_words<F: Folder, O: Sink>(
         (F.files folder.old) (F.files folder.new) (O.written out.old) (O.written out.new)
         (Rose (F.read_faults folder.old) (F.read_faults folder.new))
         (Rose (F.write_faults folder.old) (F.write_faults folder.new) ⊎ Rose (O.faults out.old) (O.faults out.new)) }
+    ensures said { IsWarningText result.said }
     ensures usage { OnUsage result.outcome (IsMisplaced (map string_bytes words.now)) }
     ensures every_usage { (position : ℕ) → IsMisplaced (map string_bytes words.now) position
         → (result.outcome ≡ Outcome.Usage (record { position = position })) ⊎ (result.outcome ≡ Outcome.NoMemory) }

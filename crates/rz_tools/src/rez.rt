@@ -9,13 +9,14 @@ ghost use Rattle.rz_pre.specs.Answers.{Then};
 ghost use Rattle.rz_stmt.specs.Grammar.{AreWithin};
 ghost use Rattle.rz_stmt.specs.Statements.{AreStatements};
 ghost use Rattle.rz_words.specs.Item.{rez};
-ghost use Rattle.rz_tools.specs.Held.{work_of, AreNameable};
-ghost use Rattle.rz_tools.specs.Made.{IsNamed, MadeSo, Refuses};
+ghost use Rattle.rz_tools.specs.Held.{work_of};
+ghost use Rattle.rz_tools.specs.Warning.{warning_lines, AreWarnings, IsWarningText};
+ghost use Rattle.rz_tools.specs.Made.{IsNamed, MadeSo, Refuses, SaysWarnings};
 ghost use Rattle.rz_tools.specs.Outcome.{IsNoUsage};
 ghost use Rattle.rz_tools.specs.Program.{Runs};
 ghost use Rattle.rz_tools.specs.ResourceList.{values_of};
 ghost use Rattle.rz_tools.specs.Step.{nothing_made, Means};
-ghost use Rattle.rz_tools.specs.Rez.{fork_of_work, list_fork, past_limit, warning_lines, AnswersRez, Compiles, IsLimit, Said};
+ghost use Rattle.rz_tools.specs.Rez.{fork_of_work, list_fork, past_limit, AnswersRez, Compiles, IsLimit, Said};
 ghost use Rattle.rz_tools.specs.declared.made.Stopped.TheVariants.{ReadFault};
 
 use crate::Outcome;
@@ -37,6 +38,7 @@ pub fn run_rez<F: Folder>(alloc: Global, folder: &mut F, words: &RezWords<'_>) -
     ensures runs { (written : Option (List ℕ)) → Runs (AnswersRez (rez words.now)) result (F.files folder.old) (F.files folder.new) written written
         (Rose (F.read_faults folder.old) (F.read_faults folder.new)) (Rose (F.write_faults folder.old) (F.write_faults folder.new)) }
     ensures no_usage { IsNoUsage result.outcome }
+    ensures said { IsWarningText result.said }
 {
     one_program();
     one_cutting();
@@ -54,6 +56,7 @@ pub fn run_rez<F: Folder>(alloc: Global, folder: &mut F, words: &RezWords<'_>) -
 fn compile<F: Folder>(alloc: Global, folder: &mut F, words: &RezWords<'_>) -> Result<Made, Stopped>
     ensures fork { IfSome (F.files folder.old) (λ files. MadeSo result (Compiles (rez words.now) files)) }
     ensures nameable { IsNamed result }
+    ensures warned { SaysWarnings result }
     ensures short { IfOk result (λ made. length made.bytes < 2 ^ 32) }
     ensures unchanged { F.files folder.new ≡ F.files folder.old }
     ensures other_count { F.write_faults folder.new ≡ F.write_faults folder.old }
@@ -93,6 +96,7 @@ fn compile_tokens(
     ensures fork { (statements : List (List Token)) → AreStatements tokens.now statements
         → MadeSo result (Said files (Then (Means redeclare nothing_made statements) (λ work answer. answer ≡ fork_of_work work))) }
     ensures nameable { IsNamed result }
+    ensures warned { SaysWarnings result }
     ensures short { IfOk result (λ made. length made.bytes < 2 ^ 32) }
     ensures quiet { result ≡ Err ReadFault → ⊥ }
 {
@@ -108,9 +112,10 @@ fn compile_tokens(
 fn write_work(alloc: Global, work: Work, files: FileNames) -> Result<Made, Stopped>
     requires keys { KeysDiffer [] (values_of work.held.entries) }
     requires named { AreNamed (values_of work.held.entries) }
-    requires nameable { AreNameable (length files) work.warnings }
+    requires nameable { AreWarnings (length files) work.warnings }
     ensures fork { MadeSo result (Said files (λ answer. answer ≡ fork_of_work (work_of work))) }
     ensures nameable { IsNamed result }
+    ensures warned { SaysWarnings result }
     ensures short { IfOk result (λ made. length made.bytes < 2 ^ 32) }
     ensures quiet { result ≡ Err ReadFault → ⊥ }
 {
@@ -129,9 +134,10 @@ fn write_work(alloc: Global, work: Work, files: FileNames) -> Result<Made, Stopp
 /// The refusal with a fault, behind the lines of the warnings.
 fn refuse(alloc: Global, fault: Fault, warnings: &Faults, files: FileNames) -> Result<Made, Stopped>
     requires fault { IsNameable (length files) fault }
-    requires warnings { AreNameable (length files) warnings.now }
+    requires warnings { AreWarnings (length files) warnings.now }
     ensures refused { Refuses fault files (warning_lines files warnings.now) result }
     ensures nameable { IsNamed result }
+    ensures warned { SaysWarnings result }
 {
     let said = warning_lines(alloc, warnings, &files)?;
     Err(Stopped::Refused(fault, files, said))
@@ -139,7 +145,7 @@ fn refuse(alloc: Global, fault: Fault, warnings: &Faults, files: FileNames) -> R
 
 /// The lines of warnings.
 fn warning_lines(alloc: Global, warnings: &Faults, files: &FileNames) -> Result<Bytes, NoMemory>
-    requires { AreNameable (length files.now) warnings.now }
+    requires { AreWarnings (length files.now) warnings.now }
     ensures { IfOk result (λ lines. lines ≡ warning_lines files.now warnings.now) }
 {
     let mut lines = Bytes::new(alloc);

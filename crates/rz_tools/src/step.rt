@@ -7,7 +7,8 @@ ghost use Rattle.rz_lex.specs.declared.token.Token.{Token};
 ghost use Rattle.rz_stmt.specs.Grammar.{AreWithin};
 ghost use Rattle.rz_stmt.specs.Raw.{raw_of};
 ghost use Rattle.rz_stmt.specs.Statements.{AreStatements};
-ghost use Rattle.rz_tools.specs.Held.{work_of, AreNameable};
+ghost use Rattle.rz_tools.specs.Held.{work_of};
+ghost use Rattle.rz_tools.specs.Warning.{AreWarnings};
 ghost use Rattle.rz_tools.specs.ResourceList.{holds_protected, key_of, values_of, IsKeyed};
 ghost use Rattle.rz_tools.specs.Step.{all_at, is_protected, list_behind, nothing_made, protected_fault, put_unless_protected, tokens_at, AreSpans, IsSpan, Means, Stepped, Steps, Worked};
 
@@ -75,7 +76,7 @@ pub fn compile_statements(
     ensures keys { OnOk result (KeysDiffer [] (values_of work.new.held.entries)) }
     ensures named { OnOk result (AreNamed (values_of work.new.held.entries)) }
     ensures nameable { (files : ℕ) → AreWithin files tokens.now → OnFault result (IsNameable files) }
-    ensures warned { (files : ℕ) → AreWithin files tokens.now → AreNameable files work.new.warnings }
+    ensures warned { (files : ℕ) → AreWithin files tokens.now → AreWarnings files work.new.warnings }
 {
     one_cutting();
     let spans = statements(alloc, tokens)?;
@@ -97,7 +98,7 @@ fn compile_spans(
     ensures keys { OnOk result (KeysDiffer [] (values_of work.new.held.entries)) }
     ensures named { OnOk result (AreNamed (values_of work.new.held.entries)) }
     ensures nameable { (files : ℕ) → AreWithin files tokens.now → OnFault result (IsNameable files) }
-    ensures warned { (files : ℕ) → AreWithin files tokens.now → AreNameable files work.new.warnings }
+    ensures warned { (files : ℕ) → AreWithin files tokens.now → AreWarnings files work.new.warnings }
 {
     for span in spans.as_slice() {
         match step(alloc, tokens, *span, redeclare, work) {
@@ -123,7 +124,7 @@ fn step(
     ensures named { AreNamed (values_of work.old.held.entries) → OnOk result (AreNamed (values_of work.new.held.entries)) }
     ensures keys { KeysDiffer [] (values_of work.old.held.entries) → OnOk result (KeysDiffer [] (values_of work.new.held.entries)) }
     ensures nameable { (files : ℕ) → AreWithin files tokens.now → OnFault result (IsNameable files) }
-    ensures warned { (files : ℕ) → AreWithin files tokens.now → AreNameable files work.old.warnings → AreNameable files work.new.warnings }
+    ensures warned { (files : ℕ) → AreWithin files tokens.now → AreWarnings files work.old.warnings → AreWarnings files work.new.warnings }
 {
     let mark = tokens.at(span.start).mark;
     match parse(alloc, tokens, span) {

@@ -7,6 +7,7 @@ use Rattle.rz_words.specs.Item.{rez}
 use Rattle.rz_tools.proofs.Answered.{as_command, as_usage}
 use Rattle.rz_tools.proofs.Again.{for_file, same_file}
 use Rattle.rz_tools.proofs.Commands.{shows_text}
+use Rattle.rz_tools.proofs.Warnings.{no_lines}
 use Rattle.rz_tools.proofs.program.run_words.Goals as goal
 
 pub returns-in-Ok-Rez-clause-runs : goal.returns-in-Ok-Rez-clause-runs
@@ -46,3 +47,12 @@ returns-in-Ok-DeRez-clause-again g c done file is =
     for_file c.in-Ok-DeRez.asked.file.now file _ _ _
     (same_file c.in-Ok-DeRez.asked.file.now file (c.one_command.ensures.command (map string_bytes c.args.words.now) (DeRez c.in-Ok-DeRez.asked.file.now) (DeRez file) asked is))
     (c.run_derez.ensures.again done)
+
+pub returns-in-Ok-Help-clause-said : goal.returns-in-Ok-Help-clause-said
+returns-in-Ok-Help-clause-said g c = rw c.with.ensures no_lines
+
+pub returns-in-Ok-Version-clause-said : goal.returns-in-Ok-Version-clause-said
+returns-in-Ok-Version-clause-said g c = rw c.with-in-Ok-Version.ensures no_lines
+
+pub returns-in-Err-NoMemory-clause-said : goal.returns-in-Err-NoMemory-clause-said
+returns-in-Err-NoMemory-clause-said g c = rw c.with-in-Err-NoMemory.ensures no_lines

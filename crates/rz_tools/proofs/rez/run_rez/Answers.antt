@@ -4,6 +4,7 @@ use Rattle.rz_tools.specs.Answer.{written}
 use Rattle.rz_tools.specs.Made.{making_of}
 use Rattle.rz_tools.specs.Rez.{Compiles}
 use Rattle.rz_tools.proofs.Commands.{stopped, writes_through}
+use Rattle.rz_tools.proofs.Warnings.{by_stop}
 use Rattle.rz_tools.proofs.OneAnswer.{one_compiled}
 use Rattle.rz_words.specs.Item.{rez}
 use Rattle.rz_tools.proofs.rez.run_rez.Goals as goal
@@ -28,3 +29,6 @@ returns-clause-runs g c out =
     rw c.by.ensures (stopped (written asked.output) (Compiles asked)
     (one_compiled c.one_cutting.ensures c.one_statement.ensures c.one_program.ensures asked) _ out _ _ _ c.in-Err.stop c.in-Err.ensures.unchanged
     c.in-Err.ensures.fork c.in-Err.ensures.nameable c.in-Err.ensures.cause)
+
+pub returns-clause-said : goal.returns-clause-said
+returns-clause-said g c = rw c.by.ensures (by_stop c.in-Err.stop c.in-Err.ensures.warned)

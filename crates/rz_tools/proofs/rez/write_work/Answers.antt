@@ -1,3 +1,4 @@
+use Rattle.std.proofs.Common.{length}
 use Rattle.rz_tools.specs.Held.{work_of}
 use Rattle.rz_tools.proofs.Forks.{no_fork, work_forked}
 use Rattle.rz_tools.proofs.rez.write_work.Goals as goal
@@ -11,3 +12,6 @@ pub returns-in-Err-Refused-clause-fork : goal.returns-in-Err-Refused-clause-fork
 returns-in-Err-Refused-clause-fork c =
     no_fork (work_of c.args.work) c.in_ok-list.list c.args.files c.in_ok-list.ensures c.in-Err-Refused.fault c.refuse.result
     (rw c.in-Err-Refused.field-0-is at c.in-Err-Refused.ensures.fork) c.refuse.ensures.refused
+
+pub refuse-requires-clause-fault : goal.refuse-requires-clause-fault
+refuse-requires-clause-fault c = rw c.in-Err-Refused.field-0-is at (c.in-Err-Refused.ensures.nameable (length c.args.files))

@@ -2,7 +2,8 @@ use Rattle.std.proofs.Common.{ℕ, [], drop}
 use Rattle.rz_core.specs.Resources.{KeysDiffer}
 use Rattle.rz_fork.specs.Image.{AreNamed}
 use Rattle.rz_stmt.specs.Grammar.{AreWithin}
-use Rattle.rz_tools.specs.Held.{work_of, AreNameable}
+use Rattle.rz_tools.specs.Held.{work_of}
+use Rattle.rz_tools.specs.Warning.{AreWarnings}
 use Rattle.rz_tools.specs.ResourceList.{values_of, IsKeyed}
 use Rattle.rz_tools.specs.Step.{AreSpans}
 use Rattle.rz_tools.proofs.Stepping.{LeadsTo}
@@ -15,5 +16,5 @@ invariant-loop-span l = record {
   keyed : IsKeyed l.work.held.entries;
   named : AreNamed (values_of l.work.held.entries);
   differ : KeysDiffer [] (values_of l.work.held.entries);
-  warned : (files : ℕ) → AreWithin files l.tokens → AreNameable files l.work.warnings;
+  warned : (files : ℕ) → AreWithin files l.tokens → AreWarnings files l.work.warnings;
 }
