@@ -24,13 +24,13 @@ module _ (fits : ℤ → Bool) (mark : Mark) where
 
   module _ (next : ℤ) (named : NamedTerm) (names : List NamedTerm) (value : ℤ) (is : given_or mark next named.value ≡ Ok value) (inside : fits value ≡ true)
       (others : List Symbol) (rest : HaveValues fits mark (reduced (value +ℤ pos 1)) names others) where
-    onto : HaveValues fits mark next (named ∷ names) (record { name = named.name; value = value } ∷ others)
+    pub behind : (k : ℕ) (own : ℤ) → IsNext (reduced (value +ℤ pos 1)) k others own → IsNext next (suc k) (record { name = named.name; value = value } ∷ others) own
+    behind zero own so = λ before here. so ∙ ap (λ (s : Symbol). reduced (s.value +ℤ pos 1)) (same_Some (record { name = named.name; value = value }) before here)
+    behind (suc k) own so = so
+
+    pub onto : HaveValues fits mark next (named ∷ names) (record { name = named.name; value = value } ∷ others)
     onto = record { each = each; as_many = ap suc rest.as_many }
       where
-        behind : (k : ℕ) (symbol : Symbol) → IsNext (reduced (value +ℤ pos 1)) k others symbol.value → IsNext next (suc k) (record { name = named.name; value = value } ∷ others) symbol.value
-        behind zero symbol so = λ before here. so ∙ ap (λ (s : Symbol). reduced (s.value +ℤ pos 1)) (same_Some (record { name = named.name; value = value }) before here)
-        behind (suc k) symbol so = so
-
         each : (k : ℕ) (n : NamedTerm) (s : Symbol) → slice_get (named ∷ names) k ≡ Some n → slice_get (record { name = named.name; value = value } ∷ others) k ≡ Some s
             → HasItsValue fits mark next (record { name = named.name; value = value } ∷ others) k n s
         each zero n s here there =
@@ -41,7 +41,7 @@ module _ (fits : ℤ → Bool) (mark : Mark) where
             (record { name = refl; in_range = inside; given = given_value next named.value value is; onward = next_value next named.value value is }))
         each (suc k) n s here there =
             let it = rest.each k n s here there in
-            record { name = it.name; in_range = it.in_range; given = it.given; onward = λ none. behind k s (it.onward none) }
+            record { name = it.name; in_range = it.in_range; given = it.given; onward = λ none. behind k s.value (it.onward none) }
 
   by_rest : (next : ℤ) (named : NamedTerm) (names : List NamedTerm) (value : ℤ) → given_or mark next named.value ≡ Ok value → fits value ≡ true
       → (more : Result (List Symbol) Fault) → ((others : List Symbol) → more ≡ Ok others → HaveValues fits mark (reduced (value +ℤ pos 1)) names others)

@@ -1,10 +1,11 @@
 -- The symbols of a number in the words of the language.
-use Rattle.std.specs.Prelude.{◌≡◌, ℕ, zero, suc, ℤ, pos, ◌+ℤ◌, Bool, true, List, length, slice_get, Some, None, Ok}
+use Rattle.std.specs.Prelude.{◌≡◌, ◌⊎◌, ℕ, zero, suc, ℤ, pos, ◌+ℤ◌, Bool, true, false, List, length, slice_get, take, Some, None, Ok, Err}
+use Rattle.rz_core.specs.declared.fault.Fault.{Fault}
 use Rattle.rz_core.specs.declared.fault.Mark.{Mark}
 use Rattle.rz_expr.specs.Term.{Term}
 use Rattle.rz_expr.specs.Value.{reduced}
 use Rattle.rz_stmt.specs.Number.{number_of}
-use Rattle.rz_stmt.specs.Symbols.{NamedTerm}
+use Rattle.rz_stmt.specs.Symbols.{given_or, out_of_range, NamedTerm}
 use Rattle.rz_types.specs.declared.field.Symbol.{Symbol}
 
 -- one more than the symbol before, or at the front the first value
@@ -24,3 +25,20 @@ pub record HaveValues (fits : ℤ → Bool) (mark : Mark) (first : ℤ) (names :
   pub each : (k : ℕ) (named : NamedTerm) (symbol : Symbol) → slice_get names k ≡ Some named → slice_get symbols k ≡ Some symbol
       → HasItsValue fits mark first symbols k named symbol
   pub as_many : length symbols ≡ length names
+
+-- the fault of a symbol whose next value is this one: that of the value that is given, or 207 for a value outside the range
+abbrev pub IsFaultOf : (ℤ → Bool) → Mark → ℤ → NamedTerm → Fault → Type 0
+IsFaultOf fits mark next named fault =
+    (given_or mark next named.value ≡ Err fault)
+    ⊎ ((value : ℤ) × (given_or mark next named.value ≡ Ok value) × (fits value ≡ false) × (fault ≡ out_of_range mark value))
+
+-- so many symbols have their values, and the one behind them has this fault
+pub record GoWrong (fits : ℤ → Bool) (mark : Mark) (first : ℤ) (names : List NamedTerm) (fault : Fault) : Type 0 where
+  pub count : ℕ
+  pub symbols : List Symbol
+  pub front : HaveValues fits mark first (take count names) symbols
+  pub named : NamedTerm
+  pub stands : slice_get names count ≡ Some named
+  pub next : ℤ
+  pub onward : IsNext first count symbols next
+  pub wrong : IsFaultOf fits mark next named fault

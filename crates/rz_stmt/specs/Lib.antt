@@ -10,6 +10,7 @@ pub mod FieldWord
 pub mod Held
 pub mod Head
 pub mod Raw
+pub mod Closed
 pub mod Grammar
 pub mod Number
 pub mod Each

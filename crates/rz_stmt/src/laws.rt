@@ -1,11 +1,14 @@
-ghost use Rattle.std.specs.Prelude.{◌≡◌, ◌↔◌, true, Bool, ℤ, List, Ok, Result, Some};
+ghost use Rattle.std.specs.Prelude.{◌≡◌, ◌↔◌, true, Bool, ℤ, List, Err, Ok, Result, Some};
 ghost use Rattle.rz_core.specs.declared.fault.Fault.{Fault};
 ghost use Rattle.rz_core.specs.declared.fault.Mark.{Mark};
 ghost use Rattle.rz_types.specs.declared.field.Symbol.{Symbol};
-ghost use Rattle.rz_stmt.specs.GoOn.{HaveValues};
+ghost use Rattle.rz_stmt.specs.GoOn.{GoWrong, HaveValues};
 ghost use Rattle.rz_stmt.specs.Symbols.{values_of, NamedTerm};
 ghost use Rattle.rz_lex.specs.declared.token.Token.{Token};
+ghost use Rattle.rz_stmt.specs.Closed.{AreClosed};
 ghost use Rattle.rz_stmt.specs.CutBy.{AreCut};
+ghost use Rattle.rz_stmt.specs.Raw.{texts_in};
+ghost use Rattle.rz_types.specs.declared.text.TextPart.{TextPart};
 ghost use Rattle.rz_stmt.specs.Grammar.{Parses, Statement};
 ghost use Rattle.rz_stmt.specs.Limit.{is_within_limits, KeepsLimits};
 ghost use Rattle.rz_stmt.specs.Piece.{pieces_in, Cut, IsCut};
@@ -41,16 +44,27 @@ pub fn one_statement()
     one_expression();
 }
 
-/// A law, with nothing to run: the pieces of tokens are these tokens again, with one sign that divides between
-/// two of them, outside brackets, and no such sign within one of them.
+/// A law, with nothing to run: these are the pieces of tokens exactly where they are these tokens again, with one
+/// sign that divides between two of them, outside brackets, and no such sign within one of them.
 pub fn pieces_are_cut()
-    ensures { (divider : Divider) (tokens : List Token) → AreCut divider 0 tokens (pieces_by divider 0 tokens) }
+    ensures { (divider : Divider) (tokens : List Token) (pieces : List (List Token))
+        → (pieces_by divider 0 tokens ≡ pieces) ↔ AreCut divider 0 tokens pieces }
+{}
+
+/// A law, with nothing to run: the tokens behind the brace of a `data` statement have these parts of a text exactly
+/// where each token at the front is a part, these are they, and behind them stands the end of the statement: `}` and
+/// `;`, maybe with a `;` before them.
+pub fn texts_are_closed()
+    ensures { (tokens : List Token) (parts : List TextPart) → (texts_in tokens ≡ Some parts) ↔ AreClosed tokens parts }
 {}
 
 /// A law, with nothing to run: where symbols have values, there are as many as names; each has its name, a
 /// value in the range, and the one that is given, or else one more than the symbol before, wrapped to 32 bits;
-/// the first value at the front.
+/// the first value at the front. Where they have a fault, some symbols at the front have such values, and the
+/// one behind them has that fault: that of the value that is given, or 207 for a value outside the range.
 pub fn symbols_have_values()
-    ensures { (fits : ℤ → Bool) (mark : Mark) (names : List NamedTerm) (first : ℤ) (symbols : List Symbol)
+    ensures values { (fits : ℤ → Bool) (mark : Mark) (names : List NamedTerm) (first : ℤ) (symbols : List Symbol)
         → values_of fits mark first names ≡ Ok symbols → HaveValues fits mark first names symbols }
+    ensures fault { (fits : ℤ → Bool) (mark : Mark) (names : List NamedTerm) (first : ℤ) (fault : Fault)
+        → values_of fits mark first names ≡ Err fault → GoWrong fits mark first names fault }
 {}

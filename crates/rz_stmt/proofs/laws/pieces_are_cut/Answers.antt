@@ -1,5 +1,5 @@
-use Rattle.rz_stmt.proofs.CutBy.{pieces_cut}
+use Rattle.rz_stmt.proofs.CutBy.{are_cut}
 use Rattle.rz_stmt.proofs.laws.pieces_are_cut.Goals as goal
 
 pub returns : goal.returns
-returns c divider = pieces_cut divider 0
+returns c = are_cut
