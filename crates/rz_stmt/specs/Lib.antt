@@ -7,6 +7,7 @@ pub mod Piece
 pub mod Split
 pub mod CutBy
 pub mod FieldWord
+pub mod FieldFront
 pub mod Held
 pub mod Head
 pub mod Raw

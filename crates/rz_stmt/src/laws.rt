@@ -1,4 +1,4 @@
-ghost use Rattle.std.specs.Prelude.{◌≡◌, ◌↔◌, true, Bool, ℤ, List, Err, Ok, Result, Some};
+ghost use Rattle.std.specs.Prelude.{◌≡◌, ◌↔◌, true, false, None, Bool, ℤ, List, Err, Ok, Result, Some};
 ghost use Rattle.rz_core.specs.declared.fault.Fault.{Fault};
 ghost use Rattle.rz_core.specs.declared.fault.Mark.{Mark};
 ghost use Rattle.rz_types.specs.declared.field.Symbol.{Symbol};
@@ -7,6 +7,8 @@ ghost use Rattle.rz_stmt.specs.Symbols.{values_of, NamedTerm};
 ghost use Rattle.rz_lex.specs.declared.token.Token.{Token};
 ghost use Rattle.rz_stmt.specs.Closed.{AreClosed};
 ghost use Rattle.rz_stmt.specs.CutBy.{AreCut};
+ghost use Rattle.rz_stmt.specs.FieldFront.{IsFront};
+ghost use Rattle.rz_stmt.specs.FieldWord.{front_in, FieldFront};
 ghost use Rattle.rz_stmt.specs.Raw.{texts_in};
 ghost use Rattle.rz_types.specs.declared.text.TextPart.{TextPart};
 ghost use Rattle.rz_stmt.specs.Grammar.{Parses, Statement};
@@ -56,6 +58,12 @@ pub fn pieces_are_cut()
 /// `;`, maybe with a `;` before them.
 pub fn texts_are_closed()
     ensures { (tokens : List Token) (parts : List TextPart) → (texts_in tokens ≡ Some parts) ↔ AreClosed tokens parts }
+{}
+
+/// A law, with nothing to run: tokens have this front of a field exactly where `unsigned` and a radix, once each at
+/// most and in either order, stand before the word that says what the field is.
+pub fn words_before_fields()
+    ensures { (tokens : List Token) (front : FieldFront) → (front_in false None tokens ≡ Some front) ↔ IsFront tokens front }
 {}
 
 /// A law, with nothing to run: where symbols have values, there are as many as names; each has its name, a

@@ -27,7 +27,7 @@ pub use grammar::{Stmt, parse};
 pub use head::{AttrPart, AttrParts, HeadExpr};
 pub use laws::{
     all_tokens_are_statements, limits_are_kept, one_statement, pieces_are_cut, pieces_are_joined,
-    symbols_have_values, texts_are_closed,
+    symbols_have_values, texts_are_closed, words_before_fields,
 };
 pub use number::number_of;
 pub use raw::RawStmt;
