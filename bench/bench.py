@@ -5,9 +5,10 @@ usage: bench/bench.py [PROGRAM [SEED]]
 
 The sources and forks are made from the seed in a folder of their own, which is removed at the end. Each
 kind is run at each size; the length of each result is compared with the one worked out here, from the
-layout of a resource fork and the form of the shown text. Printed are the bytes read, the seconds, MB/s,
-the peak memory in MB and for each byte read, and how much of both the next size takes in place of the one
-before. The status is 1 where a length is wrong, or where from 4 to 16 MB more than five times the time or
+layout of a resource fork and the form of the shown text. Each is run five times;
+counted are the least time, since whatever else the machine does only adds to it, and the most memory.
+Printed are the bytes read, the seconds, MB/s, the peak memory in MB and for each byte read, and how much of
+both the next size takes in place of the one before. The status is 1 where a length is wrong, or where from 4 to 16 MB more than five times the time or
 the memory is taken, or where a source of hexadecimal texts takes more than 12 bytes for each of its own.
 """
 
@@ -23,6 +24,7 @@ MB = 1_000_000
 SIZES = (1, 4, 16)
 MOST_GROWTH = 5.0
 MOST_HEX_BYTES = 12.0
+RUNS = 5
 
 
 def hex_line(rng, count):
@@ -179,21 +181,25 @@ def bytes_in(folder):
 
 
 def measure(program, rng, kind, make, size):
-    """One run: the bytes read, the seconds, the peak memory, and whether the result has its length."""
+    """The bytes read, the least seconds and the peak memory of the runs, and whether each result has its length."""
     folder = tempfile.mkdtemp(prefix="rezkit-bench-")
     try:
         wanted = make(folder, rng, size * MB)
         read = bytes_in(folder)
-        if kind == "fork":
-            seconds, memory, status = run(program, folder, ["derez", "main"])
-            found = os.path.getsize(os.path.join(folder, "out"))
-        else:
-            seconds, memory, status = run(program, folder, ["rez", "main.r", "-o", "fork"])
-            fork = os.path.join(folder, "fork")
-            found = os.path.getsize(fork) if os.path.exists(fork) else -1
-        if status != 0 or found != wanted:
-            print("%s: status %d, %d bytes and not %d" % (kind, status, found, wanted))
-        return read, seconds, memory, status == 0 and found == wanted
+        seconds, memory, right = float("inf"), 0, True
+        for _ in range(RUNS):
+            if kind == "fork":
+                words, name = ["derez", "main"], "out"
+            else:
+                words, name = ["rez", "main.r", "-o", "fork"], "fork"
+            took, peak, status = run(program, folder, words)
+            made = os.path.join(folder, name)
+            found = os.path.getsize(made) if os.path.exists(made) else -1
+            if status != 0 or found != wanted:
+                print("%s: status %d, %d bytes and not %d" % (kind, status, found, wanted))
+                right = False
+            seconds, memory = min(seconds, took), max(memory, peak)
+        return read, seconds, memory, right
     finally:
         shutil.rmtree(folder)
 

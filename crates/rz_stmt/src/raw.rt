@@ -81,12 +81,14 @@ pub fn kind_in(token: &Token) -> Option<u32>
     }
 }
 
+/// Whether it is `(`.
 pub fn is_open_paren(token: &Token) -> bool
     ensures { result ≡ is_open_paren token.now.shape }
 {
     matches!(token.shape, Shape::Sign(Sign::OpenParen))
 }
 
+/// Whether it is `{`.
 pub fn is_open_brace(token: &Token) -> bool
     ensures { result ≡ is_open_brace token.now.shape }
 {
