@@ -8,7 +8,9 @@ kind is run at each size; the length of each result is compared with the one wor
 layout of a resource fork and the form of the shown text. Each is run five times;
 counted are the least time, since whatever else the machine does only adds to it, and the most memory.
 Printed are the bytes read, the seconds, MB/s, the peak memory in MB and for each byte read, and how much of
-both the next size takes in place of the one before. The status is 1 where a length is wrong, or where from 4 to 16 MB more than five times the time or
+both the next size takes in place of the one before. Where `cpp` and `xxd` are on the machine, the 16 MB of
+the two longest kinds of source are given to `cpp -P`, and the digits of the hexadecimal one to `xxd -r -p`.
+The status is 1 where a length is wrong, or where from 4 to 16 MB more than five times the time or
 the memory is taken, or where a source of hexadecimal texts takes more than 12 bytes for each of its own.
 """
 
@@ -16,6 +18,7 @@ import os
 import random
 import shutil
 import struct
+import subprocess
 import sys
 import tempfile
 import time
@@ -175,6 +178,33 @@ def run(program, folder, words):
     return time.monotonic() - start, usage.ru_maxrss * 1024, os.waitstatus_to_exitcode(status)
 
 
+def least_time(words, folder, given):
+    """The least seconds of the runs of another program, which reads a file and writes nowhere."""
+    seconds = float("inf")
+    for _ in range(RUNS):
+        with open(os.path.join(folder, given), "rb") as source, open(os.devnull, "wb") as sink:
+            start = time.monotonic()
+            subprocess.run(words, stdin=source, stdout=sink, check=True)
+            seconds = min(seconds, time.monotonic() - start)
+    return seconds
+
+
+def compare(rng_of):
+    """What other programs take for the same sources: `cpp -P` to read them, and `xxd -r -p` to turn hex digits."""
+    for kind, make in (("hex", write_hex), ("small", write_small)):
+        folder = tempfile.mkdtemp(prefix="rezkit-bench-")
+        try:
+            make(folder, rng_of(), SIZES[-1] * MB)
+            if shutil.which("cpp"):
+                print("%-9s %5d   cpp -P      %8.2f" % (kind, SIZES[-1], least_time(["cpp", "-P"], folder, "main.r")))
+            if kind == "hex" and shutil.which("xxd"):
+                with open(os.path.join(folder, "main.r")) as source, open(os.path.join(folder, "digits"), "w") as digits:
+                    digits.writelines(line[6:-2] + "\n" for line in source if line.startswith('    $"'))
+                print("%-9s %5d   xxd -r -p   %8.2f" % (kind, SIZES[-1], least_time(["xxd", "-r", "-p"], folder, "digits")))
+        finally:
+            shutil.rmtree(folder)
+
+
 def bytes_in(folder):
     """The bytes of all files of a folder."""
     return sum(entry.stat().st_size for entry in os.scandir(folder))
@@ -235,6 +265,7 @@ def main():
                 good = good and max(seconds / before[0], memory / before[1]) <= MOST_GROWTH
                 good = good and (kind != "hex" or memory / read <= MOST_HEX_BYTES)
             before = (seconds, memory)
+    compare(lambda: random.Random(seed))
     print("all lengths and limits hold" if good else "a length or a limit does not hold")
     sys.exit(0 if good else 1)
 

@@ -2,19 +2,16 @@
 use Rattle.std.proofs.Common.{◌≡◌, ◌≢◌, ℕ, suc, ◌+◌, ◌-◌, ◌<◌, ◌≤◌, Bool, true, false, List, [], ◌∷◌, Option, Some, None, length, get_or, refl, sym, ap, ◌∙◌, arith}
 use Rattle.std.specs.Prelude.{nat_lt, ◌==◌}
 use Rattle.std.proofs.lemmas.Bool.{agree_below_at, eqb-true, ltb-true, le-ltb}
+use Rattle.rz_core.proofs.Tests.{by_test}
 use Rattle.rz_core.specs.Roman.{upper_half, roman_char, roman_byte, place_from, IsOneToOne}
-
-by_test : (P : Type 0) (b : Bool) → (b ≡ true → P) → (b ≡ false → P) → P
-by_test P true holds fails = holds refl
-by_test P false holds fails = fails refl
 
 -- the 256 bytes, one after the other
 
-abbrev is_byte : Option ℕ → ℕ → Bool
+abbrev pub is_byte : Option ℕ → ℕ → Bool
 is_byte None byte = false
 is_byte (Some found) byte = found == byte
 
-same_byte : (found : Option ℕ) (byte : ℕ) → is_byte found byte ≡ true → found ≡ Some byte
+pub same_byte : (found : Option ℕ) (byte : ℕ) → is_byte found byte ≡ true → found ≡ Some byte
 same_byte None byte is = absurd cc
 same_byte (Some found) byte is = ap (λ (b : ℕ). Some b) (eqb-true found byte is)
 

@@ -1,5 +1,7 @@
 pub mod formers
 pub mod Stop
+pub mod Answers
+pub mod Decided
 pub mod Lists
 pub mod Numbers
 pub mod Decimal

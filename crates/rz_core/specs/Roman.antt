@@ -1,6 +1,6 @@
 -- Mac Roman, the encoding of all text of the classic Macintosh. (Inside Macintosh: Text; the character DB is the
 -- euro sign, as since Mac OS 8.5.)
-use Rattle.std.specs.Prelude.{◌≡◌, ◌≢◌, ℕ, ◌+◌, ◌-◌, ◌<◌, ◌≤◌, nat_lt, nat_le, ◌==◌, ◌&&◌, if◌then◌else◌, List, [], ◌∷◌, Option, Some, None, get_or}
+use Rattle.std.specs.Prelude.{◌≡◌, ◌≢◌, ℕ, ◌+◌, ◌-◌, ◌<◌, nat_lt, nat_le, ◌==◌, ◌&&◌, if◌then◌else◌, List, [], ◌∷◌, Option, Some, None, get_or}
 
 -- the characters of the bytes 80 to FF, sixteen a line
 abbrev pub upper_half : List ℕ

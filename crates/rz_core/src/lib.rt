@@ -14,6 +14,7 @@ mod quoted;
 mod resource;
 mod roman;
 mod stop;
+mod word;
 
 pub use attr::Attr;
 pub use decimal::{write_decimal, write_signed};
@@ -27,3 +28,4 @@ pub use quoted::{write_hex, write_quoted, write_shown, write_type};
 pub use resource::{OsType, Resource, Resources, Word, Words};
 pub use roman::{fold, from_roman, roman_is_one_to_one, to_roman};
 pub use stop::{NoMemory, Stop};
+pub use word::names_agree;

@@ -1,4 +1,4 @@
-ghost use Rattle.std.specs.Prelude.{◌≡◌, ◌<◌, [], ◌∷◌, ◌++◌, length, slice_get, ◌↔◌, IsTrue, OnOk, OnErr};
+ghost use Rattle.std.specs.Prelude.{◌≡◌, ◌<◌, [], ◌∷◌, ◌++◌, length, slice_get, ◌↔◌, IfOk, IsTrue, OnOk, OnErr};
 
 use crate::NoMemory;
 use std::alloc::Global;
@@ -30,6 +30,15 @@ impl<T: Drop> Listing<T> {
         Listing {
             items: Vec::new(alloc),
         }
+    }
+
+    /// The list without items, which takes the memory of so many at once.
+    pub fn with_capacity(alloc: Global, size: usize) -> Result<Listing<T>, NoMemory>
+        ensures { IfOk result (λ listing. listing ≡ []) }
+    {
+        Ok(Listing {
+            items: Vec::with_capacity(alloc, size)?,
+        })
     }
 
     /// The list of these items. It takes no memory.
@@ -90,8 +99,6 @@ impl<T: Drop> Listing<T> {
 pub type Bytes = Listing<u8>;
 
 impl Listing<u8> {
-    ghost use Rattle.std.specs.Prelude.{IfOk};
-
     /// A copy of the bytes.
     pub fn of(alloc: Global, source: &[u8]) -> Result<Bytes, NoMemory>
         ensures { IfOk result (λ bytes. bytes ≡ source.now) }

@@ -3,7 +3,7 @@ use Rattle.std.proofs.Common.{◌≡◌, ℕ, ℤ, pos, Bool, true, false, ◌||
 use Rattle.std.specs.Prelude.{◌+ℤ◌, if◌then◌else◌, int_lt}
 use Rattle.std.proofs.lemmas.Bool.{false≢true}
 use Rattle.rz_core.specs.Stop.{◌>>=◌}
-use Rattle.rz_expr.specs.Environment.{Sight, IsSeenIn, place_key, rows_key}
+use Rattle.rz_expr.specs.Environment.{Sight, IsSeenIn, place_key, count_key}
 use Rattle.rz_expr.specs.Term.{Term, Constant, Named, RowsOf, BitsAt, FactOf, OfOne, OfTwo}
 use Rattle.rz_expr.specs.Value.{known_value, known_bits, stays, value_of}
 use Rattle.rz_expr.specs.declared.value.EvalFault.{EvalFault}
@@ -45,7 +45,7 @@ within false width some other fault more is = more is
 fails_so : (term : Term) (known finished : Sight) → IsSeenIn known finished → (fault : EvalFault) → stays fault ≡ true → value_of term known ≡ Err fault → value_of term finished ≡ Err fault
 fails_so (Constant number) known finished seen fault stay is = absurd cc
 fails_so (Named name) known finished seen fault stay is = name_fails name (known.names.give (place_key name)) (finished.names.give (place_key name)) fault stay is
-fails_so (RowsOf name) known finished seen fault stay is = name_fails name (known.names.give (rows_key name)) (finished.names.give (rows_key name)) fault stay is
+fails_so (RowsOf name) known finished seen fault stay is = name_fails name (known.names.give (count_key name)) (finished.names.give (count_key name)) fault stay is
 fails_so (BitsAt name start width) known finished seen fault stay is =
     failing (known_value name (known.names.give (place_key name))) (known_value name (finished.names.give (place_key name))) _ _ fault
     (name_grows name (known.names.give (place_key name)) (finished.names.give (place_key name)) (seen.names.give (place_key name)))

@@ -4,7 +4,7 @@ use Rattle.std.specs.Prelude.{◌+ℤ◌, if◌then◌else◌, int_lt, IfOk}
 use Rattle.rz_core.specs.Stop.{◌>>=◌, Gives}
 use Rattle.rz_core.specs.declared.stop.Stop.{Stop}
 use Rattle.rz_core.specs.declared.stop.Stop.TheVariants.{Refused, NoMemory}
-use Rattle.rz_expr.specs.Environment.{Sight, IsSeenIn, place_key, rows_key}
+use Rattle.rz_expr.specs.Environment.{Sight, IsSeenIn, place_key, count_key}
 use Rattle.rz_expr.specs.Term.{Term, Constant, Named, RowsOf, BitsAt, FactOf, OfOne, OfTwo}
 use Rattle.rz_expr.specs.Value.{known_value, known_bits, number_at, reduced, value_of}
 use Rattle.rz_expr.specs.declared.value.EvalFault.{EvalFault}
@@ -55,7 +55,7 @@ module _ (known finished : Sight) (seen : IsSeenIn known finished) where
   pub value_grows : (term : Term) (value : ℤ) → value_of term known ≡ Ok value → value_of term finished ≡ Ok value
   value_grows (Constant number) value is = is
   value_grows (Named name) value is = name_grows name _ _ (seen.names.give (place_key name)) value is
-  value_grows (RowsOf name) value is = name_grows name _ _ (seen.names.give (rows_key name)) value is
+  value_grows (RowsOf name) value is = name_grows name _ _ (seen.names.give (count_key name)) value is
   value_grows (BitsAt name start width) value is =
       chained (known_value name (known.names.give (place_key name))) (known_value name (finished.names.give (place_key name))) _ _ value
       (name_grows name _ _ (seen.names.give (place_key name)))

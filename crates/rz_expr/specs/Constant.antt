@@ -2,7 +2,7 @@
 use Rattle.std.specs.Prelude.{ℤ, pos, Bool, true, false, ◌&&◌, if◌then◌else◌, Option, None}
 use Rattle.std.specs.Option.{is_some}
 use Rattle.std.specs.Result.{result_ok}
-use Rattle.rz_expr.specs.Environment.{place_of, predefined, rows_of, Key, Sight}
+use Rattle.rz_expr.specs.Environment.{place_of, predefined, count_of, Key, Sight}
 use Rattle.rz_expr.specs.Term.{BitsAt, Constant, FactOf, Named, OfOne, OfTwo, RowsOf, Term}
 use Rattle.rz_expr.specs.Value.{value_of}
 
@@ -19,7 +19,7 @@ is_constant (OfTwo op left right) = is_constant left && is_constant right
 -- what such an expression sees: nothing but `true` and `false` has a value
 abbrev pub predefined_key : Key → Option ℤ
 predefined_key (place_of name) = predefined name
-predefined_key (rows_of name) = None
+predefined_key (count_of name) = None
 
 abbrev pub constant_sight : Sight
 constant_sight = record { names = record { give = predefined_key }; bits = λ first width. None; fact = λ which. pos 0 }

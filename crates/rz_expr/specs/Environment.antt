@@ -7,14 +7,14 @@ use Rattle.rz_expr.specs.declared.words.FactWord.{FactWord}
 -- whatever case
 pub data Key : Type 0 where
   place_of : List ℕ → Key
-  rows_of : List ℕ → Key
+  count_of : List ℕ → Key
 
 -- the key of a name in any case
 abbrev pub place_key : List ℕ → Key
 place_key name = place_of (str_to_ascii_lowercase name)
 
-abbrev pub rows_key : List ℕ → Key
-rows_key name = rows_of (str_to_ascii_lowercase name)
+abbrev pub count_key : List ℕ → Key
+count_key name = count_of (str_to_ascii_lowercase name)
 
 -- the values of the words that are names in every expression
 abbrev pub predefined : List ℕ → Option ℤ

@@ -38,7 +38,8 @@ word_start roles.Label name = Operand (Named name)
 word_start roles.OtherName name = Operand (Named name)
 word_start (roles.Fact which) name = Operand (FactOf which)
 word_start (roles.Call function) name = Calls function
-word_start roles.Reserved name = NoStart
+word_start (roles.Text which) name = NoStart
+word_start (roles.Reserved keyword) name = NoStart
 word_start roles.OtherFunction name = NoStart
 
 abbrev pub sign_start : Sign → Start

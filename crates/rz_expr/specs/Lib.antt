@@ -1,7 +1,10 @@
+pub mod Keyword
+pub mod Attribute
 pub mod Words
 pub mod Term
 pub mod Environment
 pub mod Value
+pub mod Unvalued
 pub mod Grammar
 pub mod Fronts
 pub mod Reading

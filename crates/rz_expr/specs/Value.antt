@@ -10,7 +10,7 @@ use Rattle.rz_expr.specs.declared.expr.BinaryOp.TheVariants as two
 use Rattle.rz_expr.specs.declared.value.EvalFault.{EvalFault}
 use Rattle.rz_expr.specs.declared.value.EvalFault.TheVariants.{ZeroDivisor, UnknownName, LaterData, DataWidth, BadShift}
 use Rattle.rz_expr.specs.Term.{Term, Constant, Named, RowsOf, BitsAt, FactOf, OfOne, OfTwo}
-use Rattle.rz_expr.specs.Environment.{Sight, place_key, rows_key}
+use Rattle.rz_expr.specs.Environment.{Sight, place_key, count_key}
 
 -- reduced to 32 bits with a sign
 abbrev pub reduced : ℤ → ℤ
@@ -97,7 +97,7 @@ IsUnknown other = ⊥
 abbrev pub value_of : Term → Sight → Result ℤ EvalFault
 value_of (Constant number) sight = Ok number
 value_of (Named name) sight = known_value name (sight.names.give (place_key name))
-value_of (RowsOf name) sight = known_value name (sight.names.give (rows_key name))
+value_of (RowsOf name) sight = known_value name (sight.names.give (count_key name))
 value_of (BitsAt name start width) sight =
     known_value name (sight.names.give (place_key name))
     >>= λ place. value_of start sight

@@ -1,60 +1,35 @@
 -- What a word of the language may be. Case doesn't matter. (MPW Rez.)
-use Rattle.std.specs.Prelude.{ℕ, Bool, true, false, ◌||◌, ◌==◌, if◌then◌else◌, List, [], ◌∷◌, codes}
+use Rattle.std.specs.Prelude.{ℕ, Bool, true, false, ◌||◌, ◌==◌, if◌then◌else◌, List, [], ◌∷◌, Option, Some, None, codes}
+use Rattle.std.specs.Option.{is_some}
 use Rattle.std.specs.Str.{str_eq_ignore_ascii_case}
+use Rattle.rz_expr.specs.Attribute.{attribute_word}
+use Rattle.rz_expr.specs.Keyword.{keyword_of}
+use Rattle.rz_expr.specs.declared.keyword.Keyword.{Keyword}
 use Rattle.rz_expr.specs.declared.words.FactWord.TheVariants as facts
 use Rattle.rz_expr.specs.declared.words.Function.TheVariants.{CountOf, BitField, Data}
 use Rattle.rz_expr.specs.declared.words.Role.{Role}
-use Rattle.rz_expr.specs.declared.words.Role.TheVariants.{Label, OtherName, Fact, Call, Reserved, OtherFunction}
+use Rattle.rz_expr.specs.declared.words.Role.TheVariants.{Label, OtherName, Fact, Call, Text, Reserved, OtherFunction}
+use Rattle.rz_expr.specs.declared.words.TextWord.TheVariants as texts
 
 -- the same name, in whatever case
 abbrev pub is : List ℕ → List ℕ → Bool
 is word name = str_eq_ignore_ascii_case name word
 
--- words of statements
-abbrev pub is_statement_word : List ℕ → Bool
-is_statement_word name =
-    is (codes "type") name || is (codes "resource") name || is (codes "data") name || is (codes "include") name
-    || is (codes "read") name || is (codes "change") name || is (codes "delete") name || is (codes "as") name
-    || is (codes "to") name || is (codes "not") name
-
--- words of fields that are no numbers or texts
-abbrev pub is_layout_word : List ℕ → Bool
-is_layout_word name =
-    is (codes "array") name || is (codes "wide") name || is (codes "switch") name || is (codes "case") name
-    || is (codes "key") name || is (codes "fill") name || is (codes "align") name || is (codes "bit") name
-    || is (codes "nibble") name || is (codes "word") name || is (codes "long") name
-
--- types of numbers, and how they are shown
-abbrev pub is_number_word : List ℕ → Bool
-is_number_word name =
-    is (codes "byte") name || is (codes "integer") name || is (codes "longint") name || is (codes "bitstring") name
-    || is (codes "boolean") name || is (codes "char") name || is (codes "hex") name || is (codes "decimal") name
-    || is (codes "octal") name || is (codes "binary") name || is (codes "literal") name || is (codes "unsigned") name
-
--- types of texts, points and rectangles
-abbrev pub is_text_word : List ℕ → Bool
-is_text_word name =
-    is (codes "string") name || is (codes "pstring") name || is (codes "wstring") name || is (codes "cstring") name
-    || is (codes "point") name || is (codes "rect") name
-
--- words of the preprocessor
-abbrev pub is_tool_word : List ℕ → Bool
-is_tool_word name = is (codes "defined") name || is (codes "rez") name || is (codes "derez") name
-
--- words that set or clear an attribute
-abbrev pub is_attribute_word : List ℕ → Bool
-is_attribute_word name =
-    is (codes "appheap") name || is (codes "sysheap") name || is (codes "nonpurgeable") name || is (codes "purgeable") name
-    || is (codes "unlocked") name || is (codes "locked") name || is (codes "unprotected") name || is (codes "protected") name
-    || is (codes "nonpreload") name || is (codes "preload") name || is (codes "unchanged") name || is (codes "changed") name
-
 -- reserved words that may still name what is no label
 abbrev pub is_other_name : List ℕ → Bool
-is_other_name name = is_attribute_word name || is (codes "true") name || is (codes "false") name
+is_other_name name = is_some (attribute_word name) || is (codes "true") name || is (codes "false") name
 
--- all other reserved words
-abbrev pub is_reserved : List ℕ → Bool
-is_reserved name = is_statement_word name || is_layout_word name || is_number_word name || is_text_word name || is_tool_word name
+-- a text whose name stands behind `$$`
+abbrev pub text_role : List ℕ → Role
+text_role name =
+    if is (codes "Name") name then Text texts.Name
+    else if is (codes "Date") name then Text texts.Date
+    else if is (codes "Time") name then Text texts.Time
+    else if is (codes "Version") name then Text texts.Version
+    else if is (codes "Read") name then Text texts.Read
+    else if is (codes "Resource") name then Text texts.Resource
+    else if is (codes "Format") name then Text texts.Format
+    else OtherFunction
 
 -- a fact whose name stands behind `$$`
 abbrev pub fact_role : List ℕ → Role
@@ -69,7 +44,7 @@ fact_role name =
     else if is (codes "Minute") name then Fact facts.Minute
     else if is (codes "Second") name then Fact facts.Second
     else if is (codes "Weekday") name then Fact facts.Weekday
-    else OtherFunction
+    else text_role name
 
 -- the function whose name stands behind `$$`
 abbrev pub function_role : List ℕ → Role
@@ -81,9 +56,14 @@ function_role name =
     else if is (codes "Long") name then Call (Data 32)
     else fact_role name
 
+-- a word that is this keyword, or none
+abbrev pub keyword_role : Option Keyword → Role
+keyword_role (Some keyword) = Reserved keyword
+keyword_role None = Label
+
 -- a word that doesn't begin with `$$`
 abbrev pub plain_role : List ℕ → Role
-plain_role name = if is_other_name name then OtherName else if is_reserved name then Reserved else Label
+plain_role name = if is_other_name name then OtherName else keyword_role (keyword_of name)
 
 -- what stands behind a first `$`
 abbrev pub dollar_role : List ℕ → List ℕ → Role

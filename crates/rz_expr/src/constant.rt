@@ -1,11 +1,10 @@
-ghost use Rattle.std.specs.Prelude.{◌≡◌, IfOk};
+ghost use Rattle.std.specs.Prelude.{◌≡◌};
 ghost use Rattle.std.proofs.Common.{rules};
 ghost use Rattle.rz_expr.specs.Constant.{constant_of, constant_sight, is_constant};
 ghost use Rattle.rz_expr.specs.Term.{term_of};
 
-use crate::{Env, Expr, FactWord, eval, predefined};
-use rz_core::{NoMemory, Stop, Word};
-use std::alloc::Global;
+use crate::{Env, Expr, FactWord, predefined, value_in};
+use rz_core::Word;
 
 /// What an expression sees that stands for itself: `true` and `false` alone have a value.
 pub struct ConstantEnv;
@@ -48,16 +47,16 @@ pub fn is_constant(expr: &Expr) -> bool
     }
 }
 
-/// The value of an expression that is a constant and has one, and `None` for every other.
-pub fn constant_of(alloc: Global, expr: &Expr) -> Result<Option<i32>, NoMemory>
-    ensures { IfOk result (λ value. value ≡ constant_of (term_of expr.now)) }
+/// The value of an expression that is a constant and has one, and `None` for every other. It takes no
+/// memory.
+pub fn constant_of(expr: &Expr) -> Option<i32>
+    ensures { result ≡ constant_of (term_of expr.now) }
 {
     if !is_constant(expr) {
-        return Ok(None);
+        return None;
     }
-    match eval(alloc, expr, &ConstantEnv) {
-        Ok(value) => Ok(Some(value)),
-        Err(Stop::Refused(_)) => Ok(None),
-        Err(Stop::NoMemory) => Err(NoMemory),
+    match value_in(expr, &ConstantEnv) {
+        Ok(value) => Some(value),
+        Err(_) => None,
     }
 }

@@ -2,7 +2,7 @@ ghost use Rattle.std.specs.Prelude.{◌≡◌, IfOk};
 ghost use Rattle.rz_expr.specs.Term.{term_of};
 
 use crate::Expr;
-use rz_core::{Bytes, NoMemory, Word};
+use rz_core::NoMemory;
 use std::alloc::Global;
 
 /// A copy of an expression. It takes time and depth in proportion to the expression.
@@ -11,10 +11,10 @@ pub fn copy(alloc: Global, expr: &Expr) -> Result<Expr, NoMemory>
 {
     match expr {
         Expr::Number(number) => Ok(Expr::Number(*number)),
-        Expr::Name(name) => Ok(Expr::Name(copy_word(alloc, name)?)),
-        Expr::Count(name) => Ok(Expr::Count(copy_word(alloc, name)?)),
+        Expr::Name(name) => Ok(Expr::Name(name.copy(alloc)?)),
+        Expr::Count(name) => Ok(Expr::Count(name.copy(alloc)?)),
         Expr::Bits(name, start, width) => {
-            let name = copy_word(alloc, name)?;
+            let name = name.copy(alloc)?;
             let start = copy(alloc, start)?;
             let width = copy(alloc, width)?;
             Ok(Expr::Bits(name, Box::new(alloc, start)?, Box::new(alloc, width)?))
@@ -30,13 +30,4 @@ pub fn copy(alloc: Global, expr: &Expr) -> Result<Expr, NoMemory>
             Ok(Expr::Binary(*op, Box::new(alloc, left)?, Box::new(alloc, right)?))
         }
     }
-}
-
-/// A copy of a word.
-pub fn copy_word(alloc: Global, word: &Word) -> Result<Word, NoMemory>
-    ensures { IfOk result (λ copy. copy.bytes ≡ word.now.bytes) }
-{
-    Ok(Word {
-        bytes: Bytes::of(alloc, word.bytes.as_slice())?,
-    })
 }

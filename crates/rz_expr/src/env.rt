@@ -1,5 +1,6 @@
 ghost use Rattle.std.specs.Prelude.{◌≡◌, ◌≤◌, ◌+ℤ◌, pos, ℤ, ◌≤ℤ◌, IfSome, option_map};
-ghost use Rattle.rz_expr.specs.Environment.{Sight, IsSeenIn, place_key, predefined, rows_key};
+ghost use Rattle.rz_expr.specs.Environment.{Sight, IsSeenIn, count_key, place_key, predefined};
+ghost use Rattle.rz_expr.specs.Value.{reduced};
 
 use crate::FactWord;
 use rz_core::Word;
@@ -32,9 +33,9 @@ pub trait Env {
     fn place(&self, name: &Word) -> Option<i32>
         ensures { result ≡ (view self.now).names.give (place_key name.now.bytes) };
 
-    /// The number of rows of an array.
+    /// The number of rows of an array, wrapped to 32 bits with a sign.
     fn count(&self, name: &Word) -> Option<i32>
-        ensures { result ≡ (view self.now).names.give (rows_key name.now.bytes) };
+        ensures { result ≡ option_map reduced ((view self.now).names.give (count_key name.now.bytes)) };
 
     /// The unsigned number in the bits, as many as `width` says, from 1 to 32, that begin `start` bits behind
     /// a label; `None` where they aren't there.
@@ -43,9 +44,9 @@ pub trait Env {
         ensures { IfSome ((view self.now).names.give (place_key name.now.bytes))
             (λ place. option_map (λ number. pos number) result ≡ (view self.now).bits (place +ℤ start) width) };
 
-    /// A fact of the resource or the moment.
+    /// A fact of the resource or the moment, wrapped to 32 bits with a sign.
     fn fact(&self, which: FactWord) -> i32
-        ensures { result ≡ (view self.now).fact which };
+        ensures { result ≡ reduced ((view self.now).fact which) };
 
     /// What is seen is seen so in each finished sight of which it is a part.
     ghost law: { (env : Self) (finished : Sight) → belongs env finished → IsSeenIn (view env) finished };

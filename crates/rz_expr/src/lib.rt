@@ -1,21 +1,29 @@
 //! Expressions: their grammar, and their values in an environment.
 #![tactic(auto)]
 
+mod attribute;
 mod constant;
 mod copies;
 mod env;
 mod expr;
+mod keyword;
 mod laws;
 mod operators;
 mod read;
 mod value;
 mod words;
 
+pub use attribute::{
+    ATTRIBUTES, Attribute, AttributeWord, attribute_word, bit_of, clearing_word, setting_word,
+};
 pub use constant::{ConstantEnv, constant_of, is_constant};
-pub use copies::{copy, copy_word};
+pub use copies::copy;
 pub use env::{Env, predefined};
 pub use expr::{BinaryOp, Expr, UnaryOp};
-pub use laws::{faults_stay, one_expression, values_stay};
+pub use keyword::{Keyword, is_keyword, keyword_in, keyword_named, keyword_of, spelling};
+pub use laws::{
+    attribute_words_are_spelled, faults_stay, keywords_are_spelled, one_expression, values_stay,
+};
 pub use read::{ReadExpr, read_expr, read_whole};
-pub use value::{EvalFault, eval};
-pub use words::{FactWord, Function, Role, role_of};
+pub use value::{EvalFault, Unvalued, eval, signed, value_in};
+pub use words::{FactWord, Function, Role, TextWord, role_of};

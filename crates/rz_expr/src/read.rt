@@ -8,7 +8,6 @@ ghost use Rattle.rz_expr.specs.Words.{role_of};
 ghost use Rattle.rz_expr.specs.declared.words.Function.TheVariants as function;
 ghost use Rattle.rz_lex.specs.declared.token.Token.{Token};
 
-use crate::copies::copy_word;
 use crate::operators::{Frame, argument, ends_at, operator_at, prefix_at, prefix_count};
 use crate::value::signed;
 use crate::{Expr, Function, Role, role_of};
@@ -238,12 +237,12 @@ fn read_word(alloc: Global, tokens: &[Token], word: &Word) -> Result<Option<Fron
         (λ front. IsFront 0 tokens.now front.length (term_of front.expr))) }
 {
     match role_of(word) {
-        Role::Label | Role::OtherName => Ok(Some(alone(Expr::Name(copy_word(alloc, word)?)))),
+        Role::Label | Role::OtherName => Ok(Some(alone(Expr::Name(word.copy(alloc)?)))),
         Role::Fact(which) => Ok(Some(alone(Expr::Fact(which)))),
         Role::Call(Function::CountOf) => read_count(alloc, tokens),
         Role::Call(Function::Data(width)) => read_data(alloc, tokens, width),
         Role::Call(Function::BitField) => read_bit_field(alloc, tokens),
-        Role::Reserved | Role::OtherFunction => Ok(None),
+        Role::Text(_) | Role::Reserved(_) | Role::OtherFunction => Ok(None),
     }
 }
 
@@ -255,7 +254,7 @@ fn read_count(alloc: Global, tokens: &[Token]) -> Result<Option<Front>, NoMemory
 {
     match argument(Function::CountOf, behind(tokens, 1)) {
         Some(name) => Ok(Some(Front {
-            expr: Expr::Count(copy_word(alloc, name)?),
+            expr: Expr::Count(name.copy(alloc)?),
             length: 4,
         })),
         None => Ok(None),
@@ -282,7 +281,7 @@ fn bits_at(alloc: Global, label: &Word, start: Expr, width: Expr) -> Result<Expr
     ensures { IfOk result (λ expr. term_of expr ≡ BitsAt label.now.bytes (term_of start) (term_of width)) }
 {
     Ok(Expr::Bits(
-        copy_word(alloc, label)?,
+        label.copy(alloc)?,
         Box::new(alloc, start)?,
         Box::new(alloc, width)?,
     ))

@@ -4,12 +4,12 @@ ghost use Rattle.rz_core.specs.Stop.{Gives};
 ghost use Rattle.rz_core.specs.declared.stop.Stop.TheVariants as stop;
 ghost use Rattle.rz_expr.specs.Environment.{Sight, place_key};
 ghost use Rattle.rz_expr.specs.Term.{has_names, term_of};
+ghost use Rattle.rz_expr.specs.Unvalued.{fault_of, held, IsCopyOf};
 ghost use Rattle.rz_expr.specs.declared.value.EvalFault.TheVariants as fault;
 ghost use Rattle.rz_expr.specs.Value.{divided, known_value, IsUnknown, number_at, operate, operate_one, reduced, shifted, truth, value_of};
 
-use crate::copies::copy_word;
 use crate::{BinaryOp, Env, Expr, UnaryOp};
-use rz_core::{Stop, Word};
+use rz_core::{NoMemory, Stop, Word};
 use std::alloc::Global;
 
 /// Why an expression has no value.
@@ -19,6 +19,21 @@ pub enum EvalFault {
     ZeroDivisor,
     /// A name or an array has no value.
     UnknownName(Word),
+    /// Bits that are not there: the first of them, and the one behind the last.
+    LaterData(i64, i64),
+    /// Bits are asked for, but not 1 to 32 of them.
+    DataWidth(i32),
+    /// A shift by a count outside 0 to 31.
+    BadShift(i32),
+}
+
+/// Why an expression has no value, as [`EvalFault`]; the expression lends the name that has none.
+#[derive(Clone, Copy, Debug)]
+pub enum Unvalued<'a> {
+    /// A quotient or a remainder by 0.
+    ZeroDivisor,
+    /// A name or an array has no value.
+    UnknownName(&'a Word),
     /// Bits that are not there: the first of them, and the one behind the last.
     LaterData(i64, i64),
     /// Bits are asked for, but not 1 to 32 of them.
@@ -39,78 +54,91 @@ pub fn eval<E: Env>(alloc: Global, expr: &Expr, env: &E) -> Result<i32, Stop<Eva
     ensures finished { (finished : Sight) → E.belongs env.now finished
         → IfOk result (λ value. value_of (term_of expr.now) finished ≡ Ok value) }
 {
-    value_of(alloc, expr, env)
+    match value_in(expr, env) {
+        Ok(value) => Ok(value),
+        Err(fault) => Err(copy_fault(alloc, fault)),
+    }
 }
 
-fn value_of<E: Env>(alloc: Global, expr: &Expr, env: &E) -> Result<i32, Stop<EvalFault>>
-    ensures value { Gives (value_of (term_of expr.now) (E.view env.now)) result }
-    ensures nameless { has_names (term_of expr.now) ≡ false → result ≢ Err stop.NoMemory }
-    ensures memory { result ≡ Err stop.NoMemory → IsUnknown (value_of (term_of expr.now) (E.view env.now)) }
+/// The fault, with a copy of the name.
+fn copy_fault(alloc: Global, fault: Unvalued<'_>) -> Stop<EvalFault>
+    ensures { IsCopyOf (fault_of fault.entry) result }
+{
+    match fault {
+        Unvalued::ZeroDivisor => Stop::Refused(EvalFault::ZeroDivisor),
+        Unvalued::UnknownName(name) => match name.copy(alloc) {
+            Ok(name) => Stop::Refused(EvalFault::UnknownName(name)),
+            Err(NoMemory) => Stop::NoMemory,
+        },
+        Unvalued::LaterData(first, end) => Stop::Refused(EvalFault::LaterData(first, end)),
+        Unvalued::DataWidth(width) => Stop::Refused(EvalFault::DataWidth(width)),
+        Unvalued::BadShift(count) => Stop::Refused(EvalFault::BadShift(count)),
+    }
+}
+
+/// The value of an expression, or its first fault, as [`eval`] gives it. It takes no memory.
+pub fn value_in<'a, E: Env>(expr: &'a Expr, env: &E) -> Result<i32, Unvalued<'a>>
+    ensures { held result ≡ value_of (term_of expr.now) (E.view env.now) }
 {
     match expr {
         Expr::Number(number) => Ok(*number),
-        Expr::Name(name) => known(alloc, name, env.place(name)),
-        Expr::Count(name) => known(alloc, name, env.count(name)),
+        Expr::Name(name) => known(name, env.place(name)),
+        Expr::Count(name) => known(name, env.count(name)),
         Expr::Bits(name, start, width) => {
-            let place = known(alloc, name, env.place(name))?;
-            let start = value_of(alloc, start, env)?;
-            let width = value_of(alloc, width, env)?;
+            let place = known(name, env.place(name))?;
+            let start = value_in(start, env)?;
+            let width = value_in(width, env)?;
             number_at(env, name, place, start, width)
         }
         Expr::Fact(which) => Ok(env.fact(*which)),
         Expr::Unary(op, operand) => {
-            let value = value_of(alloc, operand, env)?;
+            let value = value_in(operand, env)?;
             Ok(operate_one(*op, value))
         }
         Expr::Binary(op, left, right) => {
-            let left = value_of(alloc, left, env)?;
-            let right = value_of(alloc, right, env)?;
-            match operate(*op, left, right) {
-                Ok(value) => Ok(value),
-                Err(fault) => Err(Stop::Refused(fault)),
-            }
+            let left = value_in(left, env)?;
+            let right = value_in(right, env)?;
+            operate(*op, left, right)
         }
     }
 }
 
 /// The value of a name or an array, where it has one.
-fn known(alloc: Global, name: &Word, value: Option<i32>) -> Result<i32, Stop<EvalFault>>
-    ensures value { Gives (known_value name.now.bytes value) result }
-    ensures memory { result ≡ Err stop.NoMemory → value ≡ None }
+fn known<'a>(name: &'a Word, value: Option<i32>) -> Result<i32, Unvalued<'a>>
+    ensures { held result ≡ known_value name.now.bytes value }
 {
     match value {
         Some(value) => Ok(value),
-        None => Err(Stop::Refused(EvalFault::UnknownName(copy_word(alloc, name)?))),
+        None => Err(Unvalued::UnknownName(name)),
     }
 }
 
 /// The number in the bits, as many as `width` says, that begin `start` bits behind a name whose value is
 /// `place`.
-fn number_at<E: Env>(
+fn number_at<'a, E: Env>(
     env: &E,
-    name: &Word,
+    name: &'a Word,
     place: i32,
     start: i32,
     width: i32,
-) -> Result<i32, Stop<EvalFault>>
+) -> Result<i32, Unvalued<'a>>
     requires { (E.view env.now).names.give (place_key name.now.bytes) ≡ Some place }
-    ensures value { Gives (number_at (E.view env.now) (place +ℤ start) width) result }
-    ensures answered { result ≢ Err stop.NoMemory }
+    ensures { held result ≡ number_at (E.view env.now) (place +ℤ start) width }
 {
     if width < 1 || width > 32 {
-        return Err(Stop::Refused(EvalFault::DataWidth(width)));
+        return Err(Unvalued::DataWidth(width));
     }
     match env.bits(name, start, width) {
         Some(number) => Ok(signed(number)),
-        None => Err(Stop::Refused(later_data(place, start, width))),
+        None => Err(later_data(place, start, width)),
     }
 }
 
 /// So many bits that begin so far behind a place aren't there.
-fn later_data(place: i32, start: i32, width: i32) -> EvalFault
-    ensures { result ≡ fault.LaterData (place +ℤ start) (place +ℤ start +ℤ width) }
+fn later_data<'a>(place: i32, start: i32, width: i32) -> Unvalued<'a>
+    ensures { fault_of result ≡ fault.LaterData (place +ℤ start) (place +ℤ start +ℤ width) }
 {
-    EvalFault::LaterData(first_bit(place, start), end_bit(place, start, width))
+    Unvalued::LaterData(first_bit(place, start), end_bit(place, start, width))
 }
 
 fn first_bit(place: i32, start: i32) -> i64
@@ -153,8 +181,8 @@ fn operate_one(op: UnaryOp, operand: i32) -> i32
 
 /// An operator between its operands.
 #[tactic(auto, using(std::proofs::lemmas::Int::wraps))]
-fn operate(op: BinaryOp, left: i32, right: i32) -> Result<i32, EvalFault>
-    ensures { result ≡ operate op left right }
+fn operate<'a>(op: BinaryOp, left: i32, right: i32) -> Result<i32, Unvalued<'a>>
+    ensures { held result ≡ operate op left right }
 {
     match op {
         BinaryOp::Times => Ok(left.wrapping_mul(right)),
@@ -179,41 +207,41 @@ fn operate(op: BinaryOp, left: i32, right: i32) -> Result<i32, EvalFault>
 }
 
 #[tactic(auto, using(std::proofs::lemmas::Int::wraps))]
-fn quotient(left: i32, right: i32) -> Result<i32, EvalFault>
-    ensures { result ≡ divided int_div left right }
+fn quotient<'a>(left: i32, right: i32) -> Result<i32, Unvalued<'a>>
+    ensures { held result ≡ divided int_div left right }
 {
     if right == 0 {
-        return Err(EvalFault::ZeroDivisor);
+        return Err(Unvalued::ZeroDivisor);
     }
     Ok(left.wrapping_div(right))
 }
 
 #[tactic(auto, using(std::proofs::lemmas::Int::wraps))]
-fn remainder(left: i32, right: i32) -> Result<i32, EvalFault>
-    ensures { result ≡ divided int_rem left right }
+fn remainder<'a>(left: i32, right: i32) -> Result<i32, Unvalued<'a>>
+    ensures { held result ≡ divided int_rem left right }
 {
     if right == 0 {
-        return Err(EvalFault::ZeroDivisor);
+        return Err(Unvalued::ZeroDivisor);
     }
     Ok(left.wrapping_rem(right))
 }
 
 #[tactic(auto, using(std::proofs::lemmas::Int::wraps))]
-fn shifted_left(left: i32, right: i32) -> Result<i32, EvalFault>
-    ensures { result ≡ shifted (λ number count. number *ℤ pos (2 ^ count)) left right }
+fn shifted_left<'a>(left: i32, right: i32) -> Result<i32, Unvalued<'a>>
+    ensures { held result ≡ shifted (λ number count. number *ℤ pos (2 ^ count)) left right }
 {
     if right < 0 || right > 31 {
-        return Err(EvalFault::BadShift(right));
+        return Err(Unvalued::BadShift(right));
     }
     Ok(left.wrapping_shl(right as u32))
 }
 
 #[tactic(auto, using(std::proofs::lemmas::Int::wraps))]
-fn shifted_right(left: i32, right: i32) -> Result<i32, EvalFault>
-    ensures { result ≡ shifted int_shr left right }
+fn shifted_right<'a>(left: i32, right: i32) -> Result<i32, Unvalued<'a>>
+    ensures { held result ≡ shifted int_shr left right }
 {
     if right < 0 || right > 31 {
-        return Err(EvalFault::BadShift(right));
+        return Err(Unvalued::BadShift(right));
     }
     Ok(left >> right)
 }

@@ -1,7 +1,8 @@
 ghost use Rattle.std.specs.Prelude.{◌≡◌};
-ghost use Rattle.std.specs.Str.{str_eq_ignore_ascii_case};
-ghost use Rattle.rz_expr.specs.Words.{fact_role, function_role, is_attribute_word, is_label, is_layout_word, is_name, is_number_word, is_other_name, is_reserved, is_statement_word, is_text_word, is_tool_word, plain_role, role_of};
+ghost use Rattle.rz_expr.specs.Words.{fact_role, function_role, is_label, is_name, is_other_name, keyword_role, plain_role, role_of, text_role};
 
+use crate::attribute::attribute_word;
+use crate::keyword::{Keyword, is, keyword_named};
 use rz_core::Word;
 
 /// A number that is known of the resource that is compiled or shown, and of the moment. (MPW Rez.)
@@ -40,6 +41,25 @@ pub enum Function {
     Data(u8),
 }
 
+/// A function that is a text, or a part of one. (MPW Rez.)
+#[derive(Clone, Copy, Debug, PartialEq, Eq)]
+pub enum TextWord {
+    /// `$$Name`, the name of the resource.
+    Name,
+    /// `$$Date`.
+    Date,
+    /// `$$Time`.
+    Time,
+    /// `$$Version`.
+    Version,
+    /// `$$Read`, the contents of a file.
+    Read,
+    /// `$$Resource`, the contents of a resource of a file.
+    Resource,
+    /// `$$Format`.
+    Format,
+}
+
 /// What a word may be.
 #[derive(Clone, Copy, Debug, PartialEq, Eq)]
 pub enum Role {
@@ -51,8 +71,10 @@ pub enum Role {
     Fact(FactWord),
     /// A function with a name in brackets.
     Call(Function),
+    /// A function that is a text.
+    Text(TextWord),
     /// Any other reserved word.
-    Reserved,
+    Reserved(Keyword),
     /// Any other word that begins with `$$`.
     OtherFunction,
 }
@@ -91,10 +113,17 @@ fn plain_role(name: &[u8]) -> Role
 {
     if is_other_name(name) {
         Role::OtherName
-    } else if is_reserved(name) {
-        Role::Reserved
     } else {
-        Role::Label
+        keyword_role(keyword_named(name))
+    }
+}
+
+fn keyword_role(keyword: Option<Keyword>) -> Role
+    ensures { result ≡ keyword_role keyword }
+{
+    match keyword {
+        Some(keyword) => Role::Reserved(keyword),
+        None => Role::Label,
     }
 }
 
@@ -140,111 +169,34 @@ fn fact_role(name: &[u8]) -> Role
     } else if is(b"Weekday", name) {
         Role::Fact(FactWord::Weekday)
     } else {
-        Role::OtherFunction
+        text_role(name)
     }
 }
 
-fn is_statement_word(name: &[u8]) -> bool
-    ensures { result ≡ is_statement_word name.now }
+fn text_role(name: &[u8]) -> Role
+    ensures { result ≡ text_role name.now }
 {
-    is(b"type", name)
-        || is(b"resource", name)
-        || is(b"data", name)
-        || is(b"include", name)
-        || is(b"read", name)
-        || is(b"change", name)
-        || is(b"delete", name)
-        || is(b"as", name)
-        || is(b"to", name)
-        || is(b"not", name)
-}
-
-fn is_layout_word(name: &[u8]) -> bool
-    ensures { result ≡ is_layout_word name.now }
-{
-    is(b"array", name)
-        || is(b"wide", name)
-        || is(b"switch", name)
-        || is(b"case", name)
-        || is(b"key", name)
-        || is(b"fill", name)
-        || is(b"align", name)
-        || is(b"bit", name)
-        || is(b"nibble", name)
-        || is(b"word", name)
-        || is(b"long", name)
-}
-
-fn is_number_word(name: &[u8]) -> bool
-    ensures { result ≡ is_number_word name.now }
-{
-    is(b"byte", name)
-        || is(b"integer", name)
-        || is(b"longint", name)
-        || is(b"bitstring", name)
-        || is(b"boolean", name)
-        || is(b"char", name)
-        || is(b"hex", name)
-        || is(b"decimal", name)
-        || is(b"octal", name)
-        || is(b"binary", name)
-        || is(b"literal", name)
-        || is(b"unsigned", name)
-}
-
-fn is_text_word(name: &[u8]) -> bool
-    ensures { result ≡ is_text_word name.now }
-{
-    is(b"string", name)
-        || is(b"pstring", name)
-        || is(b"wstring", name)
-        || is(b"cstring", name)
-        || is(b"point", name)
-        || is(b"rect", name)
-}
-
-fn is_tool_word(name: &[u8]) -> bool
-    ensures { result ≡ is_tool_word name.now }
-{
-    is(b"defined", name) || is(b"rez", name) || is(b"derez", name)
-}
-
-fn is_attribute_word(name: &[u8]) -> bool
-    ensures { result ≡ is_attribute_word name.now }
-{
-    is(b"appheap", name)
-        || is(b"sysheap", name)
-        || is(b"nonpurgeable", name)
-        || is(b"purgeable", name)
-        || is(b"unlocked", name)
-        || is(b"locked", name)
-        || is(b"unprotected", name)
-        || is(b"protected", name)
-        || is(b"nonpreload", name)
-        || is(b"preload", name)
-        || is(b"unchanged", name)
-        || is(b"changed", name)
+    if is(b"Name", name) {
+        Role::Text(TextWord::Name)
+    } else if is(b"Date", name) {
+        Role::Text(TextWord::Date)
+    } else if is(b"Time", name) {
+        Role::Text(TextWord::Time)
+    } else if is(b"Version", name) {
+        Role::Text(TextWord::Version)
+    } else if is(b"Read", name) {
+        Role::Text(TextWord::Read)
+    } else if is(b"Resource", name) {
+        Role::Text(TextWord::Resource)
+    } else if is(b"Format", name) {
+        Role::Text(TextWord::Format)
+    } else {
+        Role::OtherFunction
+    }
 }
 
 fn is_other_name(name: &[u8]) -> bool
     ensures { result ≡ is_other_name name.now }
 {
-    is_attribute_word(name) || is(b"true", name) || is(b"false", name)
-}
-
-fn is_reserved(name: &[u8]) -> bool
-    ensures { result ≡ is_reserved name.now }
-{
-    is_statement_word(name)
-        || is_layout_word(name)
-        || is_number_word(name)
-        || is_text_word(name)
-        || is_tool_word(name)
-}
-
-/// Whether a name is this word, in whatever case.
-fn is(word: &[u8], name: &[u8]) -> bool
-    ensures { result ≡ str_eq_ignore_ascii_case name.now word.now }
-{
-    name.eq_ignore_ascii_case(word)
+    attribute_word(name).is_some() || is(b"true", name) || is(b"false", name)
 }

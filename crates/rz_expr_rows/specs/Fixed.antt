@@ -3,7 +3,7 @@ use Rattle.std.specs.Prelude.{ℕ, ◌+◌, ◌-◌, ◌/◌, ◌%◌, ◌^◌, 
 use Rattle.std.specs.Str.{bytes_eq}
 use Rattle.rz_expr.specs.declared.words.FactWord.{FactWord}
 use Rattle.rz_expr.specs.declared.words.FactWord.TheVariants.{Id, Kind, Attributes, Year, Month, Day, Hour, Minute, Second, Weekday}
-use Rattle.rz_expr.specs.Environment.{Environment, Key, place_of, rows_of, Sight}
+use Rattle.rz_expr.specs.Environment.{Environment, Key, count_of, place_of, Sight}
 
 -- the values of names in lower case
 abbrev pub place_of_name : List ℕ → Option ℤ
@@ -26,7 +26,7 @@ rows_of_name name =
 
 abbrev pub given : Key → Option ℤ
 given (place_of name) = place_of_name name
-given (rows_of name) = rows_of_name name
+given (count_of name) = rows_of_name name
 
 -- so many of the bytes' 32 bits from a bit on, the first of them highest
 abbrev pub bits_of : ℕ → ℕ → ℕ

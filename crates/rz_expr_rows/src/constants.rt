@@ -34,7 +34,7 @@ fn told(alloc: Global, text: &str) -> Result<(bool, Option<i32>), Fail> {
         return Err(Fail::from("no expression"));
     };
     let copied = copy(alloc, &found.expr)?;
-    Ok((is_constant(&copied), constant_of(alloc, &copied)?))
+    Ok((is_constant(&copied), constant_of(&copied)))
 }
 
 #[test]

@@ -7,3 +7,4 @@ pub mod MemFolder
 pub mod SinkState
 pub mod MemSink
 pub mod RealFaults
+pub mod OnlyReads

@@ -2,7 +2,8 @@
 use Rattle.std.proofs.Common.{◌≡◌, ℕ, ◌+◌, ◌*◌, ◌<◌, ◌≤◌, ◌==◌, if◌then◌else◌, nat_lt, Bool, false, Some, None, sym, ap, ◌∙◌, arith, length, List}
 use Rattle.std.proofs.lemmas.Bool.Decides.{nat_tests}
 use Rattle.std.proofs.lemmas.Option.{none-some}
-use Rattle.rz_core.specs.Lists.{or_else, or_else_none}
+use Rattle.rz_core.specs.Lists.{or_else}
+use Rattle.rz_core.proofs.Lists.{or_else_none}
 use Rattle.rz_core.specs.Numbers.{kept_length}
 use Rattle.rz_core.specs.declared.resource.Resource.{Resource}
 use Rattle.rz_fork.specs.declared.fault.LimitFault.{LimitFault}

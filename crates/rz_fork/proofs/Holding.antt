@@ -1,7 +1,8 @@
 -- What rules that hold give.
 use Rattle.std.proofs.Common.{◌≡◌, ℕ, ◌+◌, ◌*◌, ◌≤◌, Option, List, [], ◌∷◌, slice_get, Some, None, arith}
 use Rattle.std.proofs.lemmas.Bool.Decides.{nat_tests}
-use Rattle.rz_core.specs.Lists.{or_else_none, first_of, first_in, first_in_none}
+use Rattle.rz_core.specs.Lists.{first_of, first_in}
+use Rattle.rz_core.proofs.Lists.{or_else_none, first_in_none}
 use Rattle.rz_fork.specs.declared.fault.ForkFault.{ForkFault}
 use Rattle.rz_fork.specs.declared.layout.Outline.{Outline}
 use Rattle.rz_fork.specs.declared.layout.TypeEntry.{TypeEntry}

@@ -8,7 +8,8 @@ use Rattle.std.proofs.lemmas.List.Concat.{flat_map-append}
 use Rattle.std.proofs.lemmas.List.Folds.{list_any-append}
 use Rattle.std.specs.Int.{w16}
 use Rattle.std.specs.List.{flat_map, AllByRecursion, list_any}
-use Rattle.rz_core.specs.Lists.{first_in, or_else_none}
+use Rattle.rz_core.specs.Lists.{first_in}
+use Rattle.rz_core.proofs.Lists.{or_else_none}
 use Rattle.rz_core.specs.Resources.{id_bits, same_key, KeysDiffer}
 use Rattle.rz_core.specs.declared.resource.Resource.{Resource}
 use Rattle.rz_fork.specs.declared.fault.ForkFault.{ForkFault}

@@ -2,7 +2,7 @@
 use Rattle.std.proofs.Common.{◌≡◌, ℕ, ◌+◌, ◌-◌, ◌*◌, ◌≤◌, List, [], ◌++◌, length, replicate, refl, arith, length-append}
 use Rattle.std.proofs.lemmas.List.{length-replicate}
 use Rattle.std.specs.List.{flat_map}
-use Rattle.rz_core.specs.Lists.{length-with_front}
+use Rattle.rz_core.proofs.Lists.{length-with_front}
 use Rattle.rz_core.specs.Numbers.{be, length-be_2}
 use Rattle.rz_core.specs.declared.resource.Resource.{Resource}
 use Rattle.rz_fork.specs.declared.group.Group.{Group}

@@ -8,7 +8,8 @@ use Rattle.std.proofs.lemmas.List.Elements.{filter-append}
 use Rattle.std.proofs.lemmas.List.Folds.{list_any-append}
 use Rattle.std.proofs.lemmas.List.Sums.{sum_by_push}
 use Rattle.std.specs.List.{flat_map, AllByRecursion, list_any}
-use Rattle.rz_core.specs.Lists.{with_front, length-with_front, first_in, or_else}
+use Rattle.rz_core.specs.Lists.{with_front, first_in, or_else}
+use Rattle.rz_core.proofs.Lists.{length-with_front}
 use Rattle.rz_core.specs.Resources.{same_key, KeysDiffer}
 use Rattle.rz_core.specs.declared.resource.Resource.{Resource}
 use Rattle.rz_fork.specs.declared.layout.Outline.{Outline}

@@ -4,6 +4,7 @@ use Rattle.std.proofs.lemmas.List.{append_cancel_right}
 use Rattle.std.proofs.Math.Seq.{take-append_seam}
 use Rattle.std.specs.Prelude.{◌==◌}
 use Rattle.std.specs.Option.{is_some}
+use Rattle.rz_core.proofs.Tests.{by_test}
 use Rattle.rz_lex.specs.Classes.{is_letter, is_hex_digit, is_word_byte, is_quote}
 use Rattle.rz_lex.specs.Sign.{sign_of_one, sign_of_two, is_sign}
 use Rattle.rz_lex.specs.Extent.{are_word_bytes, closes, closes_behind, is_empty, ends_dollar_word, ends_dollar, is_lexeme, Longest, NoFront}
@@ -13,10 +14,6 @@ use Rattle.rz_lex.specs.Scan.{after_run, after_quote, after_taken, after_two_dol
 abbrev pub Ends : (List ℕ → Bool) → List ℕ → Option (List ℕ) → Type 0
 Ends test rest None = NoFront test rest
 Ends test rest (Some after) = (front : List ℕ) × Longest test rest front after
-
-pub by_test : (P : Type 0) (b : Bool) → (b ≡ true → P) → (b ≡ false → P) → P
-by_test P true holds fails = holds refl
-by_test P false holds fails = fails refl
 
 -- a byte in front, behind which the test goes on as another
 

@@ -2,8 +2,9 @@
 use Rattle.std.proofs.Common.{◌≡◌, ℕ, Bool, true, false, List, [], ◌∷◌, ◌++◌, drop, Option, Some, ap, subst}
 use Rattle.std.specs.Prelude.{◌==◌, ◌&&◌, if◌then◌else◌}
 use Rattle.rz_lex.specs.declared.joined.Placed.{Placed}
+use Rattle.rz_lex.specs.Classes.{is_quote}
 use Rattle.rz_lex.specs.Joined.{is_at}
-use Rattle.rz_lex.specs.Cover.{after_close, after_part, after_quote, after_taken, after_text, begins, is_quote}
+use Rattle.rz_lex.specs.Cover.{after_close, after_part, after_quote, after_taken, after_text, begins}
 
 -- something stands before the rest, and nothing else
 abbrev pub Front : List Placed → List Placed → Type 0

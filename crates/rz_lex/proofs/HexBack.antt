@@ -14,7 +14,8 @@ use Rattle.rz_lex.specs.Printed.{begins_word, token_of}
 use Rattle.rz_lex.specs.Scan.{after_lexeme, after_quote}
 use Rattle.rz_lex.specs.Shape.{inside, number_shape, shape_of}
 use Rattle.rz_lex.specs.declared.token.Shape.TheVariants as shapes
-use Rattle.rz_lex.proofs.Ends.{by_test, longest_read}
+use Rattle.rz_core.proofs.Tests.{by_test}
+use Rattle.rz_lex.proofs.Ends.{longest_read}
 use Rattle.rz_lex.proofs.WordsBack.{run_back}
 
 -- A byte of a hex text is a blank or a digit, and so neither a quote mark nor a backslash.

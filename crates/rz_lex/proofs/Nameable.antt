@@ -14,7 +14,7 @@ use Rattle.rz_lex.specs.Shape.{dollar_shape, fault_at, hex_shape, inside, is_lon
 use Rattle.rz_lex.specs.Sign.{sign_of}
 use Rattle.rz_lex.specs.declared.sign.Sign.{Sign}
 use Rattle.rz_lex.specs.declared.token.Shape.{Shape}
-use Rattle.rz_lex.proofs.Ends.{by_test}
+use Rattle.rz_core.proofs.Tests.{by_test}
 
 pub marked : (mark : Mark) (number : ℕ) (kept : Kept) → is_fault number ≡ true → IsNameable (mark.file + 1) (fault_at mark number kept)
 marked mark number kept named = record { number = named; place = omega arith }

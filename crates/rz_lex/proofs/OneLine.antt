@@ -11,12 +11,9 @@ use Rattle.rz_core.specs.declared.fault.Mark.{Mark}
 use Rattle.rz_lex.specs.declared.joined.Placed.{Placed}
 use Rattle.rz_lex.specs.declared.raw_line.RawLine.{RawLine}
 use Rattle.rz_lex.specs.Joined.{is_at}
-use Rattle.rz_lex.specs.Cover.{after_part, text_of, Parts, TakesPart}
+use Rattle.rz_lex.specs.Cover.{after_part, text_of, Parts}
+use Rattle.rz_lex.specs.Runs.{IsInside, TakesParts}
 use Rattle.rz_lex.specs.Lines.{lines_of, mark_of, open_comment, HasLines, HasOpenComment, StandsBefore}
-
--- a part that is no line end
-abbrev pub IsInside : List Placed → Type 0
-IsInside part = (is_at 10 part ≡ false) × (part ≢ [])
 
 -- first parts of a text that hold no line end, and what they leave in their line
 pub record LineSoFar (from to : List Placed) (text : List ℕ) : Type 0 where
@@ -25,28 +22,23 @@ pub record LineSoFar (from to : List Placed) (text : List ℕ) : Type 0 where
   pub inside : AllByRecursion IsInside parts
   pub left : text ≡ flat_map text_of parts
 
-parts_more : (from mid to : List Placed) (parts : List (List Placed)) (p : List Placed) → Parts from parts mid → mid ≡ p ++ to → after_part mid ≡ Some to → Parts from (parts ++ p ∷ []) to
-parts_more from mid to [] p taken e after = (to, taken ∙ e, ap after_part taken ∙ after, refl)
-parts_more from mid to (q ∷ parts) p taken e after = (taken.0, taken.1, taken.2, parts_more taken.0 mid to parts p taken.3 e after)
-
 parts_then : (from mid to : List Placed) (parts more : List (List Placed)) → Parts from parts mid → Parts mid more to → Parts from (parts ++ more) to
 parts_then from mid to [] more taken rest = subst (λ (x : List Placed). Parts x more to) (sym taken) rest
 parts_then from mid to (q ∷ parts) more taken rest = (taken.0, taken.1, taken.2, parts_then taken.0 mid to parts more taken.3 rest)
 
-all_more : (parts : List (List Placed)) (p : List Placed) → AllByRecursion IsInside parts → IsInside p → AllByRecursion IsInside (parts ++ p ∷ [])
-all_more [] p all one = (one, tt)
-all_more (q ∷ parts) p all one = (all.0, all_more parts p all.1 one)
+all_then : (parts more : List (List Placed)) → AllByRecursion IsInside parts → AllByRecursion IsInside more → AllByRecursion IsInside (parts ++ more)
+all_then [] more all also = also
+all_then (q ∷ parts) more all also = (all.0, all_then parts more all.1 also)
 
 pub none_so_far : (from : List Placed) → LineSoFar from from []
 none_so_far from = record { parts = []; taken = refl; inside = tt; left = refl }
 
-pub more_so_far : (from mid to : List Placed) (old new : List ℕ) → LineSoFar from mid old → TakesPart mid to old new → LineSoFar from to new
+pub more_so_far : (from mid to : List Placed) (old new : List ℕ) → LineSoFar from mid old → TakesParts mid to old new → LineSoFar from to new
 more_so_far from mid to old new so t = record {
-  parts = so.parts ++ t.part ∷ [];
-  taken = parts_more from mid to so.parts t.part so.taken t.whole t.after;
-  inside = all_more so.parts t.part so.inside (t.inside, t.there);
-  left = t.left ∙ ap (λ (x : List ℕ). x ++ text_of t.part) so.left ∙ ap (λ (x : List ℕ). flat_map text_of so.parts ++ x) (sym (append-nil (text_of t.part)))
-      ∙ sym (flat_map-append text_of so.parts (t.part ∷ []));
+  parts = so.parts ++ t.parts;
+  taken = parts_then from mid to so.parts t.parts so.taken t.taken;
+  inside = all_then so.parts t.parts so.inside t.inside;
+  left = t.left ∙ ap (λ (x : List ℕ). x ++ flat_map text_of t.parts) so.left ∙ sym (flat_map-append text_of so.parts t.parts);
 }
 
 module _ (file : ℕ) where

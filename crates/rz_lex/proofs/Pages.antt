@@ -25,7 +25,7 @@ use Rattle.rz_lex.specs.declared.sign.Sign.TheVariants.{Slash}
 use Rattle.rz_lex.specs.declared.token.Shape.{Shape}
 use Rattle.rz_lex.specs.declared.token.Shape.TheVariants as shapes
 use Rattle.rz_lex.specs.declared.token.Token.{Token}
-use Rattle.rz_lex.proofs.Ends.{by_test}
+use Rattle.rz_core.proofs.Tests.{by_test}
 use Rattle.rz_lex.proofs.OneLine.{line_here, none_so_far, LineSoFar}
 
 -- A clean line: single bytes, none of which begins a comment or a quoted part or is a backslash, and quoted parts.

@@ -4,6 +4,7 @@ use Rattle.std.specs.Prelude.{nat_lt, ◌==◌, ◌||◌}
 use Rattle.std.specs.List.{flat_map}
 use Rattle.std.proofs.lemmas.Bool.{agree_below_at, eqb-true, ne_eqb, ltb-true, lt-ltb, le-leb, eqb-false, eq-eqb}
 use Rattle.std.proofs.Math.Seq.{take-append_seam}
+use Rattle.rz_core.proofs.Table.{is_byte, same_byte}
 use Rattle.rz_core.specs.Quoted.{hex_digit, shown_byte, quoted}
 use Rattle.rz_core.specs.declared.fault.Mark.{Mark}
 use Rattle.rz_lex.specs.Scan.{after_quote}
@@ -13,7 +14,8 @@ use Rattle.rz_lex.specs.Shape.{inside}
 use Rattle.rz_lex.specs.Cutting.{Next}
 use Rattle.rz_lex.specs.Printed.{AreBytes, token_of}
 use Rattle.rz_lex.specs.declared.token.Shape.TheVariants as shapes
-use Rattle.rz_lex.proofs.Ends.{by_test, longest_read}
+use Rattle.rz_core.proofs.Tests.{by_test}
+use Rattle.rz_lex.proofs.Ends.{longest_read}
 
 -- what reading asks of a quote mark
 record IsMark (quote : ℕ) : Type 0 where
@@ -43,14 +45,6 @@ hex_on quote x y rest below a b c d =
     ∙ plain_on quote y rest (λ e. omega (arith, e)) (λ e. omega (arith, e))
 
 -- the two hex digits of each byte: a test of 256 numbers
-
-abbrev is_byte : Option ℕ → ℕ → Bool
-is_byte None byte = false
-is_byte (Some found) byte = found == byte
-
-same_byte : (found : Option ℕ) (byte : ℕ) → is_byte found byte ≡ true → found ≡ Some byte
-same_byte None byte is = absurd cc
-same_byte (Some found) byte is = ap (λ (y : ℕ). Some y) (eqb-true found byte is)
 
 two_digits : (byte : ℕ) → byte < 256 → digits_value 16 (hex_digit (byte / 16) ∷ hex_digit (byte % 16) ∷ []) ≡ Some byte
 two_digits byte below = same_byte (digits_value 16 (hex_digit (byte / 16) ∷ hex_digit (byte % 16) ∷ [])) byte

@@ -3,14 +3,12 @@ use Rattle.std.proofs.Common.{◌≡◌, ℕ, Bool, true, false, List, [], ◌�
 use Rattle.std.specs.Prelude.{◌==◌, ◌&&◌, ◌||◌, if◌then◌else◌}
 use Rattle.std.proofs.lemmas.Bool.{eqb-true, ne_eqb}
 use Rattle.std.proofs.lemmas.List.{map-append, append_cancel_right}
+use Rattle.rz_core.proofs.Tests.{both}
 use Rattle.rz_lex.specs.declared.joined.Placed.{Placed}
+use Rattle.rz_lex.specs.Classes.{is_quote}
 use Rattle.rz_lex.specs.Joined.{is_at}
-use Rattle.rz_lex.specs.Cover.{after_close, after_text, after_quote, begins, bytes_of, is_quote, TakesPart}
+use Rattle.rz_lex.specs.Cover.{after_close, after_text, after_quote, begins, bytes_of, TakesPart}
 use Rattle.rz_lex.proofs.Fronts.{close_front, text_front, quote_front}
-
-both_true : (a b : Bool) → a && b ≡ true → (a ≡ true) × (b ≡ true)
-both_true true b h = (refl, h)
-both_true false b h = absurd cc
 
 and_false : (b : Bool) → b && false ≡ false
 and_false true = refl
@@ -34,7 +32,7 @@ pub block_part : (from to : List Placed) (old new : List ℕ) → begins 47 42 f
 block_part [] to old new h closed pushed = absurd cc
 block_part (a ∷ []) to old new h closed pushed = absurd (let e : false ≡ true = sym (and_false (a.byte == 47)) ∙ h in cc)
 block_part (a ∷ b ∷ mid) to old new h closed pushed =
-    let t = both_true (a.byte == 47) (b.byte == 42) h in
+    let t = both (a.byte == 47) (b.byte == 42) h in
     block_here to mid a b old new (eqb-true a.byte 47 t.0) (eqb-true b.byte 42 t.1) closed pushed
 
 -- a comment up to the end of its line
@@ -57,7 +55,7 @@ pub slashes_part : (from to : List Placed) (old new : List ℕ) → begins 47 47
 slashes_part [] to old new h ends pushed = absurd cc
 slashes_part (a ∷ []) to old new h ends pushed = absurd (let e : false ≡ true = sym (and_false (a.byte == 47)) ∙ h in cc)
 slashes_part (a ∷ b ∷ mid) to old new h ends pushed =
-    let t = both_true (a.byte == 47) (b.byte == 47) h in
+    let t = both (a.byte == 47) (b.byte == 47) h in
     slashes_here to mid a b old new (eqb-true a.byte 47 t.0) (eqb-true b.byte 47 t.1) ends pushed
 
 -- a single byte, which is no line end

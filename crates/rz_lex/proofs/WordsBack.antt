@@ -17,7 +17,8 @@ use Rattle.rz_lex.specs.declared.sign.Sign.{Sign}
 use Rattle.rz_lex.specs.declared.sign.Sign.TheVariants as signs
 use Rattle.rz_lex.specs.declared.token.Shape.TheVariants as shapes
 use Rattle.rz_lex.specs.declared.token.Token.{Token}
-use Rattle.rz_lex.proofs.Ends.{by_test, longest_read}
+use Rattle.rz_core.proofs.Tests.{by_test}
+use Rattle.rz_lex.proofs.Ends.{longest_read}
 use Rattle.rz_lex.proofs.Decimals.{Spells, are_decimal, digit_in_word, decimal_in_word, decimal_spells, decimal_value, decimal_alone, length-zero}
 
 -- one token more in front
@@ -39,7 +40,7 @@ pub run_back : (bs after : List ℕ) → are_word_bytes bs ≡ true → begins_w
 run_back [] after all clear = run_stops after clear
 run_back (b ∷ bs) after all clear = let parts = and_parts (is_word_byte b) (are_word_bytes bs) all in rw parts.0 (run_back bs after parts.1 clear)
 
-no_blank : (b : ℕ) → is_word_byte b ≡ true → is_blank b ≡ false
+pub no_blank : (b : ℕ) → is_word_byte b ≡ true → is_blank b ≡ false
 no_blank b word = rw (ne_eqb b 32 (differs 32 refl), ne_eqb b 9 (differs 9 refl), ne_eqb b 11 (differs 11 refl), ne_eqb b 12 (differs 12 refl)) refl
   where
     differs : (x : ℕ) → is_word_byte x ≡ false → b ≡ x → ⊥

@@ -1,9 +1,14 @@
 -- Kinds of bytes in a line. (MPW Rez.)
-use Rattle.std.specs.Prelude.{ℕ, Bool, ◌||◌, ◌&&◌, nat_le, ◌==◌}
+use Rattle.std.specs.Prelude.{◌≡◌, ℕ, Bool, true, ◌||◌, ◌&&◌, nat_le, ◌==◌, List}
+use Rattle.std.specs.List.{AllByRecursion}
 
 -- a blank: 20, 09, 0B or 0C
 abbrev pub is_blank : ℕ → Bool
 is_blank byte = byte == 32 || byte == 9 || byte == 11 || byte == 12
+
+-- blanks and nothing else
+abbrev pub AreBlanks : List ℕ → Type 0
+AreBlanks bytes = AllByRecursion (λ byte. is_blank byte ≡ true) bytes
 
 -- a decimal digit
 abbrev pub is_digit : ℕ → Bool

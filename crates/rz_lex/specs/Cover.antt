@@ -1,16 +1,13 @@
 -- The cover of a joined text by its parts: comments, quoted parts, line ends and all other bytes, one by one.
 use Rattle.std.specs.Prelude.{◌≡◌, ◌≢◌, ℕ, Bool, false, ◌&&◌, ◌||◌, ◌==◌, if◌then◌else◌, List, [], ◌∷◌, ◌++◌, map, drop, Option, Some, None}
 use Rattle.rz_lex.specs.declared.joined.Placed.{Placed}
+use Rattle.rz_lex.specs.Classes.{is_quote}
 use Rattle.rz_lex.specs.Joined.{is_at}
 
 -- the text begins with these two bytes
 abbrev pub begins : ℕ → ℕ → List Placed → Bool
 begins one two [] = false
 begins one two (first ∷ rest) = first.byte == one && is_at two rest
-
--- a quote mark, `"` or `'`
-abbrev pub is_quote : ℕ → Bool
-is_quote byte = byte == 34 || byte == 39
 
 -- what stands behind the first `*/`
 abbrev pub after_close : List Placed → Option (List Placed)

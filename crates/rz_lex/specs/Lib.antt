@@ -1,6 +1,8 @@
 pub mod Seen
 pub mod Joined
 pub mod Cover
+pub mod Part
+pub mod Runs
 pub mod Lines
 pub mod Classes
 pub mod Sign
@@ -14,3 +16,7 @@ pub mod Cutting
 pub mod Lexed
 pub mod Printed
 pub mod Page
+pub mod Lexeme
+pub mod Token
+pub mod Spelled
+pub mod Within

@@ -1,14 +1,44 @@
-ghost use Rattle.std.specs.Prelude.{◌≡◌, ◌≢◌, ◌+◌, ◌<◌, ◌≤◌, ◌^◌, ◌++◌, [], length, drop, Option, Some, None, false, MatchOption, IfNone, IfOk, IfSome, List};
+ghost use Rattle.std.specs.Prelude.{◌≡◌, ◌≢◌, ◌↔◌, ◌⊎◌, ◌+◌, ◌<◌, ◌≤◌, ◌^◌, ◌++◌, [], length, drop, Option, Some, None, false, MatchOption, IfNone, IfOk, IfSome, ℕ, List};
 ghost use Rattle.rz_lex.specs.Joined.{ahead, is_at, IsOn, IsFurther};
-ghost use Rattle.rz_lex.specs.Cover.{after_close, after_part, after_quote, after_text, begins, bytes_of, is_quote, Cover, Parts, TakesPart};
+ghost use Rattle.rz_lex.specs.Classes.{is_quote};
+ghost use Rattle.rz_lex.specs.Cover.{after_close, after_part, after_quote, after_taken, after_text, begins, bytes_of, Cover, Parts, TakesPart};
+ghost use Rattle.rz_lex.specs.Part.{IsOpen, IsPart};
+ghost use Rattle.rz_lex.specs.Runs.{TakesParts};
 ghost use Rattle.rz_lex.specs.declared.joined.Placed.{Placed};
 
+use crate::classes::is_quote;
 use crate::joined::{Position, next_byte};
+use crate::runs::{plain_run, unbroken_run};
 use rz_core::{Bytes, NoMemory};
+
+/// Takes the bytes that stand ahead and are parts by themselves, and where there is none the part that stands
+/// ahead, which is no line end; appends what they leave in their line, and gives the position behind them.
+/// `None` comes exactly where a comment begins that never ends.
+pub fn take_parts<'a>(
+    start: Position<'a>,
+    out: &mut Bytes,
+) -> Result<Option<Position<'a>>, NoMemory>
+    requires room { start.line + length start.rest.now ≤ 2 ^ 32 }
+    requires inside { is_at 10 (ahead start) ≡ false }
+    requires there { ahead start ≢ [] }
+    ensures taken { IfOk result (λ taken. IfSome taken (λ place. TakesParts (ahead start.entry) (ahead place) out.old out.new)) }
+    ensures endless { IfOk result (λ taken. IfNone taken (after_part (ahead start.entry) ≡ None)) }
+    ensures further { IfOk result (λ taken. IfSome taken (λ place. IsFurther start.entry place)) }
+{
+    let (run, behind) = plain_run(start);
+    if !run.is_empty() {
+        out.append(run)?;
+        return Ok(Some(behind));
+    }
+    let Some(rest) = take_part(start, out)? else {
+        return Ok(None);
+    };
+    Ok(Some(rest))
+}
 
 /// Takes the part that stands ahead, which is no line end, appends what it leaves in its line, and gives
 /// the position behind it. `None` comes exactly where a comment begins that never ends.
-pub fn take_part<'a>(start: Position<'a>, out: &mut Bytes) -> Result<Option<Position<'a>>, NoMemory>
+fn take_part<'a>(start: Position<'a>, out: &mut Bytes) -> Result<Option<Position<'a>>, NoMemory>
     requires room { start.line + length start.rest.now ≤ 2 ^ 32 }
     requires inside { is_at 10 (ahead start) ≡ false }
     requires there { ahead start ≢ [] }
@@ -73,9 +103,17 @@ fn skip_comment(start: Position) -> Option<Position>
                 }
             }
         }
-        place = after;
+        place = skip_to_star(after);
     }
     None
+}
+
+/// What stands behind bytes that are no `*`.
+fn skip_to_star(start: Position) -> Position
+    ensures rest { after_close (ahead start.entry) ≡ after_close (ahead result) }
+    ensures on { IsOn start.entry result }
+{
+    unbroken_run(b'*', start).1
 }
 
 /// What stands behind the text of the line, whose first byte is not its line end.
@@ -103,9 +141,17 @@ fn skip_text(start: Position) -> Position
         if byte.byte == b'\n' {
             return place;
         }
-        place = after;
+        place = skip_to_end(after);
     }
     place
+}
+
+/// What stands behind bytes that end no line.
+fn skip_to_end(start: Position) -> Position
+    ensures rest { after_text (ahead start.entry) ≡ after_text (ahead result) }
+    ensures on { IsOn start.entry result }
+{
+    unbroken_run(b'\n', start).1
 }
 
 /// Copies a quoted part, or the single byte that stands ahead where no quote mark does.
@@ -129,12 +175,6 @@ fn copy_part<'a>(start: Position<'a>, out: &mut Bytes) -> Result<Position<'a>, N
     Ok(after)
 }
 
-fn is_quote(byte: u8) -> bool
-    ensures { result ≡ is_quote byte }
-{
-    byte == b'"' || byte == b'\''
-}
-
 /// Copies what is left of a quoted part behind its first mark.
 fn copy_quoted<'a>(
     quote: u8,
@@ -147,23 +187,59 @@ fn copy_quoted<'a>(
     ensures on { IfOk result (λ place. IsOn start.entry place) }
 {
     let mut place = start;
-    let mut taken = false;
-    while let Some((byte, after)) = next_byte(place) {
+    loop {
+        let behind = copy_run(quote, place, out)?;
+        let Some((byte, after)) = next_byte(behind) else {
+            return Ok(behind);
+        };
         if byte.byte == b'\n' {
-            return Ok(place);
+            return Ok(behind);
         }
         out.push(byte.byte)?;
+        if byte.byte == quote {
+            return Ok(after);
+        }
         place = after;
-        if taken {
-            taken = false;
-        } else if byte.byte == quote {
-            return Ok(place);
-        } else {
-            taken = byte.byte == b'\\';
+        if byte.byte == b'\\' {
+            place = copy_taken(after, out)?;
         }
     }
-    Ok(place)
 }
+
+/// Copies the bytes up to the next such quote mark, backslash or line end.
+fn copy_run<'a>(quote: u8, start: Position<'a>, out: &mut Bytes) -> Result<Position<'a>, NoMemory>
+    ensures rest { IfOk result (λ place. after_quote quote (ahead start.entry) ≡ after_quote quote (ahead place)) }
+    ensures copied { IfOk result (λ place. out.old ++ bytes_of (ahead start.entry) ≡ out.new ++ bytes_of (ahead place)) }
+    ensures on { IfOk result (λ place. IsOn start.entry place) }
+{
+    let (run, behind) = unbroken_run(quote, start);
+    out.append(run)?;
+    Ok(behind)
+}
+
+/// Copies the byte that a backslash in a quoted part takes along, if there is one in the line.
+fn copy_taken<'a>(start: Position<'a>, out: &mut Bytes) -> Result<Position<'a>, NoMemory>
+    requires { start.line + length start.rest.now ≤ 2 ^ 32 }
+    ensures rest { IfOk result (λ place. (quote : ℕ) → after_taken quote (ahead start.entry) ≡ after_quote quote (ahead place)) }
+    ensures copied { IfOk result (λ place. out.old ++ bytes_of (ahead start.entry) ≡ out.new ++ bytes_of (ahead place)) }
+    ensures on { IfOk result (λ place. IsOn start.entry place) }
+{
+    match next_byte(start) {
+        Some((byte, after)) if byte.byte != b'\n' => {
+            out.push(byte.byte)?;
+            Ok(after)
+        }
+        _ => Ok(start),
+    }
+}
+
+/// The law of parts: what stands behind the first part of a text is what stands behind a comment, a quoted part
+/// or a single byte at its front, in the words of the language; a text has no first part exactly where it is
+/// empty or begins with a comment that never ends.
+pub fn parts_of_language()
+    ensures part { (text rest : List Placed) → (after_part text ≡ Some rest) ↔ ((part : List Placed) × (text ≡ part ++ rest) × IsPart part rest) }
+    ensures none { (text : List Placed) → (after_part text ≡ None) ↔ ((text ≡ []) ⊎ IsOpen text) }
+{}
 
 /// The law of covers: a text has at most one, and a text with an open comment has none.
 pub fn one_cover()

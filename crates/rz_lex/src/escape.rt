@@ -13,7 +13,7 @@ use std::alloc::Global;
 pub fn text_value(alloc: Global, body: &[u8]) -> Result<Option<Bytes>, NoMemory>
     ensures { IfOk result (λ value. value ≡ text_value 0 body.now) }
 {
-    let mut value = Bytes::new(alloc);
+    let mut value = Bytes::with_capacity(alloc, body.len())?;
     let mut rest = body;
     while !rest.is_empty() {
         match byte_at(rest) {

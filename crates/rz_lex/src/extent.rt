@@ -1,10 +1,11 @@
-ghost use Rattle.std.specs.Prelude.{◌≡◌, MatchOption};
+ghost use Rattle.std.specs.Prelude.{◌≡◌, ◌≤◌, length, IfSome, MatchOption, None};
 ghost use Rattle.rz_lex.specs.Seen.{seen};
 ghost use Rattle.rz_lex.specs.Extent.{is_lexeme, Longest, NoFront};
 ghost use Rattle.rz_lex.specs.Scan.{after_dollar, after_lexeme, after_quote, after_run, after_sign, after_two_dollars};
 
 use crate::classes::{is_hex_digit, is_letter, is_quote, is_word_byte};
 use crate::sign::{sign_of_one, sign_of_two};
+use memchr::memchr2;
 
 /// The longest lexeme at the front of a line, and what follows it. `None` comes exactly where no front
 /// is a lexeme.
@@ -53,12 +54,24 @@ fn after_quote(quote: u8, start: &[u8]) -> Option<&[u8]>
 {
     let mut rest = start;
     loop {
-        match rest {
+        match to_mark(quote, rest)? {
             [] => return None,
             [byte, after @ ..] if *byte == quote => return Some(after),
             [b'\\', _, after @ ..] => rest = after,
             [_, after @ ..] => rest = after,
         }
+    }
+}
+
+/// The bytes from the first such quote mark or backslash on.
+fn to_mark(quote: u8, bytes: &[u8]) -> Option<&[u8]>
+    ensures rest { MatchOption result (after_quote quote bytes.now ≡ None)
+        (λ rest. after_quote quote bytes.now ≡ after_quote quote rest.now) }
+    ensures shorter { IfSome result (λ rest. length rest.now ≤ length bytes.now) }
+{
+    match memchr2(quote, b'\\', bytes) {
+        None => None,
+        Some(size) => Some(bytes.split_at(size).1),
     }
 }
 

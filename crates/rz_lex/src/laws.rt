@@ -1,4 +1,4 @@
-ghost use Rattle.std.specs.Prelude.{◌≡◌, ◌<◌, ◌≤◌, ◌^◌, ℕ, List, [], ◌∷◌, ◌++◌, false, length, None, Some, true};
+ghost use Rattle.std.specs.Prelude.{◌≡◌, ◌⊎◌, ◌<◌, ◌≤◌, ◌^◌, ℕ, List, [], ◌∷◌, ◌++◌, false, length, None, Some, true};
 ghost use Rattle.std.specs.List.{AllByRecursion};
 ghost use Rattle.rz_core.specs.Decimal.{decimal_of};
 ghost use Rattle.rz_core.specs.Quoted.{quoted};
@@ -10,10 +10,12 @@ ghost use Rattle.rz_lex.specs.Digits.{number_value};
 ghost use Rattle.rz_lex.specs.Extent.{are_word_bytes};
 ghost use Rattle.rz_lex.specs.Hex.{hex_value};
 ghost use Rattle.rz_lex.specs.Joined.{joined};
+ghost use Rattle.rz_lex.specs.Lexeme.{AreLexed};
 ghost use Rattle.rz_lex.specs.Lines.{HasLines};
 ghost use Rattle.rz_lex.specs.Page.{lines_from, page, StandsOnPage};
 ghost use Rattle.rz_lex.specs.Printed.{begins_word, goes_on, is_word, token_of, word_of, AreBytes};
 ghost use Rattle.rz_lex.specs.Sign.{sign_text};
+ghost use Rattle.rz_lex.specs.Spelled.{digits_of, SpellsBytes};
 ghost use Rattle.rz_lex.specs.declared.sign.Sign.{Sign};
 ghost use Rattle.rz_lex.specs.declared.token.Shape.TheVariants as shapes;
 ghost use Rattle.rz_lex.specs.declared.token.Token.{Token};
@@ -29,9 +31,17 @@ pub fn one_cut()
         → Cuts mark line tokens → Refuses mark line fault → ⊥ }
 {}
 
+/// A law, with nothing to run: the tokens of a line are words of at most 255 bytes, numbers below 2^32,
+/// literals of one to four bytes, texts and signs.
+pub fn tokens_are_lexed()
+    ensures { (mark : Mark) (line : List ℕ) (tokens : List Token) → Cuts mark line tokens → AreLexed tokens }
+{}
+
 /// A law, with nothing to run: a token that is written as its text is the next token of a line that
-/// begins with it, for any text behind it that does not go on with it. A line is the next token and the
-/// tokens of what follows; blanks in front change nothing.
+/// begins with it, for any text behind it that does not go on with it. The digits of a number below 2^32
+/// have that number in each base, whatever zeros stand before them, and the digits of bytes have those
+/// bytes, whatever blanks stand between them. A line is the next token and the tokens of what follows; blanks
+/// in front change nothing.
 pub fn cut_back()
     ensures word { (mark : Mark) (word after : List ℕ)
         → is_word word ≡ true → length word ≤ 255 → begins_word after ≡ false
@@ -55,6 +65,21 @@ pub fn cut_back()
         → Next mark (quoted 34 bytes ++ after) (token_of mark (shapes.Text bytes)) after }
     ensures hex { (mark : Mark) (text bytes after : List ℕ)
         → hex_value text ≡ Some bytes
+        → Next mark ((36 ∷ 34 ∷ (text ++ 34 ∷ [])) ++ after) (token_of mark (shapes.Text bytes)) after }
+    ensures octal { (mark : Mark) (count number : ℕ) (after : List ℕ)
+        → 0 < count → count ≤ 254 → number < 2 ^ 32 → number < 8 ^ count → begins_word after ≡ false
+        → Next mark ((48 ∷ digits_of 8 count number) ++ after) (token_of mark (shapes.Number number)) after }
+    ensures hexadecimal { (mark : Mark) (letter count number : ℕ) (after : List ℕ)
+        → (letter ≡ 120) ⊎ (letter ≡ 88) → 0 < count → count ≤ 253 → number < 2 ^ 32 → number < 16 ^ count → begins_word after ≡ false
+        → Next mark ((48 ∷ letter ∷ digits_of 16 count number) ++ after) (token_of mark (shapes.Number number)) after }
+    ensures binary { (mark : Mark) (letter count number : ℕ) (after : List ℕ)
+        → (letter ≡ 98) ⊎ (letter ≡ 66) → 0 < count → count ≤ 253 → number < 2 ^ 32 → number < 2 ^ count → begins_word after ≡ false
+        → Next mark ((48 ∷ letter ∷ digits_of 2 count number) ++ after) (token_of mark (shapes.Number number)) after }
+    ensures dollar_digits { (mark : Mark) (count number : ℕ) (after : List ℕ)
+        → 0 < count → count ≤ 254 → number < 2 ^ 32 → number < 16 ^ count → begins_word after ≡ false
+        → Next mark ((36 ∷ digits_of 16 count number) ++ after) (token_of mark (shapes.Number number)) after }
+    ensures hex_bytes { (mark : Mark) (text bytes after : List ℕ)
+        → AreBytes bytes → SpellsBytes text bytes
         → Next mark ((36 ∷ 34 ∷ (text ++ 34 ∷ [])) ++ after) (token_of mark (shapes.Text bytes)) after }
     ensures sign { (mark : Mark) (sign : Sign) (after : List ℕ)
         → goes_on (sign_text sign) after ≡ false

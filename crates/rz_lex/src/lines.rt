@@ -7,11 +7,14 @@ ghost use Rattle.rz_lex.specs.Lines.{open_comment, HasLines, HasOpenComment, Sta
 ghost use Rattle.rz_lex.specs.declared.joined.Placed.{Placed};
 ghost use Rattle.rz_lex.specs.declared.raw_line.RawLine.{RawLine};
 
-use crate::cover::take_part;
+use crate::cover::take_parts;
 use crate::joined::{Position, next_byte};
 use crate::raw_line::RawLine;
 use rz_core::{Bytes, Fault, Kept, Mark, Stop};
 use std::alloc::Global;
+
+/// The bytes for which a line has room before it grows.
+const FIRST_ROOM: usize = 64;
 
 /// The first logical line that stands ahead, and the position of the next. `file` is the position of the
 /// source in the list of files, for the marks. `None` comes exactly at the end of the text. 107 comes
@@ -55,13 +58,13 @@ fn read_line<'a>(
         file,
         line: first.line,
     };
-    let mut bytes = Bytes::new(alloc);
+    let mut bytes = Bytes::with_capacity(alloc, FIRST_ROOM)?;
     let mut place = start;
     while let Some((byte, after)) = next_byte(place) {
         if byte.byte == b'\n' {
             return Ok(Some((RawLine { bytes, mark }, after)));
         }
-        let Some(rest) = take_part(place, &mut bytes)? else {
+        let Some(rest) = take_parts(place, &mut bytes)? else {
             return Err(Stop::Refused(open_comment(mark)));
         };
         place = rest;

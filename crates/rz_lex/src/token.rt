@@ -1,3 +1,9 @@
+ghost use Rattle.std.specs.Prelude.{◌≡◌, ◌↔◌, true};
+ghost use Rattle.rz_lex.specs.Token.{is_the_sign};
+ghost use Rattle.rz_lex.specs.declared.sign.Sign.{Sign};
+ghost use Rattle.rz_lex.specs.declared.token.Shape.{Shape};
+ghost use Rattle.rz_lex.specs.declared.token.Shape.TheVariants as shapes;
+
 use crate::Sign;
 use rz_core::{Bytes, Listing, Mark, Word};
 
@@ -24,6 +30,23 @@ pub struct Token {
     /// Where it stands: the mark of its logical line.
     pub mark: Mark,
 }
+
+impl Token {
+    /// Whether the token is this sign.
+    pub fn is_sign(&self, sign: Sign) -> bool
+        ensures { result ≡ is_the_sign sign self.now.shape }
+    {
+        match &self.shape {
+            Shape::Sign(other) => *other == sign,
+            _ => false,
+        }
+    }
+}
+
+/// A law, with nothing to run: a token is a sign exactly where its shape is that sign.
+pub fn one_sign()
+    ensures { (sign : Sign) (shape : Shape) → (is_the_sign sign shape ≡ true) ↔ (shape ≡ shapes.Sign sign) }
+{}
 
 /// A list of tokens.
 pub type Tokens = Listing<Token>;

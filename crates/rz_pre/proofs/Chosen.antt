@@ -2,6 +2,7 @@
 use Rattle.std.proofs.Common.{◌≡◌, ℕ, Bool, true, false, ◌&&◌, not, inl, inr, List, [], ◌∷◌, Option, Some, None, Ok, Err, refl, sym, ap, subst, ◌∙◌}
 use Rattle.std.specs.Prelude.{if◌then◌else◌, option_map}
 use Rattle.std.specs.declared.result.Result.{Result}
+use Rattle.rz_core.proofs.Once.{ok, err, same_ok, ok_or_err}
 use Rattle.rz_core.specs.declared.fault.Fault.{Fault}
 use Rattle.rz_core.specs.declared.fault.Mark.{Mark}
 use Rattle.rz_core.specs.declared.resource.Word.{Word}
@@ -11,7 +12,7 @@ use Rattle.rz_lex.specs.declared.token.Token.{Token}
 use Rattle.rz_source.specs.Directive.{behind_hash, directive_in, has_parameters, of_hash, unblanked}
 use Rattle.rz_source.specs.declared.directive.Directive.{Directive}
 use Rattle.rz_source.specs.declared.directive.Directive.TheVariants as directives
-use Rattle.rz_pre.specs.Answers.{Then}
+use Rattle.rz_core.specs.Answers.{Then}
 use Rattle.rz_pre.specs.Condition.{is_known}
 use Rattle.rz_pre.specs.Groups.{are_others, is_elif, is_else, is_endif, is_group, is_opening, is_plain, kind, lines_of, lines_of_others, waiting, Chooses, Group, GroupGoes, Holds, Others, OthersGo}
 use Rattle.rz_pre.specs.Groups as groups
@@ -27,30 +28,18 @@ use Rattle.rz_pre.specs.declared.conditional.Part.TheVariants.{Chosen, Past, Wai
 
 -- Answers that are the same.
 
-record Same {X F : Type 0} (one two : Result X F → Type 0) : Type 0 where
-  there : (answer : Result X F) → one answer → two answer
-  back : (answer : Result X F) → two answer → one answer
+pub record Same {X F : Type 0} (one two : Result X F → Type 0) : Type 0 where
+  pub there : (answer : Result X F) → one answer → two answer
+  pub back : (answer : Result X F) → two answer → one answer
 
-same : {X F : Type 0} {one : Result X F → Type 0} → Same one one
+pub same : {X F : Type 0} {one : Result X F → Type 0} → Same one one
 same = record { there = λ answer a. a; back = λ answer a. a }
 
-turn : {X F : Type 0} {one two : Result X F → Type 0} → Same one two → Same two one
+pub turn : {X F : Type 0} {one two : Result X F → Type 0} → Same one two → Same two one
 turn is = record { there = is.back; back = is.there }
 
-on : {X F : Type 0} {one two three : Result X F → Type 0} → Same one two → Same two three → Same one three
+pub on : {X F : Type 0} {one two three : Result X F → Type 0} → Same one two → Same two three → Same one three
 on is more = record { there = λ answer a. more.there answer (is.there answer a); back = λ answer a. is.back answer (more.back answer a) }
-
-abbrev ok : {X F : Type 0} → X → Result X F
-ok value = Ok value
-
-abbrev err : {X F : Type 0} → F → Result X F
-err fault = Err fault
-
-same_ok : {X F : Type 0} (x y : X) → ok {F = F} x ≡ ok y → x ≡ y
-same_ok x y is = cc
-
-ok_or_err : {X F : Type 0} (x : X) (f : F) → ok x ≡ err f → ⊥
-ok_or_err x f is = cc
 
 abbrev Is : {X F : Type 0} → X → Result X F → Type 0
 Is value answer = answer ≡ Ok value
@@ -72,11 +61,11 @@ then_more {X} {Y} {F} one two next later is more = record { there = there; back 
 then_first : {X Y F : Type 0} (one two : Result X F → Type 0) (next : X → Result Y F → Type 0) → Same one two → Same (Then one next) (Then two next)
 then_first one two next is = then_more one two next next is (λ x o. same)
 
-then_next : {X Y F : Type 0} (one : Result X F → Type 0) (next later : X → Result Y F → Type 0)
+pub then_next : {X Y F : Type 0} (one : Result X F → Type 0) (next later : X → Result Y F → Type 0)
     → ((x : X) → one (Ok x) → Same (next x) (later x)) → Same (Then one next) (Then one later)
 then_next one next later more = then_more one one next later same more
 
-then_then : {X Y Z F : Type 0} (one : Result X F → Type 0) (next : X → Result Y F → Type 0) (last : Y → Result Z F → Type 0)
+pub then_then : {X Y Z F : Type 0} (one : Result X F → Type 0) (next : X → Result Y F → Type 0) (last : Y → Result Z F → Type 0)
     → Same (Then (Then one next) last) (Then one (λ x. Then (next x) last))
 then_then {X} {Y} {Z} {F} one next last = record { there = there; back = back }
   where
@@ -95,7 +84,7 @@ then_then {X} {Y} {Z} {F} one next last = record { there = there; back = back }
     back answer (inr (f, o, e)) = inr (f, inr (f, o, refl), e)
 
 -- a call that can give only one value
-then_is : {X Y F : Type 0} (x : X) (next : X → Result Y F → Type 0) → Same (Then (Is x) next) (next x)
+pub then_is : {X Y F : Type 0} (x : X) (next : X → Result Y F → Type 0) → Same (Then (Is x) next) (next x)
 then_is {X} {Y} {F} x next = record { there = there; back = λ answer n. inl (x, refl, n) }
   where
     there : (answer : Result Y F) → Then (Is x) next answer → next x answer
@@ -156,7 +145,7 @@ test_goes {Y} files does act next later tests goes = record { there = there; bac
         inl (t.0, subst (λ (a : Act). does (Ok a)) t.1 d, (goes t.0).back answer (subst (λ (a : Act). later a answer) t.1 l))
     back answer (inr (f, d, e)) = inr (f, d, e)
 
-both : (a b : Bool) → a && b ≡ true → (a ≡ true) × (b ≡ true)
+pub both : (a b : Bool) → a && b ≡ true → (a ≡ true) × (b ≡ true)
 both true b is = (refl, is)
 both false b is = absurd cc
 
@@ -167,23 +156,23 @@ either : (b : Bool) (act : Act) → Same (Is {F = Fault} act) (WhereKept b (Is a
 either true act = same
 either false act = same
 
-where_kept : (b : Bool) (answers : Result Act Fault → Type 0) (act : Act) → b ≡ true → Same (WhereKept b answers act) answers
+pub where_kept : (b : Bool) (answers : Result Act Fault → Type 0) (act : Act) → b ≡ true → Same (WhereKept b answers act) answers
 where_kept true answers act kept = same
 where_kept false answers act kept = absurd cc
 
-where_unkept : (b : Bool) (answers : Result Act Fault → Type 0) (act : Act) → b ≡ false → Same (WhereKept b answers act) (Is act)
+pub where_unkept : (b : Bool) (answers : Result Act Fault → Type 0) (act : Act) → b ≡ false → Same (WhereKept b answers act) (Is act)
 where_unkept true answers act unkept = absurd cc
 where_unkept false answers act unkept = same
 
 -- a conditional before its `#else`, and behind it
-abbrev later_open : Mark → Part → Open
+abbrev pub later_open : Mark → Part → Open
 later_open mark part = record { mark = mark; part = part; is_last = false }
 
-abbrev last_open : Mark → Part → Open
+abbrev pub last_open : Mark → Part → Open
 last_open mark part = record { mark = mark; part = part; is_last = true }
 
 -- no later part may be chosen
-abbrev is_late : Part → Bool
+abbrev pub is_late : Part → Bool
 is_late Waiting = false
 is_late Chosen = true
 is_late Past = true
@@ -249,7 +238,7 @@ module _ (Reads : Includes) (tool : Tool) where
         by None is = absurd (ok_or_err a (bad_directive mark tokens) is)
         by (Some word) is = (if wanted then is_known live word.bytes else not (is_known live word.bytes), same_ok {F = Fault} a _ is)
 
-    opening_tests : is_opening (kind line) ≡ true → Tests (Does live tool None line) (λ part. acts.Begin part)
+    pub opening_tests : is_opening (kind line) ≡ true → Tests (Does live tool None line) (λ part. acts.Begin part)
     opening_tests opening = acts_by (behind_hash (unblanked line.bytes)) opening
       where
         directs_by : (text : List ℕ) (directive : Directive) → is_opening (Some directive) ≡ true → Tests (Directs live tool None line.mark text directive) (λ part. acts.Begin part)
@@ -264,7 +253,7 @@ module _ (Reads : Includes) (tool : Tool) where
         acts_by None opening = absurd cc
         acts_by (Some text) opening = directs_by text (directive_in (unblanked text)) opening
 
-    elif_tests : (m : Mark) → is_elif (kind line) ≡ true → Tests (Does live tool (Some (waiting m)) line) (λ part. acts.Turn part false)
+    pub elif_tests : (m : Mark) → is_elif (kind line) ≡ true → Tests (Does live tool (Some (waiting m)) line) (λ part. acts.Turn part false)
     elif_tests m again = acts_by (behind_hash (unblanked line.bytes)) again
       where
         directs_by : (text : List ℕ) (directive : Directive) → is_elif (Some directive) ≡ true → Tests (Directs live tool (Some (waiting m)) line.mark text directive) (λ part. acts.Turn part false)
@@ -317,7 +306,7 @@ module _ (Reads : Includes) (tool : Tool) where
         acts_by None plain = same
         acts_by (Some text) plain = directs_by text (directive_in (unblanked text)) plain
 
-    opening_does : (around : Option Open) → is_opening (kind line) ≡ true → Same (Does live tool around line) (WhereKept (is_kept around) (Does live tool None line) (acts.Begin Past))
+    pub opening_does : (around : Option Open) → is_opening (kind line) ≡ true → Same (Does live tool around line) (WhereKept (is_kept around) (Does live tool None line) (acts.Begin Past))
     opening_does around opening = acts_by (behind_hash (unblanked line.bytes)) opening
       where
         directs_by : (text : List ℕ) (directive : Directive) → is_opening (Some directive) ≡ true
@@ -333,7 +322,7 @@ module _ (Reads : Includes) (tool : Tool) where
         acts_by (Some text) opening = directs_by text (directive_in (unblanked text)) opening
 
     -- a later part of a conditional, and its end
-    elif_does : (m n : Mark) → is_elif (kind line) ≡ true → Same (Does live tool (Some (waiting m)) line) (Does live tool (Some (waiting n)) line)
+    pub elif_does : (m n : Mark) → is_elif (kind line) ≡ true → Same (Does live tool (Some (waiting m)) line) (Does live tool (Some (waiting n)) line)
     elif_does m n again = acts_by (behind_hash (unblanked line.bytes)) again
       where
         directs_by : (text : List ℕ) (directive : Directive) → is_elif (Some directive) ≡ true
@@ -355,7 +344,7 @@ module _ (Reads : Includes) (tool : Tool) where
         by None passes = absurd (differ (test None) bare passes)
         by (Some text) passes = directs text (directive_in (unblanked text)) passes
 
-    elif_past : (m : Mark) (part : Part) → is_late part ≡ true → is_elif (kind line) ≡ true → Same (Does live tool (Some (later_open m part)) line) (Is (acts.Turn Past false))
+    pub elif_past : (m : Mark) (part : Part) → is_late part ≡ true → is_elif (kind line) ≡ true → Same (Does live tool (Some (later_open m part)) line) (Is (acts.Turn Past false))
     elif_past m part late = of_directive (Some (later_open m part)) is_elif (Is (acts.Turn Past false)) refl directs_by
       where
         turns : (text : List ℕ) (part : Part) → is_late part ≡ true → Same (Turns live tool line.mark text (Some part)) (Is (acts.Turn Past false))
@@ -367,7 +356,7 @@ module _ (Reads : Includes) (tool : Tool) where
         directs_by text directives.Elif again = turns text part late
         directs_by text directive again = absurd cc
 
-    else_does : (around : Option Open) → is_else (kind line) ≡ true → Same (Does live tool around line) (λ answer. answer ≡ otherwise line.mark (open_part around))
+    pub else_does : (around : Option Open) → is_else (kind line) ≡ true → Same (Does live tool around line) (λ answer. answer ≡ otherwise line.mark (open_part around))
     else_does around = of_directive around is_else (λ answer. answer ≡ otherwise line.mark (open_part around)) refl directs_by
       where
         directs_by : (text : List ℕ) (directive : Directive) → is_else (Some directive) ≡ true
@@ -375,7 +364,7 @@ module _ (Reads : Includes) (tool : Tool) where
         directs_by text directives.Else last = same
         directs_by text directive last = absurd cc
 
-    else_past : (m : Mark) (part : Part) → is_late part ≡ true → is_else (kind line) ≡ true → Same (Does live tool (Some (later_open m part)) line) (Is (acts.Turn Past true))
+    pub else_past : (m : Mark) (part : Part) → is_late part ≡ true → is_else (kind line) ≡ true → Same (Does live tool (Some (later_open m part)) line) (Is (acts.Turn Past true))
     else_past m Waiting late last = absurd cc
     else_past m Chosen late last = else_does (Some (later_open m Chosen)) last
     else_past m Past late last = else_does (Some (later_open m Past)) last
@@ -389,7 +378,7 @@ module _ (Reads : Includes) (tool : Tool) where
 
   -- Lines, one by one.
 
-  abbrev pair : List Open → State → List Open × State
+  abbrev pub pair : List Open → State → List Open × State
   pair opens s = (opens, s)
 
   abbrev Behind : RawLine → List Open → State → Act → Result (List Open × State) Failure → Type 0
@@ -399,7 +388,7 @@ module _ (Reads : Includes) (tool : Tool) where
   Goes lines ending opens s = LinesGo Reads tool lines ending opens s
 
   -- with the conditionals behind the line, and with these
-  abbrev GoesOn : List RawLine → Option Fault → (List Open × State) → Result State Failure → Type 0
+  abbrev pub GoesOn : List RawLine → Option Fault → (List Open × State) → Result State Failure → Type 0
   GoesOn lines ending next = LinesGo Reads tool lines ending next.0 next.1
 
   abbrev GoesIn : List RawLine → Option Fault → List Open → (List Open × State) → Result State Failure → Type 0
@@ -410,7 +399,7 @@ module _ (Reads : Includes) (tool : Tool) where
   line_goes line lines ending opens s = then_then (WithFiles s.files (Does s.live tool (innermost opens) line)) (Behind line opens s) (GoesOn lines ending)
 
   -- a line that can do only this
-  settled : (line : RawLine) (lines : List RawLine) (ending : Option Fault) (opens after : List Open) (s : State) (act : Act)
+  pub settled : (line : RawLine) (lines : List RawLine) (ending : Option Fault) (opens after : List Open) (s : State) (act : Act)
       → Same (Does s.live tool (innermost opens) line) (Is act) → Same (Behind line opens s act) (Is (pair after s)) → Same (Goes lines ending after s) (Goes (line ∷ lines) ending opens s)
   settled line lines ending opens after s act does follows =
       turn (on (line_goes line lines ending opens s)
@@ -448,7 +437,7 @@ module _ (Reads : Includes) (tool : Tool) where
       → Same (Goes lines ending opens s) (Goes (last ∷ lines) ending (one ∷ opens) s)
   ends_one last lines ending one opens s end = settled last lines ending (one ∷ opens) opens s acts.End (endif_does s.live last (Some one) end) same
 
-  asked : (test : RawLine) (around : Option Open) (act : Part → Act) (one two : Result State Failure → Type 0) (next : State → Result State Failure → Type 0)
+  pub asked : (test : RawLine) (around : Option Open) (act : Part → Act) (one two : Result State Failure → Type 0) (next : State → Result State Failure → Type 0)
       (lines : List RawLine) (ending : Option Fault) (opens : List Open) (s : State)
       → Same (Does s.live tool around test) (Does s.live tool (innermost opens) test) → Tests (Does s.live tool around test) act
       → Same (Then one next) (Then (Behind test opens s (act Chosen)) (GoesOn lines ending)) → Same (Then two next) (Then (Behind test opens s (act Waiting)) (GoesOn lines ending))
@@ -467,7 +456,7 @@ module _ (Reads : Includes) (tool : Tool) where
 
   mutual
     -- where nothing is kept the lines of a group change nothing
-    passed : (group : Group) (lines : List RawLine) (ending : Option Fault) (opens : List Open) (s : State) → is_group group ≡ true → is_kept (innermost opens) ≡ false
+    pub passed : (group : Group) (lines : List RawLine) (ending : Option Fault) (opens : List Open) (s : State) → is_group group ≡ true → is_kept (innermost opens) ≡ false
         → Same (Goes lines ending opens s) (Goes (lines_of group lines) ending opens s)
     passed groups.Done lines ending opens s good unkept = same
     passed (groups.Line line group) lines ending opens s good unkept =
@@ -505,7 +494,7 @@ module _ (Reads : Includes) (tool : Tool) where
 
   mutual
     -- of lines that are kept the chosen parts are read
-    group_goes : (group : Group) (lines : List RawLine) (ending : Option Fault) (opens : List Open) (s : State) → is_group group ≡ true → is_kept (innermost opens) ≡ true
+    pub group_goes : (group : Group) (lines : List RawLine) (ending : Option Fault) (opens : List Open) (s : State) → is_group group ≡ true → is_kept (innermost opens) ≡ true
         → Same (Then (GroupGoes Reads tool group s) (Goes lines ending opens)) (Goes (lines_of group lines) ending opens s)
     group_goes groups.Done lines ending opens s good kept = then_is s (Goes lines ending opens)
     group_goes (groups.Line line group) lines ending opens s good kept =

@@ -6,12 +6,9 @@ use Rattle.std.proofs.lemmas.Bool.{false_from_ne_true}
 use Rattle.std.proofs.lemmas.Slice.Eq.{bytes_eq-Decides}
 use Rattle.rz_lex.specs.declared.token.Shape.{Shape}
 use Rattle.rz_lex.specs.declared.token.Shape.TheVariants as shapes
-use Rattle.rz_lex.proofs.Ends.{by_test}
+use Rattle.rz_core.proofs.Tests.{by_test, true_false}
 use Rattle.rz_pre.specs.Expand.{Expansion, Expansions, bare, more, nothing, replaced}
 use Rattle.rz_pre.specs.Live.{body_of, hide, live_in, name_of, Live, Row}
-
-true_is_not : true ≡ false → ⊥
-true_is_not k = cc k
 
 none_is_not : (body : List Shape) → ◌≡◌ {A = Option (List Shape)} None (Some body) → ⊥
 none_is_not body k = cc k
@@ -36,7 +33,7 @@ no_longer name (x ∷ xs) =
 -- without a name that is in it a list is shorter
 shorter : (name : List ℕ) (names : List (List ℕ)) → is_in name names ≡ true → length (without name names) < length names
 unfolding is_in without
-shorter name [] inside = absurd (true_is_not (sym inside))
+shorter name [] inside = absurd (true_false (sym inside))
 shorter name (x ∷ xs) inside = by_test (length (without name (x ∷ xs)) < length (x ∷ xs)) (bytes_eq name x)
     (λ h. (let fewer = no_longer name xs in rw h (omega (arith, fewer))))
     (λ h. (let later : is_in name xs ≡ true = rw h at inside in let fewer = shorter name xs later in rw h (omega (arith, fewer))))
@@ -44,7 +41,7 @@ shorter name (x ∷ xs) inside = by_test (length (without name (x ∷ xs)) < len
 -- of two names that differ at most one is `x`
 apart : (name x y : List ℕ) → bytes_eq name x ≡ true → bytes_eq name y ≡ false → bytes_eq y x ≡ true → ⊥
 apart name x y same differs also =
-    true_is_not (sym ((bytes_eq-Decides name y).1 ((bytes_eq-Decides name x).0 same ∙ sym ((bytes_eq-Decides y x).0 also))) ∙ differs)
+    true_false (sym ((bytes_eq-Decides name y).1 ((bytes_eq-Decides name x).0 same ∙ sym ((bytes_eq-Decides y x).0 also))) ∙ differs)
 
 -- a name is in what stands behind another
 behind : (name x : List ℕ) (xs : List (List ℕ)) → is_in name (x ∷ xs) ≡ true → bytes_eq name x ≡ false → is_in name xs ≡ true
@@ -58,7 +55,7 @@ one_more name x xs inside = by_test (is_in name (x ∷ xs) ≡ true) (bytes_eq n
 -- the other names are still in it
 still_in : (name y : List ℕ) (names : List (List ℕ)) → is_in y names ≡ true → bytes_eq name y ≡ false → is_in y (without name names) ≡ true
 unfolding is_in without
-still_in name y [] inside differs = absurd (true_is_not (sym inside))
+still_in name y [] inside differs = absurd (true_false (sym inside))
 still_in name y (x ∷ xs) inside differs = by_test (is_in y (without name (x ∷ xs)) ≡ true) (bytes_eq y x)
     (λ k. (let kept : bytes_eq name x ≡ false = false_from_ne_true (bytes_eq name x) (λ h. apart name x y h differs k) in rw (kept, k) refl))
     (λ k. (let later = still_in name y xs (behind y x xs inside k) differs in

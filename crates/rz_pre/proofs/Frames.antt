@@ -1,9 +1,10 @@
 -- The macros that are being replaced, outermost first.
-use Rattle.std.proofs.Common.{◌≡◌, ℕ, suc, Bool, true, false, List, [], ◌∷◌, ◌++◌, drop, Option, Some, None, refl, sym, ap, subst, ◌∙◌, true≢false}
+use Rattle.std.proofs.Common.{◌≡◌, ℕ, suc, true, false, List, [], ◌∷◌, ◌++◌, drop, Option, Some, None, refl, sym, ap, subst, ◌∙◌, true≢false}
 use Rattle.std.specs.Prelude.{◌==◌, option_map, unwrap_or}
 use Rattle.std.proofs.lemmas.Bool.{eqb-true, eqb-false}
 use Rattle.std.proofs.lemmas.Slice.Eq.{bytes_eq-Decides}
 use Rattle.std.specs.Str.{bytes_eq}
+use Rattle.rz_core.proofs.Tests.{by_test}
 use Rattle.rz_lex.specs.declared.token.Shape.{Shape}
 use Rattle.rz_pre.specs.Live.{body_at, hide, live_in, live_row, name_at, Live, Row}
 use Rattle.rz_pre.specs.Steps.{is_inside, Frame}
@@ -30,10 +31,6 @@ visible_inside rows live [] f = refl
 visible_inside rows live (g ∷ fs) f = visible_inside rows (hide (name_at rows g.0) live) fs f
 
 -- Names that are hidden, and names that aren't.
-
-by_test : (P : Type 0) (b : Bool) → (b ≡ true → P) → (b ≡ false → P) → P
-by_test P true t f = t refl
-by_test P false t f = f refl
 
 pub none_stays : (rows : List Row) (live : Live) (fs : List Frame) (name : List ℕ) → live name ≡ None → visible rows live fs name ≡ None
 none_stays rows live [] name none = none

@@ -5,6 +5,7 @@ use Rattle.std.specs.Prelude.{option_map}
 use Rattle.std.specs.Str.{str_to_ascii_lowercase}
 use Rattle.std.proofs.lemmas.List.{take_more}
 use Rattle.std.proofs.lemmas.Option.{same_Some}
+use Rattle.rz_core.proofs.Once.{Once}
 use Rattle.rz_core.specs.declared.fault.Mark.{Mark}
 use Rattle.rz_core.specs.declared.fault.Fault.{Fault}
 use Rattle.rz_core.specs.declared.stop.Stop.{Stop}
@@ -18,17 +19,16 @@ use Rattle.rz_core.specs.Stop.{OnFault}
 use Rattle.rz_lex.specs.Lines.{HasOpenComment}
 use Rattle.rz_pre.specs.Line.{Does}
 use Rattle.rz_pre.specs.Program.{ends, fails, innermost, opens_after, state_after, too_deep, file_of, live_after, missing_file, names_of, start, utf8_name, Enters, Failure, Follows, HasText, IncludedGoes, Includes, LineGoes, LinesGo, NamedGoes, NamesGo, Opens, OpensAs, State, TextGoes}
-use Rattle.rz_pre.specs.Answers.{Meets}
+use Rattle.rz_core.specs.Answers.{Meets}
 use Rattle.rz_pre.specs.Live.{live_in, put, shapes_of, Live}
 use Rattle.rz_pre.specs.Macros.{rows_of}
-use Rattle.rz_pre.specs.Reading.{alone, halt_of, included_in, state_of, together, Finishes, Gave, IsUnrefused, Leaves, Matches, OnReadFault, Steps}
+use Rattle.rz_pre.specs.Reading.{alone, halt_of, included_in, state_of, together, Finishes, Gave, IsReadFault, IsUnrefused, Leaves, Matches, Steps}
 use Rattle.rz_pre.specs.declared.program.Def.{Def}
 use Rattle.rz_pre.specs.declared.program.PreFault.{PreFault}
 use Rattle.rz_pre.specs.declared.program.PreFault.TheVariants as prefaults
 use Rattle.rz_pre.specs.declared.program.Program.{Program}
 use Rattle.rz_pre.specs.declared.reading.Reading.{Reading}
 use Rattle.rz_lex.specs.declared.token.Token.{Token}
-use Rattle.rz_pre.proofs.OneProgram.{Once}
 use Rattle.rz_pre.specs.declared.reading.Halt.{Halt}
 use Rattle.rz_pre.specs.declared.reading.Halt.TheVariants as halts
 use Rattle.rz_pre.specs.declared.act.Act.TheVariants as acts
@@ -345,8 +345,8 @@ answers_from (Err halts.NoMemory) s (Err prefaults.ReadFault) answers leaves f =
 answers_from (Err halts.NoMemory) s (Err prefaults.NoMemory) answers leaves f = tt
 
 pub read_fault_from : (ended : Result (Unit {0}) Halt) (s : State) (gave : Result Program PreFault) (P : Type 0)
-    → OnReadFault ended P → Finishes ended s gave → gave ≡ Err prefaults.ReadFault → P
+    → (IsReadFault ended → P) → Finishes ended s gave → gave ≡ Err prefaults.ReadFault → P
 read_fault_from (Ok nothing) s gave P on f is = absurd (f.1 is)
 read_fault_from (Err (halts.Refused fault)) s gave P on f is = absurd (f.1 is)
-read_fault_from (Err halts.ReadFault) s gave P on f is = on
+read_fault_from (Err halts.ReadFault) s gave P on f is = on tt
 read_fault_from (Err halts.NoMemory) s gave P on f is = absurd (memory_not_read (sym f ∙ is))

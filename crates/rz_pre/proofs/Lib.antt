@@ -20,3 +20,6 @@ pub mod Placing
 pub mod Unfolded
 pub mod Chosen
 pub mod Numbers
+pub mod Lexing
+pub mod LastOne
+pub mod Unclosed

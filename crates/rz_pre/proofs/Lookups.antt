@@ -1,14 +1,11 @@
 -- Looking up a frame.
-use Rattle.std.proofs.Common.{◌≡◌, ℕ, Bool, true, false, List, [], ◌∷◌, ◌++◌, refl, ap}
+use Rattle.std.proofs.Common.{◌≡◌, ℕ, true, false, List, [], ◌∷◌, ◌++◌, refl, ap}
 use Rattle.std.specs.Prelude.{nat_eq}
 use Rattle.std.specs.Map.{lookup}
 use Rattle.std.specs.Option.{is_some}
 use Rattle.indexmap.specs.IndexMap.{insert_entry}
+use Rattle.rz_core.proofs.Tests.{by_test}
 use Rattle.rz_pre.specs.Steps.{is_inside, Frame}
-
-by_test : (P : Type 0) (b : Bool) → (b ≡ true → P) → (b ≡ false → P) → P
-by_test P true t f = t refl
-by_test P false t f = f refl
 
 pub inside_found : (k : ℕ) (fs : List Frame) → is_some (lookup (nat_eq k) fs) ≡ is_inside k fs
 inside_found k [] = refl

@@ -1,6 +1,7 @@
 -- A program has one answer.
 use Rattle.std.proofs.Common.{◌≡◌, ℕ, zero, suc, Bool, true, false, inl, inr, List, [], ◌∷◌, Option, Some, None, Ok, Err, sym, ap, subst, ◌∙◌}
 use Rattle.std.specs.declared.result.Result.{Result}
+use Rattle.rz_core.proofs.Once.{Once, ok, err, same_ok, same_err, ok_or_err, once_by, once_is, once_then}
 use Rattle.rz_core.specs.declared.fault.Fault.{Fault}
 use Rattle.rz_core.specs.declared.fault.Mark.{Mark}
 use Rattle.rz_folder.specs.Folder.{Files}
@@ -10,7 +11,7 @@ use Rattle.rz_lex.specs.Lines.{HasLines}
 use Rattle.rz_lex.specs.declared.joined.Placed.{Placed}
 use Rattle.rz_lex.specs.declared.raw_line.RawLine.{RawLine}
 use Rattle.rz_lex.specs.declared.token.Token.{Token}
-use Rattle.rz_pre.specs.Answers.{Then}
+use Rattle.rz_core.specs.Answers.{Then}
 use Rattle.rz_pre.specs.Line.{Acts, Does, Directs, HasCondition, IsComputed, IsCut, IsReplaced, Obeys, PutsOut, Says, Turns, WhereKept, behind_first, is_kept, open_part}
 use Rattle.rz_source.specs.Directive.{behind_hash, directive_in, unblanked}
 use Rattle.rz_pre.specs.Live.{Live}
@@ -26,42 +27,6 @@ use Rattle.rz_source.specs.declared.directive.Directive.{Directive}
 use Rattle.rz_source.specs.declared.directive.Directive.TheVariants as directives
 use Rattle.rz_pre.proofs.OneCondition.{condition_or_fault, one_condition, one_condition_fault, OneTerm}
 use Rattle.rz_pre.proofs.Replaced.{line_or_fault, one_fault, one_line}
-
--- at most one answer
-abbrev pub Once : {X F : Type 0} → (Result X F → Type 0) → Type 0
-Once {X} {F} answers = (one other : Result X F) → answers one → answers other → one ≡ other
-
-abbrev ok : {X F : Type 0} → X → Result X F
-ok value = Ok value
-
-abbrev err : {X F : Type 0} → F → Result X F
-err fault = Err fault
-
-same_ok : {X F : Type 0} (x y : X) → ok {F = F} x ≡ ok y → x ≡ y
-same_ok x y is = cc
-
-same_err : {X F : Type 0} (f g : F) → err {X = X} f ≡ err g → f ≡ g
-same_err f g is = cc
-
-ok_or_err : {X F : Type 0} (x : X) (f : F) → ok x ≡ err f → ⊥
-ok_or_err x f is = cc
-
-once_by : {X F : Type 0} (answers : Result X F → Type 0) → ((x y : X) → answers (Ok x) → answers (Ok y) → x ≡ y)
-    → ((f g : F) → answers (Err f) → answers (Err g) → f ≡ g) → ((x : X) (f : F) → answers (Ok x) → answers (Err f) → ⊥) → Once answers
-once_by answers values faults never (Ok x) (Ok y) a b = ap ok (values x y a b)
-once_by answers values faults never (Ok x) (Err g) a b = absurd (never x g a b)
-once_by answers values faults never (Err f) (Ok y) a b = absurd (never y f b a)
-once_by answers values faults never (Err f) (Err g) a b = ap err (faults f g a b)
-
-once_is : {X F : Type 0} (answer : Result X F) → Once (λ given. given ≡ answer)
-once_is answer one other a b = a ∙ sym b
-
-once_then : {X Y F : Type 0} (first : Result X F → Type 0) (next : X → Result Y F → Type 0) → Once first → ((x : X) → Once (next x)) → Once (Then first next)
-once_then {X} {Y} {F} first next f n one other (inl a) (inl b) =
-    n b.0 one other (subst (λ (x : X). next x one) (same_ok {F = F} a.0 b.0 (f (Ok a.0) (Ok b.0) a.1 b.1)) a.2) b.2
-once_then first next f n one other (inl a) (inr b) = absurd (ok_or_err a.0 b.0 (f (Ok a.0) (Err b.0) a.1 b.1))
-once_then first next f n one other (inr a) (inl b) = absurd (ok_or_err b.0 a.0 (f (Ok b.0) (Err a.0) b.1 a.1))
-once_then {X} {Y} {F} first next f n one other (inr a) (inr b) = a.2 ∙ ap err (same_err {X = X} a.0 b.0 (f (Err a.0) (Err b.0) a.1 b.1)) ∙ sym b.2
 
 once_with_files : {X : Type 0} (files : List (List ℕ)) (answers : Result X Fault → Type 0) → Once answers → Once (WithFiles files answers)
 once_with_files files answers once (Ok x) (Ok y) a b = ap ok (same_ok {F = Fault} x y (once (Ok x) (Ok y) a b))

@@ -7,7 +7,7 @@ use Rattle.std.specs.Str.{encode_utf8_all}
 use Rattle.std.proofs.lemmas.List.{at_drop_more, map-append, take_more}
 use Rattle.std.proofs.lemmas.Option.{slice_get_within, get_or_from_slice_get, same_Some}
 use Rattle.std.proofs.lemmas.Str.{encodes-append}
-use Rattle.rz_core.specs.Lists.{take_at_more}
+use Rattle.rz_core.proofs.Lists.{take_at_more}
 use Rattle.rz_core.specs.Roman.{roman_char}
 use Rattle.rz_folder.specs.Folder.{Files, Reads}
 use Rattle.rz_folder.specs.declared.folder.Read.TheVariants as read

@@ -3,6 +3,7 @@ use Rattle.std.proofs.Common.{◌≡◌, ℕ, ℤ, ◌+◌, ◌<◌, ◌≤◌, 
 use Rattle.std.specs.Prelude.{if◌then◌else◌, option_map}
 use Rattle.std.specs.List.{AllByRecursion}
 use Rattle.std.specs.declared.result.Result.{Result}
+use Rattle.rz_lex.specs.Within.{AreWithin}
 use Rattle.rz_core.specs.Message.{is_between}
 use Rattle.rz_core.specs.Message as message
 use Rattle.rz_core.specs.Stop.{OnFault}
@@ -16,14 +17,14 @@ use Rattle.rz_lex.specs.Printed.{token_of}
 use Rattle.rz_lex.specs.declared.raw_line.RawLine.{RawLine}
 use Rattle.rz_lex.specs.declared.token.Shape.{Shape}
 use Rattle.rz_lex.specs.declared.token.Token.{Token}
-use Rattle.rz_pre.specs.Answers.{Meets}
+use Rattle.rz_core.specs.Answers.{Meets}
 use Rattle.rz_pre.specs.Condition.{Tells}
 use Rattle.rz_pre.specs.Condition as condition
 use Rattle.rz_source.specs.Directive.{behind_hash, directive_in, has_parameters, unblanked}
 use Rattle.rz_pre.specs.Expanded.{too_long, ExpandInto, FirstTooLong}
 use Rattle.rz_pre.specs.Line.{Acts, Directs, Does, IsComputed, IsReplaced, Obeys, PutsOut, Says, Turns, WhereKept, behind_first, defined, ended, free_word, included, is_kept, open_part, or_bad, otherwise, passed_over, simple, tested, text_in, undefined, word_in}
 use Rattle.rz_pre.specs.Live.{Live}
-use Rattle.rz_pre.specs.Placed.{AreOn, AreOpenIn, AreWithin, IsSourceFault, OnRefused, PutsOn}
+use Rattle.rz_pre.specs.Placed.{AreOn, AreOpenIn, IsSourceFault, OnRefused, PutsOn}
 use Rattle.rz_pre.specs.Program.{opens_after, state_after, State}
 use Rattle.rz_pre.specs.Reading.{halt_of, IsUnrefused, Steps}
 use Rattle.rz_pre.specs.declared.reading.Halt.{Halt}
@@ -37,7 +38,7 @@ use Rattle.rz_pre.specs.declared.conditional.Part.TheVariants.{Chosen, Past, Wai
 use Rattle.rz_source.specs.declared.directive.Directive.{Directive}
 use Rattle.rz_source.specs.declared.directive.Directive.TheVariants as directives
 
-all_append : {A : Type 0} (P : A → Type 0) (xs ys : List A) → AllByRecursion P xs → AllByRecursion P ys → AllByRecursion P (xs ++ ys)
+pub all_append : {A : Type 0} (P : A → Type 0) (xs ys : List A) → AllByRecursion P xs → AllByRecursion P ys → AllByRecursion P (xs ++ ys)
 all_append P [] ys all more = more
 all_append P (x ∷ xs) ys all more = (all.0, all_append P xs ys all.1 more)
 

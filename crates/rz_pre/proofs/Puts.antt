@@ -4,6 +4,7 @@ use Rattle.std.specs.Prelude.{if◌then◌else◌, option_map}
 use Rattle.std.specs.Str.{bytes_eq}
 use Rattle.std.proofs.lemmas.Slice.Eq.{bytes_eq-Decides}
 use Rattle.indexmap.specs.IndexMap.{insert_entry}
+use Rattle.rz_core.proofs.Tests.{by_test}
 use Rattle.rz_lex.specs.declared.token.Shape.{Shape}
 use Rattle.rz_lex.specs.declared.token.Token.{Token}
 use Rattle.rz_pre.specs.Live.{live_in, put, shapes_of}
@@ -11,10 +12,6 @@ use Rattle.rz_pre.proofs.Rows.{row, Entry}
 
 abbrev same_key : Vec ℕ Global → Vec ℕ Global → Bool
 same_key one other = bytes_eq one.items other.items
-
-by_test : (P : Type 0) (b : Bool) → (b ≡ true → P) → (b ≡ false → P) → P
-by_test P true t f = t refl
-by_test P false t f = f refl
 
 same_name : (one other : List ℕ) → bytes_eq one other ≡ true → one ≡ other
 same_name one other is = (bytes_eq-Decides one other).0 is

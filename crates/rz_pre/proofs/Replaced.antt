@@ -1,13 +1,14 @@
 -- The tokens of a line while they are replaced.
-use Rattle.std.proofs.Common.{◌≡◌, inl, inr, List, [], ◌∷◌, ◌++◌, map, refl, sym, ap, subst, ◌∙◌, arith, append_assoc}
+use Rattle.std.proofs.Common.{◌≡◌, ℕ, true, false, Option, Some, None, inl, inr, List, [], ◌∷◌, ◌++◌, map, refl, sym, ap, subst, ◌∙◌, arith, append_assoc, length}
 use Rattle.std.proofs.lemmas.List.{append-nil}
 use Rattle.rz_core.specs.declared.fault.Fault.{Fault}
 use Rattle.rz_lex.specs.Printed.{token_of}
 use Rattle.rz_lex.specs.declared.token.Shape.{Shape}
 use Rattle.rz_lex.specs.declared.token.Token.{Token}
 use Rattle.rz_pre.specs.Expand.{ExpandsTo, IsTooLong}
-use Rattle.rz_pre.specs.Expanded.{too_long, ExpandInto, FirstTooLong}
-use Rattle.rz_pre.specs.Live.{Live}
+use Rattle.rz_pre.specs.Expanded.{too_long, ExpandInto, FirstTooLong, PutsInPlace}
+use Rattle.rz_pre.specs.Live.{are_bare, live_in, token_row, Live, Row}
+use Rattle.rz_pre.proofs.Made.{made_plain}
 use Rattle.rz_pre.proofs.One.{one_expansion}
 
 -- what was replaced so far, and what is left
@@ -32,8 +33,24 @@ module _ (live : Live) (tokens : List Token) where
       fails = λ fault x. r.fails fault (inr (front, e, x));
     }
 
+    -- the next token is replaced, and what stands in its place is put behind what was put out before
+    pub one_more_put : (after : List Token) → PutsInPlace live token done after → Replacing live tokens rest after
+    one_more_put after (front, e, is) = subst (Replacing live tokens rest) (sym is) (one_more front e)
+
     pub stopped : (fault : Fault) → IsTooLong live token → fault ≡ too_long token → FirstTooLong live tokens fault
     stopped fault long is = r.fails fault (inl (long, is))
+
+-- tokens of which none is a live macro are replaced by themselves
+pub all_bare : (rows : List Row) (tokens : List Token) → are_bare rows tokens ≡ true → ExpandInto (live_in rows) tokens tokens
+all_bare rows [] is = refl
+all_bare rows (token ∷ tokens) is = by (token_row rows token.shape) refl (all_bare rows tokens)
+  where
+    by : (o : Option ℕ) → token_row rows token.shape ≡ o → (are_bare rows tokens ≡ true → ExpandInto (live_in rows) tokens tokens)
+        → ExpandInto (live_in rows) (token ∷ tokens) (token ∷ tokens)
+    by None none more =
+        let later : are_bare rows tokens ≡ true = rw none at is in
+        (token ∷ [], tokens, refl, made_plain rows token (token ∷ []) none refl, more later)
+    by (Some k) some more = (let never : false ≡ true = rw some at is in absurd cc)
 
 -- At most one answer.
 
@@ -60,3 +77,7 @@ one_fault live (token ∷ tokens) one other (inl x) (inl y) = x.1 ∙ sym y.1
 one_fault live (token ∷ tokens) one other (inl x) (inr y) = absurd (never_long live token y.0 y.1 x.0)
 one_fault live (token ∷ tokens) one other (inr x) (inl y) = absurd (never_long live token x.0 x.1 y.0)
 one_fault live (token ∷ tokens) one other (inr x) (inr y) = one_fault live tokens one other x.2 y.2
+
+pub no_rest : (tokens : List Token) → length tokens ≡ 0 → tokens ≡ []
+no_rest [] none = refl
+no_rest (token ∷ tokens) none = absurd (omega (arith, none))

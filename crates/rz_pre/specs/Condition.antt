@@ -1,5 +1,5 @@
 -- The condition of an `#if` or `#elif`: what it asks, and its value. (MPW Rez.)
-use Rattle.std.specs.Prelude.{◌≡◌, ℕ, ℤ, pos, ◌≤◌, ◌⊎◌, Bool, true, false, ◌||◌, if◌then◌else◌, List, [], ◌∷◌, length, codes, Option, Some, None, Ok, option_map}
+use Rattle.std.specs.Prelude.{◌≡◌, ℕ, ℤ, pos, ◌≤◌, ◌⊎◌, Bool, true, false, not, ◌||◌, if◌then◌else◌, List, [], ◌∷◌, length, Option, Some, None, Ok, option_map}
 use Rattle.std.specs.Option.{is_some}
 use Rattle.std.specs.Str.{str_eq_ignore_ascii_case, str_to_ascii_lowercase}
 use Rattle.rz_core.specs.declared.fault.Fault.{Fault}
@@ -10,21 +10,20 @@ use Rattle.rz_lex.specs.declared.sign.Sign.TheVariants.{CloseParen, OpenParen}
 use Rattle.rz_lex.specs.declared.token.Shape.{Shape}
 use Rattle.rz_lex.specs.declared.token.Shape.TheVariants as shapes
 use Rattle.rz_lex.specs.declared.token.Token.{Token}
-use Rattle.rz_expr.specs.Environment.{Sight}
+use Rattle.rz_expr.specs.Environment.{predefined, Sight}
 use Rattle.rz_expr.specs.Grammar.{IsExpression}
+use Rattle.rz_expr.specs.Keyword.{is_keyword, spelling}
 use Rattle.rz_expr.specs.Term.{Term}
-use Rattle.rz_expr.specs.Value.{value_of}
+use Rattle.rz_expr.specs.Value.{is_zero, value_of}
 use Rattle.rz_expr.specs.Words.{role_of}
+use Rattle.rz_expr.specs.declared.keyword.Keyword.{Keyword}
+use Rattle.rz_expr.specs.declared.keyword.Keyword.TheVariants as keywords
 use Rattle.rz_expr.specs.declared.words.Role.{Role}
-use Rattle.rz_expr.specs.declared.words.Role.TheVariants.{Call, Fact}
+use Rattle.rz_expr.specs.declared.words.Role.TheVariants.{Call, Fact, Text}
 use Rattle.rz_pre.specs.Expanded.{ExpandInto, FirstTooLong}
 use Rattle.rz_pre.specs.Live.{Live}
 use Rattle.rz_pre.specs.declared.condition.Tool.{Tool}
 use Rattle.rz_pre.specs.declared.condition.Tool.TheVariants.{DeRez, Rez}
-
--- the same name, in whatever case
-abbrev pub is : List ℕ → List ℕ → Bool
-is word name = str_eq_ignore_ascii_case name word
 
 -- what is asked: the name behind `defined`, alone or in brackets, and what stands behind it
 
@@ -33,8 +32,7 @@ word_name (shapes.Word word) = Some word.bytes
 word_name other = None
 
 abbrev pub is_defined : Shape → Bool
-is_defined (shapes.Word word) = is (codes "defined") word.bytes
-is_defined other = false
+is_defined shape = is_keyword keywords.Defined shape
 
 abbrev pub opens : Shape → Bool
 opens (shapes.Sign OpenParen) = true
@@ -64,9 +62,13 @@ abbrev pub asked : List Token → Asked
 asked [] = None
 asked (first ∷ rest) = if is_defined first.shape then behind_defined rest else None
 
--- a word that always has a value
+-- the name is this keyword, in whatever case
+abbrev pub is_named : Keyword → List ℕ → Bool
+is_named keyword name = str_eq_ignore_ascii_case name (spelling keyword)
+
+-- a word that always has a value: `true`, `false` and the names of the tools
 abbrev pub has_value : List ℕ → Bool
-has_value name = is (codes "true") name || is (codes "false") name || is (codes "rez") name || is (codes "derez") name
+has_value name = is_some (predefined name) || is_named keywords.Rez name || is_named keywords.DeRez name
 
 -- the name is a live macro's, or always has a value
 abbrev pub is_known : Live → List ℕ → Bool
@@ -84,28 +86,28 @@ pub data Tells : Live → List Token → List Token → Type 0 where
   stays : {live : Live} {first : Token} {rest told : List Token} (back : List Token)
       → asked (first ∷ rest) ≡ None → Tells live rest back → told ≡ first ∷ back → Tells live (first ∷ rest) told
 
--- the value of a word that is left
+-- the value of a word that is left: 1 of the tool's name and of `true`, else 0
+abbrev pub own_keyword : Tool → Keyword
+own_keyword Rez = keywords.Rez
+own_keyword DeRez = keywords.DeRez
+
+abbrev pub is_true : Option ℤ → Bool
+is_true None = false
+is_true (Some value) = not (is_zero value)
+
 abbrev pub word_number : Tool → List ℕ → ℕ
-word_number Rez name = if is (codes "true") name || is (codes "rez") name then 1 else 0
-word_number DeRez name = if is (codes "true") name || is (codes "derez") name then 1 else 0
+word_number tool name = if is_named (own_keyword tool) name || is_true (predefined name) then 1 else 0
 
--- the name of a function that is a number, or that is a text; any other word that begins with `$$` is none
-abbrev pub is_number_function : Role → Bool
-is_number_function (Fact fact) = true
-is_number_function (Call function) = true
-is_number_function other = false
-
-unfoldable pub is_text_function : List ℕ → Bool
-is_text_function name =
-    is (codes "$$Name") name || is (codes "$$Date") name || is (codes "$$Time") name || is (codes "$$Version") name
-    || is (codes "$$Read") name || is (codes "$$Resource") name || is (codes "$$Format") name
-
-abbrev pub is_function : List ℕ → Bool
-is_function name = is_number_function (role_of name) || is_text_function name
+-- the name of a function that is a number or a text; any other word that begins with `$$` is none
+abbrev pub is_function : Role → Bool
+is_function (Fact fact) = true
+is_function (Call function) = true
+is_function (Text text) = true
+is_function other = false
 
 -- the tokens with each word as its number, unless one is the name of a function
 abbrev pub numbered_shape : Tool → Shape → Option Shape
-numbered_shape tool (shapes.Word word) = if is_function word.bytes then None else Some (shapes.Number (word_number tool word.bytes))
+numbered_shape tool (shapes.Word word) = if is_function (role_of word.bytes) then None else Some (shapes.Number (word_number tool word.bytes))
 numbered_shape tool other = Some other
 
 abbrev pub put_front : Mark → Option Shape → Option (List Token) → Option (List Token)

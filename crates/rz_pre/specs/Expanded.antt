@@ -28,3 +28,7 @@ abbrev pub FirstTooLong : Live → List Token → Fault → Type 0
 FirstTooLong live [] fault = ⊥
 FirstTooLong live (token ∷ tokens) fault =
     (IsTooLong live token × (fault ≡ too_long token)) ⊎ ((front : List Token) × ExpandsTo live token front × FirstTooLong live tokens fault)
+
+-- what stands in place of a token is put behind what was put out before
+abbrev pub PutsInPlace : Live → Token → List Token → List Token → Type 0
+PutsInPlace live token done after = (front : List Token) × ExpandsTo live token front × (after ≡ done ++ front)

@@ -7,7 +7,7 @@ use Rattle.rz_lex.specs.declared.raw_line.RawLine.{RawLine}
 use Rattle.rz_source.specs.Directive.{directive_of}
 use Rattle.rz_source.specs.declared.directive.Directive.{Directive}
 use Rattle.rz_source.specs.declared.directive.Directive.TheVariants as directives
-use Rattle.rz_pre.specs.Answers.{Then}
+use Rattle.rz_core.specs.Answers.{Then}
 use Rattle.rz_pre.specs.Line.{part_where, Does}
 use Rattle.rz_pre.specs.Program.{Failure, Includes, LineGoes, State, WithFiles}
 use Rattle.rz_pre.specs.declared.act.Act.{Act}
@@ -41,6 +41,12 @@ abbrev mutual
   lines_of_others (End last) lines = last ∷ lines
   lines_of_others (Else line body last) lines = line ∷ lines_of body (last ∷ lines)
   lines_of_others (Elif test body others) lines = test ∷ lines_of body (lines_of_others others lines)
+
+-- the same without the `#endif`, where the file ends
+abbrev pub lines_unclosed : Others → List RawLine
+lines_unclosed (End last) = []
+lines_unclosed (Else line body last) = line ∷ lines_of body []
+lines_unclosed (Elif test body others) = test ∷ lines_of body (lines_unclosed others)
 
 -- Each line is in its place by the word behind its `#`.
 

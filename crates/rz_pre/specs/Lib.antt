@@ -4,10 +4,11 @@ pub mod Macros
 pub mod Steps
 pub mod Expanded
 pub mod Condition
-pub mod Answers
 pub mod Line
 pub mod Program
 pub mod Reading
 pub mod Placed
 pub mod Unfolding
 pub mod Groups
+pub mod Lexed
+pub mod Definitions

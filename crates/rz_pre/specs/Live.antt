@@ -1,5 +1,5 @@
 -- The macros that are live at some moment. (MPW Rez.)
-use Rattle.std.specs.Prelude.{ℕ, suc, if◌then◌else◌, List, [], ◌∷◌, map, get_or, Option, None, option_map, unwrap_or}
+use Rattle.std.specs.Prelude.{ℕ, suc, Bool, true, not, ◌&&◌, is_some, if◌then◌else◌, List, [], ◌∷◌, map, get_or, Option, None, option_map, unwrap_or}
 use Rattle.std.specs.Str.{bytes_eq, str_to_ascii_lowercase}
 use Rattle.rz_lex.specs.declared.token.Shape.{Shape}
 use Rattle.rz_lex.specs.declared.token.Shape.TheVariants as shapes
@@ -63,3 +63,8 @@ body_at rows k = unwrap_or (row_at rows k).1 []
 abbrev pub token_row : List Row → Shape → Option ℕ
 token_row rows (shapes.Word word) = live_row rows (str_to_ascii_lowercase word.bytes)
 token_row rows other = None
+
+-- no token names a live macro
+abbrev pub are_bare : List Row → List Token → Bool
+are_bare rows [] = true
+are_bare rows (token ∷ tokens) = not (is_some (token_row rows token.shape)) && are_bare rows tokens

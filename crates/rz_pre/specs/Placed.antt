@@ -2,6 +2,7 @@
 use Rattle.std.specs.Prelude.{◌≡◌, ◌<◌, ℕ, true, List, length, Ok, Err}
 use Rattle.std.specs.List.{AllByRecursion}
 use Rattle.std.specs.declared.result.Result.{Result}
+use Rattle.rz_lex.specs.Within.{AreWithin}
 use Rattle.rz_core.specs.Message.{is_between, IsNameable}
 use Rattle.rz_core.specs.declared.fault.Fault.{Fault}
 use Rattle.rz_core.specs.declared.fault.Mark.{Mark}
@@ -24,10 +25,6 @@ AreOn mark tokens = AllByRecursion (λ token. token.mark ≡ mark) tokens
 abbrev pub PutsOn : Mark → Act → Type 0
 PutsOn mark (Put tokens) = AreOn mark tokens
 PutsOn mark act = Unit {0}
-
--- each token stands in one of so many files
-abbrev pub AreWithin : ℕ → List Token → Type 0
-AreWithin files tokens = AllByRecursion (λ token. token.mark.file < files) tokens
 
 -- each conditional that is open began in one of so many files
 abbrev pub AreOpenIn : ℕ → List Open → Type 0

@@ -45,12 +45,12 @@ alone nothing s = s
 abbrev pub together : {X : Type 0} → X → State → X × State
 together value s = (value, s)
 
--- what holds where a read failed
-abbrev pub OnReadFault : {X : Type 0} → Result X Halt → Type 0 → Type 0
-OnReadFault (Ok value) P = Unit {0}
-OnReadFault (Err (Refused fault)) P = Unit {0}
-OnReadFault (Err ReadFault) P = P
-OnReadFault (Err NoMemory) P = Unit {0}
+-- a read failed
+abbrev pub IsReadFault : {X : Type 0} → Result X Halt → Type 0
+IsReadFault (Ok value) = ⊥
+IsReadFault (Err (Refused fault)) = ⊥
+IsReadFault (Err ReadFault) = Unit {0}
+IsReadFault (Err NoMemory) = ⊥
 
 -- the name of the file that a line includes
 abbrev pub included_in : Act → Option (List ℕ)
@@ -74,7 +74,7 @@ IsUnrefused (Err NoMemory) = Unit {0}
 
 -- there is no read fault
 abbrev pub IsQuiet : {X : Type 0} → Result X Halt → Type 0
-IsQuiet result = OnReadFault result ⊥
+IsQuiet result = IsReadFault result → ⊥
 
 -- a name is among these
 abbrev pub is_among : List ℕ → List Word → Bool

@@ -1,13 +1,13 @@
 ghost use Rattle.std.specs.Prelude.{◌≡◌, ◌<◌, ◌≤◌, [], ℤ, Ok, Err, Some, length, IfOk, IfSome, MatchOption, option_map};
 ghost use Rattle.std.proofs.Common.{rules};
-ghost use Rattle.rz_pre.specs.Answers.{Meets};
+ghost use Rattle.rz_core.specs.Answers.{Meets};
 ghost use Rattle.rz_pre.specs.Line.{IsComputed};
 ghost use Rattle.rz_core.specs.declared.fault.Fault.{Fault};
 ghost use Rattle.rz_core.specs.declared.fault.Mark.{Mark};
 ghost use Rattle.rz_lex.specs.Printed.{token_of};
 ghost use Rattle.rz_lex.specs.declared.token.Shape.TheVariants as shapes;
 ghost use Rattle.rz_lex.specs.declared.token.Token.{Token};
-ghost use Rattle.rz_pre.specs.Condition.{answer, asked, behind_defined, has_value, in_brackets, is, is_defined, is_known, is_text_function, nothing_seen, numbered, numbered_shape, word_number, Computes, HasValue, Tells};
+ghost use Rattle.rz_pre.specs.Condition.{answer, asked, behind_defined, has_value, in_brackets, is_known, is_named, is_true, nothing_seen, numbered, numbered_shape, own_keyword, word_number, Computes, HasValue, Tells};
 ghost use Rattle.rz_pre.specs.Live.{live_in};
 ghost use Rattle.rz_pre.specs.declared.condition.Tool.{Tool};
 ghost use Rattle.rz_pre.specs.Macros.{rows_of};
@@ -16,7 +16,9 @@ use crate::copy::{copy_at, copy_of};
 use crate::expanded::expand_all;
 use crate::macros::Macros;
 use rz_core::{Fault, Kept, Mark, NoMemory, Stop, Word};
-use rz_expr::{Env, FactWord, Role, eval, read_expr, role_of};
+use rz_expr::{
+    Env, FactWord, Keyword, Role, eval, is_keyword, predefined, read_expr, role_of, spelling,
+};
 use rz_lex::{Shape, Sign, Token, Tokens};
 use std::alloc::Global;
 
@@ -75,7 +77,7 @@ pub fn compute_condition(
     ensures { Meets result (IsComputed (live_in (rows_of macros.now)) tool mark tokens.now) }
 {
     let told = tell(alloc, macros, tokens)?;
-    let replaced = expand_all(alloc, macros, told.as_slice())?;
+    let replaced = expand_all(alloc, macros, told)?;
     match computed(alloc, tool, &replaced)? {
         Some(value) => Ok(value),
         None => Err(Stop::Refused(Fault {
@@ -133,8 +135,16 @@ pub fn is_known(alloc: Global, macros: &Macros, name: &Word) -> Result<bool, NoM
 fn has_value(name: &Word) -> bool
     ensures { result ≡ has_value name.now.bytes }
 {
-    let name = name.bytes.as_slice();
-    is(b"true", name) || is(b"false", name) || is(b"rez", name) || is(b"derez", name)
+    predefined(name).is_some() || is_named(Keyword::Rez, name) || is_named(Keyword::DeRez, name)
+}
+
+/// Whether a name is this keyword, in whatever case.
+fn is_named(keyword: Keyword, name: &Word) -> bool
+    ensures { result ≡ is_named keyword name.now.bytes }
+{
+    name.bytes
+        .as_slice()
+        .eq_ignore_ascii_case(spelling(keyword))
 }
 
 /// The name that a question at the front asks for, and what stands behind the question.
@@ -144,7 +154,7 @@ fn asked(tokens: &[Token]) -> Option<(&Word, &[Token])>
 {
     match tokens {
         [first, rest @ ..] => {
-            if is_defined(first) {
+            if is_keyword(first, Keyword::Defined) {
                 behind_defined(rest)
             } else {
                 None
@@ -180,23 +190,6 @@ fn in_brackets(tokens: &[Token]) -> Option<(&Word, &[Token])>
         },
         _ => None,
     }
-}
-
-/// Whether it is the word `defined`.
-fn is_defined(token: &Token) -> bool
-    ensures { result ≡ is_defined token.now.shape }
-{
-    match &token.shape {
-        Shape::Word(word) => is(b"defined", word.bytes.as_slice()),
-        _ => false,
-    }
-}
-
-/// Whether a name is this word, in whatever case.
-fn is(word: &[u8], name: &[u8]) -> bool
-    ensures { result ≡ is word.now name.now }
-{
-    name.eq_ignore_ascii_case(word)
 }
 
 /// The value of tokens whose macros are replaced, where they have one.
@@ -251,41 +244,36 @@ fn numbered_shape(alloc: Global, tool: Tool, shape: &Shape) -> Result<Option<Sha
 {
     match shape {
         Shape::Word(word) => match role_of(word) {
-            Role::Fact(_) | Role::Call(_) => Ok(None),
-            _ => {
-                if is_text_function(word.bytes.as_slice()) {
-                    Ok(None)
-                } else {
-                    Ok(Some(Shape::Number(word_number(tool, word))))
-                }
-            }
+            Role::Fact(_) | Role::Call(_) | Role::Text(_) => Ok(None),
+            _ => Ok(Some(Shape::Number(word_number(tool, word)))),
         },
         other => Ok(Some(copy_of(alloc, other)?)),
     }
-}
-
-/// Whether it is the name of a function that is a text.
-#[tactic(auto, unfolding(crate::specs::Condition::is_text_function))]
-fn is_text_function(name: &[u8]) -> bool
-    ensures { result ≡ is_text_function name.now }
-{
-    is(b"$$Name", name)
-        || is(b"$$Date", name)
-        || is(b"$$Time", name)
-        || is(b"$$Version", name)
-        || is(b"$$Read", name)
-        || is(b"$$Resource", name)
-        || is(b"$$Format", name)
 }
 
 /// The value of a word that is left.
 fn word_number(tool: Tool, word: &Word) -> u32
     ensures { result ≡ word_number tool word.now.bytes }
 {
-    let name = word.bytes.as_slice();
-    let own = match tool {
-        Tool::Rez => is(b"rez", name),
-        Tool::DeRez => is(b"derez", name),
-    };
-    u32::from(is(b"true", name) || own)
+    u32::from(is_named(own_keyword(tool), word) || is_true(predefined(word)))
+}
+
+/// The keyword that is the tool's name.
+fn own_keyword(tool: Tool) -> Keyword
+    ensures { result ≡ own_keyword tool }
+{
+    match tool {
+        Tool::Rez => Keyword::Rez,
+        Tool::DeRez => Keyword::DeRez,
+    }
+}
+
+/// Whether it is a value other than 0.
+fn is_true(value: Option<i32>) -> bool
+    ensures { result ≡ is_true value }
+{
+    match value {
+        Some(value) => value != 0,
+        None => false,
+    }
 }

@@ -1,7 +1,7 @@
 ghost use Rattle.std.specs.Prelude.{◌≡◌, IfOk};
 ghost use Rattle.rz_lex.specs.Printed.{token_of};
 
-use rz_core::{Bytes, Mark, NoMemory, Word};
+use rz_core::{Bytes, Mark, NoMemory};
 use rz_lex::{Shape, Token, Tokens};
 use std::alloc::Global;
 
@@ -18,21 +18,12 @@ pub fn copy_of(alloc: Global, shape: &Shape) -> Result<Shape, NoMemory>
     ensures { IfOk result (λ copy. copy ≡ shape.now) }
 {
     match shape {
-        Shape::Word(word) => Ok(Shape::Word(copy_word(alloc, word)?)),
+        Shape::Word(word) => Ok(Shape::Word(word.copy(alloc)?)),
         Shape::Number(number) => Ok(Shape::Number(*number)),
         Shape::Literal(bytes) => Ok(Shape::Literal(Bytes::of(alloc, bytes.as_slice())?)),
         Shape::Text(bytes) => Ok(Shape::Text(Bytes::of(alloc, bytes.as_slice())?)),
         Shape::Sign(sign) => Ok(Shape::Sign(*sign)),
     }
-}
-
-/// The same word again.
-pub fn copy_word(alloc: Global, word: &Word) -> Result<Word, NoMemory>
-    ensures { IfOk result (λ copy. copy ≡ word.now) }
-{
-    Ok(Word {
-        bytes: Bytes::of(alloc, word.bytes.as_slice())?,
-    })
 }
 
 /// The same tokens again.

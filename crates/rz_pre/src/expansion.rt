@@ -19,27 +19,11 @@ const LIMIT: u32 = 65_536;
 #[derive(Clone, Copy, Debug, Drop, PartialEq, Eq)]
 pub struct TooLong;
 
-/// What stands in place of a token, each token of it at the token's place: the token itself, or for a word
-/// that is a live macro the expansions of the macro's tokens, in which that macro is hidden. The refusal
-/// comes exactly where more than 65,536 tokens are handled, the word and every token of each replacement
-/// counted. (MPW Rez.)
-pub fn expand(alloc: Global, macros: &Macros, token: &Token) -> Result<Tokens, Stop<TooLong>>
-    ensures tokens { IfOk result (ExpandsTo (live_in (rows_of macros.now)) token.now) }
-    ensures long { OnFault result (λ fault. IsTooLong (live_in (rows_of macros.now)) token.now) }
-{
-    let mut done = Tokens::new(alloc);
-    match macros.find_token(alloc, &token.shape)? {
-        None => {
-            done.push(copy_at(alloc, &token.shape, token.mark)?)?;
-            Ok(done)
-        }
-        Some(index) => replace(alloc, macros, index, token),
-    }
-}
-
-/// The expansion of a word that is the live macro at a position. The macros that are being replaced stand
-/// in `frames`, outermost first, each with the position of its next token.
-fn replace(
+/// What stands in place of a word that is the live macro at a position, each token of it at the word's place:
+/// the expansions of the macro's tokens, in which that macro is hidden. The refusal comes exactly where more
+/// than 65,536 tokens are handled, the word and every token of each replacement counted. The macros that are
+/// being replaced stand in `frames`, outermost first, each with the position of its next token. (MPW Rez.)
+pub fn replace(
     alloc: Global,
     macros: &Macros,
     index: usize,

@@ -1,16 +1,17 @@
-ghost use Rattle.std.specs.Prelude.{◌≡◌, ◌↔◌, ℕ, true, false, List, Option, Result};
+ghost use Rattle.std.specs.Prelude.{◌≡◌, ◌↔◌, ◌∷◌, ◌++◌, ℕ, true, false, List, Option, None, Result, reverse};
 ghost use Rattle.rz_core.specs.declared.fault.Fault.{Fault};
 ghost use Rattle.rz_folder.specs.Folder.{Files};
 ghost use Rattle.rz_lex.specs.declared.token.Shape.{Shape};
+ghost use Rattle.rz_pre.specs.Definitions.{definitions, LeavesName};
 ghost use Rattle.rz_pre.specs.Expand.{Expansion};
-ghost use Rattle.rz_pre.specs.Groups.{is_group, lines_of, Group, GroupGoes};
+ghost use Rattle.rz_pre.specs.Groups.{is_group, lines_of, lines_unclosed, waiting, Choice, Done, Group, GroupGoes, Others};
 ghost use Rattle.rz_pre.specs.Live.{live_in, Live, Row};
 ghost use Rattle.rz_lex.specs.declared.raw_line.RawLine.{RawLine};
-ghost use Rattle.rz_pre.specs.Answers.{Then};
+ghost use Rattle.rz_core.specs.Answers.{Then};
 ghost use Rattle.rz_pre.specs.Line.{is_kept};
 ghost use Rattle.rz_pre.specs.declared.conditional.Open.{Open};
-ghost use Rattle.rz_pre.specs.Program.{innermost, start, Failure, IncludedGoes, LinesGo, ProgramGoes, State};
-ghost use Rattle.rz_pre.specs.Unfolding.{outcome, EachActs, Entry, ProgramUnfolds};
+ghost use Rattle.rz_pre.specs.Program.{fails, innermost, open_if, start, Failure, IncludedGoes, LinesGo, ProgramGoes, State};
+ghost use Rattle.rz_pre.specs.Unfolding.{behind_all, outcome, EachActs, Entry, ProgramUnfolds};
 ghost use Rattle.rz_pre.specs.declared.condition.Tool.{Tool};
 ghost use Rattle.rz_pre.specs.declared.program.Def.{Def};
 
@@ -71,4 +72,37 @@ pub fn chosen_parts()
         → is_group group ≡ true → is_kept (innermost opens) ≡ false
         → LinesGo (IncludedGoes tool files paths levels) tool rest ending opens s answer
         ↔ LinesGo (IncludedGoes tool files paths levels) tool (lines_of group rest) ending opens s answer }
+{}
+
+/// A law, with nothing to run: behind some entries of a program a name stands for what the last of its
+/// definitions gives it, of the words or of a line before, or for itself where that one undefines it or none
+/// is of that name. So what is live is always a finite list of rows, and each token has an expansion: where one
+/// is refused as too long, it has an expansion, for which more tokens are handled.
+pub fn last_definition()
+    ensures decides { (defs : List Def) (entries : List Entry) (name : List ℕ) (front rear : List Row) (body : Option (List Shape))
+        → definitions defs entries ≡ front ++ (name, body) ∷ rear → LeavesName name rear
+        → (behind_all entries (start defs)).live name ≡ body }
+    ensures itself { (defs : List Def) (entries : List Entry) (name : List ℕ)
+        → LeavesName name (definitions defs entries) → (behind_all entries (start defs)).live name ≡ None }
+    ensures finite { (defs : List Def) (entries : List Entry)
+        → (behind_all entries (start defs)).live ≡ live_in (reverse (definitions defs entries)) }
+    ensures expands { (defs : List Def) (entries : List Entry) (shape : Shape)
+        → (out : List Shape) × (work : ℕ) × Expansion (behind_all entries (start defs)).live shape out work }
+{}
+
+/// A law, with nothing to run: a conditional whose `#endif` is missing where the file ends is read as one that
+/// has it, and then is 105 with the mark of the line that begins it; and where the lines around it aren't read,
+/// it is 105 alone.
+pub fn unclosed_conditional()
+    ensures read { (tool : Tool) (files : Files) (paths : List (List ℕ)) (levels : ℕ) (test : RawLine) (first : Group) (others : Others)
+        (opens : List Open) (s : State) (answer : Result State Failure)
+        → is_group (Choice test first others Done) ≡ true → is_kept (innermost opens) ≡ true
+        → Then (GroupGoes (IncludedGoes tool files paths levels) tool (Choice test first others Done) s)
+        (λ t answer. answer ≡ fails (open_if (waiting test.mark)) t) answer
+        ↔ LinesGo (IncludedGoes tool files paths levels) tool (test ∷ lines_of first (lines_unclosed others)) None opens s answer }
+    ensures passed { (tool : Tool) (files : Files) (paths : List (List ℕ)) (levels : ℕ) (test : RawLine) (first : Group) (others : Others)
+        (opens : List Open) (s : State) (answer : Result State Failure)
+        → is_group (Choice test first others Done) ≡ true → is_kept (innermost opens) ≡ false
+        → (answer ≡ fails (open_if (waiting test.mark)) s)
+        ↔ LinesGo (IncludedGoes tool files paths levels) tool (test ∷ lines_of first (lines_unclosed others)) None opens s answer }
 {}

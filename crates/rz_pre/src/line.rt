@@ -2,7 +2,7 @@ ghost use Rattle.std.specs.Prelude.{◌≡◌, ◌+◌, IfOk, Ok};
 ghost use Rattle.rz_core.specs.Stop.{OnFault};
 ghost use Rattle.rz_pre.specs.Placed.{IsSourceFault};
 ghost use Rattle.rz_core.specs.declared.fault.Fault.{Fault};
-ghost use Rattle.rz_pre.specs.Answers.{Meets};
+ghost use Rattle.rz_core.specs.Answers.{Meets};
 ghost use Rattle.rz_source.specs.Directive.{directive_in, unblanked};
 ghost use Rattle.rz_pre.specs.Line.{bad_directive, behind_first, defined, directive_word, ended, free_word, included, is_kept, open_part, or_bad, otherwise, part_of, passed_over, simple, stray, tested, undefined, Directs, Does, HasCondition, IsCut, IsReplaced, Obeys, PutsOut, Says, Turns};
 ghost use Rattle.rz_pre.specs.Live.{live_in};
@@ -11,7 +11,7 @@ ghost use Rattle.rz_pre.specs.Macros.{rows_of};
 use crate::act::Act;
 use crate::condition::{Tool, compute_condition, is_known};
 use crate::conditional::{Open, Part};
-use crate::copy::{copy_all, copy_word};
+use crate::copy::copy_all;
 use crate::expanded::expand_all;
 use crate::macros::Macros;
 use rz_core::{Bytes, Fault, Kept, Mark, NoMemory, Stop, Word};
@@ -37,7 +37,7 @@ pub fn act_of(
         Some(text) => direct(alloc, macros, tool, around, line.mark, text),
         None => {
             if is_kept(around) {
-                put_out(alloc, macros, line.mark, line.bytes.as_slice())
+                put_out(alloc, macros, line)
             } else {
                 Ok(Act::Nothing)
             }
@@ -56,16 +56,24 @@ fn is_kept(around: Option<Open>) -> bool
 }
 
 /// A line that is no directive.
-fn put_out(alloc: Global, macros: &Macros, mark: Mark, bytes: &[u8]) -> Result<Act, Stop<Fault>>
-    ensures act { Meets result (PutsOut (live_in (rows_of macros.now)) mark bytes.now) }
-    ensures nameable { OnFault result (IsSourceFault (mark.file + 1)) }
+fn put_out(alloc: Global, macros: &Macros, line: &RawLine) -> Result<Act, Stop<Fault>>
+    ensures act { Meets result (PutsOut (live_in (rows_of macros.now)) line.now.mark line.now.bytes) }
+    ensures nameable { OnFault result (IsSourceFault (line.now.mark.file + 1)) }
 {
-    let tokens = cut_bytes(alloc, mark, bytes)?;
-    let replaced = replace(alloc, macros, tokens.as_slice())?;
+    let tokens = cut_line(alloc, line)?;
+    let replaced = replace(alloc, macros, tokens)?;
     Ok(Act::Put(replaced))
 }
 
-/// The tokens of bytes of a line.
+/// The tokens of a line.
+fn cut_line(alloc: Global, line: &RawLine) -> Result<Tokens, Stop<Fault>>
+    ensures act { Meets result (IsCut line.now.mark line.now.bytes) }
+    ensures nameable { OnFault result (IsSourceFault (line.now.mark.file + 1)) }
+{
+    cut(alloc, line)
+}
+
+/// The tokens of a part of a line.
 fn cut_bytes(alloc: Global, mark: Mark, bytes: &[u8]) -> Result<Tokens, Stop<Fault>>
     ensures act { Meets result (IsCut mark bytes.now) }
     ensures nameable { OnFault result (IsSourceFault (mark.file + 1)) }
@@ -74,12 +82,12 @@ fn cut_bytes(alloc: Global, mark: Mark, bytes: &[u8]) -> Result<Tokens, Stop<Fau
         bytes: Bytes::of(alloc, bytes)?,
         mark,
     };
-    cut(alloc, &line)
+    cut_line(alloc, &line)
 }
 
 /// The tokens with their macros replaced.
-fn replace(alloc: Global, macros: &Macros, tokens: &[Token]) -> Result<Tokens, Stop<Fault>>
-    ensures { Meets result (IsReplaced (live_in (rows_of macros.now)) tokens.now) }
+fn replace(alloc: Global, macros: &Macros, tokens: Tokens) -> Result<Tokens, Stop<Fault>>
+    ensures { Meets result (IsReplaced (live_in (rows_of macros.now)) tokens) }
 {
     expand_all(alloc, macros, tokens)
 }
@@ -337,7 +345,7 @@ fn free_word(alloc: Global, shape: &Shape) -> Result<Option<Word>, NoMemory>
     ensures { IfOk result (λ word. word ≡ free_word shape.now) }
 {
     match shape {
-        Shape::Word(word) if role_of(word).is_label() => Ok(Some(copy_word(alloc, word)?)),
+        Shape::Word(word) if role_of(word).is_label() => Ok(Some(word.copy(alloc)?)),
         _ => Ok(None),
     }
 }

@@ -1,4 +1,4 @@
-ghost use Rattle.std.specs.Prelude.{◌≡◌, ℕ, List, [], IfOk, OnOk, option_map, is_some};
+ghost use Rattle.std.specs.Prelude.{◌≡◌, ◌≤◌, ℕ, List, [], length, IfOk, OnOk, option_map, is_some};
 ghost use Rattle.std.specs.Str.{str_to_ascii_lowercase};
 ghost use Rattle.rz_pre.specs.Live.{body_at, live_in, live_row, put, shapes_of, token_row};
 ghost use Rattle.rz_pre.specs.Macros.{rows_of};
@@ -8,6 +8,9 @@ use indexmap::IndexMap;
 use rz_core::{Bytes, NoMemory, Word, Words};
 use rz_lex::{Shape, Token, Tokens};
 use std::alloc::Global;
+
+/// The most bytes of a name that is looked up without memory.
+const SHORT: usize = 64;
 
 /// The macros that were defined or undefined so far, by their names in lower case, in the order in which
 /// each was first named. One that is undefined has no tokens. (MPW Rez.)
@@ -21,6 +24,17 @@ fn lower(alloc: Global, name: &Word) -> Result<Vec<u8>, NoMemory>
     ensures { IfOk result (λ lower. lower.items ≡ str_to_ascii_lowercase name.now.bytes) }
 {
     Ok(name.bytes.as_slice().to_ascii_lowercase(alloc)?)
+}
+
+/// A short name in lower case, written at the front of a buffer.
+fn lower_short<'a>(front: &'a mut [u8; SHORT], name: &[u8]) -> &'a [u8]
+    requires { length name.now ≤ 64 }
+    ensures { result.now ≡ str_to_ascii_lowercase name.now }
+{
+    let lower = &mut front[..name.len()];
+    lower.copy_from_slice(name);
+    lower.make_ascii_lowercase();
+    lower
 }
 
 impl Macros {
@@ -60,17 +74,26 @@ impl Macros {
         Ok(words)
     }
 
-    /// The position of a macro that is live. Case doesn't matter.
+    /// The position of a macro that is live. Case doesn't matter. It takes memory only for a name of more than
+    /// 64 bytes, and none where no macro was ever named.
     pub fn find(&self, alloc: Global, name: &Word) -> Result<Option<usize>, NoMemory>
         ensures { IfOk result (λ found. found ≡ live_row (rows_of self.now) (str_to_ascii_lowercase name.now.bytes)) }
     {
+        if self.held.is_empty() {
+            return Ok(None);
+        }
+        let bytes = name.bytes.as_slice();
+        if bytes.len() <= SHORT {
+            let mut front = [0; SHORT];
+            return Ok(self.live_at(lower_short(&mut front, bytes)));
+        }
         let key = lower(alloc, name)?;
         Ok(self.live_at(&key))
     }
 
     /// The position of a macro that is live, by its name in lower case.
-    fn live_at(&self, name: &Vec<u8>) -> Option<usize>
-        ensures { result ≡ live_row (rows_of self.now) name.now.items }
+    fn live_at(&self, name: &[u8]) -> Option<usize>
+        ensures { result ≡ live_row (rows_of self.now) name.now }
     {
         match self.held.get_full(name) {
             Some((index, _, body)) => { if body.is_some() { Some(index) } else { None } }

@@ -3,10 +3,11 @@ ghost use Rattle.std.specs.String.{string_bytes};
 ghost use Rattle.rz_core.specs.Message.{IsMarked};
 ghost use Rattle.rz_core.specs.Stop.{OnFault};
 ghost use Rattle.rz_pre.specs.Placed.{IsSourceFault, OnRefused};
-ghost use Rattle.rz_folder.specs.Counts.{Rose};
-ghost use Rattle.rz_pre.specs.Answers.{Meets};
+ghost use Rattle.rz_folder.specs.OnlyReads.{OnlyReads};
+ghost use Rattle.rz_core.specs.Answers.{Meets};
+ghost use Rattle.rz_pre.specs.Lexed.{IsLexedReading};
 ghost use Rattle.rz_pre.specs.Program.{bad_text, file_of, missing_file, names_of, utf8_name, HasText, Opens};
-ghost use Rattle.rz_pre.specs.Reading.{state_of, together, IsUnrefused, Leaves, OnReadFault};
+ghost use Rattle.rz_pre.specs.Reading.{state_of, together, IsReadFault, IsUnrefused, Leaves};
 
 use crate::reading::{Halt, Reading};
 use rz_core::{Bytes, Fault, FileNames, Kept, Mark, NoMemory, Stop, from_roman};
@@ -29,12 +30,10 @@ pub fn open_file<F: Folder>(
         Leaves together result (state_of reading.new) (Opens files names.now (missing_file mark kept.now) (state_of reading.old))) }
     ensures more { OnOk result (length reading.new.files ≡ length reading.old.files + 1) }
     ensures tokens { reading.new.tokens ≡ reading.old.tokens }
+    ensures lexed { IsLexedReading reading.old → IsLexedReading reading.new }
     ensures nameable { OnRefused result (length reading.new.files) }
     ensures short { IfOk result (λ text. length text < 2 ^ 32) }
-    ensures unchanged { F.files folder.new ≡ F.files folder.old }
-    ensures counted { F.read_faults folder.old ≤ F.read_faults folder.new }
-    ensures other_count { F.write_faults folder.new ≡ F.write_faults folder.old }
-    ensures cause { OnReadFault result (Rose (F.read_faults folder.old) (F.read_faults folder.new)) }
+    ensures reads { OnlyReads F.files F.read_faults F.write_faults folder.old folder.new (IsReadFault result) }
 {
     match find(alloc, folder, names)? {
         Some((name, source)) => {
@@ -55,10 +54,7 @@ fn find<'a, F: Folder>(
     ensures found { IfSome (F.files folder.old) (λ files. IfOk result (λ found.
         option_map (λ found. (found.0.now, found.1)) found ≡ file_of files names.now)) }
     ensures short { IfOk result (λ found. IfSome found (λ found. length found.1 < 2 ^ 32)) }
-    ensures unchanged { F.files folder.new ≡ F.files folder.old }
-    ensures counted { F.read_faults folder.old ≤ F.read_faults folder.new }
-    ensures other_count { F.write_faults folder.new ≡ F.write_faults folder.old }
-    ensures cause { OnReadFault result (Rose (F.read_faults folder.old) (F.read_faults folder.new)) }
+    ensures reads { OnlyReads F.files F.read_faults F.write_faults folder.old folder.new (IsReadFault result) }
     ensures no_rule { IsUnrefused result }
 {
     let mut k = 0;

@@ -1,10 +1,13 @@
 ghost use Rattle.std.specs.Prelude.{◌≡◌, ℕ, ◌+◌, ◌<◌, ◌≤◌, ◌^◌, [], length, reverse, Result, Err, IfOk, IfSome, OnOk};
+ghost use Rattle.rz_lex.specs.Lexeme.{AreLexed};
+ghost use Rattle.rz_pre.specs.Lexed.{HaveLexedTexts, IsLexedReading};
 ghost use Rattle.rz_pre.specs.Live.{live_in};
 ghost use Rattle.rz_pre.specs.Macros.{rows_of};
 ghost use Rattle.rz_folder.specs.Counts.{Rose};
+ghost use Rattle.rz_folder.specs.OnlyReads.{OnlyReads};
 ghost use Rattle.rz_pre.specs.Placed.{AreOpenIn, IsPlaced, IsSourceFault, OnRefused, StandsInFiles};
 ghost use Rattle.rz_pre.specs.Program.{ends, live_after, open_if, start, too_deep, Enters, Failure, IncludedGoes, NamedGoes, NamesGo, ProgramGoes, State, TextGoes};
-ghost use Rattle.rz_pre.specs.Reading.{alone, state_of, together, Finishes, Gave, IsProgram, IsQuiet, Leaves, Matches, OnReadFault};
+ghost use Rattle.rz_pre.specs.Reading.{alone, state_of, together, Finishes, Gave, IsProgram, IsQuiet, IsReadFault, Leaves, Matches};
 ghost use Rattle.rz_pre.specs.declared.program.PreFault.TheVariants.{ReadFault};
 
 use crate::condition::Tool;
@@ -17,7 +20,7 @@ use crate::program::{Defs, PreFault, Program};
 use crate::reading::{Halt, Reading, step};
 use rz_core::{Bytes, Fault, FileNames, Kept, Mark, NoMemory};
 use rz_folder::Folder;
-use rz_lex::{Position, every_text_has_lines, next_line};
+use rz_lex::{Position, every_text_has_lines, next_line, tokens_are_lexed};
 use std::alloc::Global;
 
 /// How many levels deep a file on level 1 may include files.
@@ -48,12 +51,11 @@ fn read_file<F: Folder>(
     ensures placed { OnOk result (IsPlaced reading.new) }
     ensures more { OnOk result (length reading.old.files ≤ length reading.new.files) }
     ensures nameable { OnRefused result (length reading.new.files) }
-    ensures unchanged { F.files folder.new ≡ F.files folder.old }
-    ensures counted { F.read_faults folder.old ≤ F.read_faults folder.new }
-    ensures other_count { F.write_faults folder.new ≡ F.write_faults folder.old }
-    ensures cause { OnReadFault result (Rose (F.read_faults folder.old) (F.read_faults folder.new)) }
+    ensures lexed { IsLexedReading reading.old → OnOk result (IsLexedReading reading.new) }
+    ensures reads { OnlyReads F.files F.read_faults F.write_faults folder.old folder.new (IsReadFault result) }
 {
     every_text_has_lines();
+    tokens_are_lexed();
     let mut opens: Vec<Open> = Vec::new(alloc);
     let mut place = Position {
         rest: text,
@@ -140,10 +142,8 @@ fn open_included<F: Folder>(
     ensures more { OnOk result (length reading.new.files ≡ length reading.old.files + 1) }
     ensures tokens { reading.new.tokens ≡ reading.old.tokens }
     ensures nameable { OnRefused result (length reading.new.files) }
-    ensures unchanged { F.files folder.new ≡ F.files folder.old }
-    ensures counted { F.read_faults folder.old ≤ F.read_faults folder.new }
-    ensures other_count { F.write_faults folder.new ≡ F.write_faults folder.old }
-    ensures cause { OnReadFault result (Rose (F.read_faults folder.old) (F.read_faults folder.new)) }
+    ensures lexed { IsLexedReading reading.old → IsLexedReading reading.new }
+    ensures reads { OnlyReads F.files F.read_faults F.write_faults folder.old folder.new (IsReadFault result) }
 {
     if levels == 0 {
         return Err(Halt::Refused(too_deep(mark)));
@@ -166,10 +166,8 @@ fn read_names<F: Folder>(
     ensures placed { OnOk result (IsPlaced reading.new) }
     ensures more { OnOk result (length reading.old.files ≤ length reading.new.files) }
     ensures nameable { OnRefused result (length reading.new.files) }
-    ensures unchanged { F.files folder.new ≡ F.files folder.old }
-    ensures counted { F.read_faults folder.old ≤ F.read_faults folder.new }
-    ensures other_count { F.write_faults folder.new ≡ F.write_faults folder.old }
-    ensures cause { OnReadFault result (Rose (F.read_faults folder.old) (F.read_faults folder.new)) }
+    ensures lexed { IsLexedReading reading.old → OnOk result (IsLexedReading reading.new) }
+    ensures reads { OnlyReads F.files F.read_faults F.write_faults folder.old folder.new (IsReadFault result) }
 {
     let mut k = 0;
     while k < names.len() {
@@ -193,10 +191,8 @@ fn read_named<F: Folder>(
     ensures placed { OnOk result (IsPlaced reading.new) }
     ensures more { OnOk result (length reading.old.files ≤ length reading.new.files) }
     ensures nameable { OnRefused result (length reading.new.files) }
-    ensures unchanged { F.files folder.new ≡ F.files folder.old }
-    ensures counted { F.read_faults folder.old ≤ F.read_faults folder.new }
-    ensures other_count { F.write_faults folder.new ≡ F.write_faults folder.old }
-    ensures cause { OnReadFault result (Rose (F.read_faults folder.old) (F.read_faults folder.new)) }
+    ensures lexed { IsLexedReading reading.old → OnOk result (IsLexedReading reading.new) }
+    ensures reads { OnlyReads F.files F.read_faults F.write_faults folder.old folder.new (IsReadFault result) }
 {
     let file = reading.files.len();
     let mut own = FileNames::new(alloc);
@@ -241,10 +237,8 @@ fn read_all<F: Folder>(
         (ProgramGoes files setting.entry.tool names.now setting.entry.paths.now defs.now)) }
     ensures placed { OnOk result (IsPlaced reading.new) }
     ensures nameable { OnRefused result (length reading.new.files) }
-    ensures unchanged { F.files folder.new ≡ F.files folder.old }
-    ensures counted { F.read_faults folder.old ≤ F.read_faults folder.new }
-    ensures other_count { F.write_faults folder.new ≡ F.write_faults folder.old }
-    ensures cause { OnReadFault result (Rose (F.read_faults folder.old) (F.read_faults folder.new)) }
+    ensures lexed { HaveLexedTexts defs.now → OnOk result (IsLexedReading reading.new) }
+    ensures reads { OnlyReads F.files F.read_faults F.write_faults folder.old folder.new (IsReadFault result) }
 {
     define_all(alloc, defs, &mut reading.macros)?;
     read_names(alloc, folder, setting, names, reading)
@@ -255,6 +249,7 @@ fn finish(alloc: Global, reading: Reading, ended: Result<(), Halt>) -> Result<Pr
     requires placed { OnOk ended (IsPlaced reading) }
     requires nameable { OnRefused ended (length reading.files) }
     ensures finished { Finishes ended (state_of reading) result }
+    ensures lexed { OnOk ended (IsLexedReading reading) → IfOk result (λ program. AreLexed program.tokens) }
     ensures stands { StandsInFiles result }
 {
     match ended {
@@ -296,6 +291,10 @@ fn into_program(alloc: Global, reading: Reading) -> Result<Program, NoMemory>
 /// - 114 for a condition with more than 1,024 tokens behind its macros, with the name of a function, that is no
 ///   expression or has no value.
 ///
+/// Where the texts of the definitions were cut from lines, each token of the program is one that a line can be
+/// cut into, whatever the folder tells: a word of at most 255 bytes, a number below 2^32, a literal of one to
+/// four bytes, a text or a sign.
+///
 /// A read fault comes only where the folder's count of read faults rose. No file changes. (MPW Rez.)
 pub fn preprocess<F: Folder>(
     alloc: Global,
@@ -309,6 +308,7 @@ pub fn preprocess<F: Folder>(
     ensures every { IfSome (F.files folder.old) (λ files. (answer : Result State Failure)
         → ProgramGoes files tool names.now paths.now defs.now answer → Matches result answer) }
     ensures stands { StandsInFiles result }
+    ensures lexed { HaveLexedTexts defs.now → IfOk result (λ program. AreLexed program.tokens) }
     ensures unchanged { F.files folder.new ≡ F.files folder.old }
     ensures counted { F.read_faults folder.old ≤ F.read_faults folder.new }
     ensures other_count { F.write_faults folder.new ≡ F.write_faults folder.old }

@@ -4,21 +4,27 @@ use Rattle.std.specs.Prelude.{◌==◌, ◌&&◌, ◌||◌, ◌/◌, ◌%◌, na
 use Rattle.std.specs.Int.{w16, w32}
 use Rattle.std.specs.List.{AllByRecursion}
 use Rattle.std.proofs.lemmas.Int.{int_wrap_fits}
+use Rattle.std.proofs.lemmas.List.{append-nil}
 use Rattle.std.proofs.lemmas.List.Concat.{flat_map-cons}
 use Rattle.rz_expr.specs.Grammar.{start_of, Derives, IsExpression, Operand}
 use Rattle.rz_expr.specs.Term.{Constant, Term}
+use Rattle.rz_expr.specs.Attribute.{attribute_word, bit_of, setting_word}
+use Rattle.rz_expr.specs.declared.attribute.Attribute as words
+use Rattle.rz_expr.specs.declared.attribute.Attribute.TheVariants.{Changed, Locked, Preload, Protected, Purgeable, SystemHeap}
 use Rattle.rz_lex.specs.Printed.{token_of, word_of}
 use Rattle.rz_lex.specs.declared.sign.Sign.TheVariants as signs
 use Rattle.rz_lex.specs.declared.token.Shape.{Shape}
 use Rattle.rz_lex.specs.declared.token.Shape.TheVariants as shapes
 use Rattle.rz_lex.specs.declared.token.Token.{Token}
-use Rattle.rz_stmt.specs.Head.{cleared_by, set_by, AreAttributes, Attribute, IsAttribute, IsHeadExpression, IsRest, Set}
-use Rattle.rz_stmt.specs.Limit.{is_text}
-use Rattle.rz_stmt.specs.Piece.{is_close_paren, is_comma, is_piece, parens_behind, AreJoined}
-use Rattle.rz_stmt.specs.Text.{part_in, parts_in, text_in, with_part}
-use Rattle.rz_show.specs.Statement.{attribute_word, attributes_of, behind_commas, id_shapes, id_term, name_part, name_pieces, text_parts, text_shapes}
+use Rattle.rz_brackets.specs.Limit.{is_text}
+use Rattle.rz_brackets.specs.Pieces.{divides, has_divider, AreCut, Parted}
+use Rattle.rz_brackets.specs.Statements.{open_behind, open_behind_all}
+use Rattle.rz_brackets.specs.declared.pieces.Divider.TheVariants.{CloseParen, Comma}
+use Rattle.rz_data.specs.Head.{AreAttributes, Attribute, IsAttribute, IsHeadExpression, IsRest, Set}
+use Rattle.rz_types.specs.Text.{part_in, parts_in, text_in, with_part}
+use Rattle.rz_show.specs.Statement.{attribute_part, attributes_of, behind_commas, id_shapes, id_term, name_part, name_pieces, text_parts, text_shapes}
 use Rattle.rz_show.proofs.Split.{front_and_back, none_left, one_and_more, shapes_in}
-use Rattle.rz_show.proofs.Texts.{by_test}
+use Rattle.rz_core.proofs.Tests.{by_test}
 
 -- Shapes that stand inside a piece of a head: no commas, brackets and semicolons; and those that stand in a head.
 
@@ -26,6 +32,9 @@ abbrev pub is_inner : Shape → Bool
 is_inner (shapes.Sign signs.Minus) = true
 is_inner (shapes.Sign sign) = false
 is_inner shape = true
+
+abbrev pub is_comma : Shape → Bool
+is_comma shape = divides Comma shape
 
 abbrev pub is_flat : Shape → Bool
 is_flat shape = is_inner shape || is_comma shape
@@ -73,8 +82,9 @@ pub record AreShownAttributes (attributes : List (Shape × Attribute)) : Type 0 
 shown_both : {xs ys : List (Shape × Attribute)} → AreShownAttributes xs → AreShownAttributes ys → AreShownAttributes (xs ++ ys)
 shown_both {xs} {ys} front back = record { each = all_both IsShownAttribute xs ys front.each back.each }
 
-shown_word : (attr bit : ℕ) (word : List ℕ) → ((token : Token) → token.shape ≡ word_of word → IsAttribute (token ∷ []) (Set bit)) → AreShownAttributes (attribute_word attr bit word)
-shown_word attr bit word means = by_test (AreShownAttributes (attribute_word attr bit word)) (attr / bit % 2 == 1)
+shown_word : (attr : ℕ) (attribute : words.Attribute) → ((token : Token) → token.shape ≡ word_of (setting_word attribute) → IsAttribute (token ∷ []) (Set (bit_of attribute)))
+    → AreShownAttributes (attribute_part attr attribute)
+shown_word attr attribute means = by_test (AreShownAttributes (attribute_part attr attribute)) (attr / bit_of attribute % 2 == 1)
     (λ h. rw h (record { each = (record { inner = refl; no_text = refl; means = means }, tt) }))
     (λ h. rw h (record { each = tt }))
 
@@ -86,16 +96,16 @@ number_term token n is small =
     Derives.operand (rw is (ap (λ (z : ℤ). Operand (Constant z)) (int_wrap_fits w32 (pos n) (omega arith))))
 
 pub shown_attributes : (attr : ℕ) → attr < 256 → AreShownAttributes (attributes_of attr)
-unfolding set_by cleared_by
+unfolding attribute_word
 shown_attributes attr small = by_test (AreShownAttributes (attributes_of attr)) (attr == 0)
     (λ h. rw h (record { each = tt }))
     (λ h. by_test (AreShownAttributes (attributes_of attr)) (nat_le 128 attr || (attr % 2 == 1))
     (λ k. rw (h, k) (record {
       each = (record { inner = refl; no_text = refl; means = λ token is. rw is (Constant (pos attr), (tighter_than (number_term (token_of token.mark (shapes.Number attr)) attr refl (omega arith)), refl), refl) }, tt);
     }))
-    (λ k. rw (h, k) (shown_both (shown_both (shown_both (shown_both (shown_both (shown_word attr 64 (codes "sysheap") (λ token is. rw is refl)) (shown_word attr 32 (codes "purgeable") (λ token is. rw is refl)))
-    (shown_word attr 16 (codes "locked") (λ token is. rw is refl))) (shown_word attr 8 (codes "protected") (λ token is. rw is refl)))
-    (shown_word attr 4 (codes "preload") (λ token is. rw is refl))) (shown_word attr 2 (codes "changed") (λ token is. rw is refl)))))
+    (λ k. rw (h, k) (shown_both (shown_both (shown_both (shown_both (shown_both (shown_word attr SystemHeap (λ token is. rw is refl)) (shown_word attr Purgeable (λ token is. rw is refl)))
+    (shown_word attr Locked (λ token is. rw is refl))) (shown_word attr Protected (λ token is. rw is refl)))
+    (shown_word attr Preload (λ token is. rw is refl))) (shown_word attr Changed (λ token is. rw is refl)))))
 
 -- The pieces of the head, behind the id.
 
@@ -168,50 +178,70 @@ id_is (negsuc n) fits tokens is =
 
 -- From the tokens of the head to its pieces.
 
-comma_is_comma : (token : Token) → token.shape ≡ shapes.Sign signs.Comma → is_comma token.shape ≡ true
-comma_is_comma token is = ap is_comma is
-
-pub inner_piece : (tokens : List Token) → AreInner tokens → is_piece 0 tokens ≡ true
-inner_piece [] inner = refl
-inner_piece (token ∷ tokens) inner = go token.shape inner.0 (inner_piece tokens inner.1)
+-- the tokens of such a piece hold no comma outside brackets, and those of a head no bracket that closes
+no_comma : (tokens : List Token) → AreInner tokens → has_divider Comma 0 tokens ≡ false
+no_comma [] inner = refl
+no_comma (token ∷ tokens) inner = go token.shape inner.0 (no_comma tokens inner.1)
   where
-    go : (shape : Shape) → is_inner shape ≡ true → is_piece 0 tokens ≡ true
-        → (not ((is_close_paren shape || is_comma shape) && (0 == 0)) && is_piece (parens_behind shape 0) tokens) ≡ true
+    go : (shape : Shape) → is_inner shape ≡ true → has_divider Comma 0 tokens ≡ false
+        → ((divides Comma shape && (0 == 0)) || has_divider Comma (open_behind shape 0) tokens) ≡ false
     go (shapes.Sign signs.Minus) is rest = rest
     go (shapes.Sign sign) is rest = absurd cc
     go _ is rest = rest
 
+pub no_paren : (tokens : List Token) → AreFlat tokens → has_divider CloseParen 0 tokens ≡ false
+no_paren [] flat = refl
+no_paren (token ∷ tokens) flat = go token.shape flat.0 (no_paren tokens flat.1)
+  where
+    go : (shape : Shape) → is_flat shape ≡ true → has_divider CloseParen 0 tokens ≡ false
+        → ((divides CloseParen shape && (0 == 0)) || has_divider CloseParen (open_behind shape 0) tokens) ≡ false
+    go (shapes.Sign signs.Minus) is rest = rest
+    go (shapes.Sign signs.Comma) is rest = rest
+    go (shapes.Sign sign) is rest = absurd cc
+    go _ is rest = rest
+
+-- behind such tokens no bracket is open
+pub none_open : (tokens : List Token) → AreFlat tokens → open_behind_all tokens 0 ≡ 0
+none_open [] flat = refl
+none_open (token ∷ tokens) flat = go token.shape flat.0 (none_open tokens flat.1)
+  where
+    go : (shape : Shape) → is_flat shape ≡ true → open_behind_all tokens 0 ≡ 0 → open_behind_all tokens (open_behind shape 0) ≡ 0
+    go (shapes.Sign signs.Minus) is rest = rest
+    go (shapes.Sign signs.Comma) is rest = rest
+    go (shapes.Sign sign) is rest = absurd cc
+    go _ is rest = rest
+
+flat_of_inner : (tokens : List Token) → AreInner tokens → AreFlat tokens
+flat_of_inner [] inner = tt
+flat_of_inner (token ∷ tokens) inner = (ap (λ b. b || is_comma token.shape) inner.0, flat_of_inner tokens inner.1)
+
 abbrev pub ArePieces : List (List Shape) → Type 0
 ArePieces pieces = AllByRecursion (λ piece. AllByRecursion (λ shape. is_inner shape ≡ true) piece) pieces
 
-pub record IsHeadOf (first named : List Token) (close : Token) (rest : List Token) (pieces : List (List Shape)) : Type 0 where
+-- the tokens of a head are cut at their commas into the first piece and these
+pub record IsHeadOf (first named : List Token) (pieces : List (List Shape)) : Type 0 where
   pub others : List (List Token)
   pub are : map shapes_in others ≡ pieces
-  pub each : AllByRecursion (λ piece. is_piece 0 piece ≡ true) others
-  pub joined : AreJoined (first ++ (named ++ close ∷ rest)) first others rest
+  pub cut : AreCut Comma (first ++ named) (first ∷ others)
 
-pub head_of : (first named : List Token) (close : Token) (rest : List Token) (pieces : List (List Shape)) → ArePieces pieces → is_close_paren close.shape ≡ true → shapes_in named ≡ behind_commas pieces
-    → IsHeadOf first named close rest pieces
-head_of first named close rest [] inner closes is = record {
+pub head_of : (first named : List Token) (pieces : List (List Shape)) → AreInner first → ArePieces pieces → shapes_in named ≡ behind_commas pieces → IsHeadOf first named pieces
+head_of first named [] first_inner inner is = record {
   others = [];
   are = refl;
-  each = tt;
-  joined = (close, closes, ap (λ (x : List Token). first ++ (x ++ close ∷ rest)) (none_left named is));
+  cut = subst (λ (x : List Token). AreCut Comma x (first ∷ [])) (sym (ap (λ (x : List Token). first ++ x) (none_left named is) ∙ append-nil first)) (AreCut.last first (no_comma first first_inner));
 }
-head_of first named close rest (piece ∷ pieces) inner closes is =
+head_of first named (piece ∷ pieces) first_inner inner is =
     let comma = one_and_more named (shapes.Sign signs.Comma) (piece ++ behind_commas pieces) (is ∙ flat_map-cons (λ (piece : List Shape). shapes.Sign signs.Comma ∷ piece) piece pieces) in
     let both = front_and_back comma.more piece (behind_commas pieces) comma.more_are in
-    let behind = head_of both.front both.back close rest pieces inner.1 closes both.back_is in
+    let behind = head_of both.front both.back pieces (all_of (λ shape. is_inner shape ≡ true) both.front piece both.front_is inner.0) inner.1 both.back_is in
+    let parted : Parted = record { front = first; behind = both.front ++ both.back } in
     record {
       others = both.front ∷ behind.others;
       are = (λ i. both.front_is i ∷ behind.are i);
-      each = (inner_piece both.front (all_of (λ shape. is_inner shape ≡ true) both.front piece both.front_is inner.0), behind.each);
-      joined = (
-        comma.one,
-        both.front ++ (both.back ++ close ∷ rest),
-        comma_is_comma comma.one comma.one_is,
-        ap (λ (x : List Token). first ++ (x ++ close ∷ rest)) (comma.are ∙ ap (λ (x : List Token). comma.one ∷ x) both.are)
-            ∙ ap (λ (x : List Token). first ++ comma.one ∷ x) (append_assoc both.front both.back (close ∷ rest)),
-        behind.joined,
-      );
+      cut = AreCut.more (first ++ named) parted (both.front ∷ behind.others) (record {
+        sign = comma.one;
+        are = ap (λ (x : List Token). first ++ x) (comma.are ∙ ap (λ (x : List Token). comma.one ∷ x) both.are);
+        first = no_comma first first_inner;
+        divides = rw (comma.one_is, none_open first (flat_of_inner first first_inner)) refl;
+      }) behind.cut;
     }

@@ -11,6 +11,9 @@ use Rattle.rz_core.specs.Decimal.{decimal_of, signed_of}
 use Rattle.rz_core.specs.Lists.{each_with_front}
 use Rattle.rz_core.specs.Numbers.{be, length-be_4}
 use Rattle.rz_core.specs.Quoted.{hex_byte, hex_digit, literal_text, quoted}
+use Rattle.rz_expr.specs.Attribute.{bit_of, setting_word}
+use Rattle.rz_expr.specs.declared.attribute.Attribute as words
+use Rattle.rz_expr.specs.declared.attribute.Attribute.TheVariants.{Changed, Locked, Preload, Protected, Purgeable, SystemHeap}
 use Rattle.rz_lex.specs.Classes.{is_hex_digit}
 use Rattle.rz_lex.specs.Digits.{number_value}
 use Rattle.rz_lex.specs.Extent.{are_word_bytes}
@@ -21,12 +24,13 @@ use Rattle.rz_lex.specs.declared.sign.Sign.TheVariants as signs
 use Rattle.rz_lex.specs.declared.token.Shape.{Shape}
 use Rattle.rz_lex.specs.declared.token.Shape.TheVariants as shapes
 use Rattle.rz_show.specs.Head.{attr_text, name_byte, name_text, word_text}
-use Rattle.rz_show.specs.Statement.{attribute_word, attributes_of, behind_commas, id_shapes, name_pieces, text_shapes}
+use Rattle.rz_show.specs.Statement.{attribute_part, attributes_of, behind_commas, id_shapes, name_pieces, text_shapes}
 use Rattle.rz_expr.specs.Term.{Constant}
-use Rattle.rz_stmt.specs.Head.{Attribute, Value}
+use Rattle.rz_data.specs.Head.{Attribute, Value}
 use Rattle.rz_show.proofs.Lines.{are_in_line, blank, dollar, inside, inside_both, line_end, literal, number, quote, sign, whole, word, CutBack, InLine}
 use Rattle.rz_show.proofs.Pieces.{InPieces}
-use Rattle.rz_show.proofs.Texts.{by_test, literal_inside, name_lines, text_inside}
+use Rattle.rz_show.proofs.Texts.{literal_inside, name_lines, text_inside}
+use Rattle.rz_core.proofs.Tests.{by_test}
 
 -- a byte with which no sign of two bytes begins
 pub alone : (a : ℕ) → (a == 60) ≡ false → (a == 62) ≡ false → (a == 61) ≡ false → (a == 33) ≡ false → (a == 38) ≡ false → (a == 124) ≡ false
@@ -161,10 +165,12 @@ module _ (law : CutBack) where
         );
   }
 
-  word_attribute_text : (attr bit : ℕ) (bytes : List ℕ) → is_word bytes ≡ true → length bytes ≤ 255 → AreInLine bytes → IsAttributeText (word_text attr bit bytes) (attribute_word attr bit bytes)
+  word_attribute_text : (attr : ℕ) (attribute : words.Attribute) → is_word (setting_word attribute) ≡ true → length (setting_word attribute) ≤ 255 → AreInLine (setting_word attribute)
+      → IsAttributeText (word_text attr attribute) (attribute_part attr attribute)
   unfolding word_text
-  word_attribute_text attr bit bytes is short at =
-      by_test (IsAttributeText (word_text attr bit bytes) (attribute_word attr bit bytes)) (attr / bit % 2 == 1)
+  word_attribute_text attr attribute is short at =
+      let bytes : List ℕ = setting_word attribute in
+      by_test (IsAttributeText (word_text attr attribute) (attribute_part attr attribute)) (attr / bit_of attribute % 2 == 1)
       (λ h. rw h (record {
         on = λ text tokens p clear. (
           comma (32 ∷ (bytes ++ text)) (word_of bytes ∷ tokens) (blank law (bytes ++ text) (word_of bytes ∷ tokens) (word law text tokens p bytes is short at clear)),
@@ -199,12 +205,13 @@ module _ (law : CutBack) where
       (λ h. by_test (IsAttributeText (attr_text attr) (attributes_of attr)) (nat_le 128 attr || (attr % 2 == 1))
       (λ k. rw (h, k) (number_attribute_text attr (Value (Constant (pos attr))) small))
       (λ k. rw (h, k)
-      (both (both (both (both (both (is 64 (codes "sysheap") refl (omega arith) refl) (is 32 (codes "purgeable") refl (omega arith) refl))
-      (is 16 (codes "locked") refl (omega arith) refl)) (is 8 (codes "protected") refl (omega arith) refl))
-      (is 4 (codes "preload") refl (omega arith) refl)) (is 2 (codes "changed") refl (omega arith) refl))))
+      (both (both (both (both (both (is SystemHeap refl (omega arith) refl) (is Purgeable refl (omega arith) refl))
+      (is Locked refl (omega arith) refl)) (is Protected refl (omega arith) refl))
+      (is Preload refl (omega arith) refl)) (is Changed refl (omega arith) refl))))
     where
-      is : (bit : ℕ) (bytes : List ℕ) → is_word bytes ≡ true → length bytes ≤ 255 → are_in_line bytes ≡ true → IsAttributeText (word_text attr bit bytes) (attribute_word attr bit bytes)
-      is bit bytes spelled short at = word_attribute_text attr bit bytes spelled short (inside bytes at)
+      is : (attribute : words.Attribute) → is_word (setting_word attribute) ≡ true → length (setting_word attribute) ≤ 255 → are_in_line (setting_word attribute) ≡ true
+          → IsAttributeText (word_text attr attribute) (attribute_part attr attribute)
+      is attribute spelled short at = word_attribute_text attr attribute spelled short (inside (setting_word attribute) at)
 
       both : {one other : List ℕ} {front back : List (Shape × Attribute)} → IsAttributeText one front → IsAttributeText other back → IsAttributeText (one ++ other) (front ++ back)
       both {one} {other} {front} {back} first second = attributes_both one other front back first second

@@ -20,10 +20,7 @@ use Rattle.rz_show.specs.Head.{name_byte, name_gap}
 use Rattle.rz_show.specs.Statement.{text_shapes}
 use Rattle.rz_show.proofs.Lines.{are_in_line, blank, hex, inside, inside_both, line_end, quote, CutBack, InLine, Page}
 use Rattle.rz_show.proofs.Pieces.{in_pieces, Gaps, InPieces}
-
-pub by_test : (P : Type 0) (b : Bool) → (b ≡ true → P) → (b ≡ false → P) → P
-by_test P true holds fails = holds refl
-by_test P false holds fails = fails refl
+use Rattle.rz_core.proofs.Tests.{by_test}
 
 -- Hex digits.
 

@@ -1,6 +1,6 @@
 -- The tokens of a shown resource are its statement.
 use Rattle.std.proofs.Common.{◌≡◌, ℕ, suc, ◌+◌, ◌<◌, ◌≤◌, ◌^◌, ℤ, pos, negsuc, true, false, List, [], ◌∷◌, ◌++◌, map, length, Some, refl, sym, ap, subst, ◌∙◌, arith, append_assoc, length-append}
-use Rattle.std.specs.Prelude.{◌*◌, ◌==◌, ◌||◌, ◌/◌, ◌%◌, ◌↔◌, nat_le, codes, if◌then◌else◌}
+use Rattle.std.specs.Prelude.{◌*◌, ◌==◌, ◌||◌, ◌/◌, ◌%◌, nat_le, codes, if◌then◌else◌}
 use Rattle.std.specs.List.{AllByRecursion}
 use Rattle.std.proofs.lemmas.Bool.{le-leb}
 use Rattle.std.proofs.lemmas.List.Concat.{flat_map-cons}
@@ -8,20 +8,23 @@ use Rattle.std.proofs.lemmas.Grind.{flat_map-append}
 use Rattle.std.proofs.lemmas.Nat.{from_be_bytes-to_be_bytes_4}
 use Rattle.rz_core.specs.Numbers.{be}
 use Rattle.rz_core.specs.declared.resource.Resource.{Resource}
+use Rattle.rz_expr.specs.Attribute.{bit_of, setting_word}
+use Rattle.rz_expr.specs.declared.attribute.Attribute as words
+use Rattle.rz_expr.specs.declared.attribute.Attribute.TheVariants.{Changed, Locked, Preload, Protected, Purgeable, SystemHeap}
 use Rattle.rz_lex.specs.Printed.{word_of}
 use Rattle.rz_lex.specs.declared.sign.Sign.TheVariants as signs
 use Rattle.rz_lex.specs.declared.token.Shape.{Shape}
 use Rattle.rz_lex.specs.declared.token.Shape.TheVariants as shapes
 use Rattle.rz_lex.specs.declared.token.Token.{Token}
-use Rattle.rz_stmt.specs.Head.{Attribute}
-use Rattle.rz_stmt.specs.Limit.{counted, depth_limit, is_text, keeps_limits, row_behind, is_within_limits}
-use Rattle.rz_stmt.specs.Piece.{is_close_paren, pieces_in, Cut, IsCut}
-use Rattle.rz_stmt.specs.Raw.{kind_in, texts_in, IsRaw}
-use Rattle.rz_stmt.specs.Statements.{has_end, is_end, is_semicolon, open_behind, open_behind_all}
-use Rattle.rz_show.specs.Statement.{attribute_word, attributes_of, behind_commas, head_pieces, id_shapes, name_pieces, shown_raw, statement_shapes, text_parts, text_shapes, AreShown, AreWhole, IsStored, IsWhole}
-use Rattle.rz_show.proofs.HeadTokens.{all_both, all_of, head_of, inner_piece, id_is, id_is_inner, inner_is_flat, is_flat, is_inner, rest_is, shown_attributes, texts_are_inner, AreFlat, ArePieces, IsShownAttribute}
+use Rattle.rz_data.specs.Head.{Attribute}
+use Rattle.rz_brackets.specs.Limit.{counted, depth_limit, is_text, keeps_limits, row_behind, is_within_limits}
+use Rattle.rz_brackets.specs.Kind.{kind_in}
+use Rattle.rz_data.specs.Raw.{texts_in, IsRaw}
+use Rattle.rz_brackets.specs.Statements.{has_end, is_end, is_semicolon, open_behind, open_behind_all}
+use Rattle.rz_show.specs.Statement.{attribute_part, attributes_of, behind_commas, head_pieces, id_shapes, name_pieces, shown_raw, statement_shapes, text_parts, text_shapes, AreShown, AreWhole, IsStored, IsWhole}
+use Rattle.rz_show.proofs.HeadTokens.{all_both, all_of, head_of, id_is, id_is_inner, inner_is_flat, is_flat, is_inner, no_paren, none_open, rest_is, shown_attributes, texts_are_inner, AreFlat, AreInner, ArePieces, IsShownAttribute}
 use Rattle.rz_show.proofs.Split.{front_and_back, none_left, one_and_more, shapes_in}
-use Rattle.rz_show.proofs.Texts.{by_test}
+use Rattle.rz_core.proofs.Tests.{by_test}
 
 -- Flat tokens open and end nothing.
 
@@ -93,8 +96,8 @@ weight_attributes (a ∷ attributes) = by_test (weight (behind_commas (map (λ a
     (λ h. rw h (omega (arith, weight_attributes attributes)))
     (λ h. rw h (omega (arith, weight_attributes attributes)))
 
-word_few : (attr bit : ℕ) (word : List ℕ) → length (attribute_word attr bit word) ≤ 1
-word_few attr bit word = by_test (length (attribute_word attr bit word) ≤ 1) (attr / bit % 2 == 1) (λ h. rw h (omega arith)) (λ h. rw h (omega arith))
+word_few : (attr : ℕ) (attribute : words.Attribute) → length (attribute_part attr attribute) ≤ 1
+word_few attr attribute = by_test (length (attribute_part attr attribute) ≤ 1) (attr / bit_of attribute % 2 == 1) (λ h. rw h (omega arith)) (λ h. rw h (omega arith))
 
 both_few : (front back : List (Shape × Attribute)) (m n : ℕ) → length front ≤ m → length back ≤ n → length (front ++ back) ≤ m + n
 both_few front back m n first second = omega (arith, length-append front back, first, second)
@@ -104,8 +107,8 @@ attributes_few attr = by_test (length (attributes_of attr) ≤ 6) (attr == 0)
     (λ h. rw h (omega arith))
     (λ h. by_test (length (attributes_of attr) ≤ 6) (nat_le 128 attr || (attr % 2 == 1))
     (λ k. rw (h, k) (omega arith))
-    (λ k. rw (h, k) (both_few _ _ 5 1 (both_few _ _ 4 1 (both_few _ _ 3 1 (both_few _ _ 2 1 (both_few _ _ 1 1 (word_few attr 64 (codes "sysheap")) (word_few attr 32 (codes "purgeable")))
-    (word_few attr 16 (codes "locked"))) (word_few attr 8 (codes "protected"))) (word_few attr 4 (codes "preload"))) (word_few attr 2 (codes "changed")))))
+    (λ k. rw (h, k) (both_few _ _ 5 1 (both_few _ _ 4 1 (both_few _ _ 3 1 (both_few _ _ 2 1 (both_few _ _ 1 1 (word_few attr SystemHeap) (word_few attr Purgeable))
+    (word_few attr Locked)) (word_few attr Protected)) (word_few attr Preload)) (word_few attr Changed))))
 
 head_few : (r : Resource) (name : List (List ℕ)) (named : List Token) → shapes_in named ≡ behind_commas (head_pieces r name) → counted named ≤ 13
 head_few r name named is =
@@ -154,7 +157,7 @@ body_texts (piece ∷ pieces) texts end semicolon is end_is semicolon_is =
     ap (λ (x : List Token). texts_in (x ++ end ∷ semicolon ∷ [])) one.are
     ∙ rw (one.one_is, body_texts pieces one.more end semicolon one.more_are end_is semicolon_is) refl
 
-module _ (law : (tokens : List Token) (cut : Cut) → (pieces_in 0 tokens ≡ Some cut) ↔ IsCut tokens cut) (r : Resource) (name bytes : List (List ℕ)) (stored : IsStored r)
+module _ (r : Resource) (name bytes : List (List ℕ)) (stored : IsStored r)
     (word kind paren : Token) (id named : List Token) (close brace : Token) (texts : List Token) (end semicolon : Token)
     (word_is : word.shape ≡ word_of (codes "data")) (kind_is : kind.shape ≡ shapes.Literal (be 4 r.kind.code)) (paren_is : paren.shape ≡ shapes.Sign signs.OpenParen)
     (id_are : shapes_in id ≡ id_shapes r.id) (named_are : shapes_in named ≡ behind_commas (head_pieces r name))
@@ -219,29 +222,43 @@ module _ (law : (tokens : List Token) (cut : Cut) → (pieces_in 0 tokens ≡ So
       let all : keeps_limits 64 0 0 tokens ≡ true = rw (word_is, kind_is, paren_is) head in
       ap (λ (n : ℕ). keeps_limits n 0 0 tokens) most ∙ all
 
+  id_inner : AreInner id
+  id_inner = all_of (λ shape. is_inner shape ≡ true) id (id_shapes r.id) id_are (id_is_inner r.id)
+
+  -- what stands in the brackets of the head
+  in_head : AreFlat (id ++ named)
+  in_head = all_both (λ (token : Token). is_flat token.shape ≡ true) id named id_flat named_flat
+
   raw : IsRaw tokens (shown_raw r name bytes)
   unfolding tokens
   raw =
-      let head = head_of id named close (brace ∷ (texts ++ end ∷ semicolon ∷ [])) (head_pieces r name) (pieces_are_inner r name stored.attr) (ap is_close_paren close_is) named_are in
-      let cut : Cut = record { first = id; others = head.others; rest = brace ∷ (texts ++ end ∷ semicolon ∷ []) } in
+      let head = head_of id named (head_pieces r name) id_inner (pieces_are_inner r name stored.attr) named_are in
+      let body : List Token = texts ++ end ∷ semicolon ∷ [] in
       record {
         word = word;
         kind = kind;
-        paren = paren;
-        behind = id ++ (named ++ close ∷ brace ∷ (texts ++ end ∷ semicolon ∷ []));
-        cut = cut;
+        behind = paren ∷ (id ++ (named ++ close ∷ brace ∷ body));
+        head = record { front = id ++ named; behind = brace ∷ body };
+        pieces = id ∷ head.others;
         brace = brace;
-        body = texts ++ end ∷ semicolon ∷ [];
+        body = body;
         are = refl;
         is_word = rw word_is refl;
         has_kind = ap kind_in kind_is ∙ kind_back r.kind.code stored.code;
-        opens = rw paren_is refl;
-        is_cut = (law (id ++ (named ++ close ∷ brace ∷ (texts ++ end ∷ semicolon ∷ []))) cut).1 (record {
-          first = inner_piece id (all_of (λ shape. is_inner shape ≡ true) id (id_shapes r.id) id_are (id_is_inner r.id));
-          others = head.each;
-          joined = head.joined;
-        });
-        head = (id_is r.id stored.id id id_are, rest_is name (attributes_of r.attr) (shown_attributes r.attr stored.attr).each head.others head.are);
+        in_brackets = record {
+          opener = paren;
+          rest = id ++ (named ++ close ∷ brace ∷ body);
+          are = refl;
+          opens = rw paren_is refl;
+          closes = record {
+            sign = close;
+            are = sym (append_assoc id named (close ∷ brace ∷ body));
+            first = no_paren (id ++ named) in_head;
+            divides = rw (close_is, none_open (id ++ named) in_head) refl;
+          };
+        };
+        are_cut = head.cut;
+        has_head = (id_is r.id stored.id id id_are, rest_is name (attributes_of r.attr) (shown_attributes r.attr stored.attr).each head.others head.are);
         closes = refl;
         opens_body = rw brace_is refl;
         texts = body_texts bytes texts end semicolon texts_are end_is semicolon_is;
@@ -255,9 +272,9 @@ module _ (law : (tokens : List Token) (cut : Cut) → (pieces_in 0 tokens ≡ So
     is = raw;
   }
 
-whole : ((tokens : List Token) (cut : Cut) → (pieces_in 0 tokens ≡ Some cut) ↔ IsCut tokens cut) → (r : Resource) (name bytes : List (List ℕ)) (tokens : List Token) → IsStored r
+whole : (r : Resource) (name bytes : List (List ℕ)) (tokens : List Token) → IsStored r
     → shapes_in tokens ≡ statement_shapes r name bytes → IsWhole tokens (shown_raw r name bytes)
-whole law r name bytes tokens stored is =
+whole r name bytes tokens stored is =
     let word = one_and_more tokens (word_of (codes "data")) _ is in
     let kind = one_and_more word.more (shapes.Literal (be 4 r.kind.code)) _ word.more_are in
     let paren = one_and_more kind.more (shapes.Sign signs.OpenParen) _ kind.more_are in
@@ -275,13 +292,13 @@ whole law r name bytes tokens stored is =
     (brace.are ∙ ap (λ (x : List Token). brace.one ∷ x) (texts.are ∙ ap (λ (x : List Token). texts.front ++ x) (end.are ∙ ap (λ (x : List Token). end.one ∷ x)
     (semicolon.are ∙ ap (λ (x : List Token). semicolon.one ∷ x) last))))))))) in
     subst (λ (x : List Token). IsWhole x (shown_raw r name bytes)) (sym are)
-    (is_whole law r name bytes stored word.one kind.one paren.one id.front named.front close.one brace.one texts.front end.one semicolon.one
+    (is_whole r name bytes stored word.one kind.one paren.one id.front named.front close.one brace.one texts.front end.one semicolon.one
     word.one_is kind.one_is paren.one_is id.front_is named.front_is close.one_is brace.one_is texts.front_is end.one_is semicolon.one_is)
 
-pub all_whole : ((tokens : List Token) (cut : Cut) → (pieces_in 0 tokens ≡ Some cut) ↔ IsCut tokens cut) → (list : List Resource) (tokens : List Token) → AllByRecursion IsStored list
+pub all_whole : (list : List Resource) (tokens : List Token) → AllByRecursion IsStored list
     → AreShown list (shapes_in tokens) → AreWhole tokens list
-all_whole law [] tokens stored shown = none_left tokens shown
-all_whole law (r ∷ rs) tokens stored shown =
+all_whole [] tokens stored shown = none_left tokens shown
+all_whole (r ∷ rs) tokens stored shown =
     let one = shown.3 in
     let parts = front_and_back tokens shown.0 shown.1 shown.2 in (
       parts.front,
@@ -292,7 +309,7 @@ all_whole law (r ∷ rs) tokens stored shown =
         bytes = one.bytes;
         whole_name = one.whole_name;
         whole_bytes = one.whole_bytes;
-        is = whole law r one.name one.bytes parts.front stored.0 (parts.front_is ∙ one.are);
+        is = whole r one.name one.bytes parts.front stored.0 (parts.front_is ∙ one.are);
       },
-      all_whole law rs parts.back stored.1 (subst (AreShown rs) (sym parts.back_is) shown.4),
+      all_whole rs parts.back stored.1 (subst (AreShown rs) (sym parts.back_is) shown.4),
     )

@@ -4,15 +4,18 @@ use Rattle.std.specs.Prelude.{◌==◌, ◌||◌, ◌/◌, ◌%◌, nat_le, code
 use Rattle.std.specs.List.{flat_map, AllByRecursion}
 use Rattle.std.proofs.lemmas.List.Concat.{flat_map-cons}
 use Rattle.rz_core.specs.declared.resource.Resource.{Resource}
+use Rattle.rz_expr.specs.Attribute.{bit_of, setting_word}
+use Rattle.rz_expr.specs.declared.attribute.Attribute as words
+use Rattle.rz_expr.specs.declared.attribute.Attribute.TheVariants.{Changed, Locked, Preload, Protected, Purgeable, SystemHeap}
 use Rattle.rz_lex.specs.Printed.{word_of}
 use Rattle.rz_lex.specs.declared.sign.Sign.TheVariants as signs
 use Rattle.rz_lex.specs.declared.token.Shape.{Shape}
 use Rattle.rz_lex.specs.declared.token.Shape.TheVariants as shapes
-use Rattle.rz_stmt.specs.Head.{Attribute}
-use Rattle.rz_show.specs.Statement.{attribute_word, attributes_of, behind_commas, head_pieces, id_shapes, is_shown, name_pieces, statement_shapes, text_shapes}
+use Rattle.rz_data.specs.Head.{Attribute}
+use Rattle.rz_show.specs.Statement.{attribute_part, attributes_of, behind_commas, head_pieces, id_shapes, is_shown, name_pieces, statement_shapes, text_shapes}
 use Rattle.rz_show.proofs.HeadTokens.{all_both}
 use Rattle.rz_show.proofs.Heads.{shape_alone}
-use Rattle.rz_show.proofs.Texts.{by_test}
+use Rattle.rz_core.proofs.Tests.{by_test}
 
 pub record AreWords (tokens : List Shape) : Type 0 where
   pub each : AllByRecursion (λ shape. is_shown shape ≡ true) tokens
@@ -44,8 +47,8 @@ attribute_words_both {front} {back} first second = record { each = go front firs
     go [] first = second.each
     go (a ∷ front) first = words_first refl (words_first first.each.1.0 (go front (record { each = first.each.1.1 })))
 
-one_attribute_word : (attr bit : ℕ) (word : List ℕ) → is_shown (word_of word) ≡ true → AreAttributeWords (attribute_word attr bit word)
-one_attribute_word attr bit word is = by_test (AreAttributeWords (attribute_word attr bit word)) (attr / bit % 2 == 1)
+one_attribute_word : (attr : ℕ) (attribute : words.Attribute) → is_shown (word_of (setting_word attribute)) ≡ true → AreAttributeWords (attribute_part attr attribute)
+one_attribute_word attr attribute is = by_test (AreAttributeWords (attribute_part attr attribute)) (attr / bit_of attribute % 2 == 1)
     (λ h. rw h (record { each = words_first refl (words_first is no_words) }))
     (λ h. rw h (record { each = no_words }))
 
@@ -55,9 +58,9 @@ attribute_words attr = by_test (AreAttributeWords (attributes_of attr)) (attr ==
     (λ h. by_test (AreAttributeWords (attributes_of attr)) (nat_le 128 attr || (attr % 2 == 1))
     (λ k. rw (h, k) (record { each = words_first refl (words_first refl no_words) }))
     (λ k. rw (h, k) (attribute_words_both (attribute_words_both (attribute_words_both (attribute_words_both (attribute_words_both
-    (one_attribute_word attr 64 (codes "sysheap") refl) (one_attribute_word attr 32 (codes "purgeable") refl))
-    (one_attribute_word attr 16 (codes "locked") refl)) (one_attribute_word attr 8 (codes "protected") refl))
-    (one_attribute_word attr 4 (codes "preload") refl)) (one_attribute_word attr 2 (codes "changed") refl))))
+    (one_attribute_word attr SystemHeap refl) (one_attribute_word attr Purgeable refl))
+    (one_attribute_word attr Locked refl)) (one_attribute_word attr Protected refl))
+    (one_attribute_word attr Preload refl)) (one_attribute_word attr Changed refl))))
 
 head_words : (name : List (List ℕ)) (attributes : List (Shape × Attribute)) → AreAttributeWords attributes → AreWords (behind_commas (name_pieces name ++ map shape_alone attributes))
 head_words [] attributes words = words.each

@@ -3,6 +3,9 @@ use Rattle.std.specs.Prelude.{ℕ, ℤ, ◌/◌, ◌%◌, nat_le, ◌==◌, ◌|
 use Rattle.rz_core.specs.Decimal.{signed_of}
 use Rattle.rz_core.specs.Lists.{each_with_front}
 use Rattle.rz_core.specs.Quoted.{quoted, shown_byte, hex_byte, literal_text}
+use Rattle.rz_expr.specs.Attribute.{bit_of, setting_word}
+use Rattle.rz_expr.specs.declared.attribute.Attribute.{Attribute}
+use Rattle.rz_expr.specs.declared.attribute.Attribute.TheVariants.{Changed, Locked, Preload, Protected, Purgeable, SystemHeap}
 
 -- what stands before the byte of a long name at this position: after 64 bytes a new line begins
 unfoldable pub name_gap : ℕ → List ℕ
@@ -19,17 +22,17 @@ name_text name =
     else if nat_le (length name) 64 then codes ", " ++ quoted 34 name
     else codes ",\n    \"" ++ each_with_front name_byte name ++ codes "\""
 
--- the word of this bit behind a comma, where the bit is set
-unfoldable pub word_text : ℕ → ℕ → List ℕ → List ℕ
-word_text attr bit word = if attr / bit % 2 == 1 then codes ", " ++ word else []
+-- the word of an attribute behind a comma, where its bit is set
+unfoldable pub word_text : ℕ → Attribute → List ℕ
+word_text attr attribute = if attr / bit_of attribute % 2 == 1 then codes ", " ++ setting_word attribute else []
 
 -- the attributes that are set: by their words, or as a number where the bit 80 or 01 is set, which have no word
 unfoldable pub attr_text : ℕ → List ℕ
 attr_text attr =
     if attr == 0 then []
     else if nat_le 128 attr || (attr % 2 == 1) then codes ", $" ++ hex_byte attr
-    else word_text attr 64 (codes "sysheap") ++ word_text attr 32 (codes "purgeable") ++ word_text attr 16 (codes "locked")
-    ++ word_text attr 8 (codes "protected") ++ word_text attr 4 (codes "preload") ++ word_text attr 2 (codes "changed")
+    else word_text attr SystemHeap ++ word_text attr Purgeable ++ word_text attr Locked
+    ++ word_text attr Protected ++ word_text attr Preload ++ word_text attr Changed
 
 -- the line of a type, an id, a name and attributes
 unfoldable pub data_head : ℕ → ℤ → List ℕ → ℕ → List ℕ

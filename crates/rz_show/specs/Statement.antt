@@ -5,7 +5,10 @@ use Rattle.std.specs.List.{flat_map, list_any, AllByRecursion}
 use Rattle.std.specs.Str.{bytes_eq}
 use Rattle.rz_core.specs.Numbers.{be}
 use Rattle.rz_core.specs.declared.resource.Resource.{Resource}
+use Rattle.rz_expr.specs.Attribute.{bit_of, setting_word}
 use Rattle.rz_expr.specs.Term.{Constant, OfOne, Term}
+use Rattle.rz_expr.specs.declared.attribute.Attribute as words
+use Rattle.rz_expr.specs.declared.attribute.Attribute.TheVariants.{Changed, Locked, Preload, Protected, Purgeable, SystemHeap}
 use Rattle.rz_expr.specs.declared.expr.UnaryOp.TheVariants as one
 use Rattle.rz_lex.specs.Joined.{joined}
 use Rattle.rz_lex.specs.Lines.{HasLines}
@@ -16,12 +19,11 @@ use Rattle.rz_lex.specs.declared.token.Shape.{Shape}
 use Rattle.rz_lex.specs.declared.token.Shape.TheVariants as shapes
 use Rattle.rz_lex.specs.declared.token.Token.{Token}
 use Rattle.rz_show.specs.Page.{AreCut}
-use Rattle.rz_stmt.specs.Head.{Attribute, Set, Value}
-use Rattle.rz_stmt.specs.Limit.{is_within_limits}
-use Rattle.rz_stmt.specs.Raw.{IsRaw, Raw}
-use Rattle.rz_stmt.specs.Statements.{IsStatement}
-use Rattle.rz_types.specs.declared.text.TextPart.{TextPart}
-use Rattle.rz_types.specs.declared.text.TextPart.TheVariants.{Plain}
+use Rattle.rz_data.specs.Head.{Attribute, Set, Value}
+use Rattle.rz_brackets.specs.Limit.{is_within_limits}
+use Rattle.rz_data.specs.Raw.{IsRaw, Raw}
+use Rattle.rz_brackets.specs.Statements.{IsStatement}
+use Rattle.rz_types.specs.Text.{Plain, PlainPart}
 
 -- what every resource has: a type of 32 bits, an id of 16, bytes in its name and its contents, and an attribute byte
 pub record IsStored (r : Resource) : Type 0 where
@@ -46,27 +48,27 @@ id_term (negsuc n) = OfOne one.Minus (Constant (pos (suc n)))
 abbrev pub text_shapes : List (List ℕ) → List Shape
 text_shapes pieces = map (λ piece. shapes.Text piece) pieces
 
-abbrev pub text_parts : List (List ℕ) → List TextPart
+abbrev pub text_parts : List (List ℕ) → List PlainPart
 text_parts pieces = map (λ piece. Plain piece) pieces
 
 -- an attribute that has a word, where its bit is set
-abbrev pub attribute_word : ℕ → ℕ → List ℕ → List (Shape × Attribute)
-attribute_word attr bit word = if attr / bit % 2 == 1 then (word_of word, Set bit) ∷ [] else []
+abbrev pub attribute_part : ℕ → words.Attribute → List (Shape × Attribute)
+attribute_part attr attribute = if attr / bit_of attribute % 2 == 1 then (word_of (setting_word attribute), Set (bit_of attribute)) ∷ [] else []
 
 -- the attributes that are set: by their words, or as a number
 abbrev pub attributes_of : ℕ → List (Shape × Attribute)
 attributes_of attr =
     if attr == 0 then []
     else if nat_le 128 attr || (attr % 2 == 1) then (shapes.Number attr, Value (Constant (pos attr))) ∷ []
-    else attribute_word attr 64 (codes "sysheap") ++ attribute_word attr 32 (codes "purgeable") ++ attribute_word attr 16 (codes "locked")
-    ++ attribute_word attr 8 (codes "protected") ++ attribute_word attr 4 (codes "preload") ++ attribute_word attr 2 (codes "changed")
+    else attribute_part attr SystemHeap ++ attribute_part attr Purgeable ++ attribute_part attr Locked
+    ++ attribute_part attr Protected ++ attribute_part attr Preload ++ attribute_part attr Changed
 
 -- what stands behind the id: the name, where there is one, and the attributes
 abbrev pub name_pieces : List (List ℕ) → List (List Shape)
 name_pieces [] = []
 name_pieces (piece ∷ pieces) = text_shapes (piece ∷ pieces) ∷ []
 
-abbrev pub name_part : List (List ℕ) → Option (List TextPart)
+abbrev pub name_part : List (List ℕ) → Option (List PlainPart)
 name_part [] = None
 name_part (piece ∷ pieces) = Some (text_parts (piece ∷ pieces))
 

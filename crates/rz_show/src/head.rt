@@ -1,10 +1,11 @@
-ghost use Rattle.std.specs.Prelude.{◌≡◌, ◌<◌, ◌++◌, OnOk};
+ghost use Rattle.std.specs.Prelude.{◌≡◌, ◌==◌, ◌<◌, ◌++◌, ◌/◌, ◌%◌, OnOk};
 ghost use Rattle.rz_core.specs.Lists.{each_with_front};
 ghost use Rattle.rz_show.specs.Head.{attr_text, data_head, name_byte, name_gap, name_text, word_text};
 
 use rz_core::{
     Attr, Bytes, NoMemory, OsType, write_hex, write_quoted, write_shown, write_signed, write_type,
 };
+use rz_expr::{Attribute, bit_of, setting_word};
 
 /// The bytes of a name that stand on one line.
 const PIECE: usize = 64;
@@ -85,25 +86,32 @@ fn append_attr(attr: u8, into: &mut Bytes) -> Result<(), NoMemory>
         into.append(b", $")?;
         write_hex(attr, into)?;
     } else {
-        append_word(attr, 0x40, b"sysheap", into)?;
-        append_word(attr, 0x20, b"purgeable", into)?;
-        append_word(attr, 0x10, b"locked", into)?;
-        append_word(attr, 0x08, b"protected", into)?;
-        append_word(attr, 0x04, b"preload", into)?;
-        append_word(attr, 0x02, b"changed", into)?;
+        append_word(attr, Attribute::SystemHeap, into)?;
+        append_word(attr, Attribute::Purgeable, into)?;
+        append_word(attr, Attribute::Locked, into)?;
+        append_word(attr, Attribute::Protected, into)?;
+        append_word(attr, Attribute::Preload, into)?;
+        append_word(attr, Attribute::Changed, into)?;
     }
     Ok(())
 }
 
 /// The word of an attribute, where its bit is set.
 #[tactic(auto, unfolding(crate::specs::Head::word_text))]
-fn append_word(attr: u8, bit: u8, word: &[u8], into: &mut Bytes) -> Result<(), NoMemory>
-    requires { 0 < bit }
-    ensures { OnOk result (into.new ≡ into.old ++ word_text attr bit word.now) }
+fn append_word(attr: u8, attribute: Attribute, into: &mut Bytes) -> Result<(), NoMemory>
+    ensures { OnOk result (into.new ≡ into.old ++ word_text attr attribute) }
 {
-    if attr / bit % 2 == 1 {
+    if has_bit(attr, bit_of(attribute)) {
         into.append(b", ")?;
-        into.append(word)?;
+        into.append(setting_word(attribute))?;
     }
     Ok(())
+}
+
+/// Whether a bit is set.
+fn has_bit(attr: u8, bit: u8) -> bool
+    requires { 0 < bit }
+    ensures { result ≡ (attr / bit % 2 == 1) }
+{
+    attr / bit % 2 == 1
 }

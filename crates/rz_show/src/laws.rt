@@ -6,7 +6,6 @@ ghost use Rattle.rz_show.specs.Data.{list_text};
 ghost use Rattle.rz_show.specs.Statement.{AreShown, AreWhole, IsPrintedAs, IsStored};
 
 use rz_lex::{cut_back, lines_of_page};
-use rz_stmt::pieces_are_joined;
 
 /// A law, with nothing to run: the text of resources is lines that are cut into the tokens of their
 /// statements, wherever it stands.
@@ -23,6 +22,4 @@ pub fn shown_text()
 pub fn shown_statements()
     ensures { (list : List Resource) (tokens : List Token) → AllByRecursion IsStored list
         → AreShown list (map (λ token. token.shape) tokens) → AreWhole tokens list }
-{
-    pieces_are_joined();
-}
+{}

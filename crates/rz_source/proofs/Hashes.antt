@@ -1,17 +1,15 @@
 -- Lines that begin with blanks and `#`, and the word behind them.
-use Rattle.std.proofs.Common.{◌≡◌, ◌≢◌, ℕ, Bool, true, false, List, [], ◌∷◌, ◌++◌, Option, Some, None, refl, sym, ap, ◌∙◌, append_assoc}
+use Rattle.std.proofs.Common.{◌≡◌, ◌≢◌, ℕ, true, false, List, [], ◌∷◌, ◌++◌, Option, Some, None, refl, sym, ap, ◌∙◌, append_assoc}
 use Rattle.std.specs.Prelude.{◌==◌, ◌↔◌}
 use Rattle.std.proofs.lemmas.Bool.{and_parts, eqb-true, false≢true, ne_eqb}
 use Rattle.std.proofs.lemmas.List.Sums.{take_while-cons}
-use Rattle.rz_lex.specs.Classes.{is_blank, is_word_byte}
+use Rattle.rz_lex.proofs.WordsBack.{no_blank}
+use Rattle.rz_core.proofs.Tests.{by_test}
+use Rattle.rz_lex.specs.Classes.{is_blank, is_word_byte, AreBlanks}
 use Rattle.rz_lex.specs.Extent.{are_word_bytes}
 use Rattle.rz_lex.specs.Printed.{begins_word}
-use Rattle.rz_source.specs.Directive.{AreBlanks, behind_hash, directive_in, front_word, named, unblanked, behind_word, has_parameters, starts_with}
+use Rattle.rz_source.specs.Directive.{behind_hash, directive_in, front_word, named, unblanked, behind_word, has_parameters, starts_with}
 use Rattle.rz_source.specs.declared.directive.Directive.TheVariants.{Empty, Other}
-
-by_test : (P : Type 0) (b : Bool) → (b ≡ true → P) → (b ≡ false → P) → P
-by_test P true t f = t refl
-by_test P false t f = f refl
 
 -- blanks in front don't count
 skipped : (blanks rest : List ℕ) → AreBlanks blanks → unblanked (blanks ++ rest) ≡ unblanked rest
@@ -60,12 +58,6 @@ word_front [] (x ∷ after) all ends = take_while-cons is_word_byte x after ∙ 
 word_front (b ∷ word) after all ends =
     let parts = and_parts (is_word_byte b) (are_word_bytes word) all in
     take_while-cons is_word_byte b (word ++ after) ∙ rw parts.0 (ap (λ (l : List ℕ). b ∷ l) (word_front word after parts.1 ends))
-
-no_blank : (b : ℕ) → is_word_byte b ≡ true → is_blank b ≡ false
-no_blank b word = rw (ne_eqb b 32 (differs 32 refl), ne_eqb b 9 (differs 9 refl), ne_eqb b 11 (differs 11 refl), ne_eqb b 12 (differs 12 refl)) refl
-  where
-    differs : (x : ℕ) → is_word_byte x ≡ false → b ≡ x → ⊥
-    differs x out e = false≢true (sym out ∙ ap is_word_byte (sym e) ∙ word)
 
 first_kept : (b : ℕ) (rest : List ℕ) → is_blank b ≡ false → unblanked (b ∷ rest) ≡ b ∷ rest
 first_kept b rest h = rw h refl

@@ -10,16 +10,14 @@ use Rattle.std.specs.Str.Lossy.{utf8_valid_len, valid_len_up_to}
 use Rattle.std.proofs.lemmas.List.{append_assoc}
 use Rattle.std.proofs.lemmas.Str.{cons_from_encodes, encode_same, encodes-append, is_utf8-from_IsUtf8, IsUtf8-append, IsUtf8-encode, IsUtf8-past_char, len_utf8_bounds, length-encode}
 use Rattle.rz_core.specs.Roman.{roman_byte}
-use Rattle.rz_core.specs.Stop.{fault_so, gives_fault, gives_value, Gives, OnFault}
+use Rattle.rz_core.specs.Stop.{Gives, OnFault}
+use Rattle.rz_core.proofs.Stops.{fault_so, gives_fault, gives_value}
+use Rattle.rz_core.proofs.Tests.{both}
 use Rattle.rz_core.specs.declared.stop.Stop.{Stop}
 use Rattle.rz_source.specs.declared.source.BadText.{BadText}
 use Rattle.rz_source.specs.Source.{mark, IsBadAt, IsTextOf, IsUnmarked, LacksByteAt, Reaches, Spells, StopsAt, marked, unmarked}
 
 -- The loop over the characters.
-
-both : (a b : Bool) → (a && b) ≡ true → (a ≡ true) × (b ≡ true)
-both true b h = (refl, h)
-both false b h = absurd (cc h)
 
 -- the character at the front of a text is one
 pub front_scalar : (text rest : List ℕ) (character : ℕ) → IsUtf8 text → text ≡ encode_utf8 character ++ rest → IsScalar character

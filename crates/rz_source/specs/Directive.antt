@@ -1,14 +1,10 @@
 -- Which directive a logical line is. (MPW Rez.)
-use Rattle.std.specs.Prelude.{◌≡◌, ℕ, Bool, true, false, ◌==◌, if◌then◌else◌, List, [], ◌∷◌, codes, Option, Some, None}
-use Rattle.std.specs.List.{take_while, AllByRecursion}
+use Rattle.std.specs.Prelude.{ℕ, Bool, false, ◌==◌, if◌then◌else◌, List, [], ◌∷◌, codes, Option, Some, None}
+use Rattle.std.specs.List.{take_while}
 use Rattle.std.specs.Str.{str_eq_ignore_ascii_case}
 use Rattle.rz_lex.specs.Classes.{is_blank, is_word_byte}
 use Rattle.rz_source.specs.declared.directive.Directive.{Directive}
 use Rattle.rz_source.specs.declared.directive.Directive.TheVariants.{Define, Elif, Else, Empty, Endif, If, Ifdef, Ifndef, Include, Other, Undefine}
-
--- blanks and nothing else
-abbrev pub AreBlanks : List ℕ → Type 0
-AreBlanks bytes = AllByRecursion (λ byte. is_blank byte ≡ true) bytes
 
 -- a line without the blanks at its front
 abbrev pub unblanked : List ℕ → List ℕ

@@ -1,7 +1,9 @@
 ghost use Rattle.std.specs.Prelude.{◌≡◌, ◌≤◌, length, option_map};
 ghost use Rattle.std.specs.List.{prefix_len};
-ghost use Rattle.rz_lex.specs.Classes.{is_blank, is_word_byte};
+ghost use Rattle.rz_lex.specs.Classes.{is_word_byte};
 ghost use Rattle.rz_source.specs.Directive.{behind_hash, behind_word, directive_in, front_word, has_parameters, is, named, unblanked};
+
+use rz_lex::{is_blank, is_word_byte};
 
 /// Which directive a line is.
 #[derive(Clone, Copy, Debug, PartialEq, Eq)]
@@ -146,17 +148,4 @@ fn is(word: &[u8], name: &[u8]) -> bool
     ensures { result ≡ is word.now name.now }
 {
     name.eq_ignore_ascii_case(word)
-}
-
-fn is_blank(byte: u8) -> bool
-    ensures { result ≡ is_blank byte }
-{
-    matches!(byte, b' ' | b'\t' | 0x0B | 0x0C)
-}
-
-/// Whether a byte may stand in a word: a letter, a digit or `_`.
-fn is_word_byte(byte: u8) -> bool
-    ensures { result ≡ is_word_byte byte }
-{
-    byte.is_ascii_alphanumeric() || byte == b'_'
 }

@@ -1,8 +1,8 @@
 ghost use Rattle.std.specs.Prelude.{◌≡◌, ◌≢◌, ◌↔◌, ℕ, true, false, List, [], ◌∷◌, ◌++◌, Some};
-ghost use Rattle.rz_lex.specs.Classes.{is_blank, is_word_byte};
+ghost use Rattle.rz_lex.specs.Classes.{AreBlanks, is_blank, is_word_byte};
 ghost use Rattle.rz_lex.specs.Extent.{are_word_bytes};
 ghost use Rattle.rz_lex.specs.Printed.{begins_word};
-ghost use Rattle.rz_source.specs.Directive.{behind_hash, directive_in, has_parameters, named, starts_with, unblanked, AreBlanks};
+ghost use Rattle.rz_source.specs.Directive.{behind_hash, directive_in, has_parameters, named, starts_with, unblanked};
 ghost use Rattle.rz_source.specs.Source.{IsBadAt, IsTextOf};
 ghost use Rattle.rz_source.specs.declared.directive.Directive.TheVariants.{Empty, Other};
 

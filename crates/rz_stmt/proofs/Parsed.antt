@@ -6,29 +6,46 @@ use Rattle.rz_core.specs.declared.fault.Mark.{Mark}
 use Rattle.rz_core.specs.declared.stop.Stop.{Stop}
 use Rattle.rz_core.specs.declared.stop.Stop.TheVariants.{NoMemory, Refused}
 use Rattle.rz_lex.specs.declared.token.Token.{Token}
-use Rattle.rz_stmt.specs.Declare.{IsDeclare}
-use Rattle.rz_stmt.specs.Grammar.{alone, data_statement, mark_of, none, statement, statement_of, syntax, type_statement, Declared, Gave, IsStatement, Parses, Statement}
-use Rattle.rz_stmt.specs.Limit.{is_within_limits}
-use Rattle.rz_stmt.specs.Raw.{IsRaw, Raw}
-use Rattle.rz_stmt.specs.Statements.{is_empty}
+use Rattle.rz_core.specs.Stop.{◌>>=◌, Gives}
+use Rattle.rz_declare.specs.Constants.{declare_of, declared, seen, Declare}
+use Rattle.rz_declare.specs.Declare.{IsDeclare}
+use Rattle.rz_declare.specs.Form.{DeclareForm}
+use Rattle.rz_declare.specs.declared.constants.DeclareStmt.{DeclareStmt}
+use Rattle.rz_stmt.specs.Grammar.{alone, data_statement, mark_of, none, statement, statement_of, syntax, type_statement, Declared, Declares, Gave, IsStatement, Parses, Statement}
+use Rattle.rz_brackets.specs.Limit.{is_within_limits}
+use Rattle.rz_data.specs.Raw.{IsRaw, Raw}
+use Rattle.rz_brackets.specs.Statements.{is_empty}
 use Rattle.rz_stmt.specs.declared.grammar.Stmt.{Stmt}
+
+abbrev declare_fault : Mark → DeclareForm → Result Statement Fault
+declare_fault mark form = declared mark form >>= (λ made. Ok (Declares made))
 
 module _ (mark : Mark) (tokens : List Token) (same : mark ≡ mark_of tokens) (within : is_within_limits tokens ≡ true) (some : is_empty tokens ≡ false)
     (no_raw : (raw : Raw) → IsRaw tokens raw → ⊥) where
-  declared : (answer : Result Statement Fault) → Declared mark tokens answer → Parses tokens answer
-  declared answer (inl (one, is, says)) = statement within (type_statement one (subst (λ (m : Mark). IsDeclare m tokens one) same is) says)
-  declared answer (inr (never, says)) = none within nothing (says ∙ ap (λ (m : Mark). Err (syntax m)) same)
+  declares : (answer : Result Statement Fault) → Declared mark tokens answer → Parses tokens answer
+  declares answer (inl (form, is, says)) = statement within (type_statement form is (says ∙ ap (λ (m : Mark). declare_fault m form) same))
+  declares answer (inr (never, says)) = none within nothing (says ∙ ap (λ (m : Mark). Err (syntax m)) same)
     where
       nothing : (other : Result Statement Fault) → IsStatement tokens other → ⊥
       nothing other (alone empty tells) = let wrong : true ≡ false = sym empty ∙ some in cc
       nothing other (data_statement raw is tells) = no_raw raw is
-      nothing other (type_statement one is tells) = never one (subst (λ (m : Mark). IsDeclare m tokens one) (sym same) is)
+      nothing other (type_statement form is tells) = never form is
 
   pub parsed : (result : Result Stmt (Stop Fault)) → Gave result (Declared mark tokens) → Gave result (Parses tokens)
-  parsed (Ok one) gave = declared (Ok (statement_of one)) gave
-  parsed (Err (Refused fault)) gave = declared (Err fault) gave
+  parsed (Ok one) gave = declares (Ok (statement_of one)) gave
+  parsed (Err (Refused fault)) gave = declares (Err fault) gave
   parsed (Err NoMemory) gave = tt
 
 pub first_mark : (tokens : List Token) (default : Token) → 0 < length tokens → (get_or tokens 0 default).mark ≡ mark_of tokens
 first_mark [] default some = absurd (omega (arith, some))
 first_mark (token ∷ tokens) default some = refl
+
+-- the values of a `type` statement, or their fault, as a statement
+pub valued : (mark : Mark) (tokens : List Token) (form : DeclareForm) → IsDeclare tokens form → (stmt : DeclareStmt) → declared mark form ≡ Ok (declare_of stmt)
+    → Declared mark tokens (Ok (Declares (declare_of stmt)))
+valued mark tokens form is stmt gives = inl (form, is, ap (λ (r : Result Declare Fault). r >>= (λ made. Ok (Declares made))) (sym gives))
+
+pub faulty : (mark : Mark) (tokens : List Token) (form : DeclareForm) → IsDeclare tokens form → (stop : Stop Fault)
+    → Gives {X = Declare} (declared mark form) (Err stop) → Gave (Err stop) (Declared mark tokens)
+faulty mark tokens form is (Refused fault) gives = inl (form, is, ap (λ (r : Result Declare Fault). r >>= (λ made. Ok (Declares made))) (sym gives))
+faulty mark tokens form is NoMemory gives = tt

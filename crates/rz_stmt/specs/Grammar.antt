@@ -9,10 +9,13 @@ use Rattle.rz_core.specs.declared.fault.Mark.{Mark}
 use Rattle.rz_core.specs.declared.stop.Stop.{Stop}
 use Rattle.rz_core.specs.declared.stop.Stop.TheVariants.{Refused, NoMemory}
 use Rattle.rz_lex.specs.declared.token.Token.{Token}
-use Rattle.rz_stmt.specs.Declare.{declare_of, Declare, IsDeclare}
-use Rattle.rz_stmt.specs.Limit.{is_within_limits}
-use Rattle.rz_stmt.specs.Raw.{raw_of, IsRaw, Raw}
-use Rattle.rz_stmt.specs.Statements.{is_empty}
+use Rattle.rz_declare.specs.Constants.{declare_of, declared, Declare}
+use Rattle.rz_declare.specs.Declare.{IsDeclare}
+use Rattle.rz_declare.specs.Form.{DeclareForm}
+use Rattle.rz_declare.specs.Shaped.{IsShapedMade}
+use Rattle.rz_brackets.specs.Limit.{is_within_limits}
+use Rattle.rz_data.specs.Raw.{raw_of, IsRaw, Raw}
+use Rattle.rz_brackets.specs.Statements.{is_empty}
 use Rattle.rz_stmt.specs.declared.grammar.Stmt.{Stmt}
 use Rattle.rz_stmt.specs.declared.grammar.Stmt.TheVariants as forms
 
@@ -42,7 +45,7 @@ mark_of (first ∷ rest) = first.mark
 pub data IsStatement (tokens : List Token) (answer : Result Statement Fault) : Type 0 where
   alone : is_empty tokens ≡ true → answer ≡ Ok Empty → IsStatement tokens answer
   data_statement : (one : Raw) → IsRaw tokens one → answer ≡ Ok (Data one) → IsStatement tokens answer
-  type_statement : (one : Result Declare Fault) → IsDeclare (mark_of tokens) tokens one → answer ≡ (one >>= (λ made. Ok (Declares made))) → IsStatement tokens answer
+  type_statement : (form : DeclareForm) → IsDeclare tokens form → answer ≡ (declared (mark_of tokens) form >>= (λ made. Ok (Declares made))) → IsStatement tokens answer
 
 -- the statement that tokens within the limits are, 221 for tokens beyond them, or 201 for tokens that are none
 pub data Parses (tokens : List Token) (answer : Result Statement Fault) : Type 0 where
@@ -53,8 +56,8 @@ pub data Parses (tokens : List Token) (answer : Result Statement Fault) : Type 0
 -- the `type` statement that the tokens are, or else 201
 abbrev pub Declared : Mark → List Token → Result Statement Fault → Type 0
 Declared mark tokens answer =
-    ((one : Result Declare Fault) × IsDeclare mark tokens one × (answer ≡ (one >>= (λ made. Ok (Declares made)))))
-    ⊎ (((one : Result Declare Fault) → IsDeclare mark tokens one → ⊥) × (answer ≡ Err (syntax mark)))
+    ((form : DeclareForm) × IsDeclare tokens form × (answer ≡ (declared mark form >>= (λ made. Ok (Declares made)))))
+    ⊎ (((form : DeclareForm) → IsDeclare tokens form → ⊥) × (answer ≡ Err (syntax mark)))
 
 -- the call gave what is answered, or memory was refused
 abbrev pub Gave : Result Stmt (Stop Fault) → (Result Statement Fault → Type 0) → Type 0
@@ -62,6 +65,8 @@ Gave (Ok one) answers = answers (Ok (statement_of one))
 Gave (Err (Refused fault)) answers = answers (Err fault)
 Gave (Err NoMemory) answers = Unit {0}
 
--- each token stands in one of so many files
-abbrev pub AreWithin : ℕ → List Token → Type 0
-AreWithin files tokens = AllByRecursion (λ token. token.mark.file < files) tokens
+-- the fields that it declares are well shaped; no other statement has any
+abbrev pub IsShapedStatement : Statement → Type 0
+IsShapedStatement Empty = Unit {0}
+IsShapedStatement (Data raw) = Unit {0}
+IsShapedStatement (Declares declare) = IsShapedMade declare.made

@@ -1,14 +1,15 @@
-ghost use Rattle.std.specs.Prelude.{◌≡◌, ◌<◌, ◌≤◌, ◌-◌, ℕ, Some, drop, length, take};
+ghost use Rattle.std.specs.Prelude.{◌≡◌, ◌<◌, ◌≤◌, ◌-◌, ℕ, IfOk, Some, drop, length, take};
+ghost use Rattle.rz_lex.specs.Within.{AreWithin};
 ghost use Rattle.rz_core.specs.Message.{IsNameable};
 ghost use Rattle.rz_core.specs.Stop.{OnFault};
-ghost use Rattle.rz_stmt.specs.Grammar.{AreWithin, Declared, Gave, Parses};
+ghost use Rattle.rz_lex.specs.Lexeme.{AreLexed};
+ghost use Rattle.rz_stmt.specs.Grammar.{Declared, Gave, IsShapedStatement, Parses, statement_of};
 ghost use Rattle.rz_core.specs.declared.fault.Kept.TheVariants.{Nothing};
 
-use crate::declare::{DeclareStmt, read_declare};
-use crate::limit::is_within_limits;
-use crate::raw::{RawStmt, is_empty_statement, read_raw};
-use crate::span::Span;
+use rz_brackets::{Span, is_empty_statement, is_within_limits};
 use rz_core::{Fault, Kept, Mark, Stop};
+use rz_data::{RawStmt, read_raw};
+use rz_declare::{DeclareStmt, declarations_are_shaped, read_declare, value_declare};
 use rz_lex::{Token, Tokens};
 use std::alloc::Global;
 
@@ -28,11 +29,13 @@ pub enum Stmt {
 /// row without one of `{ } , ;`; else 201 where the tokens are no statement; else that of the first constant of
 /// a `type` statement, from left to right, without a value: 211 for a zero divisor, 215 for a shift by a count
 /// outside 0 to 31 (kept: the count), or 207 for the value of a symbol outside the range of its field (kept:
-/// the value). The span lies within the tokens and isn't empty, as each of [`statements`](crate::statements). (MPW Rez.)
+/// the value). The fields of a `type` statement are well shaped, where the tokens are as lines are cut into. The
+/// span lies within the tokens and isn't empty, as each of `statements`. (MPW Rez.)
 pub fn parse(alloc: Global, tokens: &Tokens, span: Span) -> Result<Stmt, Stop<Fault>>
     requires { (span.start < span.end) × (span.end ≤ length tokens.now) }
     ensures parsed { Gave result (Parses (take (span.end - span.start) (drop span.start tokens.now))) }
     ensures nameable { (files : ℕ) → AreWithin files tokens.now → OnFault result (IsNameable files) }
+    ensures shaped { AreLexed tokens.now → IfOk result (λ stmt. IsShapedStatement (statement_of stmt)) }
 {
     parse_all(
         alloc,
@@ -45,6 +48,7 @@ fn parse_all(alloc: Global, tokens: &[Token]) -> Result<Stmt, Stop<Fault>>
     requires { 0 < length tokens.now }
     ensures parsed { Gave result (Parses tokens.now) }
     ensures nameable { (files : ℕ) → AreWithin files tokens.now → OnFault result (IsNameable files) }
+    ensures shaped { AreLexed tokens.now → IfOk result (λ stmt. IsShapedStatement (statement_of stmt)) }
 {
     let mark = tokens[0].mark;
     if !is_within_limits(tokens) {
@@ -63,10 +67,14 @@ fn parse_all(alloc: Global, tokens: &[Token]) -> Result<Stmt, Stop<Fault>>
 fn parse_declare(alloc: Global, mark: Mark, tokens: &[Token]) -> Result<Stmt, Stop<Fault>>
     ensures parsed { Gave result (Declared mark tokens.now) }
     ensures nameable { (files : ℕ) → mark.file < files → OnFault result (IsNameable files) }
+    ensures shaped { AreLexed tokens.now → IfOk result (λ stmt. IsShapedStatement (statement_of stmt)) }
 {
-    match read_declare(alloc, mark, tokens) {
-        Ok(Some(stmt)) => Ok(Stmt::Declare(stmt)),
-        Ok(None) => Err(Stop::Refused(fault(201, mark))),
+    declarations_are_shaped();
+    let Some(stmt) = read_declare(alloc, tokens)? else {
+        return Err(Stop::Refused(fault(201, mark)));
+    };
+    match value_declare(alloc, mark, stmt) {
+        Ok(stmt) => Ok(Stmt::Declare(stmt)),
         Err(stop) => Err(stop),
     }
 }

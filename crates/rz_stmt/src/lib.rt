@@ -1,35 +1,16 @@
-//! The tokens of a program as statements.
+//! The statements of a program: where they stand among its tokens, and what each is. `data` and `type`
+//! statements stand in crates of their own, of which this one makes one type and one call.
 #![tactic(auto)]
 
-mod body;
-mod both;
-mod cutting;
-mod declare;
-mod field;
-mod field_word;
 mod grammar;
-mod head;
 mod laws;
-mod limit;
-mod number;
-mod number_field;
-mod piece;
-mod raw;
-mod span;
-mod split;
-mod symbols;
-mod text;
-mod value;
 
-pub use cutting::{one_cutting, statements};
-pub use declare::{Bounds, DeclareStmt, Made};
 pub use grammar::{Stmt, parse};
-pub use head::{AttrPart, AttrParts, HeadExpr};
-pub use laws::{
-    all_tokens_are_statements, limits_are_kept, one_statement, pieces_are_cut, pieces_are_joined,
-    symbols_have_values, texts_are_closed, words_before_fields,
+pub use laws::one_statement;
+pub use rz_brackets::{
+    Span, Spans, all_tokens_are_statements, limits_are_kept, one_cutting, pieces_are_cut,
+    statements,
 };
-pub use number::number_of;
-pub use raw::RawStmt;
-pub use span::{Span, Spans};
-pub use text::text_of;
+pub use rz_data::{AttrPart, AttrParts, HeadExpr, RawStmt, texts_are_closed};
+pub use rz_declare::{Bounds, DeclareStmt, Made, symbols_have_values, words_before_fields};
+pub use rz_types::{number_of, text_of};

@@ -1,5 +1,7 @@
 use crate::declares::show_declare;
-use rz_core::{Bytes, Fault, Kept, Mark, Stop, write_decimal, write_signed};
+use rz_core::{
+    Attr, Bytes, Facts, Fault, Kept, Mark, Moment, OsType, Stop, write_decimal, write_signed,
+};
 use rz_expr::Expr;
 use rz_lex::{Tokens, lex};
 use rz_stmt::{AttrPart, HeadExpr, RawStmt, Span, Stmt, number_of, parse, text_of};
@@ -125,9 +127,23 @@ pub fn text_of_fault(alloc: Global, fault: &Fault) -> Result<Bytes, Fail> {
     Ok(text)
 }
 
+/// The facts of a resource of which nothing is known.
+fn no_facts(alloc: Global) -> Result<Facts, Fail> {
+    let Some(moment) = Moment::of_unix(0) else {
+        return Err(Fail::from("no moment"));
+    };
+    Ok(Facts {
+        kind: OsType { code: 0 },
+        id: 0,
+        name: Bytes::new(alloc),
+        attr: Attr::of(0),
+        moment,
+    })
+}
+
 /// Appends a value, or its fault.
 pub fn show_value(alloc: Global, expr: &Expr, mark: Mark, text: &mut Bytes) -> Result<(), Fail> {
-    match number_of(alloc, expr, mark) {
+    match number_of(alloc, expr, mark, &no_facts(alloc)?) {
         Ok(value) => write_signed(i64::from(value), text)?,
         Err(Stop::Refused(fault)) => text.append(text_of_fault(alloc, &fault)?.as_slice())?,
         Err(Stop::NoMemory) => return Err(Fail::from("no memory")),
@@ -137,7 +153,8 @@ pub fn show_value(alloc: Global, expr: &Expr, mark: Mark, text: &mut Bytes) -> R
 
 /// The bytes of a text.
 pub fn bytes_of(alloc: Global, texts: &Texts) -> Result<Bytes, Fail> {
-    match text_of(alloc, texts) {
+    let mark = Mark { file: 0, line: 1 };
+    match text_of(alloc, texts, mark, &no_facts(alloc)?) {
         Ok(bytes) => Ok(bytes),
         Err(_) => Err(Fail::from("no bytes")),
     }

@@ -9,6 +9,7 @@ use Rattle.std.proofs.lemmas.List.{append-nil}
 use Rattle.std.proofs.lemmas.List.Concat.{flat_map-cons}
 use Rattle.std.proofs.lemmas.Slice.Eq.{bytes_eq-Decides}
 use Rattle.std.specs.declared.result.Result.{Result}
+use Rattle.rz_show.proofs.Split.{shapes_in}
 use Rattle.rz_core.specs.Resources.{id_bits, put, same_key, KeysDiffer}
 use Rattle.rz_core.specs.Stop.{◌>>=◌}
 use Rattle.rz_core.specs.declared.fault.Fault.{Fault}
@@ -18,7 +19,7 @@ use Rattle.rz_fork.specs.Admit.{admitted}
 use Rattle.rz_fork.specs.Contents.{FitsFork}
 use Rattle.rz_fork.specs.declared.fault.ForkFault.{ForkFault}
 use Rattle.rz_fork.specs.declared.read.ForkList.{ForkList}
-use Rattle.rz_lex.specs.Printed.{token_of}
+use Rattle.rz_lex.specs.Printed.{token_of, word_of}
 use Rattle.rz_lex.specs.declared.raw_line.RawLine.{RawLine}
 use Rattle.rz_lex.specs.declared.token.Shape.{Shape}
 use Rattle.rz_lex.specs.declared.token.Shape.TheVariants as shapes
@@ -39,12 +40,11 @@ use Rattle.rz_tools.specs.Data.{resource_of}
 use Rattle.rz_tools.specs.Step.{namesake, put_unless_protected, with_list, Means, Steps, Work}
 use Rattle.rz_words.specs.Command.{DeRez}
 use Rattle.rz_types.specs.Table.{Declaration}
-use Rattle.rz_tools.specs.ToolWords.{number_in, numbered, tool_named}
-use Rattle.rz_tools.proofs.PutOut.{by_test, lines_go, tokens_of, AreBare}
+use Rattle.rz_tools.specs.ToolWords.{number_in, numbered, tool_in}
+use Rattle.rz_tools.proofs.PutOut.{lines_go, tokens_of, AreBare}
+use Rattle.rz_core.proofs.Tests.{by_test}
 use Rattle.rz_tools.proofs.Values.{resource_again}
-
-abbrev pub shapes_in : List Token → List Shape
-shapes_in tokens = map (λ token. token.shape) tokens
+use Rattle.rz_tools.specs.declared.setting.Setting.{Setting}
 
 -- The shapes of the lines, one behind the other.
 
@@ -75,7 +75,7 @@ among P word (shown ∷ words) all is = by_test (P word) (bytes_eq shown word)
 -- what is said of such a word
 record IsPlainWord (live : Live) (word : List ℕ) : Type 0 where
   bare : live (str_to_ascii_lowercase word) ≡ None
-  no_tool : tool_named word ≡ None
+  no_tool : tool_in (word_of word) ≡ None
 
 plain_words : (live : Live) → NoneIsLive live → AllByRecursion (IsPlainWord live) shown_words
 plain_words live none = (
@@ -163,15 +163,15 @@ work types warnings list = record { types = types; list = list; warnings = warni
 record HasStatements (list : List Resource) (tokens : List Token) : Type 0 where
   statements : List (List Token)
   are : AreStatements tokens statements
-  mean : (redeclare : Bool) (types : List Declaration) (warnings : List Fault) (front : List Resource) → KeysDiffer front list
-      → Means redeclare (work types warnings front) statements (Ok (work types warnings (front ++ list)))
+  mean : (setting : Setting) (types : List Declaration) (warnings : List Fault) (front : List Resource) → KeysDiffer front list
+      → Means setting (work types warnings front) statements (Ok (work types warnings (front ++ list)))
 
 -- the step of one statement
-one_step : (redeclare : Bool) (types : List Declaration) (warnings : List Fault) (front : List Resource) (tokens : List Token) (raw : Raw) (r : Resource)
-    → IsWhole tokens raw → resource_of (mark_of tokens) raw ≡ Ok r → list_any (λ b. same_key b r) front ≡ false
-    → Steps redeclare (work types warnings front) tokens (Ok (work types warnings (front ++ r ∷ [])))
+one_step : (setting : Setting) (types : List Declaration) (warnings : List Fault) (front : List Resource) (tokens : List Token) (raw : Raw) (r : Resource)
+    → IsWhole tokens raw → resource_of setting (mark_of tokens) raw ≡ Ok r → list_any (λ b. same_key b r) front ≡ false
+    → Steps setting (work types warnings front) tokens (Ok (work types warnings (front ++ r ∷ [])))
 unfolding work
-one_step redeclare types warnings front tokens raw r whole value new =
+one_step setting types warnings front tokens raw r whole value new =
     let behind : put_unless_protected (mark_of tokens) front r ≡ Ok (front ++ r ∷ []) = rw (new_name front r new, put_new front r new) refl in
     inl (Data raw, Parses.statement whole.within (IsStatement.data_statement raw whole.is refl), sym (ap (with_list (work types warnings front)) (ap (λ o. o >>= put_unless_protected (mark_of tokens) front) value ∙ behind)))
 
@@ -179,7 +179,7 @@ has_statements : (list : List Resource) (tokens : List Token) → AreWhole token
 has_statements [] tokens whole stored fits short = record {
   statements = [];
   are = whole;
-  mean = λ redeclare types warnings front differ. ap (λ (l : List Resource). Ok (work types warnings l)) (append-nil front);
+  mean = λ setting types warnings front differ. ap (λ (l : List Resource). Ok (work types warnings l)) (append-nil front);
 }
 has_statements (r ∷ rs) tokens whole stored fits short =
     let one = whole.3 in
@@ -188,11 +188,11 @@ has_statements (r ∷ rs) tokens whole stored fits short =
     record {
       statements = whole.0 ∷ behind.statements;
       are = (whole.1, whole.2, inl (one.is.statement, behind.are));
-      mean = λ redeclare types warnings front differ. inl (
+      mean = λ setting types warnings front differ. inl (
         work types warnings (front ++ r ∷ []),
-        one_step redeclare types warnings front whole.0 raw r one.is (resource_again (mark_of whole.0) r one.name one.bytes stored.0 one.whole_name one.whole_bytes fits.0.name short.0) differ.0,
-        subst (λ (l : List Resource). Means redeclare (work types warnings (front ++ r ∷ [])) behind.statements (Ok (work types warnings l))) (append_assoc front (r ∷ []) rs)
-            (behind.mean redeclare types warnings (front ++ r ∷ []) differ.1),
+        one_step setting types warnings front whole.0 raw r one.is (resource_again (mark_of whole.0) setting r one.name one.bytes stored.0 one.whole_name one.whole_bytes fits.0.name short.0) differ.0,
+        subst (λ (l : List Resource). Means setting (work types warnings (front ++ r ∷ [])) behind.statements (Ok (work types warnings l))) (append_assoc front (r ∷ []) rs)
+            (behind.mean setting types warnings (front ++ r ∷ []) differ.1),
       );
     }
 
@@ -201,7 +201,7 @@ mean_resources : (list : List Resource) (tokens : List Token) → AreWhole token
 unfolding work
 mean_resources list tokens whole words stored fits short differ =
     let all = has_statements list tokens whole stored fits short in
-    (all.statements, subst (λ (x : List Token). AreStatements x all.statements) (sym (numbered_same tokens words)) all.are, λ redeclare types warnings. all.mean redeclare types warnings [] differ)
+    (all.statements, subst (λ (x : List Token). AreStatements x all.statements) (sym (numbered_same tokens words)) all.are, λ setting types warnings. all.mean setting types warnings [] differ)
 
 -- The text.
 

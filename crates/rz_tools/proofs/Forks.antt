@@ -1,30 +1,34 @@
 -- The fork of a program.
-use Rattle.std.proofs.Common.{◌≡◌, inl, inr, ℕ, Bool, List, [], ◌∷◌, map, Ok, Err, Some, None, refl, sym, ap, subst, ◌∙◌}
-use Rattle.std.specs.Prelude.{IfSome}
+use Rattle.std.proofs.Common.{◌≡◌, inl, inr, ℕ, Bool, true, List, [], ◌∷◌, map, Ok, Err, Some, None, refl, sym, ap, subst, ◌∙◌}
+use Rattle.std.specs.Prelude.{option_map, IfSome}
 use Rattle.std.specs.declared.option.Option.{Option}
 use Rattle.std.specs.declared.result.Result.{Result}
+use Rattle.rz_lex.specs.Within.{AreWithin}
 use Rattle.rz_core.specs.declared.fault.Fault.{Fault}
 use Rattle.rz_core.specs.declared.resource.Resource.{Resource}
 use Rattle.rz_folder.specs.Folder.{Files}
+use Rattle.rz_lex.specs.Lexeme.{is_lexed, AreLexed}
+use Rattle.rz_lex.specs.declared.token.Shape.{Shape}
+use Rattle.rz_lex.specs.declared.token.Shape.TheVariants as shapes
 use Rattle.rz_lex.specs.declared.token.Token.{Token}
 use Rattle.rz_pre.specs.Program.{ProgramGoes, State}
 use Rattle.rz_pre.specs.Reading.{Gave, IsProgram}
 use Rattle.rz_pre.specs.declared.condition.Tool.{Tool}
 use Rattle.rz_pre.specs.declared.condition.Tool.TheVariants as tools
 use Rattle.rz_pre.specs.declared.program.Program.{Program}
-use Rattle.rz_pre.specs.Answers.{Then}
-use Rattle.rz_stmt.specs.Grammar.{AreWithin}
+use Rattle.rz_core.specs.Answers.{Then}
 use Rattle.rz_stmt.specs.Statements.{AreStatements}
 use Rattle.rz_tools.specs.Answer.{Failing, Making}
 use Rattle.rz_tools.specs.Made.{MadeSo, Refuses}
 use Rattle.rz_tools.specs.Rez.{fork_of_work, forked, list_fork, Compiles, Forked, HasFork, Said}
 use Rattle.rz_tools.specs.Warning.{warning_lines}
 use Rattle.rz_tools.specs.Step.{nothing_made, Means, Stopped, Work}
-use Rattle.rz_tools.specs.ToolWords.{numbered}
+use Rattle.rz_tools.specs.ToolWords.{number_for, numbered, shape_or, tool_in}
 use Rattle.rz_tools.specs.declared.made.Made.{Made}
 use Rattle.rz_tools.specs.declared.made.Stopped.{Stopped as Stops}
 use Rattle.rz_tools.specs.declared.made.Stopped.TheVariants as stops
 use Rattle.rz_words.specs.Command.{RezAsked}
+use Rattle.rz_tools.specs.declared.setting.Setting.{Setting}
 
 -- numbers in place of words leave the tokens where they are
 within : (tool : Tool) (files : ℕ) (tokens : List Token) → AreWithin files tokens → AreWithin files (map (numbered tool) tokens)
@@ -33,6 +37,24 @@ within tool files (token ∷ tokens) all = (all.0, within tool files tokens all.
 
 pub still_within : (tool : Tool) (files : ℕ) (tokens numbers : List Token) → numbers ≡ map (numbered tool) tokens → AreWithin files tokens → AreWithin files numbers
 still_within tool files tokens numbers are all = subst (AreWithin files) (sym are) (within tool files tokens all)
+
+-- and tokens that lines can be cut into
+number_lexed : (tool named : Tool) → is_lexed (shapes.Number (number_for tool named)) ≡ true
+number_lexed tools.Rez tools.Rez = refl
+number_lexed tools.Rez tools.DeRez = refl
+number_lexed tools.DeRez tools.Rez = refl
+number_lexed tools.DeRez tools.DeRez = refl
+
+shape_lexed : (tool : Tool) (shape : Shape) (named : Option Tool) → is_lexed shape ≡ true → is_lexed (shape_or shape (option_map (number_for tool) named)) ≡ true
+shape_lexed tool shape None is = is
+shape_lexed tool shape (Some named) is = number_lexed tool named
+
+lexed : (tool : Tool) (tokens : List Token) → AreLexed tokens → AreLexed (map (numbered tool) tokens)
+lexed tool [] all = tt
+lexed tool (token ∷ tokens) all = (shape_lexed tool token.shape (tool_in token.shape) all.0, lexed tool tokens all.1)
+
+pub still_lexed : (tool : Tool) (tokens numbers : List Token) → numbers ≡ map (numbered tool) tokens → AreLexed tokens → AreLexed numbers
+still_lexed tool tokens numbers are all = subst AreLexed (sym are) (lexed tool tokens all)
 
 -- what is made so is made otherwise too, where each such answer is one of the others
 made_so : (A B : Result Making Failing → Type 0) → ((answer : Result Making Failing) → A answer → B answer) → (result : Result Made Stops) → MadeSo result A → MadeSo result B
@@ -49,12 +71,12 @@ said_so files names same P Q so (Err failing) is =
 
 -- What the tokens mean.
 
-module _ (redeclare : Bool) (files : List (List ℕ)) (statements : List (List Token)) (work : Work) where
-  pub made_of_work : (result : Result Made Stops) → Means redeclare nothing_made statements (Ok work) → MadeSo result (Said files (λ answer. answer ≡ fork_of_work work))
-      → MadeSo result (Said files (Then (Means redeclare nothing_made statements) (λ work answer. answer ≡ fork_of_work work)))
+module _ (setting : Setting) (files : List (List ℕ)) (statements : List (List Token)) (work : Work) where
+  pub made_of_work : (result : Result Made Stops) → Means setting nothing_made statements (Ok work) → MadeSo result (Said files (λ answer. answer ≡ fork_of_work work))
+      → MadeSo result (Said files (Then (Means setting nothing_made statements) (λ work answer. answer ≡ fork_of_work work)))
   made_of_work result means made =
-      made_so (Said files (λ answer. answer ≡ fork_of_work work)) (Said files (Then (Means redeclare nothing_made statements) (λ work answer. answer ≡ fork_of_work work)))
-      (said_so files files refl (λ answer. answer ≡ fork_of_work work) (Then (Means redeclare nothing_made statements) (λ work answer. answer ≡ fork_of_work work)) (λ answer is. inl (work, means, is)))
+      made_so (Said files (λ answer. answer ≡ fork_of_work work)) (Said files (Then (Means setting nothing_made statements) (λ work answer. answer ≡ fork_of_work work)))
+      (said_so files files refl (λ answer. answer ≡ fork_of_work work) (Then (Means setting nothing_made statements) (λ work answer. answer ≡ fork_of_work work)) (λ answer is. inl (work, means, is)))
       result made
 
 -- a refusal behind these warnings
@@ -81,30 +103,30 @@ module _ (work : Work) (list : List Resource) (files : List (List ℕ)) (same : 
 
 -- What the program means.
 
-module _ (asked : RezAsked) (program : Program) (numbers : List Token) (are : numbers ≡ map (numbered tools.Rez) program.tokens)
+module _ (setting : Setting) (asked : RezAsked) (program : Program) (numbers : List Token) (are : numbers ≡ map (numbered tools.Rez) program.tokens)
     (cut : (statements : List (List Token)) × AreStatements numbers statements) where
-  has_fork : (s : State) → IsProgram program s → (fork : Result Forked Stopped) → Then (Means asked.redeclare nothing_made cut.0) (λ work answer. answer ≡ fork_of_work work) fork
-      → HasFork asked.redeclare (map (numbered tools.Rez) s.tokens) fork
+  has_fork : (s : State) → IsProgram program s → (fork : Result Forked Stopped) → Then (Means setting nothing_made cut.0) (λ work answer. answer ≡ fork_of_work work) fork
+      → HasFork setting (map (numbered tools.Rez) s.tokens) fork
   has_fork s is fork makes =
       (cut.0, subst (λ (ts : List Token). AreStatements ts cut.0) (are ∙ ap (map (numbered tools.Rez)) is.tokens) cut.1, makes)
 
   pub compiled : (before : Option Files) → IfSome before (λ files. Gave (Ok program) (ProgramGoes files tools.Rez asked.files asked.paths asked.defs))
-      → (result : Result Made Stops) → MadeSo result (Said program.files (Then (Means asked.redeclare nothing_made cut.0) (λ work answer. answer ≡ fork_of_work work)))
-      → IfSome before (λ files. MadeSo result (Compiles asked files))
+      → (result : Result Made Stops) → MadeSo result (Said program.files (Then (Means setting nothing_made cut.0) (λ work answer. answer ≡ fork_of_work work)))
+      → IfSome before (λ files. MadeSo result (Compiles setting asked files))
   compiled None gave result makes = tt
   compiled (Some files) gave result makes =
-      made_so (Said program.files (Then (Means asked.redeclare nothing_made cut.0) (λ work answer. answer ≡ fork_of_work work))) (Compiles asked files)
+      made_so (Said program.files (Then (Means setting nothing_made cut.0) (λ work answer. answer ≡ fork_of_work work))) (Compiles setting asked files)
       (λ answer is. inl (
         gave.0,
         gave.2,
-        said_so program.files gave.0.files (sym gave.1.files) (Then (Means asked.redeclare nothing_made cut.0) (λ work answer. answer ≡ fork_of_work work))
-            (HasFork asked.redeclare (map (numbered tools.Rez) gave.0.tokens)) (has_fork gave.0 gave.1) answer is,
+        said_so program.files gave.0.files (sym gave.1.files) (Then (Means setting nothing_made cut.0) (λ work answer. answer ≡ fork_of_work work))
+            (HasFork setting (map (numbered tools.Rez) gave.0.tokens)) (has_fork gave.0 gave.1) answer is,
       ))
       result makes
 
 -- a program that is refused
-pub no_program : (asked : RezAsked) (fault : Fault) (named : List (List ℕ)) (before : Option Files)
+pub no_program : (setting : Setting) (asked : RezAsked) (fault : Fault) (named : List (List ℕ)) (before : Option Files)
     → IfSome before (λ files. ProgramGoes files tools.Rez asked.files asked.paths asked.defs (Err (record { fault = fault; files = named })))
-    → IfSome before (λ files. Compiles asked files (Err (record { fault = fault; files = named; said = [] })))
-no_program asked fault named None gave = tt
-no_program asked fault named (Some files) gave = inr (record { fault = fault; files = named; said = [] }, (gave, refl), refl)
+    → IfSome before (λ files. Compiles setting asked files (Err (record { fault = fault; files = named; said = [] })))
+no_program setting asked fault named None gave = tt
+no_program setting asked fault named (Some files) gave = inr (record { fault = fault; files = named; said = [] }, (gave, refl), refl)

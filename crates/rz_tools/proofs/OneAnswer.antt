@@ -13,13 +13,15 @@ use Rattle.rz_stmt.specs.Statements.{AreStatements}
 use Rattle.rz_words.specs.Command.{Asked, Rez, DeRez, Help, Version, IsCommand, IsMisplaced, RezAsked}
 use Rattle.rz_tools.specs.Answer.{Answer, ended, or_refused, shown_made, written}
 use Rattle.rz_tools.specs.Program.{Answers, AnswersTo, command, misplaced}
-use Rattle.rz_tools.specs.Rez.{fork_of_work, Compiles, Forked, HasFork, Said, Unsaid}
+use Rattle.rz_tools.specs.Rez.{fork_of_work, setting_of, Compiles, Forked, HasFork, Said, Unsaid}
 use Rattle.rz_tools.specs.Warning.{warning_lines}
 use Rattle.rz_tools.specs.Step.{nothing_made, work_behind, Means, Steps, Stopped, WithWarnings, Work}
 use Rattle.rz_stmt.specs.Grammar.{mark_of, Parses, Statement}
-use Rattle.rz_pre.specs.Answers.{Then}
+use Rattle.rz_core.specs.Answers.{Then}
 use Rattle.rz_tools.specs.ToolWords.{numbered}
 use Rattle.rz_tools.specs.declared.outcome.Outcome.TheVariants.{Usage}
+use Rattle.rz_tools.specs.declared.setting.Setting.{Setting}
+use Rattle.rz_core.proofs.Once.{err, ok, ok_or_err, once_is, once_then, same_err, same_ok, Once}
 
 -- The laws of the crates below.
 
@@ -38,93 +40,63 @@ OneCommand = (words : List (List ℕ)) (asked others : Asked) → IsCommand word
 abbrev pub OnePosition : Type 0
 OnePosition = (words : List (List ℕ)) (position another : ℕ) → IsMisplaced words position → IsMisplaced words another → position ≡ another
 
-abbrev ok : {X F : Type 0} → X → Result X F
-ok value = Ok value
-
-abbrev err : {X F : Type 0} → F → Result X F
-err fault = Err fault
-
 abbrev pub OneStatement : Type 0
 OneStatement = (tokens : List Token) (answer another : Result Statement Fault) → Parses tokens answer → Parses tokens another → answer ≡ another
 
--- at most one answer
-abbrev Once : {X F : Type 0} → (Result X F → Type 0) → Type 0
-Once {X} {F} answers = (one other : Result X F) → answers one → answers other → one ≡ other
-
-same_value : {X F : Type 0} (x y : X) → ok {F = F} x ≡ ok y → x ≡ y
-same_value x y is = cc
-
-same_fault : {X F : Type 0} (f g : F) → err {X = X} f ≡ err g → f ≡ g
-same_fault f g is = cc
-
-value_or_fault : {X F : Type 0} (x : X) (f : F) → ok x ≡ err f → ⊥
-value_or_fault x f is = cc
-
-once_then : {X Y F : Type 0} (first : Result X F → Type 0) (next : X → Result Y F → Type 0) → Once first → ((x : X) → Once (next x)) → Once (Then first next)
-once_then {X} {Y} {F} first next f n one other (inl a) (inl b) =
-    let same : a.0 ≡ b.0 = same_value {F = F} a.0 b.0 (f (Ok a.0) (Ok b.0) a.1 b.1) in
-    n b.0 one other (subst (λ (x : X). next x one) same a.2) b.2
-once_then first next f n one other (inl a) (inr b) = absurd (value_or_fault a.0 b.0 (f (Ok a.0) (Err b.0) a.1 b.1))
-once_then first next f n one other (inr a) (inl b) = absurd (value_or_fault b.0 a.0 (f (Ok b.0) (Err a.0) b.1 a.1))
-once_then {X} {Y} {F} first next f n one other (inr a) (inr b) = a.2 ∙ ap (λ (g : F). err {X = Y} g) (same_fault {X = X} a.0 b.0 (f (Err a.0) (Err b.0) a.1 b.1)) ∙ sym b.2
-
-once_is : {X F : Type 0} (answer : Result X F) → Once (λ given. given ≡ answer)
-once_is answer one other a b = a ∙ sym b
-
 once_with : {X : Type 0} (warnings : List Fault) (answers : Result X Fault → Type 0) → Once answers → Once (WithWarnings warnings answers)
-once_with warnings answers once (Ok a) (Ok b) is also = ap ok (same_value {F = Fault} a b (once (Ok a) (Ok b) is also))
-once_with warnings answers once (Ok a) (Err b) is also = absurd (value_or_fault a b.fault (once (Ok a) (Err b.fault) is also.0))
-once_with warnings answers once (Err a) (Ok b) is also = absurd (value_or_fault b a.fault (once (Ok b) (Err a.fault) also is.0))
+once_with warnings answers once (Ok a) (Ok b) is also = ap ok (same_ok {F = Fault} a b (once (Ok a) (Ok b) is also))
+once_with warnings answers once (Ok a) (Err b) is also = absurd (ok_or_err a b.fault (once (Ok a) (Err b.fault) is also.0))
+once_with warnings answers once (Err a) (Ok b) is also = absurd (ok_or_err b a.fault (once (Ok b) (Err a.fault) also is.0))
 once_with {X} warnings answers once (Err a) (Err b) is also =
-    let fault : a.fault ≡ b.fault = same_fault {X = X} a.fault b.fault (once (Err a.fault) (Err b.fault) is.0 also.0) in
+    let fault : a.fault ≡ b.fault = same_err {X = X} a.fault b.fault (once (Err a.fault) (Err b.fault) is.0 also.0) in
     λ i. Err (record { fault = fault i; warnings = (is.1 ∙ sym also.1) i })
 
 once_said : (files : List (List ℕ)) (answers : Result Forked Stopped → Type 0) → Once answers → Once (Said files answers)
 once_said files answers once (Ok a) (Ok b) is also =
-    let same : is.0 ≡ also.0 = same_value {F = Stopped} is.0 also.0 (once (Ok is.0) (Ok also.0) is.1 also.1) in
+    let same : is.0 ≡ also.0 = same_ok {F = Stopped} is.0 also.0 (once (Ok is.0) (Ok also.0) is.1 also.1) in
     ap ok (is.2 ∙ ap (λ (f : Forked). record { bytes = f.bytes; said = warning_lines files f.warnings }) same ∙ sym also.2)
-once_said files answers once (Ok a) (Err b) is also = absurd (value_or_fault is.0 also.0 (once (Ok is.0) (Err also.0) is.1 also.1))
-once_said files answers once (Err a) (Ok b) is also = absurd (value_or_fault also.0 is.0 (once (Ok also.0) (Err is.0) also.1 is.1))
+once_said files answers once (Ok a) (Err b) is also = absurd (ok_or_err is.0 also.0 (once (Ok is.0) (Err also.0) is.1 also.1))
+once_said files answers once (Err a) (Ok b) is also = absurd (ok_or_err also.0 is.0 (once (Ok also.0) (Err is.0) also.1 is.1))
 once_said files answers once (Err a) (Err b) is also =
-    let same : is.0 ≡ also.0 = same_fault {X = Forked} is.0 also.0 (once (Err is.0) (Err also.0) is.1 also.1) in
+    let same : is.0 ≡ also.0 = same_err {X = Forked} is.0 also.0 (once (Err is.0) (Err also.0) is.1 also.1) in
     ap err (is.2 ∙ ap (λ (s : Stopped). record { fault = s.fault; files = files; said = warning_lines files s.warnings }) same ∙ sym also.2)
 
 once_unsaid : {X : Type 0} (answers : Result X Failure → Type 0) → Once answers → Once (Unsaid answers)
-once_unsaid answers once (Ok a) (Ok b) is also = ap ok (same_value {F = Failure} a b (once (Ok a) (Ok b) is also))
+once_unsaid answers once (Ok a) (Ok b) is also = ap ok (same_ok {F = Failure} a b (once (Ok a) (Ok b) is also))
 once_unsaid answers once (Ok a) (Err b) is also =
-    absurd (value_or_fault {F = Failure} a (record { fault = b.fault; files = b.files }) (once (Ok a) (Err (record { fault = b.fault; files = b.files })) is also.0))
+    absurd (ok_or_err {F = Failure} a (record { fault = b.fault; files = b.files }) (once (Ok a) (Err (record { fault = b.fault; files = b.files })) is also.0))
 once_unsaid answers once (Err a) (Ok b) is also =
-    absurd (value_or_fault {F = Failure} b (record { fault = a.fault; files = a.files }) (once (Ok b) (Err (record { fault = a.fault; files = a.files })) also is.0))
+    absurd (ok_or_err {F = Failure} b (record { fault = a.fault; files = a.files }) (once (Ok b) (Err (record { fault = a.fault; files = a.files })) also is.0))
 once_unsaid {X} answers once (Err a) (Err b) is also =
     let same : ◌≡◌ {A = Failure} (record { fault = a.fault; files = a.files }) (record { fault = b.fault; files = b.files }) =
-    same_fault {X = X} _ _ (once (Err (record { fault = a.fault; files = a.files })) (Err (record { fault = b.fault; files = b.files })) is.0 also.0) in
+    same_err {X = X} _ _ (once (Err (record { fault = a.fault; files = a.files })) (Err (record { fault = b.fault; files = b.files })) is.0 also.0) in
     λ i. Err (record { fault = (same i).fault; files = (same i).files; said = (is.1 ∙ sym also.1) i })
 
 module _ (cutting : OneCutting) (statement_law : OneStatement) where
-  one_meaning : (redeclare : Bool) (work : Work) (statements : List (List Token)) → Once (Means redeclare work statements)
-  one_meaning redeclare work [] = once_is (Ok work)
-  one_meaning redeclare work (tokens ∷ statements) =
-      once_then (Steps redeclare work tokens) (λ next. Means redeclare next statements)
-      (once_with work.warnings (Then (Parses tokens) (λ statement answer. answer ≡ work_behind redeclare (mark_of tokens) work statement))
-      (once_then (Parses tokens) (λ statement answer. answer ≡ work_behind redeclare (mark_of tokens) work statement) (statement_law tokens)
-      (λ statement. once_is (work_behind redeclare (mark_of tokens) work statement))))
-      (λ next. one_meaning redeclare next statements)
+  one_meaning : (setting : Setting) (work : Work) (statements : List (List Token)) → Once (Means setting work statements)
+  one_meaning setting work [] = once_is (Ok work)
+  one_meaning setting work (tokens ∷ statements) =
+      once_then (Steps setting work tokens) (λ next. Means setting next statements)
+      (once_with work.warnings (Then (Parses tokens) (λ statement answer. answer ≡ work_behind setting (mark_of tokens) work statement))
+      (once_then (Parses tokens) (λ statement answer. answer ≡ work_behind setting (mark_of tokens) work statement) (statement_law tokens)
+      (λ statement. once_is (work_behind setting (mark_of tokens) work statement))))
+      (λ next. one_meaning setting next statements)
 
-  one_fork : (redeclare : Bool) (tokens : List Token) → Once (HasFork redeclare tokens)
-  one_fork redeclare tokens a b is also =
-      once_then (Means redeclare nothing_made is.0) (λ work answer. answer ≡ fork_of_work work) (one_meaning redeclare nothing_made is.0) (λ work. once_is (fork_of_work work)) a b is.2
-      (subst (λ (ss : List (List Token)). Then (Means redeclare nothing_made ss) (λ work answer. answer ≡ fork_of_work work) b) (sym (cutting tokens is.0 also.0 is.1 also.1)) also.2)
+  one_fork : (setting : Setting) (tokens : List Token) → Once (HasFork setting tokens)
+  one_fork setting tokens a b is also =
+      once_then (Means setting nothing_made is.0) (λ work answer. answer ≡ fork_of_work work) (one_meaning setting nothing_made is.0) (λ work. once_is (fork_of_work work)) a b is.2
+      (subst (λ (ss : List (List Token)). Then (Means setting nothing_made ss) (λ work answer. answer ≡ fork_of_work work) b) (sym (cutting tokens is.0 also.0 is.1 also.1)) also.2)
 
   module _ (program : OneProgram) where
-    pub one_compiled : (asked : RezAsked) (files : Files) → Once (Compiles asked files)
-    one_compiled asked files =
-        once_then (Unsaid (ProgramGoes files tools.Rez asked.files asked.paths asked.defs)) (λ s. Said s.files (HasFork asked.redeclare (map (numbered tools.Rez) s.tokens)))
+    pub one_compiled : (setting : Setting) (asked : RezAsked) (files : Files) → Once (Compiles setting asked files)
+    one_compiled setting asked files =
+        once_then (Unsaid (ProgramGoes files tools.Rez asked.files asked.paths asked.defs)) (λ s. Said s.files (HasFork setting (map (numbered tools.Rez) s.tokens)))
         (once_unsaid (ProgramGoes files tools.Rez asked.files asked.paths asked.defs) (program files tools.Rez asked.files asked.paths asked.defs))
-        (λ s. once_said s.files (HasFork asked.redeclare (map (numbered tools.Rez) s.tokens)) (one_fork asked.redeclare (map (numbered tools.Rez) s.tokens)))
+        (λ s. once_said s.files (HasFork setting (map (numbered tools.Rez) s.tokens)) (one_fork setting (map (numbered tools.Rez) s.tokens)))
 
     one_to : (asked : Asked) (files : Files) (moment : Moment) (a b : Answer) → AnswersTo asked files moment a → AnswersTo asked files moment b → a ≡ b
     one_to (Rez asked) files moment a b is also =
-        is.2 ∙ ap (or_refused (written asked.output files) files) (one_compiled asked files is.0 also.0 is.1 also.1) ∙ sym also.2
+        is.2 ∙ ap (or_refused (written asked.output files) files) (one_compiled (setting_of moment asked) asked files is.0 also.0 is.1 also.1) ∙ sym also.2
     one_to (DeRez file) files moment a b is also = is.2 ∙ ap (or_refused (shown_made files) files) (is.1 ∙ sym also.1) ∙ sym also.2
     one_to Help files moment a b is also = is ∙ sym also
     one_to Version files moment a b is also = is ∙ sym also

@@ -22,10 +22,7 @@ use Rattle.rz_pre.specs.declared.act.Act.TheVariants.{Put}
 use Rattle.rz_pre.specs.declared.condition.Tool.{Tool}
 use Rattle.rz_show.specs.Page.{AreCut}
 use Rattle.rz_source.specs.Directive.{behind_hash, unblanked}
-
-pub by_test : (P : Type 0) (b : Bool) → (b ≡ true → P) → (b ≡ false → P) → P
-by_test P true holds fails = holds refl
-by_test P false holds fails = fails refl
+use Rattle.rz_core.proofs.Tests.{by_test}
 
 -- A line that has tokens is no directive.
 

@@ -6,16 +6,13 @@ use Rattle.std.specs.List.{AllByRecursion, list_any}
 use Rattle.std.proofs.lemmas.List.Folds.{list_any-append}
 use Rattle.indexmap.specs.IndexMap.{insert_entry}
 use Rattle.std.specs.Map.{lookup}
+use Rattle.rz_core.proofs.Tests.{both}
 use Rattle.rz_fork.specs.Image.{AreNamed}
 use Rattle.rz_tools.specs.Step.{namesake, protected_fault, protects, put_unless_protected}
 use Rattle.rz_core.specs.declared.fault.Mark.{Mark}
 use Rattle.rz_core.specs.Resources.{id_bits, same_key, put, KeysDiffer}
 use Rattle.rz_core.specs.declared.resource.Resource.{Resource}
 use Rattle.rz_tools.specs.ResourceList.{holds_protected, key_eq, key_of, keyed, values_of, IsKeyed}
-
-both : (a b : Bool) → (a && b) ≡ true → (a ≡ true) × (b ≡ true)
-both true b is = (refl, is)
-both false b is = cc
 
 same_code : (r x : Resource) → same_key r x ≡ true → r.kind.code ≡ x.kind.code
 same_code r x is = eqb-true r.kind.code x.kind.code (both (r.kind.code == x.kind.code) (id_bits r == id_bits x) is).0

@@ -3,6 +3,7 @@ use Rattle.std.proofs.Common.{◌≡◌, ◌≢◌, ◌⊎◌, inl, inr, ℕ, ze
 use Rattle.std.specs.declared.result.Result.{Result}
 use Rattle.std.proofs.lemmas.List.{drop_at, take_at}
 use Rattle.std.proofs.lemmas.Option.{get_or_from_slice_get, same_Some}
+use Rattle.rz_lex.specs.Within.{AreWithin}
 use Rattle.rz_core.specs.declared.fault.Fault.{Fault}
 use Rattle.rz_core.specs.declared.fault.Mark.{Mark}
 use Rattle.rz_core.specs.declared.resource.Resource.{Resource}
@@ -10,12 +11,12 @@ use Rattle.rz_lex.specs.declared.token.Token.{Token}
 use Rattle.rz_core.specs.Stop.{Gives, OnFault, ◌>>=◌}
 use Rattle.rz_core.specs.declared.stop.Stop.{Stop}
 use Rattle.rz_core.specs.declared.stop.Stop.TheVariants.{Refused, NoMemory}
-use Rattle.rz_stmt.specs.Declare as declare
-use Rattle.rz_stmt.specs.Grammar.{mark_of, AreWithin, Data, Declares, Empty, Gave, Parses}
+use Rattle.rz_stmt.specs.Constants as declare
+use Rattle.rz_stmt.specs.Grammar.{mark_of, Data, Declares, Empty, Gave, Parses}
 use Rattle.rz_stmt.specs.Raw.{Raw}
 use Rattle.rz_tools.specs.Data.{resource_of}
 use Rattle.rz_stmt.specs.Statements.{spans_from, AreStatements, IsRest, IsStatement}
-use Rattle.rz_stmt.specs.declared.span.Span.{Span}
+use Rattle.rz_brackets.specs.declared.span.Span.{Span}
 use Rattle.rz_core.specs.Resources.{KeysDiffer}
 use Rattle.rz_fork.specs.Image.{AreNamed}
 use Rattle.rz_tools.specs.Held.{work_of}
@@ -23,35 +24,36 @@ use Rattle.rz_tools.specs.Warning.{AreWarnings}
 use Rattle.rz_tools.specs.ResourceList.{values_of}
 use Rattle.rz_tools.specs.declared.step.Work as held
 use Rattle.rz_tools.specs.Step.{all_at, declared, list_behind, nothing_made, put_unless_protected, tokens_at, with_list, AreSpans, IsSpan, Means, Stepped, Steps, Stopped, Work, Worked}
+use Rattle.rz_tools.specs.declared.setting.Setting.{Setting}
 
 -- whatever the statements of the rest mean behind this, all mean so
-abbrev pub LeadsTo : Bool → List Token → List Span → List Span → Work → Type 0
-LeadsTo redeclare tokens all rest work =
-    (answer : Result Work Stopped) → Means redeclare work (all_at tokens rest) answer → Means redeclare nothing_made (all_at tokens all) answer
+abbrev pub LeadsTo : Setting → List Token → List Span → List Span → Work → Type 0
+LeadsTo setting tokens all rest work =
+    (answer : Result Work Stopped) → Means setting work (all_at tokens rest) answer → Means setting nothing_made (all_at tokens all) answer
 
-module _ (redeclare : Bool) (tokens : List Token) (all rest behind : List Span) (span : Span) (work : Work) (leads : LeadsTo redeclare tokens all rest work) (are : rest ≡ span ∷ behind) where
-  pub leads_on : (next : Work) → Steps redeclare work (tokens_at tokens span) (Ok next) → LeadsTo redeclare tokens all behind next
+module _ (setting : Setting) (tokens : List Token) (all rest behind : List Span) (span : Span) (work : Work) (leads : LeadsTo setting tokens all rest work) (are : rest ≡ span ∷ behind) where
+  pub leads_on : (next : Work) → Steps setting work (tokens_at tokens span) (Ok next) → LeadsTo setting tokens all behind next
   leads_on next steps answer means =
-      leads answer (subst (λ (ss : List Span). Means redeclare work (all_at tokens ss) answer) (sym are) (inl (next, steps, means)))
+      leads answer (subst (λ (ss : List Span). Means setting work (all_at tokens ss) answer) (sym are) (inl (next, steps, means)))
 
-  pub leads_to_fault : (stopped : Stopped) → Steps redeclare work (tokens_at tokens span) (Err stopped) → Means redeclare nothing_made (all_at tokens all) (Err stopped)
+  pub leads_to_fault : (stopped : Stopped) → Steps setting work (tokens_at tokens span) (Err stopped) → Means setting nothing_made (all_at tokens all) (Err stopped)
   leads_to_fault stopped steps =
-      leads (Err stopped) (subst (λ (ss : List Span). Means redeclare work (all_at tokens ss) (Err stopped)) (sym are) (inr (stopped, steps, refl)))
+      leads (Err stopped) (subst (λ (ss : List Span). Means setting work (all_at tokens ss) (Err stopped)) (sym are) (inr (stopped, steps, refl)))
 
   -- a statement that stops all
-  pub leads_to_stop : (stop : Stop Fault) (after : Work) → Worked (Steps redeclare work (tokens_at tokens span)) (Err stop) after
-      → Worked (Means redeclare nothing_made (all_at tokens all)) (Err stop) after
+  pub leads_to_stop : (stop : Stop Fault) (after : Work) → Worked (Steps setting work (tokens_at tokens span)) (Err stop) after
+      → Worked (Means setting nothing_made (all_at tokens all)) (Err stop) after
   leads_to_stop (Refused fault) after steps = leads_to_fault (record { fault = fault; warnings = after.warnings }) steps
   leads_to_stop NoMemory after steps = tt
 
-pub leads_end : (redeclare : Bool) (tokens : List Token) (all rest : List Span) (work : Work) → LeadsTo redeclare tokens all rest work → rest ≡ []
-    → Means redeclare nothing_made (all_at tokens all) (Ok work)
-leads_end redeclare tokens all rest work leads none = leads (Ok work) (subst (λ (ss : List Span). Means redeclare work (all_at tokens ss) (Ok work)) (sym none) refl)
+pub leads_end : (setting : Setting) (tokens : List Token) (all rest : List Span) (work : Work) → LeadsTo setting tokens all rest work → rest ≡ []
+    → Means setting nothing_made (all_at tokens all) (Ok work)
+leads_end setting tokens all rest work leads none = leads (Ok work) (subst (λ (ss : List Span). Means setting work (all_at tokens ss) (Ok work)) (sym none) refl)
 
 -- nothing is made before the first
 module _ (held : held.Work) (nothing : work_of held ≡ nothing_made) where
-  pub leads_from : (redeclare : Bool) (tokens : List Token) (all : List Span) → LeadsTo redeclare tokens all all (work_of held)
-  leads_from redeclare tokens all answer means = subst (λ (w : Work). Means redeclare w (all_at tokens all) answer) nothing means
+  pub leads_from : (setting : Setting) (tokens : List Token) (all : List Span) → LeadsTo setting tokens all all (work_of held)
+  leads_from setting tokens all answer means = subst (λ (w : Work). Means setting w (all_at tokens all) answer) nothing means
 
   pub none_is_named : AreNamed (values_of held.held.entries)
   none_is_named = subst (λ (w : Work). AreNamed w.list) (sym nothing) tt
@@ -127,39 +129,39 @@ module _ (tokens : List Token) where
 
 -- One statement.
 
-module _ (redeclare : Bool) (work : Work) (ts : List Token) where
-  pub stopped : (stop : Stop Fault) → Gave (Err stop) (Parses ts) → Worked (Steps redeclare work ts) (Err stop) work
+module _ (setting : Setting) (work : Work) (ts : List Token) where
+  pub stopped : (stop : Stop Fault) → Gave (Err stop) (Parses ts) → Worked (Steps setting work ts) (Err stop) work
   stopped (Refused fault) parsed = (inr (fault, parsed, refl), refl)
   stopped NoMemory parsed = tt
 
-  pub nothing_done : Parses ts (Ok Empty) → Steps redeclare work ts (Ok work)
+  pub nothing_done : Parses ts (Ok Empty) → Steps setting work ts (Ok work)
   nothing_done parsed = inl (Empty, parsed, refl)
 
   pub raw_done : (raw : Raw) (mark : Mark) (result : Result (Unit {0}) (Stop Fault)) (after : List Resource) → Parses ts (Ok (Data raw)) → mark_of ts ≡ mark
-      → Stepped (λ answer. answer ≡ list_behind mark work.list raw) result after → Worked (Steps redeclare work ts) result (record work { list = after })
+      → Stepped (λ answer. answer ≡ list_behind setting mark work.list raw) result after → Worked (Steps setting work ts) result (record work { list = after })
   raw_done raw mark (Ok nothing) after parsed same done =
-      inl (Data raw, parsed, ap (with_list work) (done ∙ ap (λ m. list_behind m work.list raw) (sym same)))
+      inl (Data raw, parsed, ap (with_list work) (done ∙ ap (λ m. list_behind setting m work.list raw) (sym same)))
   raw_done raw mark (Err (Refused fault)) after parsed same done =
-      (inl (Data raw, parsed, ap (with_list work) (done ∙ ap (λ m. list_behind m work.list raw) (sym same))), refl)
+      (inl (Data raw, parsed, ap (with_list work) (done ∙ ap (λ m. list_behind setting m work.list raw) (sym same))), refl)
   raw_done raw mark (Err NoMemory) after parsed same done = tt
 
   pub declare_done : (one : declare.Declare) (mark : Mark) (result : Result (Unit {0}) (Stop Fault)) (after : Work) → Parses ts (Ok (Declares one)) → mark_of ts ≡ mark
-      → Stepped (λ answer. answer ≡ declared redeclare mark work one) result after → OnFault result (λ fault. after.warnings ≡ work.warnings)
-      → Worked (Steps redeclare work ts) result after
-  declare_done one mark (Ok nothing) after parsed same done kept = inl (Declares one, parsed, done ∙ ap (λ m. declared redeclare m work one) (sym same))
+      → Stepped (λ answer. answer ≡ declared setting mark work one) result after → OnFault result (λ fault. after.warnings ≡ work.warnings)
+      → Worked (Steps setting work ts) result after
+  declare_done one mark (Ok nothing) after parsed same done kept = inl (Declares one, parsed, done ∙ ap (λ m. declared setting m work one) (sym same))
   declare_done one mark (Err (Refused fault)) after parsed same done kept =
-      (inl (Declares one, parsed, done ∙ ap (λ m. declared redeclare m work one) (sym same)), kept)
+      (inl (Declares one, parsed, done ∙ ap (λ m. declared setting m work one) (sym same)), kept)
   declare_done one mark (Err NoMemory) after parsed same done kept = tt
 
-module _ (mark : Mark) (list : List Resource) (raw : Raw) where
-  pub put_after : (resource : Resource) (result : Result (Unit {0}) (Stop Fault)) (after : List Resource) → resource_of mark raw ≡ Ok resource
+module _ (setting : Setting) (mark : Mark) (list : List Resource) (raw : Raw) where
+  pub put_after : (resource : Resource) (result : Result (Unit {0}) (Stop Fault)) (after : List Resource) → resource_of setting mark raw ≡ Ok resource
       → Stepped (λ answer. answer ≡ put_unless_protected mark list resource) result after
-      → Stepped (λ answer. answer ≡ list_behind mark list raw) result after
+      → Stepped (λ answer. answer ≡ list_behind setting mark list raw) result after
   put_after resource (Ok nothing) after is done = done ∙ ap (λ (r : Result Resource Fault). r >>= put_unless_protected mark list) (sym is)
   put_after resource (Err (Refused fault)) after is done = done ∙ ap (λ (r : Result Resource Fault). r >>= put_unless_protected mark list) (sym is)
   put_after resource (Err NoMemory) after is done = tt
 
-  pub no_resource : (stop : Stop Fault) → Gives (resource_of mark raw) (Err stop) → Stepped (λ answer. answer ≡ list_behind mark list raw) (Err stop) list
+  pub no_resource : (stop : Stop Fault) → Gives (resource_of setting mark raw) (Err stop) → Stepped (λ answer. answer ≡ list_behind setting mark list raw) (Err stop) list
   no_resource (Refused fault) is = ap (λ (r : Result Resource Fault). r >>= put_unless_protected mark list) (sym is)
   no_resource NoMemory is = tt
 

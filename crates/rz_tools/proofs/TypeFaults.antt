@@ -1,17 +1,17 @@
 -- What types are refused with is a rule of the table of faults.
-use Rattle.std.proofs.Common.{◌≡◌, ℕ, ℤ, List, [], ◌∷◌, ◌++◌, length, Err, Ok, Some, None, refl, subst}
+use Rattle.std.proofs.Common.{◌≡◌, ℕ, ℤ, List, [], ◌∷◌, map, Err, Ok, Some, None, refl, subst}
 use Rattle.std.specs.Prelude.{IfSome, option_map}
 use Rattle.std.specs.Option.{ok_or}
 use Rattle.std.specs.declared.option.Option.{Option}
 use Rattle.std.specs.declared.result.Result.{Result}
-use Rattle.rz_core.specs.Lists.{first_in, or_else, unless_fault}
+use Rattle.rz_core.specs.Lists.{first_of, or_else, unless_fault}
 use Rattle.rz_core.specs.Stop.{Gives, OnFault}
 use Rattle.rz_core.specs.declared.resource.OsType.{OsType}
 use Rattle.rz_core.specs.declared.stop.Stop.{Stop}
 use Rattle.rz_core.specs.declared.stop.Stop.TheVariants.{Refused, NoMemory}
 use Rattle.rz_tools.specs.Declare.{IsRule}
 use Rattle.rz_types.specs.Field.{PlainField}
-use Rattle.rz_types.specs.Rules.{bad_width, broken, broken_at, checked, width_fault}
+use Rattle.rz_types.specs.Rules.{bad_width, broken, broken_at, checked, walk, width_fault, Visit}
 use Rattle.rz_types.specs.Table.{asked, copied, no_such_type, Declaration}
 use Rattle.rz_types.specs.Template.{plain_templates}
 use Rattle.rz_types.specs.declared.rules.TypeFault.{TypeFault}
@@ -25,9 +25,16 @@ either : (bad : Option ℤ) (rest : Option TypeFault) (position : ℕ) → IfSom
 either None rest position is = is
 either (Some value) rest position is = refl
 
-broken_rule : (front body : List PlainField) → IfSome (first_in broken_at front body) IsRule
-broken_rule front [] = tt
-broken_rule front (x ∷ xs) = either (bad_width x) (first_in broken_at (front ++ x ∷ []) xs) (length front) (broken_rule (front ++ x ∷ []) xs)
+walk_rule : (visits : List Visit) → IfSome (first_of (map broken_at visits)) IsRule
+walk_rule [] = tt
+walk_rule (visit ∷ visits) = either (bad_width visit.field) (first_of (map broken_at visits)) visit.position (walk_rule visits)
+
+no_other : (found : Option TypeFault) → IfSome found IsRule → IfSome (or_else found None) IsRule
+no_other None is = tt
+no_other (Some fault) is = is
+
+broken_rule : (body : List PlainField) → IfSome (broken body) IsRule
+broken_rule body = no_other (first_of (map broken_at (walk body))) (walk_rule (walk body))
 
 found_rule : (found : Option TypeFault) (body : List PlainField) (fault : TypeFault) → IfSome found IsRule → unless_fault found body ≡ Err fault → IsRule fault
 found_rule None body fault is says = cc
@@ -36,7 +43,7 @@ found_rule (Some found) body fault is says = subst IsRule (same_fault found faul
 pub checked_rule : (body : List PlainField) (template : Result Template (Stop TypeFault)) → Gives (checked body) (plain_templates template)
     → OnFault template IsRule
 checked_rule body (Ok template) gives = tt
-checked_rule body (Err (Refused fault)) gives = found_rule (broken body) body fault (broken_rule [] body) gives
+checked_rule body (Err (Refused fault)) gives = found_rule (broken body) body fault (broken_rule body) gives
 checked_rule body (Err NoMemory) gives = tt
 
 missing_rule : (template : Option (List PlainField)) (kind : OsType) (id : Option ℤ) (fault : TypeFault)

@@ -8,34 +8,35 @@ use Rattle.std.proofs.lemmas.Int.{int_wrap_fits}
 use Rattle.std.proofs.lemmas.List.Folds.{flat_map-map}
 use Rattle.std.specs.declared.result.Result.{Result}
 use Rattle.rz_core.specs.Stop.{◌>>=◌}
+use Rattle.rz_core.specs.declared.facts.Facts.{Facts}
 use Rattle.rz_core.specs.declared.fault.Fault.{Fault}
 use Rattle.rz_core.specs.declared.fault.Mark.{Mark}
 use Rattle.rz_core.specs.declared.resource.Resource.{Resource}
 use Rattle.rz_show.specs.Statement.{attributes_of, id_term, name_part, shown_raw, text_parts, IsStored}
-use Rattle.rz_stmt.specs.Number.{number_of}
-use Rattle.rz_stmt.specs.Text.{bytes_in, bytes_of}
-use Rattle.rz_types.specs.declared.text.TextPart.TheVariants.{Plain}
-use Rattle.rz_tools.specs.Data.{bits_behind_all, contents_of, id_of, most_bytes, name_of, resource_of, short_bytes, short_name}
+use Rattle.rz_types.specs.Text.{bytes_in, bytes_of, Plain}
+use Rattle.rz_types.specs.Value.{number_of}
+use Rattle.rz_tools.specs.Data.{bits_behind_all, contents_of, head_facts, id_of, most_bytes, name_of, resource_of, short_bytes, short_name}
+use Rattle.rz_tools.specs.declared.setting.Setting.{Setting}
 
 module _ (mark : Mark) where
-  id_value : (id : ℤ) → FitsSigned w16 id → number_of mark (id_term id) ≡ Ok id
-  id_value (pos n) fits = refl
-  id_value (negsuc n) fits = ap (λ (z : ℤ). Ok z) (int_wrap_fits w32 (negsuc n) (omega (arith, fits)))
+  id_value : (known : Facts) (id : ℤ) → FitsSigned w16 id → number_of mark known (id_term id) ≡ Ok id
+  id_value known (pos n) fits = refl
+  id_value known (negsuc n) fits = ap (λ (z : ℤ). Ok z) (int_wrap_fits w32 (negsuc n) (omega (arith, fits)))
 
   id_inside : (id : ℤ) → FitsSigned w16 id → id_of mark id ≡ Ok id
   id_inside (pos n) fits = rw (le-leb n 32767 (omega (arith, fits))) refl
   id_inside (negsuc n) fits = rw (le-leb n 32767 (omega (arith, fits))) refl
 
-  pieces_again : (pieces : List (List ℕ)) (whole : List ℕ) → flat_map (λ piece. piece) pieces ≡ whole → bytes_of (text_parts pieces) ≡ Ok whole
-  pieces_again pieces whole is = ap (λ (x : List ℕ). Ok x) (flat_map-map bytes_in (λ (piece : List ℕ). Plain piece) pieces ∙ is)
+  pieces_again : (known : Facts) (pieces : List (List ℕ)) (whole : List ℕ) → flat_map (λ piece. piece) pieces ≡ whole → bytes_of mark known (text_parts pieces) ≡ Ok whole
+  pieces_again known pieces whole is = ap (λ (x : List ℕ). Ok x) (flat_map-map bytes_in (λ (piece : List ℕ). Plain piece) pieces ∙ is)
 
-  name_value : (pieces : List (List ℕ)) (name : List ℕ) → flat_map (λ piece. piece) pieces ≡ name → length name < 256 → name_of mark (name_part pieces) ≡ Ok name
-  name_value [] name is short = ap (λ (x : List ℕ). Ok x) is
-  name_value (piece ∷ pieces) name is short =
-      ap (λ o. o >>= short_name mark) (pieces_again (piece ∷ pieces) name is) ∙ rw (le-ltb 255 (length name) (omega (arith, short))) refl
+  name_value : (known : Facts) (pieces : List (List ℕ)) (name : List ℕ) → flat_map (λ piece. piece) pieces ≡ name → length name < 256 → name_of mark known (name_part pieces) ≡ Ok name
+  name_value known [] name is short = ap (λ (x : List ℕ). Ok x) is
+  name_value known (piece ∷ pieces) name is short =
+      ap (λ o. o >>= short_name mark) (pieces_again known (piece ∷ pieces) name is) ∙ rw (le-ltb 255 (length name) (omega (arith, short))) refl
 
-  bytes_value : (pieces : List (List ℕ)) (bytes : List ℕ) → flat_map (λ piece. piece) pieces ≡ bytes → length bytes ≤ most_bytes → contents_of mark (text_parts pieces) ≡ Ok bytes
-  bytes_value pieces bytes is short = ap (λ o. o >>= short_bytes mark) (pieces_again pieces bytes is) ∙ rw (le-ltb most_bytes (length bytes) short) refl
+  bytes_value : (known : Facts) (pieces : List (List ℕ)) (bytes : List ℕ) → flat_map (λ piece. piece) pieces ≡ bytes → length bytes ≤ most_bytes → contents_of mark known (text_parts pieces) ≡ Ok bytes
+  bytes_value known pieces bytes is short = ap (λ o. o >>= short_bytes mark) (pieces_again known pieces bytes is) ∙ rw (le-ltb most_bytes (length bytes) short) refl
 
   is_byte : Result ℕ Fault → ℕ → Bool
   is_byte (Ok value) byte = value == byte
@@ -46,12 +47,19 @@ module _ (mark : Mark) where
   same_byte (Ok value) byte h = ap (λ (x : ℕ). Ok x) (eqb-true value byte h)
   same_byte (Err fault) byte h = absurd cc
 
-  attributes_value : (attr : ℕ) → attr < 256 → bits_behind_all mark 0 (map (λ a. a.1) (attributes_of attr)) ≡ Ok attr
+  attributes_value : (known : Facts) (attr : ℕ) → attr < 256 → bits_behind_all mark known 0 (map (λ a. a.1) (attributes_of attr)) ≡ Ok attr
   unfolding is_byte
-  attributes_value attr small = same_byte (bits_behind_all mark 0 (map (λ a. a.1) (attributes_of attr))) attr
-      (agree_below_at (λ x. is_byte (bits_behind_all mark 0 (map (λ a. a.1) (attributes_of x))) x) (λ x. true) 256 attr refl small)
+  attributes_value known attr small = same_byte (bits_behind_all mark known 0 (map (λ a. a.1) (attributes_of attr))) attr
+      (agree_below_at (λ x. is_byte (bits_behind_all mark known 0 (map (λ a. a.1) (attributes_of x))) x) (λ x. true) 256 attr refl small)
 
-  pub resource_again : (r : Resource) (name bytes : List (List ℕ)) → IsStored r → flat_map (λ piece. piece) name ≡ r.name → flat_map (λ piece. piece) bytes ≡ r.bytes
-      → length r.name < 256 → length r.bytes ≤ most_bytes → resource_of mark (shown_raw r name bytes) ≡ Ok r
-  resource_again r name bytes stored name_is bytes_is named short =
-      rw (id_value r.id stored.id, id_inside r.id stored.id, name_value name r.name name_is named, attributes_value r.attr stored.attr, bytes_value bytes r.bytes bytes_is short) refl
+  pub resource_again : (setting : Setting) (r : Resource) (name bytes : List (List ℕ)) → IsStored r → flat_map (λ piece. piece) name ≡ r.name → flat_map (λ piece. piece) bytes ≡ r.bytes
+      → length r.name < 256 → length r.bytes ≤ most_bytes → resource_of setting mark (shown_raw r name bytes) ≡ Ok r
+  resource_again setting r name bytes stored name_is bytes_is named short =
+      let known : Facts = head_facts setting r.kind.code in
+      rw (
+        id_value known r.id stored.id,
+        id_inside r.id stored.id,
+        name_value known name r.name name_is named,
+        attributes_value known r.attr stored.attr,
+        bytes_value (record { kind = r.kind; id = r.id; name = r.name; attr = r.attr; moment = setting.moment }) bytes r.bytes bytes_is short,
+      ) refl

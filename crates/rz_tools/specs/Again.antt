@@ -1,5 +1,5 @@
 -- The text that DeRez writes, read by Rez.
-use Rattle.std.specs.Prelude.{◌≡◌, ◌≤◌, ℕ, Bool, List, [], ◌∷◌, ◌++◌, length, map, Option, Some, None, Ok}
+use Rattle.std.specs.Prelude.{◌≡◌, ◌≤◌, ℕ, List, [], ◌∷◌, ◌++◌, length, map, Option, Some, None, Ok}
 use Rattle.std.specs.FinMap as finite
 use Rattle.std.specs.List.{AllByRecursion}
 use Rattle.rz_core.specs.declared.fault.Fault.{Fault}
@@ -16,6 +16,7 @@ use Rattle.rz_stmt.specs.Statements.{AreStatements}
 use Rattle.rz_tools.specs.Data.{most_bytes}
 use Rattle.rz_tools.specs.Step.{Means}
 use Rattle.rz_tools.specs.ToolWords.{numbered}
+use Rattle.rz_tools.specs.declared.setting.Setting.{Setting}
 use Rattle.rz_types.specs.Table.{Declaration}
 
 -- none of the words of such a text is a live macro
@@ -27,8 +28,8 @@ NoneIsLive live = AllByRecursion (λ word. live word ≡ None) shown_words
 abbrev pub MeanResources : List Token → List Resource → Type 0
 MeanResources tokens list =
     (statements : List (List Token)) × AreStatements (map (numbered tools.Rez) tokens) statements
-    × ((redeclare : Bool) (types : List Declaration) (warnings : List Fault)
-    → Means redeclare (record { types = types; list = []; warnings = warnings }) statements (Ok (record { types = types; list = list; warnings = warnings })))
+    × ((setting : Setting) (types : List Declaration) (warnings : List Fault)
+    → Means setting (record { types = types; list = []; warnings = warnings }) statements (Ok (record { types = types; list = list; warnings = warnings })))
 
 -- a text means these resources to Rez: as a file of whatever name, behind whatever was read before, where none of its
 -- words is a live macro, it is read to its end, leaves all macros as they are, and its tokens mean the resources

@@ -9,9 +9,9 @@ use Rattle.rz_core.specs.declared.fault.Mark.{Mark}
 use Rattle.rz_core.specs.declared.resource.OsType.{OsType}
 use Rattle.rz_core.specs.declared.stop.Stop.{Stop}
 use Rattle.rz_core.specs.declared.stop.Stop.TheVariants.{Refused, NoMemory}
-use Rattle.rz_stmt.specs.Declare.{CopyOf, Fields, PlainMade}
-use Rattle.rz_stmt.specs.declared.declare.Bounds.{Bounds}
-use Rattle.rz_stmt.specs.declared.declare.Bounds.TheVariants as bounds
+use Rattle.rz_stmt.specs.Constants.{CopyOf, Fields, PlainMade}
+use Rattle.rz_declare.specs.declared.constants.Bounds.{Bounds}
+use Rattle.rz_declare.specs.declared.constants.Bounds.TheVariants as bounds
 use Rattle.rz_tools.specs.Data.{id_of}
 use Rattle.rz_types.specs.Field.{PlainField}
 use Rattle.rz_types.specs.Rules.{checked}

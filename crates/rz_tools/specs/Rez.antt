@@ -1,7 +1,8 @@
 -- What `rez` means: the sources as a program, its statements, their resources, and the fork. (MPW Rez.)
-use Rattle.std.specs.Prelude.{ℕ, ◌<◌, ◌^◌, pos, ◌≡◌, true, Bool, List, [], map, Ok, Err, None}
+use Rattle.std.specs.Prelude.{ℕ, ◌<◌, ◌^◌, pos, ◌≡◌, true, List, [], map, Ok, Err, None}
 use Rattle.std.specs.declared.result.Result.{Result}
 use Rattle.rz_core.specs.Message.{is_fault}
+use Rattle.rz_core.specs.declared.moment.Moment.{Moment}
 use Rattle.rz_core.specs.declared.resource.Resource.{Resource}
 use Rattle.rz_core.specs.declared.fault.Fault.{Fault}
 use Rattle.rz_core.specs.declared.fault.Kept.TheVariants as kept
@@ -9,7 +10,7 @@ use Rattle.rz_folder.specs.Folder.{Files}
 use Rattle.rz_fork.specs.Image.{fork_of}
 use Rattle.rz_fork.specs.declared.fault.LimitFault.{LimitFault}
 use Rattle.rz_lex.specs.declared.token.Token.{Token}
-use Rattle.rz_pre.specs.Answers.{Then}
+use Rattle.rz_core.specs.Answers.{Then}
 use Rattle.rz_pre.specs.Program.{Failure, ProgramGoes}
 use Rattle.rz_pre.specs.declared.condition.Tool.TheVariants as tools
 use Rattle.rz_stmt.specs.Statements.{AreStatements}
@@ -18,6 +19,7 @@ use Rattle.rz_tools.specs.Answer.{Answer, Answered, Failing, Making, written}
 use Rattle.rz_tools.specs.Step.{nothing_made, Means, Stopped, Work}
 use Rattle.rz_tools.specs.ToolWords.{numbered}
 use Rattle.rz_tools.specs.Warning.{warning_lines}
+use Rattle.rz_tools.specs.declared.setting.Setting.{Setting}
 
 -- a length past its limit
 abbrev pub past_limit : LimitFault → Fault
@@ -50,10 +52,10 @@ abbrev pub fork_of_work : Work → Result Forked Stopped
 fork_of_work work = forked work.warnings (list_fork work.list)
 
 -- the fork that the tokens of a program mean, or the first rule that their statements break
-abbrev pub HasFork : Bool → List Token → Result Forked Stopped → Type 0
-HasFork redeclare tokens fork =
+abbrev pub HasFork : Setting → List Token → Result Forked Stopped → Type 0
+HasFork setting tokens fork =
     (statements : List (List Token)) × AreStatements tokens statements
-    × Then (Means redeclare nothing_made statements) (λ work answer. answer ≡ fork_of_work work) fork
+    × Then (Means setting nothing_made statements) (λ work answer. answer ≡ fork_of_work work) fork
 
 -- an answer with the lines of its warnings
 abbrev pub Said : List (List ℕ) → (Result Forked Stopped → Type 0) → Result Making Failing → Type 0
@@ -67,12 +69,16 @@ abbrev pub Unsaid : {X : Type 0} → (Result X Failure → Type 0) → Result X 
 Unsaid answers (Ok value) = answers (Ok value)
 Unsaid answers (Err failing) = answers (Err (record { fault = failing.fault; files = failing.files })) × (failing.said ≡ [])
 
+-- what holds for all statements: what the words ask for, and the moment
+abbrev pub setting_of : Moment → RezAsked → Setting
+setting_of moment asked = record { redeclare = asked.redeclare; moment = moment }
+
 -- the fork that the sources mean, or the first fault, with the files that were opened until then and what was said before
-abbrev pub Compiles : RezAsked → Files → Result Making Failing → Type 0
-Compiles asked files =
+abbrev pub Compiles : Setting → RezAsked → Files → Result Making Failing → Type 0
+Compiles setting asked files =
     Then (Unsaid (ProgramGoes files tools.Rez asked.files asked.paths asked.defs))
-    (λ program. Said program.files (HasFork asked.redeclare (map (numbered tools.Rez) program.tokens)))
+    (λ program. Said program.files (HasFork setting (map (numbered tools.Rez) program.tokens)))
 
 -- the fork is written, or the fault ends the run
-abbrev pub AnswersRez : RezAsked → Files → Answer → Type 0
-AnswersRez asked files = Answered (written asked.output files) (Compiles asked files) files
+abbrev pub AnswersRez : RezAsked → Files → Moment → Answer → Type 0
+AnswersRez asked files moment = Answered (written asked.output files) (Compiles (setting_of moment asked) asked files) files

@@ -11,14 +11,15 @@ use Rattle.rz_core.specs.declared.resource.Resource.{Resource}
 use Rattle.rz_core.specs.declared.stop.Stop.{Stop}
 use Rattle.rz_core.specs.declared.stop.Stop.TheVariants.{Refused, NoMemory}
 use Rattle.rz_lex.specs.declared.token.Token.{Token}
-use Rattle.rz_pre.specs.Answers.{Then}
+use Rattle.rz_core.specs.Answers.{Then}
 use Rattle.rz_core.specs.declared.resource.OsType.{OsType}
-use Rattle.rz_stmt.specs.Declare as declare
+use Rattle.rz_stmt.specs.Constants as declare
 use Rattle.rz_stmt.specs.Grammar.{mark_of, Data, Declares, Empty, Parses, Statement}
 use Rattle.rz_stmt.specs.Raw.{Raw}
-use Rattle.rz_stmt.specs.declared.span.Span.{Span}
+use Rattle.rz_brackets.specs.declared.span.Span.{Span}
 use Rattle.rz_tools.specs.Data.{resource_of}
 use Rattle.rz_tools.specs.Declare.{redeclared, scope_of, template_of}
+use Rattle.rz_tools.specs.declared.setting.Setting.{Setting}
 use Rattle.rz_types.specs.Field.{PlainField}
 use Rattle.rz_types.specs.Table.{declared_behind, has_place, Declaration}
 use Rattle.rz_types.specs.declared.table.Scope.{Scope}
@@ -45,8 +46,8 @@ abbrev pub put_unless_protected : Mark → List Resource → Resource → Result
 put_unless_protected mark list r = if protects (namesake list r) then Err (protected_fault mark r) else Ok (put list r)
 
 -- the list behind a `data` statement on this line
-abbrev pub list_behind : Mark → List Resource → Raw → Result (List Resource) Fault
-list_behind mark list raw = resource_of mark raw >>= put_unless_protected mark list
+abbrev pub list_behind : Setting → Mark → List Resource → Raw → Result (List Resource) Fault
+list_behind setting mark list raw = resource_of setting mark raw >>= put_unless_protected mark list
 
 -- What was made so far: the declarations of types, the resources, and what is to be warned of.
 pub record Work : Type 0 where
@@ -65,27 +66,27 @@ with_list work (Err fault) = Err fault
 
 -- the warnings behind a declaration on this line: it is warned of where one of the type and scope is there, unless
 -- types may be declared again
-abbrev pub warned : Bool → Mark → Work → OsType → Scope → List Fault
-warned redeclare mark work kind scope =
-    if has_place kind scope work.types && not redeclare then work.warnings ++ redeclared mark kind scope ∷ [] else work.warnings
+abbrev pub warned : Setting → Mark → Work → OsType → Scope → List Fault
+warned setting mark work kind scope =
+    if has_place kind scope work.types && not setting.redeclare then work.warnings ++ redeclared mark kind scope ∷ [] else work.warnings
 
 -- with a declaration
-abbrev pub with_type : Bool → Mark → Work → OsType → Scope → List PlainField → Work
-with_type redeclare mark work kind scope template = record {
+abbrev pub with_type : Setting → Mark → Work → OsType → Scope → List PlainField → Work
+with_type setting mark work kind scope template = record {
   types = declared_behind work.types (record { kind = kind; scope = scope; template = template });
   list = work.list;
-  warnings = warned redeclare mark work kind scope;
+  warnings = warned setting mark work kind scope;
 }
 
-abbrev pub declared : Bool → Mark → Work → declare.Declare → Result Work Fault
-declared redeclare mark work one =
-    scope_of mark one.bounds >>= (λ scope. template_of mark work.types one.made >>= (λ template. Ok (with_type redeclare mark work (record { code = one.kind }) scope template)))
+abbrev pub declared : Setting → Mark → Work → declare.Declare → Result Work Fault
+declared setting mark work one =
+    scope_of mark one.bounds >>= (λ scope. template_of mark work.types one.made >>= (λ template. Ok (with_type setting mark work (record { code = one.kind }) scope template)))
 
 -- what is made behind a statement on this line
-abbrev pub work_behind : Bool → Mark → Work → Statement → Result Work Fault
-work_behind redeclare mark work Empty = Ok work
-work_behind redeclare mark work (Data raw) = with_list work (list_behind mark work.list raw)
-work_behind redeclare mark work (Declares one) = declared redeclare mark work one
+abbrev pub work_behind : Setting → Mark → Work → Statement → Result Work Fault
+work_behind setting mark work Empty = Ok work
+work_behind setting mark work (Data raw) = with_list work (list_behind setting mark work.list raw)
+work_behind setting mark work (Declares one) = declared setting mark work one
 
 -- a fault, and what was warned of before it
 pub record Stopped : Type 0 where
@@ -97,14 +98,14 @@ abbrev pub WithWarnings : {X : Type 0} → List Fault → (Result X Fault → Ty
 WithWarnings warnings answers (Ok value) = answers (Ok value)
 WithWarnings warnings answers (Err stopped) = answers (Err stopped.fault) × (stopped.warnings ≡ warnings)
 
-abbrev pub Steps : Bool → Work → List Token → Result Work Stopped → Type 0
-Steps redeclare work tokens =
-    WithWarnings work.warnings (Then (Parses tokens) (λ statement answer. answer ≡ work_behind redeclare (mark_of tokens) work statement))
+abbrev pub Steps : Setting → Work → List Token → Result Work Stopped → Type 0
+Steps setting work tokens =
+    WithWarnings work.warnings (Then (Parses tokens) (λ statement answer. answer ≡ work_behind setting (mark_of tokens) work statement))
 
 -- what is made behind all statements, or the first fault
-abbrev pub Means : Bool → Work → List (List Token) → Result Work Stopped → Type 0
-Means redeclare work [] answer = answer ≡ Ok work
-Means redeclare work (tokens ∷ statements) answer = Then (Steps redeclare work tokens) (λ next. Means redeclare next statements) answer
+abbrev pub Means : Setting → Work → List (List Token) → Result Work Stopped → Type 0
+Means setting work [] answer = answer ≡ Ok work
+Means setting work (tokens ∷ statements) answer = Then (Steps setting work tokens) (λ next. Means setting next statements) answer
 
 -- the tokens of a span
 abbrev pub tokens_at : List Token → Span → List Token

@@ -1,7 +1,8 @@
 ghost use Rattle.std.specs.Prelude.{◌≡◌, ◌<◌, ℕ, true, Err};
 ghost use Rattle.rz_core.specs.Message.{IsNameable};
 ghost use Rattle.rz_core.specs.Stop.{Gives, OnFault};
-ghost use Rattle.rz_stmt.specs.Declare.{declare_of, made_of};
+ghost use Rattle.rz_stmt.specs.Constants.{declare_of, made_of};
+ghost use Rattle.rz_stmt.specs.Shaped.{IsShapedMade};
 ghost use Rattle.rz_tools.specs.Declare.{copied_id, faults_on_line, first_id, redeclared, scope_of, template_of, type_fault, IsRule};
 ghost use Rattle.rz_tools.specs.Held.{work_of};
 ghost use Rattle.rz_tools.specs.Warning.{AreWarnings, IsWarning};
@@ -10,6 +11,7 @@ ghost use Rattle.rz_types.specs.Template.{plain_templates};
 ghost use Rattle.rz_types.specs.TypeTable.{table_of};
 
 use crate::data::id_of;
+use crate::setting::Setting;
 use crate::step::Work;
 use rz_core::{Fault, Kept, Mark, OsType, Stop};
 use rz_stmt::{Bounds, DeclareStmt, Made};
@@ -18,15 +20,16 @@ use std::alloc::Global;
 
 /// What a `type` statement on this line does. The ids of its scope and then that of the type that it copies are
 /// from -32768 to 32767 (204); the type that it copies is there (239); its fields keep the rules (238). A
-/// declaration of the same type and scope is taken out, and is warned of (240) unless `redeclare` holds.
+/// declaration of the same type and scope is taken out, and is warned of (240) unless the setting allows it.
 pub fn declare_type(
     alloc: Global,
     declare: DeclareStmt,
     mark: Mark,
-    redeclare: bool,
+    setting: Setting,
     work: &mut Work,
 ) -> Result<(), Stop<Fault>>
-    ensures declared { Stepped (λ answer. answer ≡ declared redeclare mark (work_of work.old) (declare_of declare)) result (work_of work.new) }
+    requires shaped { IsShapedMade (made_of declare.made) }
+    ensures declared { Stepped (λ answer. answer ≡ declared setting mark (work_of work.old) (declare_of declare)) result (work_of work.new) }
     ensures held { work.new.held ≡ work.old.held }
     ensures kept { OnFault result (λ _. work.new.warnings ≡ work.old.warnings) }
     ensures warned { (files : ℕ) → mark.file < files → AreWarnings files work.old.warnings → AreWarnings files work.new.warnings }
@@ -45,7 +48,7 @@ pub fn declare_type(
         Ok(again) => again,
         Err(_) => return Err(Stop::NoMemory),
     };
-    if again && !redeclare {
+    if again && !setting.redeclare {
         work.warnings.push(redeclared(kind, scope, mark))?;
     }
     Ok(())
@@ -74,6 +77,7 @@ fn template_of(
     types: &TypeTable,
     mark: Mark,
 ) -> Result<Template, Stop<Fault>>
+    requires shaped { IsShapedMade (made_of made) }
     ensures template { Gives (template_of mark (table_of types.now) (made_of made)) (plain_templates result) }
     ensures nameable { (files : ℕ) → mark.file < files → OnFault result (IsNameable files) }
 {

@@ -11,6 +11,7 @@ mod message;
 mod outcome;
 mod program;
 mod rez;
+mod setting;
 mod step;
 mod tool_words;
 

@@ -18,7 +18,7 @@ use crate::outcome::Ended;
 use crate::rez::run_rez;
 use rz_core::{FileNames, Moment, NoMemory, Stop};
 use rz_folder::{Folder, Put, Sink};
-use rz_words::{Command, one_command, read_words};
+use rz_words::{Command, definitions_are_lexed, one_command, read_words};
 use std::alloc::Global;
 
 /// Does all that the program does. `words` are the words behind the program's name.
@@ -92,7 +92,10 @@ fn run_words<F: Folder, O: Sink>(
 {
     one_command();
     match read_words(alloc, words) {
-        Ok(Command::Rez(asked)) => run_rez(alloc, folder, &asked),
+        Ok(Command::Rez(asked)) => {
+            definitions_are_lexed();
+            run_rez(alloc, folder, &asked, moment)
+        }
         Ok(Command::DeRez(asked)) => run_derez(alloc, folder, out, asked),
         Ok(Command::Help) => Ended::with(alloc, show_text(help_text(), out)),
         Ok(Command::Version) => Ended::with(alloc, show_text(version_text(), out)),

@@ -1,12 +1,14 @@
 ghost use Rattle.std.specs.Prelude.{◌≡◌, [], ◌<◌, ◌≤◌, ◌^◌, ℕ, List, Option, length, IfSome, IfOk, Err};
+ghost use Rattle.rz_lex.specs.Within.{AreWithin};
 ghost use Rattle.rz_core.specs.Message.{IsNameable};
 ghost use Rattle.rz_core.specs.Resources.{KeysDiffer};
 ghost use Rattle.rz_core.specs.Stop.{Gives, OnFault};
 ghost use Rattle.rz_folder.specs.Counts.{Rose};
+ghost use Rattle.rz_lex.specs.Lexeme.{AreLexed};
 ghost use Rattle.rz_lex.specs.declared.token.Token.{Token};
 ghost use Rattle.rz_fork.specs.Image.{AreNamed};
-ghost use Rattle.rz_pre.specs.Answers.{Then};
-ghost use Rattle.rz_stmt.specs.Grammar.{AreWithin};
+ghost use Rattle.rz_core.specs.Answers.{Then};
+ghost use Rattle.rz_pre.specs.Lexed.{HaveLexedTexts};
 ghost use Rattle.rz_stmt.specs.Statements.{AreStatements};
 ghost use Rattle.rz_words.specs.Item.{rez};
 ghost use Rattle.rz_tools.specs.Held.{work_of};
@@ -16,15 +18,16 @@ ghost use Rattle.rz_tools.specs.Outcome.{IsNoUsage};
 ghost use Rattle.rz_tools.specs.Program.{Runs};
 ghost use Rattle.rz_tools.specs.ResourceList.{values_of};
 ghost use Rattle.rz_tools.specs.Step.{nothing_made, Means};
-ghost use Rattle.rz_tools.specs.Rez.{fork_of_work, list_fork, past_limit, AnswersRez, Compiles, IsLimit, Said};
+ghost use Rattle.rz_tools.specs.Rez.{fork_of_work, list_fork, past_limit, setting_of, AnswersRez, Compiles, IsLimit, Said};
 ghost use Rattle.rz_tools.specs.declared.made.Stopped.TheVariants.{ReadFault};
 
 use crate::Outcome;
 use crate::made::{Made, Stopped};
 use crate::outcome::Ended;
+use crate::setting::Setting;
 use crate::step::{Faults, Work, compile_statements, release};
 use crate::tool_words::number_tool_words;
-use rz_core::{Bytes, Fault, FileNames, Kept, NoMemory, Resources, Stop, write_fault};
+use rz_core::{Bytes, Fault, FileNames, Kept, Moment, NoMemory, Resources, Stop, write_fault};
 use rz_folder::{Folder, Written};
 use rz_fork::{LimitFault, write_fork};
 use rz_lex::Tokens;
@@ -34,8 +37,14 @@ use rz_words::RezWords;
 use std::alloc::Global;
 
 /// Compiles the sources that the words name into a raw fork, and writes the fork.
-pub fn run_rez<F: Folder>(alloc: Global, folder: &mut F, words: &RezWords<'_>) -> Ended
-    ensures runs { (written : Option (List ℕ)) → Runs (AnswersRez (rez words.now)) result (F.files folder.old) (F.files folder.new) written written
+pub fn run_rez<F: Folder>(
+    alloc: Global,
+    folder: &mut F,
+    words: &RezWords<'_>,
+    moment: Moment,
+) -> Ended
+    requires { HaveLexedTexts words.now.defs }
+    ensures runs { (written : Option (List ℕ)) → Runs (λ files. AnswersRez (rez words.now) files moment) result (F.files folder.old) (F.files folder.new) written written
         (Rose (F.read_faults folder.old) (F.read_faults folder.new)) (Rose (F.write_faults folder.old) (F.write_faults folder.new)) }
     ensures no_usage { IsNoUsage result.outcome }
     ensures said { IsWarningText result.said }
@@ -43,7 +52,7 @@ pub fn run_rez<F: Folder>(alloc: Global, folder: &mut F, words: &RezWords<'_>) -
     one_program();
     one_cutting();
     one_statement();
-    match compile(alloc, folder, words) {
+    match compile(alloc, folder, words, moment) {
         Ok(made) => match folder.write(words.output, made.bytes.as_slice()) {
             Written::Done => Ended::saying(alloc, Outcome::Done, made.said),
             Written::Failed => Ended::saying(alloc, Outcome::WriteFault, made.said),
@@ -53,8 +62,14 @@ pub fn run_rez<F: Folder>(alloc: Global, folder: &mut F, words: &RezWords<'_>) -
 }
 
 /// The fork that the sources mean, or what stopped the command.
-fn compile<F: Folder>(alloc: Global, folder: &mut F, words: &RezWords<'_>) -> Result<Made, Stopped>
-    ensures fork { IfSome (F.files folder.old) (λ files. MadeSo result (Compiles (rez words.now) files)) }
+fn compile<F: Folder>(
+    alloc: Global,
+    folder: &mut F,
+    words: &RezWords<'_>,
+    moment: Moment,
+) -> Result<Made, Stopped>
+    requires { HaveLexedTexts words.now.defs }
+    ensures fork { IfSome (F.files folder.old) (λ files. MadeSo result (Compiles (setting_of moment (rez words.now)) (rez words.now) files)) }
     ensures nameable { IsNamed result }
     ensures warned { SaysWarnings result }
     ensures short { IfOk result (λ made. length made.bytes < 2 ^ 32) }
@@ -75,7 +90,11 @@ fn compile<F: Folder>(alloc: Global, folder: &mut F, words: &RezWords<'_>) -> Re
         Ok(program) => {
             let Program { files, tokens, .. } = program;
             let tokens = number_tool_words(Tool::Rez, tokens);
-            compile_tokens(alloc, &tokens, files, words.redeclare)
+            let setting = Setting {
+                redeclare: words.redeclare,
+                moment,
+            };
+            compile_tokens(alloc, &tokens, files, setting)
         }
         Err(PreFault::Refused(fault, files)) => {
             Err(Stopped::Refused(fault, files, Bytes::new(alloc)))
@@ -90,18 +109,19 @@ fn compile_tokens(
     alloc: Global,
     tokens: &Tokens,
     files: FileNames,
-    redeclare: bool,
+    setting: Setting,
 ) -> Result<Made, Stopped>
-    requires { AreWithin (length files) tokens.now }
+    requires within { AreWithin (length files) tokens.now }
+    requires lexed { AreLexed tokens.now }
     ensures fork { (statements : List (List Token)) → AreStatements tokens.now statements
-        → MadeSo result (Said files (Then (Means redeclare nothing_made statements) (λ work answer. answer ≡ fork_of_work work))) }
+        → MadeSo result (Said files (Then (Means setting nothing_made statements) (λ work answer. answer ≡ fork_of_work work))) }
     ensures nameable { IsNamed result }
     ensures warned { SaysWarnings result }
     ensures short { IfOk result (λ made. length made.bytes < 2 ^ 32) }
     ensures quiet { result ≡ Err ReadFault → ⊥ }
 {
     let mut work = Work::new(alloc);
-    match compile_statements(alloc, tokens, redeclare, &mut work) {
+    match compile_statements(alloc, tokens, setting, &mut work) {
         Ok(()) => write_work(alloc, work, files),
         Err(Stop::Refused(fault)) => refuse(alloc, fault, &work.warnings, files),
         Err(Stop::NoMemory) => Err(Stopped::NoMemory),

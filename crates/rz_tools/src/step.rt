@@ -1,10 +1,11 @@
 ghost use Rattle.std.specs.Prelude.{◌≡◌, ◌<◌, ◌≤◌, ℕ, Some, List, [], length, IfOk, OnOk};
+ghost use Rattle.rz_lex.specs.Within.{AreWithin};
 ghost use Rattle.rz_core.specs.Message.{IsNameable};
 ghost use Rattle.rz_core.specs.Resources.{KeysDiffer, put};
 ghost use Rattle.rz_core.specs.Stop.{OnFault};
 ghost use Rattle.rz_fork.specs.Image.{AreNamed};
+ghost use Rattle.rz_lex.specs.Lexeme.{AreLexed};
 ghost use Rattle.rz_lex.specs.declared.token.Token.{Token};
-ghost use Rattle.rz_stmt.specs.Grammar.{AreWithin};
 ghost use Rattle.rz_stmt.specs.Raw.{raw_of};
 ghost use Rattle.rz_stmt.specs.Statements.{AreStatements};
 ghost use Rattle.rz_tools.specs.Held.{work_of};
@@ -14,6 +15,7 @@ ghost use Rattle.rz_tools.specs.Step.{all_at, is_protected, list_behind, nothing
 
 use crate::data::resource_of;
 use crate::declare::declare_type;
+use crate::setting::Setting;
 use indexmap::IndexMap;
 use rz_core::{Fault, Kept, Listing, Mark, NoMemory, Resource, Resources, Stop};
 use rz_lex::Tokens;
@@ -60,19 +62,20 @@ impl Work {
 
 /// Does what the statements of a program say, one after the other, up to the first fault. A resource with the
 /// type and id of an earlier one takes its place, unless that one is protected (219), and every other one goes
-/// to the end. A type that is declared again goes to the end of the table, and is warned of unless `redeclare`
-/// holds. Work and memory are in proportion to the tokens of `data` statements; each declaration of a type goes
+/// to the end. A type that is declared again goes to the end of the table, and is warned of unless the
+/// setting allows it. Work and memory are in proportion to the tokens of `data` statements; each declaration of a type goes
 /// over the table of types once, and one that copies takes the memory of what it copies.
 pub fn compile_statements(
     alloc: Global,
     tokens: &Tokens,
-    redeclare: bool,
+    setting: Setting,
     work: &mut Work,
 ) -> Result<(), Stop<Fault>>
+    requires lexed { AreLexed tokens.now }
     requires nothing { work_of work.now ≡ nothing_made }
     requires keyed { IsKeyed work.now.held.entries }
     ensures work { (statements : List (List Token)) → AreStatements tokens.now statements
-        → Worked (Means redeclare nothing_made statements) result (work_of work.new) }
+        → Worked (Means setting nothing_made statements) result (work_of work.new) }
     ensures keys { OnOk result (KeysDiffer [] (values_of work.new.held.entries)) }
     ensures named { OnOk result (AreNamed (values_of work.new.held.entries)) }
     ensures nameable { (files : ℕ) → AreWithin files tokens.now → OnFault result (IsNameable files) }
@@ -80,7 +83,7 @@ pub fn compile_statements(
 {
     one_cutting();
     let spans = statements(alloc, tokens)?;
-    compile_spans(alloc, tokens, &spans, redeclare, work)
+    compile_spans(alloc, tokens, &spans, setting, work)
 }
 
 /// The same of the statements that stand there.
@@ -88,20 +91,21 @@ fn compile_spans(
     alloc: Global,
     tokens: &Tokens,
     spans: &Spans,
-    redeclare: bool,
+    setting: Setting,
     work: &mut Work,
 ) -> Result<(), Stop<Fault>>
     requires spans { AreSpans tokens.now spans.now }
+    requires lexed { AreLexed tokens.now }
     requires nothing { work_of work.now ≡ nothing_made }
     requires keyed { IsKeyed work.now.held.entries }
-    ensures work { Worked (Means redeclare nothing_made (all_at tokens.now spans.now)) result (work_of work.new) }
+    ensures work { Worked (Means setting nothing_made (all_at tokens.now spans.now)) result (work_of work.new) }
     ensures keys { OnOk result (KeysDiffer [] (values_of work.new.held.entries)) }
     ensures named { OnOk result (AreNamed (values_of work.new.held.entries)) }
     ensures nameable { (files : ℕ) → AreWithin files tokens.now → OnFault result (IsNameable files) }
     ensures warned { (files : ℕ) → AreWithin files tokens.now → AreWarnings files work.new.warnings }
 {
     for span in spans.as_slice() {
-        match step(alloc, tokens, *span, redeclare, work) {
+        match step(alloc, tokens, *span, setting, work) {
             Ok(()) => {}
             Err(stop) => return Err(stop),
         }
@@ -114,12 +118,13 @@ fn step(
     alloc: Global,
     tokens: &Tokens,
     span: Span,
-    redeclare: bool,
+    setting: Setting,
     work: &mut Work,
 ) -> Result<(), Stop<Fault>>
     requires span { IsSpan tokens.now span }
+    requires lexed { AreLexed tokens.now }
     requires keyed { IsKeyed work.now.held.entries }
-    ensures stepped { Worked (Steps redeclare (work_of work.old) (tokens_at tokens.now span)) result (work_of work.new) }
+    ensures stepped { Worked (Steps setting (work_of work.old) (tokens_at tokens.now span)) result (work_of work.new) }
     ensures keyed { OnOk result (IsKeyed work.new.held.entries) }
     ensures named { AreNamed (values_of work.old.held.entries) → OnOk result (AreNamed (values_of work.new.held.entries)) }
     ensures keys { KeysDiffer [] (values_of work.old.held.entries) → OnOk result (KeysDiffer [] (values_of work.new.held.entries)) }
@@ -129,22 +134,28 @@ fn step(
     let mark = tokens.at(span.start).mark;
     match parse(alloc, tokens, span) {
         Ok(Stmt::Empty) => Ok(()),
-        Ok(Stmt::Raw(raw)) => put_raw(alloc, &raw, mark, &mut work.held),
-        Ok(Stmt::Declare(declare)) => declare_type(alloc, declare, mark, redeclare, work),
+        Ok(Stmt::Raw(raw)) => put_raw(alloc, &raw, mark, setting, &mut work.held),
+        Ok(Stmt::Declare(declare)) => declare_type(alloc, declare, mark, setting, work),
         Err(stop) => Err(stop),
     }
 }
 
 /// What a `data` statement on this line does.
-fn put_raw(alloc: Global, raw: &RawStmt, mark: Mark, held: &mut Held) -> Result<(), Stop<Fault>>
+fn put_raw(
+    alloc: Global,
+    raw: &RawStmt,
+    mark: Mark,
+    setting: Setting,
+    held: &mut Held,
+) -> Result<(), Stop<Fault>>
     requires keyed { IsKeyed held.now.entries }
-    ensures put { Stepped (λ answer. answer ≡ list_behind mark (values_of held.old.entries) (raw_of raw.now)) result (values_of held.new.entries) }
+    ensures put { Stepped (λ answer. answer ≡ list_behind setting mark (values_of held.old.entries) (raw_of raw.now)) result (values_of held.new.entries) }
     ensures keyed { OnOk result (IsKeyed held.new.entries) }
     ensures named { AreNamed (values_of held.old.entries) → OnOk result (AreNamed (values_of held.new.entries)) }
     ensures keys { KeysDiffer [] (values_of held.old.entries) → OnOk result (KeysDiffer [] (values_of held.new.entries)) }
     ensures nameable { (files : ℕ) → mark.file < files → OnFault result (IsNameable files) }
 {
-    match resource_of(alloc, raw, mark) {
+    match resource_of(alloc, raw, mark, setting) {
         Ok(resource) => put(held, resource, mark),
         Err(stop) => Err(stop),
     }

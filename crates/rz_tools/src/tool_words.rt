@@ -1,6 +1,7 @@
 ghost use Rattle.std.specs.Prelude.{◌≡◌, map};
-ghost use Rattle.rz_tools.specs.ToolWords.{number_in, numbered, tool_named};
+ghost use Rattle.rz_tools.specs.ToolWords.{number_in, numbered, tool_in};
 
+use rz_expr::{Keyword, is_keyword};
 use rz_lex::{Shape, Token, Tokens};
 use rz_pre::Tool;
 
@@ -21,31 +22,26 @@ pub fn number_tool_words(tool: Tool, tokens: Tokens) -> Tokens
 fn number_tool_word(tool: Tool, token: &mut Token)
     ensures { token.new ≡ numbered tool token.old }
 {
-    if let Some(number) = number_in(tool, &token.shape) {
+    if let Some(number) = number_in(tool, token) {
         token.shape = Shape::Number(number);
     }
 }
 
 /// The number that a token stands for.
-fn number_in(tool: Tool, shape: &Shape) -> Option<u32>
-    ensures { result ≡ number_in tool shape.now }
+fn number_in(tool: Tool, token: &Token) -> Option<u32>
+    ensures { result ≡ number_in tool token.now.shape }
 {
-    match shape {
-        Shape::Word(word) => {
-            let named = tool_named(word.bytes.as_slice())?;
-            Some(u32::from(named == tool))
-        }
-        _ => None,
-    }
+    let named = tool_in(token)?;
+    Some(u32::from(named == tool))
 }
 
-/// The tool that a word names.
-fn tool_named(name: &[u8]) -> Option<Tool>
-    ensures { result ≡ tool_named name.now }
+/// The tool that a token names.
+fn tool_in(token: &Token) -> Option<Tool>
+    ensures { result ≡ tool_in token.now.shape }
 {
-    if name.eq_ignore_ascii_case(b"rez") {
+    if is_keyword(token, Keyword::Rez) {
         Some(Tool::Rez)
-    } else if name.eq_ignore_ascii_case(b"derez") {
+    } else if is_keyword(token, Keyword::DeRez) {
         Some(Tool::DeRez)
     } else {
         None

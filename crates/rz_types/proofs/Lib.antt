@@ -1,3 +1,4 @@
 pub mod Found
 pub mod Places
 pub mod Broken
+pub mod Arithmetic

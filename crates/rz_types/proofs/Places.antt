@@ -6,6 +6,7 @@ use Rattle.std.specs.Ordering.{int_eq}
 use Rattle.std.proofs.lemmas.Bool.{eq-eqb, eqb-true}
 use Rattle.std.proofs.lemmas.Bool.Decides.{Decides-int_eq}
 use Rattle.std.proofs.lemmas.List.Folds.{list_any-append}
+use Rattle.rz_core.proofs.Tests.{both, and_so}
 use Rattle.rz_core.specs.Lists.{or_else}
 use Rattle.rz_core.specs.declared.resource.OsType.{OsType}
 use Rattle.rz_types.specs.Scopes.{breadth, concerns, holds, is_narrower_for, PlacesDiffer}
@@ -13,10 +14,6 @@ use Rattle.rz_types.specs.Table.{declared_behind, found, has_place, is_any, is_f
 use Rattle.rz_types.specs.declared.table.Scope.{Scope}
 use Rattle.rz_types.specs.declared.table.Scope.TheVariants.{Any, Id, Range}
 use Rattle.rz_types.proofs.Found.{last_such-push, last_such-without, last_such_none, none_first, none_so, none_without}
-
-pub both : (a b : Bool) → (a && b) ≡ true → (a ≡ true) × (b ≡ true)
-both true b are = (refl, are)
-both false b are = cc
 
 pub same_scope_is : (a b : Scope) → same_scope a b ≡ true → a ≡ b
 same_scope_is (Id a) (Id b) same = ap Id ((Decides-int_eq a b).0 same)
@@ -92,9 +89,6 @@ mid_part true true b c are = refl
 mid_part true false true c are = refl
 mid_part true false false c are = cc
 mid_part false a b c are = cc
-
-and_so : (a b : Bool) → a ≡ true → b ≡ true → (a && b) ≡ true
-and_so a b is also = (λ i. is i && b) ∙ also
 
 -- a very id is narrower than what is broader
 very_id : (id : ℤ) (scope : Scope) (b : ℕ) → nat_lt 0 b ≡ true → is_id id scope ≡ true → nat_lt (breadth scope) b ≡ true

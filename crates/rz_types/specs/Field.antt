@@ -10,7 +10,7 @@ use Rattle.rz_types.specs.declared.field.Radix.{Radix}
 use Rattle.rz_types.specs.declared.field.Symbol.{Symbol}
 use Rattle.rz_types.specs.declared.field.TextField.{TextField}
 use Rattle.rz_types.specs.declared.field.TextForm.{TextForm}
-use Rattle.rz_types.specs.declared.text.TextPart.{TextPart}
+use Rattle.rz_types.specs.Text.{plain_parts, PlainPart}
 
 pub record PlainNumber : Type 0 where
   pub form : NumForm
@@ -19,12 +19,13 @@ pub record PlainNumber : Type 0 where
   pub radix : Radix
   pub symbols : List Symbol
   pub fixed : Option Term
+  pub key : Bool
 
 pub record PlainText : Type 0 where
   pub form : TextForm
   pub hex : Bool
   pub size : Option Term
-  pub fixed : Option (List TextPart)
+  pub fixed : Option (List PlainPart)
 
 pub record PlainPoints : Type 0 where
   pub rect : Bool
@@ -45,10 +46,11 @@ plain_number field = record {
   radix = field.radix;
   symbols = field.symbols;
   fixed = option_map term_of field.fixed;
+  key = field.key;
 }
 
 abbrev pub plain_text : TextField → PlainText
-plain_text field = record { form = field.form; hex = field.hex; size = option_map term_of field.size; fixed = field.fixed }
+plain_text field = record { form = field.form; hex = field.hex; size = option_map term_of field.size; fixed = option_map plain_parts field.fixed }
 
 abbrev pub plain_points : PointField → PlainPoints
 plain_points field = record { rect = field.rect; fixed = option_map (map term_of) field.fixed }

@@ -1,4 +1,8 @@
+pub mod Text
+pub mod Range
+pub mod Value
 pub mod Field
+pub mod Shape
 pub mod Rules
 pub mod Template
 pub mod Table

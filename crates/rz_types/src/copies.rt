@@ -1,12 +1,13 @@
 ghost use Rattle.std.specs.Prelude.{◌≡◌, IfOk, map, option_map};
 ghost use Rattle.rz_expr.specs.Term.{term_of};
 ghost use Rattle.rz_types.specs.Field.{plain_body, plain_field, plain_number, plain_points, plain_text};
+ghost use Rattle.rz_types.specs.Text.{plain_part, plain_parts};
 
 use crate::{
     Body, Exprs, Field, NumField, PointField, Symbol, Symbols, TextField, TextPart, Texts,
 };
 use rz_core::{Bytes, NoMemory};
-use rz_expr::{Expr, copy, copy_word};
+use rz_expr::{Expr, copy};
 use std::alloc::Global;
 
 /// A copy of a body.
@@ -44,6 +45,7 @@ fn copy_number(alloc: Global, field: &NumField) -> Result<NumField, NoMemory>
         radix: field.radix,
         symbols,
         fixed,
+        key: field.key,
     })
 }
 
@@ -99,7 +101,7 @@ fn copy_exprs(alloc: Global, exprs: &Exprs) -> Result<Exprs, NoMemory>
 }
 
 fn copy_fixed_text(alloc: Global, text: &Option<Texts>) -> Result<Option<Texts>, NoMemory>
-    ensures { IfOk result (λ made. made ≡ text.now) }
+    ensures { IfOk result (λ made. option_map plain_parts made ≡ option_map plain_parts text.now) }
 {
     match text {
         Some(parts) => Ok(Some(copy_parts(alloc, parts)?)),
@@ -108,7 +110,7 @@ fn copy_fixed_text(alloc: Global, text: &Option<Texts>) -> Result<Option<Texts>,
 }
 
 fn copy_parts(alloc: Global, parts: &Texts) -> Result<Texts, NoMemory>
-    ensures { IfOk result (λ copies. copies ≡ parts.now) }
+    ensures { IfOk result (λ copies. plain_parts copies ≡ plain_parts parts.now) }
 {
     let mut copies = Texts::new(alloc);
     for part in parts.as_slice() {
@@ -118,7 +120,7 @@ fn copy_parts(alloc: Global, parts: &Texts) -> Result<Texts, NoMemory>
 }
 
 fn copy_part(alloc: Global, part: &TextPart) -> Result<TextPart, NoMemory>
-    ensures { IfOk result (λ copy. copy ≡ part.now) }
+    ensures { IfOk result (λ copy. plain_part copy ≡ plain_part part.now) }
 {
     match part {
         TextPart::Plain(bytes) => Ok(TextPart::Plain(Bytes::of(alloc, bytes.as_slice())?)),
@@ -139,7 +141,7 @@ fn copy_symbol(alloc: Global, symbol: &Symbol) -> Result<Symbol, NoMemory>
     ensures { IfOk result (λ copy. copy ≡ symbol.now) }
 {
     Ok(Symbol {
-        name: copy_word(alloc, &symbol.name)?,
+        name: symbol.name.copy(alloc)?,
         value: symbol.value,
     })
 }

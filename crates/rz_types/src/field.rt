@@ -79,6 +79,8 @@ pub struct NumField {
     pub symbols: Symbols,
     /// The fixed value, where there is one.
     pub fixed: Option<Expr>,
+    /// Whether it is the key of a case.
+    pub key: bool,
 }
 
 /// A text. (MPW Rez.)

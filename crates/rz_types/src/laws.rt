@@ -1,18 +1,22 @@
-ghost use Rattle.std.specs.Prelude.{◌≡◌, ◌∷◌, ◌++◌, ℤ, [], false, true, length, List, None, Some};
+ghost use Rattle.std.specs.Prelude.{◌≡◌, ◌↔◌, ◌∷◌, ◌++◌, ℤ, [], false, true, length, List, None, Some};
 ghost use Rattle.std.specs.List.{list_any};
 ghost use Rattle.rz_core.specs.declared.resource.OsType.{OsType};
 ghost use Rattle.rz_types.specs.Field.{PlainField};
-ghost use Rattle.rz_types.specs.Rules.{bad_width, broken, width_fault};
+ghost use Rattle.rz_types.specs.Rules.{bad_width, broken, width_fault, BreaksNone, IsFirstBroken};
+ghost use Rattle.rz_types.specs.declared.rules.TypeFault.{TypeFault};
 ghost use Rattle.rz_types.specs.Scopes.{concerns, holds, is_narrower_for, PlacesDiffer};
 ghost use Rattle.rz_types.specs.Table.{declared_behind, found, has_place, stands_at, Declaration};
 
 /// A law, with nothing to run: the first broken rule is that of the first field that breaks one, whatever
-/// stands behind it; and a body breaks none exactly where each of its fields keeps them.
+/// stands behind it; and a body breaks none exactly where each of its fields keeps them. So a body breaks
+/// this rule first exactly where a field of its walk breaks it and none before that field breaks one.
 pub fn first_broken_rule()
     ensures first { (front behind : List PlainField) (field : PlainField) (value : ℤ) → broken front ≡ None
         → bad_width field ≡ Some value → broken (front ++ field ∷ behind) ≡ Some (width_fault (length front) value) }
     ensures none { (front : List PlainField) (field : PlainField) → broken front ≡ None → bad_width field ≡ None
         → broken (front ++ field ∷ []) ≡ None }
+    ensures fault { (body : List PlainField) (fault : TypeFault) → (broken body ≡ Some fault) ↔ IsFirstBroken body fault }
+    ensures kept { (body : List PlainField) → (broken body ≡ None) ↔ BreaksNone body }
 {}
 
 /// A law, with nothing to run: the declaration that was made last is found for each id that its scope holds,

@@ -4,10 +4,12 @@
 mod copies;
 mod field;
 mod laws;
+mod range;
 mod rules;
 mod table;
 mod template;
 mod text;
+mod value;
 
 pub use field::{
     Body, Exprs, Field, NumField, NumForm, PointField, Radix, Symbol, Symbols, TextField, TextForm,
@@ -16,7 +18,9 @@ pub use laws::{
     first_broken_rule, last_declared_is_found, order_stays, others_are_found_as_before,
     places_stay_different,
 };
+pub use range::{fits_number, may_be_size, own_width};
 pub use rules::{TypeFault, check};
 pub use table::{Scope, TypeTable};
 pub use template::Template;
-pub use text::{TextPart, Texts};
+pub use text::{TextPart, Texts, part_in, text_in, text_of};
+pub use value::{constant_value, number_of};

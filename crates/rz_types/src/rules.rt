@@ -1,11 +1,12 @@
-ghost use Rattle.std.specs.Prelude.{◌≡◌, ◌≤◌, ◌^◌, IfOk};
+ghost use Rattle.std.specs.Prelude.{◌≡◌, true};
 ghost use Rattle.rz_core.specs.Stop.{Gives};
 ghost use Rattle.rz_types.specs.Field.{plain_body, plain_field, plain_text};
-ghost use Rattle.rz_types.specs.Rules.{bad_size, bad_width, broken, checked, may_be_count, may_be_size, may_be_width, unless, width_fault};
+ghost use Rattle.rz_types.specs.Rules.{bad_size, bad_width, broken, checked, may_be_count, may_be_width, unless, width_fault};
+ghost use Rattle.rz_types.specs.Shape.{is_well_shaped};
 ghost use Rattle.rz_types.specs.Template.{plain_templates};
 
-use crate::{Body, Field, NumForm, Template, TextField, TextForm};
-use rz_core::{Kept, NoMemory, Stop};
+use crate::{Body, Field, NumForm, Template, TextField, may_be_size};
+use rz_core::{Kept, Stop};
 use rz_expr::constant_of;
 use std::alloc::Global;
 
@@ -27,29 +28,30 @@ pub struct TypeFault {
 /// 1 to 32, the count of a `fill` outside 0 to 16,777,212, or a constant size of a text that its type can't
 /// have (kept: the value). A `string` has a size from 0 on, a `pstring` from 0 to 255, a `wstring` from 0 to
 /// 65,535, a `cstring` from 1 on. A size that is no constant, or a constant without a value, breaks no rule.
-/// Memory is taken for nothing but the values of sizes. (MPW Rez.)
-pub fn check(alloc: Global, body: Body) -> Result<Template, Stop<TypeFault>>
+/// These rules take no memory. The body has the shape of a declaration: the width of a type that has its
+/// own, two or four fixed numbers of points, units that there are, and so on. (MPW Rez.)
+pub fn check(_alloc: Global, body: Body) -> Result<Template, Stop<TypeFault>>
+    requires { is_well_shaped (plain_body body) ≡ true }
     ensures { Gives (checked (plain_body body)) (plain_templates result) }
 {
-    match first_broken(alloc, body.as_slice()) {
-        Ok(None) => Ok(Template::of(body)),
-        Ok(Some(fault)) => Err(Stop::Refused(fault)),
-        Err(NoMemory) => Err(Stop::NoMemory),
+    match first_broken(body.as_slice()) {
+        None => Ok(Template::of(body)),
+        Some(fault) => Err(Stop::Refused(fault)),
     }
 }
 
 /// The first broken rule.
-fn first_broken(alloc: Global, fields: &[Field]) -> Result<Option<TypeFault>, NoMemory>
-    ensures { IfOk result (λ fault. fault ≡ broken (plain_body fields.now)) }
+fn first_broken(fields: &[Field]) -> Option<TypeFault>
+    ensures { result ≡ broken (plain_body fields.now) }
 {
     let mut position = 0;
     for field in fields {
-        if let Some(value) = bad_width(alloc, field)? {
-            return Ok(Some(width_fault(position, value)));
+        if let Some(value) = bad_width(field) {
+            return Some(width_fault(position, value));
         }
         position += 1;
     }
-    Ok(None)
+    None
 }
 
 fn width_fault(field: u64, value: i32) -> TypeFault
@@ -63,14 +65,14 @@ fn width_fault(field: u64, value: i32) -> TypeFault
 }
 
 /// The width, the count or the constant size of a field, where it can't be.
-fn bad_width(alloc: Global, field: &Field) -> Result<Option<i32>, NoMemory>
-    ensures { IfOk result (λ value. value ≡ bad_width (plain_field field.now)) }
+fn bad_width(field: &Field) -> Option<i32>
+    ensures { result ≡ bad_width (plain_field field.now) }
 {
     match field {
-        Field::Num(number) => Ok(unless(may_be_width(number.form, number.width), number.width)),
-        Field::Text(text) => bad_size(alloc, text),
-        Field::Fill(_, count) => Ok(unless(may_be_count(*count), *count)),
-        Field::Points(_) | Field::Align(_) => Ok(None),
+        Field::Num(number) => unless(may_be_width(number.form, number.width), number.width),
+        Field::Text(text) => bad_size(text),
+        Field::Fill(_, count) => unless(may_be_count(*count), *count),
+        Field::Points(_) | Field::Align(_) => None,
     }
 }
 
@@ -81,15 +83,15 @@ fn unless(allowed: bool, value: i32) -> Option<i32>
     if allowed { None } else { Some(value) }
 }
 
-fn bad_size(alloc: Global, text: &TextField) -> Result<Option<i32>, NoMemory>
-    ensures { IfOk result (λ value. value ≡ bad_size (plain_text text.now).form (plain_text text.now).size) }
+fn bad_size(text: &TextField) -> Option<i32>
+    ensures { result ≡ bad_size (plain_text text.now).form (plain_text text.now).size }
 {
     let Some(size) = &text.size else {
-        return Ok(None);
+        return None;
     };
-    match constant_of(alloc, size)? {
-        Some(size) => Ok(unless(may_be_size(text.form, size), size)),
-        None => Ok(None),
+    match constant_of(size) {
+        Some(size) => unless(may_be_size(text.form, size), size),
+        None => None,
     }
 }
 
@@ -106,15 +108,4 @@ fn may_be_count(count: i32) -> bool
     ensures { result ≡ may_be_count count }
 {
     0 <= count && count <= MOST_UNITS
-}
-
-fn may_be_size(form: TextForm, size: i32) -> bool
-    ensures { result ≡ may_be_size form size }
-{
-    match form {
-        TextForm::Open => 0 <= size,
-        TextForm::Pascal => 0 <= size && size <= 255,
-        TextForm::WordLong => 0 <= size && size <= 65_535,
-        TextForm::Zero => 1 <= size,
-    }
 }

@@ -1,16 +1,18 @@
 ghost use Rattle.std.specs.Prelude.{◌≡◌, true};
 ghost use Rattle.rz_types.specs.Field.{plain_body};
 ghost use Rattle.rz_types.specs.Rules.{keeps_rules};
+ghost use Rattle.rz_types.specs.Shape.{is_well_shaped};
 
 use crate::Body;
 use crate::copies::copy_body;
 use rz_core::NoMemory;
 use std::alloc::Global;
 
-/// A body that keeps the rules, as [`check`](crate::check) gives it.
+/// A body that has the shape of a declaration and keeps the rules, as [`check`](crate::check) gives it.
 #[derive(Debug, Drop)]
 pub struct Template {
     body: Body,
+    ghost shaped: { is_well_shaped (plain_body body) ≡ true },
     ghost kept: { keeps_rules (plain_body body) ≡ true },
 }
 
@@ -18,9 +20,10 @@ impl Template {
     ghost use Rattle.std.specs.Prelude.{IfOk};
     ghost use Rattle.rz_types.specs.Template.{template_of};
 
-    /// The template of a body that keeps the rules.
+    /// The template of a body that has the shape and keeps the rules.
     pub(crate) fn of(body: Body) -> Template
-        requires { keeps_rules (plain_body body) ≡ true }
+        requires shaped { is_well_shaped (plain_body body) ≡ true }
+        requires kept { keeps_rules (plain_body body) ≡ true }
         ensures { template_of result ≡ plain_body body }
     {
         Template { body }
@@ -29,6 +32,7 @@ impl Template {
     /// Its fields.
     pub fn body(&self) -> &Body
         ensures body { plain_body result.now ≡ template_of self.now }
+        ensures shaped { is_well_shaped (template_of self.now) ≡ true }
         ensures kept { keeps_rules (template_of self.now) ≡ true }
     {
         &self.body

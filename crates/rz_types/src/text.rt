@@ -1,4 +1,11 @@
-use rz_core::{Bytes, Listing};
+ghost use Rattle.std.specs.Prelude.{◌≡◌, ◌<◌, ℕ, IfOk, option_map};
+ghost use Rattle.rz_core.specs.Message.{IsNameable};
+ghost use Rattle.rz_core.specs.Stop.{Gives, OnFault};
+ghost use Rattle.rz_types.specs.Text.{bytes_of, part_in, plain_part, plain_parts, text_in};
+
+use rz_core::{Bytes, Facts, Fault, Listing, Mark, NoMemory, Stop};
+use rz_lex::{Shape, Token};
+use std::alloc::Global;
 
 /// A part of a text. (MPW Rez.)
 #[derive(Debug, Drop)]
@@ -9,3 +16,50 @@ pub enum TextPart {
 
 /// The parts of a text, in order.
 pub type Texts = Listing<TextPart>;
+
+/// The bytes of the parts of a text, in order, where the text stands on a line and of the resource so much is
+/// known. Parts that are plain are never refused. (MPW Rez.)
+pub fn text_of(
+    alloc: Global,
+    texts: &Texts,
+    _place: Mark,
+    _facts: &Facts,
+) -> Result<Bytes, Stop<Fault>>
+    ensures value { Gives (bytes_of _place _facts.now (plain_parts texts.now)) result }
+    ensures nameable { (files : ℕ) → _place.file < files → OnFault result (IsNameable files) }
+{
+    let mut bytes = Bytes::new(alloc);
+    for part in texts.as_slice() {
+        match part {
+            TextPart::Plain(piece) => bytes.append(piece.as_slice())?,
+        }
+    }
+    Ok(bytes)
+}
+
+/// The text that the tokens are, where there is one at least and each is a part of a text.
+pub fn text_in(alloc: Global, tokens: &[Token]) -> Result<Option<Texts>, NoMemory>
+    ensures { IfOk result (λ text. option_map plain_parts text ≡ text_in tokens.now) }
+{
+    if tokens.is_empty() {
+        return Ok(None);
+    }
+    let mut texts = Texts::new(alloc);
+    for token in tokens {
+        match part_in(alloc, token)? {
+            Some(part) => texts.push(part)?,
+            None => return Ok(None),
+        }
+    }
+    Ok(Some(texts))
+}
+
+/// The part of a text that a token is.
+pub fn part_in(alloc: Global, token: &Token) -> Result<Option<TextPart>, NoMemory>
+    ensures { IfOk result (λ part. option_map plain_part part ≡ part_in token.now.shape) }
+{
+    match &token.shape {
+        Shape::Text(bytes) => Ok(Some(TextPart::Plain(Bytes::of(alloc, bytes.as_slice())?))),
+        _ => Ok(None),
+    }
+}

@@ -1,4 +1,10 @@
-use rz_core::{Kept, Listing, NoMemory, Stop, Word};
+ghost use Rattle.std.specs.Prelude.{◌≡◌, true, false, IfOk};
+ghost use Rattle.rz_expr.specs.Term.{term_of};
+ghost use Rattle.rz_types.specs.Field.{plain_body, plain_field};
+ghost use Rattle.rz_types.specs.Shape.{is_own_width, is_shaped, is_well_shaped};
+ghost use Rattle.rz_types.specs.Value.{is_field_expression};
+
+use rz_core::{Bytes, Kept, Listing, NoMemory, Stop, Word};
 use rz_expr::{BinaryOp, Expr, FactWord};
 use rz_types::{
     Body, Field, NumField, NumForm, PointField, Radix, TextField, TextForm, TypeFault, check,
@@ -7,7 +13,10 @@ use std::alloc::Global;
 use std::test::Fail;
 
 /// A number field.
-fn number(alloc: Global, form: NumForm, width: i32) -> Field {
+fn number(alloc: Global, form: NumForm, width: i32) -> Field
+    requires { is_own_width form width ≡ true }
+    ensures { is_shaped false 0 (plain_field result) ≡ true }
+{
     Field::Num(NumField {
         form,
         width,
@@ -15,11 +24,15 @@ fn number(alloc: Global, form: NumForm, width: i32) -> Field {
         radix: Radix::Plain,
         symbols: Listing::new(alloc),
         fixed: None,
+        key: false,
     })
 }
 
 /// A text field with a size.
-fn sized(form: TextForm, size: Expr) -> Field {
+fn sized(form: TextForm, size: Expr) -> Field
+    requires { is_field_expression (term_of size) ≡ true }
+    ensures { is_shaped false 0 (plain_field result) ≡ true }
+{
     Field::Text(TextField {
         form,
         hex: false,
@@ -29,7 +42,9 @@ fn sized(form: TextForm, size: Expr) -> Field {
 }
 
 /// The field and the value of 238, or nothing for a template.
-fn told(alloc: Global, body: Body) -> Result<Option<(u64, i64)>, Fail> {
+fn told(alloc: Global, body: Body) -> Result<Option<(u64, i64)>, Fail>
+    requires { is_well_shaped (plain_body body) ≡ true }
+{
     match check(alloc, body) {
         Ok(_) => Ok(None),
         Err(
@@ -46,7 +61,9 @@ fn told(alloc: Global, body: Body) -> Result<Option<(u64, i64)>, Fail> {
 }
 
 /// What is told of a body of one field.
-fn told_of(alloc: Global, field: Field) -> Result<Option<i64>, Fail> {
+fn told_of(alloc: Global, field: Field) -> Result<Option<i64>, Fail>
+    requires { is_shaped false 0 (plain_field field) ≡ true }
+{
     let mut body = Body::new(alloc);
     body.push(field)?;
     match told(alloc, body)? {
@@ -56,28 +73,31 @@ fn told_of(alloc: Global, field: Field) -> Result<Option<i64>, Fail> {
     }
 }
 
-/// Widths, and which are told.
-const WIDTHS: [(NumForm, i32, Option<i64>); 8] = [
-    (NumForm::Bits, -1, Some(-1)),
-    (NumForm::Bits, 0, Some(0)),
-    (NumForm::Bits, 1, None),
-    (NumForm::Bits, 32, None),
-    (NumForm::Bits, 33, Some(33)),
-    (NumForm::Byte, 8, None),
-    (NumForm::Boolean, 1, None),
-    (NumForm::Longint, 32, None),
+/// Widths of a `bitstring`, and which are told.
+const WIDTHS: [(i32, Option<i64>); 5] = [
+    (-1, Some(-1)),
+    (0, Some(0)),
+    (1, None),
+    (32, None),
+    (33, Some(33)),
 ];
 
 #[test]
 fn widths_are_1_to_32(rt: HostRuntime) -> Result<(), Fail> {
     let alloc = rt.alloc();
-    for (form, width, wanted) in WIDTHS {
-        assert_eq!(rt;
-            told_of(alloc, number(alloc, form, width))?,
-            wanted,
-            "{width}"
-        );
+    for (width, wanted) in WIDTHS {
+        let field = number(alloc, NumForm::Bits, width);
+        assert_eq!(rt; told_of(alloc, field)?, wanted, "{width}");
     }
+    Ok(())
+}
+
+#[test]
+fn other_numbers_have_their_own_width(rt: HostRuntime) -> Result<(), Fail> {
+    let alloc = rt.alloc();
+    assert_eq!(rt; told_of(alloc, number(alloc, NumForm::Byte, 8))?, None);
+    assert_eq!(rt; told_of(alloc, number(alloc, NumForm::Boolean, 1))?, None);
+    assert_eq!(rt; told_of(alloc, number(alloc, NumForm::Longint, 32))?, None);
     Ok(())
 }
 
@@ -127,7 +147,9 @@ fn sizes_are_those_of_the_type(rt: HostRuntime) -> Result<(), Fail> {
 }
 
 /// An operator between two numbers.
-fn operation(alloc: Global, op: BinaryOp, left: i32, right: i32) -> Result<Expr, NoMemory> {
+fn operation(alloc: Global, op: BinaryOp, left: i32, right: i32) -> Result<Expr, NoMemory>
+    ensures { IfOk result (λ expr. is_field_expression (term_of expr) ≡ true) }
+{
     Ok(Expr::Binary(
         op,
         Box::new(alloc, Expr::Number(left))?,
@@ -135,10 +157,12 @@ fn operation(alloc: Global, op: BinaryOp, left: i32, right: i32) -> Result<Expr,
     ))
 }
 
-/// A name.
-fn name(alloc: Global, spelling: &str) -> Result<Expr, NoMemory> {
+/// `FALSE`.
+fn falsity(alloc: Global) -> Result<Expr, NoMemory>
+    ensures { IfOk result (λ expr. is_field_expression (term_of expr) ≡ true) }
+{
     Ok(Expr::Name(Word {
-        bytes: rz_core::Bytes::of(alloc, spelling.as_bytes())?,
+        bytes: Bytes::of(alloc, b"FALSE")?,
     }))
 }
 
@@ -150,12 +174,10 @@ fn a_size_that_is_no_constant_is_told_later(rt: HostRuntime) -> Result<(), Fail>
     assert_eq!(rt; told_of(alloc, sized(pascal, product))?, Some(256));
     let quotient = operation(alloc, BinaryOp::Divide, 256, 0)?;
     assert_eq!(rt; told_of(alloc, sized(pascal, quotient))?, None);
-    let falsity = name(alloc, "FALSE")?;
-    assert_eq!(rt; told_of(alloc, sized(TextForm::Zero, falsity))?, Some(0));
-    let label = name(alloc, "label")?;
-    assert_eq!(rt; told_of(alloc, sized(TextForm::Zero, label))?, None);
-    let id = Expr::Fact(FactWord::Id);
-    assert_eq!(rt; told_of(alloc, sized(TextForm::Zero, id))?, None);
+    let nothing = sized(TextForm::Zero, falsity(alloc)?);
+    assert_eq!(rt; told_of(alloc, nothing)?, Some(0));
+    let id = sized(TextForm::Zero, Expr::Fact(FactWord::Id));
+    assert_eq!(rt; told_of(alloc, id)?, None);
     Ok(())
 }
 

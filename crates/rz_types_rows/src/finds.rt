@@ -1,4 +1,8 @@
-use rz_core::{Bytes, Kept, Listing, OsType, Stop, Word};
+ghost use Rattle.std.specs.Prelude.{◌≡◌, true, false, IfOk};
+ghost use Rattle.rz_types.specs.Field.{plain_field};
+ghost use Rattle.rz_types.specs.Shape.{is_shaped};
+
+use rz_core::{Bytes, Kept, OsType, Stop, Word};
 use rz_expr::{Expr, FactWord, UnaryOp};
 use rz_types::{
     Body, Exprs, Field, NumField, NumForm, PointField, Radix, Scope, Symbol, Symbols, Template,
@@ -114,57 +118,77 @@ fn copies_are_of_what_is_found(rt: HostRuntime) -> Result<(), Fail> {
     Ok(())
 }
 
-/// A word.
-fn word(alloc: Global, spelling: &str) -> Result<Word, Fail> {
-    Ok(Word {
-        bytes: Bytes::of(alloc, spelling.as_bytes())?,
-    })
-}
-
-/// A number with a symbol and a fixed value.
-fn full_number(alloc: Global) -> Result<Field, Fail> {
+/// A number with a symbol.
+fn symbol_number(alloc: Global) -> Result<Field, Fail>
+    ensures { IfOk result (λ field. is_shaped false 0 (plain_field field) ≡ true) }
+{
     let mut symbols = Symbols::new(alloc);
-    symbols.push(Symbol {
-        name: word(alloc, "one")?,
-        value: 1,
-    })?;
-    let operand = Box::new(alloc, Expr::Fact(FactWord::Id))?;
+    let name = Word {
+        bytes: Bytes::of(alloc, b"one")?,
+    };
+    symbols.push(Symbol { name, value: 1 })?;
     Ok(Field::Num(NumField {
         form: NumForm::Byte,
         width: 8,
         unsigned: true,
         radix: Radix::Hex,
         symbols,
-        fixed: Some(Expr::Unary(UnaryOp::Minus, operand)),
+        fixed: None,
+        key: false,
     }))
 }
 
-/// A text and a point with fixed values.
-fn push_fixed(alloc: Global, body: &mut Body) -> Result<(), Fail> {
+/// A number with a fixed value.
+fn fixed_number(alloc: Global) -> Result<Field, Fail>
+    ensures { IfOk result (λ field. is_shaped false 0 (plain_field field) ≡ true) }
+{
+    let operand = Box::new(alloc, Expr::Fact(FactWord::Id))?;
+    Ok(Field::Num(NumField {
+        form: NumForm::Byte,
+        width: 8,
+        unsigned: true,
+        radix: Radix::Hex,
+        symbols: Symbols::new(alloc),
+        fixed: Some(Expr::Unary(UnaryOp::Minus, operand)),
+        key: false,
+    }))
+}
+
+/// A text with a size and fixed bytes.
+fn fixed_text(alloc: Global) -> Result<Field, Fail>
+    ensures { IfOk result (λ field. is_shaped false 0 (plain_field field) ≡ true) }
+{
     let mut texts = Texts::new(alloc);
     texts.push(TextPart::Plain(Bytes::of(alloc, b"ab")?))?;
-    body.push(Field::Text(TextField {
+    Ok(Field::Text(TextField {
         form: TextForm::Open,
         hex: true,
         size: Some(Expr::Number(2)),
         fixed: Some(texts),
-    }))?;
+    }))
+}
+
+/// A point with fixed numbers.
+fn fixed_point(alloc: Global) -> Result<Field, Fail>
+    ensures { IfOk result (λ field. is_shaped false 0 (plain_field field) ≡ true) }
+{
     let mut exprs = Exprs::new(alloc);
-    exprs.push(Expr::Name(word(alloc, "top")?))?;
-    exprs.push(Expr::Count(word(alloc, "rows")?))?;
-    body.push(Field::Points(PointField {
+    exprs.push(Expr::Number(1))?;
+    exprs.push(Expr::Fact(FactWord::Kind))?;
+    Ok(Field::Points(PointField {
         rect: false,
         fixed: Some(exprs),
-    }))?;
-    Ok(())
+    }))
 }
 
 #[test]
 fn all_parts_are_copied(rt: HostRuntime) -> Result<(), Fail> {
     let alloc = rt.alloc();
-    let mut body = Listing::new(alloc);
-    body.push(full_number(alloc)?)?;
-    push_fixed(alloc, &mut body)?;
+    let mut body = Body::new(alloc);
+    body.push(symbol_number(alloc)?)?;
+    body.push(fixed_number(alloc)?)?;
+    body.push(fixed_text(alloc)?)?;
+    body.push(fixed_point(alloc)?)?;
     body.push(Field::Align(16))?;
     let Ok(template) = check(alloc, body) else {
         return Err(Fail::from("no template"));
@@ -174,6 +198,6 @@ fn all_parts_are_copied(rt: HostRuntime) -> Result<(), Fail> {
     let Ok(copy) = table.copy_of(ICON, None) else {
         return Err(Fail::from("no copy"));
     };
-    assert_eq!(rt; copy.body().len(), 4);
+    assert_eq!(rt; copy.body().len(), 5);
     Ok(())
 }

@@ -7,7 +7,7 @@ use Rattle.std.proofs.lemmas.Slice.Eq.{bytes_eq-Decides}
 use Rattle.rz_core.specs.Stop.{Gives, OnFault}
 use Rattle.rz_core.specs.declared.stop.Stop.{Stop}
 use Rattle.rz_core.specs.declared.stop.Stop.TheVariants.{Refused, NoMemory}
-use Rattle.rz_words.specs.Definition.{Decided}
+use Rattle.rz_core.specs.Decided.{Decided}
 
 -- words by the test of their bytes
 pub same_word : (a b : List ℕ) → bytes_eq a b ≡ true → a ≡ b

@@ -2,6 +2,8 @@
 use Rattle.std.proofs.Common.{◌≡◌, ℕ, zero, suc, Bool, true, false, ◌||◌, inl, inr, List, [], ◌∷◌, ◌++◌, Some, None, refl, sym, ap, subst, ◌∙◌, arith}
 use Rattle.std.specs.Prelude.{codes}
 use Rattle.std.specs.Str.{bytes_eq}
+use Rattle.rz_expr.specs.Attribute.{attribute_word}
+use Rattle.rz_expr.specs.Keyword.{keyword_of}
 use Rattle.rz_lex.specs.Cutting.{Next}
 use Rattle.rz_lex.specs.declared.token.Shape.TheVariants as shapes
 use Rattle.rz_pre.specs.declared.program.Def.{Def}
@@ -97,6 +99,7 @@ stuck_unknown first rest no_file no_again no_option = record {
 -- a definition of a name of one letter
 module _ (back : Next nowhere (codes "a") (record { shape = shapes.Word (record { bytes = codes "a" }); mark = nowhere }) []) where
   name_a : IsName (codes "a") (record { bytes = codes "a" })
+  unfolding keyword_of attribute_word
   name_a = record { spelled = refl; one = ([], ([], back, refl), refl); free = refl }
 
   no_sign : HasNoSign (codes "a")

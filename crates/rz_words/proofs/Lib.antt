@@ -5,3 +5,4 @@ pub mod Items
 pub mod Words
 pub mod Alone
 pub mod Once
+pub mod Lexed

@@ -1,5 +1,5 @@
 -- What `-d` and `-u` define. (MPW Rez.)
-use Rattle.std.specs.Prelude.{◌≡◌, ◌≢◌, ℕ, ◌<◌, true, List, [], ◌∷◌, ◌++◌, length, get_or, Option, Some, None, MatchOption}
+use Rattle.std.specs.Prelude.{◌≡◌, ◌≢◌, ℕ, ◌<◌, true, List, [], ◌∷◌, ◌++◌, length, get_or, Option, Some, None}
 use Rattle.rz_core.specs.declared.fault.Mark.{Mark}
 use Rattle.rz_core.specs.declared.resource.Word.{Word}
 use Rattle.rz_expr.specs.Words.{is_label, role_of}
@@ -43,7 +43,3 @@ HasNoSign bytes = (i : ℕ) → i < length bytes → get_or bytes i 0 ≢ 61
 pub data Defines (value : List ℕ) (def : Def) : Type 0 where
   alone : HasNoSign value → Alone value def → Defines value def
   with_text : (name text : List ℕ) → HasNoSign name → value ≡ name ++ 61 ∷ text → WithText name text def → Defines value def
-
--- it was found, or there is none
-abbrev pub Decided : {X : Type 0} → (X → Type 0) → Option X → Type 0
-Decided P found = MatchOption found ((x : _) → P x → ⊥) P

@@ -1,6 +1,7 @@
 ghost use Rattle.std.specs.Prelude.{◌≡◌, ◌&&◌, IfOk};
 ghost use Rattle.rz_expr.specs.Words.{is_label, role_of};
-ghost use Rattle.rz_words.specs.Definition.{Alone, Decided, Defines, IsName, IsText, Undefines, WithText};
+ghost use Rattle.rz_words.specs.Definition.{Alone, Defines, IsName, IsText, Undefines, WithText};
+ghost use Rattle.rz_core.specs.Decided.{Decided};
 ghost use Rattle.rz_words.specs.Line.{is_one_word};
 
 use crate::line::{is_one_word, tokens_in};

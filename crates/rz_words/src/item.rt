@@ -2,7 +2,7 @@ ghost use Rattle.std.specs.Prelude.{◌≡◌, ℕ, true, IfOk, [], ◌∷◌, m
 ghost use Rattle.std.specs.String.{string_bytes};
 ghost use Rattle.rz_core.specs.Stop.{OnFault};
 ghost use Rattle.rz_words.specs.Command.{IsItem, is_file, IsDefinition, Item as item_of_words};
-ghost use Rattle.rz_words.specs.Definition.{Decided};
+ghost use Rattle.rz_core.specs.Decided.{Decided};
 ghost use Rattle.rz_words.specs.Item.{is_option, item, size_of, BeginsWith, IsStuck};
 
 use crate::definition::{define, undefine};

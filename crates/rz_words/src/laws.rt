@@ -1,7 +1,8 @@
 ghost use Rattle.std.specs.Prelude.{◌≡◌, ℕ, List};
-ghost use Rattle.rz_words.specs.Command.{Asked, IsCommand, IsMisplaced};
+ghost use Rattle.rz_pre.specs.Lexed.{HaveLexedTexts};
+ghost use Rattle.rz_words.specs.Command.{Asked, IsCommand, IsMisplaced, Rez, RezAsked};
 
-use rz_lex::one_cut;
+use rz_lex::{one_cut, tokens_are_lexed};
 use rz_source::one_text;
 
 /// A law, with nothing to run: words are one command at most, and where they are none, one position at most is
@@ -13,4 +14,11 @@ pub fn one_command()
 {
     one_cut();
     one_text();
+}
+
+/// A law, with nothing to run: what the words of a command define as texts are tokens that lines can be cut into.
+pub fn definitions_are_lexed()
+    ensures { (words : List (List ℕ)) (asked : RezAsked) → IsCommand words (Rez asked) → HaveLexedTexts asked.defs }
+{
+    tokens_are_lexed();
 }

@@ -1,6 +1,7 @@
 ghost use Rattle.std.specs.Prelude.{◌≡◌, IfOk, List};
 ghost use Rattle.rz_lex.specs.Cutting.{Cuts};
-ghost use Rattle.rz_words.specs.Definition.{nowhere, Decided};
+ghost use Rattle.rz_words.specs.Definition.{nowhere};
+ghost use Rattle.rz_core.specs.Decided.{Decided};
 ghost use Rattle.rz_words.specs.Line.{is_one_word};
 
 use rz_core::{Bytes, Mark, NoMemory, Stop, Word};

@@ -3,6 +3,7 @@ use Rattle.std.proofs.lemmas.List.{length-drop}
 use Rattle.std.specs.Option.{option_copied}
 use Rattle.std.proofs.lemmas.Int.{to_z-of_z}
 use mir.Val.{SFits}
+use Rattle.rz_core.specs.declared.resource.Word.{Word}
 use Rattle.rz_expr.specs.Grammar.{argument, start_of}
 use Rattle.rz_expr.specs.Reading.{prefix_count, prefixed_term, Begins, IsFront}
 use Rattle.rz_expr.specs.Term.{term_of, Constant, FactOf, Named}
@@ -118,11 +119,11 @@ read_until-returns-in-None t c =
     let none = rw c.in-None.is at c.in_ok-front.ensures in
     until_none c.args.frame c.args.tokens.now none
 
-pub read_word-returns-in_ok-copy_word-in-Label : goal.read_word-returns-in_ok-copy_word-in-Label
-read_word-returns-in_ok-copy_word-in-Label t c =
+pub read_word-returns-in_ok-copy-in-Label : goal.read_word-returns-in_ok-copy-in-Label
+read_word-returns-in_ok-copy-in-Label t c =
     alone_front c.args.tokens.now (Named c.args.word.now.bytes) c.alone.result.length (term_of c.alone.result.expr)
     (begins_name c.args.word.now.bytes (role_of c.args.word.now.bytes) c.role_of.result c.args.tokens.now c.requires (sym c.role_of.ensures) c.in-Label.is)
-    c.alone.ensures.1 (ap term_of c.alone.ensures.0 ∙ ap Named c.in_ok-copy_word-in-Label.ensures)
+    c.alone.ensures.1 (ap term_of c.alone.ensures.0 ∙ ap (λ (word : Word). Named word.bytes) c.in_ok-copy-in-Label.ensures)
 
 pub read_word-returns-in-Fact : goal.read_word-returns-in-Fact
 read_word-returns-in-Fact t c =

@@ -1,5 +1,6 @@
 use Rattle.std.proofs.Common.{List, ℕ, sym, ap, subst, ◌∙◌}
 use Rattle.std.specs.Option.{option_copied}
+use Rattle.rz_core.specs.declared.resource.Word.{Word}
 use Rattle.rz_expr.specs.Grammar.{argument}
 use Rattle.rz_expr.specs.Reading.{IsFront}
 use Rattle.rz_expr.specs.Term.{RowsOf}
@@ -7,8 +8,8 @@ use Rattle.rz_expr.specs.declared.words.Function.TheVariants.{CountOf}
 use Rattle.rz_expr.proofs.Steps.{named_tokens, counted_front}
 use Rattle.rz_expr.proofs.read.read_count.Goals as goal
 
-pub returns-in_ok-copy_word-in-Some : goal.returns-in_ok-copy_word-in-Some
-returns-in_ok-copy_word-in-Some c =
+pub returns-in_ok-copy-in-Some : goal.returns-in_ok-copy-in-Some
+returns-in_ok-copy-in-Some c =
     let name = ap (argument CountOf) (sym c.behind.ensures) ∙ sym c.argument.ensures ∙ ap option_copied c.in-Some.is in
-    subst (λ (bytes : List ℕ). IsFront 0 c.args.tokens.now 4 (RowsOf bytes)) (sym c.in_ok-copy_word-in-Some.ensures)
+    subst (λ (bytes : List ℕ). IsFront 0 c.args.tokens.now 4 (RowsOf bytes)) (sym (ap (λ (word : Word). word.bytes) c.in_ok-copy-in-Some.ensures))
     (counted_front c.in-Some.name.now c.args.tokens.now (named_tokens CountOf c.in-Some.name.now c.args.tokens.now c.requires name))

@@ -1,6 +1,6 @@
 use Rattle.std.proofs.Common.{◌≡◌, ◌==◌, sym, arith, true, false}
 use Rattle.std.proofs.lemmas.Bool.Decides.{nat_tests}
-use Rattle.rz_core.specs.Lists.{any_more, any_stop}
+use Rattle.rz_core.proofs.Lists.{any_more, any_stop}
 use Rattle.rz_fork.specs.Layout.{entries}
 use Rattle.rz_fork.proofs.admit.has_code.Goals as goal
 

@@ -1,5 +1,5 @@
 use Rattle.std.proofs.Common.{sym, ◌∙◌, arith}
-use Rattle.rz_core.specs.Lists.{first_in_more, first_in_stop, first_in_end}
+use Rattle.rz_core.proofs.Lists.{first_in_more, first_in_stop, first_in_end}
 use Rattle.rz_fork.specs.Layout.{references}
 use Rattle.rz_fork.specs.Admit.{reference_rule, in_type}
 use Rattle.rz_fork.proofs.Items.{length-references}

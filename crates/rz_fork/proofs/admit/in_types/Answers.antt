@@ -1,5 +1,5 @@
 use Rattle.std.proofs.Common.{sym, ◌∙◌, arith, List, Option}
-use Rattle.rz_core.specs.Lists.{first_in_more, first_in_stop, first_in_end}
+use Rattle.rz_core.proofs.Lists.{first_in_more, first_in_stop, first_in_end}
 use Rattle.rz_fork.specs.declared.fault.ForkFault.{ForkFault}
 use Rattle.rz_fork.specs.declared.layout.TypeEntry.{TypeEntry}
 use Rattle.rz_fork.specs.Layout.{entries}

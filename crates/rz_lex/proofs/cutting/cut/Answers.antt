@@ -1,6 +1,6 @@
 use Rattle.std.proofs.Common.{◌+◌}
 use Rattle.rz_core.specs.Message.{IsNameable}
-use Rattle.rz_core.specs.Stop.{fault_so, gives_value, gives_fault}
+use Rattle.rz_core.proofs.Stops.{fault_so, gives_value, gives_fault}
 use Rattle.rz_lex.specs.Cutting.{Cuts, Refuses}
 use Rattle.rz_lex.proofs.OneWay.{one_list, one_fault, not_both}
 use Rattle.rz_lex.proofs.Nameable.{refused_said}

@@ -1,6 +1,7 @@
 use Rattle.std.proofs.Common.{refl, []}
 use Rattle.rz_lex.proofs.QuotedBack.{text_back, literal_back}
 use Rattle.rz_lex.proofs.HexBack.{hex_back, dollar_back}
+use Rattle.rz_lex.proofs.DigitsBack.{binary_back, dollar_digits_back, hex_bytes_back, hexadecimal_back, octal_back}
 use Rattle.rz_lex.proofs.WordsBack.{word_back, digits_back, number_back, sign_back, token_more, blank_more}
 use Rattle.rz_lex.proofs.laws.cut_back.Goals as goal
 
@@ -36,3 +37,18 @@ returns-clause-dollar c = dollar_back
 
 pub returns-clause-hex : goal.returns-clause-hex
 returns-clause-hex c = hex_back
+
+pub returns-clause-octal : goal.returns-clause-octal
+returns-clause-octal c = octal_back
+
+pub returns-clause-hexadecimal : goal.returns-clause-hexadecimal
+returns-clause-hexadecimal c = hexadecimal_back
+
+pub returns-clause-binary : goal.returns-clause-binary
+returns-clause-binary c = binary_back
+
+pub returns-clause-dollar_digits : goal.returns-clause-dollar_digits
+returns-clause-dollar_digits c = dollar_digits_back
+
+pub returns-clause-hex_bytes : goal.returns-clause-hex_bytes
+returns-clause-hex_bytes c = hex_bytes_back

@@ -1,4 +1,4 @@
-use Rattle.rz_core.specs.Stop.{gives_value, gives_fault}
+use Rattle.rz_core.proofs.Stops.{gives_value, gives_fault}
 use Rattle.rz_lex.specs.Joined.{joined}
 use Rattle.rz_lex.specs.Lexed.{Lexes, LexFails}
 use Rattle.rz_lex.proofs.OneLex.{one_text, one_failure, text_or_failure}

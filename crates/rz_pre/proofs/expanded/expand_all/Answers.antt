@@ -1,30 +1,34 @@
-use Rattle.std.proofs.Common.{◌+◌, List, drop, sym, subst, arith}
+use Rattle.std.proofs.Common.{List, length, sym, ap, subst, ◌∙◌, arith}
+use Rattle.std.specs.Vec.Iter.{into_iter_items}
 use Rattle.rz_lex.specs.declared.token.Token.{Token}
-use Rattle.rz_pre.specs.Live.{live_in}
+use Rattle.rz_pre.specs.Live.{are_bare, live_in}
 use Rattle.rz_pre.specs.Macros.{rows_of}
-use Rattle.rz_pre.proofs.Bodies.{next_token, no_token}
-use Rattle.rz_pre.proofs.Replaced.{all_replaced, one_more, stopped, Replacing}
+use Rattle.rz_pre.proofs.Replaced.{all_bare, all_replaced, no_rest, one_more_put, none_replaced, Replacing}
 use Rattle.rz_pre.proofs.expanded.expand_all.Goals as goal
 
--- src/expanded.rt:33:44
-pub returns-in-Err-Refused-clause-fault : goal.returns-in-Err-Refused-clause-fault
-returns-in-Err-Refused-clause-fault c =
-    stopped (live_in (rows_of c.args.macros.now)) c.args.tokens.now c.token-item.result (drop (c.loop-token.token-index + 1) c.args.tokens.now) c.loop-token.done
-    (subst (λ (ts : List Token). Replacing (live_in (rows_of c.args.macros.now)) c.args.tokens.now ts c.loop-token.done)
-    (next_token c.args.tokens.now c.loop-token.token-index c.token-item.result c.loop-token-test.true (sym c.token-item.is)) c.loop-token.invariant)
-    c.in_ok-too_long-in-Err-Refused.field-0 (rw c.in-Err-Refused.field-0-is at c.in-Err-Refused.ensures.long) c.in_ok-too_long-in-Err-Refused.ensures
+pub returns-then-branch-clause-tokens : goal.returns-then-branch-clause-tokens
+returns-then-branch-clause-tokens c =
+    all_bare (rows_of c.args.macros.now) c.args.tokens (sym (c.in_ok-is_free.ensures ∙ ap (are_bare (rows_of c.args.macros.now)) c.as_slice.ensures) ∙ c.if-branch.true)
 
--- src/expanded.rt:30:5
+pub loop-token-init : goal.loop-token-init
+loop-token-init c =
+    let all = c.into_iter-token-iterator.ensures.into_iter_gives.0 ∙ c.into_vec-token-items.ensures in
+    let size = c.into_iter-token-iterator.ensures.into_iter_gives.1 in
+    record {
+      replacing = subst (λ (ts : List Token). Replacing (live_in (rows_of c.args.macros.now)) c.args.tokens ts c.new-done.result) (sym all)
+          (subst (Replacing (live_in (rows_of c.args.macros.now)) c.args.tokens c.args.tokens) (sym c.new-done.ensures) (none_replaced (live_in (rows_of c.args.macros.now)) c.args.tokens));
+      counted = size ∙ c.into_vec-token-items.result.ok.0 ∙ ap (λ (ts : List Token). length ts) (sym c.into_iter-token-iterator.ensures.into_iter_gives.0);
+    }
+
 pub loop-token-preserved : goal.loop-token-preserved
-loop-token-preserved c =
-    subst (λ (ts : List Token). Replacing (live_in (rows_of c.args.macros.now)) c.args.tokens.now (drop (c.loop-token.token-index + 1) c.args.tokens.now) ts) (sym c.in_ok-append-in-Ok.ensures)
-    (one_more (live_in (rows_of c.args.macros.now)) c.args.tokens.now c.token-item.result (drop (c.loop-token.token-index + 1) c.args.tokens.now) c.loop-token.done
-    (subst (λ (ts : List Token). Replacing (live_in (rows_of c.args.macros.now)) c.args.tokens.now ts c.loop-token.done)
-    (next_token c.args.tokens.now c.loop-token.token-index c.token-item.result c.loop-token-test.true (sym c.token-item.is)) c.loop-token.invariant)
-    c.in-Ok.more c.in-Ok.ensures.tokens)
+loop-token-preserved c = record {
+  replacing = one_more_put (live_in (rows_of c.args.macros.now)) c.args.tokens c.in-Some.token (into_iter_items c.next.new.self) c.loop-token.done
+      (subst (λ (ts : List Token). Replacing (live_in (rows_of c.args.macros.now)) c.args.tokens ts c.loop-token.done) c.in-Some.ensures.steps.0 c.loop-token.invariant.replacing)
+      c.put_expanded.new.done c.in_ok-put_expanded.ensures.tokens;
+  counted = let more = ap (λ (ts : List Token). length ts) c.in-Some.ensures.steps.0 in omega (arith, more, c.in-Some.ensures.steps.1, c.loop-token.invariant.counted);
+}
 
--- src/expanded.rt:25:1
 pub returns-clause-tokens : goal.returns-clause-tokens
-returns-clause-tokens c = all_replaced (live_in (rows_of c.args.macros.now)) c.args.tokens.now c.loop-token.done
-    (subst (λ (ts : List Token). Replacing (live_in (rows_of c.args.macros.now)) c.args.tokens.now ts c.loop-token.done)
-    (no_token c.args.tokens.now c.loop-token.token-index (omega (arith, c.loop-token-test.false))) c.loop-token.invariant)
+returns-clause-tokens c = all_replaced (live_in (rows_of c.args.macros.now)) c.args.tokens c.loop-token.done
+    (subst (λ (ts : List Token). Replacing (live_in (rows_of c.args.macros.now)) c.args.tokens ts c.loop-token.done)
+    (no_rest (into_iter_items c.loop-token.token-iterator) (sym c.loop-token.invariant.counted ∙ c.in-None.ensures.steps.0)) c.loop-token.invariant.replacing)

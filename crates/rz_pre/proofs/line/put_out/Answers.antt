@@ -8,5 +8,5 @@ use Rattle.rz_pre.proofs.line.put_out.Goals as goal
 pub returns-in_err-replaced-clause-nameable : goal.returns-in_err-replaced-clause-nameable
 returns-in_err-replaced-clause-nameable c =
     let p = err_from_is_err_and c.from_residual-in_err-replaced.result c.from_residual-in_err-replaced.ensures.1 in
-    rw (p.1, p.2) (replaced_nameable Act c.args.mark (live_in (rows_of c.args.macros.now)) c.in_ok-tokens.tokens c.in_err-replaced.field-0.0
-    (rw c.as_slice.ensures at c.in_err-replaced.ensures) (cut_on c.args.mark c.args.bytes.now c.in_ok-tokens.tokens c.in_ok-tokens.ensures.act))
+    rw (p.1, p.2) (replaced_nameable Act c.args.line.now.mark (live_in (rows_of c.args.macros.now)) c.in_ok-tokens.tokens c.in_err-replaced.field-0.0
+    c.in_err-replaced.ensures (cut_on c.args.line.now.mark c.args.line.now.bytes c.in_ok-tokens.tokens c.in_ok-tokens.ensures.act))

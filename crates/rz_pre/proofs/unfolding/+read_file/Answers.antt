@@ -1,14 +1,17 @@
 use Rattle.std.proofs.Common.{ℕ, ◌-◌, ◌<◌, ◌^◌, List, length, rules, reverse, sym, ap, subst, ◌∙◌, arith}
 use Rattle.std.specs.declared.option.Option.{Option}
 use Rattle.std.proofs.lemmas.Result.{err_from_is_err_and}
+use Rattle.rz_lex.specs.Within.{AreWithin}
 use Rattle.rz_lex.specs.Joined.{ahead}
 use Rattle.rz_lex.specs.declared.joined.Position.{Position}
 use Rattle.rz_lex.specs.declared.raw_line.RawLine.{RawLine}
 use Rattle.rz_pre.specs.Reading.{state_of}
 use Rattle.rz_pre.proofs.Going.{at_some, left_at_end, left_in_comment, left_in_line, left_in_opening, left_inside, on_behind, on_inside}
 use Rattle.rz_lex.specs.declared.token.Token.{Token}
-use Rattle.rz_pre.specs.Placed.{AreWithin, IsPlaced}
+use Rattle.rz_pre.specs.Placed.{IsPlaced}
 use Rattle.rz_pre.proofs.Placing.{open_more, steps_files, steps_open, steps_within, within_more}
+use Rattle.rz_folder.proofs.Reading.{reads_on}
+use Rattle.rz_pre.proofs.Lexing.{steps_lexed}
 use Rattle.rz_pre.proofs.Opening.{if_some}
 use Rattle.rz_pre.proofs.unfolding.+read_file.Goals as goal
 use Rattle.rz_pre.proofs.unfolding.+read_file.Goals.{in-Some-2+in_ok-source+in_ok-read_file, in_default-2}
@@ -48,7 +51,7 @@ returns-in_err-source-clause-read g t c = if_some (g.F.Folder.files c.args.folde
     (ahead c.loop-opens.place) (reverse c.loop-opens.opens.items) (state_of c.loop-opens.reading) (c.loop-opens.invariant.leads files told)
     c.in-Some.line (ahead c.in-Some.after) (rw c.in-Some.is at c.in_ok-line.ensures.line)
     c.in-Some-2.name _ _ (rw c.in-Some-2.is at c.in_ok-name.ensures.steps) (c.every_text_has_lines.ensures c.args.file (ahead c.in-Some.after))
-    c.in_err-source.field-0.0 _ (at_some _ files (c.loop-opens.invariant.unchanged ∙ told) _ (rw c.as_slice.ensures at c.in_err-source.ensures.opened))))
+    c.in_err-source.field-0.0 _ (at_some _ files (c.loop-opens.invariant.reads.unchanged ∙ told) _ (rw c.as_slice.ensures at c.in_err-source.ensures.opened))))
 
 pub returns-in_err-read_file-clause-read : goal.returns-in_err-read_file-clause-read
 returns-in_err-read_file-clause-read g t c = if_some (g.F.Folder.files c.args.folder.now) _ (λ files told.
@@ -58,8 +61,8 @@ returns-in_err-read_file-clause-read g t c = if_some (g.F.Folder.files c.args.fo
     c.in-Some.line (ahead c.in-Some.after) (rw c.in-Some.is at c.in_ok-line.ensures.line)
     c.in-Some-2.name _ _ (rw c.in-Some-2.is at c.in_ok-name.ensures.steps)
     c.in_ok-source.source _ (c.args.levels - 1) (omega (arith, c.in_ok-source.ensures.deep))
-    (at_some _ files (c.loop-opens.invariant.unchanged ∙ told) _ (rw c.as_slice.ensures at c.in_ok-source.ensures.opened)) (c.every_text_has_lines.ensures c.args.file (ahead c.in-Some.after))
-    c.in_err-read_file.field-0.0 _ (at_some _ files (c.in_ok-source.ensures.unchanged ∙ c.loop-opens.invariant.unchanged ∙ told) _ (rw (c.as_slice-in-Some-2.ensures, c.len-inner.ensures) at c.in_err-read_file.ensures.read))))
+    (at_some _ files (c.loop-opens.invariant.reads.unchanged ∙ told) _ (rw c.as_slice.ensures at c.in_ok-source.ensures.opened)) (c.every_text_has_lines.ensures c.args.file (ahead c.in-Some.after))
+    c.in_err-read_file.field-0.0 _ (at_some _ files (c.in_ok-source.ensures.reads.unchanged ∙ c.loop-opens.invariant.reads.unchanged ∙ told) _ (rw (c.as_slice-in-Some-2.ensures, c.len-inner.ensures) at c.in_err-read_file.ensures.read))))
 
 pub loop-opens-preserved : goal.loop-opens-preserved
 loop-opens-preserved g t c = record {
@@ -70,8 +73,8 @@ loop-opens-preserved g t c = record {
         c.in-Some.line (ahead c.in-Some.after) (rw c.in-Some.is at c.in_ok-line.ensures.line)
         w.in-Some-2.name _ _ (rw w.in-Some-2.is at c.in_ok-name.ensures.steps)
         w.in_ok-source.source _ (c.args.levels - 1) (omega (arith, w.in_ok-source.ensures.deep))
-        (at_some _ files (c.loop-opens.invariant.unchanged ∙ told) _ (rw w.as_slice.ensures at w.in_ok-source.ensures.opened))
-        _ (at_some _ files (w.in_ok-source.ensures.unchanged ∙ c.loop-opens.invariant.unchanged ∙ told) _ (rw (w.as_slice-in-Some-2.ensures, w.len-inner.ensures) at w.in_ok-read_file.ensures.read)))
+        (at_some _ files (c.loop-opens.invariant.reads.unchanged ∙ told) _ (rw w.as_slice.ensures at w.in_ok-source.ensures.opened))
+        _ (at_some _ files (w.in_ok-source.ensures.reads.unchanged ∙ c.loop-opens.invariant.reads.unchanged ∙ told) _ (rw (w.as_slice-in-Some-2.ensures, w.len-inner.ensures) at w.in_ok-read_file.ensures.read)))
     | in_default-2 w ↦ λ files told.
         rw w.reading-is (on_behind c.args.setting.tool files c.args.setting.paths.now c.args.levels c.args.file c.args.text.now (state_of c.args.reading.now)
         (ahead c.loop-opens.place) (reverse c.loop-opens.opens.items) (state_of c.loop-opens.reading) (c.loop-opens.invariant.leads files told)
@@ -79,14 +82,24 @@ loop-opens-preserved g t c = record {
         _ _ (rw w.in_default-2.is at c.in_ok-name.ensures.steps))
   ];
   within = let on = rw c.in-Some.is at c.in_ok-line.ensures.further in omega (arith, on.within, c.loop-opens.invariant.within);
-  unchanged = elim c.match-branch-4.branch [
-    | in-Some-2+in_ok-source+in_ok-read_file w ↦ rw w.folder-is (w.in_ok-read_file.ensures.unchanged ∙ w.in_ok-source.ensures.unchanged ∙ c.loop-opens.invariant.unchanged)
-    | in_default-2 w ↦ rw w.folder-is c.loop-opens.invariant.unchanged
+  reads = elim c.match-branch-4.branch [
+    | in-Some-2+in_ok-source+in_ok-read_file w ↦ rw w.folder-is (reads_on g.F.Folder.files g.F.Folder.read_faults g.F.Folder.write_faults _ _ _ _ _ _
+        (reads_on g.F.Folder.files g.F.Folder.read_faults g.F.Folder.write_faults _ _ _ _ _ ⊥ c.loop-opens.invariant.reads w.in_ok-source.ensures.reads (λ never. absurd never))
+        w.in_ok-read_file.ensures.reads (λ never. absurd never))
+    | in_default-2 w ↦ rw w.folder-is c.loop-opens.invariant.reads
   ];
   placed = elim c.match-branch-4.branch [
     | in-Some-2+in_ok-source+in_ok-read_file w ↦ rw w.reading-is w.in_ok-read_file.ensures.placed
     | in_default-2 w ↦ rw w.reading-is (subst (λ (files : List (List ℕ)). AreWithin (length files) c.step.new.reading.tokens) (sym (steps_files c.args.setting.tool c.in-Some.line (reverse c.loop-opens.opens.items) (state_of c.loop-opens.reading) c.in_ok-name.field-0 (reverse c.step.new.opens.items) (state_of c.step.new.reading) c.in_ok-name.ensures.steps))
         (steps_within c.args.setting.tool c.in-Some.line (reverse c.loop-opens.opens.items) (state_of c.loop-opens.reading) c.in_ok-name.field-0 (reverse c.step.new.opens.items) (state_of c.step.new.reading) c.in_ok-name.ensures.steps (length c.loop-opens.reading.files) (omega (arith, rw c.in-Some.is at c.in_ok-line.ensures.mark, c.requires.open, c.loop-opens.invariant.more)) c.loop-opens.invariant.placed))
+  ];
+  lexed = λ before. elim c.match-branch-4.branch [
+    | in-Some-2+in_ok-source+in_ok-read_file w ↦ rw w.reading-is (w.in_ok-read_file.ensures.lexed (w.in_ok-source.ensures.lexed
+        (steps_lexed c.tokens_are_lexed.ensures c.args.setting.tool c.in-Some.line (reverse c.loop-opens.opens.items) (state_of c.loop-opens.reading) c.in_ok-name.field-0 (reverse c.step.new.opens.items) (state_of c.step.new.reading) c.in_ok-name.ensures.steps
+        (c.loop-opens.invariant.lexed before))))
+    | in_default-2 w ↦ rw w.reading-is
+        (steps_lexed c.tokens_are_lexed.ensures c.args.setting.tool c.in-Some.line (reverse c.loop-opens.opens.items) (state_of c.loop-opens.reading) c.in_ok-name.field-0 (reverse c.step.new.opens.items) (state_of c.step.new.reading) c.in_ok-name.ensures.steps
+        (c.loop-opens.invariant.lexed before))
   ];
   more = elim c.match-branch-4.branch [
     | in-Some-2+in_ok-source+in_ok-read_file w ↦ rw w.reading-is (omega (
@@ -105,14 +118,6 @@ loop-opens-preserved g t c = record {
     | in_default-2 w ↦ rw w.reading-is (open_more (length c.loop-opens.reading.files) (length c.step.new.reading.files) (reverse c.step.new.opens.items)
         (omega (arith, ap (λ (files : List (List ℕ)). length files) (steps_files c.args.setting.tool c.in-Some.line (reverse c.loop-opens.opens.items) (state_of c.loop-opens.reading) c.in_ok-name.field-0 (reverse c.step.new.opens.items) (state_of c.step.new.reading) c.in_ok-name.ensures.steps)))
         (steps_open c.args.setting.tool c.in-Some.line (reverse c.loop-opens.opens.items) (state_of c.loop-opens.reading) c.in_ok-name.field-0 (reverse c.step.new.opens.items) (state_of c.step.new.reading) c.in_ok-name.ensures.steps (length c.loop-opens.reading.files) (omega (arith, rw c.in-Some.is at c.in_ok-line.ensures.mark, c.requires.open, c.loop-opens.invariant.more)) c.loop-opens.invariant.opened))
-  ];
-  other_count = elim c.match-branch-4.branch [
-    | in-Some-2+in_ok-source+in_ok-read_file w ↦ rw w.folder-is (w.in_ok-read_file.ensures.other_count ∙ w.in_ok-source.ensures.other_count ∙ c.loop-opens.invariant.other_count)
-    | in_default-2 w ↦ rw w.folder-is c.loop-opens.invariant.other_count
-  ];
-  counted = elim c.match-branch-4.branch [
-    | in-Some-2+in_ok-source+in_ok-read_file w ↦ rw w.folder-is (omega (arith, w.in_ok-read_file.ensures.counted, w.in_ok-source.ensures.counted, c.loop-opens.invariant.counted))
-    | in_default-2 w ↦ rw w.folder-is c.loop-opens.invariant.counted
   ];
 }
 

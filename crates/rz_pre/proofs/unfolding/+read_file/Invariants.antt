@@ -1,6 +1,8 @@
 use Rattle.std.proofs.Common.{◌≡◌, ◌+◌, ◌^◌, ◌≤◌, length, reverse, Some}
 use Rattle.rz_folder.specs.Folder.{Files}
+use Rattle.rz_folder.specs.OnlyReads.{OnlyReads}
 use Rattle.rz_lex.specs.Joined.{ahead}
+use Rattle.rz_pre.specs.Lexed.{IsLexedReading}
 use Rattle.rz_pre.specs.Placed.{AreOpenIn, IsPlaced}
 use Rattle.rz_pre.specs.Program.{IncludedGoes}
 use Rattle.rz_pre.specs.Reading.{state_of}
@@ -16,12 +18,11 @@ invariant-loop-opens g l = record {
       → LinesLead (IncludedGoes l.setting.tool files l.setting.paths.now l.levels) l.setting.tool l.file l.text (state_of l.fn.reading)
       (ahead l.place) (reverse l.opens.items) (state_of l.reading);
   within : l.place.line + length l.place.rest.now ≤ 2 ^ 32;
-  unchanged : g.F.Folder.files l.folder ≡ g.F.Folder.files l.fn.folder;
+  reads : OnlyReads g.F.Folder.files g.F.Folder.read_faults g.F.Folder.write_faults l.fn.folder l.folder ⊥;
   placed : IsPlaced l.reading;
+  lexed : IsLexedReading l.fn.reading → IsLexedReading l.reading;
   more : length l.fn.reading.files ≤ length l.reading.files;
   opened : AreOpenIn (length l.reading.files) (reverse l.opens.items);
-  other_count : g.F.Folder.write_faults l.folder ≡ g.F.Folder.write_faults l.fn.folder;
-  counted : g.F.Folder.read_faults l.fn.folder ≤ g.F.Folder.read_faults l.folder;
 }
 
 abbrev pub decreases-loop-opens : goal.decreases-loop-opens

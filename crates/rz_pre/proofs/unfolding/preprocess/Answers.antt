@@ -15,4 +15,4 @@ returns-clause-every g c = if_some (g.F.Folder.files c.args.folder.now) _ (λ fi
     (answers_from c.read_all-ended.result (state_of c.read_all-ended.new.reading) c.finish.result _ (at_some _ files told _ c.read_all-ended.ensures.read) c.finish.ensures.finished))
 
 pub returns-clause-cause : goal.returns-clause-cause
-returns-clause-cause g c = read_fault_from c.read_all-ended.result (state_of c.read_all-ended.new.reading) c.finish.result _ c.read_all-ended.ensures.cause c.finish.ensures.finished
+returns-clause-cause g c = read_fault_from c.read_all-ended.result (state_of c.read_all-ended.new.reading) c.finish.result _ c.read_all-ended.ensures.reads.cause c.finish.ensures.finished

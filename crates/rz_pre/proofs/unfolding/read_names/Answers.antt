@@ -2,6 +2,7 @@ use Rattle.std.proofs.Common.{◌+◌, ◌∙◌, List, drop, subst, arith, refl
 use Rattle.std.proofs.lemmas.List.{at_drop_all}
 use Rattle.std.proofs.lemmas.Option.{slice_get_within}
 use Rattle.std.proofs.lemmas.Result.{err_from_is_err_and}
+use Rattle.rz_folder.proofs.Reading.{reads_on}
 use Rattle.rz_pre.specs.Reading.{state_of}
 use Rattle.rz_pre.proofs.Going.{at_some, left_in_named, on_named, NamesLead}
 use Rattle.rz_pre.proofs.Opening.{drop_at, if_some}
@@ -14,7 +15,7 @@ returns-in_err-read_named-clause-read g c = if_some (g.F.Folder.files c.args.fol
     (state_of c.args.reading.now) (state_of c.loop-k.reading) c.at.result.now
     (subst (λ (rest : List _). NamesLead c.args.setting.tool files c.args.setting.paths.now c.args.names.now rest (state_of c.args.reading.now) (state_of c.loop-k.reading))
     (drop_at c.args.names.now c.loop-k.k c.at.result.now c.at.ensures) (c.loop-k.invariant.leads files told))
-    c.in_err-read_named.field-0.0 _ (at_some _ files (c.loop-k.invariant.unchanged ∙ told) _ c.in_err-read_named.ensures.read)))
+    c.in_err-read_named.field-0.0 _ (at_some _ files (c.loop-k.invariant.reads.unchanged ∙ told) _ c.in_err-read_named.ensures.read)))
 
 pub loop-k-preserved : goal.loop-k-preserved
 loop-k-preserved g c = record {
@@ -22,13 +23,12 @@ loop-k-preserved g c = record {
       (state_of c.args.reading.now) (state_of c.loop-k.reading) c.at.result.now
       (subst (λ (rest : List _). NamesLead c.args.setting.tool files c.args.setting.paths.now c.args.names.now rest (state_of c.args.reading.now) (state_of c.loop-k.reading))
       (drop_at c.args.names.now c.loop-k.k c.at.result.now c.at.ensures) (c.loop-k.invariant.leads files told))
-      _ (at_some _ files (c.loop-k.invariant.unchanged ∙ told) _ c.in_ok-read_named.ensures.read);
+      _ (at_some _ files (c.loop-k.invariant.reads.unchanged ∙ told) _ c.in_ok-read_named.ensures.read);
   within = let lt = slice_get_within c.args.names.now c.loop-k.k c.at.result.now c.at.ensures in omega (arith, lt);
-  unchanged = c.in_ok-read_named.ensures.unchanged ∙ c.loop-k.invariant.unchanged;
+  reads = reads_on g.F.Folder.files g.F.Folder.read_faults g.F.Folder.write_faults _ _ _ _ _ ⊥ c.loop-k.invariant.reads c.in_ok-read_named.ensures.reads (λ never. absurd never);
   placed = c.in_ok-read_named.ensures.placed;
+  lexed = λ before. c.in_ok-read_named.ensures.lexed (c.loop-k.invariant.lexed before);
   more = omega (arith, c.in_ok-read_named.ensures.more, c.loop-k.invariant.more);
-  other_count = c.in_ok-read_named.ensures.other_count ∙ c.loop-k.invariant.other_count;
-  counted = omega (arith, c.in_ok-read_named.ensures.counted, c.loop-k.invariant.counted);
 }
 
 pub returns-clause-read : goal.returns-clause-read

@@ -1,5 +1,7 @@
 use Rattle.std.proofs.Common.{◌≡◌, ◌-◌, ◌≤◌, drop, length, Some}
 use Rattle.rz_folder.specs.Folder.{Files}
+use Rattle.rz_folder.specs.OnlyReads.{OnlyReads}
+use Rattle.rz_pre.specs.Lexed.{IsLexedReading}
 use Rattle.rz_pre.specs.Placed.{IsPlaced}
 use Rattle.rz_pre.specs.Reading.{state_of}
 use Rattle.rz_pre.proofs.Going.{NamesLead}
@@ -10,11 +12,10 @@ invariant-loop-k g l = record {
   leads : (files : Files) → g.F.Folder.files l.fn.folder ≡ Some files
       → NamesLead l.setting.tool files l.setting.paths.now l.names (drop l.k l.names) (state_of l.fn.reading) (state_of l.reading);
   within : l.k ≤ length l.names;
-  unchanged : g.F.Folder.files l.folder ≡ g.F.Folder.files l.fn.folder;
+  reads : OnlyReads g.F.Folder.files g.F.Folder.read_faults g.F.Folder.write_faults l.fn.folder l.folder ⊥;
   placed : IsPlaced l.reading;
+  lexed : IsLexedReading l.fn.reading → IsLexedReading l.reading;
   more : length l.fn.reading.files ≤ length l.reading.files;
-  other_count : g.F.Folder.write_faults l.folder ≡ g.F.Folder.write_faults l.fn.folder;
-  counted : g.F.Folder.read_faults l.fn.folder ≤ g.F.Folder.read_faults l.folder;
 }
 
 abbrev pub decreases-loop-k : goal.decreases-loop-k

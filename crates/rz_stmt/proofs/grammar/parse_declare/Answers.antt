@@ -1,5 +1,16 @@
-use Rattle.rz_stmt.proofs.CanSay.{say_stop}
+use Rattle.rz_declare.specs.Constants.{declare_of}
+use Rattle.rz_declare.specs.Form.{declare_form}
+use Rattle.rz_stmt.proofs.Parsed.{faulty, valued}
 use Rattle.rz_stmt.proofs.grammar.parse_declare.Goals as goal
 
-pub returns-in-Err-clause-nameable : goal.returns-in-Err-clause-nameable
-returns-in-Err-clause-nameable c files within = say_stop files c.args.mark within c.args.tokens.now c.in-Err.stop c.in-Err.ensures
+pub returns-in-Ok-clause-parsed : goal.returns-in-Ok-clause-parsed
+returns-in-Ok-clause-parsed c =
+    valued c.args.mark c.args.tokens.now (declare_form c.in-Some.stmt) (rw c.in-Some.is at c.in_ok-stmt.ensures) c.in-Ok.stmt c.in-Ok.ensures.value
+
+pub returns-in-Err-clause-parsed : goal.returns-in-Err-clause-parsed
+returns-in-Err-clause-parsed c =
+    faulty c.args.mark c.args.tokens.now (declare_form c.in-Some.stmt) (rw c.in-Some.is at c.in_ok-stmt.ensures) c.in-Err.stop c.in-Err.ensures.value
+
+pub returns-in-Ok-clause-shaped : goal.returns-in-Ok-clause-shaped
+returns-in-Ok-clause-shaped c = λ lexed.
+    c.declarations_are_shaped.ensures c.args.tokens.now (declare_form c.in-Some.stmt) c.args.mark (declare_of c.in-Ok.stmt) lexed (rw c.in-Some.is at c.in_ok-stmt.ensures) c.in-Ok.ensures.value

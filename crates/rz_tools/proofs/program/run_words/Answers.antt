@@ -10,6 +10,10 @@ use Rattle.rz_tools.proofs.Commands.{shows_text}
 use Rattle.rz_tools.proofs.Warnings.{no_lines}
 use Rattle.rz_tools.proofs.program.run_words.Goals as goal
 
+pub run_rez-requires : goal.run_rez-requires
+run_rez-requires g c =
+    c.definitions_are_lexed.ensures (map string_bytes c.args.words.now) (rez c.in-Ok-Rez.asked) (rw c.in-Ok-Rez.field-0-is at c.in-Ok-Rez.ensures.command)
+
 pub returns-in-Ok-Rez-clause-runs : goal.returns-in-Ok-Rez-clause-runs
 returns-in-Ok-Rez-clause-runs g c =
     as_command (map string_bytes c.args.words.now) c.args.moment c.one_command.ensures.command _ _ _ _ _ _ _ inl
@@ -32,12 +36,12 @@ returns-in-Ok-Version-clause-runs g c =
 
 pub returns-in-Err-Refused-clause-runs : goal.returns-in-Err-Refused-clause-runs
 returns-in-Err-Refused-clause-runs g c =
-    rw c.with-in-Err-Refused.ensures (as_usage (map string_bytes c.args.words.now) c.args.moment _ _ _ _ c.one_command.ensures.position
+    rw (c.with-in-Err-Refused.ensures, c.in-Err-Refused.fault-is) (as_usage (map string_bytes c.args.words.now) c.args.moment _ _ _ _ c.one_command.ensures.position
     c.in-Err-Refused.fault.position (rw c.in-Err-Refused.field-0-is at c.in-Err-Refused.ensures.misplaced))
 
 pub returns-in-Err-Refused-clause-every_usage : goal.returns-in-Err-Refused-clause-every_usage
 returns-in-Err-Refused-clause-every_usage g c position is =
-    rw c.with-in-Err-Refused.ensures (inl (ap (λ n. Usage (record { position = n }))
+    rw (c.with-in-Err-Refused.ensures, c.in-Err-Refused.fault-is) (inl (ap (λ n. Usage (record { position = n }))
     (c.one_command.ensures.position (map string_bytes c.args.words.now) c.in-Err-Refused.fault.position position
     (rw c.in-Err-Refused.field-0-is at c.in-Err-Refused.ensures.misplaced) is)))
 

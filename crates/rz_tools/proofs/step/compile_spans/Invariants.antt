@@ -1,7 +1,7 @@
 use Rattle.std.proofs.Common.{ℕ, [], drop}
+use Rattle.rz_lex.specs.Within.{AreWithin}
 use Rattle.rz_core.specs.Resources.{KeysDiffer}
 use Rattle.rz_fork.specs.Image.{AreNamed}
-use Rattle.rz_stmt.specs.Grammar.{AreWithin}
 use Rattle.rz_tools.specs.Held.{work_of}
 use Rattle.rz_tools.specs.Warning.{AreWarnings}
 use Rattle.rz_tools.specs.ResourceList.{values_of, IsKeyed}
@@ -11,7 +11,7 @@ use Rattle.rz_tools.proofs.step.compile_spans.Given as goal
 
 abbrev pub invariant-loop-span : goal.invariant-loop-span
 invariant-loop-span l = record {
-  leads : LeadsTo l.redeclare l.tokens l.span-items (drop l.span-index l.span-items) (work_of l.work);
+  leads : LeadsTo l.setting l.tokens l.span-items (drop l.span-index l.span-items) (work_of l.work);
   spans : AreSpans l.tokens (drop l.span-index l.span-items);
   keyed : IsKeyed l.work.held.entries;
   named : AreNamed (values_of l.work.held.entries);

@@ -15,5 +15,5 @@ returns-clause-work c statements are =
     let has = c.in_ok-spans.ensures.spans in
     let same = ap (all_at c.args.tokens.now) has.2 ∙ (at_all c.args.tokens.now [] c.args.tokens.now 0 has.0 refl refl has.1).0
     ∙ c.one_cutting.ensures c.args.tokens.now has.0 statements has.1 are in
-    subst (λ (ss : List (List Token)). Worked (Means c.args.redeclare nothing_made ss) c.compile_spans.result (work_of c.compile_spans.new.work)) same
+    subst (λ (ss : List (List Token)). Worked (Means c.args.setting nothing_made ss) c.compile_spans.result (work_of c.compile_spans.new.work)) same
     c.compile_spans.ensures.work

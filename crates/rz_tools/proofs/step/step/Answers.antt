@@ -1,4 +1,4 @@
-use Rattle.rz_stmt.specs.Declare.{declare_of}
+use Rattle.rz_stmt.specs.Constants.{declare_of}
 use Rattle.rz_stmt.specs.Raw.{raw_of}
 use Rattle.rz_tools.specs.Held.{work_of}
 use Rattle.rz_tools.specs.ResourceList.{values_of}
@@ -8,7 +8,7 @@ use Rattle.rz_tools.proofs.step.step.Goals as goal
 
 pub returns-in-Ok-Raw-clause-stepped : goal.returns-in-Ok-Raw-clause-stepped
 returns-in-Ok-Raw-clause-stepped c =
-    raw_done c.args.redeclare (work_of c.args.work.now) (tokens_at c.args.tokens.now c.args.span) (raw_of c.in-Ok-Raw.raw) c.at.result.now.mark
+    raw_done c.args.setting (work_of c.args.work.now) (tokens_at c.args.tokens.now c.args.span) (raw_of c.in-Ok-Raw.raw) c.at.result.now.mark
     c.put_raw.result (values_of c.put_raw.new.held.entries) (rw c.in-Ok-Raw.field-0-is at c.in-Ok-Raw.ensures.parsed)
     (first_mark c.args.tokens.now c.args.span c.at.result.now c.requires.span c.at.ensures) c.put_raw.ensures.put
 
@@ -16,9 +16,12 @@ pub returns-in-Ok-Raw-clause-nameable : goal.returns-in-Ok-Raw-clause-nameable
 returns-in-Ok-Raw-clause-nameable c files within =
     c.put_raw.ensures.nameable files (within_at files c.args.tokens.now c.args.span.start c.at.result.now within c.at.ensures)
 
+pub declare_type-requires : goal.declare_type-requires
+declare_type-requires c = record { shaped = rw c.in-Ok-Declare.field-0-is at (c.in-Ok-Declare.ensures.shaped c.requires.lexed) }
+
 pub returns-in-Ok-Declare-clause-stepped : goal.returns-in-Ok-Declare-clause-stepped
 returns-in-Ok-Declare-clause-stepped c =
-    declare_done c.args.redeclare (work_of c.args.work.now) (tokens_at c.args.tokens.now c.args.span) (declare_of c.in-Ok-Declare.declare) c.at.result.now.mark
+    declare_done c.args.setting (work_of c.args.work.now) (tokens_at c.args.tokens.now c.args.span) (declare_of c.in-Ok-Declare.declare) c.at.result.now.mark
     c.declare_type.result (work_of c.declare_type.new.work) (rw c.in-Ok-Declare.field-0-is at c.in-Ok-Declare.ensures.parsed)
     (first_mark c.args.tokens.now c.args.span c.at.result.now c.requires.span c.at.ensures) c.declare_type.ensures.declared c.declare_type.ensures.kept
 

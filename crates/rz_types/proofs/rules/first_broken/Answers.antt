@@ -1,10 +1,9 @@
-use Rattle.std.proofs.Common.{rules, Some, None, sym, ap, ◌∙◌, arith, to_z, of_z, w32, SFits}
+use Rattle.std.proofs.Common.{rules, Some, sym, ap, ◌∙◌, arith, to_z, of_z, w32, SFits}
 use Rattle.std.proofs.lemmas.Int.{to_z-of_z}
-use Rattle.rz_core.specs.Lists.{first_in_more, first_in_stop}
 use Rattle.rz_types.specs.Field.{plain_body, plain_field}
-use Rattle.rz_types.specs.Rules.{broken_at, width_fault}
+use Rattle.rz_types.specs.Rules.{width_fault}
 use Rattle.rz_types.specs.declared.rules.TypeFault.{TypeFault}
-use Rattle.rz_types.proofs.Broken.{fault_at}
+use Rattle.rz_types.proofs.Broken.{fault_more, fault_stop}
 use Rattle.rz_types.proofs.Found.{at_map}
 use Rattle.rz_types.proofs.rules.first_broken.Goals as goal
 
@@ -18,9 +17,7 @@ returns-in-Some c =
     ap (λ (fault : TypeFault). Some fault) (c.width_fault.ensures
     ∙ ap (λ n. width_fault n (to_z w32 (of_z w32 c.in-Some.value))) c.loop-field.invariant.position
     ∙ ap (width_fault i) (to_z-of_z w32 c.in-Some.value fits))
-    ∙ sym (first_in_stop broken_at xs i x is (width_fault i c.in-Some.value)
-    (fault_at xs i x is (Some c.in-Some.value) (sym c.in_ok-value.ensures ∙ c.in-Some.is)))
-    ∙ c.loop-field.invariant.rest
+    ∙ fault_stop xs i x is c.in-Some.value (sym c.bad_width.ensures ∙ c.in-Some.is) c.loop-field.invariant.rest
 
 pub loop-field-preserved : goal.loop-field-preserved
 loop-field-preserved c =
@@ -29,5 +26,5 @@ loop-field-preserved c =
     let x = plain_field c.field-item.result in
     let is = at_map plain_field c.args.fields.now i c.field-item.result c.loop-field-test.true c.field-item.is in record {
       position = omega arith;
-      rest = first_in_more broken_at xs i x is (fault_at xs i x is None (sym c.in_ok-value.ensures ∙ c.in_default.is)) ∙ c.loop-field.invariant.rest;
+      rest = fault_more xs i x is (sym c.bad_width.ensures ∙ c.in_default.is) c.loop-field.invariant.rest;
     }

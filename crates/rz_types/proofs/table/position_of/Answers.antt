@@ -1,5 +1,5 @@
 use Rattle.std.proofs.Common.{map, sym}
-use Rattle.rz_core.specs.Lists.{any_more}
+use Rattle.rz_core.proofs.Lists.{any_more}
 use Rattle.rz_types.specs.Table.{stands_at}
 use Rattle.rz_types.specs.TypeTable.{declaration_of}
 use Rattle.rz_types.proofs.Found.{at_map}

@@ -3,7 +3,7 @@ use Rattle.std.specs.Prelude.{codes}
 use Rattle.std.specs.String.{string_bytes}
 use Rattle.std.proofs.lemmas.Result.{IfOk-weaker}
 use Rattle.std.proofs.lemmas.List.{nil_from_length}
-use Rattle.rz_core.specs.Stop.{fault_so}
+use Rattle.rz_core.proofs.Stops.{fault_so}
 use Rattle.rz_words.specs.Command as command
 use Rattle.rz_words.specs.Command.{IsItem}
 use Rattle.rz_words.specs.Definition.{nowhere}

@@ -1,0 +1,6 @@
+pub mod Cut
+pub mod Limits
+pub mod OneCut
+pub mod OneBracket
+pub mod Fronts
+pub mod Slices

@@ -1,0 +1,18 @@
+-- What stands in brackets is one thing.
+use Rattle.std.proofs.Common.{◌≡◌, List, ◌∷◌, sym, subst, ◌∙◌}
+use Rattle.rz_lex.specs.declared.token.Token.{Token}
+use Rattle.rz_brackets.specs.Bracket.{closer, IsBracketed}
+use Rattle.rz_brackets.specs.Pieces.{IsParted, Parted}
+use Rattle.rz_brackets.specs.declared.bracket.Bracket.{Bracket}
+use Rattle.rz_brackets.proofs.OneCut.{one_parting}
+
+pub same_rest : (bracket : Bracket) (tokens rest : List Token) (first : Token) (parted : Parted) → tokens ≡ first ∷ rest → IsBracketed bracket tokens parted
+    → IsParted (closer bracket) rest parted
+same_rest bracket tokens rest first parted are is = subst (λ (ts : List Token). IsParted (closer bracket) ts parted) (tails (sym is.are ∙ are)) is.closes
+  where
+    tails : is.opener ∷ is.rest ≡ first ∷ rest → is.rest ≡ rest
+    tails e = cc e
+
+pub one_bracketed : (bracket : Bracket) (tokens : List Token) (parted other : Parted) → IsBracketed bracket tokens parted → IsBracketed bracket tokens other → parted ≡ other
+one_bracketed bracket tokens parted other is also =
+    one_parting (closer bracket) is.rest parted other is.closes (same_rest bracket tokens is.rest is.opener other is.are also)

@@ -1,0 +1,16 @@
+-- Patterns of slices of tokens.
+use Rattle.std.proofs.Common.{◌≡◌, ◌≤◌, ◌-◌, ℕ, List, [], ◌∷◌, drop, get_or, length, take, sym, ap, ◌∙◌, arith}
+use Rattle.std.proofs.lemmas.List.{length-drop, take_all}
+use Rattle.rz_lex.specs.declared.token.Token.{Token}
+
+-- what stands behind the first so many, as a pattern has it
+abbrev pub behind_of : ℕ → List Token → List Token
+behind_of n tokens = take (length tokens - n) (drop n tokens)
+
+pub all_behind : (n : ℕ) (tokens : List Token) → behind_of n tokens ≡ drop n tokens
+all_behind n tokens = take_all (length tokens - n) (drop n tokens) (omega (arith, length-drop n tokens))
+
+pub two : (tokens : List Token) (a b : Token) → 2 ≤ length tokens → a ≡ get_or tokens 0 a → b ≡ get_or tokens 1 b → tokens ≡ a ∷ b ∷ behind_of 2 tokens
+two [] a b long is_a is_b = absurd (omega (arith, long))
+two (x ∷ []) a b long is_a is_b = absurd (omega (arith, long))
+two (x ∷ y ∷ rest) a b long is_a is_b = (λ i. sym is_a i ∷ sym is_b i ∷ rest) ∙ ap (λ (ts : List Token). a ∷ b ∷ ts) (sym (all_behind 2 (x ∷ y ∷ rest)))

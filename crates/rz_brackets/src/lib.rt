@@ -1,0 +1,20 @@
+//! The tokens of a program as statements, and the tokens of a statement as pieces: brackets, the signs
+//! outside them, and how deep and how long a statement may be. What one kind of statement means stands in
+//! the crates above.
+#![tactic(auto)]
+
+mod bracket;
+mod cutting;
+mod kind;
+mod laws;
+mod limit;
+mod pieces;
+mod span;
+
+pub use bracket::{Bracket, begins, bracketed};
+pub use cutting::{is_empty_statement, is_semicolon, one_cutting, statements};
+pub use kind::kind_in;
+pub use laws::{all_tokens_are_statements, limits_are_kept, pieces_are_cut};
+pub use limit::is_within_limits;
+pub use pieces::{Divider, Split, pieces_by, split_at};
+pub use span::{Span, Spans};

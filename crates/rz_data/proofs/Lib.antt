@@ -1,0 +1,5 @@
+pub mod Parts
+pub mod Attributes
+pub mod OneData
+pub mod Shaped
+pub mod Closes

@@ -1,0 +1,174 @@
+ghost use Rattle.std.specs.Prelude.{◌≡◌, IfOk, List, MatchOption, map, option_map};
+ghost use Rattle.rz_expr.specs.Term.{term_of, Term};
+ghost use Rattle.rz_expr.specs.Attribute.{attribute_word};
+ghost use Rattle.rz_types.specs.Text.{plain_parts};
+ghost use Rattle.rz_core.specs.Decided.{Decided};
+ghost use Rattle.rz_data.specs.Head.{attribute_of, head_of, said, stands_in_heads, word_attribute, AreAttributes, Attribute, Head, IsAttribute, IsHead, IsHeadExpression, IsRestOf};
+
+use rz_core::{Listing, NoMemory, Word};
+use rz_expr::{AttributeWord, Expr, attribute_word, one_expression, predefined, read_whole};
+use rz_lex::{Shape, Token};
+use rz_types::{Texts, text_in};
+use std::alloc::Global;
+
+/// An attribute of a head. (MPW Rez.)
+#[derive(Debug, Drop)]
+pub enum AttrPart {
+    /// A word that sets this bit.
+    Set(u8),
+    /// A word that clears this bit.
+    Clear(u8),
+    /// A number that sets all eight bits.
+    Value(Expr),
+}
+
+/// The attributes of a head, in order.
+pub type AttrParts = Listing<AttrPart>;
+
+/// What stands in the brackets of a head. (MPW Rez.)
+#[derive(Debug, Drop)]
+pub struct HeadExpr {
+    /// The id.
+    pub id: Expr,
+    /// The name, where one is given.
+    pub name: Option<Texts>,
+    /// The attributes, none where they are left out.
+    pub attributes: AttrParts,
+}
+
+/// The head that the pieces of its brackets are, where they are one.
+pub fn read_head(alloc: Global, pieces: &[&[Token]]) -> Result<Option<HeadExpr>, NoMemory>
+    ensures { IfOk result (λ head. Decided (IsHead (map (λ piece. piece.now) pieces.now)) (option_map head_of head)) }
+{
+    one_expression();
+    let Some((first, others)) = pieces.split_first() else {
+        return Ok(None);
+    };
+    let Some(id) = read_expression(alloc, first)? else {
+        return Ok(None);
+    };
+    let Some((name, attributes)) = read_rest(alloc, others)? else {
+        return Ok(None);
+    };
+    Ok(Some(HeadExpr {
+        id,
+        name,
+        attributes,
+    }))
+}
+
+/// The name and the attributes that the pieces behind an id are.
+fn read_rest(
+    alloc: Global,
+    pieces: &[&[Token]],
+) -> Result<Option<(Option<Texts>, AttrParts)>, NoMemory>
+    ensures { IfOk result (λ rest. Decided (IsRestOf (map (λ piece. piece.now) pieces.now))
+        (option_map (λ rest. (option_map plain_parts rest.0, map attribute_of rest.1)) rest)) }
+{
+    let Some((first, others)) = pieces.split_first() else {
+        return Ok(Some((None, AttrParts::new(alloc))));
+    };
+    match text_in(alloc, first)? {
+        Some(name) => match read_attributes(alloc, others)? {
+            Some(attributes) => Ok(Some((Some(name), attributes))),
+            None => Ok(None),
+        },
+        None => match read_attributes(alloc, pieces)? {
+            Some(attributes) => Ok(Some((None, attributes))),
+            None => Ok(None),
+        },
+    }
+}
+
+/// The attributes that the pieces are.
+fn read_attributes(alloc: Global, pieces: &[&[Token]]) -> Result<Option<AttrParts>, NoMemory>
+    ensures { IfOk result (λ parts. Decided (AreAttributes (map (λ piece. piece.now) pieces.now)) (option_map (map attribute_of) parts)) }
+{
+    one_expression();
+    let mut attributes = AttrParts::new(alloc);
+    for piece in pieces {
+        let Some(attribute) = read_attribute(alloc, piece)? else {
+            return Ok(None);
+        };
+        attributes.push(attribute)?;
+    }
+    Ok(Some(attributes))
+}
+
+/// The attribute that a piece is.
+fn read_attribute(alloc: Global, piece: &[Token]) -> Result<Option<AttrPart>, NoMemory>
+    ensures { IfOk result (λ part. Decided (IsAttribute piece.now) (option_map attribute_of part)) }
+{
+    if let Some(part) = word_attribute(piece) {
+        return Ok(Some(part));
+    }
+    match read_expression(alloc, piece)? {
+        Some(value) => Ok(Some(AttrPart::Value(value))),
+        None => Ok(None),
+    }
+}
+
+/// The attribute that a piece is by one word.
+fn word_attribute(piece: &[Token]) -> Option<AttrPart>
+    ensures { option_map attribute_of result ≡ word_attribute piece.now }
+{
+    match piece {
+        [token] => match &token.shape {
+            Shape::Word(word) => attribute_named(word),
+            _ => None,
+        },
+        _ => None,
+    }
+}
+
+/// The attribute that a word is.
+fn attribute_named(word: &Word) -> Option<AttrPart>
+    ensures { option_map attribute_of result ≡ option_map said (attribute_word word.now.bytes) }
+{
+    match attribute_word(word.bytes.as_slice()) {
+        Some(word) => Some(said(word)),
+        None => None,
+    }
+}
+
+/// What an attribute word says.
+fn said(word: AttributeWord) -> AttrPart
+    ensures { attribute_of result ≡ said word }
+{
+    if word.sets {
+        AttrPart::Set(word.bit)
+    } else {
+        AttrPart::Clear(word.bit)
+    }
+}
+
+/// The expression that a piece is, where it is one that may stand in a head.
+fn read_expression(alloc: Global, piece: &[Token]) -> Result<Option<Expr>, NoMemory>
+    ensures { IfOk result (λ expr. Decided (IsHeadExpression piece.now) (option_map term_of expr)) }
+{
+    one_expression();
+    match read_whole(alloc, piece)? {
+        Some(expr) => {
+            if stands_in_heads(&expr) {
+                Ok(Some(expr))
+            } else {
+                Ok(None)
+            }
+        }
+        None => Ok(None),
+    }
+}
+
+/// Whether an expression may stand in a head: without names but `true` and `false`, and so far without
+/// functions.
+fn stands_in_heads(expr: &Expr) -> bool
+    ensures { result ≡ stands_in_heads (term_of expr.now) }
+{
+    match expr {
+        Expr::Number(_) => true,
+        Expr::Name(name) => predefined(name).is_some(),
+        Expr::Count(_) | Expr::Bits(..) | Expr::Fact(_) => false,
+        Expr::Unary(_, operand) => stands_in_heads(operand),
+        Expr::Binary(_, left, right) => stands_in_heads(left) && stands_in_heads(right),
+    }
+}

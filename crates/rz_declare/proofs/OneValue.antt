@@ -1,0 +1,21 @@
+-- Values of fields are one at most.
+use Rattle.std.proofs.Common.{◌≡◌, ℕ, List, Option, Some, None, sym, ◌∙◌}
+use Rattle.rz_expr.proofs.OneTerm.{OneExpression}
+use Rattle.rz_expr.specs.Term.{Term}
+use Rattle.rz_lex.specs.declared.token.Token.{Token}
+use Rattle.rz_declare.specs.FieldValue.{one_byte, IsConstant, IsFieldExpression, IsValue, IsValueBy}
+use Rattle.rz_types.specs.declared.field.NumForm.{NumForm}
+
+module _ (one : OneExpression) where
+  pub one_constant : (tokens : List Token) (a b : Term) → IsConstant tokens a → IsConstant tokens b → a ≡ b
+  one_constant tokens a b is also = one tokens a b is.0 also.0
+
+  pub one_field_expression : (tokens : List Token) (a b : Term) → IsFieldExpression tokens a → IsFieldExpression tokens b → a ≡ b
+  one_field_expression tokens a b is also = one tokens a b is.0 also.0
+
+  value_by : (found : Option ℕ) (tokens : List Token) (a b : Term) → IsValueBy found tokens a → IsValueBy found tokens b → a ≡ b
+  value_by (Some byte) tokens a b is also = is ∙ sym also
+  value_by None tokens a b is also = one_field_expression tokens a b is also
+
+  pub one_value : (form : NumForm) (tokens : List Token) (a b : Term) → IsValue form tokens a → IsValue form tokens b → a ≡ b
+  one_value form tokens a b is also = value_by (one_byte form tokens) tokens a b is also

@@ -1,0 +1,97 @@
+-- A `type` statement with the values of its constants. They are computed from left to right, and the first that has no
+-- value, or that is a symbol's and outside its range, is the fault of the statement. (MPW Rez.)
+use Rattle.std.specs.Prelude.{ℕ, ℤ, pos, false, List, [], ◌∷◌, Option, Some, None, Ok, Err}
+use Rattle.std.specs.declared.result.Result.{Result}
+use Rattle.rz_core.specs.Stop.{◌>>=◌}
+use Rattle.rz_core.specs.declared.fault.Fault.{Fault}
+use Rattle.rz_core.specs.declared.fault.Mark.{Mark}
+use Rattle.rz_core.specs.declared.stop.Stop.{Stop}
+use Rattle.rz_declare.specs.Form.{DeclareForm, FieldForm, MadeForm, NumberForm, Own, ScopeForm, WidthForm, Written}
+use Rattle.rz_declare.specs.Form as form
+use Rattle.rz_types.specs.Value.{constant_value}
+use Rattle.rz_types.specs.Range.{fits_number}
+use Rattle.rz_declare.specs.Values.{values_of}
+use Rattle.rz_expr.specs.Term.{Term}
+use Rattle.rz_declare.specs.declared.constants.Bounds.{Bounds}
+use Rattle.rz_declare.specs.declared.constants.Bounds.TheVariants.{Any, One, Two}
+use Rattle.rz_declare.specs.declared.constants.DeclareStmt.{DeclareStmt}
+use Rattle.rz_declare.specs.declared.constants.Made.{Made}
+use Rattle.rz_declare.specs.declared.constants.Made.TheVariants as ways
+use Rattle.rz_types.specs.Field.{plain_body, Align, Fill, Number, PlainField, PlainNumber, Points, Text}
+
+-- fields, or what another type is
+pub data PlainMade : Type 0 where
+  Fields : (body : List PlainField) → PlainMade
+  CopyOf : (kind : ℕ) (id : Option ℤ) → PlainMade
+
+pub record Declare : Type 0 where
+  pub kind : ℕ
+  pub bounds : Bounds
+  pub made : PlainMade
+
+abbrev pub made_of : Made → PlainMade
+made_of (ways.Fields body) = Fields (plain_body body)
+made_of (ways.Copy kind id) = CopyOf kind.code id
+
+abbrev pub declare_of : DeclareStmt → Declare
+declare_of stmt = record { kind = stmt.kind.code; bounds = stmt.bounds; made = made_of stmt.made }
+
+-- Fields.
+
+abbrev pub width_value : Mark → WidthForm → Result ℤ Fault
+width_value mark (Own bits) = Ok bits
+width_value mark (Written term) = constant_value mark term
+
+-- a number of so many bits
+abbrev pub number_of_width : Mark → NumberForm → ℤ → Result PlainNumber Fault
+number_of_width mark number width =
+    values_of (fits_number number.form width) mark (pos 0) number.symbols
+    >>= (λ symbols. Ok (record { form = number.form; width = width; unsigned = number.unsigned; radix = number.radix; symbols = symbols; fixed = number.fixed; key = false }))
+
+-- its width first, then its symbols
+abbrev pub number_value : Mark → NumberForm → Result PlainNumber Fault
+number_value mark number = width_value mark number.width >>= number_of_width mark number
+
+-- one unit, or as many as are written
+abbrev pub count_value : Mark → Option Term → Result ℤ Fault
+count_value mark None = Ok (pos 1)
+count_value mark (Some term) = constant_value mark term
+
+abbrev pub field_value : Mark → FieldForm → Result PlainField Fault
+field_value mark (form.Number number) = number_value mark number >>= (λ value. Ok (Number value))
+field_value mark (form.Text text) = Ok (Text text)
+field_value mark (form.Points points) = Ok (Points points)
+field_value mark (form.Fill unit count) = count_value mark count >>= (λ value. Ok (Fill unit value))
+field_value mark (form.Align unit) = Ok (Align unit)
+
+abbrev pub body_value : Mark → List FieldForm → Result (List PlainField) Fault
+body_value mark [] = Ok []
+body_value mark (field ∷ fields) = field_value mark field >>= (λ one. body_value mark fields >>= (λ others. Ok (one ∷ others)))
+
+-- The statement.
+
+abbrev pub two_value : Mark → Term → Term → Result Bounds Fault
+two_value mark first last = constant_value mark first >>= (λ from. constant_value mark last >>= (λ to. Ok (Two from to)))
+
+abbrev pub scope_value : Mark → ScopeForm → Result Bounds Fault
+scope_value mark form.Any = Ok Any
+scope_value mark (form.One id) = constant_value mark id >>= (λ value. Ok (One value))
+scope_value mark (form.Two first last) = two_value mark first last
+
+abbrev pub id_value : Mark → Option Term → Result (Option ℤ) Fault
+id_value mark None = Ok None
+id_value mark (Some term) = constant_value mark term >>= (λ value. Ok (Some value))
+
+abbrev pub made_value : Mark → MadeForm → Result PlainMade Fault
+made_value mark (form.Fields body) = body_value mark body >>= (λ fields. Ok (Fields fields))
+made_value mark (form.CopyOf kind id) = id_value mark id >>= (λ value. Ok (CopyOf kind value))
+
+-- the ids first, then what the type is
+abbrev pub declared : Mark → DeclareForm → Result Declare Fault
+declared mark stmt =
+    scope_value mark stmt.scope >>= (λ bounds. made_value mark stmt.made >>= (λ made. Ok (record { kind = stmt.kind; bounds = bounds; made = made })))
+
+-- what a call gives, as it is seen
+abbrev pub seen : {X Y F : Type 0} → (Y → X) → Result Y (Stop F) → Result X (Stop F)
+seen view (Ok value) = Ok (view value)
+seen view (Err stop) = Err stop

@@ -1,0 +1,40 @@
+-- Values in type declarations. (MPW Rez.)
+use Rattle.std.specs.Prelude.{◌≡◌, ℕ, pos, Bool, true, false, List, [], ◌∷◌, Option, Some, None}
+use Rattle.rz_expr.specs.Constant.{is_constant}
+use Rattle.rz_expr.specs.Grammar.{IsExpression}
+use Rattle.rz_expr.specs.Term.{Constant, Term}
+use Rattle.rz_lex.specs.declared.sign.Sign.TheVariants as signs
+use Rattle.rz_lex.specs.declared.token.Shape.{Shape}
+use Rattle.rz_lex.specs.declared.token.Shape.TheVariants as shapes
+use Rattle.rz_lex.specs.declared.token.Token.{Token}
+use Rattle.rz_types.specs.declared.field.NumForm.{NumForm}
+use Rattle.rz_types.specs.declared.field.NumForm.TheVariants.{Char}
+
+-- a constant is an expression without names other than `true` and `false`, and without functions
+abbrev pub IsConstant : List Token → Term → Type 0
+IsConstant tokens term = IsExpression tokens term × (is_constant term ≡ true)
+
+-- an expression of a field; so far a constant
+abbrev pub IsFieldExpression : List Token → Term → Type 0
+IsFieldExpression tokens term = IsConstant tokens term
+
+abbrev pub byte_in : Shape → Option ℕ
+byte_in (shapes.Text (byte ∷ [])) = Some byte
+byte_in shape = None
+
+-- behind `char` a text alone may be a byte
+abbrev pub one_byte : NumForm → List Token → Option ℕ
+one_byte Char (token ∷ []) = byte_in token.shape
+one_byte form tokens = None
+
+abbrev pub IsValueBy : Option ℕ → List Token → Term → Type 0
+IsValueBy (Some byte) tokens term = term ≡ Constant (pos byte)
+IsValueBy None tokens term = IsFieldExpression tokens term
+
+-- a value of a number field: the number of such a byte, or an expression
+abbrev pub IsValue : NumForm → List Token → Term → Type 0
+IsValue form tokens = IsValueBy (one_byte form tokens) tokens
+
+abbrev pub is_equals : Shape → Bool
+is_equals (shapes.Sign signs.Equals) = true
+is_equals shape = false

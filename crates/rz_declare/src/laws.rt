@@ -1,0 +1,53 @@
+ghost use Rattle.std.specs.Prelude.{◌≡◌, ◌↔◌, false, None, Bool, ℤ, List, Err, Ok, Some};
+ghost use Rattle.rz_core.specs.declared.fault.Fault.{Fault};
+ghost use Rattle.rz_core.specs.declared.fault.Mark.{Mark};
+ghost use Rattle.rz_lex.specs.Lexeme.{AreLexed};
+ghost use Rattle.rz_lex.specs.declared.token.Token.{Token};
+ghost use Rattle.rz_types.specs.declared.field.Symbol.{Symbol};
+ghost use Rattle.rz_declare.specs.Constants.{declared, Declare};
+ghost use Rattle.rz_declare.specs.Declare.{IsDeclare};
+ghost use Rattle.rz_declare.specs.FieldFront.{IsFront};
+ghost use Rattle.rz_declare.specs.FieldWord.{front_in, FieldFront};
+ghost use Rattle.rz_declare.specs.Form.{DeclareForm, NamedTerm};
+ghost use Rattle.rz_declare.specs.GoOn.{GoWrong, HaveValues};
+ghost use Rattle.rz_declare.specs.Shaped.{IsShapedMade};
+ghost use Rattle.rz_declare.specs.Values.{values_of};
+
+use rz_brackets::pieces_are_cut;
+use rz_expr::one_expression;
+
+/// A law, with nothing to run: tokens are one `type` statement at most.
+pub fn one_declare()
+    ensures { (tokens : List Token) (form other : DeclareForm) → IsDeclare tokens form → IsDeclare tokens other → form ≡ other }
+{
+    one_expression();
+    pieces_are_cut();
+}
+
+/// A law, with nothing to run: tokens have this front of a field exactly where `unsigned` and a radix, once each at
+/// most and in either order, stand before the word that says what the field is.
+pub fn words_before_fields()
+    ensures { (tokens : List Token) (front : FieldFront) → (front_in false None tokens ≡ Some front) ↔ IsFront tokens front }
+{}
+
+/// A law, with nothing to run: symbols have these values exactly where there are as many as names; each has its
+/// name, a value in the range, and the one that is given, or else one more than the symbol before, wrapped to 32
+/// bits; the first value at the front. They have this fault exactly where some symbols at the front have such
+/// values, and the one behind them has that fault: that of the value that is given, or 207 for a value outside
+/// the range.
+pub fn symbols_have_values()
+    ensures values { (fits : ℤ → Bool) (mark : Mark) (names : List NamedTerm) (first : ℤ) (symbols : List Symbol)
+        → (values_of fits mark first names ≡ Ok symbols) ↔ HaveValues fits mark first names symbols }
+    ensures fault { (fits : ℤ → Bool) (mark : Mark) (names : List NamedTerm) (first : ℤ) (fault : Fault)
+        → (values_of fits mark first names ≡ Err fault) ↔ GoWrong fits mark first names fault }
+{}
+
+/// A law, with nothing to run: what a `type` statement makes of tokens that lines can be cut into is well shaped.
+/// Each symbol has a name of 1 to 255 bytes and a value in the range; a type has the width that is its own; fixed
+/// values and sizes are field expressions; a fixed text has one part or more, a point two numbers and a rectangle
+/// four; units are 1, 4, 8, 16 or 32 bits, and of `align` not 1. A copy of another type has no fields of its own.
+/// (MPW Rez.)
+pub fn declarations_are_shaped()
+    ensures { (tokens : List Token) (form : DeclareForm) (mark : Mark) (declare : Declare)
+        → AreLexed tokens → IsDeclare tokens form → declared mark form ≡ Ok declare → IsShapedMade declare.made }
+{}

@@ -1,0 +1,92 @@
+ghost use Rattle.std.specs.Prelude.{◌≡◌, IfOk, map, option_map};
+ghost use Rattle.rz_expr.specs.Term.{term_of};
+ghost use Rattle.rz_core.specs.Decided.{Decided};
+ghost use Rattle.rz_declare.specs.Each.{AreEach};
+ghost use Rattle.rz_declare.specs.FieldValue.{byte_in, is_equals, one_byte, IsConstant, IsFieldExpression, IsValue};
+
+use rz_core::NoMemory;
+use rz_expr::{Expr, is_constant, one_expression, read_whole};
+use rz_lex::{Shape, Sign, Token};
+use rz_types::{Exprs, NumForm};
+use std::alloc::Global;
+
+/// The constant that the tokens are: an expression without names other than `true` and `false`, and without
+/// `$$` functions. (MPW Rez.)
+pub fn read_constant(alloc: Global, tokens: &[Token]) -> Result<Option<Expr>, NoMemory>
+    ensures { IfOk result (λ expr. Decided (IsConstant tokens.now) (option_map term_of expr)) }
+{
+    one_expression();
+    match read_whole(alloc, tokens)? {
+        Some(expr) => {
+            if is_constant(&expr) {
+                Ok(Some(expr))
+            } else {
+                Ok(None)
+            }
+        }
+        None => Ok(None),
+    }
+}
+
+/// The expression of a field that the tokens are. It is a constant, so far.
+pub fn read_expression(alloc: Global, tokens: &[Token]) -> Result<Option<Expr>, NoMemory>
+    ensures { IfOk result (λ expr. Decided (IsFieldExpression tokens.now) (option_map term_of expr)) }
+{
+    read_constant(alloc, tokens)
+}
+
+/// The value of a number field that the tokens are: an expression, or behind `char` a text of one byte.
+pub fn read_value(alloc: Global, form: NumForm, tokens: &[Token]) -> Result<Option<Expr>, NoMemory>
+    ensures { IfOk result (λ expr. Decided (IsValue form tokens.now) (option_map term_of expr)) }
+{
+    match one_byte(form, tokens) {
+        Some(byte) => Ok(Some(Expr::Number(i32::from(byte)))),
+        None => read_expression(alloc, tokens),
+    }
+}
+
+/// The byte that a text alone is, behind `char`.
+fn one_byte(form: NumForm, tokens: &[Token]) -> Option<u8>
+    ensures { result ≡ one_byte form tokens.now }
+{
+    match form {
+        NumForm::Char => match tokens {
+            [token] => byte_in(token),
+            _ => None,
+        },
+        _ => None,
+    }
+}
+
+fn byte_in(token: &Token) -> Option<u8>
+    ensures { result ≡ byte_in token.now.shape }
+{
+    match &token.shape {
+        Shape::Text(bytes) => match bytes.as_slice() {
+            [byte] => Some(*byte),
+            _ => None,
+        },
+        _ => None,
+    }
+}
+
+/// The expressions that the pieces are.
+pub fn read_expressions(alloc: Global, pieces: &[&[Token]]) -> Result<Option<Exprs>, NoMemory>
+    ensures { IfOk result (λ exprs. Decided (AreEach IsFieldExpression (map (λ piece. piece.now) pieces.now)) (option_map (map term_of) exprs)) }
+{
+    let mut exprs = Exprs::new(alloc);
+    for piece in pieces {
+        let Some(expr) = read_expression(alloc, piece)? else {
+            return Ok(None);
+        };
+        exprs.push(expr)?;
+    }
+    Ok(Some(exprs))
+}
+
+/// Whether it is `=`.
+pub fn is_equals(token: &Token) -> bool
+    ensures { result ≡ is_equals token.now.shape }
+{
+    matches!(token.shape, Shape::Sign(Sign::Equals))
+}

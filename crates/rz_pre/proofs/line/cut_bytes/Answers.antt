@@ -1,5 +1,0 @@
-use Rattle.rz_pre.proofs.Numbers.{cut_source}
-use Rattle.rz_pre.proofs.line.cut_bytes.Goals as goal
-
-pub returns-clause-nameable : goal.returns-clause-nameable
-returns-clause-nameable c = cut_source c.args.mark _ c.cut.result c.cut.ensures.fault c.cut.ensures.nameable

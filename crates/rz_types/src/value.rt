@@ -1,0 +1,105 @@
+ghost use Rattle.std.specs.Prelude.{◌≡◌, ◌<◌, ℕ, true, []};
+ghost use Rattle.std.proofs.Common.{rules};
+ghost use Rattle.rz_core.specs.Message.{IsNameable};
+ghost use Rattle.rz_core.specs.Stop.{Gives, OnFault};
+ghost use Rattle.rz_expr.specs.Constant.{is_constant};
+ghost use Rattle.rz_expr.specs.Term.{term_of};
+ghost use Rattle.rz_expr.specs.Value.{reduced};
+ghost use Rattle.rz_types.specs.Value.{constant_value, fact_of, field_sight, is_field_expression, number_of, value_fault, IsArithmeticFault};
+
+use rz_core::{Facts, Fault, Kept, Mark, Stop, Word};
+use rz_expr::{ConstantEnv, Env, EvalFault, Expr, FactWord, eval, signed};
+use std::alloc::Global;
+
+/// What an expression sees of a resource: `true`, `false` and the facts.
+#[derive(Drop)]
+struct FactsEnv<'a> {
+    facts: &'a Facts,
+}
+
+impl Env for FactsEnv<'_> {
+    ghost view = { λ env. field_sight env.facts.now [] };
+
+    ghost belongs = { λ env finished. finished ≡ field_sight env.facts.now [] };
+
+    fn place(&self, name: &Word) -> Option<i32> {
+        ConstantEnv.place(name)
+    }
+
+    fn count(&self, _name: &Word) -> Option<i32> {
+        None
+    }
+
+    fn bits(&self, _name: &Word, _start: i32, _width: i32) -> Option<u32> {
+        None
+    }
+
+    fn fact(&self, which: FactWord) -> i32 {
+        fact_of(self.facts, which)
+    }
+
+    ghost law = { Prim.search rules };
+}
+
+/// What is known of a resource, as a number of 32 bits with a sign. No expression of a field has the words of
+/// the date so far.
+fn fact_of(facts: &Facts, which: FactWord) -> i32
+    ensures { result ≡ reduced (fact_of facts.now which) }
+{
+    match which {
+        FactWord::Id => i32::from(facts.id),
+        FactWord::Kind => signed(facts.kind.code),
+        FactWord::Attributes => i32::from(facts.attr.byte()),
+        _ => 0,
+    }
+}
+
+/// The value of an expression on a line, with the facts of a resource, or its first fault. Of an expression
+/// of a field the fault is 211, a zero divisor, or 215, a shift by a count outside 0 to 31 (kept: the
+/// count). Any other may also refuse a name that has no value by 203 (kept: the name) and bits by 213. (MPW
+/// Rez.)
+pub fn number_of(alloc: Global, expr: &Expr, place: Mark, facts: &Facts) -> Result<i32, Stop<Fault>>
+    ensures value { Gives (number_of place facts.now (term_of expr.now)) result }
+    ensures arithmetic { is_field_expression (term_of expr.now) ≡ true → OnFault result (IsArithmeticFault place) }
+    ensures nameable { (files : ℕ) → place.file < files → OnFault result (IsNameable files) }
+{
+    match eval(alloc, expr, &FactsEnv { facts }) {
+        Ok(value) => Ok(value),
+        Err(Stop::Refused(fault)) => Err(Stop::Refused(value_fault(place, fault))),
+        Err(Stop::NoMemory) => Err(Stop::NoMemory),
+    }
+}
+
+/// The fault of a value that is computed on a line.
+fn value_fault(mark: Mark, fault: EvalFault) -> Fault
+    ensures fault { result ≡ value_fault mark fault }
+    ensures nameable { (files : ℕ) → mark.file < files → IsNameable files result }
+{
+    let (number, kept) = match fault {
+        EvalFault::ZeroDivisor => (211, Kept::Nothing),
+        EvalFault::UnknownName(name) => (203, Kept::Name(name.bytes)),
+        EvalFault::LaterData(_, behind) => (213, Kept::Number(behind)),
+        EvalFault::DataWidth(width) => (213, Kept::Number(i64::from(width))),
+        EvalFault::BadShift(count) => (215, Kept::Number(i64::from(count))),
+    };
+    Fault {
+        number,
+        mark: Some(mark),
+        kept,
+    }
+}
+
+/// The value of a constant on a line, or its first fault: 211 for a zero divisor, 215 for a shift by a count
+/// outside 0 to 31 (kept: the count). An expression that is no constant may also be refused by 203 for a name
+/// that has no value (kept: the name) and by 213 for bits. (MPW Rez.)
+pub fn constant_value(alloc: Global, expr: &Expr, place: Mark) -> Result<i32, Stop<Fault>>
+    ensures value { Gives (constant_value place (term_of expr.now)) result }
+    ensures arithmetic { is_constant (term_of expr.now) ≡ true → OnFault result (IsArithmeticFault place) }
+    ensures nameable { (files : ℕ) → place.file < files → OnFault result (IsNameable files) }
+{
+    match eval(alloc, expr, &ConstantEnv) {
+        Ok(value) => Ok(value),
+        Err(Stop::Refused(fault)) => Err(Stop::Refused(value_fault(place, fault))),
+        Err(Stop::NoMemory) => Err(Stop::NoMemory),
+    }
+}
