@@ -16,10 +16,9 @@ use Rattle.rz_fork.specs.declared.fault.ForkFault.{ForkFault}
 use Rattle.rz_fork.specs.declared.layout.Outline.{Outline}
 use Rattle.rz_fork.specs.declared.layout.TypeEntry.{TypeEntry}
 use Rattle.rz_fork.specs.declared.layout.Reference.{Reference}
-use Rattle.rz_fork.specs.declared.rules.ReferenceRule.TheVariants.{Id}
 use Rattle.rz_fork.specs.Layout.{entries, references}
 use Rattle.rz_fork.specs.Contents.{resource_of, resources_of, resources}
-use Rattle.rz_fork.specs.Admit.{id_rule, type_rule, in_type, broken, fault}
+use Rattle.rz_fork.specs.Admit.{id_rule, type_rule, in_type, broken, fault, Id}
 use Rattle.rz_fork.proofs.Fits.{AreBytes, HasId, ids_fit}
 use Rattle.rz_fork.proofs.Grouping.{all_append}
 use Rattle.rz_fork.proofs.Holding.{HoldLists}

@@ -15,12 +15,11 @@ use Rattle.rz_core.specs.declared.resource.Resource.{Resource}
 use Rattle.rz_fork.specs.declared.layout.Outline.{Outline}
 use Rattle.rz_fork.specs.declared.layout.TypeEntry.{TypeEntry}
 use Rattle.rz_fork.specs.declared.layout.Reference.{Reference}
-use Rattle.rz_fork.specs.declared.rules.ReferenceRule.TheVariants.{Data, Name, Id}
 use Rattle.rz_fork.specs.Image as image
 use Rattle.rz_fork.specs.Image.{new_kind, group_of, name_offset, data_area, list_offset}
 use Rattle.rz_fork.specs.Layout.{types_place, references}
 use Rattle.rz_fork.specs.Contents.{resource_of, resources_of}
-use Rattle.rz_fork.specs.Admit.{references_outside, count_of, list_rule, type_rule, reference_rule, in_type, broken, fault}
+use Rattle.rz_fork.specs.Admit.{references_outside, count_of, list_rule, type_rule, reference_rule, in_type, broken, fault, Data, Name, Id}
 use Rattle.rz_fork.proofs.Grouping.{with_front_append}
 use Rattle.rz_fork.proofs.Lengths.{length-reference_to}
 use Rattle.rz_fork.proofs.Placed.{Has, has_left, has_right}

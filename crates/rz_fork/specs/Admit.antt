@@ -12,11 +12,8 @@ use Rattle.rz_fork.specs.declared.layout.Header.{Header}
 use Rattle.rz_fork.specs.declared.layout.Outline.{Outline}
 use Rattle.rz_fork.specs.declared.layout.TypeEntry.{TypeEntry}
 use Rattle.rz_fork.specs.declared.layout.Reference.{Reference}
-use Rattle.rz_fork.specs.declared.rules.ReferenceRule.{ReferenceRule}
-use Rattle.rz_fork.specs.declared.rules.ReferenceRule.TheVariants.{Data, Name, Id}
-use Rattle.rz_fork.specs.declared.read.ForkList.{ForkList}
 use Rattle.rz_fork.specs.Layout.{number, header_of, types_of, the_outline, types_place, entries, references}
-use Rattle.rz_fork.specs.Contents.{data_place, name_at, contents}
+use Rattle.rz_fork.specs.Contents.{data_place, name_at, contents, Fork}
 
 abbrev pub fault : ℕ → ℕ → ℕ → ForkFault
 fault number offset value = record { number = number; offset = offset; value = value }
@@ -107,19 +104,25 @@ type_rule before t = broken (list_any (λ b. b.code == t.code) before) (fault 41
 abbrev pub id_rule : List Reference → Reference → Option ForkFault
 id_rule before r = broken (list_any (λ b. b.id == r.id) before) (fault 410 r.place r.id)
 
+-- what of a reference a rule tests: where its data stand, where its name stands, or its id
+pub data Tested : Type 0 where
+  Data : Tested
+  Name : Tested
+  Id : Tested
+
 -- the rules on references
-abbrev pub reference_rule : ReferenceRule → List ℕ → Outline → List Reference → Reference → Option ForkFault
+abbrev pub reference_rule : Tested → List ℕ → Outline → List Reference → Reference → Option ForkFault
 reference_rule Data bytes o before r = data_outside bytes o r
 reference_rule Name bytes o before r = name_outside bytes o r
 reference_rule Id bytes o before r = id_rule before r
 
 -- the first reference of a type that breaks a rule
-unfoldable pub in_type : ReferenceRule → List ℕ → Outline → TypeEntry → Option ForkFault
-in_type rule bytes o t = first_in (reference_rule rule bytes o) [] (references bytes t)
+unfoldable pub in_type : Tested → List ℕ → Outline → TypeEntry → Option ForkFault
+in_type tested bytes o t = first_in (reference_rule tested bytes o) [] (references bytes t)
 
 -- the first reference of these types that does
-abbrev pub in_types : ReferenceRule → List ℕ → Outline → List TypeEntry → Option ForkFault
-in_types rule bytes o ts = first_in (λ before t. in_type rule bytes o t) [] ts
+abbrev pub in_types : Tested → List ℕ → Outline → List TypeEntry → Option ForkFault
+in_types tested bytes o ts = first_in (λ before t. in_type tested bytes o t) [] ts
 
 -- the first broken rule on types and references
 unfoldable pub lists_broken : List ℕ → Outline → Option ForkFault
@@ -145,7 +148,7 @@ inadmissible bytes =
     if length bytes == 0 then None else first_broken bytes h (types_of bytes h) (the_outline bytes)
 
 -- what the bytes hold, or their first broken rule
-abbrev pub admitted : List ℕ → Result ForkList ForkFault
+abbrev pub admitted : List ℕ → Result Fork ForkFault
 admitted bytes = unless_fault (inadmissible bytes) (contents bytes)
 
 -- a fault that a message can say: the table of faults has its number, and its offset is less than 2^63

@@ -1,4 +1,5 @@
--- What the bytes of a fork hold: the resources in map order, the attributes and the reserved bytes.
+-- What the bytes of a fork hold: the resources in map order, the attributes and the reserved bytes. (Inside
+-- Macintosh: More Macintosh Toolbox, Resource Manager, resource file format.)
 use Rattle.std.specs.Prelude.{ℕ, ◌+◌, ◌-◌, ◌^◌, ◌<◌, ◌==◌, min, if◌then◌else◌, List, [], length, map, take, drop, FitsSigned}
 use Rattle.std.specs.Int.{cast_signed, w16}
 use Rattle.std.specs.List.{flat_map, AllByRecursion}
@@ -7,8 +8,14 @@ use Rattle.rz_fork.specs.declared.layout.Header.{Header}
 use Rattle.rz_fork.specs.declared.layout.Outline.{Outline}
 use Rattle.rz_fork.specs.declared.layout.TypeEntry.{TypeEntry}
 use Rattle.rz_fork.specs.declared.layout.Reference.{Reference}
-use Rattle.rz_fork.specs.declared.read.ForkList.{ForkList}
 use Rattle.rz_fork.specs.Layout.{number, header_of, the_outline, entries, references}
+
+-- what a fork holds: the resources in map order, the 16 bits of the map's attributes, and the reserved bytes
+-- between the header and what stands after them
+pub record Fork : Type 0 where
+  pub list : List Resource
+  pub attributes : ℕ
+  pub reserved : List ℕ
 
 -- where a resource's length and bytes stand in the fork
 abbrev pub data_place : Outline → Reference → ℕ
@@ -55,7 +62,7 @@ unfoldable pub reserved_of : List ℕ → Header → List ℕ
 reserved_of bytes h = take (min 256 (min h.data_at h.map_at) - 16) (drop 16 bytes)
 
 -- what the bytes hold; no bytes hold nothing
-unfoldable pub contents : List ℕ → ForkList
+unfoldable pub contents : List ℕ → Fork
 contents bytes =
     if length bytes == 0 then record { list = []; attributes = 0; reserved = [] }
     else record {

@@ -3,6 +3,7 @@ ghost use Rattle.std.specs.List.{list_any};
 ghost use Rattle.rz_core.specs.Lists.{first_in};
 ghost use Rattle.rz_fork.specs.Layout.{header_of, the_outline, entries, references};
 ghost use Rattle.rz_fork.specs.Admit.{map_fault, list_rule, type_rule, reference_rule, in_type, in_types, lists_broken, inadmissible, HasTypes, IsAdmitted, IsSayable};
+ghost use Rattle.rz_fork.specs.Code.{tested_by};
 
 use crate::fault::ForkFault;
 use crate::layout::{
@@ -190,7 +191,7 @@ fn reference_broken(
     requires list { entry.list + 12 * entry.count ≤ length bytes.now }
     requires position { position ≤ entry.count }
     requires place { reference.place < length bytes.now }
-    ensures rule { result ≡ reference_rule rule bytes.now outline
+    ensures rule { result ≡ reference_rule (tested_by rule) bytes.now outline
         (take position (references bytes.now entry)) reference }
     ensures sayable { IfSome result IsSayable }
 {
@@ -215,7 +216,7 @@ fn in_type(
 ) -> Option<ForkFault>
     requires types { HasTypes bytes.now outline }
     requires list { entry.list + 12 * entry.count ≤ length bytes.now }
-    ensures rule { result ≡ in_type rule bytes.now outline entry }
+    ensures rule { result ≡ in_type (tested_by rule) bytes.now outline entry }
     ensures sayable { IfSome result IsSayable }
 {
     for position in 0..entry.count {
@@ -231,7 +232,7 @@ fn in_type(
 fn in_types(rule: ReferenceRule, bytes: &[u8], outline: Outline) -> Option<ForkFault>
     requires types { HasTypes bytes.now outline }
     requires lists { first_in (list_rule outline) [] (entries bytes.now outline) ≡ None }
-    ensures rule { result ≡ in_types rule bytes.now outline (entries bytes.now outline) }
+    ensures rule { result ≡ in_types (tested_by rule) bytes.now outline (entries bytes.now outline) }
     ensures sayable { IfSome result IsSayable }
 {
     for position in 0..outline.count {
