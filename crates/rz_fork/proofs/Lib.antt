@@ -1,3 +1,4 @@
+pub mod Admitted
 pub mod Fits
 pub mod Framed
 pub mod Grouping

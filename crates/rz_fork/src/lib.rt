@@ -4,6 +4,7 @@
 mod admit;
 mod fault;
 mod group;
+mod laws;
 mod layout;
 mod limit;
 mod number;
@@ -13,5 +14,6 @@ mod rules;
 mod write;
 
 pub use fault::{ForkFault, LimitFault};
+pub use laws::admitted_forks_fit;
 pub use read::{ForkList, read_fork};
 pub use write::write_fork;

@@ -1,0 +1,12 @@
+ghost use Rattle.std.specs.Prelude.{◌≡◌, ◌<◌, ℕ, [], List, Ok};
+ghost use Rattle.std.specs.List.{AllByRecursion};
+ghost use Rattle.rz_core.specs.Resources.{KeysDiffer};
+ghost use Rattle.rz_fork.specs.Admit.{admitted};
+ghost use Rattle.rz_fork.specs.Contents.{Fork, FitsFork};
+
+/// A law, with nothing to run: where bytes are admitted as a fork, no two of its resources have the same
+/// type and id, and each resource is one that a fork can hold.
+pub fn admitted_forks_fit()
+    ensures { (bytes : List ℕ) → AllByRecursion (λ b. b < 256) bytes → (fork : Fork) → admitted bytes ≡ Ok fork
+        → KeysDiffer [] fork.list × AllByRecursion FitsFork fork.list }
+{}
