@@ -8,17 +8,13 @@ use Rattle.std.proofs.lemmas.Bool.Decides.{nat_tests}
 use Rattle.std.proofs.lemmas.List.{append-nil}
 use Rattle.std.proofs.lemmas.List.Concat.{flat_map-cons}
 use Rattle.std.proofs.lemmas.Slice.Eq.{bytes_eq-Decides}
-use Rattle.std.specs.declared.result.Result.{Result}
 use Rattle.rz_show.proofs.Split.{shapes_in}
 use Rattle.rz_core.specs.Resources.{id_bits, put, same_key, KeysDiffer}
 use Rattle.rz_core.specs.Stop.{◌>>=◌}
 use Rattle.rz_core.specs.declared.fault.Fault.{Fault}
 use Rattle.rz_core.specs.declared.resource.Resource.{Resource}
 use Rattle.rz_folder.specs.Folder.{Files}
-use Rattle.rz_fork.specs.Admit.{admitted}
 use Rattle.rz_fork.specs.Contents.{FitsFork}
-use Rattle.rz_fork.specs.declared.fault.ForkFault.{ForkFault}
-use Rattle.rz_fork.specs.declared.read.ForkList.{ForkList}
 use Rattle.rz_lex.specs.Printed.{token_of, word_of}
 use Rattle.rz_lex.specs.declared.raw_line.RawLine.{RawLine}
 use Rattle.rz_lex.specs.declared.token.Shape.{Shape}
@@ -35,10 +31,9 @@ use Rattle.rz_source.specs.Source.{mark, IsTextOf, IsUnmarked}
 use Rattle.rz_stmt.specs.Grammar.{mark_of, Data, IsStatement, Parses}
 use Rattle.rz_stmt.specs.Raw.{Raw}
 use Rattle.rz_stmt.specs.Statements.{AreStatements}
-use Rattle.rz_tools.specs.Again.{AreShort, MeanResources, MeansAgain, MeansFork, NoneIsLive, ShowsAgain}
+use Rattle.rz_tools.specs.Again.{AreShort, MeanResources, MeansAgain, NoneIsLive}
 use Rattle.rz_tools.specs.Data.{resource_of}
 use Rattle.rz_tools.specs.Step.{namesake, put_unless_protected, with_list, Means, Steps, Work}
-use Rattle.rz_words.specs.Command.{DeRez}
 use Rattle.rz_types.specs.Table.{Declaration}
 use Rattle.rz_tools.specs.ToolWords.{number_in, numbered, tool_in}
 use Rattle.rz_tools.proofs.PutOut.{lines_go, tokens_of, AreBare}
@@ -247,23 +242,3 @@ means_again text_law statements_law list fits short differ = record {
             (subst (AllByRecursion (λ shape. is_shown shape ≡ true)) (sym shapes_are) printed.words) stored fits short differ,
       );
 }
-
-same_fork : (a b : ForkList) → ◌≡◌ {A = Result ForkList ForkFault} (Ok a) (Ok b) → a ≡ b
-same_fork a b e = cc
-
-pub means_fork : ((list : List Resource) → AllByRecursion IsStored list → IsPrintedAs (list_text list) list)
-    → ((list : List Resource) (tokens : List Token) → AllByRecursion IsStored list → AreShown list (shapes_in tokens) → AreWhole tokens list)
-    → (bytes text : List ℕ) (given : ForkList) → admitted bytes ≡ Ok given → text ≡ list_text given.list → KeysDiffer [] given.list → AllByRecursion FitsFork given.list → MeansFork bytes text
-means_fork text_law statements_law bytes text given is text_is differ fits fork also short =
-    let same = same_fork given fork (sym is ∙ also) in
-    subst (λ (x : List ℕ). MeansAgain x fork.list) (sym (text_is ∙ ap (λ (f : ForkList). list_text f.list) same))
-    (means_again text_law statements_law fork.list (subst (λ (f : ForkList). AllByRecursion FitsFork f.list) same fits) short (subst (λ (f : ForkList). KeysDiffer [] f.list) same differ))
-
--- Words name one file.
-
-pub same_file : (file other : List ℕ) → DeRez file ≡ DeRez other → file ≡ other
-same_file file other e = cc
-
-pub for_file : (file other : List ℕ) (files : Option Files) (before after : Option (List ℕ)) → file ≡ other
-    → IfSome files (λ files. IfSome before (λ before. ShowsAgain file files before after)) → IfSome files (λ files. IfSome before (λ before. ShowsAgain other files before after))
-for_file file other files before after same = subst (λ (x : List ℕ). IfSome files (λ files. IfSome before (λ before. ShowsAgain x files before after))) same

@@ -3,11 +3,13 @@ pub mod Limits
 pub mod TypeFaults
 pub mod Said
 pub mod Warnings
-pub mod Commands
-pub mod Answered
 pub mod OneAnswer
 pub mod Forks
 pub mod Stepping
 pub mod PutOut
 pub mod Values
 pub mod Again
+pub mod Carried
+pub mod Planned
+pub mod ShownAgain
+pub mod Running

@@ -11,7 +11,7 @@ use Rattle.rz_pre.specs.declared.condition.Tool.TheVariants as tools
 use Rattle.rz_pre.specs.declared.program.Def.{Def}
 use Rattle.rz_stmt.specs.Statements.{AreStatements}
 use Rattle.rz_words.specs.Command.{Asked, Rez, DeRez, Help, Version, IsCommand, IsMisplaced, RezAsked}
-use Rattle.rz_tools.specs.Answer.{Answer, ended, or_refused, shown_made, written}
+use Rattle.rz_tools.specs.Answer.{misused, or_refused, shown, written, Answer}
 use Rattle.rz_tools.specs.Program.{Answers, AnswersTo, command, misplaced}
 use Rattle.rz_tools.specs.Rez.{fork_of_work, setting_of, Compiles, Forked, HasFork, Said, Unsaid}
 use Rattle.rz_tools.specs.Warning.{warning_lines}
@@ -19,7 +19,6 @@ use Rattle.rz_tools.specs.Step.{nothing_made, work_behind, Means, Steps, Stopped
 use Rattle.rz_stmt.specs.Grammar.{mark_of, Parses, Statement}
 use Rattle.rz_core.specs.Answers.{Then}
 use Rattle.rz_tools.specs.ToolWords.{numbered}
-use Rattle.rz_tools.specs.declared.outcome.Outcome.TheVariants.{Usage}
 use Rattle.rz_tools.specs.declared.setting.Setting.{Setting}
 use Rattle.rz_core.proofs.Once.{err, ok, ok_or_err, once_is, once_then, same_err, same_ok, Once}
 
@@ -96,8 +95,8 @@ module _ (cutting : OneCutting) (statement_law : OneStatement) where
 
     one_to : (asked : Asked) (files : Files) (moment : Moment) (a b : Answer) → AnswersTo asked files moment a → AnswersTo asked files moment b → a ≡ b
     one_to (Rez asked) files moment a b is also =
-        is.2 ∙ ap (or_refused (written asked.output files) files) (one_compiled (setting_of moment asked) asked files is.0 also.0 is.1 also.1) ∙ sym also.2
-    one_to (DeRez file) files moment a b is also = is.2 ∙ ap (or_refused (shown_made files) files) (is.1 ∙ sym also.1) ∙ sym also.2
+        is.2 ∙ ap (or_refused (written asked.output)) (one_compiled (setting_of moment asked) asked files is.0 also.0 is.1 also.1) ∙ sym also.2
+    one_to (DeRez file) files moment a b is also = is.2 ∙ ap (or_refused shown) (is.1 ∙ sym also.1) ∙ sym also.2
     one_to Help files moment a b is also = is ∙ sym also
     one_to Version files moment a b is also = is ∙ sym also
 
@@ -108,4 +107,4 @@ module _ (cutting : OneCutting) (statement_law : OneStatement) where
     one_answer commands positions words files moment a b (command asked is to) (misplaced position also says) = absurd (also.none asked is)
     one_answer commands positions words files moment a b (misplaced position is says) (command others also to_others) = absurd (is.none others also)
     one_answer commands positions words files moment a b (misplaced position is says) (misplaced another also tells) =
-        says ∙ ap (λ n. ended [] [] (Usage (record { position = n })) files) (positions words position another is also) ∙ sym tells
+        says ∙ ap misused (positions words position another is also) ∙ sym tells

@@ -1,12 +1,12 @@
 -- The text that DeRez writes, read by Rez.
-use Rattle.std.specs.Prelude.{◌≡◌, ◌≤◌, ℕ, List, [], ◌∷◌, ◌++◌, length, map, Option, Some, None, Ok}
+use Rattle.std.specs.Prelude.{◌≡◌, ◌<◌, ◌≤◌, ◌^◌, ℕ, List, [], ◌∷◌, ◌++◌, length, map, Option, Some, None, Ok}
 use Rattle.std.specs.FinMap as finite
 use Rattle.std.specs.List.{AllByRecursion}
 use Rattle.rz_core.specs.declared.fault.Fault.{Fault}
 use Rattle.rz_core.specs.declared.resource.Resource.{Resource}
 use Rattle.rz_folder.specs.Folder.{Files}
 use Rattle.rz_fork.specs.Admit.{admitted}
-use Rattle.rz_fork.specs.declared.read.ForkList.{ForkList}
+use Rattle.rz_fork.specs.Contents.{Fork}
 use Rattle.rz_lex.specs.declared.token.Token.{Token}
 use Rattle.rz_pre.specs.Live.{Live}
 use Rattle.rz_pre.specs.Program.{NamedGoes, State}
@@ -43,12 +43,12 @@ pub record MeansAgain (text : List ℕ) (list : List Resource) : Type 0 where
 abbrev pub AreShort : List Resource → Type 0
 AreShort list = AllByRecursion (λ r. length r.bytes ≤ most_bytes) list
 
--- where these bytes are a fork whose resources are short, the text means its resources again
-abbrev pub MeansFork : List ℕ → List ℕ → Type 0
-MeansFork bytes text = (fork : ForkList) → admitted bytes ≡ Ok fork → AreShort fork.list → MeansAgain text fork.list
+-- bytes, as few as a file has
+abbrev pub IsFile : List ℕ → Type 0
+IsFile bytes = AllByRecursion (λ b. b < 256) bytes × (length bytes < 2 ^ 32)
 
 -- where a file is such a fork, behind what the output had stands a text that means its resources again
 abbrev pub ShowsAgain : List ℕ → Files → List ℕ → Option (List ℕ) → Type 0
 ShowsAgain file files before after =
-    (bytes : List ℕ) → finite.get files file ≡ Some bytes → (fork : ForkList) → admitted bytes ≡ Ok fork → AreShort fork.list
+    (bytes : List ℕ) → finite.get files file ≡ Some bytes → (fork : Fork) → admitted bytes ≡ Ok fork → AreShort fork.list
     → (text : List ℕ) × (after ≡ Some (before ++ text)) × MeansAgain text fork.list

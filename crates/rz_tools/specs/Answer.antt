@@ -1,23 +1,31 @@
--- The answer to a command: how the run ends, and what it leaves.
-use Rattle.std.specs.Prelude.{◌≡◌, ℕ, List, [], Ok, Err}
-use Rattle.std.specs.declared.option.Option.{Option}
-use Rattle.std.specs.declared.option.Option.TheVariants.{Some, None}
+-- The answer to a command: how the run ends, and what it writes and says.
+use Rattle.std.specs.Prelude.{◌≡◌, ℕ, List, [], ◌∷◌, ◌++◌, Ok, Err}
 use Rattle.std.specs.declared.result.Result.{Result}
 use Rattle.std.specs.FinMap as map
-use Rattle.rz_folder.specs.Folder.{Files}
+use Rattle.rz_core.specs.Message.{fault_line}
 use Rattle.rz_core.specs.declared.fault.Fault.{Fault}
-use Rattle.rz_tools.specs.Message.{told}
+use Rattle.rz_folder.specs.Folder.{Files}
+use Rattle.rz_tools.specs.Message.{usage_line}
 use Rattle.rz_tools.specs.declared.outcome.Outcome.{Outcome}
-use Rattle.rz_tools.specs.declared.outcome.Outcome.TheVariants.{Done, Refused}
+use Rattle.rz_tools.specs.declared.outcome.Outcome.TheVariants.{Done, Refused, Usage}
 
--- outcome: Done, Usage or Refused. target: the name of the file that is written, where one is. files: what each
--- name holds afterwards. out, err: what is written to standard output and standard error.
+-- a file that is written: its name and its bytes
+pub record Write : Type 0 where
+  pub name : List ℕ
+  pub bytes : List ℕ
+
+-- outcome: Done, Usage or Refused. writes: the files that are written, one after the other. out, err: the texts for
+-- standard output and standard error.
 pub record Answer : Type 0 where
   pub outcome : Outcome
-  pub target : Option (List ℕ)
-  pub files : Files
+  pub writes : List Write
   pub out : List ℕ
   pub err : List ℕ
+
+-- the files after writes
+abbrev pub files_after : List Write → Files → Files
+files_after [] files = files
+files_after (write ∷ writes) files = files_after writes (map.insert files write.name write.bytes)
 
 -- what a command makes: bytes, and what is said beside them
 pub record Making : Type 0 where
@@ -30,26 +38,27 @@ pub record Failing : Type 0 where
   pub files : List (List ℕ)
   pub said : List ℕ
 
--- the run ends so behind what was said, and leaves the files as they are; these are the files that marks count
-abbrev pub ended : List (List ℕ) → List ℕ → Outcome → Files → Answer
-ended named said outcome files = record { outcome = outcome; target = None; files = files; out = []; err = told named said outcome }
+-- the words are no command; this is the position of the first word that is misplaced
+abbrev pub misused : ℕ → Answer
+misused position = record { outcome = Usage (record { position = position }); writes = []; out = []; err = usage_line position }
 
--- the run writes this file, with these bytes
-abbrev pub written : List ℕ → Files → Making → Answer
-written name files making = record { outcome = Done; target = Some name; files = map.insert files name making.bytes; out = []; err = making.said }
+-- a rule is broken: nothing is written, and after what was said before it the line of the fault is said
+abbrev pub refused : Failing → Answer
+refused failing = record { outcome = Refused failing.fault; writes = []; out = []; err = failing.said ++ fault_line failing.files failing.fault }
 
--- the run writes this text to the output
-abbrev pub shown : Files → List ℕ → Answer
-shown files text = record { outcome = Done; target = None; files = files; out = text; err = [] }
+-- the bytes are written to the file of this name
+abbrev pub written : List ℕ → Making → Answer
+written name making = record { outcome = Done; writes = record { name = name; bytes = making.bytes } ∷ []; out = []; err = making.said }
 
-abbrev pub shown_made : Files → Making → Answer
-shown_made files making = record { outcome = Done; target = None; files = files; out = making.bytes; err = making.said }
+-- the bytes are text for the output
+abbrev pub shown : Making → Answer
+shown making = record { outcome = Done; writes = []; out = making.bytes; err = making.said }
 
--- what is done with what a command makes, or the first fault ends the run
-abbrev pub or_refused : (Making → Answer) → Files → Result Making Failing → Answer
-or_refused done files (Ok making) = done making
-or_refused done files (Err failing) = ended failing.files failing.said (Refused failing.fault) files
+-- what is done with what a command makes, or the refusal
+abbrev pub or_refused : (Making → Answer) → Result Making Failing → Answer
+or_refused done (Ok making) = done making
+or_refused done (Err failing) = refused failing
 
 -- the answer of a command that makes something, and does this with it
-abbrev pub Answered : (Making → Answer) → (Result Making Failing → Type 0) → Files → Answer → Type 0
-Answered done Makes files answer = (made : Result Making Failing) × Makes made × (answer ≡ or_refused done files made)
+abbrev pub Answered : (Making → Answer) → (Result Making Failing → Type 0) → Answer → Type 0
+Answered done Makes answer = (made : Result Making Failing) × Makes made × (answer ≡ or_refused done made)

@@ -7,16 +7,16 @@ use Rattle.rz_core.specs.declared.fault.Kept.TheVariants as kept
 use Rattle.rz_folder.specs.Folder.{Files}
 use Rattle.rz_fork.specs.Admit.{admitted}
 use Rattle.rz_fork.specs.declared.fault.ForkFault.{ForkFault}
-use Rattle.rz_fork.specs.declared.read.ForkList.{ForkList}
+use Rattle.rz_fork.specs.Contents.{Fork}
 use Rattle.rz_pre.specs.Program.{missing_file}
 use Rattle.rz_show.specs.Data.{list_text}
-use Rattle.rz_tools.specs.Answer.{Answer, Answered, Failing, Making, shown_made}
+use Rattle.rz_tools.specs.Answer.{Answer, Answered, Failing, Making, shown}
 
 -- a broken rule of a fork, with its offset and its value
 abbrev pub broken_rule : ForkFault → Fault
 broken_rule fault = record { number = fault.number; mark = None; kept = kept.Pair (pos fault.offset) (pos fault.value) }
 
-abbrev pub text_or_fault : Result ForkList ForkFault → Result (List ℕ) Fault
+abbrev pub text_or_fault : Result Fork ForkFault → Result (List ℕ) Fault
 text_or_fault (Ok fork) = Ok (list_text fork.list)
 text_or_fault (Err fault) = Err (broken_rule fault)
 
@@ -39,4 +39,4 @@ derez_text file files = without_files (file_text file (map.get files file))
 
 -- the text is written to the output, or the fault ends the run
 abbrev pub AnswersDeRez : List ℕ → Files → Answer → Type 0
-AnswersDeRez file files = Answered (shown_made files) (λ text. text ≡ derez_text file files) files
+AnswersDeRez file files = Answered shown (λ text. text ≡ derez_text file files)

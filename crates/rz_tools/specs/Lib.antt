@@ -4,6 +4,7 @@ pub mod ToolWords
 pub mod Warning
 pub mod Made
 pub mod Answer
+pub mod WellFormed
 pub mod Data
 pub mod Declare
 pub mod Step
@@ -14,3 +15,4 @@ pub mod DeRez
 pub mod Help
 pub mod Again
 pub mod Program
+pub mod Plan

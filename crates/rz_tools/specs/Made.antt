@@ -1,5 +1,5 @@
 -- What the calls that make a text or a fork give.
-use Rattle.std.specs.Prelude.{◌≡◌, ℕ, List, [], length, Ok, Err}
+use Rattle.std.specs.Prelude.{◌≡◌, ℕ, List, length, Ok, Err}
 use Rattle.std.specs.declared.result.Result.{Result}
 use Rattle.rz_core.specs.Message.{IsNameable}
 use Rattle.rz_core.specs.declared.fault.Fault.{Fault}
@@ -8,8 +8,6 @@ use Rattle.rz_tools.specs.Warning.{IsWarningText}
 use Rattle.rz_tools.specs.declared.made.Made.{Made}
 use Rattle.rz_tools.specs.declared.made.Stopped.{Stopped}
 use Rattle.rz_tools.specs.declared.made.Stopped.TheVariants as stops
-use Rattle.rz_tools.specs.declared.outcome.Ended.{Ended}
-use Rattle.rz_tools.specs.declared.outcome.Outcome.TheVariants.{Refused, ReadFault, NoMemory}
 
 abbrev pub making_of : Made → Making
 making_of made = record { bytes = made.bytes; said = made.said }
@@ -41,9 +39,3 @@ SaysWarnings (Ok made) = IsWarningText made.said
 SaysWarnings (Err (stops.Refused fault files said)) = IsWarningText said
 SaysWarnings (Err stops.ReadFault) = Unit {0}
 SaysWarnings (Err stops.NoMemory) = Unit {0}
-
--- how a command ends that is stopped by this
-abbrev pub ended_by : Stopped → Ended
-ended_by (stops.Refused fault files said) = record { outcome = Refused fault; files = files; said = said }
-ended_by stops.ReadFault = record { outcome = ReadFault; files = []; said = [] }
-ended_by stops.NoMemory = record { outcome = NoMemory; files = []; said = [] }

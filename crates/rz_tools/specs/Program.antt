@@ -1,20 +1,17 @@
--- What a run does, against the answer to its words.
-use Rattle.std.specs.Prelude.{◌≡◌, ◌⊎◌, ℕ, ◌++◌, take, length, List, [], IfSome, IsSomeAnd}
+-- What a run does: it carries out the answer to its words.
+use Rattle.std.specs.Prelude.{◌≡◌, ◌⊎◌, ℕ, ◌++◌, take, List, [], ◌∷◌, IfSome, IsSomeAnd}
 use Rattle.std.specs.declared.option.Option.{Option}
 use Rattle.std.specs.declared.option.Option.TheVariants.{Some, None}
 use Rattle.std.specs.FinMap as map
-use Rattle.rz_core.specs.Message.{IsNameable}
 use Rattle.rz_core.specs.declared.moment.Moment.{Moment}
 use Rattle.rz_folder.specs.Counts.{Rose}
 use Rattle.rz_folder.specs.Folder.{Files}
 use Rattle.rz_words.specs.Command.{Asked, Rez, DeRez, Help, Version, IsCommand, IsMisplaced}
-use Rattle.rz_tools.specs.Answer.{Answer, ended, shown}
+use Rattle.rz_tools.specs.Answer.{files_after, misused, shown, Answer, Write}
 use Rattle.rz_tools.specs.DeRez.{AnswersDeRez}
 use Rattle.rz_tools.specs.Help.{help_text, version_text}
-use Rattle.rz_tools.specs.Message.{message, told}
+use Rattle.rz_tools.specs.Message.{no_memory_line, read_fault_line, write_fault_line}
 use Rattle.rz_tools.specs.Rez.{AnswersRez}
-use Rattle.rz_tools.specs.Outcome.{IfRefused}
-use Rattle.rz_tools.specs.declared.outcome.Ended.{Ended}
 use Rattle.rz_tools.specs.declared.outcome.Outcome.{Outcome}
 use Rattle.rz_tools.specs.declared.outcome.Outcome.TheVariants.{Done, Usage, Refused, ReadFault, WriteFault, NoMemory}
 
@@ -24,161 +21,102 @@ use Rattle.rz_tools.specs.declared.outcome.Outcome.TheVariants.{Done, Usage, Ref
 abbrev pub AnswersTo : Asked → Files → Moment → Answer → Type 0
 AnswersTo (Rez asked) files moment answer = AnswersRez asked files moment answer
 AnswersTo (DeRez file) files moment answer = AnswersDeRez file files answer
-AnswersTo Help files moment answer = answer ≡ shown files help_text
-AnswersTo Version files moment answer = answer ≡ shown files version_text
+AnswersTo Help files moment answer = answer ≡ shown (record { bytes = help_text; said = [] })
+AnswersTo Version files moment answer = answer ≡ shown (record { bytes = version_text; said = [] })
 
 -- the answer to a list of words: that to the command that they are, or Usage with the position of the first word
 -- that is misplaced
 pub data Answers (words : List (List ℕ)) (files : Files) (moment : Moment) (answer : Answer) : Type 0 where
   command : (asked : Asked) → IsCommand words asked → AnswersTo asked files moment answer → Answers words files moment answer
-  misplaced : (position : ℕ) → IsMisplaced words position → answer ≡ ended [] [] (Usage (record { position = position })) files
-      → Answers words files moment answer
+  misplaced : (position : ℕ) → IsMisplaced words position → answer ≡ misused position → Answers words files moment answer
 
--- What a run does.
+-- What is seen of a run: what the folder, the output and the sink of messages hold, where they tell it, and how many of
+-- their calls failed.
+pub record World : Type 0 where
+  pub files : Option Files
+  pub out : Option (List ℕ)
+  pub err : Option (List ℕ)
+  pub read_faults : ℕ
+  pub write_faults : ℕ
+  pub out_faults : ℕ
+  pub err_faults : ℕ
 
--- Done, Usage and Refused are the answer's outcome, whole. A write fails only where the answer is to write.
-abbrev pub EndsAs : Answer → Outcome → Type 0
-EndsAs wanted Done = wanted.outcome ≡ Done
-EndsAs wanted (Usage fault) = wanted.outcome ≡ Usage fault
-EndsAs wanted (Refused fault) = wanted.outcome ≡ Refused fault
-EndsAs wanted ReadFault = Unit {0}
-EndsAs wanted WriteFault = wanted.outcome ≡ Done
-EndsAs wanted NoMemory = Unit {0}
+-- what is seen of a folder, an output and a sink of messages
+abbrev pub world : {F O E : Type 0} → (F → Option Files) → (F → ℕ) → (F → ℕ) → (O → Option (List ℕ)) → (O → ℕ) → (E → Option (List ℕ)) → (E → ℕ) → F → O → E → World
+world files read_faults write_faults written faults said said_faults folder out err = record {
+  files = files folder;
+  out = written out;
+  err = said err;
+  read_faults = read_faults folder;
+  write_faults = write_faults folder;
+  out_faults = faults out;
+  err_faults = said_faults err;
+}
 
--- all files but the one of this name are as before
-abbrev pub SameBut : Option (List ℕ) → Files → Option Files → Type 0
-SameBut None before after = after ≡ Some before
-SameBut (Some name) before after = IsSomeAnd after (λ files. map.remove files name ≡ map.remove before name)
+abbrev pub ReadFailed : World → World → Type 0
+ReadFailed before after = Rose before.read_faults after.read_faults
 
--- The files are the answer's after Done; as before after Usage, Refused, ReadFault and NoMemory; and after
--- WriteFault all but the one that was being written are as before.
-abbrev pub LeavesFiles : Answer → Files → Outcome → Option Files → Type 0
-LeavesFiles wanted before Done after = after ≡ Some wanted.files
-LeavesFiles wanted before (Usage fault) after = after ≡ Some before
-LeavesFiles wanted before (Refused fault) after = after ≡ Some before
-LeavesFiles wanted before ReadFault after = after ≡ Some before
-LeavesFiles wanted before WriteFault after = SameBut wanted.target before after
-LeavesFiles wanted before NoMemory after = after ≡ Some before
+abbrev pub WriteFailed : World → World → Type 0
+WriteFailed before after = Rose before.write_faults after.write_faults ⊎ Rose before.out_faults after.out_faults
 
--- the sink has got a front of this text
+-- What an outcome leaves.
+
+-- nothing is written
+pub record IsUntouched (before after : World) : Type 0 where
+  pub files : after.files ≡ before.files
+  pub out : after.out ≡ before.out
+
+-- each file is written, and the text
+pub record IsWritten (writes : List Write) (text : List ℕ) (before after : World) : Type 0 where
+  pub files : IfSome before.files (λ files. after.files ≡ Some (files_after writes files))
+  pub out : IfSome before.out (λ out. after.out ≡ Some (out ++ text))
+
+-- a sink has got a front of this text
 abbrev pub GotFront : List ℕ → List ℕ → Option (List ℕ) → Type 0
 GotFront text before after = (count : ℕ) × (after ≡ Some (before ++ take count text))
 
--- the output has got the answer's text after Done, a front of it after WriteFault, and nothing else
-abbrev pub LeavesOutput : Answer → List ℕ → Outcome → Option (List ℕ) → Type 0
-LeavesOutput wanted before Done after = after ≡ Some (before ++ wanted.out)
-LeavesOutput wanted before (Usage fault) after = after ≡ Some before
-LeavesOutput wanted before (Refused fault) after = after ≡ Some before
-LeavesOutput wanted before ReadFault after = after ≡ Some before
-LeavesOutput wanted before WriteFault after = GotFront wanted.out before after
-LeavesOutput wanted before NoMemory after = after ≡ Some before
+-- the write of one file failed: those before it are written, its name may hold anything, and all else is as before
+pub record IsCutAt (done : List Write) (one : Write) (before after : World) : Type 0 where
+  pub files : IfSome before.files (λ files. IsSomeAnd after.files (λ left. map.remove left one.name ≡ map.remove (files_after done files) one.name))
+  pub out : after.out ≡ before.out
 
--- where the answer is a refusal the run ends with it, unless memory was refused or a read failed
-abbrev pub RefusesAll : Outcome → Outcome → Type 0 → Type 0
-RefusesAll (Refused fault) result read_failed = (result ≡ Refused fault) ⊎ (result ≡ NoMemory) ⊎ read_failed
-RefusesAll wanted result read_failed = Unit {0}
+-- a write failed: of one of the files, or, after all of them, of the text, of which the output then has a front
+pub data IsPartlyWritten (writes : List Write) (text : List ℕ) (before after : World) : Type 0 where
+  at_file : (done : List Write) (one : Write) (rest : List Write) → writes ≡ done ++ one ∷ rest → IsCutAt done one before after
+      → IsPartlyWritten writes text before after
+  at_text : IfSome before.files (λ files. after.files ≡ Some (files_after writes files)) → IfSome before.out (λ out. GotFront text out after.out)
+      → IsPartlyWritten writes text before after
 
--- where the answer is Done the run ends with it, unless memory was refused or a read or a write failed
-abbrev pub Completes : Outcome → Outcome → Type 0 → Type 0
-Completes Done result failed = (result ≡ Done) ⊎ (result ≡ NoMemory) ⊎ failed
-Completes wanted result failed = Unit {0}
+-- How a run ends that carries out this answer, why, and what it leaves.
+abbrev pub Ends : Answer → World → World → Outcome → Type 0
+Ends answer before after Done = (answer.outcome ≡ Done) × IsWritten answer.writes answer.out before after
+Ends answer before after (Usage fault) = (answer.outcome ≡ Usage fault) × IsUntouched before after
+Ends answer before after (Refused fault) = (answer.outcome ≡ Refused fault) × IsUntouched before after
+Ends answer before after ReadFault = ReadFailed before after × IsUntouched before after
+Ends answer before after WriteFault = (answer.outcome ≡ Done) × WriteFailed before after × IsPartlyWritten answer.writes answer.out before after
+Ends answer before after NoMemory = IsUntouched before after
 
--- a run that follows an answer: its outcome, the files, the output, and when it ends as the answer does
-pub record Follows (wanted : Answer) (result : Outcome) (before : Files) (after : Option Files)
-    (written_before written_after : Option (List ℕ)) (read_failed write_failed : Type 0) : Type 0 where
-  pub outcome : EndsAs wanted result
-  pub files : LeavesFiles wanted before result after
-  pub output : IfSome written_before (λ written. LeavesOutput wanted written result written_after)
-  pub refused : RefusesAll wanted.outcome result read_failed
-  pub complete : Completes wanted.outcome result (read_failed ⊎ write_failed)
+-- what is said: the answer's text, after it the line of a write fault; or the line of a read fault or of no memory alone
+abbrev pub said_of : Answer → Outcome → List ℕ
+said_of answer WriteFault = answer.err ++ write_fault_line
+said_of answer ReadFault = read_fault_line
+said_of answer NoMemory = no_memory_line
+said_of answer other = answer.err
 
--- there is an answer, where the run ends with one or was to write it
-abbrev pub IsAnswered : (Answer → Type 0) → Outcome → Type 0
-IsAnswered Meets Done = (wanted : Answer) × Meets wanted
-IsAnswered Meets (Usage fault) = (wanted : Answer) × Meets wanted
-IsAnswered Meets (Refused fault) = (wanted : Answer) × Meets wanted
-IsAnswered Meets ReadFault = Unit {0}
-IsAnswered Meets WriteFault = (wanted : Answer) × Meets wanted
-IsAnswered Meets NoMemory = Unit {0}
-
--- what stays, whether or not anything is told of it: all but Done and WriteFault leave it
-abbrev pub Keeps : {X : Type 0} → Outcome → Option X → Option X → Type 0
-Keeps Done before after = Unit {0}
-Keeps (Usage fault) before after = after ≡ before
-Keeps (Refused fault) before after = after ≡ before
-Keeps ReadFault before after = after ≡ before
-Keeps WriteFault before after = Unit {0}
-Keeps NoMemory before after = after ≡ before
-
--- What is said.
-
--- a sink that tells what it has got has got a front of the text, and the whole text where its count of faults
--- didn't rise
+-- a sink that tells what it has got has got a front of the text, and the whole text where none of its calls failed
 abbrev pub Says : List ℕ → Option (List ℕ) → Option (List ℕ) → ℕ → ℕ → Type 0
 Says text None after faults_before faults_after = Unit {0}
 Says text (Some before) after faults_before faults_after =
     GotFront text before after × ((Rose faults_before faults_after → ⊥) → after ≡ Some (before ++ text))
 
--- after Done, Usage and Refused the sink has got the answer's text, and after WriteFault that and then its line
-abbrev pub SaysAnswer : Answer → Outcome → Option (List ℕ) → Option (List ℕ) → ℕ → ℕ → Type 0
-SaysAnswer wanted Done before after faults_before faults_after = Says wanted.err before after faults_before faults_after
-SaysAnswer wanted (Usage fault) before after faults_before faults_after = Says wanted.err before after faults_before faults_after
-SaysAnswer wanted (Refused fault) before after faults_before faults_after = Says wanted.err before after faults_before faults_after
-SaysAnswer wanted ReadFault before after faults_before faults_after = Unit {0}
-SaysAnswer wanted WriteFault before after faults_before faults_after = Says (wanted.err ++ message [] WriteFault) before after faults_before faults_after
-SaysAnswer wanted NoMemory before after faults_before faults_after = Unit {0}
+-- A run that carries out an answer. It ends as the answer does, but for want of memory, a failed read, or a failed write
+-- where the answer is Done.
+pub record CarriesOut (answer : Answer) (before after : World) (result : Outcome) : Type 0 where
+  pub ends : Ends answer before after result
+  pub says : Says (said_of answer result) before.err after.err before.err_faults after.err_faults
 
--- Usage comes only with the position of a misplaced word
-abbrev pub OnUsage : Outcome → (ℕ → Type 0) → Type 0
-OnUsage Done P = Unit {0}
-OnUsage (Usage fault) P = P fault.position
-OnUsage (Refused fault) P = Unit {0}
-OnUsage ReadFault P = Unit {0}
-OnUsage WriteFault P = Unit {0}
-OnUsage NoMemory P = Unit {0}
-
--- Within the run.
-
--- after Done, Usage and Refused the answer's text is what is told of the outcome, where these are the files that marks
--- count and this is said before the line; after WriteFault it is what is said before the line
-abbrev pub HasLine : Answer → List (List ℕ) → List ℕ → Outcome → Type 0
-HasLine wanted named said Done = wanted.err ≡ said
-HasLine wanted named said (Usage fault) = wanted.err ≡ told named said (Usage fault)
-HasLine wanted named said (Refused fault) = wanted.err ≡ told named said (Refused fault)
-HasLine wanted named said ReadFault = Unit {0}
-HasLine wanted named said WriteFault = wanted.err ≡ said
-HasLine wanted named said NoMemory = Unit {0}
-
--- what a command does: it follows each answer, and there is one
-pub record Runs (Meets : Files → Answer → Type 0) (result : Ended) (before after : Option Files)
-    (written_before written_after : Option (List ℕ)) (read_failed write_failed : Type 0) : Type 0 where
-  pub follows : IfSome before (λ files. (wanted : Answer) → Meets files wanted
-      → Follows wanted result.outcome files after written_before written_after read_failed write_failed)
-  pub lines : IfSome before (λ files. (wanted : Answer) → Meets files wanted → HasLine wanted result.files result.said result.outcome)
-  pub answered : IfSome before (λ files. IsAnswered (Meets files) result.outcome)
-  pub nameable : IfRefused result.outcome (IsNameable (length result.files))
-  pub read_fault : result.outcome ≡ ReadFault → read_failed
-  pub write_fault : result.outcome ≡ WriteFault → write_failed
-  pub kept_files : Keeps result.outcome before after
-  pub kept_output : Keeps result.outcome written_before written_after
-
--- the line of the outcome is said behind these lines, or there was no memory for it, and the line of that is said alone
-abbrev pub SaysLine : List ℕ → List (List ℕ) → Outcome → Outcome → Option (List ℕ) → Option (List ℕ) → ℕ → ℕ → Type 0
-SaysLine lines named outcome result before after faults_before faults_after =
-    ((result ≡ outcome) × Says (lines ++ message named outcome) before after faults_before faults_after)
-    ⊎ ((result ≡ NoMemory) × Says (message named NoMemory) before after faults_before faults_after)
-
--- a text was written to the output, or a front of it where that failed
-abbrev pub Shows : List ℕ → Outcome → Option (List ℕ) → Option (List ℕ) → Type 0 → Type 0
-Shows text Done before after failed = IfSome before (λ before. after ≡ Some (before ++ text))
-Shows text WriteFault before after failed = IfSome before (λ before. GotFront text before after) × failed
-Shows text result before after failed = ⊥
-
--- the outcome stays as it is, but there may be no memory for the line of Usage and Refused
-abbrev pub StaysSo : Outcome → Outcome → Type 0
-StaysSo Done result = result ≡ Done
-StaysSo (Usage fault) result = (result ≡ Usage fault) ⊎ (result ≡ NoMemory)
-StaysSo (Refused fault) result = (result ≡ Refused fault) ⊎ (result ≡ NoMemory)
-StaysSo ReadFault result = result ≡ ReadFault
-StaysSo WriteFault result = result ≡ WriteFault
-StaysSo NoMemory result = result ≡ NoMemory
+-- the run ended as its answer does, or a write of it failed
+abbrev pub IsAnswered : Outcome → Type 0
+IsAnswered ReadFault = ⊥
+IsAnswered NoMemory = ⊥
+IsAnswered other = Unit {0}

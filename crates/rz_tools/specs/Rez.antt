@@ -81,4 +81,4 @@ Compiles setting asked files =
 
 -- the fork is written, or the fault ends the run
 abbrev pub AnswersRez : RezAsked → Files → Moment → Answer → Type 0
-AnswersRez asked files moment = Answered (written asked.output files) (Compiles (setting_of moment asked) asked files) files
+AnswersRez asked files moment = Answered (written asked.output) (Compiles (setting_of moment asked) asked files)

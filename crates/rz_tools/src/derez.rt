@@ -2,66 +2,55 @@ ghost use Rattle.std.specs.Prelude.{◌≡◌, ◌≤◌, ◌<◌, ◌^◌, Err,
 ghost use Rattle.std.specs.FinMap as map;
 ghost use Rattle.rz_core.specs.Message.{IsNameable};
 ghost use Rattle.rz_core.specs.Stop.{Gives, OnFault};
-ghost use Rattle.rz_folder.specs.Counts.{Rose};
+ghost use Rattle.rz_folder.specs.OnlyReads.{OnlyReads};
 ghost use Rattle.rz_fork.specs.Admit.{IsSayable};
 ghost use Rattle.rz_tools.specs.declared.made.Stopped.TheVariants.{ReadFault};
 ghost use Rattle.rz_pre.specs.Program.{missing_file};
 ghost use Rattle.rz_show.specs.Data.{list_text};
-ghost use Rattle.rz_tools.specs.Again.{MeansFork, ShowsAgain};
+ghost use Rattle.rz_tools.specs.Again.{IsFile};
 ghost use Rattle.rz_tools.specs.DeRez.{broken_rule, derez_text, fork_text, without_files, AnswersDeRez};
 ghost use Rattle.rz_tools.specs.Made.{IsNamed, MadeSo, SaysWarnings};
-ghost use Rattle.rz_tools.specs.Outcome.{IsNoUsage};
-ghost use Rattle.rz_tools.specs.Warning.{IsWarningText};
-ghost use Rattle.rz_tools.specs.Program.{Runs, Shows};
+ghost use Rattle.rz_tools.specs.Plan.{answer_of, IsNoUsage};
+ghost use Rattle.rz_tools.specs.WellFormed.{AreWritable, IsWellFormed};
+ghost use Rattle.rz_tools.specs.declared.made.Unanswered.TheVariants.{ReadFault as unread};
 
-use crate::Outcome;
-use crate::made::{Made, Stopped};
-use crate::outcome::Ended;
+use crate::made::{Made, Stopped, Unanswered};
+use crate::outcome::Outcome;
+use crate::plan::Plan;
 use rz_core::{Bytes, Fault, FileNames, Kept, NoMemory, Resources, Stop};
-use rz_folder::{Folder, Put, Read, Sink};
+use rz_folder::{Folder, Read};
 use rz_fork::{ForkFault, read_fork};
-use rz_show::{show_resource, shown_statements, shown_text};
+use rz_show::show_resource;
 use rz_words::DeRezWords;
 use std::alloc::Global;
 
-/// Shows the fork that the words name as `data` statements on `out`.
-pub fn run_derez<F: Folder, O: Sink>(
+/// The answer to the words of `derez`: the fork that they name, as `data` statements on the output.
+pub fn plan_derez<F: Folder>(
     alloc: Global,
     folder: &mut F,
-    out: &mut O,
     words: DeRezWords<'_>,
-) -> Ended
-    ensures runs { Runs (AnswersDeRez words.entry.file.now) result (F.files folder.old) (F.files folder.new) (O.written out.old) (O.written out.new)
-        (Rose (F.read_faults folder.old) (F.read_faults folder.new)) (Rose (O.faults out.old) (O.faults out.new)) }
-    ensures no_usage { IsNoUsage result.outcome }
-    ensures said { IsWarningText result.said }
-    ensures again { result.outcome ≡ Outcome.Done → IfSome (F.files folder.old) (λ files. IfSome (O.written out.old) (λ before.
-        ShowsAgain words.entry.file.now files before (O.written out.new))) }
+) -> Result<Plan, Unanswered>
+    ensures answered { IfSome (F.files folder.old) (λ files. IfOk result (λ plan. AnswersDeRez words.entry.file.now files (answer_of plan))) }
+    ensures well_formed { IfOk result (λ plan. IsWellFormed (answer_of plan)) }
+    ensures writable { IfOk result (λ plan. AreWritable (answer_of plan).writes) }
+    ensures no_usage { IfOk result (λ plan. IsNoUsage plan.outcome) }
+    ensures held { IfSome (F.files folder.old) (λ files. IfSome (map.get files words.entry.file.now) (λ bytes.
+        IfOk result (λ plan. plan.outcome ≡ Outcome.Done → IsFile bytes))) }
+    ensures reads { OnlyReads F.files F.read_faults F.write_faults folder.old folder.new (result ≡ Err unread) }
 {
     match read_text(alloc, folder, words.file) {
-        Ok(text) => Ended::saying(alloc, show_text(text.bytes.as_slice(), out), text.said),
-        Err(stop) => Ended::by(alloc, stop),
-    }
-}
-
-/// Writes a text to `out`.
-pub fn show_text<O: Sink>(text: &[u8], out: &mut O) -> Outcome
-    ensures { Shows text.now result (O.written out.old) (O.written out.new) (Rose (O.faults out.old) (O.faults out.new)) }
-{
-    match out.put(text) {
-        Put::Done => Outcome::Done,
-        Put::Failed => Outcome::WriteFault,
+        Ok(text) => Ok(Plan::shown(alloc, text)),
+        Err(stop) => Plan::stopped(alloc, stop),
     }
 }
 
 /// The text of the fork that a name holds, or what stopped the command.
 fn read_text<F: Folder>(alloc: Global, folder: &mut F, file: &str) -> Result<Made, Stopped>
     ensures text { IfSome (F.files folder.old) (λ files. MadeSo result (λ answer. answer ≡ derez_text file.now files)) }
-    ensures again { IfSome (F.files folder.old) (λ files. IfSome (map.get files file.now) (λ bytes. IfOk result (λ made. MeansFork bytes made.bytes))) }
+    ensures held { IfSome (F.files folder.old) (λ files. IfSome (map.get files file.now) (λ bytes. IfOk result (λ _. IsFile bytes))) }
     ensures nameable { IsNamed result }
     ensures warned { SaysWarnings result }
-    ensures unchanged { F.files folder.new ≡ F.files folder.old }
-    ensures cause { result ≡ Err ReadFault → Rose (F.read_faults folder.old) (F.read_faults folder.new) }
+    ensures reads { OnlyReads F.files F.read_faults F.write_faults folder.old folder.new (result ≡ Err ReadFault) }
 {
     match folder.read(alloc, file) {
         Read::Bytes(bytes) => text_of(alloc, bytes.as_slice()),
@@ -89,7 +78,7 @@ fn missing_file(alloc: Global, name: &str) -> Result<Fault, NoMemory>
 fn text_of(alloc: Global, bytes: &[u8]) -> Result<Made, Stopped>
     requires { length bytes.now < 2 ^ 32 }
     ensures text { MadeSo result (λ answer. answer ≡ without_files (fork_text bytes.now)) }
-    ensures again { IfOk result (λ made. MeansFork bytes.now made.bytes) }
+    ensures held { IsFile bytes.now }
     ensures nameable { IsNamed result }
     ensures warned { SaysWarnings result }
     ensures quiet { result ≡ Err ReadFault → ⊥ }
@@ -113,11 +102,8 @@ fn text_of(alloc: Global, bytes: &[u8]) -> Result<Made, Stopped>
 fn show(alloc: Global, bytes: &[u8]) -> Result<Bytes, Stop<Fault>>
     requires { length bytes.now < 2 ^ 32 }
     ensures text { Gives (fork_text bytes.now) result }
-    ensures again { IfOk result (MeansFork bytes.now) }
     ensures nameable { OnFault result (IsNameable 0) }
 {
-    shown_text();
-    shown_statements();
     match read_fork(alloc, bytes) {
         Ok(fork) => Ok(show_list(alloc, &fork.list)?),
         Err(Stop::Refused(fault)) => Err(Stop::Refused(broken_rule(fault))),

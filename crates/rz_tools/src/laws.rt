@@ -1,10 +1,16 @@
-ghost use Rattle.std.specs.Prelude.{◌≡◌, List, ℕ};
+ghost use Rattle.std.specs.Prelude.{◌≡◌, List, ℕ, Ok};
 ghost use Rattle.rz_core.specs.declared.moment.Moment.{Moment};
 ghost use Rattle.rz_folder.specs.Folder.{Files};
+ghost use Rattle.rz_fork.specs.Admit.{admitted};
+ghost use Rattle.rz_fork.specs.Contents.{Fork};
+ghost use Rattle.rz_show.specs.Data.{list_text};
+ghost use Rattle.rz_tools.specs.Again.{AreShort, IsFile, MeansAgain};
 ghost use Rattle.rz_tools.specs.Answer.{Answer};
 ghost use Rattle.rz_tools.specs.Program.{Answers};
 
+use rz_fork::admitted_forks_fit;
 use rz_pre::one_program;
+use rz_show::{shown_statements, shown_text};
 use rz_stmt::{one_cutting, one_statement};
 use rz_words::one_command;
 
@@ -18,4 +24,14 @@ pub fn one_answer()
     one_cutting();
     one_statement();
     one_command();
+}
+
+/// A law, with nothing to run: the text that is shown of a fork means the fork's resources again, where each has at most
+/// 16,777,212 bytes.
+pub fn shown_forks_are_read_again()
+    ensures { (bytes : List ℕ) → IsFile bytes → (fork : Fork) → admitted bytes ≡ Ok fork → AreShort fork.list → MeansAgain (list_text fork.list) fork.list }
+{
+    admitted_forks_fit();
+    shown_text();
+    shown_statements();
 }

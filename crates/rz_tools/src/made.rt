@@ -1,5 +1,6 @@
 ghost use Rattle.std.specs.Prelude.{◌≡◌};
 ghost use Rattle.rz_tools.specs.declared.made.Stopped.TheVariants.{NoMemory as no_memory};
+ghost use Rattle.rz_tools.specs.declared.made.Unanswered.TheVariants.{NoMemory as no_answer};
 
 use rz_core::{Bytes, Fault, FileNames, NoMemory};
 
@@ -28,5 +29,22 @@ impl From<NoMemory> for Stopped {
 
     fn from(_: NoMemory) -> Self {
         Stopped::NoMemory
+    }
+}
+
+/// Why words have no answer.
+#[derive(Debug, Drop)]
+pub enum Unanswered {
+    /// A file could not be read.
+    ReadFault,
+    /// Memory was refused.
+    NoMemory,
+}
+
+impl From<NoMemory> for Unanswered {
+    ghost from_gives = { λ _ unanswered. unanswered ≡ no_answer };
+
+    fn from(_: NoMemory) -> Self {
+        Unanswered::NoMemory
     }
 }

@@ -12,52 +12,48 @@ ghost use Rattle.rz_pre.specs.Lexed.{HaveLexedTexts};
 ghost use Rattle.rz_stmt.specs.Statements.{AreStatements};
 ghost use Rattle.rz_words.specs.Item.{rez};
 ghost use Rattle.rz_tools.specs.Held.{work_of};
-ghost use Rattle.rz_tools.specs.Warning.{warning_lines, AreWarnings, IsWarningText};
+ghost use Rattle.rz_tools.specs.Warning.{warning_lines, AreWarnings};
 ghost use Rattle.rz_tools.specs.Made.{IsNamed, MadeSo, Refuses, SaysWarnings};
-ghost use Rattle.rz_tools.specs.Outcome.{IsNoUsage};
-ghost use Rattle.rz_tools.specs.Program.{Runs};
+ghost use Rattle.rz_folder.specs.OnlyReads.{OnlyReads};
+ghost use Rattle.rz_tools.specs.Plan.{answer_of, IsNoUsage};
+ghost use Rattle.rz_tools.specs.WellFormed.{AreWritable, IsWellFormed};
+ghost use Rattle.rz_tools.specs.declared.made.Unanswered.TheVariants.{ReadFault as unread};
 ghost use Rattle.rz_tools.specs.ResourceList.{values_of};
 ghost use Rattle.rz_tools.specs.Step.{nothing_made, Means};
 ghost use Rattle.rz_tools.specs.Rez.{fork_of_work, list_fork, past_limit, setting_of, AnswersRez, Compiles, IsLimit, Said};
 ghost use Rattle.rz_tools.specs.declared.made.Stopped.TheVariants.{ReadFault};
 
-use crate::Outcome;
-use crate::made::{Made, Stopped};
-use crate::outcome::Ended;
+use crate::made::{Made, Stopped, Unanswered};
+use crate::plan::Plan;
 use crate::setting::Setting;
 use crate::step::{Faults, Work, compile_statements, release};
 use crate::tool_words::number_tool_words;
 use rz_core::{Bytes, Fault, FileNames, Kept, Moment, NoMemory, Resources, Stop, write_fault};
-use rz_folder::{Folder, Written};
+use rz_folder::Folder;
 use rz_fork::{LimitFault, write_fork};
 use rz_lex::Tokens;
-use rz_pre::{PreFault, Program, Tool, one_program, preprocess};
-use rz_stmt::{all_tokens_are_statements, one_cutting, one_statement};
+use rz_pre::{PreFault, Program, Tool, preprocess};
+use rz_stmt::all_tokens_are_statements;
 use rz_words::RezWords;
 use std::alloc::Global;
 
-/// Compiles the sources that the words name into a raw fork, and writes the fork.
-pub fn run_rez<F: Folder>(
+/// The answer to the words of `rez`: the sources that they name are compiled into a raw fork, which is to be written.
+pub fn plan_rez<F: Folder>(
     alloc: Global,
     folder: &mut F,
     words: &RezWords<'_>,
     moment: Moment,
-) -> Ended
+) -> Result<Plan, Unanswered>
     requires { HaveLexedTexts words.now.defs }
-    ensures runs { (written : Option (List ℕ)) → Runs (λ files. AnswersRez (rez words.now) files moment) result (F.files folder.old) (F.files folder.new) written written
-        (Rose (F.read_faults folder.old) (F.read_faults folder.new)) (Rose (F.write_faults folder.old) (F.write_faults folder.new)) }
-    ensures no_usage { IsNoUsage result.outcome }
-    ensures said { IsWarningText result.said }
+    ensures answered { IfSome (F.files folder.old) (λ files. IfOk result (λ plan. AnswersRez (rez words.now) files moment (answer_of plan))) }
+    ensures well_formed { IfOk result (λ plan. IsWellFormed (answer_of plan)) }
+    ensures writable { IfOk result (λ plan. AreWritable (answer_of plan).writes) }
+    ensures no_usage { IfOk result (λ plan. IsNoUsage plan.outcome) }
+    ensures reads { OnlyReads F.files F.read_faults F.write_faults folder.old folder.new (result ≡ Err unread) }
 {
-    one_program();
-    one_cutting();
-    one_statement();
     match compile(alloc, folder, words, moment) {
-        Ok(made) => match folder.write(words.output, made.bytes.as_slice()) {
-            Written::Done => Ended::saying(alloc, Outcome::Done, made.said),
-            Written::Failed => Ended::saying(alloc, Outcome::WriteFault, made.said),
-        },
-        Err(stop) => Ended::by(alloc, stop),
+        Ok(made) => Ok(Plan::written(alloc, words.output, made)?),
+        Err(stop) => Plan::stopped(alloc, stop),
     }
 }
 

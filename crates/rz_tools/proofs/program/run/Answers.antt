@@ -1,20 +1,57 @@
-use Rattle.std.proofs.Common.{map}
+use Rattle.std.proofs.Common.{ap, map, refl, Err}
 use Rattle.std.specs.String.{string_bytes}
-use Rattle.rz_tools.specs.Program.{Answers}
-use Rattle.rz_tools.proofs.Answered.{every_usage, follows, says}
+use Rattle.rz_tools.specs.Answer.{misused}
+use Rattle.rz_tools.specs.Plan.{answer_of}
+use Rattle.rz_tools.proofs.Running.{carried_from, every, or_else, stays_usage, usage_of}
+use Rattle.rz_tools.proofs.ShownAgain.{shows_again}
 use Rattle.rz_tools.proofs.program.run.Goals as goal
 
-pub returns-clause-follows : goal.returns-clause-follows
-returns-clause-follows g c =
-    follows (λ files. Answers (map string_bytes c.args.words.now) files c.args.moment) c.run_words-ended.result c.say.result _ _ _ _ _ _
-    c.run_words-ended.ensures.runs c.say.ensures.outcome
+pub returns-in-Ok-clause-carried : goal.returns-in-Ok-clause-carried
+returns-in-Ok-clause-carried g c = (
+  answer_of c.in-Ok.plan,
+  c.in-Ok.ensures.well_formed,
+  carried_from (answer_of c.in-Ok.plan) _ c.carry_out.result _ _ _ _ _ _ _ _ _ _ c.in-Ok.ensures.reads.unchanged c.in-Ok.ensures.reads.counted c.in-Ok.ensures.reads.other_count c.carry_out.ensures.carried,
+  λ is. c.in-Ok.ensures.answered,
+)
 
-pub returns-clause-every_usage : goal.returns-clause-every_usage
-returns-clause-every_usage g c position is =
-    every_usage (λ files. Answers (map string_bytes c.args.words.now) files c.args.moment) c.run_words-ended.result c.say.result _ _ _ _ _ _
-    c.run_words-ended.ensures.runs c.say.ensures.outcome (record { position = position }) (c.run_words-ended.ensures.every_usage position is)
+pub returns-in-Ok-clause-every : goal.returns-in-Ok-clause-every
+returns-in-Ok-clause-every g c =
+    every c.one_answer.ensures (map string_bytes c.args.words.now) c.args.moment _ _ (answer_of c.in-Ok.plan) c.carry_out.result
+    (carried_from (answer_of c.in-Ok.plan) _ c.carry_out.result _ _ _ _ _ _ _ _ _ _ c.in-Ok.ensures.reads.unchanged c.in-Ok.ensures.reads.counted c.in-Ok.ensures.reads.other_count c.carry_out.ensures.carried)
+    (g.F.Folder.files c.args.folder.now) (λ is. c.in-Ok.ensures.answered)
 
-pub returns-clause-err_answered : goal.returns-clause-err_answered
-returns-clause-err_answered g c =
-    says (λ files. Answers (map string_bytes c.args.words.now) files c.args.moment) c.run_words-ended.result c.say.result _ _ _ _ _ _
-    c.run_words-ended.ensures.runs c.say.ensures.outcome _ _ _ _ c.say.ensures.err
+pub returns-in-Ok-clause-usage : goal.returns-in-Ok-clause-usage
+returns-in-Ok-clause-usage g c position is =
+    c.in-Ok.ensures.usage position (usage_of c.one_answer.ensures (map string_bytes c.args.words.now) c.args.moment _ _ (answer_of c.in-Ok.plan) c.carry_out.result c.carry_out.ensures.carried
+    (record { position = position }) is)
+
+pub returns-in-Ok-clause-every_usage : goal.returns-in-Ok-clause-every_usage
+returns-in-Ok-clause-every_usage g c position is =
+    or_else (c.in-Ok.ensures.every_usage position is) (λ e. cc)
+    (λ so. stays_usage c.one_answer.ensures (map string_bytes c.args.words.now) c.args.moment _ _ (answer_of c.in-Ok.plan) c.carry_out.result c.carry_out.ensures.carried
+    (record { position = position }) so c.carry_out.ensures.ended)
+
+pub returns-in-Ok-clause-again : goal.returns-in-Ok-clause-again
+returns-in-Ok-clause-again g c is file asked =
+    shows_again c.one_command.ensures.command c.shown_forks_are_read_again.ensures (map string_bytes c.args.words.now) c.args.moment _ _ (answer_of c.in-Ok.plan) c.carry_out.result is
+    (carried_from (answer_of c.in-Ok.plan) _ c.carry_out.result _ _ _ _ _ _ _ _ _ _ c.in-Ok.ensures.reads.unchanged c.in-Ok.ensures.reads.counted c.in-Ok.ensures.reads.other_count c.carry_out.ensures.carried)
+    file asked c.in-Ok.ensures.answered (c.in-Ok.ensures.held file asked)
+
+pub returns-in-Err-ReadFault-clause-carried : goal.returns-in-Err-ReadFault-clause-carried
+returns-in-Err-ReadFault-clause-carried g c = (
+  misused 0,
+  refl,
+  record { ends = (c.in-Err-ReadFault.ensures.reads.cause (ap Err c.in-Err-ReadFault.field-0-is), record { files = c.in-Err-ReadFault.ensures.reads.unchanged; out = refl }); says = c.put_line.ensures },
+  λ never. absurd never,
+)
+
+pub returns-in-Err-ReadFault-clause-every_usage : goal.returns-in-Err-ReadFault-clause-every_usage
+returns-in-Err-ReadFault-clause-every_usage g c position is = or_else (c.in-Err-ReadFault.ensures.every_usage position is) (λ e. cc) (λ never. absurd never)
+
+pub returns-in-Err-NoMemory-clause-carried : goal.returns-in-Err-NoMemory-clause-carried
+returns-in-Err-NoMemory-clause-carried g c = (
+  misused 0,
+  refl,
+  record { ends = record { files = c.in-Err-NoMemory.ensures.reads.unchanged; out = refl }; says = c.put_line-in-Err-NoMemory.ensures },
+  λ never. absurd never,
+)

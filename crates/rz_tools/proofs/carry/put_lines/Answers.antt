@@ -1,6 +1,6 @@
 use Rattle.std.proofs.Common.{refl}
 use Rattle.rz_tools.proofs.Said.{failed_said, then_said}
-use Rattle.rz_tools.proofs.program.put_lines.Goals as goal
+use Rattle.rz_tools.proofs.carry.put_lines.Goals as goal
 
 pub returns-in-Done : goal.returns-in-Done
 returns-in-Done g c = then_said c.args.lines.now c.args.line.now _ _ _ _ _ _ c.in-Done.ensures.told c.put.ensures.counted c.put_line-in-Done.ensures

@@ -1,0 +1,77 @@
+-- A run, from the answer that was carried out after files were read.
+use Rattle.std.proofs.Common.{◌≡◌, ◌≤◌, ◌⊎◌, inl, inr, ℕ, List, Some, None, refl, sym, ap, subst, ◌∙◌, arith}
+use Rattle.std.specs.Prelude.{IfSome}
+use Rattle.std.specs.declared.option.Option.{Option}
+use Rattle.rz_core.specs.declared.fault.Fault.{Fault}
+use Rattle.rz_core.specs.declared.moment.Moment.{Moment}
+use Rattle.rz_folder.specs.Counts.{Rose}
+use Rattle.rz_folder.specs.Folder.{Files}
+use Rattle.rz_words.specs.declared.read.UsageFault.{UsageFault}
+use Rattle.rz_tools.specs.Answer.{Answer, Write}
+use Rattle.rz_tools.specs.Program.{at_file, at_text, Answers, CarriesOut, Ends, IsAnswered, IsPartlyWritten, IsUntouched, IsWritten, Says, World}
+use Rattle.rz_tools.specs.declared.outcome.Outcome.{Outcome}
+use Rattle.rz_tools.specs.declared.outcome.Outcome.TheVariants.{Done, Usage, Refused, ReadFault, WriteFault, NoMemory}
+use Rattle.rz_tools.proofs.Carried.{carried_too}
+
+-- Files were read before, which may have failed.
+
+module _ (mid after : World) (reads : ℕ) (fewer : reads ≤ mid.read_faults) where
+  before : World
+  before = record mid { read_faults = reads }
+
+  rose_before : Rose mid.read_faults after.read_faults → Rose reads after.read_faults
+  rose_before rose = omega (arith, fewer, rose)
+
+  untouched : IsUntouched mid after → IsUntouched before after
+  unfolding before
+  untouched is = record { files = is.files; out = is.out }
+
+  partly : (writes : List Write) (text : List ℕ) → IsPartlyWritten writes text mid after → IsPartlyWritten writes text before after
+  unfolding before
+  partly writes text (at_file done one rest are cut) = at_file done one rest are (record { files = cut.files; out = cut.out })
+  partly writes text (at_text files out) = at_text files out
+
+  ends_before : (answer : Answer) (result : Outcome) → Ends answer mid after result → Ends answer before after result
+  unfolding before
+  ends_before answer Done ends = (ends.0, record { files = ends.1.files; out = ends.1.out })
+  ends_before answer (Usage fault) ends = (ends.0, untouched ends.1)
+  ends_before answer (Refused fault) ends = (ends.0, untouched ends.1)
+  ends_before answer ReadFault ends = (rose_before ends.0, untouched ends.1)
+  ends_before answer WriteFault ends = (ends.0, ends.1, partly answer.writes answer.out ends.2)
+  ends_before answer NoMemory ends = untouched ends
+
+  pub carried_before : (answer : Answer) (result : Outcome) → CarriesOut answer mid after result → CarriesOut answer (record mid { read_faults = reads }) after result
+  unfolding before
+  carried_before answer result carried = record { ends = ends_before answer result carried.ends; says = carried.says }
+
+module _ (answer : Answer) (after : World) (result : Outcome) (files files_mid : Option Files) (out err : Option (List ℕ))
+    (reads reads_mid writes writes_mid out_faults err_faults : ℕ) where
+  pub carried_from : files_mid ≡ files → reads ≤ reads_mid → writes_mid ≡ writes
+      → CarriesOut answer (record { files = files_mid; out = out; err = err; read_faults = reads_mid; write_faults = writes_mid; out_faults = out_faults; err_faults = err_faults }) after result
+      → CarriesOut answer (record { files = files; out = out; err = err; read_faults = reads; write_faults = writes; out_faults = out_faults; err_faults = err_faults }) after result
+  carried_from same fewer same_writes carried =
+      subst (λ (f : Option Files). CarriesOut answer (record { files = f; out = out; err = err; read_faults = reads; write_faults = writes; out_faults = out_faults; err_faults = err_faults }) after result) same
+      (subst (λ (w : ℕ). CarriesOut answer (record { files = files_mid; out = out; err = err; read_faults = reads; write_faults = w; out_faults = out_faults; err_faults = err_faults }) after result) same_writes
+      (carried_before (record { files = files_mid; out = out; err = err; read_faults = reads_mid; write_faults = writes_mid; out_faults = out_faults; err_faults = err_faults }) after reads fewer answer result carried))
+
+-- Each answer is the one that was carried out.
+
+abbrev pub OneAnswer : Type 0
+OneAnswer = (words : List (List ℕ)) (files : Files) (moment : Moment) (answer another : Answer) → Answers words files moment answer → Answers words files moment another → answer ≡ another
+
+module _ (one : OneAnswer) (words : List (List ℕ)) (moment : Moment) (before after : World) (done : Answer) (result : Outcome) (carried : CarriesOut done before after result) where
+  pub every : (files : Option Files) → (IsAnswered result → IfSome files (λ files. Answers words files moment done))
+      → IfSome files (λ files. (wanted : Answer) → Answers words files moment wanted → CarriesOut wanted before after result)
+  every None answers = tt
+  every (Some files) answers = λ wanted meets. carried_too before after done wanted result (λ is. one words files moment done wanted (answers is) meets) carried
+
+  pub usage_of : (fault : UsageFault) → result ≡ Usage fault → done.outcome ≡ Usage fault
+  usage_of fault is = (subst (λ r. CarriesOut done before after r) is carried).ends.0
+
+  pub stays_usage : (fault : UsageFault) → done.outcome ≡ Usage fault → (result ≡ done.outcome) ⊎ (result ≡ WriteFault) → (result ≡ Usage fault) ⊎ (result ≡ NoMemory)
+  stays_usage fault is (inl ended) = inl (ended ∙ is)
+  stays_usage fault is (inr failed) = let ends : done.outcome ≡ Done = (subst (λ r. CarriesOut done before after r) failed carried).ends.0 in let e : Usage fault ≡ Done = sym is ∙ ends in cc
+
+pub or_else : {A B C : Type 0} → A ⊎ B → (A → C) → (B → C) → C
+or_else (inl a) first second = first a
+or_else (inr b) first second = second b

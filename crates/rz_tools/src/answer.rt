@@ -1,0 +1,52 @@
+ghost use Rattle.std.specs.Prelude.{◌≡◌, ◌⊎◌, ℕ, List, map, IfOk, IfSome, IsOkAnd, Err};
+ghost use Rattle.std.specs.String.{string_bytes};
+ghost use Rattle.std.specs.FinMap as finite;
+ghost use Rattle.rz_folder.specs.OnlyReads.{OnlyReads};
+ghost use Rattle.rz_words.specs.Command.{DeRez, IsCommand, IsMisplaced};
+ghost use Rattle.rz_tools.specs.Again.{IsFile};
+ghost use Rattle.rz_tools.specs.Plan.{answer_of};
+ghost use Rattle.rz_tools.specs.Program.{Answers};
+ghost use Rattle.rz_tools.specs.WellFormed.{AreWritable, IsWellFormed};
+ghost use Rattle.rz_tools.specs.declared.made.Unanswered.TheVariants.{NoMemory as no_memory, ReadFault};
+
+use crate::derez::plan_derez;
+use crate::help::{help_text, version_text};
+use crate::made::Unanswered;
+use crate::outcome::Outcome;
+use crate::plan::Plan;
+use crate::rez::plan_rez;
+use rz_core::{Moment, Stop};
+use rz_folder::Folder;
+use rz_words::{Command, definitions_are_lexed, one_command, read_words};
+use std::alloc::Global;
+
+/// The answer to words, with nothing of it carried out. All files that it needs are read, and all memory is taken.
+pub fn answer<F: Folder>(
+    alloc: Global,
+    words: &[String],
+    folder: &mut F,
+    moment: Moment,
+) -> Result<Plan, Unanswered>
+    ensures answered { IfSome (F.files folder.old) (λ files. IfOk result (λ plan. Answers (map string_bytes words.now) files moment (answer_of plan))) }
+    ensures well_formed { IfOk result (λ plan. IsWellFormed (answer_of plan)) }
+    ensures writable { IfOk result (λ plan. AreWritable (answer_of plan).writes) }
+    ensures usage { IfOk result (λ plan. (position : ℕ) → plan.outcome ≡ Outcome.Usage (record { position = position }) → IsMisplaced (map string_bytes words.now) position) }
+    ensures every_usage { (position : ℕ) → IsMisplaced (map string_bytes words.now) position
+        → (result ≡ Err no_memory) ⊎ IsOkAnd result (λ plan. plan.outcome ≡ Outcome.Usage (record { position = position })) }
+    ensures held { (file : List ℕ) → IsCommand (map string_bytes words.now) (DeRez file)
+        → IfSome (F.files folder.old) (λ files. IfSome (finite.get files file) (λ bytes. IfOk result (λ plan. plan.outcome ≡ Outcome.Done → IsFile bytes))) }
+    ensures reads { OnlyReads F.files F.read_faults F.write_faults folder.old folder.new (result ≡ Err ReadFault) }
+{
+    one_command();
+    match read_words(alloc, words) {
+        Ok(Command::Rez(asked)) => {
+            definitions_are_lexed();
+            plan_rez(alloc, folder, &asked, moment)
+        }
+        Ok(Command::DeRez(asked)) => plan_derez(alloc, folder, asked),
+        Ok(Command::Help) => Ok(Plan::text(alloc, help_text())?),
+        Ok(Command::Version) => Ok(Plan::text(alloc, version_text())?),
+        Err(Stop::Refused(fault)) => Ok(Plan::misused(alloc, fault)?),
+        Err(Stop::NoMemory) => Err(Unanswered::NoMemory),
+    }
+}
