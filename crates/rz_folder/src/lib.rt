@@ -7,7 +7,9 @@ mod mem_folder;
 mod mem_sink;
 mod real_folder;
 mod real_sink;
+mod replace;
 mod sink;
+mod temporary;
 
 pub use folder::{Folder, Read, Written};
 pub use mem_folder::MemFolder;

@@ -2,9 +2,11 @@ ghost use Rattle.std.specs.Prelude.{◌≡◌, ◌≤◌, ◌<◌, ◌^◌, None
 ghost use Rattle.rz_folder.specs.Counts.{Rose};
 ghost use Rattle.rz_folder.specs.Folder.{IsShort};
 
+use crate::replace::write_file;
 use crate::{Folder, Read, Written};
 use rz_core::Bytes;
 use std::alloc::Global;
+use std::fs::OpenFile;
 use std::io::ErrorKind;
 use std::marker::Model;
 use std::rt::Files;
@@ -78,9 +80,18 @@ impl<R: Files + Drop> Folder for RealFolder<R> {
         }
     }
 
-    /// Creates the host's file of that path, or empties it, and then writes the bytes. `Failed` is
-    /// every error of the host's; exactly then the count of write faults rises, unless it stands at
-    /// 2^64 - 1. The file may then be empty or hold a front of the bytes.
+    /// Makes the host's file of that path hold these bytes, and waits until they are on its disk.
+    /// `Failed` is every error of the host's; exactly then the count of write faults rises, unless
+    /// it stands at 2^64 - 1.
+    ///
+    /// The bytes go to a temporary file `.rezkit-N` in the same folder, where N is the first number
+    /// from 0 to 99 that is free. It gets the permissions of the old file, and then takes its
+    /// place. So after `Failed` the old file is whole, or there is still none, and nothing else is
+    /// left in the folder, as far as the host does what its calls say. `Failed` are also a folder
+    /// at the path, a file that may not be written, and a temporary name of more than 4,096 bytes.
+    ///
+    /// A link, a device or a pipe is written in place; after `Failed` what it leads to may be
+    /// empty or hold a front of the bytes.
     fn write(&mut self, name: &str, bytes: &[u8]) -> Written
         requires { length bytes.now < 2 ^ 32 }
         ensures counted { self.old.writes ≤ self.new.writes }
@@ -88,7 +99,7 @@ impl<R: Files + Drop> Folder for RealFolder<R> {
         ensures other_count { self.new.reads ≡ self.old.reads }
         ensures after { self.new ≡ after_write self.old result }
     {
-        if fs::write(&self.runtime, name, bytes).is_ok() {
+        if write_file(&self.runtime, name, bytes).is_ok() {
             return Written::Done;
         }
         self.write_faults = self.write_faults.saturating_add(1);
@@ -108,15 +119,22 @@ impl<R: Files + Drop> Folder for RealFolder<R> {
     }
 }
 
-// Reads to the end of the file. Each turn takes at least one byte or is the last.
+// Reads to the end of the file. Each turn takes at least one byte, was interrupted, or is the last.
 fn read_file<R: Files>(rt: &R, alloc: Global, name: &str) -> io::Result<Bytes>
     ensures { IfOk result (λ bytes. length bytes < 2 ^ 32) }
 {
-    let mut file = fs::File::open(rt, name)?;
-    let mut bytes = Bytes::new(alloc);
+    let mut file = fs::open(rt, name)?;
+    let expected = expected_length(&file)?;
+    let Ok(mut bytes) = Bytes::with_capacity(alloc, expected) else {
+        return Err(io::Error::from(ErrorKind::OutOfMemory));
+    };
     let mut piece = [0; 8192];
-    for _ in 0..LENGTH_LIMIT {
-        let count = io::Read::read(&mut file, &mut piece)?;
+    for _ in 0..u64::MAX {
+        let count = match io::Read::read(&mut file, &mut piece) {
+            Ok(count) => count,
+            Err(error) if error.kind() == ErrorKind::Interrupted => continue,
+            Err(error) => return Err(error),
+        };
         if count == 0 {
             return Ok(bytes);
         }
@@ -128,4 +146,18 @@ fn read_file<R: Files>(rt: &R, alloc: Global, name: &str) -> io::Result<Bytes>
         }
     }
     Err(io::Error::from(ErrorKind::FileTooLarge))
+}
+
+// The length that a regular file tells, and 0 for what tells none. One that is too long is an error.
+fn expected_length<F: OpenFile>(file: &F) -> io::Result<usize>
+    ensures { IfOk result (λ expected. expected < 2 ^ 32) }
+{
+    let metadata = file.metadata()?;
+    if !metadata.is_file() {
+        return Ok(0);
+    }
+    if metadata.len() >= LENGTH_LIMIT {
+        return Err(io::Error::from(ErrorKind::FileTooLarge));
+    }
+    Ok(metadata.len() as usize)
 }
