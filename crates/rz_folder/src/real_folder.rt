@@ -59,7 +59,9 @@ impl<R: Files + Drop> Folder for RealFolder<R> {
     /// Reads the host's file of that path. `Missing` is the host's 'not found', and `NoMemory` that
     /// memory for the contents, or the host's own, was refused. `Failed` is every other error of
     /// the host's, and a file of 2^32 bytes or more; exactly then the count of read faults rises,
-    /// unless it stands at 2^64 - 1.
+    /// unless it stands at 2^64 - 1. A regular file that tells such a length is refused before it
+    /// is read, and the memory of the length that it tells is taken at once. A read that a signal
+    /// interrupts is taken again.
     fn read(&mut self, alloc: Global, name: &str) -> Read
         ensures short { IsShort result }
         ensures counted { self.old.reads ≤ self.new.reads }
@@ -85,10 +87,11 @@ impl<R: Files + Drop> Folder for RealFolder<R> {
     /// it stands at 2^64 - 1.
     ///
     /// The bytes go to a temporary file `.rezkit-N` in the same folder, where N is the first number
-    /// from 0 to 99 that is free. It gets the permissions of the old file, and then takes its
-    /// place. So after `Failed` the old file is whole, or there is still none, and nothing else is
-    /// left in the folder, as far as the host does what its calls say. `Failed` are also a folder
-    /// at the path, a file that may not be written, and a temporary name of more than 4,096 bytes.
+    /// from 0 to 99 that is free. That file gets the permissions of the old one, and then takes
+    /// its place. So after `Failed` the old file is whole, or there is still none, and nothing else
+    /// is left in the folder, as far as the host does what its calls say. `Failed` is also the
+    /// answer where the path is a folder's, where the file or its folder may not be written, and
+    /// where the temporary name is longer than 4,096 bytes.
     ///
     /// A link, a device or a pipe is written in place; after `Failed` what it leads to may be
     /// empty or hold a front of the bytes.

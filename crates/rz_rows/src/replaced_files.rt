@@ -1,4 +1,4 @@
-use rz_folder::{Folder, RealFolder, Written};
+use rz_folder::{Folder, Read as Outcome, RealFolder, Written};
 use std::alloc::Allocator;
 use std::cell::Cell;
 use std::fs::{File, Metadata, OpenFile, OpenOptions, Permissions};
@@ -8,11 +8,12 @@ use std::rt::Files;
 use std::test::Fail;
 use std::{fs, io};
 
-// The calls of the host's so far, and the number of the one that is to fail.
+// The calls of the host's so far, the number of the one that is to fail, and how.
 #[derive(Clone, Copy)]
 struct Calls<'a> {
     made: &'a Cell<u32>,
     failing: u32,
+    error: ErrorKind,
 }
 
 impl Calls<'_> {
@@ -20,7 +21,7 @@ impl Calls<'_> {
         let number = self.made.get().saturating_add(1);
         self.made.set(number);
         if number == self.failing {
-            return Err(io::Error::from(ErrorKind::StorageFull));
+            return Err(io::Error::from(self.error));
         }
         Ok(())
     }
@@ -154,6 +155,7 @@ fn write_failing_at(runtime: HostRuntime, failing: u32, name: &str) -> Written {
     let calls = Calls {
         made: &made,
         failing,
+        error: ErrorKind::StorageFull,
     };
     let mut folder = RealFolder::new(FailingFiles { runtime, calls });
     folder.write(name, b"newer bytes")
@@ -165,7 +167,11 @@ fn failing_call_leaves_no_new_file(rt: HostRuntime) -> Result<(), Fail> {
     let (folder, name) = ("rezkit-test-of-a-new-file", "rezkit-test-of-a-new-file/f");
     fs::create_dir(&rt, folder)?;
     for failing in 1..=8 {
-        assert_eq!(rt; write_failing_at(rt, failing, name), Written::Failed, "at {failing}");
+        assert_eq!(rt;
+            write_failing_at(rt, failing, name),
+            Written::Failed,
+            "at {failing}"
+        );
         // The folder is empty, so that it can be removed.
         fs::remove_dir(&rt, folder)?;
         fs::create_dir(&rt, folder)?;
@@ -184,7 +190,11 @@ fn failing_call_leaves_the_old_file(rt: HostRuntime) -> Result<(), Fail> {
     fs::create_dir(&rt, folder)?;
     fs::write(&rt, name, b"old bytes")?;
     for failing in 1..=10 {
-        assert_eq!(rt; write_failing_at(rt, failing, name), Written::Failed, "at {failing}");
+        assert_eq!(rt;
+            write_failing_at(rt, failing, name),
+            Written::Failed,
+            "at {failing}"
+        );
         assert!(rt; holds(rt, name, b"old bytes")?);
     }
     assert_eq!(rt; write_failing_at(rt, 11, name), Written::Done);
@@ -199,6 +209,39 @@ fn failing_call_leaves_the_old_file(rt: HostRuntime) -> Result<(), Fail> {
 fn holds(rt: HostRuntime, name: &str, wanted: &[u8]) -> io::Result<bool> {
     let bytes = fs::read(&rt, name)?;
     Ok(bytes.as_slice() == wanted)
+}
+
+// The calls are: opening, metadata, a read, and the read that finds the end.
+#[test]
+fn interrupted_read_is_taken_again(rt: HostRuntime) -> Result<(), Fail> {
+    let name = "rezkit-test-of-a-read";
+    fs::write(&rt, name, b"all bytes")?;
+    for (failing, error, is_read) in [
+        (1, ErrorKind::PermissionDenied, false),
+        (2, ErrorKind::PermissionDenied, false),
+        (3, ErrorKind::PermissionDenied, false),
+        (3, ErrorKind::Interrupted, true),
+        (4, ErrorKind::PermissionDenied, false),
+        (4, ErrorKind::Interrupted, true),
+        (5, ErrorKind::PermissionDenied, true),
+    ] {
+        let made = Cell::new(0);
+        let calls = Calls {
+            made: &made,
+            failing,
+            error,
+        };
+        let mut folder = RealFolder::new(FailingFiles { runtime: rt, calls });
+        let outcome = folder.read(rt.alloc(), name);
+        assert_eq!(rt; outcome_is_whole(&outcome), is_read, "at {failing}");
+        assert_eq!(rt; folder.read_faults(), u64::from(!is_read));
+    }
+    fs::remove_file(&rt, name)?;
+    Ok(())
+}
+
+fn outcome_is_whole(outcome: &Outcome) -> bool {
+    matches!(outcome, Outcome::Bytes(bytes) if bytes.as_slice() == b"all bytes".as_slice())
 }
 
 #[test]
