@@ -8,3 +8,4 @@ pub mod SinkState
 pub mod MemSink
 pub mod RealFaults
 pub mod OnlyReads
+pub mod Temporary

@@ -2,9 +2,11 @@ ghost use Rattle.std.specs.Prelude.{◌≡◌, ◌≤◌, ◌<◌, ◌^◌, None
 ghost use Rattle.rz_folder.specs.Counts.{Rose};
 ghost use Rattle.rz_folder.specs.Folder.{IsShort};
 
+use crate::replace::write_file;
 use crate::{Folder, Read, Written};
 use rz_core::Bytes;
 use std::alloc::Global;
+use std::fs::OpenFile;
 use std::io::ErrorKind;
 use std::marker::Model;
 use std::rt::Files;
@@ -57,7 +59,9 @@ impl<R: Files + Drop> Folder for RealFolder<R> {
     /// Reads the host's file of that path. `Missing` is the host's 'not found', and `NoMemory` that
     /// memory for the contents, or the host's own, was refused. `Failed` is every other error of
     /// the host's, and a file of 2^32 bytes or more; exactly then the count of read faults rises,
-    /// unless it stands at 2^64 - 1.
+    /// unless it stands at 2^64 - 1. A regular file that tells such a length is refused before it
+    /// is read, and the memory of the length that it tells is taken at once. A read that a signal
+    /// interrupts is taken again.
     fn read(&mut self, alloc: Global, name: &str) -> Read
         ensures short { IsShort result }
         ensures counted { self.old.reads ≤ self.new.reads }
@@ -78,9 +82,19 @@ impl<R: Files + Drop> Folder for RealFolder<R> {
         }
     }
 
-    /// Creates the host's file of that path, or empties it, and then writes the bytes. `Failed` is
-    /// every error of the host's; exactly then the count of write faults rises, unless it stands at
-    /// 2^64 - 1. The file may then be empty or hold a front of the bytes.
+    /// Makes the host's file of that path hold these bytes, and waits until they are on its disk.
+    /// `Failed` is every error of the host's; exactly then the count of write faults rises, unless
+    /// it stands at 2^64 - 1.
+    ///
+    /// The bytes go to a temporary file `.rezkit-N` in the same folder, where N is the first number
+    /// from 0 to 99 that is free. That file gets the permissions of the old one, and then takes
+    /// its place. So after `Failed` the old file is whole, or there is still none, and nothing else
+    /// is left in the folder, as far as the host does what its calls say. `Failed` is also the
+    /// answer where the path is a folder's, where the file or its folder may not be written, and
+    /// where the temporary name is longer than 4,096 bytes.
+    ///
+    /// A link, a device or a pipe is written in place; after `Failed` what it leads to may be
+    /// empty or hold a front of the bytes.
     fn write(&mut self, name: &str, bytes: &[u8]) -> Written
         requires { length bytes.now < 2 ^ 32 }
         ensures counted { self.old.writes ≤ self.new.writes }
@@ -88,7 +102,7 @@ impl<R: Files + Drop> Folder for RealFolder<R> {
         ensures other_count { self.new.reads ≡ self.old.reads }
         ensures after { self.new ≡ after_write self.old result }
     {
-        if fs::write(&self.runtime, name, bytes).is_ok() {
+        if write_file(&self.runtime, name, bytes).is_ok() {
             return Written::Done;
         }
         self.write_faults = self.write_faults.saturating_add(1);
@@ -108,15 +122,22 @@ impl<R: Files + Drop> Folder for RealFolder<R> {
     }
 }
 
-// Reads to the end of the file. Each turn takes at least one byte or is the last.
+// Reads to the end of the file. Each turn takes at least one byte, was interrupted, or is the last.
 fn read_file<R: Files>(rt: &R, alloc: Global, name: &str) -> io::Result<Bytes>
     ensures { IfOk result (λ bytes. length bytes < 2 ^ 32) }
 {
-    let mut file = fs::File::open(rt, name)?;
-    let mut bytes = Bytes::new(alloc);
+    let mut file = fs::open(rt, name)?;
+    let expected = expected_length(&file)?;
+    let Ok(mut bytes) = Bytes::with_capacity(alloc, expected) else {
+        return Err(io::Error::from(ErrorKind::OutOfMemory));
+    };
     let mut piece = [0; 8192];
-    for _ in 0..LENGTH_LIMIT {
-        let count = io::Read::read(&mut file, &mut piece)?;
+    for _ in 0..u64::MAX {
+        let count = match io::Read::read(&mut file, &mut piece) {
+            Ok(count) => count,
+            Err(error) if error.kind() == ErrorKind::Interrupted => continue,
+            Err(error) => return Err(error),
+        };
         if count == 0 {
             return Ok(bytes);
         }
@@ -128,4 +149,18 @@ fn read_file<R: Files>(rt: &R, alloc: Global, name: &str) -> io::Result<Bytes>
         }
     }
     Err(io::Error::from(ErrorKind::FileTooLarge))
+}
+
+// The length that a regular file tells, and 0 for what tells none. One that is too long is an error.
+fn expected_length<F: OpenFile>(file: &F) -> io::Result<usize>
+    ensures { IfOk result (λ expected. expected < 2 ^ 32) }
+{
+    let metadata = file.metadata()?;
+    if !metadata.is_file() {
+        return Ok(0);
+    }
+    if metadata.len() >= LENGTH_LIMIT {
+        return Err(io::Error::from(ErrorKind::FileTooLarge));
+    }
+    Ok(metadata.len() as usize)
 }

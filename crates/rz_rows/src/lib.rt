@@ -13,6 +13,8 @@ mod forks;
 #[cfg(test)]
 mod head_command;
 #[cfg(test)]
+mod replaced_files;
+#[cfg(test)]
 mod rez_command;
 #[cfg(test)]
 mod shown;
