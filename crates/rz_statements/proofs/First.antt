@@ -58,7 +58,6 @@ one_read all read left depth so_far token after more is pushed here opened behin
 module _ (one : (tokens : List Token) (statements others : List (List Token)) → AreStatements tokens statements → AreStatements tokens others → statements ≡ others)
     (some : (tokens : List Token) → (statements : List (List Token)) × AreStatements tokens statements)
     (all read left : List Token) (depth : ℕ) (so_far : IsOpen all read left depth) where
-
   -- the token ends the statement
   module _ (token : Token) (after more : List Token) (is : left ≡ token ∷ after) (pushed : more ≡ read ++ token ∷ []) where
     pub ended : is_end token.shape depth ≡ true → (statements : List (List Token)) → AreStatements all statements → BeginsWith (Some more) statements after
