@@ -64,7 +64,7 @@ fn put_expanded(
 }
 
 /// Moves tokens behind others.
-pub fn append(tokens: &mut Tokens, more: Tokens) -> Result<(), NoMemory>
+fn append(tokens: &mut Tokens, more: Tokens) -> Result<(), NoMemory>
     ensures { OnOk result (tokens.new ≡ tokens.old ++ more) }
 {
     for token in more.into_vec() {

@@ -3,6 +3,7 @@ ghost use Rattle.rz_pre.specs.declared.program.PreFault.TheVariants.{NoMemory as
 
 use rz_core::{Fault, FileNames, Listing, NoMemory, Word, Words};
 use rz_lex::Tokens;
+use rz_tokens::TokenStore;
 
 /// A definition of the words: `-d name=text` or `-u name`.
 #[derive(Debug, Drop)]
@@ -22,7 +23,7 @@ pub struct Program {
     /// The names under which files were opened, in the order in which they were.
     pub files: FileNames,
     /// The tokens, with the macros replaced.
-    pub tokens: Tokens,
+    pub tokens: TokenStore,
     /// The names, in lower case, that are macros at the end.
     pub macros: Words,
 }

@@ -10,11 +10,11 @@ ghost use Rattle.rz_pre.specs.declared.reading.Halt.TheVariants.{NoMemory as no_
 use crate::act::Act;
 use crate::condition::Tool;
 use crate::conditional::{Open, Part};
-use crate::expanded::append;
 use crate::line::act_of;
 use crate::macros::Macros;
 use rz_core::{Bytes, Fault, FileNames, Mark, NoMemory, Stop};
-use rz_lex::{RawLine, Tokens};
+use rz_lex::RawLine;
+use rz_tokens::TokenStore;
 use std::alloc::Global;
 
 /// Why reading stopped.
@@ -53,7 +53,7 @@ pub struct Reading {
     /// What the words of the source stand for.
     pub macros: Macros,
     /// The tokens that were put out.
-    pub tokens: Tokens,
+    pub tokens: TokenStore,
     /// The names under which files were opened.
     pub files: FileNames,
 }
@@ -65,7 +65,7 @@ impl Reading {
     {
         Reading {
             macros: Macros::new(alloc),
-            tokens: Tokens::new(alloc),
+            tokens: TokenStore::new(alloc),
             files: FileNames::new(alloc),
         }
     }
@@ -101,7 +101,7 @@ fn follow(
     match act {
         Act::Nothing => Ok(None),
         Act::Put(tokens) => {
-            append(&mut reading.tokens, tokens)?;
+            reading.tokens.append(tokens.as_slice())?;
             Ok(None)
         }
         Act::Include(name) => Ok(Some(name)),
