@@ -18,7 +18,7 @@ pub fn differences<'a>(
     if case.status != Some(ran.status) {
         found.push(Difference {
             what: What::Status,
-            wanted: case.status.map_or(Found::NoFile, Found::Number),
+            wanted: status_of(case.status),
             came: Found::Number(ran.status),
         })?;
     }
@@ -77,6 +77,14 @@ fn add_difference<'a>(
 fn found_in(bytes: Option<&[u8]>) -> Found<'_> {
     match bytes {
         Some(bytes) => Found::Bytes(bytes),
+        None => Found::NoFile,
+    }
+}
+
+/// The status that is wanted.
+fn status_of(stated: Option<u8>) -> Found<'static> {
+    match stated {
+        Some(status) => Found::Number(status),
         None => Found::NoFile,
     }
 }
