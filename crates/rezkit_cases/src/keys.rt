@@ -103,7 +103,10 @@ fn kind_and_name<'a>(entry: &Entry<'a>) -> (&'a str, &'a str) {
 fn add_failure(case: &mut Case, entry: &Entry<'_>) -> Result<(), Trouble> {
     let mut parts = entry.argument.split_whitespace();
     let place = parts.next().unwrap_or("");
-    let call = given(parts.next().and_then(|text| text.parse::<u64>().ok()), entry)?;
+    let call = given(
+        parts.next().and_then(|text| text.parse::<u64>().ok()),
+        entry,
+    )?;
     let failure = match place {
         "folder" => Failure::Folder { call },
         "out" => Failure::Out {
