@@ -1,63 +1,9 @@
-//! The program `rezkit`: it gets the words, the files, the streams and the moment of the host, and ends
-//! with the status of the run.
+//! The program `rezkit`.
 #![tactic(auto)]
 
-use rz_core::Moment;
-use rz_folder::{RealFolder, RealSink, Sink};
-use rz_tools::run;
-use std::env;
-use std::io::ErrorKind;
+use rz_host::start;
 use std::process::ExitCode;
-use std::time::{Clock, SystemTime, UNIX_EPOCH};
-
-/// The status where the host gives no words, or one that isn't UTF-8.
-const NO_WORDS: u8 = 5;
-
-/// The status where there is no memory for the words.
-const NO_MEMORY: u8 = 4;
 
 fn main(rt: HostRuntime) -> ExitCode {
-    let mut err = RealSink::new(rt.stderr());
-    let args = match env::args(&rt) {
-        Ok(args) => args,
-        Err(error) if error.kind() == ErrorKind::OutOfMemory => return without_memory(&mut err),
-        Err(_) => {
-            let _ = err.put(b"rezkit: no words\n");
-            return ExitCode::from(NO_WORDS);
-        }
-    };
-    let mut words = Vec::new(rt.alloc());
-    for word in args.skip(1) {
-        if words.push(word).is_err() {
-            return without_memory(&mut err);
-        }
-    }
-    let moment = moment_of(&rt);
-    let mut out = RealSink::new(rt.stdout());
-    let alloc = rt.alloc();
-    let mut folder = RealFolder::new(rt);
-    let outcome = run(alloc, &words, &mut folder, &mut out, &mut err, moment);
-    ExitCode::from(outcome.status())
-}
-
-/// Says that there is no memory for the words.
-fn without_memory<E: Sink>(err: &mut E) -> ExitCode {
-    let _ = err.put(b"rezkit: no memory\n");
-    ExitCode::from(NO_MEMORY)
-}
-
-/// The moment of the host's clock. One that is outside the range of moments, or can't be read, is taken
-/// as the first second of 1904.
-fn moment_of(clock: &impl Clock) -> Moment {
-    match unix_seconds(clock).and_then(Moment::of_unix) {
-        Some(moment) => moment,
-        None => Moment::of_unix(Moment::FIRST).unwrap(),
-    }
-}
-
-/// The seconds since the first second of 1970, where the clock tells them.
-fn unix_seconds(clock: &impl Clock) -> Option<i64> {
-    let now = SystemTime::now(clock).ok()?;
-    let since = now.duration_since(UNIX_EPOCH).ok()?;
-    i64::try_from(since.as_secs()).ok()
+    start(rt)
 }

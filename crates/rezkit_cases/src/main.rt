@@ -1,0 +1,36 @@
+//! Runs cases of commands: each is the words of a command, the files that are there, and what the run must
+//! leave. What differs is printed with what was wanted and what came, then one line with the number of
+//! cases and how many of them differ. The status is 1 where one differs or a case file can't be read.
+//!
+//! The cases stand in the files `*.cases` of the folder that is the program's one argument, else of the folder
+//! in which it runs. README.md has their format.
+#![tactic(auto)]
+
+mod case;
+mod compare;
+mod content;
+mod difference;
+mod entry;
+mod group;
+mod keys;
+mod reader;
+mod runner;
+mod tally;
+mod trouble;
+
+use crate::group::{case_files, run_group};
+use crate::tally::Tally;
+use anyhow::Result;
+use std::env;
+use std::process::ExitCode;
+
+fn main(rt: HostRuntime) -> Result<ExitCode> {
+    let folder = env::args(&rt)?.nth(1);
+    let folder = folder.as_ref().map_or(".", |word| word.as_str());
+    let mut tally = Tally::default();
+    for file in &case_files(&rt, folder)? {
+        run_group(&rt, file.as_str(), &mut tally)?;
+    }
+    println!(rt; "{tally}")?;
+    Ok(tally.exit_code())
+}

@@ -1,0 +1,10 @@
+//! The program `rezkit` once more, for a run that is refused: its stored run wants the status of a refusal and
+//! nothing on standard output. It is not handed out.
+#![tactic(auto)]
+
+use rz_host::start;
+use std::process::ExitCode;
+
+fn main(rt: HostRuntime) -> ExitCode {
+    start(rt)
+}
