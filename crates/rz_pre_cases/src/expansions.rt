@@ -1,4 +1,5 @@
 use crate::asked::{Asked, wrong_cases};
+use crate::outcome::read_all;
 use rz_core::Bytes;
 use rz_lex::{Shape, Token};
 use std::alloc::Global;
@@ -106,7 +107,8 @@ fn word_may_take_65536_tokens(rt: HostRuntime) -> Result<(), Fail> {
         let Ok(program) = asked.answer() else {
             return Err(Fail::from("refused"));
         };
-        assert!(rt; are_words(program.tokens.as_slice(), count, line), "{text}");
+        let tokens = read_all(rt.alloc(), &program.tokens)?;
+        assert!(rt; are_words(tokens.as_slice(), count, line), "{text}");
     }
     Ok(())
 }

@@ -1,7 +1,8 @@
 use rz_cases::append_shape;
 use rz_core::{Bytes, Fault, FileNames, Kept, Mark, from_roman, write_decimal, write_signed};
-use rz_lex::Token;
+use rz_lex::{Token, Tokens};
 use rz_pre::{PreFault, Program};
+use rz_tokens::TokenStore;
 use std::alloc::Global;
 use std::test::Fail;
 
@@ -12,7 +13,7 @@ pub fn text_of(alloc: Global, answer: &Result<Program, PreFault>) -> Result<Stri
     match answer {
         Ok(program) => {
             append_roman(
-                text_of_tokens(alloc, program.tokens.as_slice())?.as_slice(),
+                text_of_tokens(alloc, read_all(alloc, &program.tokens)?.as_slice())?.as_slice(),
                 &mut text,
             )?;
             append_files(&program.files, &mut text)?;
@@ -25,6 +26,18 @@ pub fn text_of(alloc: Global, answer: &Result<Program, PreFault>) -> Result<Stri
         Err(PreFault::NoMemory) => text.push_str("no memory")?,
     }
     Ok(text)
+}
+
+/// All tokens of a store.
+pub fn read_all(alloc: Global, store: &TokenStore) -> Result<Tokens, Fail> {
+    let mut tokens = Tokens::new(alloc);
+    let mut reader = store.reader();
+    for _ in 0..store.len() {
+        if let Some(token) = reader.next(alloc)? {
+            tokens.push(token)?;
+        }
+    }
+    Ok(tokens)
 }
 
 /// Appends bytes of Mac Roman.

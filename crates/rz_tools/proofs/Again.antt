@@ -21,6 +21,7 @@ use Rattle.rz_lex.specs.declared.token.Shape.{Shape}
 use Rattle.rz_lex.specs.declared.token.Shape.TheVariants as shapes
 use Rattle.rz_lex.specs.declared.token.Token.{Token}
 use Rattle.rz_pre.specs.Live.{body_of, Live}
+use Rattle.rz_pre.specs.declared.condition.Tool.{Tool}
 use Rattle.rz_pre.specs.declared.condition.Tool.TheVariants as tools
 use Rattle.rz_pre.specs.Program.{file_of, levels_below, IncludedGoes, State}
 use Rattle.rz_show.specs.Data.{list_text, resource_text, statement_text}
@@ -33,7 +34,8 @@ use Rattle.rz_stmt.specs.Raw.{Raw}
 use Rattle.rz_stmt.specs.Statements.{AreStatements}
 use Rattle.rz_tools.specs.Again.{AreShort, MeanResources, MeansAgain, NoneIsLive}
 use Rattle.rz_tools.specs.Data.{resource_of}
-use Rattle.rz_tools.specs.Step.{namesake, put_unless_protected, with_list, Means, Steps, Work}
+use Rattle.rz_tools.specs.Step.{put_unless_protected, with_list, Means, Steps, Work}
+use Rattle.rz_set.specs.ResSet.{found}
 use Rattle.rz_types.specs.Table.{Declaration}
 use Rattle.rz_tools.specs.ToolWords.{number_in, numbered, tool_in}
 use Rattle.rz_tools.proofs.PutOut.{lines_go, tokens_of, AreBare}
@@ -93,15 +95,20 @@ plain_words live none = (
   ),
 )
 
-plain_word : (live : Live) → NoneIsLive live → (shape : Shape) → is_shown shape ≡ true → (body_of live shape ≡ None) × (number_in tools.Rez shape ≡ None)
-plain_word live none (shapes.Word word) is =
+plain_word : (live : Live) (tool : Tool) → NoneIsLive live → (shape : Shape) → is_shown shape ≡ true → (body_of live shape ≡ None) × (number_in tool shape ≡ None)
+plain_word live tool none (shapes.Word word) is =
     let plain = among (IsPlainWord live) word.bytes shown_words (plain_words live none) is in
     (plain.bare, rw plain.no_tool refl)
-plain_word live none _ is = (refl, refl)
+plain_word live tool none _ is = (refl, refl)
 
 bare_all : (live : Live) → NoneIsLive live → (shapes : List Shape) → AllByRecursion (λ shape. is_shown shape ≡ true) shapes → AreBare live shapes
 bare_all live none [] are = tt
-bare_all live none (shape ∷ shapes) are = ((plain_word live none shape are.0).0, bare_all live none shapes are.1)
+bare_all live none (shape ∷ shapes) are = ((plain_word live tools.Rez none shape are.0).0, bare_all live none shapes are.1)
+
+all_apart : (front back : List Shape) → AllByRecursion (λ shape. is_shown shape ≡ true) (front ++ back)
+    → AllByRecursion (λ shape. is_shown shape ≡ true) front × AllByRecursion (λ shape. is_shown shape ≡ true) back
+all_apart [] back are = (tt, are)
+all_apart (shape ∷ front) back are = let rest = all_apart front back are.1 in ((are.0, rest.0), rest.1)
 
 -- each of the lines
 pub bare_lines : (live : Live) → NoneIsLive live → (lines : List (List Shape)) → AllByRecursion (λ shape. is_shown shape ≡ true) (flat_map (λ line. line) lines) → AllByRecursion (AreBare live) lines
@@ -109,11 +116,6 @@ bare_lines live none [] are = tt
 bare_lines live none (line ∷ lines) are =
     let parts = all_apart line (flat_map (λ line. line) lines) (subst (AllByRecursion (λ shape. is_shown shape ≡ true)) (flat_map-cons (λ line. line) line lines) are) in
     (bare_all live none line parts.0, bare_lines live none lines parts.1)
-  where
-    all_apart : (front back : List Shape) → AllByRecursion (λ shape. is_shown shape ≡ true) (front ++ back)
-        → AllByRecursion (λ shape. is_shown shape ≡ true) front × AllByRecursion (λ shape. is_shown shape ≡ true) back
-    all_apart [] back are = (tt, are)
-    all_apart (shape ∷ front) back are = let rest = all_apart front back are.1 in ((are.0, rest.0), rest.1)
 
 none_live : Live
 none_live name = None
@@ -122,12 +124,12 @@ none_is_live : NoneIsLive none_live
 unfolding none_live
 none_is_live = (refl, (refl, (refl, (refl, (refl, (refl, (refl, tt)))))))
 
-pub numbered_same : (tokens : List Token) → AllByRecursion (λ shape. is_shown shape ≡ true) (shapes_in tokens) → map (numbered tools.Rez) tokens ≡ tokens
-numbered_same [] are = refl
-numbered_same (t ∷ tokens) are = λ i. same t are.0 i ∷ numbered_same tokens are.1 i
+pub numbered_same : (tool : Tool) (tokens : List Token) → AllByRecursion (λ shape. is_shown shape ≡ true) (shapes_in tokens) → map (numbered tool) tokens ≡ tokens
+numbered_same tool [] are = refl
+numbered_same tool (t ∷ tokens) are = λ i. same t are.0 i ∷ numbered_same tool tokens are.1 i
   where
-    same : (t : Token) → is_shown t.shape ≡ true → numbered tools.Rez t ≡ t
-    same t is = rw (plain_word none_live none_is_live t.shape is).1 refl
+    same : (t : Token) → is_shown t.shape ≡ true → numbered tool t ≡ t
+    same t is = rw (plain_word none_live tool none_is_live t.shape is).1 refl
 
 -- Putting resources whose keys differ.
 
@@ -137,7 +139,7 @@ key_sym a b = λ i. same_sym a.kind.code b.kind.code i && same_sym (id_bits a) (
     same_sym : (m n : ℕ) → (m == n) ≡ (n == m)
     same_sym m n = by_test ((m == n) ≡ (n == m)) (m == n) (λ is. grind (arith, nat_tests)) (λ is. grind (arith, nat_tests))
 
-new_name : (front : List Resource) (r : Resource) → list_any (λ b. same_key b r) front ≡ false → namesake front r ≡ None
+new_name : (front : List Resource) (r : Resource) → list_any (λ b. same_key b r) front ≡ false → found r.kind r.id front ≡ None
 new_name [] r new = refl
 new_name (x ∷ front) r new =
     let parts = or_parts (same_key x r) (list_any (λ b. same_key b r) front) new in
@@ -170,22 +172,25 @@ one_step setting types warnings front tokens raw r whole value new =
     let behind : put_unless_protected (mark_of tokens) front r ≡ Ok (front ++ r ∷ []) = rw (new_name front r new, put_new front r new) refl in
     inl (Data raw, Parses.statement whole.within (IsStatement.data_statement raw whole.is refl), sym (ap (with_list (work types warnings front)) (ap (λ o. o >>= put_unless_protected (mark_of tokens) front) value ∙ behind)))
 
-has_statements : (list : List Resource) (tokens : List Token) → AreWhole tokens list → AllByRecursion IsStored list → AllByRecursion FitsFork list → AreShort list → HasStatements list tokens
-has_statements [] tokens whole stored fits short = record {
+has_statements : (list : List Resource) (tokens : List Token) → AreWhole tokens list → AllByRecursion (λ shape. is_shown shape ≡ true) (shapes_in tokens) → AllByRecursion IsStored list → AllByRecursion FitsFork list → AreShort list → HasStatements list tokens
+has_statements [] tokens whole words stored fits short = record {
   statements = [];
   are = whole;
   mean = λ setting types warnings front differ. ap (λ (l : List Resource). Ok (work types warnings l)) (append-nil front);
 }
-has_statements (r ∷ rs) tokens whole stored fits short =
+has_statements (r ∷ rs) tokens whole words stored fits short =
     let one = whole.3 in
     let raw = shown_raw r one.name one.bytes in
-    let behind = has_statements rs whole.1 whole.4 stored.1 fits.1 short.1 in
+    let parts = all_apart (shapes_in whole.0) (shapes_in whole.1)
+    (subst (AllByRecursion (λ shape. is_shown shape ≡ true)) (ap shapes_in whole.2 ∙ shapes_both whole.0 whole.1) words) in
+    let behind = has_statements rs whole.1 whole.4 parts.1 stored.1 fits.1 short.1 in
     record {
       statements = whole.0 ∷ behind.statements;
       are = (whole.1, whole.2, inl (one.is.statement, behind.are));
       mean = λ setting types warnings front differ. inl (
         work types warnings (front ++ r ∷ []),
-        one_step setting types warnings front whole.0 raw r one.is (resource_again (mark_of whole.0) setting r one.name one.bytes stored.0 one.whole_name one.whole_bytes fits.0.name short.0) differ.0,
+        subst (λ (ts : List Token). Steps setting (work types warnings front) ts (Ok (work types warnings (front ++ r ∷ [])))) (sym (numbered_same setting.tool whole.0 parts.0))
+            (one_step setting types warnings front whole.0 raw r one.is (resource_again (mark_of whole.0) setting r one.name one.bytes stored.0 one.whole_name one.whole_bytes fits.0.name short.0) differ.0),
         subst (λ (l : List Resource). Means setting (work types warnings (front ++ r ∷ [])) behind.statements (Ok (work types warnings l))) (append_assoc front (r ∷ []) rs)
             (behind.mean setting types warnings (front ++ r ∷ []) differ.1),
       );
@@ -195,8 +200,8 @@ mean_resources : (list : List Resource) (tokens : List Token) → AreWhole token
     → AllByRecursion IsStored list → AllByRecursion FitsFork list → AreShort list → KeysDiffer [] list → MeanResources tokens list
 unfolding work
 mean_resources list tokens whole words stored fits short differ =
-    let all = has_statements list tokens whole stored fits short in
-    (all.statements, subst (λ (x : List Token). AreStatements x all.statements) (sym (numbered_same tokens words)) all.are, λ setting types warnings. all.mean setting types warnings [] differ)
+    let all = has_statements list tokens whole words stored fits short in
+    (all.statements, all.are, λ setting types warnings. all.mean setting types warnings [] differ)
 
 -- The text.
 

@@ -103,14 +103,12 @@ module _ (work : Work) (list : List Resource) (files : List (List ℕ)) (same : 
 
 -- What the program means.
 
-module _ (setting : Setting) (asked : RezAsked) (program : Program) (numbers : List Token) (are : numbers ≡ map (numbered tools.Rez) program.tokens)
-    (cut : (statements : List (List Token)) × AreStatements numbers statements) where
+module _ (setting : Setting) (asked : RezAsked) (program : Program) (cut : (statements : List (List Token)) × AreStatements program.tokens statements) where
   has_fork : (s : State) → IsProgram program s → (fork : Result Forked Stopped) → Then (Means setting nothing_made cut.0) (λ work answer. answer ≡ fork_of_work work) fork
-      → HasFork setting (map (numbered tools.Rez) s.tokens) fork
-  has_fork s is fork makes =
-      (cut.0, subst (λ (ts : List Token). AreStatements ts cut.0) (are ∙ ap (map (numbered tools.Rez)) is.tokens) cut.1, makes)
+      → HasFork setting s.tokens fork
+  has_fork s is fork makes = (cut.0, subst (λ (ts : List Token). AreStatements ts cut.0) is.tokens cut.1, makes)
 
-  pub compiled : (before : Option Files) → IfSome before (λ files. Gave (Ok program) (ProgramGoes files tools.Rez asked.files asked.paths asked.defs))
+  pub compiled : (before : Option Files) → IfSome before (λ files. Gave (Ok program) (ProgramGoes files setting.tool asked.files asked.paths asked.defs))
       → (result : Result Made Stops) → MadeSo result (Said program.files (Then (Means setting nothing_made cut.0) (λ work answer. answer ≡ fork_of_work work)))
       → IfSome before (λ files. MadeSo result (Compiles setting asked files))
   compiled None gave result makes = tt
@@ -120,13 +118,13 @@ module _ (setting : Setting) (asked : RezAsked) (program : Program) (numbers : L
         gave.0,
         gave.2,
         said_so program.files gave.0.files (sym gave.1.files) (Then (Means setting nothing_made cut.0) (λ work answer. answer ≡ fork_of_work work))
-            (HasFork setting (map (numbered tools.Rez) gave.0.tokens)) (has_fork gave.0 gave.1) answer is,
+            (HasFork setting gave.0.tokens) (has_fork gave.0 gave.1) answer is,
       ))
       result makes
 
 -- a program that is refused
 pub no_program : (setting : Setting) (asked : RezAsked) (fault : Fault) (named : List (List ℕ)) (before : Option Files)
-    → IfSome before (λ files. ProgramGoes files tools.Rez asked.files asked.paths asked.defs (Err (record { fault = fault; files = named })))
+    → IfSome before (λ files. ProgramGoes files setting.tool asked.files asked.paths asked.defs (Err (record { fault = fault; files = named })))
     → IfSome before (λ files. Compiles setting asked files (Err (record { fault = fault; files = named; said = [] })))
 no_program setting asked fault named None gave = tt
 no_program setting asked fault named (Some files) gave = inr (record { fault = fault; files = named; said = [] }, (gave, refl), refl)

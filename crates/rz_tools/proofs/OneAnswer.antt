@@ -7,7 +7,6 @@ use Rattle.rz_folder.specs.Folder.{Files}
 use Rattle.rz_lex.specs.declared.token.Token.{Token}
 use Rattle.rz_pre.specs.Program.{Failure, ProgramGoes, State}
 use Rattle.rz_pre.specs.declared.condition.Tool.{Tool}
-use Rattle.rz_pre.specs.declared.condition.Tool.TheVariants as tools
 use Rattle.rz_pre.specs.declared.program.Def.{Def}
 use Rattle.rz_stmt.specs.Statements.{AreStatements}
 use Rattle.rz_words.specs.Command.{Asked, Rez, DeRez, Help, Version, IsCommand, IsMisplaced, RezAsked}
@@ -72,14 +71,17 @@ once_unsaid {X} answers once (Err a) (Err b) is also =
     λ i. Err (record { fault = (same i).fault; files = (same i).files; said = (is.1 ∙ sym also.1) i })
 
 module _ (cutting : OneCutting) (statement_law : OneStatement) where
+  one_step : (setting : Setting) (work : Work) (tokens : List Token) → Once (Steps setting work tokens)
+  one_step setting work tokens =
+      once_with work.warnings (Then (Parses tokens) (λ statement answer. answer ≡ work_behind setting (mark_of tokens) work statement))
+      (once_then (Parses tokens) (λ statement answer. answer ≡ work_behind setting (mark_of tokens) work statement) (statement_law tokens)
+      (λ statement. once_is (work_behind setting (mark_of tokens) work statement)))
+
   one_meaning : (setting : Setting) (work : Work) (statements : List (List Token)) → Once (Means setting work statements)
   one_meaning setting work [] = once_is (Ok work)
   one_meaning setting work (tokens ∷ statements) =
-      once_then (Steps setting work tokens) (λ next. Means setting next statements)
-      (once_with work.warnings (Then (Parses tokens) (λ statement answer. answer ≡ work_behind setting (mark_of tokens) work statement))
-      (once_then (Parses tokens) (λ statement answer. answer ≡ work_behind setting (mark_of tokens) work statement) (statement_law tokens)
-      (λ statement. once_is (work_behind setting (mark_of tokens) work statement))))
-      (λ next. one_meaning setting next statements)
+      once_then (Steps setting work (map (numbered setting.tool) tokens)) (λ next. Means setting next statements)
+      (one_step setting work (map (numbered setting.tool) tokens)) (λ next. one_meaning setting next statements)
 
   one_fork : (setting : Setting) (tokens : List Token) → Once (HasFork setting tokens)
   one_fork setting tokens a b is also =
@@ -89,9 +91,9 @@ module _ (cutting : OneCutting) (statement_law : OneStatement) where
   module _ (program : OneProgram) where
     pub one_compiled : (setting : Setting) (asked : RezAsked) (files : Files) → Once (Compiles setting asked files)
     one_compiled setting asked files =
-        once_then (Unsaid (ProgramGoes files tools.Rez asked.files asked.paths asked.defs)) (λ s. Said s.files (HasFork setting (map (numbered tools.Rez) s.tokens)))
-        (once_unsaid (ProgramGoes files tools.Rez asked.files asked.paths asked.defs) (program files tools.Rez asked.files asked.paths asked.defs))
-        (λ s. once_said s.files (HasFork setting (map (numbered tools.Rez) s.tokens)) (one_fork setting (map (numbered tools.Rez) s.tokens)))
+        once_then (Unsaid (ProgramGoes files setting.tool asked.files asked.paths asked.defs)) (λ s. Said s.files (HasFork setting s.tokens))
+        (once_unsaid (ProgramGoes files setting.tool asked.files asked.paths asked.defs) (program files setting.tool asked.files asked.paths asked.defs))
+        (λ s. once_said s.files (HasFork setting s.tokens) (one_fork setting s.tokens))
 
     one_to : (asked : Asked) (files : Files) (moment : Moment) (a b : Answer) → AnswersTo asked files moment a → AnswersTo asked files moment b → a ≡ b
     one_to (Rez asked) files moment a b is also =

@@ -1,128 +1,14 @@
--- What `put` keeps, and its step in a map from keys.
-use Rattle.std.proofs.Common.{◌≡◌, ℕ, ◌==◌, ◌&&◌, ◌||◌, Bool, true, false, if◌then◌else◌, List, [], ◌∷◌, ◌++◌, length, map, ◌<◌, Some, Ok, Err, refl, sym, ap, subst, ◌∙◌, append_assoc, arith}
-use Rattle.std.proofs.lemmas.Bool.{eqb-true}
-use Rattle.std.proofs.lemmas.Bool.Decides.{nat_tests}
-use Rattle.std.specs.List.{AllByRecursion, list_any}
-use Rattle.std.proofs.lemmas.List.Folds.{list_any-append}
-use Rattle.indexmap.specs.IndexMap.{insert_entry}
-use Rattle.std.specs.Map.{lookup}
-use Rattle.rz_core.proofs.Tests.{both}
-use Rattle.rz_fork.specs.Image.{AreNamed}
-use Rattle.rz_tools.specs.Step.{namesake, protected_fault, protects, put_unless_protected}
+-- What a put of a resource answers.
+use Rattle.std.proofs.Common.{◌≡◌, Bool, true, false, if◌then◌else◌, List, Ok, Err, sym, ap, ◌∙◌}
+use Rattle.rz_set.specs.ResSet.{found}
+use Rattle.rz_tools.specs.Step.{protected_fault, protects, put_unless_protected}
 use Rattle.rz_core.specs.declared.fault.Mark.{Mark}
-use Rattle.rz_core.specs.Resources.{id_bits, same_key, put, KeysDiffer}
+use Rattle.rz_core.specs.Resources.{put}
 use Rattle.rz_core.specs.declared.resource.Resource.{Resource}
-use Rattle.rz_tools.specs.ResourceList.{holds_protected, key_eq, key_of, keyed, values_of, IsKeyed}
-
-same_code : (r x : Resource) → same_key r x ≡ true → r.kind.code ≡ x.kind.code
-same_code r x is = eqb-true r.kind.code x.kind.code (both (r.kind.code == x.kind.code) (id_bits r == id_bits x) is).0
-
-same_id : (r x : Resource) → same_key r x ≡ true → id_bits r ≡ id_bits x
-same_id r x is = eqb-true (id_bits r) (id_bits x) (both (r.kind.code == x.kind.code) (id_bits r == id_bits x) is).1
-
-pub insert_keyed : (list : List Resource) (r : Resource) → insert_entry key_eq (keyed list) (key_of r) r ≡ keyed (put list r)
-insert_keyed [] r = refl
-insert_keyed (x ∷ xs) r = by (insert_keyed xs r) (same_key r x) refl
-  where
-    by : insert_entry key_eq (keyed xs) (key_of r) r ≡ keyed (put xs r) → (b : Bool) → same_key r x ≡ b
-        → (if b then (key_of x, r) ∷ keyed xs else (key_of x, x) ∷ insert_entry key_eq (keyed xs) (key_of r) r) ≡ keyed (if b then r ∷ xs else x ∷ put xs r)
-    by later true is = λ i. ((sym (same_code r x is) i, sym (same_id r x is) i), r) ∷ keyed xs
-    by later false is = ap (λ (l : List ((ℕ × ℕ) × Resource)). (key_of x, x) ∷ l) later
-
-pub values_keyed : (list : List Resource) → map (λ e. e.1) (keyed list) ≡ list
-values_keyed [] = refl
-values_keyed (x ∷ xs) = ap (λ (l : List Resource). x ∷ l) (values_keyed xs)
-
--- what holds of each resource of a list and of a new one holds of each after it is put
-pub all_put : (P : Resource → Type 0) (list : List Resource) (r : Resource) → AllByRecursion P list → P r → AllByRecursion P (put list r)
-all_put P [] r all one = (one, tt)
-all_put P (x ∷ xs) r all one = by (all_put P xs r all.1 one) (same_key r x)
-  where
-    by : AllByRecursion P (put xs r) → (b : Bool) → AllByRecursion P (if b then r ∷ xs else x ∷ put xs r)
-    by later true = (one, all.1)
-    by later false = (all.0, later)
-
--- two resources of one key are alike to every test of keys
-same_to : (r x y : Resource) → same_key r x ≡ true → same_key x y ≡ same_key r y
-same_to r x y is = λ i. (sym (same_code r x is) i == y.kind.code) && (sym (same_id r x is) i == id_bits y)
-
-exchanged : (before mid xs : List Resource) (r x : Resource) → same_key r x ≡ true → KeysDiffer (before ++ x ∷ mid) xs → KeysDiffer (before ++ r ∷ mid) xs
-exchanged before mid [] r x is differ = tt
-exchanged before mid (y ∷ xs) r x is differ =
-    let test : Resource → Bool = λ b. same_key b y in
-    let same : list_any test (before ++ r ∷ mid) ≡ list_any test (before ++ x ∷ mid) =
-    list_any-append test before (r ∷ mid) ∙ ap (λ b. list_any test before || (b || list_any test mid)) (sym (same_to r x y is)) ∙ sym (list_any-append test before (x ∷ mid)) in (
-      same ∙ differ.0,
-      subst (λ (l : List Resource). KeysDiffer l xs) (sym (append_assoc before (r ∷ mid) (y ∷ [])))
-          (exchanged before (mid ++ y ∷ []) xs r x is (subst (λ (l : List Resource). KeysDiffer l xs) (append_assoc before (x ∷ mid) (y ∷ [])) differ.1)),
-    )
-
-eqb-sym : (a b : ℕ) → (a == b) ≡ (b == a)
-eqb-sym a b = grind (arith, nat_tests)
-
-flipped : (r x : Resource) → same_key r x ≡ same_key x r
-flipped r x = λ i. eqb-sym r.kind.code x.kind.code i && eqb-sym (id_bits r) (id_bits x) i
-
--- a resource put into a list leaves its keys different, where it is like none of those before
-pub differ_put : (before list : List Resource) (r : Resource) → KeysDiffer before list → list_any (λ b. same_key b r) before ≡ false → KeysDiffer before (put list r)
-differ_put before [] r differ new = (new, tt)
-differ_put before (x ∷ xs) r differ new = by (differ_put (before ++ x ∷ []) xs r differ.1) (same_key r x) refl
-  where
-    by : (list_any (λ b. same_key b r) (before ++ x ∷ []) ≡ false → KeysDiffer (before ++ x ∷ []) (put xs r))
-        → (b : Bool) → same_key r x ≡ b → KeysDiffer before (if b then r ∷ xs else x ∷ put xs r)
-    by later true is = (new, exchanged before [] xs r x is differ.1)
-    by later false is = (
-      differ.0,
-      later (
-          list_any-append (λ b. same_key b r) before (x ∷ [])
-          ∙ λ i. new i || ((sym (flipped r x) ∙ is) i || false)
-          ),
-    )
-
--- The list as a map.
-
--- the first entry under a key is the namesake
-found_namesake : (list : List Resource) (r : Resource) → lookup (key_eq (key_of r)) (keyed list) ≡ namesake list r
-found_namesake [] r = refl
-found_namesake (x ∷ xs) r = by (found_namesake xs r) (same_key r x) refl
-  where
-    by : lookup (key_eq (key_of r)) (keyed xs) ≡ namesake xs r → (b : Bool) → same_key r x ≡ b
-        → (if b then Some x else lookup (key_eq (key_of r)) (keyed xs)) ≡ (if b then Some x else namesake xs r)
-    by later true is = refl
-    by later false is = later
-
-module _ (entries after : List ((ℕ × ℕ) × Resource)) (r : Resource) (is : IsKeyed entries) where
-  -- a protected namesake
-  pub same_protected : (key : ℕ × ℕ) → key ≡ key_of r → holds_protected entries key ≡ protects (namesake (values_of entries) r)
-  same_protected key same =
-      ap (holds_protected entries) same
-      ∙ ap (λ (es : List ((ℕ × ℕ) × Resource)). holds_protected es (key_of r)) is
-      ∙ ap protects (found_namesake (values_of entries) r)
-
-  module _ (key : ℕ × ℕ) (same : key ≡ key_of r) (inserted : after ≡ insert_entry key_eq entries key r) where
-    stands : after ≡ keyed (put (values_of entries) r)
-    stands =
-        inserted
-        ∙ (λ i. insert_entry key_eq (is i) (same i) r)
-        ∙ insert_keyed (values_of entries) r
-
-    pub put_values : values_of after ≡ put (values_of entries) r
-    put_values = ap values_of stands ∙ values_keyed (put (values_of entries) r)
-
-    pub put_keyed : IsKeyed after
-    put_keyed = stands ∙ ap keyed (sym put_values)
-
-    pub put_named : length r.name < 256 → AreNamed (values_of entries) → AreNamed (values_of after)
-    put_named short named = subst AreNamed (sym put_values) (all_put (λ x. length x.name < 256) (values_of entries) r named short)
-
-    pub put_differ : KeysDiffer [] (values_of entries) → KeysDiffer [] (values_of after)
-    put_differ differ = subst (KeysDiffer []) (sym put_values) (differ_put [] (values_of entries) r differ refl)
-
--- What a put answers.
 
 module _ (mark : Mark) (list : List Resource) (r : Resource) where
-  pub put_refused : protects (namesake list r) ≡ true → Err (protected_fault mark r) ≡ put_unless_protected mark list r
+  pub put_refused : protects (found r.kind r.id list) ≡ true → Err (protected_fault mark r) ≡ put_unless_protected mark list r
   put_refused is = ap (λ (b : Bool). if b then Err (protected_fault mark r) else Ok (put list r)) (sym is)
 
-  pub put_done : (after : List Resource) → protects (namesake list r) ≡ false → after ≡ put list r → Ok after ≡ put_unless_protected mark list r
+  pub put_done : (after : List Resource) → protects (found r.kind r.id list) ≡ false → after ≡ put list r → Ok after ≡ put_unless_protected mark list r
   put_done after is same = ap (λ (l : List Resource). Ok l) same ∙ ap (λ (b : Bool). if b then Err (protected_fault mark r) else Ok (put list r)) (sym is)

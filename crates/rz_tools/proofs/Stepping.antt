@@ -1,7 +1,7 @@
 -- Statements one after the other.
-use Rattle.std.proofs.Common.{◌≡◌, ◌≢◌, ◌⊎◌, inl, inr, ℕ, zero, suc, ◌+◌, ◌-◌, ◌<◌, ◌≤◌, Bool, List, [], ◌∷◌, ◌++◌, drop, get_or, length, slice_get, Some, take, Ok, Err, refl, sym, ap, subst, ◌∙◌, arith, append_assoc, length-append}
+use Rattle.std.proofs.Common.{◌≡◌, inl, inr, ℕ, zero, suc, ◌+◌, ◌-◌, ◌<◌, ◌≤◌, Bool, List, [], ◌∷◌, ◌++◌, drop, get_or, length, map, slice_get, Some, None, take, Ok, Err, refl, sym, ap, subst, ◌∙◌, arith, length-append}
 use Rattle.std.specs.declared.result.Result.{Result}
-use Rattle.std.proofs.lemmas.List.{drop_at, take_at}
+use Rattle.std.proofs.lemmas.List.{take_all}
 use Rattle.std.proofs.lemmas.Option.{get_or_from_slice_get, same_Some}
 use Rattle.rz_lex.specs.Within.{AreWithin}
 use Rattle.rz_core.specs.declared.fault.Fault.{Fault}
@@ -15,100 +15,88 @@ use Rattle.rz_stmt.specs.Constants as declare
 use Rattle.rz_stmt.specs.Grammar.{mark_of, Data, Declares, Empty, Gave, Parses}
 use Rattle.rz_stmt.specs.Raw.{Raw}
 use Rattle.rz_tools.specs.Data.{resource_of}
-use Rattle.rz_stmt.specs.Statements.{spans_from, AreStatements, IsRest, IsStatement}
+use Rattle.rz_stmt.specs.Statements.{AreStatements}
+use Rattle.rz_statements.specs.Next.{BeginsWith}
+use Rattle.rz_lex.specs.Lexeme.{AreLexed}
+use Rattle.rz_tools.specs.ToolWords.{numbered}
 use Rattle.rz_brackets.specs.declared.span.Span.{Span}
-use Rattle.rz_core.specs.Resources.{KeysDiffer}
-use Rattle.rz_fork.specs.Image.{AreNamed}
 use Rattle.rz_tools.specs.Held.{work_of}
 use Rattle.rz_tools.specs.Warning.{AreWarnings}
-use Rattle.rz_tools.specs.ResourceList.{values_of}
 use Rattle.rz_tools.specs.declared.step.Work as held
-use Rattle.rz_tools.specs.Step.{all_at, declared, list_behind, nothing_made, put_unless_protected, tokens_at, with_list, AreSpans, IsSpan, Means, Stepped, Steps, Stopped, Work, Worked}
+use Rattle.rz_tools.specs.Step.{declared, list_behind, nothing_made, put_unless_protected, tokens_at, with_list, IsSpan, Means, Stepped, Steps, Stopped, Work, Worked}
 use Rattle.rz_tools.specs.declared.setting.Setting.{Setting}
 
--- whatever the statements of the rest mean behind this, all mean so
-abbrev pub LeadsTo : Setting → List Token → List Span → List Span → Work → Type 0
-LeadsTo setting tokens all rest work =
-    (answer : Result Work Stopped) → Means setting work (all_at tokens rest) answer → Means setting nothing_made (all_at tokens all) answer
+-- whatever the rest of the statements means after this, all mean so
+abbrev pub LeadsTo : Setting → List (List Token) → List (List Token) → Work → Type 0
+LeadsTo setting all rest work = (answer : Result Work Stopped) → Means setting work rest answer → Means setting nothing_made all answer
 
-module _ (setting : Setting) (tokens : List Token) (all rest behind : List Span) (span : Span) (work : Work) (leads : LeadsTo setting tokens all rest work) (are : rest ≡ span ∷ behind) where
-  pub leads_on : (next : Work) → Steps setting work (tokens_at tokens span) (Ok next) → LeadsTo setting tokens all behind next
-  leads_on next steps answer means =
-      leads answer (subst (λ (ss : List Span). Means setting work (all_at tokens ss) answer) (sym are) (inl (next, steps, means)))
+-- the statements of the tokens that are left lead to all of them
+abbrev pub LeadsFrom : Setting → List Token → List Token → Work → Type 0
+LeadsFrom setting tokens left work =
+    (statements : List (List Token)) → AreStatements tokens statements → (rest : List (List Token)) × AreStatements left rest × LeadsTo setting statements rest work
 
-  pub leads_to_fault : (stopped : Stopped) → Steps setting work (tokens_at tokens span) (Err stopped) → Means setting nothing_made (all_at tokens all) (Err stopped)
-  leads_to_fault stopped steps =
-      leads (Err stopped) (subst (λ (ss : List Span). Means setting work (all_at tokens ss) (Err stopped)) (sym are) (inr (stopped, steps, refl)))
+module _ (setting : Setting) (tokens left after statement : List Token) (work : Work) (leads : LeadsFrom setting tokens left work)
+    (first : (statements : List (List Token)) → AreStatements left statements → BeginsWith (Some statement) statements after) where
+  pub leads_on : (next : Work) → Steps setting work (map (numbered setting.tool) statement) (Ok next) → LeadsFrom setting tokens after next
+  leads_on next steps statements are =
+      let so = leads statements are in
+      let begins = first so.0 so.1 in (
+        begins.0,
+        begins.2,
+        λ answer means. so.2 answer (subst (λ (ss : List (List Token)). Means setting work ss answer) (sym begins.1) (inl (next, steps, means))),
+      )
+
+  leads_to_fault : (stopped : Stopped) → Steps setting work (map (numbered setting.tool) statement) (Err stopped) → (statements : List (List Token)) → AreStatements tokens statements
+      → Means setting nothing_made statements (Err stopped)
+  leads_to_fault stopped steps statements are =
+      let so = leads statements are in
+      let begins = first so.0 so.1 in
+      so.2 (Err stopped) (subst (λ (ss : List (List Token)). Means setting work ss (Err stopped)) (sym begins.1) (inr (stopped, steps, refl)))
 
   -- a statement that stops all
-  pub leads_to_stop : (stop : Stop Fault) (after : Work) → Worked (Steps setting work (tokens_at tokens span)) (Err stop) after
-      → Worked (Means setting nothing_made (all_at tokens all)) (Err stop) after
-  leads_to_stop (Refused fault) after steps = leads_to_fault (record { fault = fault; warnings = after.warnings }) steps
-  leads_to_stop NoMemory after steps = tt
+  pub leads_to_stop : (stop : Stop Fault) (end : Work) → Worked (Steps setting work (map (numbered setting.tool) statement)) (Err stop) end
+      → (statements : List (List Token)) → AreStatements tokens statements → Worked (Means setting nothing_made statements) (Err stop) end
+  leads_to_stop (Refused fault) end steps statements are = leads_to_fault (record { fault = fault; warnings = end.warnings }) steps statements are
+  leads_to_stop NoMemory end steps statements are = tt
 
-pub leads_end : (setting : Setting) (tokens : List Token) (all rest : List Span) (work : Work) → LeadsTo setting tokens all rest work → rest ≡ []
-    → Means setting nothing_made (all_at tokens all) (Ok work)
-leads_end setting tokens all rest work leads none = leads (Ok work) (subst (λ (ss : List Span). Means setting work (all_at tokens ss) (Ok work)) (sym none) refl)
+pub leads_end : (setting : Setting) (tokens left after : List Token) (work : Work) → LeadsFrom setting tokens left work
+    → ((statements : List (List Token)) → AreStatements left statements → BeginsWith None statements after)
+    → (statements : List (List Token)) → AreStatements tokens statements → Means setting nothing_made statements (Ok work)
+leads_end setting tokens left after work leads none statements are =
+    let so = leads statements are in so.2 (Ok work) (subst (λ (ss : List (List Token)). Means setting work ss (Ok work)) (sym (none so.0 so.1)) refl)
 
 -- nothing is made before the first
 module _ (held : held.Work) (nothing : work_of held ≡ nothing_made) where
-  pub leads_from : (setting : Setting) (tokens : List Token) (all : List Span) → LeadsTo setting tokens all all (work_of held)
-  leads_from setting tokens all answer means = subst (λ (w : Work). Means setting w (all_at tokens all) answer) nothing means
-
-  pub none_is_named : AreNamed (values_of held.held.entries)
-  none_is_named = subst (λ (w : Work). AreNamed w.list) (sym nothing) tt
-
-  pub none_is_twice : KeysDiffer [] (values_of held.held.entries)
-  none_is_twice = subst (λ (w : Work). KeysDiffer [] w.list) (sym nothing) tt
+  pub leads_from : (setting : Setting) (tokens left : List Token) → left ≡ tokens → LeadsFrom setting tokens left (work_of held)
+  leads_from setting tokens left same statements are =
+      (statements, subst (λ (ts : List Token). AreStatements ts statements) (sym same) are, λ answer means. subst (λ (w : Work). Means setting w statements answer) nothing means)
 
   pub none_is_warned : (files : ℕ) → AreWarnings files held.warnings
   none_is_warned files = subst (λ (w : Work). AreWarnings files w.warnings) (sym nothing) tt
 
--- The spans of statements.
+-- What holds of all tokens holds of those of a front and of the rest.
 
-rest_are : (statement behind : List Token) (statements : List (List Token))
-    → (IsStatement statement × AreStatements behind statements) ⊎ (IsRest statement × (behind ≡ []) × (statements ≡ [])) → AreStatements behind statements
-rest_are statement behind statements (inl is) = is.1
-rest_are statement behind statements (inr is) = subst (AreStatements behind) (sym is.2) is.1
+pub lexed_parts : (front left : List Token) → AreLexed (front ++ left) → AreLexed front × AreLexed left
+lexed_parts [] left all = (tt, all)
+lexed_parts (t ∷ front) left all = let parts = lexed_parts front left all.1 in ((all.0, parts.0), parts.1)
 
-not_empty : (front : List Token) (last : Token) → 0 < length (front ++ last ∷ [])
-not_empty [] last = omega arith
-not_empty (token ∷ front) last = omega arith
+pub within_parts : (files : ℕ) (front left : List Token) → AreWithin files (front ++ left) → AreWithin files front × AreWithin files left
+within_parts files [] left all = (tt, all)
+within_parts files (t ∷ front) left all = let parts = within_parts files front left all.1 in ((all.0, parts.0), parts.1)
 
-some : (ts : List Token) → ts ≢ [] → 0 < length ts
-some [] never = absurd (never refl)
-some (t ∷ ts) never = omega arith
+pub has_tokens : (front tokens left : List Token) → tokens ≡ front ++ left → length left < length tokens → 0 < length front
+has_tokens front tokens left are fewer = omega (arith, fewer, ap (λ (ts : List Token). length ts) are, length-append front left)
 
-has_tokens : (statement behind : List Token) (statements : List (List Token))
-    → (IsStatement statement × AreStatements behind statements) ⊎ (IsRest statement × (behind ≡ []) × (statements ≡ [])) → 0 < length statement
-has_tokens statement behind statements (inl is) = subst (λ (ts : List Token). 0 < length ts) (sym is.0.are) (not_empty is.0.front is.0.last)
-has_tokens statement behind statements (inr is) = some statement is.0.some
+-- all of some tokens
+pub whole_span : (tokens : List Token) (size : ℕ) → size ≡ length tokens → tokens_at tokens (record { start = 0; end = size }) ≡ tokens
+whole_span tokens size is = ap (λ n. take n tokens) same ∙ take_all (length tokens) tokens (omega arith)
+  where
+    same : size - 0 ≡ length tokens
+    same = omega (arith, is)
+
+-- The tokens of a span.
 
 module _ (tokens : List Token) where
-  pub at_all : (prefix rest : List Token) (start : ℕ) (statements : List (List Token)) → tokens ≡ prefix ++ rest → length prefix ≡ start → AreStatements rest statements
-      → (all_at tokens (spans_from start statements) ≡ statements) × AreSpans tokens (spans_from start statements)
-  at_all prefix rest start [] whole size are = (refl, tt)
-  at_all prefix rest start (statement ∷ statements) whole size are =
-      let behind = are.0 in
-      let stands : tokens ≡ prefix ++ (statement ++ behind) = whole ∙ ap (λ (ts : List Token). prefix ++ ts) are.1 in
-      let more = at_all (prefix ++ statement) behind (start + length statement) statements
-      (stands ∙ sym (append_assoc prefix statement behind)) (length-append prefix statement ∙ ap (λ n. n + length statement) size)
-      (rest_are statement behind statements are.2) in
-      let one : tokens_at tokens (record { start = start; end = start + length statement }) ≡ statement =
-      (λ i. take (width i) (drop start (stands i)))
-      ∙ ap (take (length statement)) (drop_at prefix (statement ++ behind) start size)
-      ∙ take_at statement behind (length statement) refl in (
-        (λ i. one i ∷ more.0 i),
-        (record { some = omega (arith, has_tokens statement behind statements are.2); within = within behind stands }, more.1),
-      )
-    where
-      width : start + length statement - start ≡ length statement
-      width = omega arith
-
-      within : (behind : List Token) → tokens ≡ prefix ++ (statement ++ behind) → start + length statement ≤ length tokens
-      within behind stands =
-          omega (arith, size, ap (λ (ts : List Token). length ts) stands, length-append prefix (statement ++ behind), length-append statement behind)
-
   -- the first token of a span is that of its tokens
   pub first_mark : (span : Span) (first : Token) → IsSpan tokens span → slice_get tokens span.start ≡ Some first → mark_of (tokens_at tokens span) ≡ first.mark
   first_mark span first is at = by span.start span.end tokens is.some is.within (sym (get_or_from_slice_get tokens span.start first first at))

@@ -1,5 +1,5 @@
 -- The text that DeRez writes, read by Rez.
-use Rattle.std.specs.Prelude.{◌≡◌, ◌<◌, ◌≤◌, ◌^◌, ℕ, List, [], ◌∷◌, ◌++◌, length, map, Option, Some, None, Ok}
+use Rattle.std.specs.Prelude.{◌≡◌, ◌<◌, ◌≤◌, ◌^◌, ℕ, List, [], ◌∷◌, ◌++◌, length, Option, Some, None, Ok}
 use Rattle.std.specs.FinMap as finite
 use Rattle.std.specs.List.{AllByRecursion}
 use Rattle.rz_core.specs.declared.fault.Fault.{Fault}
@@ -15,7 +15,6 @@ use Rattle.rz_show.specs.Statement.{shown_words}
 use Rattle.rz_stmt.specs.Statements.{AreStatements}
 use Rattle.rz_tools.specs.Data.{most_bytes}
 use Rattle.rz_tools.specs.Step.{Means}
-use Rattle.rz_tools.specs.ToolWords.{numbered}
 use Rattle.rz_tools.specs.declared.setting.Setting.{Setting}
 use Rattle.rz_types.specs.Table.{Declaration}
 
@@ -27,7 +26,7 @@ NoneIsLive live = AllByRecursion (λ word. live word ≡ None) shown_words
 -- nothing and are warned of nowhere
 abbrev pub MeanResources : List Token → List Resource → Type 0
 MeanResources tokens list =
-    (statements : List (List Token)) × AreStatements (map (numbered tools.Rez) tokens) statements
+    (statements : List (List Token)) × AreStatements tokens statements
     × ((setting : Setting) (types : List Declaration) (warnings : List Fault)
     → Means setting (record { types = types; list = []; warnings = warnings }) statements (Ok (record { types = types; list = list; warnings = warnings })))
 

@@ -1,8 +1,7 @@
 -- What the code holds of the work so far.
-use Rattle.rz_tools.specs.ResourceList.{values_of}
 use Rattle.rz_tools.specs.Step as step
 use Rattle.rz_tools.specs.declared.step.Work.{Work}
 use Rattle.rz_types.specs.TypeTable.{table_of}
 
 abbrev pub work_of : Work → step.Work
-work_of work = record { types = table_of work.types; list = values_of work.held.entries; warnings = work.warnings }
+work_of work = record { types = table_of work.types; list = work.resources; warnings = work.warnings }

@@ -8,7 +8,6 @@ pub mod WellFormed
 pub mod Data
 pub mod Declare
 pub mod Step
-pub mod ResourceList
 pub mod Held
 pub mod Rez
 pub mod DeRez

@@ -1,5 +1,5 @@
 -- What `rez` means: the sources as a program, its statements, their resources, and the fork. (MPW Rez.)
-use Rattle.std.specs.Prelude.{ℕ, ◌<◌, ◌^◌, pos, ◌≡◌, true, List, [], map, Ok, Err, None}
+use Rattle.std.specs.Prelude.{ℕ, ◌<◌, ◌^◌, pos, ◌≡◌, true, List, [], Ok, Err, None}
 use Rattle.std.specs.declared.result.Result.{Result}
 use Rattle.rz_core.specs.Message.{is_fault}
 use Rattle.rz_core.specs.declared.moment.Moment.{Moment}
@@ -17,7 +17,6 @@ use Rattle.rz_stmt.specs.Statements.{AreStatements}
 use Rattle.rz_words.specs.Command.{RezAsked}
 use Rattle.rz_tools.specs.Answer.{Answer, Answered, Failing, Making, written}
 use Rattle.rz_tools.specs.Step.{nothing_made, Means, Stopped, Work}
-use Rattle.rz_tools.specs.ToolWords.{numbered}
 use Rattle.rz_tools.specs.Warning.{warning_lines}
 use Rattle.rz_tools.specs.declared.setting.Setting.{Setting}
 
@@ -71,13 +70,13 @@ Unsaid answers (Err failing) = answers (Err (record { fault = failing.fault; fil
 
 -- what holds for all statements: what the words ask for, and the moment
 abbrev pub setting_of : Moment → RezAsked → Setting
-setting_of moment asked = record { redeclare = asked.redeclare; moment = moment }
+setting_of moment asked = record { tool = tools.Rez; redeclare = asked.redeclare; moment = moment }
 
 -- the fork that the sources mean, or the first fault, with the files that were opened until then and what was said before
 abbrev pub Compiles : Setting → RezAsked → Files → Result Making Failing → Type 0
 Compiles setting asked files =
-    Then (Unsaid (ProgramGoes files tools.Rez asked.files asked.paths asked.defs))
-    (λ program. Said program.files (HasFork setting (map (numbered tools.Rez) program.tokens)))
+    Then (Unsaid (ProgramGoes files setting.tool asked.files asked.paths asked.defs))
+    (λ program. Said program.files (HasFork setting program.tokens))
 
 -- the fork is written, or the fault ends the run
 abbrev pub AnswersRez : RezAsked → Files → Moment → Answer → Type 0

@@ -1,8 +1,8 @@
 -- What the statements of a program do, one after the other. (MPW Rez.)
-use Rattle.std.specs.Prelude.{◌≡◌, ◌++◌, ◌&&◌, ◌<◌, ◌≤◌, ◌-◌, ◌==◌, length, not, Bool, false, if◌then◌else◌, List, [], ◌∷◌, bit_and, drop, map, take, Option, Some, None, Ok, Err}
-use Rattle.std.specs.List.{AllByRecursion}
+use Rattle.std.specs.Prelude.{◌≡◌, ◌&&◌, ◌<◌, ◌≤◌, ◌-◌, ◌==◌, length, not, Bool, false, if◌then◌else◌, List, [], ◌∷◌, ◌++◌, bit_and, drop, map, take, Option, Some, None, Ok, Err}
 use Rattle.std.specs.declared.result.Result.{Result}
-use Rattle.rz_core.specs.Resources.{put, same_key}
+use Rattle.rz_core.specs.Resources.{put}
+use Rattle.rz_set.specs.ResSet.{found}
 use Rattle.rz_core.specs.Stop.{◌>>=◌}
 use Rattle.rz_core.specs.declared.fault.Fault.{Fault}
 use Rattle.rz_core.specs.declared.fault.Kept.TheVariants.{Key}
@@ -19,6 +19,7 @@ use Rattle.rz_stmt.specs.Raw.{Raw}
 use Rattle.rz_brackets.specs.declared.span.Span.{Span}
 use Rattle.rz_tools.specs.Data.{resource_of}
 use Rattle.rz_tools.specs.Declare.{redeclared, scope_of, template_of}
+use Rattle.rz_tools.specs.ToolWords.{numbered}
 use Rattle.rz_tools.specs.declared.setting.Setting.{Setting}
 use Rattle.rz_types.specs.Field.{PlainField}
 use Rattle.rz_types.specs.Table.{declared_behind, has_place, Declaration}
@@ -28,11 +29,6 @@ use Rattle.rz_types.specs.declared.table.Scope.{Scope}
 abbrev pub is_protected : Resource → Bool
 is_protected r = not (bit_and r.attr 8 == 0)
 
--- the resource of the list that has the type and the id of another
-abbrev pub namesake : List Resource → Resource → Option Resource
-namesake [] r = None
-namesake (x ∷ xs) r = if same_key r x then Some x else namesake xs r
-
 abbrev pub protects : Option Resource → Bool
 protects None = false
 protects (Some held) = is_protected held
@@ -41,9 +37,10 @@ protects (Some held) = is_protected held
 abbrev pub protected_fault : Mark → Resource → Fault
 protected_fault mark r = record { number = 219; mark = Some mark; kept = Key r.kind r.id }
 
--- the list with a resource put into it, in the place of its namesake or at the end; but a protected one isn't replaced
+-- the list with a resource put into it, in the place of the one with its type and id or at the end; but a protected one
+-- isn't replaced
 abbrev pub put_unless_protected : Mark → List Resource → Resource → Result (List Resource) Fault
-put_unless_protected mark list r = if protects (namesake list r) then Err (protected_fault mark r) else Ok (put list r)
+put_unless_protected mark list r = if protects (found r.kind r.id list) then Err (protected_fault mark r) else Ok (put list r)
 
 -- the list behind a `data` statement on this line
 abbrev pub list_behind : Setting → Mark → List Resource → Raw → Result (List Resource) Fault
@@ -102,17 +99,15 @@ abbrev pub Steps : Setting → Work → List Token → Result Work Stopped → T
 Steps setting work tokens =
     WithWarnings work.warnings (Then (Parses tokens) (λ statement answer. answer ≡ work_behind setting (mark_of tokens) work statement))
 
--- what is made behind all statements, or the first fault
+-- what is made after all statements, or the first fault; in each the words `rez` and `derez` are numbers
 abbrev pub Means : Setting → Work → List (List Token) → Result Work Stopped → Type 0
 Means setting work [] answer = answer ≡ Ok work
-Means setting work (tokens ∷ statements) answer = Then (Steps setting work tokens) (λ next. Means setting next statements) answer
+Means setting work (tokens ∷ statements) answer =
+    Then (Steps setting work (map (numbered setting.tool) tokens)) (λ next. Means setting next statements) answer
 
 -- the tokens of a span
 abbrev pub tokens_at : List Token → Span → List Token
 tokens_at tokens span = take (span.end - span.start) (drop span.start tokens)
-
-abbrev pub all_at : List Token → List Span → List (List Token)
-all_at tokens spans = map (tokens_at tokens) spans
 
 -- What the code does at one statement.
 
@@ -120,9 +115,6 @@ all_at tokens spans = map (tokens_at tokens) spans
 pub record IsSpan (tokens : List Token) (span : Span) : Type 0 where
   pub some : span.start < span.end
   pub within : span.end ≤ length tokens
-
-abbrev pub AreSpans : List Token → List Span → Type 0
-AreSpans tokens spans = AllByRecursion (IsSpan tokens) spans
 
 -- the call left this, or gave this fault; want of memory says nothing
 abbrev pub Stepped : {X : Type 0} → (Result X Fault → Type 0) → Result (Unit {0}) (Stop Fault) → X → Type 0

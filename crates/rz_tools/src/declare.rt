@@ -30,7 +30,7 @@ pub fn declare_type(
 ) -> Result<(), Stop<Fault>>
     requires shaped { IsShapedMade (made_of declare.made) }
     ensures declared { Stepped (λ answer. answer ≡ declared setting mark (work_of work.old) (declare_of declare)) result (work_of work.new) }
-    ensures held { work.new.held ≡ work.old.held }
+    ensures resources { work.new.resources ≡ work.old.resources }
     ensures kept { OnFault result (λ _. work.new.warnings ≡ work.old.warnings) }
     ensures warned { (files : ℕ) → mark.file < files → AreWarnings files work.old.warnings → AreWarnings files work.new.warnings }
     ensures nameable { (files : ℕ) → mark.file < files → OnFault result (IsNameable files) }

@@ -18,7 +18,6 @@ ghost use Rattle.rz_folder.specs.OnlyReads.{OnlyReads};
 ghost use Rattle.rz_tools.specs.Plan.{answer_of, IsNoUsage};
 ghost use Rattle.rz_tools.specs.WellFormed.{AreWritable, IsWellFormed};
 ghost use Rattle.rz_tools.specs.declared.made.Unanswered.TheVariants.{ReadFault as unread};
-ghost use Rattle.rz_tools.specs.ResourceList.{values_of};
 ghost use Rattle.rz_tools.specs.Step.{nothing_made, Means};
 ghost use Rattle.rz_tools.specs.Rez.{fork_of_work, list_fork, past_limit, setting_of, AnswersRez, Compiles, IsLimit, Said};
 ghost use Rattle.rz_tools.specs.declared.made.Stopped.TheVariants.{ReadFault};
@@ -26,14 +25,13 @@ ghost use Rattle.rz_tools.specs.declared.made.Stopped.TheVariants.{ReadFault};
 use crate::made::{Made, Stopped, Unanswered};
 use crate::plan::Plan;
 use crate::setting::Setting;
-use crate::step::{Faults, Work, compile_statements, release};
-use crate::tool_words::number_tool_words;
+use crate::step::{Faults, Work, compile_statements};
 use rz_core::{Bytes, Fault, FileNames, Kept, Moment, NoMemory, Resources, Stop, write_fault};
 use rz_folder::Folder;
 use rz_fork::{LimitFault, write_fork};
-use rz_lex::Tokens;
 use rz_pre::{PreFault, Program, Tool, preprocess};
 use rz_stmt::all_tokens_are_statements;
+use rz_tokens::TokenStore;
 use rz_words::RezWords;
 use std::alloc::Global;
 
@@ -85,8 +83,8 @@ fn compile<F: Folder>(
     ) {
         Ok(program) => {
             let Program { files, tokens, .. } = program;
-            let tokens = number_tool_words(Tool::Rez, tokens);
             let setting = Setting {
+                tool: Tool::Rez,
                 redeclare: words.redeclare,
                 moment,
             };
@@ -103,7 +101,7 @@ fn compile<F: Folder>(
 /// The fork that the tokens of a program mean, or the first rule that they break.
 fn compile_tokens(
     alloc: Global,
-    tokens: &Tokens,
+    tokens: &TokenStore,
     files: FileNames,
     setting: Setting,
 ) -> Result<Made, Stopped>
@@ -126,17 +124,19 @@ fn compile_tokens(
 
 /// The fork of what the statements have made.
 fn write_work(alloc: Global, work: Work, files: FileNames) -> Result<Made, Stopped>
-    requires keys { KeysDiffer [] (values_of work.held.entries) }
-    requires named { AreNamed (values_of work.held.entries) }
-    requires nameable { AreWarnings (length files) work.warnings }
+    requires { AreWarnings (length files) work.warnings }
     ensures fork { MadeSo result (Said files (λ answer. answer ≡ fork_of_work (work_of work))) }
     ensures nameable { IsNamed result }
     ensures warned { SaysWarnings result }
     ensures short { IfOk result (λ made. length made.bytes < 2 ^ 32) }
     ensures quiet { result ≡ Err ReadFault → ⊥ }
 {
-    let Work { held, warnings, .. } = work;
-    let list = release(alloc, held)?;
+    let Work {
+        resources,
+        warnings,
+        ..
+    } = work;
+    let list = resources.into_list(alloc)?;
     match write_list(alloc, &list) {
         Ok(bytes) => {
             let said = warning_lines(alloc, &warnings, &files)?;

@@ -1,8 +1,11 @@
 use rz_core::Moment;
+use rz_pre::Tool;
 
 /// What holds for all statements of a program.
 #[derive(Clone, Copy, Debug)]
 pub struct Setting {
+    /// The tool that reads the statements.
+    pub tool: Tool,
     /// Types may be declared again without a warning.
     pub redeclare: bool,
     /// The moment of the run.

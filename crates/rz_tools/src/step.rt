@@ -1,36 +1,32 @@
-ghost use Rattle.std.specs.Prelude.{◌≡◌, ◌<◌, ◌≤◌, ℕ, Some, List, [], length, IfOk, OnOk};
+ghost use Rattle.std.specs.Prelude.{◌≡◌, ◌<◌, ℕ, List, length, map};
 ghost use Rattle.rz_lex.specs.Within.{AreWithin};
 ghost use Rattle.rz_core.specs.Message.{IsNameable};
-ghost use Rattle.rz_core.specs.Resources.{KeysDiffer, put};
 ghost use Rattle.rz_core.specs.Stop.{OnFault};
-ghost use Rattle.rz_fork.specs.Image.{AreNamed};
 ghost use Rattle.rz_lex.specs.Lexeme.{AreLexed};
 ghost use Rattle.rz_lex.specs.declared.token.Token.{Token};
 ghost use Rattle.rz_stmt.specs.Raw.{raw_of};
 ghost use Rattle.rz_stmt.specs.Statements.{AreStatements};
 ghost use Rattle.rz_tools.specs.Held.{work_of};
 ghost use Rattle.rz_tools.specs.Warning.{AreWarnings};
-ghost use Rattle.rz_tools.specs.ResourceList.{holds_protected, key_of, values_of, IsKeyed};
-ghost use Rattle.rz_tools.specs.Step.{all_at, is_protected, list_behind, nothing_made, protected_fault, put_unless_protected, tokens_at, AreSpans, IsSpan, Means, Stepped, Steps, Worked};
+ghost use Rattle.rz_set.specs.ResSet.{found};
+ghost use Rattle.rz_tools.specs.ToolWords.{numbered};
+ghost use Rattle.rz_tools.specs.Step.{is_protected, list_behind, nothing_made, protected_fault, protects, put_unless_protected, tokens_at, IsSpan, Means, Stepped, Steps, Worked};
 
 use crate::data::resource_of;
 use crate::declare::declare_type;
 use crate::setting::Setting;
-use indexmap::IndexMap;
-use rz_core::{Fault, Kept, Listing, Mark, NoMemory, Resource, Resources, Stop};
+use crate::tool_words::number_tool_words;
+use rz_core::{Fault, Kept, Listing, Mark, NoMemory, Resource, Stop};
 use rz_lex::Tokens;
-use rz_stmt::{RawStmt, Span, Spans, Stmt, one_cutting, parse, statements};
+use rz_set::ResSet;
+use rz_statements::next_statement;
+use rz_stmt::{RawStmt, Span, Stmt, parse};
+use rz_tokens::TokenStore;
 use rz_types::TypeTable;
 use std::alloc::Global;
 
 /// The attribute bit of a protected resource.
 const PROTECTED: u8 = 0x08;
-
-/// What tells a resource of a list from the others: its type and the 16 bits of its id.
-pub type Key = (u32, u16);
-
-/// The resources while statements are read, by their keys and in order.
-pub type Held = IndexMap<Key, Resource>;
 
 /// A list of faults.
 pub type Faults = Listing<Fault>;
@@ -41,7 +37,7 @@ pub struct Work {
     /// The declarations of types.
     pub types: TypeTable,
     /// The resources.
-    pub held: Held,
+    pub resources: ResSet,
     /// What is to be warned of.
     pub warnings: Faults,
 }
@@ -49,12 +45,11 @@ pub struct Work {
 impl Work {
     /// Nothing.
     pub fn new(alloc: Global) -> Work
-        ensures work { work_of result ≡ nothing_made }
-        ensures keyed { IsKeyed result.held.entries }
+        ensures { work_of result ≡ nothing_made }
     {
         Work {
             types: TypeTable::new(alloc),
-            held: IndexMap::new(alloc),
+            resources: ResSet::new(alloc),
             warnings: Faults::new(alloc),
         }
     }
@@ -63,49 +58,25 @@ impl Work {
 /// Does what the statements of a program say, one after the other, up to the first fault. A resource with the
 /// type and id of an earlier one takes its place, unless that one is protected (219), and every other one goes
 /// to the end. A type that is declared again goes to the end of the table, and is warned of unless the
-/// setting allows it. Work and memory are in proportion to the tokens of `data` statements; each declaration of a type goes
-/// over the table of types once, and one that copies takes the memory of what it copies.
+/// setting allows it. One statement is held at a time. Work and memory are in proportion to the tokens of `data`
+/// statements; each declaration of a type goes over the table of types once, and one that copies takes the memory of
+/// what it copies.
 pub fn compile_statements(
     alloc: Global,
-    tokens: &Tokens,
+    tokens: &TokenStore,
     setting: Setting,
     work: &mut Work,
 ) -> Result<(), Stop<Fault>>
     requires lexed { AreLexed tokens.now }
     requires nothing { work_of work.now ≡ nothing_made }
-    requires keyed { IsKeyed work.now.held.entries }
     ensures work { (statements : List (List Token)) → AreStatements tokens.now statements
         → Worked (Means setting nothing_made statements) result (work_of work.new) }
-    ensures keys { OnOk result (KeysDiffer [] (values_of work.new.held.entries)) }
-    ensures named { OnOk result (AreNamed (values_of work.new.held.entries)) }
     ensures nameable { (files : ℕ) → AreWithin files tokens.now → OnFault result (IsNameable files) }
     ensures warned { (files : ℕ) → AreWithin files tokens.now → AreWarnings files work.new.warnings }
 {
-    one_cutting();
-    let spans = statements(alloc, tokens)?;
-    compile_spans(alloc, tokens, &spans, setting, work)
-}
-
-/// The same of the statements that stand there.
-fn compile_spans(
-    alloc: Global,
-    tokens: &Tokens,
-    spans: &Spans,
-    setting: Setting,
-    work: &mut Work,
-) -> Result<(), Stop<Fault>>
-    requires spans { AreSpans tokens.now spans.now }
-    requires lexed { AreLexed tokens.now }
-    requires nothing { work_of work.now ≡ nothing_made }
-    requires keyed { IsKeyed work.now.held.entries }
-    ensures work { Worked (Means setting nothing_made (all_at tokens.now spans.now)) result (work_of work.new) }
-    ensures keys { OnOk result (KeysDiffer [] (values_of work.new.held.entries)) }
-    ensures named { OnOk result (AreNamed (values_of work.new.held.entries)) }
-    ensures nameable { (files : ℕ) → AreWithin files tokens.now → OnFault result (IsNameable files) }
-    ensures warned { (files : ℕ) → AreWithin files tokens.now → AreWarnings files work.new.warnings }
-{
-    for span in spans.as_slice() {
-        match step(alloc, tokens, *span, setting, work) {
+    let mut reader = tokens.reader();
+    while let Some(statement) = next_statement(alloc, &mut reader)? {
+        match step(alloc, statement, setting, work) {
             Ok(()) => {}
             Err(stop) => return Err(stop),
         }
@@ -113,8 +84,29 @@ fn compile_spans(
     Ok(())
 }
 
-/// What one statement does.
+/// What one statement does, in which the words `rez` and `derez` become numbers.
 fn step(
+    alloc: Global,
+    statement: Tokens,
+    setting: Setting,
+    work: &mut Work,
+) -> Result<(), Stop<Fault>>
+    requires some { 0 < length statement }
+    requires lexed { AreLexed statement }
+    ensures stepped { Worked (Steps setting (work_of work.old) (map (numbered setting.tool) statement)) result (work_of work.new) }
+    ensures nameable { (files : ℕ) → AreWithin files statement → OnFault result (IsNameable files) }
+    ensures warned { (files : ℕ) → AreWithin files statement → AreWarnings files work.old.warnings → AreWarnings files work.new.warnings }
+{
+    let tokens = number_tool_words(setting.tool, statement);
+    let span = Span {
+        start: 0,
+        end: tokens.len(),
+    };
+    step_at(alloc, &tokens, span, setting, work)
+}
+
+/// What the statement does that stands there.
+fn step_at(
     alloc: Global,
     tokens: &Tokens,
     span: Span,
@@ -123,18 +115,14 @@ fn step(
 ) -> Result<(), Stop<Fault>>
     requires span { IsSpan tokens.now span }
     requires lexed { AreLexed tokens.now }
-    requires keyed { IsKeyed work.now.held.entries }
     ensures stepped { Worked (Steps setting (work_of work.old) (tokens_at tokens.now span)) result (work_of work.new) }
-    ensures keyed { OnOk result (IsKeyed work.new.held.entries) }
-    ensures named { AreNamed (values_of work.old.held.entries) → OnOk result (AreNamed (values_of work.new.held.entries)) }
-    ensures keys { KeysDiffer [] (values_of work.old.held.entries) → OnOk result (KeysDiffer [] (values_of work.new.held.entries)) }
     ensures nameable { (files : ℕ) → AreWithin files tokens.now → OnFault result (IsNameable files) }
     ensures warned { (files : ℕ) → AreWithin files tokens.now → AreWarnings files work.old.warnings → AreWarnings files work.new.warnings }
 {
     let mark = tokens.at(span.start).mark;
     match parse(alloc, tokens, span) {
         Ok(Stmt::Empty) => Ok(()),
-        Ok(Stmt::Raw(raw)) => put_raw(alloc, &raw, mark, setting, &mut work.held),
+        Ok(Stmt::Raw(raw)) => put_raw(alloc, &raw, mark, setting, &mut work.resources),
         Ok(Stmt::Declare(declare)) => declare_type(alloc, declare, mark, setting, work),
         Err(stop) => Err(stop),
     }
@@ -146,53 +134,38 @@ fn put_raw(
     raw: &RawStmt,
     mark: Mark,
     setting: Setting,
-    held: &mut Held,
+    resources: &mut ResSet,
 ) -> Result<(), Stop<Fault>>
-    requires keyed { IsKeyed held.now.entries }
-    ensures put { Stepped (λ answer. answer ≡ list_behind setting mark (values_of held.old.entries) (raw_of raw.now)) result (values_of held.new.entries) }
-    ensures keyed { OnOk result (IsKeyed held.new.entries) }
-    ensures named { AreNamed (values_of held.old.entries) → OnOk result (AreNamed (values_of held.new.entries)) }
-    ensures keys { KeysDiffer [] (values_of held.old.entries) → OnOk result (KeysDiffer [] (values_of held.new.entries)) }
+    ensures put { Stepped (λ answer. answer ≡ list_behind setting mark resources.old (raw_of raw.now)) result resources.new }
     ensures nameable { (files : ℕ) → mark.file < files → OnFault result (IsNameable files) }
 {
     match resource_of(alloc, raw, mark, setting) {
-        Ok(resource) => put(held, resource, mark),
+        Ok(resource) => put(resources, resource, mark),
         Err(stop) => Err(stop),
     }
 }
 
-/// Puts a resource into the list, unless its namesake there is protected.
-fn put(held: &mut Held, resource: Resource, mark: Mark) -> Result<(), Stop<Fault>>
-    requires keyed { IsKeyed held.now.entries }
+/// Puts a resource into the list, unless a protected one there has its type and id.
+fn put(resources: &mut ResSet, resource: Resource, mark: Mark) -> Result<(), Stop<Fault>>
     requires named { length resource.name < 256 }
-    ensures put { Stepped (λ answer. answer ≡ put_unless_protected mark (values_of held.old.entries) resource) result (values_of held.new.entries) }
-    ensures keyed { OnOk result (IsKeyed held.new.entries) }
-    ensures named { AreNamed (values_of held.old.entries) → OnOk result (AreNamed (values_of held.new.entries)) }
-    ensures keys { KeysDiffer [] (values_of held.old.entries) → OnOk result (KeysDiffer [] (values_of held.new.entries)) }
+    ensures put { Stepped (λ answer. answer ≡ put_unless_protected mark resources.old resource) result resources.new }
     ensures nameable { (files : ℕ) → mark.file < files → OnFault result (IsNameable files) }
 {
-    let key = key_of(&resource);
-    if holds_protected(held, &key) {
+    if holds_protected(resources, &resource) {
         return Err(Stop::Refused(protected_fault(&resource, mark)));
     }
-    match held.insert(key, resource) {
-        Ok(_) => Ok(()),
-        Err(_) => Err(Stop::NoMemory),
+    match resources.put(resource) {
+        Ok(()) => Ok(()),
+        Err(NoMemory) => Err(Stop::NoMemory),
     }
 }
 
-fn key_of(resource: &Resource) -> Key
-    ensures { result ≡ key_of resource.now }
+/// Whether a protected resource of the list has the type and id of another.
+fn holds_protected(resources: &ResSet, resource: &Resource) -> bool
+    ensures { result ≡ protects (found resource.now.kind resource.now.id resources.now) }
 {
-    (resource.kind.code, resource.id.cast_unsigned())
-}
-
-/// Whether the resource under a key is protected.
-fn holds_protected(held: &Held, key: &Key) -> bool
-    ensures { result ≡ holds_protected held.now.entries key.now }
-{
-    match held.get(key) {
-        Some(resource) => is_protected(resource),
+    match resources.find(resource.kind, resource.id) {
+        Some(held) => is_protected(held),
         None => false,
     }
 }
@@ -214,15 +187,4 @@ fn protected_fault(resource: &Resource, mark: Mark) -> Fault
         mark: Some(mark),
         kept: Kept::Key(resource.kind, i32::from(resource.id)),
     }
-}
-
-/// The resources of a map, in order.
-pub fn release(alloc: Global, held: Held) -> Result<Resources, NoMemory>
-    ensures { IfOk result (λ list. list ≡ values_of held.entries) }
-{
-    let mut list = Resources::new(alloc);
-    for resource in held.into_values() {
-        list.push(resource)?;
-    }
-    Ok(list)
 }

@@ -5,8 +5,8 @@ use Rattle.rz_tools.specs.Step.{nothing_made, Means}
 use Rattle.rz_tools.proofs.Forks.{refused_so}
 use Rattle.rz_tools.proofs.rez.compile_tokens.Goals as goal
 
-pub write_work-requires-clause-nameable : goal.write_work-requires-clause-nameable
-write_work-requires-clause-nameable c = c.compile_statements.ensures.warned (length c.args.files) c.requires.within
+pub write_work-requires : goal.write_work-requires
+write_work-requires c = c.compile_statements.ensures.warned (length c.args.files) c.requires.within
 
 pub refuse-requires-clause-fault : goal.refuse-requires-clause-fault
 refuse-requires-clause-fault c = rw c.in-Err-Refused.field-0-is at (c.in-Err-Refused.ensures.nameable (length c.args.files) c.requires.within)

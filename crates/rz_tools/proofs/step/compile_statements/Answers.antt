@@ -1,19 +1,41 @@
-use Rattle.std.proofs.Common.{[], refl, sym, ap, subst, ◌∙◌, List}
+use Rattle.std.proofs.Common.{List, subst}
+use Rattle.std.specs.declared.option.Option.{Option}
+use Rattle.rz_lex.specs.Lexeme.{AreLexed}
+use Rattle.rz_lex.specs.Within.{AreWithin}
 use Rattle.rz_lex.specs.declared.token.Token.{Token}
+use Rattle.rz_statements.specs.Next.{BeginsWith}
 use Rattle.rz_tools.specs.Held.{work_of}
-use Rattle.rz_tools.specs.Step.{all_at, nothing_made, AreSpans, Means, Worked}
-use Rattle.rz_tools.proofs.Stepping.{at_all}
+use Rattle.rz_tools.proofs.Stepping.{leads_on, lexed_parts, within_parts}
 use Rattle.rz_tools.proofs.step.compile_statements.Goals as goal
 
-pub compile_spans-requires-clause-spans : goal.compile_spans-requires-clause-spans
-compile_spans-requires-clause-spans c =
-    let has = c.in_ok-spans.ensures.spans in
-    subst (AreSpans c.args.tokens.now) (sym has.2) (at_all c.args.tokens.now [] c.args.tokens.now 0 has.0 refl refl has.1).1
+pub step-requires-clause-lexed : goal.step-requires-clause-lexed
+step-requires-clause-lexed c =
+    let front = rw c.in-Some.is at c.in_ok-statement.ensures.front in
+    (lexed_parts c.in-Some.statement c.next_statement.new.reader (subst AreLexed front.0 c.loop-statement.invariant.lexed)).0
 
-pub returns-clause-work : goal.returns-clause-work
-returns-clause-work c statements are =
-    let has = c.in_ok-spans.ensures.spans in
-    let same = ap (all_at c.args.tokens.now) has.2 ∙ (at_all c.args.tokens.now [] c.args.tokens.now 0 has.0 refl refl has.1).0
-    ∙ c.one_cutting.ensures c.args.tokens.now has.0 statements has.1 are in
-    subst (λ (ss : List (List Token)). Worked (Means c.args.setting nothing_made ss) c.compile_spans.result (work_of c.compile_spans.new.work)) same
-    c.compile_spans.ensures.work
+pub loop-statement-preserved : goal.loop-statement-preserved
+loop-statement-preserved c =
+    let front = rw c.in-Some.is at c.in_ok-statement.ensures.front in
+    record {
+      leads = leads_on c.args.setting c.args.tokens.now c.loop-statement.reader c.next_statement.new.reader c.in-Some.statement (work_of c.loop-statement.work) c.loop-statement.invariant.leads
+          (λ statements are. subst (λ (o : Option (List Token)). BeginsWith o statements c.next_statement.new.reader) c.in-Some.is (c.in_ok-statement.ensures.first statements are))
+          (work_of c.step.new.work) c.in-Ok.ensures.stepped;
+      lexed = (lexed_parts c.in-Some.statement c.next_statement.new.reader (subst AreLexed front.0 c.loop-statement.invariant.lexed)).1;
+      within = λ files within. (within_parts files c.in-Some.statement c.next_statement.new.reader (subst (AreWithin files) front.0 (c.loop-statement.invariant.within files within))).1;
+      warned = λ files within.
+          c.in-Ok.ensures.warned files (within_parts files c.in-Some.statement c.next_statement.new.reader (subst (AreWithin files) front.0 (c.loop-statement.invariant.within files within))).0
+          (c.loop-statement.invariant.warned files within);
+    }
+
+pub returns-in-Err-clause-nameable : goal.returns-in-Err-clause-nameable
+returns-in-Err-clause-nameable c files within =
+    let front = rw c.in-Some.is at c.in_ok-statement.ensures.front in
+    c.in-Err.ensures.nameable files
+    (within_parts files c.in-Some.statement c.next_statement.new.reader (subst (AreWithin files) front.0 (c.loop-statement.invariant.within files within))).0
+
+pub returns-in-Err-clause-warned : goal.returns-in-Err-clause-warned
+returns-in-Err-clause-warned c files within =
+    let front = rw c.in-Some.is at c.in_ok-statement.ensures.front in
+    c.in-Err.ensures.warned files
+    (within_parts files c.in-Some.statement c.next_statement.new.reader (subst (AreWithin files) front.0 (c.loop-statement.invariant.within files within))).0
+    (c.loop-statement.invariant.warned files within)

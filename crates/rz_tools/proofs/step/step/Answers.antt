@@ -1,34 +1,26 @@
-use Rattle.rz_stmt.specs.Constants.{declare_of}
-use Rattle.rz_stmt.specs.Raw.{raw_of}
+use Rattle.std.proofs.Common.{List, map, subst, ◌∙◌}
+use Rattle.rz_lex.specs.declared.token.Token.{Token}
 use Rattle.rz_tools.specs.Held.{work_of}
-use Rattle.rz_tools.specs.ResourceList.{values_of}
-use Rattle.rz_tools.specs.Step.{tokens_at}
-use Rattle.rz_tools.proofs.Stepping.{declare_done, first_mark, raw_done, within_at}
+use Rattle.rz_tools.specs.Step.{Steps, Worked}
+use Rattle.rz_tools.proofs.Forks.{still_lexed, still_within}
+use Rattle.rz_tools.proofs.Stepping.{whole_span}
 use Rattle.rz_tools.proofs.step.step.Goals as goal
 
-pub returns-in-Ok-Raw-clause-stepped : goal.returns-in-Ok-Raw-clause-stepped
-returns-in-Ok-Raw-clause-stepped c =
-    raw_done c.args.setting (work_of c.args.work.now) (tokens_at c.args.tokens.now c.args.span) (raw_of c.in-Ok-Raw.raw) c.at.result.now.mark
-    c.put_raw.result (values_of c.put_raw.new.held.entries) (rw c.in-Ok-Raw.field-0-is at c.in-Ok-Raw.ensures.parsed)
-    (first_mark c.args.tokens.now c.args.span c.at.result.now c.requires.span c.at.ensures) c.put_raw.ensures.put
+pub step_at-requires-clause-lexed : goal.step_at-requires-clause-lexed
+step_at-requires-clause-lexed c =
+    still_lexed c.args.setting.tool c.args.statement c.number_tool_words-tokens.result c.number_tool_words-tokens.ensures c.requires.lexed
 
-pub returns-in-Ok-Raw-clause-nameable : goal.returns-in-Ok-Raw-clause-nameable
-returns-in-Ok-Raw-clause-nameable c files within =
-    c.put_raw.ensures.nameable files (within_at files c.args.tokens.now c.args.span.start c.at.result.now within c.at.ensures)
+pub returns-clause-stepped : goal.returns-clause-stepped
+returns-clause-stepped c =
+    subst (λ (ts : List Token). Worked (Steps c.args.setting (work_of c.args.work.now) ts) c.step_at.result (work_of c.step_at.new.work))
+    (whole_span c.number_tool_words-tokens.result c.len.result c.len.ensures ∙ c.number_tool_words-tokens.ensures) c.step_at.ensures.stepped
 
-pub declare_type-requires : goal.declare_type-requires
-declare_type-requires c = record { shaped = rw c.in-Ok-Declare.field-0-is at (c.in-Ok-Declare.ensures.shaped c.requires.lexed) }
+pub returns-clause-nameable : goal.returns-clause-nameable
+returns-clause-nameable c files within =
+    c.step_at.ensures.nameable files
+    (still_within c.args.setting.tool files c.args.statement c.number_tool_words-tokens.result c.number_tool_words-tokens.ensures within)
 
-pub returns-in-Ok-Declare-clause-stepped : goal.returns-in-Ok-Declare-clause-stepped
-returns-in-Ok-Declare-clause-stepped c =
-    declare_done c.args.setting (work_of c.args.work.now) (tokens_at c.args.tokens.now c.args.span) (declare_of c.in-Ok-Declare.declare) c.at.result.now.mark
-    c.declare_type.result (work_of c.declare_type.new.work) (rw c.in-Ok-Declare.field-0-is at c.in-Ok-Declare.ensures.parsed)
-    (first_mark c.args.tokens.now c.args.span c.at.result.now c.requires.span c.at.ensures) c.declare_type.ensures.declared c.declare_type.ensures.kept
-
-pub returns-in-Ok-Declare-clause-nameable : goal.returns-in-Ok-Declare-clause-nameable
-returns-in-Ok-Declare-clause-nameable c files within =
-    c.declare_type.ensures.nameable files (within_at files c.args.tokens.now c.args.span.start c.at.result.now within c.at.ensures)
-
-pub returns-in-Ok-Declare-clause-warned : goal.returns-in-Ok-Declare-clause-warned
-returns-in-Ok-Declare-clause-warned c files within are =
-    c.declare_type.ensures.warned files (within_at files c.args.tokens.now c.args.span.start c.at.result.now within c.at.ensures) are
+pub returns-clause-warned : goal.returns-clause-warned
+returns-clause-warned c files within are =
+    c.step_at.ensures.warned files
+    (still_within c.args.setting.tool files c.args.statement c.number_tool_words-tokens.result c.number_tool_words-tokens.ensures within) are
