@@ -13,7 +13,7 @@ pub struct Case {
     /// The files that are there before the run.
     pub files: Vec<Stored>,
     pub room: Room,
-    pub failures: Vec<Failure>,
+    pub failures: Failures,
     /// The exit status that is wanted. Each case states it.
     pub status: Option<u8>,
     /// The files that are wanted after the run, where they aren't those before it.
@@ -38,15 +38,22 @@ pub struct Left {
     pub bytes: Option<Vec<u8>>,
 }
 
-/// A call that is to fail.
-#[derive(Clone, Copy, Debug, PartialEq, Eq)]
-pub enum Failure {
-    /// The call of the folder with this number; reads and writes are counted together, from 1.
-    Folder { call: u64 },
-    /// The piece of standard output with this number, of which so many bytes are taken.
-    Out { call: u64, taken: u32 },
-    /// The same of standard error.
-    Err { call: u64, taken: u32 },
+/// The calls that are to fail, one each at most.
+#[derive(Clone, Copy, Default)]
+pub struct Failures {
+    /// The number of a call of the folder; reads and writes are counted together, from 1.
+    pub folder: Option<u64>,
+    pub out: Option<Piece>,
+    pub err: Option<Piece>,
+}
+
+/// A piece that a stream doesn't take whole.
+#[derive(Clone, Copy)]
+pub struct Piece {
+    /// The number of the piece, from 1.
+    pub call: u64,
+    /// How many of its bytes are taken.
+    pub taken: u32,
 }
 
 /// The room of the folder and of the two streams.
@@ -80,7 +87,7 @@ impl Case {
             moment: 0,
             files: Vec::new(alloc),
             room: Room::AMPLE,
-            failures: Vec::new(alloc),
+            failures: Failures::default(),
             status: None,
             left: Vec::new(alloc),
             out: None,

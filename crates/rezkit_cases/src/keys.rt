@@ -1,4 +1,4 @@
-use crate::case::{Case, Failure, Left, Stored};
+use crate::case::{Case, Left, Piece, Stored};
 use crate::content::{append_bytes, content_of};
 use crate::entry::Entry;
 use crate::trouble::Trouble;
@@ -41,11 +41,7 @@ fn add_plain(alloc: Global, case: &mut Case, entry: &Entry<'_>) -> Result<(), Tr
             let status = given(entry.argument.parse::<u8>().ok(), entry)?;
             set_once(&mut case.status, status, entry)
         }
-        "gone" => {
-            let name = String::from_str(alloc, entry.argument)?;
-            case.left.push(Left { name, bytes: None })?;
-            Ok(())
-        }
+        "gone" => push_left(alloc, case, entry.argument, None, entry),
         _ => Err(entry.flaw("there is no such key")),
     }
 }
@@ -74,6 +70,11 @@ fn add_spelled_word(alloc: Global, case: &mut Case, entry: &Entry<'_>) -> Result
 /// A file before the run.
 fn add_file(alloc: Global, case: &mut Case, entry: &Entry<'_>) -> Result<(), Trouble> {
     let (kind, name) = kind_and_name(entry);
+    for stored in &case.files {
+        if stored.name.as_str() == name {
+            return Err(entry.flaw("the case states this twice"));
+        }
+    }
     case.files.push(Stored {
         name: String::from_str(alloc, name)?,
         bytes: content_of(alloc, kind, entry)?,
@@ -84,10 +85,25 @@ fn add_file(alloc: Global, case: &mut Case, entry: &Entry<'_>) -> Result<(), Tro
 /// A file after the run.
 fn add_left(alloc: Global, case: &mut Case, entry: &Entry<'_>) -> Result<(), Trouble> {
     let (kind, name) = kind_and_name(entry);
-    case.left.push(Left {
-        name: String::from_str(alloc, name)?,
-        bytes: Some(content_of(alloc, kind, entry)?),
-    })?;
+    let bytes = content_of(alloc, kind, entry)?;
+    push_left(alloc, case, name, Some(bytes), entry)
+}
+
+/// What a name holds after the run, of which the case must not have spoken yet.
+fn push_left(
+    alloc: Global,
+    case: &mut Case,
+    name: &str,
+    bytes: Option<Vec<u8>>,
+    entry: &Entry<'_>,
+) -> Result<(), Trouble> {
+    for left in &case.left {
+        if left.name.as_str() == name {
+            return Err(entry.flaw("the case states this twice"));
+        }
+    }
+    let name = String::from_str(alloc, name)?;
+    case.left.push(Left { name, bytes })?;
     Ok(())
 }
 
@@ -107,20 +123,17 @@ fn add_failure(case: &mut Case, entry: &Entry<'_>) -> Result<(), Trouble> {
         parts.next().and_then(|text| text.parse::<u64>().ok()),
         entry,
     )?;
-    let failure = match place {
-        "folder" => Failure::Folder { call },
-        "out" => Failure::Out {
-            call,
-            taken: next_number(parts.next(), entry)?,
-        },
-        "err" => Failure::Err {
-            call,
-            taken: next_number(parts.next(), entry)?,
-        },
-        _ => return Err(entry.flaw("what is to fail is none of folder, out and err")),
-    };
-    case.failures.push(failure)?;
-    nothing_more(parts.next(), entry)
+    if place == "folder" {
+        set_once(&mut case.failures.folder, call, entry)?;
+        return nothing_more(parts.next(), entry);
+    }
+    let taken = next_number(parts.next(), entry)?;
+    nothing_more(parts.next(), entry)?;
+    match place {
+        "out" => set_once(&mut case.failures.out, Piece { call, taken }, entry),
+        "err" => set_once(&mut case.failures.err, Piece { call, taken }, entry),
+        _ => Err(entry.flaw("what is to fail is none of folder, out and err")),
+    }
 }
 
 /// The room: `folder WRITES BYTES`, `out BYTES` or `err BYTES`.

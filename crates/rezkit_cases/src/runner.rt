@@ -1,4 +1,4 @@
-use crate::case::{Case, Failure};
+use crate::case::Case;
 use crate::trouble::Trouble;
 use rz_core::Moment;
 use rz_folder::{MemFolder, MemSink};
@@ -27,12 +27,14 @@ pub fn run_case(alloc: Global, case: &Case) -> Result<Ran, Trouble> {
     out.reserve(case.room.out)?;
     let mut err = MemSink::new(alloc);
     err.reserve(case.room.err)?;
-    for failure in &case.failures {
-        match *failure {
-            Failure::Folder { call } => folder.fail_at(call),
-            Failure::Out { call, taken } => out.fail_at(call, taken),
-            Failure::Err { call, taken } => err.fail_at(call, taken),
-        }
+    if let Some(call) = case.failures.folder {
+        folder.fail_at(call);
+    }
+    if let Some(piece) = case.failures.out {
+        out.fail_at(piece.call, piece.taken);
+    }
+    if let Some(piece) = case.failures.err {
+        err.fail_at(piece.call, piece.taken);
     }
     let outcome = run(alloc, &case.words, &mut folder, &mut out, &mut err, moment);
     Ok(Ran {
