@@ -1,4 +1,5 @@
-//! The program `rezkit`.
+//! The program `rezkit`: `start` of `rz_host`, and nothing else. Its stored run shows the fork in `data` as text
+//! and compares that with the file `stdout`, which changes if the text of `derez` does.
 #![tactic(auto)]
 
 use rz_host::start;

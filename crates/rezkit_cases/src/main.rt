@@ -1,9 +1,9 @@
-//! Runs cases of commands: each is the words of a command, the files that are there, and what the run must
-//! leave. What differs is printed with what was wanted and what came, then one line with the number of
-//! cases and how many of them differ. The status is 1 where one differs or a case file can't be read.
-//!
-//! The cases stand in the files `*.cases` of the folder that is the program's one argument, else of the folder
-//! in which it runs. README.md has their format.
+//! Runs cases of commands: each is the words of a command, the files that are there, and what the run must leave.
+//! What differs is printed with what was wanted and what came, then the number of cases and of those that differ.
+//! The status is 1 if one differs or a case file can't be read. The cases are the files `*.cases` of the folder
+//! that is the one argument, else of the current one; README.md has their format.
+//! It rests on `rz_tools` and the folder in memory of `rz_folder`, and is not handed out. A case that is added
+//! changes the file `stdout`.
 #![tactic(auto)]
 
 mod case;

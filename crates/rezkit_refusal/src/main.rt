@@ -1,5 +1,5 @@
-//! The program `rezkit` once more, for a run that is refused: its stored run wants the status of a refusal and
-//! nothing on standard output. It is not handed out.
+//! The program `rezkit` once more, for a run that is refused: its stored run wants the status in the file
+//! `status`, and nothing on standard output. It rests on `rz_host` alone, and is not handed out.
 #![tactic(auto)]
 
 use rz_host::start;

@@ -1,5 +1,5 @@
-//! What the crates of tests share: cases that stand as lines of a table, and the tokens of a text both ways.
-//! It has no code that ships.
+//! What the crates of tests share: cases that stand as lines of a table, and the tokens of a text both ways. It
+//! rests on `rz_core` and `rz_lex`, and has no code that ships. A new kind of token changes `tokens`.
 #![tactic(auto)]
 
 mod fault;

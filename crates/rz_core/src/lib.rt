@@ -1,5 +1,8 @@
-//! The values that every part of rezkit shares: bytes and lists, resource types, attributes, moments,
-//! faults with their message lines, and the quoted form of bytes.
+//! The values that all other crates share: bytes and lists, types and attributes of resources, moments, Mac
+//! Roman, and faults with their message lines. Each call gives exactly its definition, or is out of memory.
+//! It rests on the standard library alone.
+//! A new fault is a row of the table in `message`, of its definition, and of docs/LANGUAGE.md. Definitions that
+//! several crates need stand in `specs`.
 #![tactic(auto)]
 
 mod attr;

@@ -1,5 +1,9 @@
-//! `data` statements: their heads, and the texts that are their bytes. The clause of `read_raw` says which tokens
-//! are such a statement; the values of its expressions are computed by who asks for them.
+//! `data` statements: their heads, and the texts that are their bytes. `read_raw` gives exactly the statement
+//! that the tokens are, or none, and there is one at most. The values of its expressions are computed by who asks
+//! for them.
+//! It rests on `rz_core`, `rz_lex`, `rz_expr`, `rz_types` and `rz_brackets`.
+//! A new part of a head changes `head` here, `data` of `rz_tools`, which computes it, and `rz_show`, which writes
+//! it.
 #![tactic(auto)]
 
 mod head;

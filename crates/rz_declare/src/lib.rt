@@ -1,6 +1,8 @@
-//! `type` statements. The clause of `read_declare` says which tokens are such a statement and as what, with
-//! expressions where constants stand; that of `value_declare` gives these their values from left to right, or the
-//! first fault.
+//! `type` statements. `read_declare` gives exactly the statement that the tokens are, with expressions where
+//! constants stand, or none; `value_declare` gives these their values from left to right, or the first fault.
+//! It rests on `rz_core`, `rz_lex`, `rz_expr`, `rz_types` and `rz_brackets`.
+//! A new kind of field changes `form`, `field` and `values` here, each with its definitions, and `Field` of
+//! `rz_types`.
 #![tactic(auto)]
 
 mod body;

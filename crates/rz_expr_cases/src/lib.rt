@@ -1,4 +1,6 @@
-//! Tests of expressions: what words may be, the grammar and the values. It has no code that ships.
+//! Tests of expressions: what words may be, the grammar and the values, worked out by hand. It rests on
+//! `rz_core`, `rz_lex`, `rz_expr` and `rz_cases`, and has no code that ships. It changes with what `rz_expr`
+//! promises.
 #![tactic(auto)]
 
 #[cfg(test)]

@@ -1,7 +1,9 @@
-//! Files by name and places to write to, each with counts of its faults: the two traits, a folder
-//! and a sink in memory whose contracts are exact, and a folder and a sink of the host's. A regular
-//! file of the host's is replaced whole or stays as it was: `replace` does that, and `temporary`
-//! names the file that it fills. What the host's calls do is trusted and tested, not proved.
+//! Files by name and places to write to, each with counts of its faults: the two traits, and a folder and a sink
+//! in memory whose contracts are exact. It rests on `rz_core`, `arrayvec` and `itoa`.
+//! `RealFolder` and `RealSink` are the host's: what the host's calls do is trusted and tested, not proved.
+//! `replace` writes a regular file so that it is replaced whole or stays as it was; `temporary` names the file
+//! that it fills.
+//! A change there changes the tests in `rz_host_cases`, and what README.md says of a write that fails.
 #![tactic(auto)]
 
 mod folder;

@@ -1,5 +1,9 @@
 //! The edge to the host: it gets the words, the files, the streams and the moment of the host, runs the command
-//! and gives the status of the run. The program `rezkit` is `start` alone.
+//! and gives the status of the run. It is proved to be safe and to return; what the host gives and does is
+//! trusted.
+//! It rests on `rz_core`, `rz_folder` and `rz_tools`. The programs `rezkit` and `rezkit_refusal` are `start`
+//! alone.
+//! A status of its own, as 5, stands in the help text of `rz_tools` and in README.md too.
 #![tactic(auto)]
 
 use rz_core::Moment;

@@ -1,4 +1,9 @@
-//! Text as the tools read it: the logical lines of a source, and the tokens of a line.
+//! Text as the tools read it: the logical lines of a source, and the tokens of a line. `next_line`, `cut` and
+//! `lex` give exactly the lines and the tokens of the definitions, or the first fault. The laws say that there is
+//! one answer at most, and that tokens that are written are cut again as they were.
+//! It rests on `rz_core` and `memchr`.
+//! A new kind of token changes `token` and its definitions, `rz_tokens`, which stores tokens, and
+//! docs/LANGUAGE.md.
 #![tactic(auto)]
 
 mod classes;

@@ -1,5 +1,6 @@
-//! Tests of the preprocessor, all through its one call: sources and what they mean. It has no code that
-//! ships.
+//! Tests of the preprocessor, all through its one call: sources and what they mean, worked out by hand. It rests
+//! on `rz_pre`, crates below it and `rz_cases`, and has no code that ships. It changes with what `preprocess`
+//! promises.
 #![tactic(auto)]
 
 #[cfg(test)]

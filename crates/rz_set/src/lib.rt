@@ -1,4 +1,7 @@
-//! The resources of a program while its statements are read: a list with one resource of each type and id.
+//! The resources of a program while its statements are read. Contracts see a `ResSet` as a list of resources: no
+//! two have the same type and id, and each name has at most 255 bytes. Each call gives exactly its definition.
+//! It rests on `rz_core` and `indexmap`. What `put` does to a list is defined in `rz_core`
+//! (`specs/Resources.antt`).
 #![tactic(auto)]
 
 mod laws;

@@ -1,4 +1,7 @@
-//! Sources before they are read: their text in Mac Roman, and which lines are directives.
+//! Sources before they are read: their text in Mac Roman, or the offset of the first bytes that can't be turned
+//! into it, and which lines are directives. Each call gives exactly its definition.
+//! It rests on `rz_core` and `rz_lex`.
+//! A new directive changes `directive` here, and `line` of `rz_pre`, which does what it says.
 #![tactic(auto)]
 
 mod directive;

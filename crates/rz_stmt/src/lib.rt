@@ -1,5 +1,9 @@
-//! The statements of a program: where they stand among its tokens, and what each is. `data` and `type`
-//! statements stand in crates of their own, of which this one makes one type and one call.
+//! The one front of the statements: `parse` gives exactly what the tokens of a span are, or their first fault,
+//! and they are one thing at most.
+//! It rests on `rz_core`, `rz_lex`, `rz_expr`, `rz_types`, `rz_brackets`, `rz_data` and `rz_declare`, and hands
+//! on what the crates above need of them.
+//! A new statement is a crate beside `rz_data` and `rz_declare`, a case of `Stmt` here and one of `step` in
+//! `rz_tools`.
 #![tactic(auto)]
 
 mod grammar;

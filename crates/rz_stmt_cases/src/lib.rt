@@ -1,4 +1,5 @@
-//! Tests of statements. It has no code that ships.
+//! Tests of statements: where they are cut, and what `data` and `type` statements are. It rests on `rz_stmt`,
+//! crates below it and `rz_cases`, and has no code that ships. It changes with what `rz_stmt` promises.
 #![tactic(auto)]
 
 #[cfg(test)]

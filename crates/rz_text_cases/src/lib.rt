@@ -1,4 +1,5 @@
-//! Tests of text: conversions, messages, lines and tokens. It has no code that ships.
+//! Tests of text: conversions, messages, lines and tokens, against values that were worked out by hand. It rests
+//! on `rz_core`, `rz_lex` and `rz_cases`, and has no code that ships. It changes with what these crates promise.
 #![tactic(auto)]
 
 #[cfg(test)]

@@ -1,5 +1,6 @@
-//! Long lists of tokens in little memory: so many bytes for each token, and one store for all bytes of words,
-//! literals and texts. They are read from the front to the end, one token at a time.
+//! Long lists of tokens in little memory: 24 bytes for each token, and one store for all bytes of words, literals
+//! and texts. Contracts see a store, and the reader of one, as a list of tokens. They are read from the first on.
+//! It rests on `rz_core` and `rz_lex`: a new kind of token there is a new `Kind` here.
 #![tactic(auto)]
 
 mod piece;

@@ -1,4 +1,9 @@
-//! The commands of rezkit: what the words ask for, and the run that does it.
+//! The commands of rezkit: what the words ask for, and the run that does it. `run` carries out the answer to
+//! these words (`specs/Program.antt`), and words have one answer at most. What `derez` shows of a fork means the
+//! fork's resources again to `rez`, if each has at most 16,777,212 bytes.
+//! It rests on all crates below it; the folder, the streams and the moment are arguments of `run`.
+//! A new command is a module beside `rez` and `derez`, and a case of `answer` and of the answers in `specs`; a
+//! new statement is a case of `step`. docs/PROOFS.md lists the promises.
 #![tactic(auto)]
 
 mod answer;

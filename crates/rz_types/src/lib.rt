@@ -1,4 +1,8 @@
-//! Type declarations: fields, templates that keep the rules, and the table in which they are found.
+//! Type declarations: fields and their shape, templates that keep the rules, the table in which they are found,
+//! and the values of expressions with the facts of a resource. Each call gives exactly its definition.
+//! It rests on `rz_core`, `rz_lex` and `rz_expr`.
+//! A new kind of field changes `Field` and its mirror `PlainField`, the shape, the rules and `copies` here, and
+//! the form and the values in `rz_declare`.
 #![tactic(auto)]
 
 mod copies;

@@ -1,4 +1,7 @@
-//! The words of a command line as a command.
+//! The words of a command line as a command. `read_words` gives exactly the command that they are, or the
+//! position of the first word that can't stand where it stands; they are one command at most.
+//! It rests on `rz_core`, `rz_lex`, `rz_expr`, `rz_source` and `rz_pre`.
+//! A new option changes `item`, `read` and `command`, each with its definitions, and the help text in `rz_tools`.
 #![tactic(auto)]
 
 mod command;

@@ -1,4 +1,6 @@
-//! Tests of the words of a command line. It has no code that ships.
+//! Tests of the words of a command line: the command that they are, or the position of the first that can't
+//! stand. It rests on `rz_words`, `rz_pre`, `rz_core` and `rz_cases`, and has no code that ships. It changes with
+//! `read_words`.
 #![tactic(auto)]
 
 #[cfg(test)]
