@@ -13,7 +13,8 @@ use Rattle.rz_folder.specs.declared.sink.Put.TheVariants as puts
 use Rattle.rz_tools.specs.Answer.{files_after, misused, refused, Answer, Failing, Write}
 use Rattle.rz_tools.specs.Message.{write_fault_line}
 use Rattle.rz_tools.specs.Plan.{FailsAt, WritesEach}
-use Rattle.rz_tools.specs.Program.{at_file, at_text, CarriesOut, Ends, IsAnswered, IsCutAt, IsPartlyWritten, IsUntouched, IsWritten, Says, World}
+use Rattle.rz_tools.specs.Program.{at_file, at_text, CarriesOut, Ends, IsAnswered, IsCutAt, IsPartlyWritten, IsUntouched, IsWritten}
+use Rattle.rz_tools.specs.World.{Says, World}
 use Rattle.rz_tools.specs.WellFormed.{AreWritable, FitsOutcome}
 use Rattle.rz_tools.specs.declared.outcome.Outcome.{Outcome}
 use Rattle.rz_tools.specs.declared.outcome.Outcome.TheVariants.{Done, Usage, Refused, ReadFault, WriteFault, NoMemory}

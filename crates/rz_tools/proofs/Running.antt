@@ -8,7 +8,8 @@ use Rattle.rz_folder.specs.Counts.{Rose}
 use Rattle.rz_folder.specs.Folder.{Files}
 use Rattle.rz_words.specs.declared.read.UsageFault.{UsageFault}
 use Rattle.rz_tools.specs.Answer.{Answer, Write}
-use Rattle.rz_tools.specs.Program.{at_file, at_text, Answers, CarriesOut, Ends, IsAnswered, IsPartlyWritten, IsUntouched, IsWritten, Says, World}
+use Rattle.rz_tools.specs.Program.{at_file, at_text, Answers, CarriesOut, Ends, IsAnswered, IsPartlyWritten, IsUntouched, IsWritten}
+use Rattle.rz_tools.specs.World.{Says, World}
 use Rattle.rz_tools.specs.declared.outcome.Outcome.{Outcome}
 use Rattle.rz_tools.specs.declared.outcome.Outcome.TheVariants.{Done, Usage, Refused, ReadFault, WriteFault, NoMemory}
 use Rattle.rz_tools.proofs.Carried.{carried_too}

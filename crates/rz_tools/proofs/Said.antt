@@ -6,7 +6,7 @@ use Rattle.rz_folder.specs.Counts.{Rose}
 use Rattle.rz_folder.specs.Sink.{Puts}
 use Rattle.rz_folder.specs.declared.sink.Put.{Put}
 use Rattle.rz_folder.specs.declared.sink.Put.TheVariants.{Done, Failed}
-use Rattle.rz_tools.specs.Program.{Says}
+use Rattle.rz_tools.specs.World.{Says}
 
 pub said : (line : List ℕ) (before after : Option (List ℕ)) (faults_before faults_after : ℕ) (result : Put)
     → Puts line before after result → (result ≡ Failed → Rose faults_before faults_after) → Says line before after faults_before faults_after

@@ -12,7 +12,8 @@ use Rattle.rz_words.specs.Command.{Asked, DeRez, IsCommand}
 use Rattle.rz_tools.specs.Again.{AreShort, IsFile, MeansAgain, ShowsAgain}
 use Rattle.rz_tools.specs.Answer.{or_refused, shown, Answer}
 use Rattle.rz_tools.specs.DeRez.{derez_text, fork_text}
-use Rattle.rz_tools.specs.Program.{command, misplaced, Answers, AnswersTo, CarriesOut, World}
+use Rattle.rz_tools.specs.Program.{command, misplaced, Answers, AnswersTo, CarriesOut}
+use Rattle.rz_tools.specs.World.{World}
 use Rattle.rz_tools.specs.declared.outcome.Outcome.{Outcome}
 use Rattle.rz_tools.specs.declared.outcome.Outcome.TheVariants.{Done}
 use Rattle.rz_tools.proofs.OneAnswer.{OneCommand}

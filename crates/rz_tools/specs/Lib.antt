@@ -13,5 +13,6 @@ pub mod Rez
 pub mod DeRez
 pub mod Help
 pub mod Again
+pub mod World
 pub mod Program
 pub mod Plan

@@ -1,10 +1,8 @@
 -- What a run does: it carries out the answer to its words.
-use Rattle.std.specs.Prelude.{◌≡◌, ◌⊎◌, ℕ, ◌++◌, take, List, [], ◌∷◌, IfSome, IsSomeAnd}
-use Rattle.std.specs.declared.option.Option.{Option}
-use Rattle.std.specs.declared.option.Option.TheVariants.{Some, None}
+use Rattle.std.specs.Prelude.{◌≡◌, ℕ, ◌++◌, List, [], ◌∷◌, IfSome, IsSomeAnd}
+use Rattle.std.specs.declared.option.Option.TheVariants.{Some}
 use Rattle.std.specs.FinMap as map
 use Rattle.rz_core.specs.declared.moment.Moment.{Moment}
-use Rattle.rz_folder.specs.Counts.{Rose}
 use Rattle.rz_folder.specs.Folder.{Files}
 use Rattle.rz_words.specs.Command.{Asked, Rez, DeRez, Help, Version, IsCommand, IsMisplaced}
 use Rattle.rz_tools.specs.Answer.{files_after, misused, shown, Answer, Write}
@@ -12,6 +10,7 @@ use Rattle.rz_tools.specs.DeRez.{AnswersDeRez}
 use Rattle.rz_tools.specs.Help.{help_text, version_text}
 use Rattle.rz_tools.specs.Message.{no_memory_line, read_fault_line, write_fault_line}
 use Rattle.rz_tools.specs.Rez.{AnswersRez}
+use Rattle.rz_tools.specs.World.{GotFront, ReadFailed, Says, World, WriteFailed}
 use Rattle.rz_tools.specs.declared.outcome.Outcome.{Outcome}
 use Rattle.rz_tools.specs.declared.outcome.Outcome.TheVariants.{Done, Usage, Refused, ReadFault, WriteFault, NoMemory}
 
@@ -30,35 +29,6 @@ pub data Answers (words : List (List ℕ)) (files : Files) (moment : Moment) (an
   command : (asked : Asked) → IsCommand words asked → AnswersTo asked files moment answer → Answers words files moment answer
   misplaced : (position : ℕ) → IsMisplaced words position → answer ≡ misused position → Answers words files moment answer
 
--- What is seen of a run: what the folder, the output and the sink of messages hold, where they tell it, and how many of
--- their calls failed.
-pub record World : Type 0 where
-  pub files : Option Files
-  pub out : Option (List ℕ)
-  pub err : Option (List ℕ)
-  pub read_faults : ℕ
-  pub write_faults : ℕ
-  pub out_faults : ℕ
-  pub err_faults : ℕ
-
--- what is seen of a folder, an output and a sink of messages
-abbrev pub world : {F O E : Type 0} → (F → Option Files) → (F → ℕ) → (F → ℕ) → (O → Option (List ℕ)) → (O → ℕ) → (E → Option (List ℕ)) → (E → ℕ) → F → O → E → World
-world files read_faults write_faults written faults said said_faults folder out err = record {
-  files = files folder;
-  out = written out;
-  err = said err;
-  read_faults = read_faults folder;
-  write_faults = write_faults folder;
-  out_faults = faults out;
-  err_faults = said_faults err;
-}
-
-abbrev pub ReadFailed : World → World → Type 0
-ReadFailed before after = Rose before.read_faults after.read_faults
-
-abbrev pub WriteFailed : World → World → Type 0
-WriteFailed before after = Rose before.write_faults after.write_faults ⊎ Rose before.out_faults after.out_faults
-
 -- What an outcome leaves.
 
 -- nothing is written
@@ -70,10 +40,6 @@ pub record IsUntouched (before after : World) : Type 0 where
 pub record IsWritten (writes : List Write) (text : List ℕ) (before after : World) : Type 0 where
   pub files : IfSome before.files (λ files. after.files ≡ Some (files_after writes files))
   pub out : IfSome before.out (λ out. after.out ≡ Some (out ++ text))
-
--- a sink has got a front of this text
-abbrev pub GotFront : List ℕ → List ℕ → Option (List ℕ) → Type 0
-GotFront text before after = (count : ℕ) × (after ≡ Some (before ++ take count text))
 
 -- the write of one file failed: those before it are written, its name may hold anything, and all else is as before
 pub record IsCutAt (done : List Write) (one : Write) (before after : World) : Type 0 where
@@ -102,12 +68,6 @@ said_of answer WriteFault = answer.err ++ write_fault_line
 said_of answer ReadFault = read_fault_line
 said_of answer NoMemory = no_memory_line
 said_of answer other = answer.err
-
--- a sink that tells what it has got has got a front of the text, and the whole text where none of its calls failed
-abbrev pub Says : List ℕ → Option (List ℕ) → Option (List ℕ) → ℕ → ℕ → Type 0
-Says text None after faults_before faults_after = Unit {0}
-Says text (Some before) after faults_before faults_after =
-    GotFront text before after × ((Rose faults_before faults_after → ⊥) → after ≡ Some (before ++ text))
 
 -- A run that carries out an answer. It ends as the answer does, but for want of memory, a failed read, or a failed write
 -- where the answer is Done.

@@ -2,7 +2,8 @@ ghost use Rattle.std.specs.Prelude.{◌≡◌, ◌≤◌, ◌⊎◌, ◌++◌, [
 ghost use Rattle.rz_folder.specs.Counts.{Rose};
 ghost use Rattle.rz_folder.specs.Sink.{Puts};
 ghost use Rattle.rz_tools.specs.Plan.{answer_of, write_of, WritesEach};
-ghost use Rattle.rz_tools.specs.Program.{world, CarriesOut, Says};
+ghost use Rattle.rz_tools.specs.Program.{CarriesOut};
+ghost use Rattle.rz_tools.specs.World.{world, Says};
 ghost use Rattle.rz_tools.specs.Message.{write_fault_line};
 ghost use Rattle.rz_tools.specs.WellFormed.{AreWritable, IsWellFormed};
 

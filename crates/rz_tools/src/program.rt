@@ -2,7 +2,8 @@ ghost use Rattle.std.specs.Prelude.{◌≡◌, ◌⊎◌, ℕ, List, map, IfSome
 ghost use Rattle.std.specs.String.{string_bytes};
 ghost use Rattle.rz_tools.specs.Again.{ShowsAgain};
 ghost use Rattle.rz_tools.specs.Answer.{Answer};
-ghost use Rattle.rz_tools.specs.Program.{world, Answers, CarriesOut, IsAnswered};
+ghost use Rattle.rz_tools.specs.Program.{Answers, CarriesOut, IsAnswered};
+ghost use Rattle.rz_tools.specs.World.{world};
 ghost use Rattle.rz_tools.specs.WellFormed.{IsWellFormed};
 ghost use Rattle.rz_words.specs.Command.{DeRez, IsCommand, IsMisplaced};
 
