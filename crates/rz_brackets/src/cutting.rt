@@ -68,13 +68,13 @@ pub fn is_empty_statement(tokens: &[Token]) -> bool
 }
 
 /// Whether it is a `;` outside all brackets, of which so many are open.
-fn is_end(shape: &Shape, depth: usize) -> bool
+pub fn is_end(shape: &Shape, depth: usize) -> bool
     ensures { result ≡ is_end shape.now depth }
 {
     matches!(shape, Shape::Sign(Sign::Semicolon)) && depth == 0
 }
 
-/// How many brackets are open behind a token.
+/// How many brackets are open after a token.
 pub fn open_behind(shape: &Shape, depth: usize) -> usize
     requires { depth + 1 < 2 ^ 64 }
     ensures count { result ≡ open_behind shape.now depth }

@@ -14,7 +14,7 @@ mod pieces;
 mod span;
 
 pub use bracket::{Bracket, begins, bracketed};
-pub use cutting::{is_empty_statement, is_semicolon, one_cutting, statements};
+pub use cutting::{is_empty_statement, is_end, is_semicolon, one_cutting, open_behind, statements};
 pub use kind::kind_in;
 pub use laws::{all_tokens_are_statements, limits_are_kept, pieces_are_cut};
 pub use limit::is_within_limits;

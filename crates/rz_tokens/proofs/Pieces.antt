@@ -5,7 +5,7 @@ use Rattle.std.proofs.lemmas.List.{take-append-le, drop-append-le, take_at, drop
 use Rattle.rz_lex.specs.declared.token.Shape.{Shape}
 use Rattle.rz_lex.specs.declared.token.Shape.TheVariants as shapes
 use Rattle.rz_lex.specs.declared.token.Token.{Token}
-use Rattle.rz_tokens.specs.Piece.{held_of, kind_of, shape_of, size_of}
+use Rattle.rz_tokens.specs.Piece.{held_of, kind_of, mark_of, shape_of, size_of}
 use Rattle.rz_tokens.specs.Store.{bytes_of, pieces_of, size_of_all, tokens_of}
 use Rattle.rz_tokens.specs.declared.piece.Piece.{Piece}
 
@@ -45,7 +45,7 @@ tokens_of-append (piece ∷ pieces) more bytes others is =
     let held = take-append-le (size_of piece.kind) bytes others within in
     let rest = ap (tokens_of (pieces ++ more)) (drop-append-le (size_of piece.kind) bytes others within)
     ∙ tokens_of-append pieces more (drop (size_of piece.kind) bytes) others (omega (arith, is, length-drop (size_of piece.kind) bytes)) in
-    λ i. record { shape = shape_of piece.kind (held i); mark = piece.mark } ∷ rest i
+    λ i. record { shape = shape_of piece.kind (held i); mark = mark_of piece } ∷ rest i
 
 pub tokens_back : (tokens : List Token) → tokens_of (pieces_of tokens) (bytes_of tokens) ≡ tokens
 tokens_back [] = refl

@@ -1,5 +1,6 @@
 -- A token without its bytes, and the bytes that it has.
-use Rattle.std.specs.Prelude.{ℕ, zero, List, [], length}
+use Rattle.std.specs.Prelude.{ℕ, zero, ◌<◌, ◌^◌, List, [], length}
+use Rattle.rz_core.specs.declared.fault.Mark.{Mark}
 use Rattle.rz_lex.specs.declared.token.Shape.{Shape}
 use Rattle.rz_lex.specs.declared.token.Shape.TheVariants as shapes
 use Rattle.rz_lex.specs.declared.token.Token.{Token}
@@ -40,4 +41,13 @@ shape_of (kinds.Text size) held = shapes.Text held
 shape_of (kinds.Sign sign) held = shapes.Sign sign
 
 abbrev pub piece_of : Token → Piece
-piece_of token = record { mark = token.mark; kind = kind_of token.shape }
+piece_of token = record { file = token.mark.file; line = token.mark.line; kind = kind_of token.shape }
+
+-- where it stands
+abbrev pub mark_of : Piece → Mark
+mark_of piece = record { file = piece.file; line = piece.line }
+
+-- a piece has room for it: fewer than 2^32 bytes, and a file at a position below 2^32
+pub record IsShort (token : Token) : Type 0 where
+  pub size : length (held_of token.shape) < 2 ^ 32
+  pub file : token.mark.file < 2 ^ 32

@@ -1,5 +1,5 @@
 ghost use Rattle.std.specs.Prelude.{◌≡◌, ◌<◌, ◌^◌, length, IfOk};
-ghost use Rattle.rz_tokens.specs.Piece.{held_of, kind_of, piece_of, shape_of, size_of};
+ghost use Rattle.rz_tokens.specs.Piece.{held_of, kind_of, mark_of, piece_of, shape_of, size_of, IsShort};
 
 use rz_core::{Bytes, Mark, NoMemory, Word};
 use rz_lex::{Shape, Sign, Token};
@@ -20,11 +20,13 @@ pub enum Kind {
     Sign(Sign),
 }
 
-/// A token without its bytes, in 24 bytes.
+/// A token without its bytes, in 16 bytes.
 #[derive(Clone, Copy, Debug)]
 pub struct Piece {
-    /// Where the token stands.
-    pub mark: Mark,
+    /// The position of its file in the list of files, from 0.
+    pub file: u32,
+    /// Its line, from 1.
+    pub line: u32,
     /// What it is.
     pub kind: Kind,
 }
@@ -41,13 +43,14 @@ pub fn held_of(shape: &Shape) -> &[u8]
     }
 }
 
-/// A token without its bytes, of which there are fewer than 2^32.
+/// A token without its bytes. There are fewer than 2^32 of them, and the position of its file is below 2^32.
 pub fn piece_of(token: &Token) -> Piece
-    requires { length (held_of token.now.shape) < 2 ^ 32 }
+    requires { IsShort token.now }
     ensures { result ≡ piece_of token.now }
 {
     Piece {
-        mark: token.mark,
+        file: token.mark.file as u32,
+        line: token.mark.line,
         kind: kind_of(&token.shape),
     }
 }
@@ -62,6 +65,16 @@ fn kind_of(shape: &Shape) -> Kind
         Shape::Literal(bytes) => Kind::Literal(bytes.len() as u32),
         Shape::Text(bytes) => Kind::Text(bytes.len() as u32),
         Shape::Sign(sign) => Kind::Sign(*sign),
+    }
+}
+
+/// Where the token of a piece stands.
+pub fn mark_of(piece: Piece) -> Mark
+    ensures { result ≡ mark_of piece }
+{
+    Mark {
+        file: u64::from(piece.file),
+        line: piece.line,
     }
 }
 

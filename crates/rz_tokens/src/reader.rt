@@ -2,7 +2,7 @@ ghost use Rattle.std.specs.Prelude.{◌≡◌, ◌↔◌, [], length, IsTrue, If
 ghost use Rattle.rz_tokens.specs.Reader.{GivesFirst};
 ghost use Rattle.rz_tokens.specs.Store.{size_of_all, tokens_of};
 
-use crate::piece::{Piece, shape_of, size_of};
+use crate::piece::{Piece, mark_of, shape_of, size_of};
 use rz_core::NoMemory;
 use rz_lex::Token;
 use std::alloc::Global;
@@ -60,7 +60,7 @@ impl<'a> TokenReader<'a> {
         self.bytes = bytes;
         Ok(Some(Token {
             shape,
-            mark: first.mark,
+            mark: mark_of(*first),
         }))
     }
 }

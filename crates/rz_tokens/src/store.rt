@@ -8,7 +8,7 @@ use rz_lex::Token;
 use std::alloc::Global;
 use std::marker::Model;
 
-/// A long list of tokens that grows at its end, in little memory: 24 bytes for each token, and the bytes of all
+/// A long list of tokens that grows at its end, in little memory: 16 bytes for each token, and the bytes of all
 /// words, literals and texts one after the other in one store. Contracts see it as the list of the tokens.
 #[derive(Debug, Drop)]
 pub struct TokenStore {
@@ -56,7 +56,7 @@ impl TokenStore {
     }
 
     /// Appends copies of the tokens. Where memory is refused the list is unchanged; a word, a literal or a text
-    /// of 2^32 bytes or more is answered as `NoMemory` too.
+    /// of 2^32 bytes or more is answered as `NoMemory` too, and so is a file after the first 2^32.
     pub fn append(&mut self, tokens: &[Token]) -> Result<(), NoMemory>
         ensures ok { OnOk result (self.new ≡ self.old ++ tokens.now) }
         ensures err { OnErr result (self.new ≡ self.old) }
@@ -76,8 +76,8 @@ impl TokenStore {
     }
 }
 
-/// How many bytes the tokens have together; `None` where one has 2^32 or more, or all have more than memory can
-/// hold.
+/// How many bytes the tokens have together; `None` where one has 2^32 or more or stands in a later file than the first 2^32, or all have more than
+/// memory can hold.
 fn short_size(tokens: &[Token]) -> Option<usize>
     ensures size { IfSome result (λ size. size ≡ length (bytes_of tokens.now)) }
     ensures short { IfSome result (λ _. AreShort tokens.now) }
@@ -86,6 +86,9 @@ fn short_size(tokens: &[Token]) -> Option<usize>
     for token in tokens {
         let more = held_of(&token.shape).len();
         if more > u32::MAX as usize {
+            return None;
+        }
+        if token.mark.file > u64::from(u32::MAX) {
             return None;
         }
         size = size.checked_add(more)?;

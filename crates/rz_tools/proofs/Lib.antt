@@ -13,3 +13,5 @@ pub mod Carried
 pub mod Planned
 pub mod ShownAgain
 pub mod Running
+pub mod Reserved
+pub mod CompiledAgain

@@ -1,5 +1,5 @@
 -- The text that DeRez writes, read by Rez.
-use Rattle.std.specs.Prelude.{◌≡◌, ◌<◌, ◌≤◌, ◌^◌, ℕ, List, [], ◌∷◌, ◌++◌, length, Option, Some, None, Ok}
+use Rattle.std.specs.Prelude.{◌≡◌, ◌<◌, ◌≤◌, ◌^◌, ℕ, List, [], ◌∷◌, ◌++◌, length, Option, Some, None, Ok, Err}
 use Rattle.std.specs.FinMap as finite
 use Rattle.std.specs.List.{AllByRecursion}
 use Rattle.rz_core.specs.declared.fault.Fault.{Fault}
@@ -16,7 +16,13 @@ use Rattle.rz_stmt.specs.Statements.{AreStatements}
 use Rattle.rz_tools.specs.Data.{most_bytes}
 use Rattle.rz_tools.specs.Step.{Means}
 use Rattle.rz_tools.specs.declared.setting.Setting.{Setting}
+use Rattle.rz_tools.specs.Answer.{or_refused, written, Failing, Making}
+use Rattle.rz_tools.specs.Program.{Answers}
+use Rattle.rz_tools.specs.Rez.{list_fork}
 use Rattle.rz_types.specs.Table.{Declaration}
+use Rattle.rz_words.specs.Command.{IsCommand, Rez, RezAsked}
+use Rattle.rz_core.specs.declared.moment.Moment.{Moment}
+use Rattle.std.specs.declared.result.Result.{Result}
 
 -- none of the words of such a text is a live macro
 abbrev pub NoneIsLive : Live → Type 0
@@ -41,6 +47,19 @@ pub record MeansAgain (text : List ℕ) (list : List Resource) : Type 0 where
 -- each resource has at most as many bytes as Rez takes
 abbrev pub AreShort : List Resource → Type 0
 AreShort list = AllByRecursion (λ r. length r.bytes ≤ most_bytes) list
+
+-- what the text that is shown of a fork is compiled to as the one source, a file of this name: the fork of the same
+-- resources, or the first limit that such a fork passes
+abbrev pub compiled_alone : List ℕ → Result (List ℕ) Fault → Result Making Failing
+compiled_alone name (Ok fork) = Ok (record { bytes = fork; said = [] })
+compiled_alone name (Err fault) = Err (record { fault = fault; files = name ∷ []; said = [] })
+
+-- the answer to words that are `rez` with such a file as the one source, whatever else they ask for
+abbrev pub CompilesAlone : List ℕ → List Resource → Type 0
+CompilesAlone text list =
+    (words : List (List ℕ)) (asked : RezAsked) (files : Files) (moment : Moment) (name : List ℕ)
+    → IsCommand words (Rez asked) → asked.files ≡ name ∷ [] → finite.get files name ≡ Some text
+    → Answers words files moment (or_refused (written asked.output) (compiled_alone name (list_fork list)))
 
 -- bytes, as few as a file has
 abbrev pub IsFile : List ℕ → Type 0

@@ -4,15 +4,16 @@ ghost use Rattle.rz_folder.specs.Folder.{Files};
 ghost use Rattle.rz_fork.specs.Admit.{admitted};
 ghost use Rattle.rz_fork.specs.Contents.{Fork};
 ghost use Rattle.rz_show.specs.Data.{list_text};
-ghost use Rattle.rz_tools.specs.Again.{AreShort, IsFile, MeansAgain};
+ghost use Rattle.rz_tools.specs.Again.{AreShort, CompilesAlone, IsFile, MeansAgain};
 ghost use Rattle.rz_tools.specs.Answer.{Answer};
 ghost use Rattle.rz_tools.specs.Program.{Answers};
 
+use rz_expr::{attribute_words_are_spelled, keywords_are_spelled};
 use rz_fork::admitted_forks_fit;
 use rz_pre::one_program;
 use rz_show::{shown_statements, shown_text};
 use rz_stmt::{one_cutting, one_statement};
-use rz_words::one_command;
+use rz_words::{definitions_are_free, one_command};
 
 /// A law, with nothing to run: words have one answer at most, where each name holds the same and at the same
 /// moment.
@@ -34,4 +35,16 @@ pub fn shown_forks_are_read_again()
     admitted_forks_fit();
     shown_text();
     shown_statements();
+}
+
+/// A law, with nothing to run: as the one source of `rez` the text that is shown of a fork, where each resource has at
+/// most 16,777,212 bytes, is compiled to the fork of the same resources, whatever else the words ask for: no definition
+/// of theirs makes a reserved word a macro.
+pub fn shown_forks_are_compiled_again()
+    ensures { (bytes : List ℕ) → IsFile bytes → (fork : Fork) → admitted bytes ≡ Ok fork → AreShort fork.list → CompilesAlone (list_text fork.list) fork.list }
+{
+    shown_forks_are_read_again();
+    definitions_are_free();
+    keywords_are_spelled();
+    attribute_words_are_spelled();
 }

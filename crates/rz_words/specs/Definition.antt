@@ -1,5 +1,6 @@
 -- What `-d` and `-u` define. (MPW Rez.)
 use Rattle.std.specs.Prelude.{◌≡◌, ◌≢◌, ℕ, ◌<◌, true, List, [], ◌∷◌, ◌++◌, length, get_or, Option, Some, None}
+use Rattle.std.specs.List.{AllByRecursion}
 use Rattle.rz_core.specs.declared.fault.Mark.{Mark}
 use Rattle.rz_core.specs.declared.resource.Word.{Word}
 use Rattle.rz_expr.specs.Words.{is_label, role_of}
@@ -43,3 +44,10 @@ HasNoSign bytes = (i : ℕ) → i < length bytes → get_or bytes i 0 ≢ 61
 pub data Defines (value : List ℕ) (def : Def) : Type 0 where
   alone : HasNoSign value → Alone value def → Defines value def
   with_text : (name text : List ℕ) → HasNoSign name → value ≡ name ++ 61 ∷ text → WithText name text def → Defines value def
+
+-- what is defined isn't a reserved word
+abbrev pub IsFree : Def → Type 0
+IsFree def = is_label (role_of def.name.bytes) ≡ true
+
+abbrev pub AreFree : List Def → Type 0
+AreFree defs = AllByRecursion IsFree defs

@@ -1,5 +1,6 @@
 ghost use Rattle.std.specs.Prelude.{◌≡◌, ℕ, List};
 ghost use Rattle.rz_pre.specs.Lexed.{HaveLexedTexts};
+ghost use Rattle.rz_words.specs.Definition.{AreFree};
 ghost use Rattle.rz_words.specs.Command.{Asked, IsCommand, IsMisplaced, Rez, RezAsked};
 
 use rz_lex::{one_cut, tokens_are_lexed};
@@ -22,3 +23,8 @@ pub fn definitions_are_lexed()
 {
     tokens_are_lexed();
 }
+
+/// A law, with nothing to run: what the words of a command define or undefine is no reserved word.
+pub fn definitions_are_free()
+    ensures { (words : List (List ℕ)) (asked : RezAsked) → IsCommand words (Rez asked) → AreFree asked.defs }
+{}

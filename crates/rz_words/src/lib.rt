@@ -12,5 +12,5 @@ mod line;
 mod read;
 
 pub use command::{Command, DeRezWords, RezWords};
-pub use laws::{definitions_are_lexed, one_command};
+pub use laws::{definitions_are_free, definitions_are_lexed, one_command};
 pub use read::{UsageFault, read_words};

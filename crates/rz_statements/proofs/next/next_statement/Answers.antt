@@ -24,9 +24,9 @@ loop-tokens-preserved c =
     one_read c.args.reader.now c.loop-tokens.tokens c.loop-tokens.reader c.loop-tokens.depth c.loop-tokens.invariant
     c.in-Some.token c.next.new.self c.push.new.self (left_is (goal.at.loop-tokens-preserved c).After-at-last) c.in_ok-push.ensures.ok
     (ap (λ (token : Token). is_end token.shape c.loop-tokens.depth) (sym (last_is (goal.at.loop-tokens-preserved c).After-at-last)) ∙ sym c.if-is_end.ensures)
-    c.open_after-depth.result
-    (c.open_after-depth.ensures.count ∙ ap (λ (token : Token). open_behind token.shape c.loop-tokens.depth) (last_is (goal.at.loop-tokens-preserved c).After-at-last))
-    c.open_after-depth.ensures.slow
+    c.open_behind-depth.result
+    (c.open_behind-depth.ensures.count ∙ ap (λ (token : Token). open_behind token.shape c.loop-tokens.depth) (last_is (goal.at.loop-tokens-preserved c).After-at-last))
+    c.open_behind-depth.ensures.slow
 
 pub returns-then-is_empty-clause-first : goal.returns-then-is_empty-clause-first
 returns-then-is_empty-clause-first c =
