@@ -32,7 +32,6 @@ carried_too before after done wanted NoMemory same carried = record { ends = car
 
 -- How an answer is carried out.
 
-
 module _ (answer : Answer) (before after : World) where
   untouched : answer.writes ≡ [] → answer.out ≡ [] → (answer.writes ≡ [] → after.files ≡ before.files) → (answer.out ≡ [] → after.out ≡ before.out) → IsUntouched before after
   untouched no_writes no_text files out = record { files = files no_writes; out = out no_text }

@@ -91,7 +91,12 @@ impl Plan {
     }
 
     /// To say what was said before a fault, and then the line of the fault, where these are the files that marks count.
-    pub fn refused(alloc: Global, fault: Fault, files: &FileNames, said: Bytes) -> Result<Plan, NoMemory>
+    pub fn refused(
+        alloc: Global,
+        fault: Fault,
+        files: &FileNames,
+        said: Bytes,
+    ) -> Result<Plan, NoMemory>
         requires { IsNameable (length files.now) fault }
         ensures { IfOk result (λ plan. answer_of plan ≡ refused (record { fault = fault; files = files.now; said = said })) }
     {
