@@ -1,6 +1,6 @@
 -- The text that is shown of a list means the list again.
-use Rattle.std.proofs.Common.{◌≡◌, ◌≢◌, ℕ, Bool, true, false, List, [], ◌∷◌, ◌++◌, map, length, Option, Some, None, Ok, inl, refl, sym, ap, subst, ◌∙◌, append_assoc, arith}
-use Rattle.std.specs.Prelude.{◌==◌, ◌&&◌, IfSome}
+use Rattle.std.proofs.Common.{◌≡◌, ◌≢◌, ℕ, Bool, true, false, List, [], ◌∷◌, ◌++◌, map, length, Some, None, Ok, inl, refl, sym, ap, subst, ◌∙◌, append_assoc, arith}
+use Rattle.std.specs.Prelude.{◌==◌, ◌&&◌}
 use Rattle.std.specs.List.{flat_map, list_any, AllByRecursion}
 use Rattle.std.specs.Str.{bytes_eq, str_to_ascii_lowercase}
 use Rattle.std.proofs.lemmas.Bool.{or_parts, false≢true}
@@ -13,7 +13,6 @@ use Rattle.rz_core.specs.Resources.{id_bits, put, same_key, KeysDiffer}
 use Rattle.rz_core.specs.Stop.{◌>>=◌}
 use Rattle.rz_core.specs.declared.fault.Fault.{Fault}
 use Rattle.rz_core.specs.declared.resource.Resource.{Resource}
-use Rattle.rz_folder.specs.Folder.{Files}
 use Rattle.rz_fork.specs.Contents.{FitsFork}
 use Rattle.rz_lex.specs.Printed.{token_of, word_of}
 use Rattle.rz_lex.specs.declared.raw_line.RawLine.{RawLine}

@@ -1,19 +1,18 @@
 -- An answer that is carried out.
-use Rattle.std.proofs.Common.{◌≡◌, ◌≤◌, ◌<◌, ◌+◌, inl, inr, ℕ, List, [], ◌∷◌, ◌++◌, map, take, drop, length, get_or, ◌^◌, Some, None, refl, sym, ap, subst, ◌∙◌, arith}
-use Rattle.std.specs.Prelude.{IfSome, IsSomeAnd}
+use Rattle.std.proofs.Common.{◌≡◌, ◌<◌, ◌+◌, inl, inr, ℕ, List, [], ◌∷◌, ◌++◌, map, take, drop, length, get_or, ◌^◌, Some, None, refl, sym, ap, subst, ◌∙◌}
+use Rattle.std.specs.Prelude.{IfSome}
 use Rattle.std.specs.declared.option.Option.{Option}
 use Rattle.std.specs.FinMap as finite
 use Rattle.std.proofs.lemmas.List.{drop_more, map-append, take_more, take-append-drop}
 use Rattle.rz_folder.specs.Counts.{Rose}
 use Rattle.rz_folder.specs.Folder.{Files, Writes}
 use Rattle.rz_folder.specs.Sink.{Puts}
-use Rattle.rz_folder.specs.declared.folder.Written.{Written}
 use Rattle.rz_folder.specs.declared.folder.Written.TheVariants as ends
 use Rattle.rz_folder.specs.declared.sink.Put.TheVariants as puts
-use Rattle.rz_tools.specs.Answer.{files_after, misused, refused, Answer, Failing, Write}
+use Rattle.rz_tools.specs.Answer.{files_after, Answer, Write}
 use Rattle.rz_tools.specs.Message.{write_fault_line}
 use Rattle.rz_tools.specs.Plan.{FailsAt, WritesEach}
-use Rattle.rz_tools.specs.Program.{at_file, at_text, CarriesOut, Ends, IsAnswered, IsCutAt, IsPartlyWritten, IsUntouched, IsWritten}
+use Rattle.rz_tools.specs.Program.{at_file, at_text, CarriesOut, IsAnswered, IsUntouched}
 use Rattle.rz_tools.specs.World.{Says, World}
 use Rattle.rz_tools.specs.WellFormed.{AreWritable, FitsOutcome}
 use Rattle.rz_tools.specs.declared.outcome.Outcome.{Outcome}

@@ -1,17 +1,16 @@
 -- The text that is shown of a fork, as the one source of rez.
-use Rattle.std.proofs.Common.{◌≡◌, inl, inr, ℕ, List, [], ◌∷◌, ◌++◌, Some, None, Ok, Err, refl, sym, ap, subst, ◌∙◌}
+use Rattle.std.proofs.Common.{◌≡◌, inl, ℕ, List, [], ◌∷◌, Some, Ok, Err, refl, sym, subst}
 use Rattle.std.specs.declared.result.Result.{Result}
 use Rattle.std.specs.FinMap as finite
 use Rattle.rz_core.specs.declared.fault.Fault.{Fault}
 use Rattle.rz_core.specs.declared.moment.Moment.{Moment}
 use Rattle.rz_core.specs.declared.resource.Resource.{Resource}
 use Rattle.rz_folder.specs.Folder.{Files}
-use Rattle.rz_pre.specs.Program.{NamedGoes, NamesGo, State, start}
+use Rattle.rz_pre.specs.Program.{NamesGo, State, start}
 use Rattle.rz_pre.specs.declared.condition.Tool.TheVariants as tools
 use Rattle.rz_words.specs.Command.{IsCommand, Rez, RezAsked}
-use Rattle.rz_words.specs.Definition.{AreFree}
-use Rattle.rz_tools.specs.Again.{compiled_alone, CompilesAlone, MeansAgain, NoneIsLive}
-use Rattle.rz_tools.specs.Answer.{or_refused, written, Failing, Making}
+use Rattle.rz_tools.specs.Again.{compiled_alone, MeansAgain, NoneIsLive}
+use Rattle.rz_tools.specs.Answer.{or_refused, written}
 use Rattle.rz_tools.specs.Program.{command, Answers}
 use Rattle.rz_tools.specs.Rez.{list_fork, setting_of, Compiles, HasFork, Said}
 

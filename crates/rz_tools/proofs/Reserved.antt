@@ -6,7 +6,6 @@ use Rattle.std.specs.List.{AllByRecursion}
 use Rattle.std.specs.Str.{bytes_eq, str_eq_ignore_ascii_case, str_to_ascii_lowercase}
 use Rattle.std.proofs.lemmas.Bool.{eqb-true, false≢true}
 use Rattle.std.proofs.lemmas.Slice.Eq.{bytes_eq-Decides}
-use Rattle.rz_core.proofs.Tests.{by_test}
 use Rattle.rz_expr.specs.Attribute.{attribute_word, bit_of, said_by, IsSaid}
 use Rattle.rz_expr.specs.Keyword.{keyword_of, spelling}
 use Rattle.rz_expr.specs.Words.{dollar_role, is_label, is_other_name, keyword_role, plain_role, role_of}

@@ -1,15 +1,14 @@
 -- A run, from the answer that was carried out after files were read.
-use Rattle.std.proofs.Common.{◌≡◌, ◌≤◌, ◌⊎◌, inl, inr, ℕ, List, Some, None, refl, sym, ap, subst, ◌∙◌, arith}
+use Rattle.std.proofs.Common.{◌≡◌, ◌≤◌, ◌⊎◌, inl, inr, ℕ, List, Some, None, sym, subst, ◌∙◌, arith}
 use Rattle.std.specs.Prelude.{IfSome}
 use Rattle.std.specs.declared.option.Option.{Option}
-use Rattle.rz_core.specs.declared.fault.Fault.{Fault}
 use Rattle.rz_core.specs.declared.moment.Moment.{Moment}
 use Rattle.rz_folder.specs.Counts.{Rose}
 use Rattle.rz_folder.specs.Folder.{Files}
 use Rattle.rz_words.specs.declared.read.UsageFault.{UsageFault}
 use Rattle.rz_tools.specs.Answer.{Answer, Write}
-use Rattle.rz_tools.specs.Program.{at_file, at_text, Answers, CarriesOut, Ends, IsAnswered, IsPartlyWritten, IsUntouched, IsWritten}
-use Rattle.rz_tools.specs.World.{Says, World}
+use Rattle.rz_tools.specs.Program.{at_file, at_text, Answers, CarriesOut, Ends, IsAnswered, IsPartlyWritten, IsUntouched}
+use Rattle.rz_tools.specs.World.{World}
 use Rattle.rz_tools.specs.declared.outcome.Outcome.{Outcome}
 use Rattle.rz_tools.specs.declared.outcome.Outcome.TheVariants.{Done, Usage, Refused, ReadFault, WriteFault, NoMemory}
 use Rattle.rz_tools.proofs.Carried.{carried_too}

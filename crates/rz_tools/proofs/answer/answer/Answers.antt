@@ -1,7 +1,6 @@
 use Rattle.std.proofs.Common.{ℕ, List, [], inr, map, ap, sym, subst, ◌∙◌}
 use Rattle.std.specs.String.{string_bytes}
 use Rattle.rz_tools.specs.Answer.{shown, Answer}
-use Rattle.rz_tools.specs.Plan.{answer_of}
 use Rattle.rz_tools.specs.WellFormed.{IsWellFormed}
 use Rattle.rz_tools.specs.declared.outcome.Outcome.TheVariants.{Usage}
 use Rattle.rz_words.specs.Command.{Rez, DeRez, Help, Version}

@@ -1,4 +1,4 @@
-use Rattle.std.proofs.Common.{◌∙◌, ◌+◌, List, map, take, drop, refl, sym, subst, arith}
+use Rattle.std.proofs.Common.{◌∙◌, ◌+◌, List, map, take, drop, sym, subst, arith}
 use Rattle.rz_tools.specs.Answer.{Write}
 use Rattle.rz_tools.specs.Plan.{write_of}
 use Rattle.rz_tools.proofs.Carried.{cut_there, front_more, next_done, next_failed, writable_there, AreSoFar}

@@ -1,4 +1,4 @@
-use Rattle.std.proofs.Common.{List, map, subst, ◌∙◌}
+use Rattle.std.proofs.Common.{List, subst, ◌∙◌}
 use Rattle.rz_lex.specs.declared.token.Token.{Token}
 use Rattle.rz_tools.specs.Held.{work_of}
 use Rattle.rz_tools.specs.Step.{Steps, Worked}
