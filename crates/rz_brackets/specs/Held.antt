@@ -1,6 +1,4 @@
 -- What the code holds of tokens that it lends.
-use Rattle.std.specs.Prelude.{List, map}
-use Rattle.rz_lex.specs.declared.token.Token.{Token}
 use Rattle.rz_brackets.specs.Pieces.{Parted}
 use Rattle.rz_brackets.specs.declared.pieces.Split.{Split}
 

@@ -1,5 +1,5 @@
 -- Tokens are one `data` statement at most.
-use Rattle.std.proofs.Common.{◌≡◌, ℕ, List, [], ◌∷◌, Option, Some, None, refl, sym, ap, subst, ◌∙◌}
+use Rattle.std.proofs.Common.{◌≡◌, List, [], ◌∷◌, Option, Some, None, sym, ap, subst, ◌∙◌}
 use Rattle.rz_expr.proofs.OneTerm.{OneExpression}
 use Rattle.rz_core.proofs.Tests.{same_some}
 use Rattle.rz_lex.specs.declared.token.Token.{Token}

@@ -1,7 +1,5 @@
 -- The parts of a statement, put together and taken apart.
-use Rattle.std.proofs.Common.{◌≡◌, ◌≤◌, ◌-◌, ℕ, true, false, List, [], ◌∷◌, drop, get_or, length, take, Option, Some, None, refl, sym, ap, subst, ◌∙◌, arith}
-use Rattle.std.specs.Prelude.{option_map}
-use Rattle.std.proofs.lemmas.List.{length-drop, take_all}
+use Rattle.std.proofs.Common.{◌≡◌, ◌≤◌, true, List, [], ◌∷◌, get_or, length, Option, Some, None, sym, ap, subst, ◌∙◌, arith}
 use Rattle.rz_brackets.proofs.Slices.{behind_of, all_behind, two}
 use Rattle.rz_lex.specs.declared.token.Token.{Token}
 use Rattle.rz_data.specs.Head.{AreAttributes, Attribute, Head, IsHead, IsRestBy, IsRestOf}

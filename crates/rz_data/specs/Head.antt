@@ -1,11 +1,9 @@
--- The head of a statement: an id, and then maybe a name and attributes. (MPW Rez.)
-use Rattle.std.specs.Prelude.{◌≡◌, ℕ, Bool, true, false, ◌&&◌, if◌then◌else◌, List, [], ◌∷◌, map, Option, Some, None, option_map}
-use Rattle.std.specs.Option.{is_some}
+-- The head of a statement: an id, and then maybe a name and attributes. Its expressions are constants, so far. (MPW Rez.)
+use Rattle.std.specs.Prelude.{◌≡◌, ℕ, if◌then◌else◌, List, [], ◌∷◌, map, Option, Some, None, option_map}
 use Rattle.rz_expr.specs.Attribute.{attribute_word}
 use Rattle.rz_expr.specs.declared.attribute.AttributeWord.{AttributeWord}
-use Rattle.rz_expr.specs.Environment.{predefined}
-use Rattle.rz_expr.specs.Grammar.{IsExpression}
-use Rattle.rz_expr.specs.Term.{term_of, BitsAt, Constant, FactOf, Named, OfOne, OfTwo, RowsOf, Term}
+use Rattle.rz_expr.specs.Constant.{IsConstant}
+use Rattle.rz_expr.specs.Term.{term_of, Term}
 use Rattle.rz_lex.specs.declared.token.Shape.{Shape}
 use Rattle.rz_lex.specs.declared.token.Shape.TheVariants as shapes
 use Rattle.rz_lex.specs.declared.token.Token.{Token}
@@ -33,19 +31,6 @@ attribute_of (parts.Value expr) = Value (term_of expr)
 abbrev pub head_of : HeadExpr → Head
 head_of head = record { id = term_of head.id; name = option_map plain_parts head.name; attributes = map attribute_of head.attributes }
 
--- an expression of a head has no names but `true` and `false`, and so far no functions
-abbrev pub stands_in_heads : Term → Bool
-stands_in_heads (Constant number) = true
-stands_in_heads (Named name) = is_some (predefined name)
-stands_in_heads (RowsOf name) = false
-stands_in_heads (BitsAt name start width) = false
-stands_in_heads (FactOf which) = false
-stands_in_heads (OfOne op operand) = stands_in_heads operand
-stands_in_heads (OfTwo op left right) = stands_in_heads left && stands_in_heads right
-
-abbrev pub IsHeadExpression : List Token → Term → Type 0
-IsHeadExpression tokens term = IsExpression tokens term × (stands_in_heads term ≡ true)
-
 -- what an attribute word says
 abbrev pub said : AttributeWord → Attribute
 said word = if word.sets then Set word.bit else Clear word.bit
@@ -62,7 +47,7 @@ word_attribute tokens = None
 -- a piece that is an attribute: such a word, or else an expression
 abbrev pub IsAttributeBy : Option Attribute → List Token → Attribute → Type 0
 IsAttributeBy (Some found) piece attribute = attribute ≡ found
-IsAttributeBy None piece attribute = (term : Term) × IsHeadExpression piece term × (attribute ≡ Value term)
+IsAttributeBy None piece attribute = (term : Term) × IsConstant piece term × (attribute ≡ Value term)
 
 abbrev pub IsAttribute : List Token → Attribute → Type 0
 IsAttribute piece = IsAttributeBy (word_attribute piece) piece
@@ -87,4 +72,4 @@ IsRestOf pieces rest = IsRest pieces rest.0 rest.1
 -- the pieces of a head: the id, and what stands behind it
 abbrev pub IsHead : List (List Token) → Head → Type 0
 IsHead [] head = ⊥
-IsHead (first ∷ others) head = IsHeadExpression first head.id × IsRest others head.name head.attributes
+IsHead (first ∷ others) head = IsConstant first head.id × IsRest others head.name head.attributes

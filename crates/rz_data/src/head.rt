@@ -3,10 +3,10 @@ ghost use Rattle.rz_expr.specs.Term.{term_of, Term};
 ghost use Rattle.rz_expr.specs.Attribute.{attribute_word};
 ghost use Rattle.rz_types.specs.Text.{plain_parts};
 ghost use Rattle.rz_core.specs.Decided.{Decided};
-ghost use Rattle.rz_data.specs.Head.{attribute_of, head_of, said, stands_in_heads, word_attribute, AreAttributes, Attribute, Head, IsAttribute, IsHead, IsHeadExpression, IsRestOf};
+ghost use Rattle.rz_data.specs.Head.{attribute_of, head_of, said, word_attribute, AreAttributes, Attribute, Head, IsAttribute, IsHead, IsRestOf};
 
 use rz_core::{Listing, NoMemory, Word};
-use rz_expr::{AttributeWord, Expr, attribute_word, one_expression, predefined, read_whole};
+use rz_expr::{AttributeWord, Expr, attribute_word, one_expression, read_constant};
 use rz_lex::{Shape, Token};
 use rz_types::{Texts, text_in};
 use std::alloc::Global;
@@ -44,7 +44,7 @@ pub fn read_head(alloc: Global, pieces: &[&[Token]]) -> Result<Option<HeadExpr>,
     let Some((first, others)) = pieces.split_first() else {
         return Ok(None);
     };
-    let Some(id) = read_expression(alloc, first)? else {
+    let Some(id) = read_constant(alloc, first)? else {
         return Ok(None);
     };
     let Some((name, attributes)) = read_rest(alloc, others)? else {
@@ -102,7 +102,7 @@ fn read_attribute(alloc: Global, piece: &[Token]) -> Result<Option<AttrPart>, No
     if let Some(part) = word_attribute(piece) {
         return Ok(Some(part));
     }
-    match read_expression(alloc, piece)? {
+    match read_constant(alloc, piece)? {
         Some(value) => Ok(Some(AttrPart::Value(value))),
         None => Ok(None),
     }
@@ -139,36 +139,5 @@ fn said(word: AttributeWord) -> AttrPart
         AttrPart::Set(word.bit)
     } else {
         AttrPart::Clear(word.bit)
-    }
-}
-
-/// The expression that a piece is, where it is one that may stand in a head.
-fn read_expression(alloc: Global, piece: &[Token]) -> Result<Option<Expr>, NoMemory>
-    ensures { IfOk result (λ expr. Decided (IsHeadExpression piece.now) (option_map term_of expr)) }
-{
-    one_expression();
-    match read_whole(alloc, piece)? {
-        Some(expr) => {
-            if stands_in_heads(&expr) {
-                Ok(Some(expr))
-            } else {
-                Ok(None)
-            }
-        }
-        None => Ok(None),
-    }
-}
-
-/// Whether an expression may stand in a head: without names but `true` and `false`, and so far without
-/// functions.
-fn stands_in_heads(expr: &Expr) -> bool
-    ensures { result ≡ stands_in_heads (term_of expr.now) }
-{
-    match expr {
-        Expr::Number(_) => true,
-        Expr::Name(name) => predefined(name).is_some(),
-        Expr::Count(_) | Expr::Bits(..) | Expr::Fact(_) => false,
-        Expr::Unary(_, operand) => stands_in_heads(operand),
-        Expr::Binary(_, left, right) => stands_in_heads(left) && stands_in_heads(right),
     }
 }

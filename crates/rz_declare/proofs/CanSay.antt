@@ -1,5 +1,5 @@
 -- Faults of `type` statements that a message can say.
-use Rattle.std.proofs.Common.{◌≡◌, ℕ, ℤ, ◌<◌, Bool, true, false, if◌then◌else◌, List, [], ◌∷◌, Option, Some, None, Ok, Err, refl, sym, subst}
+use Rattle.std.proofs.Common.{ℕ, ℤ, ◌<◌, Bool, true, false, if◌then◌else◌, List, [], ◌∷◌, Option, Some, None, Ok, Err, refl, subst}
 use Rattle.std.specs.declared.result.Result.{Result}
 use Rattle.std.specs.Prelude.{pos, ◌+ℤ◌}
 use Rattle.rz_core.specs.Message.{IsNameable}
@@ -14,7 +14,7 @@ use Rattle.rz_expr.specs.Value.{reduced, value_of}
 use Rattle.rz_expr.specs.Constant.{constant_sight}
 use Rattle.rz_expr.specs.declared.value.EvalFault.{EvalFault}
 use Rattle.rz_expr.specs.declared.value.EvalFault.TheVariants.{BadShift, DataWidth, LaterData, UnknownName, ZeroDivisor}
-use Rattle.rz_declare.specs.Constants.{body_value, count_value, declare_of, declared, field_value, id_value, made_value, number_of_width, number_value, scope_value, seen, width_value, Declare}
+use Rattle.rz_declare.specs.Constants.{body_value, count_value, declare_of, declared, field_value, id_value, made_value, number_of_width, number_value, scope_value, seen, width_value}
 use Rattle.rz_declare.specs.Form.{DeclareForm, FieldForm, MadeForm, NamedTerm, NumberForm, Own, ScopeForm, WidthForm, Written}
 use Rattle.rz_declare.specs.Form as form
 use Rattle.rz_types.specs.Value.{constant_value, value_fault, with_fault}

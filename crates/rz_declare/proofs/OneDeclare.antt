@@ -1,5 +1,5 @@
 -- `type` statements are one at most.
-use Rattle.std.proofs.Common.{◌≡◌, ℕ, Bool, true, false, List, [], ◌∷◌, Option, Some, None, refl, sym, ap, subst, ◌∙◌}
+use Rattle.std.proofs.Common.{◌≡◌, Bool, true, false, List, [], ◌∷◌, Option, Some, refl, sym, ap, subst, ◌∙◌}
 use Rattle.rz_expr.proofs.OneTerm.{OneExpression}
 use Rattle.rz_core.proofs.Tests.{same_some}
 use Rattle.rz_brackets.specs.Bracket.{begins}
@@ -13,7 +13,7 @@ use Rattle.rz_lex.specs.declared.token.Token.{Token}
 use Rattle.rz_declare.specs.Body.{IsBody}
 use Rattle.rz_declare.specs.Declare.{AreIds, IsDeclare, IsMade, IsScope, IsScoped}
 use Rattle.rz_declare.specs.DeclareSteps.{AreFieldsMade, AreForAny, AreForIds, AreScoped, IsCopy, IsCopyId, IsCopyIdBy, IsGivenId}
-use Rattle.rz_declare.specs.FieldValue.{IsConstant}
+use Rattle.rz_expr.specs.Constant.{IsConstant}
 use Rattle.rz_declare.specs.Form.{Any, CopyOf, DeclareForm, FieldForm, Fields, MadeForm, One, ScopeForm, Two}
 use Rattle.rz_declare.proofs.MadeSo.{any_back, copy_back, fields_back, ids_back}
 use Rattle.rz_declare.proofs.OneField.{one_body}

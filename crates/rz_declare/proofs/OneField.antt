@@ -1,5 +1,5 @@
 -- Fields are one at most.
-use Rattle.std.proofs.Common.{◌≡◌, ℕ, Bool, true, false, List, [], ◌∷◌, Option, Some, None, refl, sym, ap, subst, ◌∙◌}
+use Rattle.std.proofs.Common.{◌≡◌, ℕ, Bool, true, false, List, [], ◌∷◌, Option, Some, None, sym, ap, subst, ◌∙◌}
 use Rattle.rz_expr.proofs.OneTerm.{OneExpression}
 use Rattle.rz_core.proofs.Tests.{same_some}
 use Rattle.rz_brackets.specs.Bracket.{begins}
@@ -11,8 +11,8 @@ use Rattle.rz_lex.specs.declared.token.Token.{Token}
 use Rattle.rz_declare.specs.Body.{AreFields, IsBody}
 use Rattle.rz_declare.specs.Each.{AreEach}
 use Rattle.rz_declare.specs.FieldForm.{align_of, fixed_text, AreNumbers, IsCount, IsField, IsFieldFront, IsFieldOf, IsFill, IsFillOf, IsPoints, IsPointsField, IsSized, IsText, IsTextBy, IsTextField, IsUnsized}
-use Rattle.rz_declare.specs.FieldFront.{IsFront}
-use Rattle.rz_declare.specs.FieldValue.{IsConstant, IsFieldExpression}
+use Rattle.rz_expr.specs.Constant.{IsConstant}
+use Rattle.rz_declare.specs.FieldValue.{IsFieldExpression}
 use Rattle.rz_declare.specs.FieldWord.{front_in, hex_of, unit_in, FieldFront}
 use Rattle.rz_declare.specs.Form.{Align, FieldForm, Fill, Number, NumberForm, Points, Text}
 use Rattle.rz_declare.specs.declared.field_word.FieldWord.{FieldWord}

@@ -7,7 +7,8 @@ use Rattle.rz_brackets.specs.declared.pieces.Divider.TheVariants.{Comma}
 use Rattle.rz_expr.specs.Term.{Term}
 use Rattle.rz_lex.specs.declared.token.Token.{Token}
 use Rattle.rz_declare.specs.Each.{AreEach}
-use Rattle.rz_declare.specs.FieldValue.{is_equals, IsConstant}
+use Rattle.rz_expr.specs.Constant.{IsConstant}
+use Rattle.rz_declare.specs.FieldValue.{is_equals}
 use Rattle.rz_declare.specs.FieldWord.{FieldFront}
 use Rattle.rz_declare.specs.Form.{NamedTerm, NumberForm, Own, Written}
 use Rattle.rz_types.specs.Range.{own_width}

@@ -4,8 +4,6 @@ use Rattle.rz_brackets.specs.Bracket.{IsBracketed}
 use Rattle.rz_brackets.specs.Pieces.{AreCut, Parted}
 use Rattle.rz_brackets.specs.declared.bracket.Bracket.{Bracket}
 use Rattle.rz_brackets.specs.declared.pieces.Divider.{Divider}
-use Rattle.rz_expr.specs.Grammar.{IsExpression}
-use Rattle.rz_expr.specs.Term.{Term}
 use Rattle.rz_lex.specs.declared.token.Token.{Token}
 
 abbrev pub OneCut : Type 0

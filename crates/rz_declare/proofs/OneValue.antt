@@ -3,7 +3,8 @@ use Rattle.std.proofs.Common.{◌≡◌, ℕ, List, Option, Some, None, sym, ◌
 use Rattle.rz_expr.proofs.OneTerm.{OneExpression}
 use Rattle.rz_expr.specs.Term.{Term}
 use Rattle.rz_lex.specs.declared.token.Token.{Token}
-use Rattle.rz_declare.specs.FieldValue.{one_byte, IsConstant, IsFieldExpression, IsValue, IsValueBy}
+use Rattle.rz_expr.specs.Constant.{IsConstant}
+use Rattle.rz_declare.specs.FieldValue.{one_byte, IsFieldExpression, IsValue, IsValueBy}
 use Rattle.rz_types.specs.declared.field.NumForm.{NumForm}
 
 module _ (one : OneExpression) where

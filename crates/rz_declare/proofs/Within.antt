@@ -1,7 +1,5 @@
 -- What stands in brackets, as the code has it.
-use Rattle.std.proofs.Common.{◌≡◌, ◌≤◌, ◌<◌, ◌-◌, ◌==◌, ℕ, true, false, List, [], ◌∷◌, drop, get_or, length, take, Option, Some, None, refl, sym, ap, subst, ◌∙◌, arith}
-use Rattle.std.proofs.lemmas.List.{length-drop, take_all}
-use Rattle.rz_brackets.proofs.Slices.{behind_of, all_behind}
+use Rattle.std.proofs.Common.{◌≡◌, ◌≤◌, ◌<◌, List, [], ◌∷◌, get_or, length, Option, Some, None, sym, ◌∙◌, arith}
 use Rattle.rz_core.proofs.Tests.{none_some}
 use Rattle.rz_lex.specs.declared.token.Token.{Token}
 use Rattle.rz_brackets.specs.Bracket.{IsBracketed}

@@ -1,18 +1,18 @@
 -- A `type` statement as it is written: `type`, a type, maybe ids in brackets, and fields in braces, or `as` and another
 -- type. (MPW Rez.)
-use Rattle.std.specs.Prelude.{◌≡◌, ℕ, Bool, true, false, List, [], ◌∷◌, Option, Some, None}
+use Rattle.std.specs.Prelude.{◌≡◌, ℕ, true, List, [], ◌∷◌, Some, None}
 use Rattle.rz_expr.specs.Keyword.{is_keyword}
 use Rattle.rz_expr.specs.Term.{Term}
 use Rattle.rz_expr.specs.declared.keyword.Keyword.TheVariants as keywords
 use Rattle.rz_lex.specs.declared.token.Token.{Token}
-use Rattle.rz_brackets.specs.Bracket.{begins, IsBracketed}
+use Rattle.rz_brackets.specs.Bracket.{IsBracketed}
 use Rattle.rz_brackets.specs.Kind.{kind_in}
 use Rattle.rz_brackets.specs.Pieces.{AreCut, Parted}
-use Rattle.rz_brackets.specs.Statements.{is_empty, is_semicolon}
+use Rattle.rz_brackets.specs.Statements.{is_empty}
 use Rattle.rz_brackets.specs.declared.bracket.Bracket.TheVariants.{Curly, Round}
 use Rattle.rz_brackets.specs.declared.pieces.Divider.TheVariants.{Colon}
 use Rattle.rz_declare.specs.Body.{IsBody}
-use Rattle.rz_declare.specs.FieldValue.{IsConstant}
+use Rattle.rz_expr.specs.Constant.{IsConstant}
 use Rattle.rz_declare.specs.Form.{Any, CopyOf, DeclareForm, FieldForm, Fields, MadeForm, One, ScopeForm, Two}
 
 -- the ids: one, or the first and the last

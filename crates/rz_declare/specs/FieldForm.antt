@@ -9,7 +9,8 @@ use Rattle.rz_brackets.specs.declared.bracket.Bracket.TheVariants.{Curly, Square
 use Rattle.rz_brackets.specs.declared.pieces.Divider.TheVariants.{Comma}
 use Rattle.rz_declare.specs.Each.{AreEach}
 use Rattle.rz_declare.specs.FieldFront.{IsFront}
-use Rattle.rz_declare.specs.FieldValue.{is_equals, IsConstant, IsFieldExpression}
+use Rattle.rz_expr.specs.Constant.{IsConstant}
+use Rattle.rz_declare.specs.FieldValue.{is_equals, IsFieldExpression}
 use Rattle.rz_declare.specs.FieldWord.{align_unit, hex_of, unit_in, FieldFront}
 use Rattle.rz_declare.specs.Form.{Align, FieldForm, Fill, Number, NumberForm, Points, Text}
 use Rattle.rz_declare.specs.NumberField.{IsNumber}

@@ -1,7 +1,6 @@
 -- Values in type declarations. (MPW Rez.)
 use Rattle.std.specs.Prelude.{◌≡◌, ℕ, pos, Bool, true, false, List, [], ◌∷◌, Option, Some, None}
-use Rattle.rz_expr.specs.Constant.{is_constant}
-use Rattle.rz_expr.specs.Grammar.{IsExpression}
+use Rattle.rz_expr.specs.Constant.{IsConstant}
 use Rattle.rz_expr.specs.Term.{Constant, Term}
 use Rattle.rz_lex.specs.declared.sign.Sign.TheVariants as signs
 use Rattle.rz_lex.specs.declared.token.Shape.{Shape}
@@ -9,10 +8,6 @@ use Rattle.rz_lex.specs.declared.token.Shape.TheVariants as shapes
 use Rattle.rz_lex.specs.declared.token.Token.{Token}
 use Rattle.rz_types.specs.declared.field.NumForm.{NumForm}
 use Rattle.rz_types.specs.declared.field.NumForm.TheVariants.{Char}
-
--- a constant is an expression without names other than `true` and `false`, and without functions
-abbrev pub IsConstant : List Token → Term → Type 0
-IsConstant tokens term = IsExpression tokens term × (is_constant term ≡ true)
 
 -- an expression of a field; so far a constant
 abbrev pub IsFieldExpression : List Token → Term → Type 0

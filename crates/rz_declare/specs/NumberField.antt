@@ -7,7 +7,8 @@ use Rattle.rz_brackets.specs.Pieces.{AreCut, Parted}
 use Rattle.rz_brackets.specs.declared.bracket.Bracket.TheVariants.{Square}
 use Rattle.rz_brackets.specs.declared.pieces.Divider.TheVariants.{Comma}
 use Rattle.rz_declare.specs.Each.{AreEach}
-use Rattle.rz_declare.specs.FieldValue.{is_equals, IsConstant, IsValue}
+use Rattle.rz_expr.specs.Constant.{IsConstant}
+use Rattle.rz_declare.specs.FieldValue.{is_equals, IsValue}
 use Rattle.rz_declare.specs.FieldWord.{FieldFront}
 use Rattle.rz_declare.specs.Form.{named_of, NamedTerm, NumberForm, Own, WidthForm, Written}
 use Rattle.rz_declare.specs.Symbols.{IsSymbol}

@@ -7,10 +7,9 @@ ghost use Rattle.rz_declare.specs.Form.{declare_form, made_form, scope_form};
 
 use crate::body::read_body;
 use crate::form::{DeclareExpr, MadeExpr, ScopeExpr};
-use crate::value::read_constant;
 use rz_brackets::{Bracket, Divider, begins, bracketed, is_empty_statement, kind_in, pieces_by};
 use rz_core::{NoMemory, OsType};
-use rz_expr::{Expr, Keyword, is_keyword};
+use rz_expr::{Expr, Keyword, is_keyword, read_constant};
 use rz_lex::Token;
 use std::alloc::Global;
 

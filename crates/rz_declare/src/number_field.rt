@@ -7,10 +7,10 @@ ghost use Rattle.rz_declare.specs.NumberField.{numbered, shown, tail_of, AreName
 use crate::field_word::Front;
 use crate::form::{Names, NumberExpr, Width};
 use crate::symbols::read_symbols;
-use crate::value::{is_equals, read_constant, read_value};
+use crate::value::{is_equals, read_value};
 use rz_brackets::{Bracket, Divider, bracketed, pieces_by};
 use rz_core::NoMemory;
-use rz_expr::Expr;
+use rz_expr::{Expr, read_constant};
 use rz_lex::Token;
 use rz_types::{NumForm, Radix, own_width};
 use std::alloc::Global;

@@ -2,31 +2,13 @@ ghost use Rattle.std.specs.Prelude.{◌≡◌, IfOk, map, option_map};
 ghost use Rattle.rz_expr.specs.Term.{term_of};
 ghost use Rattle.rz_core.specs.Decided.{Decided};
 ghost use Rattle.rz_declare.specs.Each.{AreEach};
-ghost use Rattle.rz_declare.specs.FieldValue.{byte_in, is_equals, one_byte, IsConstant, IsFieldExpression, IsValue};
+ghost use Rattle.rz_declare.specs.FieldValue.{byte_in, is_equals, one_byte, IsFieldExpression, IsValue};
 
 use rz_core::NoMemory;
-use rz_expr::{Expr, is_constant, one_expression, read_whole};
+use rz_expr::{Expr, read_constant};
 use rz_lex::{Shape, Sign, Token};
 use rz_types::{Exprs, NumForm};
 use std::alloc::Global;
-
-/// The constant that the tokens are: an expression without names other than `true` and `false`, and without
-/// `$$` functions. (MPW Rez.)
-pub fn read_constant(alloc: Global, tokens: &[Token]) -> Result<Option<Expr>, NoMemory>
-    ensures { IfOk result (λ expr. Decided (IsConstant tokens.now) (option_map term_of expr)) }
-{
-    one_expression();
-    match read_whole(alloc, tokens)? {
-        Some(expr) => {
-            if is_constant(&expr) {
-                Ok(Some(expr))
-            } else {
-                Ok(None)
-            }
-        }
-        None => Ok(None),
-    }
-}
 
 /// The expression of a field that the tokens are. It is a constant, so far.
 pub fn read_expression(alloc: Global, tokens: &[Token]) -> Result<Option<Expr>, NoMemory>

@@ -1,10 +1,13 @@
-ghost use Rattle.std.specs.Prelude.{◌≡◌};
+ghost use Rattle.std.specs.Prelude.{◌≡◌, IfOk, option_map};
 ghost use Rattle.std.proofs.Common.{rules};
-ghost use Rattle.rz_expr.specs.Constant.{constant_of, constant_sight, is_constant};
+ghost use Rattle.rz_expr.specs.Constant.{constant_of, constant_sight, is_constant, IsConstant};
 ghost use Rattle.rz_expr.specs.Term.{term_of};
+ghost use Rattle.rz_core.specs.Decided.{Decided};
 
-use crate::{Env, Expr, FactWord, predefined, value_in};
-use rz_core::Word;
+use crate::{Env, Expr, FactWord, one_expression, predefined, read_whole, value_in};
+use rz_core::{NoMemory, Word};
+use rz_lex::Token;
+use std::alloc::Global;
 
 /// What an expression sees that stands for itself: `true` and `false` alone have a value.
 pub struct ConstantEnv;
@@ -44,6 +47,24 @@ pub fn is_constant(expr: &Expr) -> bool
         Expr::Count(_) | Expr::Bits(..) | Expr::Fact(_) => false,
         Expr::Unary(_, operand) => is_constant(operand),
         Expr::Binary(_, left, right) => is_constant(left) && is_constant(right),
+    }
+}
+
+/// The constant that the tokens are: an expression without names other than `true` and `false`, and without
+/// `$$` functions. (MPW Rez.)
+pub fn read_constant(alloc: Global, tokens: &[Token]) -> Result<Option<Expr>, NoMemory>
+    ensures { IfOk result (λ expr. Decided (IsConstant tokens.now) (option_map term_of expr)) }
+{
+    one_expression();
+    match read_whole(alloc, tokens)? {
+        Some(expr) => {
+            if is_constant(&expr) {
+                Ok(Some(expr))
+            } else {
+                Ok(None)
+            }
+        }
+        None => Ok(None),
     }
 }
 

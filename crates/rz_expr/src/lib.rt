@@ -20,7 +20,7 @@ mod words;
 pub use attribute::{
     ATTRIBUTES, Attribute, AttributeWord, attribute_word, bit_of, clearing_word, setting_word,
 };
-pub use constant::{ConstantEnv, constant_of, is_constant};
+pub use constant::{ConstantEnv, constant_of, is_constant, read_constant};
 pub use copies::copy;
 pub use env::{Env, predefined};
 pub use expr::{BinaryOp, Expr, UnaryOp};

@@ -1,6 +1,6 @@
 -- The tokens of the head of a shown resource, as the pieces of a head.
-use Rattle.std.proofs.Common.{◌≡◌, ℕ, suc, ◌<◌, ◌^◌, ℤ, pos, negsuc, Bool, true, false, List, [], ◌∷◌, ◌++◌, map, Some, None, refl, sym, ap, subst, ◌∙◌, arith, append_assoc}
-use Rattle.std.specs.Prelude.{◌==◌, ◌&&◌, ◌||◌, ◌/◌, ◌%◌, nat_le, not, codes, FitsSigned}
+use Rattle.std.proofs.Common.{◌≡◌, ℕ, suc, ◌<◌, ◌^◌, ℤ, pos, negsuc, Bool, true, false, List, [], ◌∷◌, ◌++◌, map, Some, None, refl, sym, ap, subst, ◌∙◌, arith}
+use Rattle.std.specs.Prelude.{◌==◌, ◌&&◌, ◌||◌, ◌/◌, ◌%◌, nat_le, FitsSigned}
 use Rattle.std.specs.Int.{w16, w32}
 use Rattle.std.specs.List.{AllByRecursion}
 use Rattle.std.proofs.lemmas.Int.{int_wrap_fits}
@@ -20,7 +20,8 @@ use Rattle.rz_brackets.specs.Limit.{is_text}
 use Rattle.rz_brackets.specs.Pieces.{divides, has_divider, AreCut, Parted}
 use Rattle.rz_brackets.specs.Statements.{open_behind, open_behind_all}
 use Rattle.rz_brackets.specs.declared.pieces.Divider.TheVariants.{CloseParen, Comma}
-use Rattle.rz_data.specs.Head.{AreAttributes, Attribute, IsAttribute, IsHeadExpression, IsRest, Set}
+use Rattle.rz_expr.specs.Constant.{IsConstant}
+use Rattle.rz_data.specs.Head.{AreAttributes, Attribute, IsAttribute, IsRest, Set}
 use Rattle.rz_types.specs.Text.{part_in, parts_in, text_in, with_part}
 use Rattle.rz_show.specs.Statement.{attribute_part, attributes_of, behind_commas, id_shapes, id_term, name_part, name_pieces, text_parts, text_shapes}
 use Rattle.rz_show.proofs.Split.{front_and_back, none_left, one_and_more, shapes_in}
@@ -162,7 +163,7 @@ rest_is (part ∷ name) attributes shown (piece ∷ pieces) is =
     rw (text_again part name piece first) (refl, attribute_pieces attributes shown pieces others)
 
 -- the id
-pub id_is : (id : ℤ) → FitsSigned w16 id → (tokens : List Token) → shapes_in tokens ≡ id_shapes id → IsHeadExpression tokens (id_term id)
+pub id_is : (id : ℤ) → FitsSigned w16 id → (tokens : List Token) → shapes_in tokens ≡ id_shapes id → IsConstant tokens (id_term id)
 id_is (pos n) fits tokens is =
     let one = one_and_more tokens (shapes.Number n) [] is in
     let alone : tokens ≡ one.one ∷ [] = one.are ∙ ap (λ (x : List Token). one.one ∷ x) (none_left one.more one.more_are) in

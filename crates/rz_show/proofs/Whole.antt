@@ -8,7 +8,7 @@ use Rattle.std.proofs.lemmas.Grind.{flat_map-append}
 use Rattle.std.proofs.lemmas.Nat.{from_be_bytes-to_be_bytes_4}
 use Rattle.rz_core.specs.Numbers.{be}
 use Rattle.rz_core.specs.declared.resource.Resource.{Resource}
-use Rattle.rz_expr.specs.Attribute.{bit_of, setting_word}
+use Rattle.rz_expr.specs.Attribute.{bit_of}
 use Rattle.rz_expr.specs.declared.attribute.Attribute as words
 use Rattle.rz_expr.specs.declared.attribute.Attribute.TheVariants.{Changed, Locked, Preload, Protected, Purgeable, SystemHeap}
 use Rattle.rz_lex.specs.Printed.{word_of}

@@ -1,7 +1,7 @@
 -- The words of a statement that is shown.
-use Rattle.std.proofs.Common.{◌≡◌, ℕ, ℤ, pos, negsuc, Bool, true, false, List, [], ◌∷◌, ◌++◌, map, refl, sym, subst}
-use Rattle.std.specs.Prelude.{◌==◌, ◌||◌, ◌/◌, ◌%◌, nat_le, codes}
-use Rattle.std.specs.List.{flat_map, AllByRecursion}
+use Rattle.std.proofs.Common.{◌≡◌, ℕ, ℤ, pos, negsuc, true, List, [], ◌∷◌, ◌++◌, map, refl, sym, subst}
+use Rattle.std.specs.Prelude.{◌==◌, ◌||◌, ◌/◌, ◌%◌, nat_le}
+use Rattle.std.specs.List.{AllByRecursion}
 use Rattle.std.proofs.lemmas.List.Concat.{flat_map-cons}
 use Rattle.rz_core.specs.declared.resource.Resource.{Resource}
 use Rattle.rz_expr.specs.Attribute.{bit_of, setting_word}
@@ -12,7 +12,7 @@ use Rattle.rz_lex.specs.declared.sign.Sign.TheVariants as signs
 use Rattle.rz_lex.specs.declared.token.Shape.{Shape}
 use Rattle.rz_lex.specs.declared.token.Shape.TheVariants as shapes
 use Rattle.rz_data.specs.Head.{Attribute}
-use Rattle.rz_show.specs.Statement.{attribute_part, attributes_of, behind_commas, head_pieces, id_shapes, is_shown, name_pieces, statement_shapes, text_shapes}
+use Rattle.rz_show.specs.Statement.{attribute_part, attributes_of, behind_commas, id_shapes, is_shown, name_pieces, statement_shapes, text_shapes}
 use Rattle.rz_show.proofs.HeadTokens.{all_both}
 use Rattle.rz_show.proofs.Heads.{shape_alone}
 use Rattle.rz_core.proofs.Tests.{by_test}

@@ -1,5 +1,4 @@
-use Rattle.std.proofs.Common.{◌≡◌, List, ◌∷◌, sym, subst, ◌∙◌}
-use Rattle.rz_lex.specs.declared.token.Token.{Token}
+use Rattle.std.proofs.Common.{sym, subst}
 use Rattle.rz_brackets.specs.Pieces.{IsParted}
 use Rattle.rz_brackets.specs.declared.pieces.Divider.{Divider}
 use Rattle.rz_brackets.proofs.OneBracket.{same_rest}

@@ -1,4 +1,4 @@
-use Rattle.std.proofs.Common.{◌+◌, Some, take, sym, ap, ◌∙◌, arith}
+use Rattle.std.proofs.Common.{Some, take, sym, ap, ◌∙◌, arith}
 use Rattle.rz_brackets.specs.Pieces.{divides_at, has_divider, Parted}
 use Rattle.rz_brackets.specs.Statements.{open_behind, open_behind_all}
 use Rattle.rz_brackets.proofs.Fronts.{grows, none_left, none_more, open_more, parted_here}

@@ -1,4 +1,4 @@
-use Rattle.std.proofs.Common.{◌≡◌, List, length, sym, ap, subst, ◌∙◌, arith}
+use Rattle.std.proofs.Common.{List, length, sym, ap, subst, ◌∙◌, arith}
 use Rattle.rz_brackets.proofs.Slices.{behind_of, two}
 use Rattle.rz_core.proofs.Tests.{true_false, none_some}
 use Rattle.rz_brackets.specs.Held.{held_split}

@@ -2,7 +2,7 @@ use Rattle.std.proofs.Common.{sym, subst}
 use Rattle.rz_brackets.specs.Held.{held_split}
 use Rattle.rz_brackets.specs.Pieces.{Parted}
 use Rattle.rz_brackets.specs.declared.bracket.Bracket.TheVariants.{Square}
-use Rattle.rz_declare.specs.FieldValue.{IsConstant}
+use Rattle.rz_expr.specs.Constant.{IsConstant}
 use Rattle.rz_declare.specs.NumberField.{IsTail}
 use Rattle.rz_declare.proofs.Within.{never_within, same_within}
 use Rattle.rz_declare.proofs.number_field.read_bits.Goals as goal

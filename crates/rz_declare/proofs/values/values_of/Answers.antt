@@ -1,4 +1,4 @@
-use Rattle.std.proofs.Common.{rules, ◌+◌, ◌∷◌, ◌++◌, [], ℤ, List, drop, map, Err, sym, ap, ◌∙◌, to_z, of_z, w32, SFits}
+use Rattle.std.proofs.Common.{rules, ◌+◌, ◌∷◌, ◌++◌, [], ℤ, drop, map, Err, sym, ap, ◌∙◌, to_z, of_z, w32, SFits}
 use Rattle.std.specs.Prelude.{pos, ◌+ℤ◌}
 use Rattle.std.proofs.lemmas.Int.{to_z-of_z}
 use Rattle.std.proofs.lemmas.List.{at_drop_more}
