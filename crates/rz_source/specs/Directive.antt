@@ -20,22 +20,18 @@ behind_hash (byte ∷ rest) = if byte == 35 then Some rest else None
 abbrev pub front_word : List ℕ → List ℕ
 front_word bytes = take_while is_word_byte bytes
 
--- the same word, in whatever case
-abbrev pub is : List ℕ → List ℕ → Bool
-is word name = str_eq_ignore_ascii_case name word
-
--- the directive of a word
+-- the directive of a word, in whatever case
 abbrev pub named : List ℕ → Directive
 named name =
-    if is (codes "include") name then Include
-    else if is (codes "define") name then Define
-    else if is (codes "undef") name then Undefine
-    else if is (codes "if") name then If
-    else if is (codes "elif") name then Elif
-    else if is (codes "ifdef") name then Ifdef
-    else if is (codes "ifndef") name then Ifndef
-    else if is (codes "else") name then Else
-    else if is (codes "endif") name then Endif
+    if str_eq_ignore_ascii_case name (codes "include") then Include
+    else if str_eq_ignore_ascii_case name (codes "define") then Define
+    else if str_eq_ignore_ascii_case name (codes "undef") then Undefine
+    else if str_eq_ignore_ascii_case name (codes "if") then If
+    else if str_eq_ignore_ascii_case name (codes "elif") then Elif
+    else if str_eq_ignore_ascii_case name (codes "ifdef") then Ifdef
+    else if str_eq_ignore_ascii_case name (codes "ifndef") then Ifndef
+    else if str_eq_ignore_ascii_case name (codes "else") then Else
+    else if str_eq_ignore_ascii_case name (codes "endif") then Endif
     else Other
 
 -- the directive of what stands behind the `#`

@@ -1,7 +1,7 @@
 ghost use Rattle.std.specs.Prelude.{◌≡◌, ◌≤◌, length, option_map};
 ghost use Rattle.std.specs.List.{prefix_len};
 ghost use Rattle.rz_lex.specs.Classes.{is_word_byte};
-ghost use Rattle.rz_source.specs.Directive.{behind_hash, behind_word, directive_in, front_word, has_parameters, is, named, unblanked};
+ghost use Rattle.rz_source.specs.Directive.{behind_hash, behind_word, directive_in, front_word, has_parameters, named, unblanked};
 
 use rz_lex::{is_blank, is_word_byte};
 
@@ -120,32 +120,25 @@ fn word_size(bytes: &[u8]) -> usize
 fn named(name: &[u8]) -> Directive
     ensures { result ≡ named name.now }
 {
-    if is(b"include", name) {
+    if name.eq_ignore_ascii_case(b"include") {
         Directive::Include
-    } else if is(b"define", name) {
+    } else if name.eq_ignore_ascii_case(b"define") {
         Directive::Define
-    } else if is(b"undef", name) {
+    } else if name.eq_ignore_ascii_case(b"undef") {
         Directive::Undefine
-    } else if is(b"if", name) {
+    } else if name.eq_ignore_ascii_case(b"if") {
         Directive::If
-    } else if is(b"elif", name) {
+    } else if name.eq_ignore_ascii_case(b"elif") {
         Directive::Elif
-    } else if is(b"ifdef", name) {
+    } else if name.eq_ignore_ascii_case(b"ifdef") {
         Directive::Ifdef
-    } else if is(b"ifndef", name) {
+    } else if name.eq_ignore_ascii_case(b"ifndef") {
         Directive::Ifndef
-    } else if is(b"else", name) {
+    } else if name.eq_ignore_ascii_case(b"else") {
         Directive::Else
-    } else if is(b"endif", name) {
+    } else if name.eq_ignore_ascii_case(b"endif") {
         Directive::Endif
     } else {
         Directive::Other
     }
-}
-
-/// Whether a name is this word, in whatever case.
-fn is(word: &[u8], name: &[u8]) -> bool
-    ensures { result ≡ is word.now name.now }
-{
-    name.eq_ignore_ascii_case(word)
 }
