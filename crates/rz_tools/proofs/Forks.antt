@@ -22,10 +22,10 @@ use Rattle.rz_tools.specs.Answer.{Failing, Making}
 use Rattle.rz_tools.specs.Made.{MadeSo, Refuses}
 use Rattle.rz_tools.specs.Rez.{fork_of_work, forked, list_fork, Compiles, Forked, HasFork, Said}
 use Rattle.rz_tools.specs.Warning.{warning_lines}
-use Rattle.rz_tools.specs.Step.{nothing_made, Means, Stopped, Work}
+use Rattle.rz_tools.specs.Step.{nothing_made, Means, WarnedFault, Work}
 use Rattle.rz_tools.specs.ToolWords.{number_for, numbered, shape_or, tool_in}
 use Rattle.rz_tools.specs.declared.made.Made.{Made}
-use Rattle.rz_tools.specs.declared.made.Stopped.{Stopped as Stops}
+use Rattle.rz_tools.specs.declared.made.Stopped.{Stopped}
 use Rattle.rz_tools.specs.declared.made.Stopped.TheVariants as stops
 use Rattle.rz_words.specs.Command.{RezAsked}
 use Rattle.rz_tools.specs.declared.setting.Setting.{Setting}
@@ -57,13 +57,13 @@ pub still_lexed : (tool : Tool) (tokens numbers : List Token) → numbers ≡ ma
 still_lexed tool tokens numbers are all = subst AreLexed (sym are) (lexed tool tokens all)
 
 -- what is made so is made otherwise too, where each such answer is one of the others
-made_so : (A B : Result Making Failing → Type 0) → ((answer : Result Making Failing) → A answer → B answer) → (result : Result Made Stops) → MadeSo result A → MadeSo result B
+made_so : (A B : Result Making Failing → Type 0) → ((answer : Result Making Failing) → A answer → B answer) → (result : Result Made Stopped) → MadeSo result A → MadeSo result B
 made_so A B so (Ok made) is = so _ is
 made_so A B so (Err (stops.Refused fault files said)) is = so _ is
 made_so A B so (Err stops.ReadFault) is = tt
 made_so A B so (Err stops.NoMemory) is = tt
 
-said_so : (files names : List (List ℕ)) → names ≡ files → (P Q : Result Forked Stopped → Type 0) → ((answer : Result Forked Stopped) → P answer → Q answer)
+said_so : (files names : List (List ℕ)) → names ≡ files → (P Q : Result Forked WarnedFault → Type 0) → ((answer : Result Forked WarnedFault) → P answer → Q answer)
     → (answer : Result Making Failing) → Said files P answer → Said names Q answer
 said_so files names same P Q so (Ok making) is = (is.0, so (Ok is.0) is.1, is.2 ∙ ap (λ (f : List (List ℕ)). record { bytes = is.0.bytes; said = warning_lines f is.0.warnings }) (sym same))
 said_so files names same P Q so (Err failing) is =
@@ -72,7 +72,7 @@ said_so files names same P Q so (Err failing) is =
 -- What the tokens mean.
 
 module _ (setting : Setting) (files : List (List ℕ)) (statements : List (List Token)) (work : Work) where
-  pub made_of_work : (result : Result Made Stops) → Means setting nothing_made statements (Ok work) → MadeSo result (Said files (λ answer. answer ≡ fork_of_work work))
+  pub made_of_work : (result : Result Made Stopped) → Means setting nothing_made statements (Ok work) → MadeSo result (Said files (λ answer. answer ≡ fork_of_work work))
       → MadeSo result (Said files (Then (Means setting nothing_made statements) (λ work answer. answer ≡ fork_of_work work)))
   made_of_work result means made =
       made_so (Said files (λ answer. answer ≡ fork_of_work work)) (Said files (Then (Means setting nothing_made statements) (λ work answer. answer ≡ fork_of_work work)))
@@ -80,8 +80,8 @@ module _ (setting : Setting) (files : List (List ℕ)) (statements : List (List 
       result made
 
 -- a refusal behind these warnings
-pub refused_so : (files : List (List ℕ)) (fault : Fault) (warnings : List Fault) (P : Result Forked Stopped → Type 0) → P (Err (record { fault = fault; warnings = warnings }))
-    → (result : Result Made Stops) → Refuses fault files (warning_lines files warnings) result → MadeSo result (Said files P)
+pub refused_so : (files : List (List ℕ)) (fault : Fault) (warnings : List Fault) (P : Result Forked WarnedFault → Type 0) → P (Err (record { fault = fault; warnings = warnings }))
+    → (result : Result Made Stopped) → Refuses fault files (warning_lines files warnings) result → MadeSo result (Said files P)
 refused_so files fault warnings P is (Ok made) refuses = absurd refuses
 refused_so files fault warnings P is (Err (stops.Refused given names lines)) refuses =
     (record { fault = fault; warnings = warnings }, is, λ i. record { fault = refuses.0 i; files = refuses.1 i; said = refuses.2 i })
@@ -97,19 +97,19 @@ module _ (work : Work) (list : List Resource) (files : List (List ℕ)) (same : 
       → Said files (λ answer. answer ≡ fork_of_work work) (Ok (record { bytes = bytes; said = said }))
   work_forked bytes said is lines = (record { bytes = bytes; warnings = work.warnings }, of_work (Ok bytes) is, λ i. record { bytes = bytes; said = lines i })
 
-  pub no_fork : (fault : Fault) (result : Result Made Stops) → list_fork list ≡ Err fault → Refuses fault files (warning_lines files work.warnings) result
+  pub no_fork : (fault : Fault) (result : Result Made Stopped) → list_fork list ≡ Err fault → Refuses fault files (warning_lines files work.warnings) result
       → MadeSo result (Said files (λ answer. answer ≡ fork_of_work work))
   no_fork fault result is refuses = refused_so files fault work.warnings (λ answer. answer ≡ fork_of_work work) (of_work (Err fault) is) result refuses
 
 -- What the program means.
 
 module _ (setting : Setting) (asked : RezAsked) (program : Program) (cut : (statements : List (List Token)) × AreStatements program.tokens statements) where
-  has_fork : (s : State) → IsProgram program s → (fork : Result Forked Stopped) → Then (Means setting nothing_made cut.0) (λ work answer. answer ≡ fork_of_work work) fork
+  has_fork : (s : State) → IsProgram program s → (fork : Result Forked WarnedFault) → Then (Means setting nothing_made cut.0) (λ work answer. answer ≡ fork_of_work work) fork
       → HasFork setting s.tokens fork
   has_fork s is fork makes = (cut.0, subst (λ (ts : List Token). AreStatements ts cut.0) is.tokens cut.1, makes)
 
   pub compiled : (before : Option Files) → IfSome before (λ files. Gave (Ok program) (ProgramGoes files setting.tool asked.files asked.paths asked.defs))
-      → (result : Result Made Stops) → MadeSo result (Said program.files (Then (Means setting nothing_made cut.0) (λ work answer. answer ≡ fork_of_work work)))
+      → (result : Result Made Stopped) → MadeSo result (Said program.files (Then (Means setting nothing_made cut.0) (λ work answer. answer ≡ fork_of_work work)))
       → IfSome before (λ files. MadeSo result (Compiles setting asked files))
   compiled None gave result makes = tt
   compiled (Some files) gave result makes =

@@ -14,7 +14,7 @@ use Rattle.rz_tools.specs.Answer.{misused, or_refused, shown, written, Answer}
 use Rattle.rz_tools.specs.Program.{Answers, AnswersTo, command, misplaced}
 use Rattle.rz_tools.specs.Rez.{fork_of_work, setting_of, Compiles, Forked, HasFork, Said, Unsaid}
 use Rattle.rz_tools.specs.Warning.{warning_lines}
-use Rattle.rz_tools.specs.Step.{nothing_made, work_behind, Means, Steps, Stopped, WithWarnings, Work}
+use Rattle.rz_tools.specs.Step.{nothing_made, work_behind, Means, Steps, WarnedFault, WithWarnings, Work}
 use Rattle.rz_stmt.specs.Grammar.{mark_of, Parses, Statement}
 use Rattle.rz_core.specs.Answers.{Then}
 use Rattle.rz_tools.specs.ToolWords.{numbered}
@@ -49,15 +49,15 @@ once_with {X} warnings answers once (Err a) (Err b) is also =
     let fault : a.fault ≡ b.fault = same_err {X = X} a.fault b.fault (once (Err a.fault) (Err b.fault) is.0 also.0) in
     λ i. Err (record { fault = fault i; warnings = (is.1 ∙ sym also.1) i })
 
-once_said : (files : List (List ℕ)) (answers : Result Forked Stopped → Type 0) → Once answers → Once (Said files answers)
+once_said : (files : List (List ℕ)) (answers : Result Forked WarnedFault → Type 0) → Once answers → Once (Said files answers)
 once_said files answers once (Ok a) (Ok b) is also =
-    let same : is.0 ≡ also.0 = same_ok {F = Stopped} is.0 also.0 (once (Ok is.0) (Ok also.0) is.1 also.1) in
+    let same : is.0 ≡ also.0 = same_ok {F = WarnedFault} is.0 also.0 (once (Ok is.0) (Ok also.0) is.1 also.1) in
     ap ok (is.2 ∙ ap (λ (f : Forked). record { bytes = f.bytes; said = warning_lines files f.warnings }) same ∙ sym also.2)
 once_said files answers once (Ok a) (Err b) is also = absurd (ok_or_err is.0 also.0 (once (Ok is.0) (Err also.0) is.1 also.1))
 once_said files answers once (Err a) (Ok b) is also = absurd (ok_or_err also.0 is.0 (once (Ok also.0) (Err is.0) also.1 is.1))
 once_said files answers once (Err a) (Err b) is also =
     let same : is.0 ≡ also.0 = same_err {X = Forked} is.0 also.0 (once (Err is.0) (Err also.0) is.1 also.1) in
-    ap err (is.2 ∙ ap (λ (s : Stopped). record { fault = s.fault; files = files; said = warning_lines files s.warnings }) same ∙ sym also.2)
+    ap err (is.2 ∙ ap (λ (s : WarnedFault). record { fault = s.fault; files = files; said = warning_lines files s.warnings }) same ∙ sym also.2)
 
 once_unsaid : {X : Type 0} (answers : Result X Failure → Type 0) → Once answers → Once (Unsaid answers)
 once_unsaid answers once (Ok a) (Ok b) is also = ap ok (same_ok {F = Failure} a b (once (Ok a) (Ok b) is also))

@@ -9,7 +9,7 @@ use Rattle.rz_words.specs.Command.{Asked, IsCommand, IsMisplaced}
 use Rattle.rz_tools.specs.Program.{command, misplaced, Answers, AnswersTo}
 use Rattle.rz_tools.specs.Answer.{misused, Answer, Answered, Failing, Making}
 use Rattle.rz_tools.specs.Made.{MadeSo}
-use Rattle.rz_tools.specs.Plan.{answer_of, Refuses}
+use Rattle.rz_tools.specs.Plan.{answer_of, EndsIn}
 use Rattle.rz_tools.specs.declared.plan.Plan.{Plan}
 use Rattle.rz_tools.specs.declared.made.Unanswered.{Unanswered}
 use Rattle.rz_tools.specs.declared.made.Stopped.{Stopped}
@@ -21,7 +21,7 @@ module _ (done : Making → Answer) (Makes : Files → Result Making Failing →
   made None making is makes = tt
   made (Some files) making is makes = (Ok making, makes, is)
 
-  pub stopped : (before : Option Files) (stop : Stopped) → Refuses stop answer → IfSome before (λ files. MadeSo (Err stop) (Makes files))
+  pub stopped : (before : Option Files) (stop : Stopped) → EndsIn stop answer → IfSome before (λ files. MadeSo (Err stop) (Makes files))
       → IfSome before (λ files. Answered done (Makes files) answer)
   stopped None stop refuses makes = tt
   stopped (Some files) (stops.Refused fault names said) refuses makes = (Err (record { fault = fault; files = names; said = said }), makes, refuses)
@@ -30,7 +30,7 @@ module _ (done : Making → Answer) (Makes : Files → Result Making Failing →
 
 -- the same, where there may be no answer
 pub or_stopped : (done : Making → Answer) (Makes : Files → Result Making Failing → Type 0) (stop : Stopped) (result : Result Plan Unanswered)
-    → IfOk result (λ plan. Refuses stop (answer_of plan)) → (before : Option Files) → IfSome before (λ files. MadeSo (Err stop) (Makes files))
+    → IfOk result (λ plan. EndsIn stop (answer_of plan)) → (before : Option Files) → IfSome before (λ files. MadeSo (Err stop) (Makes files))
     → IfSome before (λ files. IfOk result (λ plan. Answered done (Makes files) (answer_of plan)))
 or_stopped done Makes stop (Ok plan) refuses before makes = stopped done Makes (answer_of plan) before stop refuses makes
 or_stopped done Makes stop (Err unanswered) refuses None makes = tt

@@ -23,12 +23,12 @@ use Rattle.rz_brackets.specs.declared.span.Span.{Span}
 use Rattle.rz_tools.specs.Held.{work_of}
 use Rattle.rz_tools.specs.Warning.{AreWarnings}
 use Rattle.rz_tools.specs.declared.step.Work as held
-use Rattle.rz_tools.specs.Step.{declared, list_behind, nothing_made, put_unless_protected, tokens_at, with_list, IsSpan, Means, Stepped, Steps, Stopped, Work, Worked}
+use Rattle.rz_tools.specs.Step.{declared, list_behind, nothing_made, put_unless_protected, tokens_at, with_list, IsSpan, Means, Stepped, Steps, WarnedFault, Work, Worked}
 use Rattle.rz_tools.specs.declared.setting.Setting.{Setting}
 
 -- whatever the rest of the statements means after this, all mean so
 abbrev pub LeadsTo : Setting → List (List Token) → List (List Token) → Work → Type 0
-LeadsTo setting all rest work = (answer : Result Work Stopped) → Means setting work rest answer → Means setting nothing_made all answer
+LeadsTo setting all rest work = (answer : Result Work WarnedFault) → Means setting work rest answer → Means setting nothing_made all answer
 
 -- the statements of the tokens that are left lead to all of them
 abbrev pub LeadsFrom : Setting → List Token → List Token → Work → Type 0
@@ -46,7 +46,7 @@ module _ (setting : Setting) (tokens left after statement : List Token) (work : 
         λ answer means. so.2 answer (subst (λ (ss : List (List Token)). Means setting work ss answer) (sym begins.1) (inl (next, steps, means))),
       )
 
-  leads_to_fault : (stopped : Stopped) → Steps setting work (map (numbered setting.tool) statement) (Err stopped) → (statements : List (List Token)) → AreStatements tokens statements
+  leads_to_fault : (stopped : WarnedFault) → Steps setting work (map (numbered setting.tool) statement) (Err stopped) → (statements : List (List Token)) → AreStatements tokens statements
       → Means setting nothing_made statements (Err stopped)
   leads_to_fault stopped steps statements are =
       let so = leads statements are in

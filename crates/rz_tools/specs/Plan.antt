@@ -34,10 +34,10 @@ WritesEach writes before after ends.Failed =
     (done : List answer.Write) × (one : answer.Write) × (rest : List answer.Write) × (writes ≡ done ++ one ∷ rest) × FailsAt done one before after
 
 -- the answer that a command has that was stopped by this, where it has one
-abbrev pub Refuses : Stopped → Answer → Type 0
-Refuses (stops.Refused fault files said) answer = answer ≡ refused (record { fault = fault; files = files; said = said })
-Refuses stops.ReadFault answer = ⊥
-Refuses stops.NoMemory answer = ⊥
+abbrev pub EndsIn : Stopped → Answer → Type 0
+EndsIn (stops.Refused fault files said) answer = answer ≡ refused (record { fault = fault; files = files; said = said })
+EndsIn stops.ReadFault answer = ⊥
+EndsIn stops.NoMemory answer = ⊥
 
 -- the outcome is Done or Refused
 abbrev pub IsNoUsage : Outcome → Type 0

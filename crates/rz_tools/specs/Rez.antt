@@ -16,7 +16,7 @@ use Rattle.rz_pre.specs.declared.condition.Tool.TheVariants as tools
 use Rattle.rz_stmt.specs.Statements.{AreStatements}
 use Rattle.rz_words.specs.Command.{RezAsked}
 use Rattle.rz_tools.specs.Answer.{Answer, Answered, Failing, Making, written}
-use Rattle.rz_tools.specs.Step.{nothing_made, Means, Stopped, Work}
+use Rattle.rz_tools.specs.Step.{nothing_made, Means, WarnedFault, Work}
 use Rattle.rz_tools.specs.Warning.{warning_lines}
 use Rattle.rz_tools.specs.declared.setting.Setting.{Setting}
 
@@ -42,26 +42,26 @@ pub record Forked : Type 0 where
   pub bytes : List ℕ
   pub warnings : List Fault
 
-abbrev pub forked : List Fault → Result (List ℕ) Fault → Result Forked Stopped
+abbrev pub forked : List Fault → Result (List ℕ) Fault → Result Forked WarnedFault
 forked warnings (Ok bytes) = Ok (record { bytes = bytes; warnings = warnings })
 forked warnings (Err fault) = Err (record { fault = fault; warnings = warnings })
 
 -- the fork of what was made, or the first limit that it passes
-abbrev pub fork_of_work : Work → Result Forked Stopped
+abbrev pub fork_of_work : Work → Result Forked WarnedFault
 fork_of_work work = forked work.warnings (list_fork work.list)
 
 -- the fork that the tokens of a program mean, or the first rule that their statements break
-abbrev pub HasFork : Setting → List Token → Result Forked Stopped → Type 0
+abbrev pub HasFork : Setting → List Token → Result Forked WarnedFault → Type 0
 HasFork setting tokens fork =
     (statements : List (List Token)) × AreStatements tokens statements
     × Then (Means setting nothing_made statements) (λ work answer. answer ≡ fork_of_work work) fork
 
 -- an answer with the lines of its warnings
-abbrev pub Said : List (List ℕ) → (Result Forked Stopped → Type 0) → Result Making Failing → Type 0
+abbrev pub Said : List (List ℕ) → (Result Forked WarnedFault → Type 0) → Result Making Failing → Type 0
 Said files answers (Ok making) =
     (fork : Forked) × answers (Ok fork) × (making ≡ record { bytes = fork.bytes; said = warning_lines files fork.warnings })
 Said files answers (Err failing) =
-    (stopped : Stopped) × answers (Err stopped) × (failing ≡ record { fault = stopped.fault; files = files; said = warning_lines files stopped.warnings })
+    (stopped : WarnedFault) × answers (Err stopped) × (failing ≡ record { fault = stopped.fault; files = files; said = warning_lines files stopped.warnings })
 
 -- an answer before which nothing was said
 abbrev pub Unsaid : {X : Type 0} → (Result X Failure → Type 0) → Result X Failing → Type 0

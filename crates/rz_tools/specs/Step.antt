@@ -86,21 +86,21 @@ work_behind setting mark work (Data raw) = with_list work (list_behind setting m
 work_behind setting mark work (Declares one) = declared setting mark work one
 
 -- a fault, and what was warned of before it
-pub record Stopped : Type 0 where
+pub record WarnedFault : Type 0 where
   pub fault : Fault
   pub warnings : List Fault
 
 -- an answer whose fault comes behind these warnings
-abbrev pub WithWarnings : {X : Type 0} → List Fault → (Result X Fault → Type 0) → Result X Stopped → Type 0
+abbrev pub WithWarnings : {X : Type 0} → List Fault → (Result X Fault → Type 0) → Result X WarnedFault → Type 0
 WithWarnings warnings answers (Ok value) = answers (Ok value)
 WithWarnings warnings answers (Err stopped) = answers (Err stopped.fault) × (stopped.warnings ≡ warnings)
 
-abbrev pub Steps : Setting → Work → List Token → Result Work Stopped → Type 0
+abbrev pub Steps : Setting → Work → List Token → Result Work WarnedFault → Type 0
 Steps setting work tokens =
     WithWarnings work.warnings (Then (Parses tokens) (λ statement answer. answer ≡ work_behind setting (mark_of tokens) work statement))
 
 -- what is made after all statements, or the first fault; in each the words `rez` and `derez` are numbers
-abbrev pub Means : Setting → Work → List (List Token) → Result Work Stopped → Type 0
+abbrev pub Means : Setting → Work → List (List Token) → Result Work WarnedFault → Type 0
 Means setting work [] answer = answer ≡ Ok work
 Means setting work (tokens ∷ statements) answer =
     Then (Steps setting work (map (numbered setting.tool) tokens)) (λ next. Means setting next statements) answer
@@ -123,7 +123,7 @@ Stepped answers (Err (Refused fault)) left = answers (Err fault)
 Stepped answers (Err NoMemory) left = Unit {0}
 
 -- the same, where a fault comes behind the warnings that are left
-abbrev pub Worked : (Result Work Stopped → Type 0) → Result (Unit {0}) (Stop Fault) → Work → Type 0
+abbrev pub Worked : (Result Work WarnedFault → Type 0) → Result (Unit {0}) (Stop Fault) → Work → Type 0
 Worked answers (Ok nothing) work = answers (Ok work)
 Worked answers (Err (Refused fault)) work = answers (Err (record { fault = fault; warnings = work.warnings }))
 Worked answers (Err NoMemory) work = Unit {0}

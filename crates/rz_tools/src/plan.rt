@@ -2,7 +2,7 @@ ghost use Rattle.std.specs.Prelude.{◌≡◌, length, [], Err, IfOk};
 ghost use Rattle.rz_core.specs.Message.{IsNameable};
 ghost use Rattle.rz_tools.specs.Answer.{misused, refused, shown, written};
 ghost use Rattle.rz_tools.specs.Made.{making_of, IsNamed, SaysWarnings};
-ghost use Rattle.rz_tools.specs.Plan.{answer_of, IsRefused, Refuses};
+ghost use Rattle.rz_tools.specs.Plan.{answer_of, IsRefused, EndsIn};
 ghost use Rattle.rz_tools.specs.WellFormed.{AreWritable, IsWellFormed};
 ghost use Rattle.rz_tools.specs.declared.made.Stopped.TheVariants as stops;
 ghost use Rattle.rz_tools.specs.declared.made.Unanswered.TheVariants.{ReadFault as unread};
@@ -109,7 +109,7 @@ impl Plan {
     pub fn stopped(alloc: Global, stop: Stopped) -> Result<Plan, Unanswered>
         requires nameable { IsNamed (Err stop) }
         requires warned { SaysWarnings (Err stop) }
-        ensures refused { IfOk result (λ plan. Refuses stop (answer_of plan)) }
+        ensures refused { IfOk result (λ plan. EndsIn stop (answer_of plan)) }
         ensures well_formed { IfOk result (λ plan. IsWellFormed (answer_of plan)) }
         ensures writable { IfOk result (λ plan. AreWritable (answer_of plan).writes) }
         ensures no_usage { IfOk result (λ plan. IsRefused plan.outcome) }
