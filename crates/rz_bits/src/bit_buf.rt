@@ -1,0 +1,83 @@
+ghost use Rattle.std.specs.Prelude.{◌≡◌, ◌+◌, ◌^◌, ◌<◌, ◌≤◌, [], ◌++◌, length, OnOk, OnErr};
+ghost use Rattle.rz_bits.specs.Bits.{number_bits, bits_of, bytes_of};
+ghost use Rattle.rz_bits.specs.BitBuf.{missing, filled};
+
+use crate::tail::{are_read_back, missing, push_bits};
+use rz_core::{Bytes, NoMemory};
+use std::alloc::Global;
+use std::marker::Model;
+
+/// A list of bits that grows at its end. Contracts see it as that list, which has fewer than 2^31 bits. It is
+/// held in whole bytes, the last of them filled with zero bits, and keeps the allocator that it was made with.
+/// (Inside Macintosh: More Macintosh Toolbox, Resource Manager; MPW Rez.)
+#[derive(Drop)]
+pub struct BitBuf {
+    bytes: Vec<u8>,
+    count: u32,
+}
+
+impl Model for BitBuf {
+    ghost use Rattle.std.specs.Prelude.{Bool, List};
+    ghost use Rattle.rz_bits.specs.Held.{held, IsHeld};
+
+    ghost Value = { List Bool };
+
+    ghost view = { λ bits. held bits.bytes.items bits.count };
+
+    ghost invariant = { λ bits. IsHeld bits.bytes.items bits.count };
+}
+
+impl BitBuf {
+    /// The list without bits. It takes no memory.
+    pub fn new(alloc: Global) -> BitBuf
+        ensures { result ≡ [] }
+    {
+        BitBuf {
+            bytes: Vec::new(alloc),
+            count: 0,
+        }
+    }
+
+    /// Appends the last `width` binary digits of a number, the most significant first; a width of 0 appends
+    /// nothing. Where memory is refused the list is unchanged. Its time is constant on average.
+    pub fn push(&mut self, value: u32, width: u8) -> Result<(), NoMemory>
+        requires width { width ≤ 32 }
+        requires room { length self.old + width < 2 ^ 31 }
+        ensures ok { OnOk result (self.new ≡ self.old ++ number_bits width value) }
+        ensures err { OnErr result (self.new ≡ self.old) }
+    {
+        push_bits(&mut self.bytes, self.count, value, width)?;
+        self.count += width as u32;
+        Ok(())
+    }
+
+    /// Appends the zero bits that are missing to the next multiple of `unit` bits, none at a multiple. Rez aligns
+    /// to 4, 8, 16 and 32. Where memory is refused the list is unchanged.
+    pub fn align(&mut self, unit: u8) -> Result<(), NoMemory>
+        requires unit { (0 < unit) × (unit ≤ 32) }
+        requires room { length self.old + missing unit (length self.old) < 2 ^ 31 }
+        ensures ok { OnOk result (self.new ≡ filled unit self.old) }
+        ensures err { OnErr result (self.new ≡ self.old) }
+    {
+        let zeros = missing(unit, self.len());
+        self.push(0, zeros)
+    }
+
+    /// The number of bits.
+    pub fn len(&self) -> u32
+        ensures is { result ≡ length self.now }
+        ensures below { length self.now < 2 ^ 31 }
+    {
+        self.count
+    }
+
+    /// The bytes of the bits, eight bits a byte, after zero bits to a whole number of bytes. It takes no memory.
+    pub fn finish(self) -> Bytes
+        ensures bytes { result ≡ bytes_of (filled 8 self) }
+        ensures bits { bits_of result ≡ filled 8 self }
+    {
+        let BitBuf { bytes, count: _ } = self;
+        are_read_back(&bytes);
+        Bytes::from_vec(bytes)
+    }
+}
