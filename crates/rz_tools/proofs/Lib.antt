@@ -15,3 +15,4 @@ pub mod ShownAgain
 pub mod Running
 pub mod Reserved
 pub mod CompiledAgain
+pub mod Complete

@@ -1,4 +1,4 @@
-ghost use Rattle.std.specs.Prelude.{◌≡◌, List, ℕ, Ok};
+ghost use Rattle.std.specs.Prelude.{◌≡◌, ◌⊎◌, List, ℕ, Ok};
 ghost use Rattle.rz_core.specs.declared.moment.Moment.{Moment};
 ghost use Rattle.rz_folder.specs.Folder.{Files};
 ghost use Rattle.rz_fork.specs.Admit.{admitted};
@@ -6,7 +6,10 @@ ghost use Rattle.rz_fork.specs.Contents.{Fork};
 ghost use Rattle.rz_show.specs.Data.{list_text};
 ghost use Rattle.rz_tools.specs.Again.{AreShort, CompilesAlone, IsFile, MeansAgain};
 ghost use Rattle.rz_tools.specs.Answer.{Answer};
-ghost use Rattle.rz_tools.specs.Program.{Answers};
+ghost use Rattle.rz_tools.specs.Program.{Answers, CarriesOut};
+ghost use Rattle.rz_tools.specs.World.{ReadFailed, World, WriteFailed};
+ghost use Rattle.rz_tools.specs.declared.outcome.Outcome.{Outcome};
+ghost use Rattle.rz_tools.specs.declared.outcome.Outcome.TheVariants.{Done, NoMemory};
 
 use rz_expr::{attribute_words_are_spelled, keywords_are_spelled};
 use rz_fork::admitted_forks_fit;
@@ -26,6 +29,13 @@ pub fn one_answer()
     one_statement();
     one_command();
 }
+
+/// A law, with nothing to run: a run that carries out an answer ends as the answer does, unless memory was refused, a
+/// read failed, or, where the answer is Done, a write failed.
+pub fn answers_are_carried_out()
+    ensures { (answer : Answer) (before after : World) (result : Outcome) → CarriesOut answer before after result
+        → (result ≡ answer.outcome) ⊎ (result ≡ NoMemory) ⊎ ReadFailed before after ⊎ ((answer.outcome ≡ Done) × WriteFailed before after) }
+{}
 
 /// A law, with nothing to run: the text that is shown of a fork means the fork's resources again, where each has at most
 /// 16,777,212 bytes.

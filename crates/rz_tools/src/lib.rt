@@ -23,7 +23,9 @@ mod setting;
 mod step;
 mod tool_words;
 
-pub use laws::{one_answer, shown_forks_are_compiled_again, shown_forks_are_read_again};
+pub use laws::{
+    answers_are_carried_out, one_answer, shown_forks_are_compiled_again, shown_forks_are_read_again,
+};
 pub use outcome::Outcome;
 pub use program::run;
 pub use rz_words::UsageFault;
