@@ -34,17 +34,17 @@ closed (token ∷ tokens) parts made =
 
 -- And back: the end of a statement begins with no part.
 
-no_end : (token : Token) (tokens : List Token) (bytes : _) → token.shape ≡ shapes.Text bytes → is_end (token ∷ tokens) ≡ false
-no_end token [] bytes same = ap (λ (s : Shape). if is_semicolon s then is_close [] else false) same
-no_end token (next ∷ []) bytes same = ap (λ (s : Shape). if is_semicolon s then is_close (next ∷ []) else (is_close_brace s && is_semicolon next.shape)) same
-no_end token (next ∷ other ∷ others) bytes same = ap (λ (s : Shape). if is_semicolon s then is_close (next ∷ other ∷ others) else false) same
+no_end : (token : Token) (tokens : List Token) → is_semicolon token.shape ≡ false → is_close_brace token.shape ≡ false → is_end (token ∷ tokens) ≡ false
+no_end token [] semicolon brace = ap (λ b. if b then is_close [] else false) semicolon
+no_end token (next ∷ []) semicolon brace = λ i. if semicolon i then is_close (next ∷ []) else (brace i && is_semicolon next.shape)
+no_end token (next ∷ other ∷ others) semicolon brace = ap (λ b. if b then is_close (next ∷ other ∷ others) else false) semicolon
+
+true_is_false : true ≡ false → ⊥
+true_is_false is = cc
 
 no_part : (token : Token) (tokens : List Token) (shape : Shape) → token.shape ≡ shape → is_end (token ∷ tokens) ≡ true → part_in shape ≡ None
-no_part token tokens (shapes.Text bytes) same ends = absurd (true_is_false (sym ends ∙ no_end token tokens bytes same))
-  where
-    true_is_false : true ≡ false → ⊥
-    true_is_false is = cc
-no_part token tokens (shapes.Word word) same ends = refl
+no_part token tokens (shapes.Text bytes) same ends = absurd (true_is_false (sym ends ∙ no_end token tokens (ap is_semicolon same) (ap is_close_brace same)))
+no_part token tokens (shapes.Word word) same ends = absurd (true_is_false (sym ends ∙ no_end token tokens (ap is_semicolon same) (ap is_close_brace same)))
 no_part token tokens (shapes.Number number) same ends = refl
 no_part token tokens (shapes.Literal bytes) same ends = refl
 no_part token tokens (shapes.Sign sign) same ends = refl

@@ -4,12 +4,12 @@ use Rattle.std.specs.Prelude.{◌*ℤ◌, ◌^◌, if◌then◌else◌, int_div,
 use Rattle.std.specs.Int.{int_shr}
 use Rattle.std.specs.Option.{is_some}
 use Rattle.rz_core.proofs.Tests.{and_so}
-use Rattle.rz_core.specs.Stop.{◌>>=◌, Gives}
+use Rattle.rz_core.specs.Stop.{◌>>=◌, Gives, OnFault}
 use Rattle.rz_core.specs.declared.facts.Facts.{Facts}
 use Rattle.rz_core.specs.declared.fault.Fault.{Fault}
 use Rattle.rz_core.specs.declared.fault.Mark.{Mark}
 use Rattle.rz_core.specs.declared.stop.Stop.{Stop}
-use Rattle.rz_core.specs.declared.stop.Stop.TheVariants.{Refused}
+use Rattle.rz_core.specs.declared.stop.Stop.TheVariants.{NoMemory, Refused}
 use Rattle.rz_expr.specs.Constant.{constant_sight, is_constant}
 use Rattle.rz_expr.specs.Environment.{place_key, predefined, Sight}
 use Rattle.rz_expr.specs.Term.{BitsAt, Constant, FactOf, Named, OfOne, OfTwo, RowsOf, Term}
@@ -19,7 +19,7 @@ use Rattle.rz_expr.specs.declared.expr.BinaryOp.TheVariants as two
 use Rattle.rz_expr.specs.declared.value.EvalFault.{EvalFault}
 use Rattle.rz_expr.specs.declared.value.EvalFault.TheVariants.{BadShift, ZeroDivisor}
 use Rattle.rz_expr.proofs.Cases.{same_value}
-use Rattle.rz_types.specs.Value.{field_sight, is_field_expression, value_fault, IsArithmetic, IsArithmeticFault}
+use Rattle.rz_types.specs.Value.{field_sight, is_field_expression, number_of, value_fault, with_fault, IsArithmetic, IsArithmeticFault}
 
 both : (one other : Bool) → (one && other) ≡ true → (one ≡ true) × (other ≡ true)
 both true other is = (refl, is)
@@ -108,10 +108,19 @@ same_answer : (sight : Sight) (term : Term) (answer : Result ℤ (Stop EvalFault
     → answer ≡ Err (Refused fault) → value_of term sight ≡ Err fault
 same_answer sight term answer fault gives is = subst (Gives (value_of term sight)) is gives
 
-pub facts_sound : (mark : Mark) (known : Facts) (term : Term) (answer : Result ℤ (Stop EvalFault)) (fault : EvalFault) (given : Fault) → is_field_expression term ≡ true
-    → Gives (value_of term (field_sight known [])) answer → answer ≡ Err (Refused fault) → given ≡ value_fault mark fault → IsArithmeticFault mark given
-facts_sound mark known term answer fault given is gives refused as_given =
-    (fault, subst IsArithmetic (same_answer (field_sight known []) term answer fault gives refused) (sound (field_sight known []) (facts_see known) term is), as_given)
+pub field_sound : (known : Facts) (term : Term) → is_field_expression term ≡ true → IsArithmetic (value_of term (field_sight known []))
+field_sound known term is = sound (field_sight known []) (facts_see known) term is
+
+-- the call gave a value or such a fault
+pub number_sound : (mark : Mark) (known : Facts) (term : Term) (answer : Result ℤ (Stop Fault)) → is_field_expression term ≡ true
+    → Gives (number_of mark known term) answer → OnFault answer (IsArithmeticFault mark)
+number_sound mark known term (Ok value) is gives = tt
+number_sound mark known term (Err NoMemory) is gives = tt
+number_sound mark known term (Err (Refused fault)) is gives = by (value_of term (field_sight known [])) (field_sound known term is) gives
+  where
+    by : (value : Result ℤ EvalFault) → IsArithmetic value → with_fault mark value ≡ Err fault → IsArithmeticFault mark fault
+    by (Ok value) sound gives = absurd cc
+    by (Err cause) sound gives = (cause, sound, sym (cc gives))
 
 pub constant_sound : (mark : Mark) (term : Term) (answer : Result ℤ (Stop EvalFault)) (fault : EvalFault) (given : Fault) → is_constant term ≡ true
     → Gives (value_of term constant_sight) answer → answer ≡ Err (Refused fault) → given ≡ value_fault mark fault → IsArithmeticFault mark given

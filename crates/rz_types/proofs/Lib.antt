@@ -1,4 +1,5 @@
 pub mod Found
 pub mod Places
 pub mod Broken
+pub mod Symbols
 pub mod Arithmetic

@@ -8,3 +8,7 @@ pub mod Template
 pub mod Table
 pub mod TypeTable
 pub mod Scopes
+pub mod Row
+pub mod Stored
+pub mod Spells
+pub mod Laid

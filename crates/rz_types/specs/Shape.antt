@@ -8,7 +8,7 @@ use Rattle.rz_expr.specs.Term.{Term}
 use Rattle.rz_expr.specs.Words.{is_name, role_of}
 use Rattle.rz_types.specs.Field.{Align, Fill, Number, PlainField, PlainNumber, PlainPoints, PlainText, Points, Text}
 use Rattle.rz_types.specs.Range.{fits_number, own_width}
-use Rattle.rz_types.specs.Text.{Plain, PlainPart}
+use Rattle.rz_types.specs.Text.{NameFact, Plain, PlainPart}
 use Rattle.rz_types.specs.Value.{is_field_expression}
 use Rattle.rz_types.specs.declared.field.NumForm.{NumForm}
 use Rattle.rz_types.specs.declared.field.NumForm.TheVariants.{Bits, Boolean, Byte, Char, Integer, Longint}
@@ -68,6 +68,7 @@ is_number_shaped in_case number =
 -- a part that a fixed text may have: none of files
 abbrev pub is_fixed_part : PlainPart → Bool
 is_fixed_part (Plain bytes) = true
+is_fixed_part NameFact = true
 
 -- a fixed text has one part or more
 abbrev pub is_fixed_text : List PlainPart → Bool

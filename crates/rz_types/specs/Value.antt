@@ -74,9 +74,13 @@ abbrev pub with_fault : Mark → Result ℤ EvalFault → Result ℤ Fault
 with_fault mark (Ok value) = Ok value
 with_fault mark (Err fault) = Err (value_fault mark fault)
 
--- the value of an expression with the facts of a resource, or its first fault
+-- the value of an expression with the facts of a resource and the symbols of a field, or its first fault
+abbrev pub symbol_number_of : Mark → Facts → List Symbol → Term → Result ℤ Fault
+symbol_number_of mark known symbols term = with_fault mark (value_of term (field_sight known symbols))
+
+-- the same without symbols
 abbrev pub number_of : Mark → Facts → Term → Result ℤ Fault
-number_of mark known term = with_fault mark (value_of term (field_sight known []))
+number_of mark known term = symbol_number_of mark known [] term
 
 -- the value of a constant, or its first fault
 abbrev pub constant_value : Mark → Term → Result ℤ Fault

@@ -124,6 +124,7 @@ fn copy_part(alloc: Global, part: &TextPart) -> Result<TextPart, NoMemory>
 {
     match part {
         TextPart::Plain(bytes) => Ok(TextPart::Plain(Bytes::of(alloc, bytes.as_slice())?)),
+        TextPart::NameFact => Ok(TextPart::NameFact),
     }
 }
 

@@ -13,6 +13,7 @@ mod rules;
 mod table;
 mod template;
 mod text;
+mod tree;
 mod value;
 
 pub use field::{
@@ -27,4 +28,5 @@ pub use rules::{TypeFault, check};
 pub use table::{Scope, TypeTable};
 pub use template::Template;
 pub use text::{TextPart, Texts, part_in, text_in, text_of};
-pub use value::{constant_value, number_of};
+pub use tree::{Numbers, Row, Tree};
+pub use value::{FieldEnv, constant_value, number_of, symbol_number_of};

@@ -1,29 +1,38 @@
-ghost use Rattle.std.specs.Prelude.{◌≡◌, ◌<◌, ℕ, true, []};
+ghost use Rattle.std.specs.Prelude.{◌≡◌, ◌<◌, ℕ, true};
 ghost use Rattle.std.proofs.Common.{rules};
 ghost use Rattle.rz_core.specs.Message.{IsNameable};
 ghost use Rattle.rz_core.specs.Stop.{Gives, OnFault};
 ghost use Rattle.rz_expr.specs.Constant.{is_constant};
 ghost use Rattle.rz_expr.specs.Term.{term_of};
 ghost use Rattle.rz_expr.specs.Value.{reduced};
-ghost use Rattle.rz_types.specs.Value.{constant_value, fact_of, field_sight, is_field_expression, number_of, value_fault, IsArithmeticFault};
+ghost use Rattle.rz_types.specs.Value.{constant_value, fact_of, field_sight, is_field_expression, number_of, symbol_number_of, symbol_value, value_fault, IsArithmeticFault};
 
+use crate::Symbol;
 use rz_core::{Facts, Fault, Kept, Mark, Stop, Word};
-use rz_expr::{ConstantEnv, Env, EvalFault, Expr, FactWord, eval, signed};
+use rz_expr::{ConstantEnv, Env, EvalFault, Expr, FactWord, eval, predefined, signed};
 use std::alloc::Global;
 
-/// What an expression sees of a resource: `true`, `false` and the facts.
+/// What an expression sees of a resource and of a field: the field's symbols, `true`, `false` and the facts. The
+/// first symbol of a name counts, in whatever case. (MPW Rez.)
 #[derive(Drop)]
-struct FactsEnv<'a> {
-    facts: &'a Facts,
+pub struct FieldEnv<'a> {
+    /// What is known of the resource.
+    pub facts: &'a Facts,
+    /// The symbols of the field.
+    pub symbols: &'a [Symbol],
 }
 
-impl Env for FactsEnv<'_> {
-    ghost view = { λ env. field_sight env.facts.now [] };
+impl Env for FieldEnv<'_> {
+    ghost view = { λ env. field_sight env.facts.now env.symbols.now };
 
-    ghost belongs = { λ env finished. finished ≡ field_sight env.facts.now [] };
+    ghost belongs = { λ env finished. finished ≡ field_sight env.facts.now env.symbols.now };
 
     fn place(&self, name: &Word) -> Option<i32> {
-        ConstantEnv.place(name)
+        let value = symbol_value(self.symbols, name);
+        match value {
+            Some(_) => value,
+            None => predefined(name),
+        }
     }
 
     fn count(&self, _name: &Word) -> Option<i32> {
@@ -39,6 +48,18 @@ impl Env for FactsEnv<'_> {
     }
 
     ghost law = { Prim.search rules };
+}
+
+/// The value of the first symbol of a name, in whatever case.
+fn symbol_value(symbols: &[Symbol], name: &Word) -> Option<i32>
+    ensures { result ≡ symbol_value symbols.now name.now.bytes }
+{
+    for symbol in symbols {
+        if symbol.name.is(name.bytes.as_slice()) {
+            return Some(symbol.value);
+        }
+    }
+    None
 }
 
 /// What is known of a resource, as a number of 32 bits with a sign. No expression of a field has the words of
@@ -63,7 +84,22 @@ pub fn number_of(alloc: Global, expr: &Expr, place: Mark, facts: &Facts) -> Resu
     ensures arithmetic { is_field_expression (term_of expr.now) ≡ true → OnFault result (IsArithmeticFault place) }
     ensures nameable { (files : ℕ) → place.file < files → OnFault result (IsNameable files) }
 {
-    match eval(alloc, expr, &FactsEnv { facts }) {
+    symbol_number_of(alloc, expr, place, facts, &[])
+}
+
+/// The same, where a name may also be a symbol: the first of the name counts, in whatever case, before `true` and
+/// `false`. A name that is none of these is 203 (kept: the name). (MPW Rez.)
+pub fn symbol_number_of(
+    alloc: Global,
+    expr: &Expr,
+    place: Mark,
+    facts: &Facts,
+    symbols: &[Symbol],
+) -> Result<i32, Stop<Fault>>
+    ensures value { Gives (symbol_number_of place facts.now symbols.now (term_of expr.now)) result }
+    ensures nameable { (files : ℕ) → place.file < files → OnFault result (IsNameable files) }
+{
+    match eval(alloc, expr, &FieldEnv { facts, symbols }) {
         Ok(value) => Ok(value),
         Err(Stop::Refused(fault)) => Err(Stop::Refused(value_fault(place, fault))),
         Err(Stop::NoMemory) => Err(Stop::NoMemory),

@@ -1,9 +1,7 @@
-use Rattle.std.proofs.Common.{ap, ◌∙◌}
 use Rattle.rz_expr.specs.Term.{term_of}
-use Rattle.rz_types.proofs.Arithmetic.{err, facts_sound}
+use Rattle.rz_types.proofs.Arithmetic.{number_sound}
 use Rattle.rz_types.proofs.value.number_of.Goals as goal
 
-pub returns-in-Err-Refused-clause-arithmetic : goal.returns-in-Err-Refused-clause-arithmetic
-returns-in-Err-Refused-clause-arithmetic c = λ is.
-    facts_sound c.args.place c.args.facts.now (term_of c.args.expr.now) c.eval.result c.in-Err-Refused.fault c.value_fault.result is c.eval.ensures.value
-    (c.in-Err-Refused.is ∙ ap err c.in-Err-Refused.field-0-is) c.value_fault.ensures.fault
+pub returns-clause-arithmetic : goal.returns-clause-arithmetic
+returns-clause-arithmetic c = λ is.
+    number_sound c.args.place c.args.facts.now (term_of c.args.expr.now) c.symbol_number_of.result is c.symbol_number_of.ensures.value

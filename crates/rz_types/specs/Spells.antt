@@ -1,0 +1,234 @@
+-- Which bytes the values of a row spell under the fields of a type. (Inside Macintosh: More Macintosh Toolbox, Resource
+-- Manager; MPW Rez.)
+use Rattle.std.specs.Prelude.{◌≡◌, ◌≢◌, ℕ, ◌+◌, ◌-◌, ◌*◌, ◌<◌, ◌≤◌, ◌^◌, ℤ, pos, negsuc, nat_abs, nat_le, Bool, true, false, if◌then◌else◌, List, [], ◌∷◌, ◌++◌, length, map, take, drop, replicate, Option, Some, None, Ok}
+use Rattle.std.specs.List.{AllByRecursion, sum_by}
+use Rattle.rz_core.specs.declared.facts.Facts.{Facts}
+use Rattle.rz_core.specs.declared.fault.Mark.{Mark}
+use Rattle.rz_expr.specs.Environment.{Environment, Key, Sight}
+use Rattle.rz_expr.specs.Term.{Term}
+use Rattle.rz_expr.specs.Value.{value_of}
+use Rattle.rz_bits.specs.Bits.{bits_of, number_bits, number_of}
+use Rattle.rz_bits.specs.BitBuf.{filled, missing, zeros}
+use Rattle.rz_types.specs.Field.{Align, Fill, Number, PlainField, PlainNumber, PlainPoints, PlainText, Points, Text}
+use Rattle.rz_types.specs.Range.{fits_number, may_be_size}
+use Rattle.rz_types.specs.Shape.{numbers_of}
+use Rattle.rz_types.specs.Stored.{before_zero, is_too_long, stored_number, stored_text}
+use Rattle.rz_types.specs.Text.{bytes_of, PlainPart}
+use Rattle.rz_types.specs.Value.{fact_of, symbol_key}
+use Rattle.rz_types.specs.declared.field.NumForm.TheVariants.{Integer}
+use Rattle.rz_types.specs.declared.field.Radix.TheVariants as radixes
+use Rattle.rz_types.specs.declared.field.TextForm.{TextForm}
+use Rattle.rz_types.specs.declared.field.TextForm.TheVariants as texts
+use Rattle.rz_types.specs.declared.tree.Tree.{Tree}
+use Rattle.rz_types.specs.declared.tree.Tree.TheVariants as trees
+
+-- Pieces.
+
+-- what is laid without a cut within it: a number, a text, so many zero bits, or zero bits to the next multiple of a unit
+pub data Piece : Type 0 where
+  OneNumber : (number : PlainNumber) → Piece
+  OneText : (text : PlainText) → Piece
+  Zeros : (count : ℕ) → Piece
+  Filler : (unit : ℕ) → Piece
+
+-- a number of a point or a rectangle is an `integer`
+abbrev pub integer : Option Term → PlainNumber
+integer fixed = record { form = Integer; width = pos 16; unsigned = false; radix = radixes.Plain; symbols = []; fixed = fixed; key = false }
+
+abbrev pub numbers_in : PlainPoints → List PlainNumber
+numbers_in points = by points.fixed
+  where
+    by : Option (List Term) → List PlainNumber
+    by None = replicate (numbers_of points.rect) (integer None)
+    by (Some terms) = map (λ term. integer (Some term)) terms
+
+-- the pieces of a field
+abbrev pub pieces_of : PlainField → List Piece
+pieces_of (Number number) = OneNumber number ∷ []
+pieces_of (Text text) = OneText text ∷ []
+pieces_of (Points points) = map OneNumber (numbers_in points)
+pieces_of (Fill unit count) = Zeros (unit * nat_abs count) ∷ []
+pieces_of (Align unit) = Filler unit ∷ []
+
+-- the values of these pieces, where the field has this value
+abbrev pub values_of : Tree → List Tree
+values_of (trees.Number number) = trees.Number number ∷ []
+values_of (trees.Text bytes) = trees.Text bytes ∷ []
+values_of (trees.Group numbers) = map trees.Number numbers
+
+-- What is seen.
+
+-- the names of labels that stand before a field; so far no field is a label
+abbrev pub Names : Type 0
+Names = Key → Bool
+
+abbrev pub no_names : Names
+no_names key = false
+
+-- which bits are those of a late number, one that is computed after all others: a mark for each bit
+abbrev pub Late : Type 0
+Late = List Bool
+
+-- a number is late where its expression names a label behind it or reads bits that are late; so far none does
+abbrev pub is_late : Names → Late → Term → Sight → Bool
+is_late met late term sight = false
+
+-- the number in so many bits from a bit on, where they stand before a place
+abbrev pub bits_before : List Bool → ℕ → ℤ → ℤ → Option ℤ
+bits_before all at (pos first) (pos width) = if nat_le (first + width) at then Some (pos (number_of (take width (drop first all)))) else None
+bits_before all at first width = None
+
+-- what an expression sees at a place in a resource with these bits
+abbrev pub sees : Facts → List Bool → Environment → ℕ → Sight
+sees known all names at = record { names = names; bits = bits_before all at; fact = fact_of known }
+
+-- what has a value outside of all fields: `true` and `false`
+abbrev pub outside : Environment
+outside = record { give = symbol_key [] }
+
+-- the fields give this key a value: labels and arrays do; so far no field is one
+abbrev pub declares : List PlainField → Key → Bool
+declares body key = false
+
+-- in a body names have other values than outside only where its fields give them
+pub record Within (body : List PlainField) (outer own : Environment) : Type 0 where
+  pub give : (key : Key) → declares body key ≡ false → own.give key ≡ outer.give key
+
+-- Values.
+
+-- where texts stand that have no line of their own
+abbrev pub nowhere : Mark
+nowhere = record { file = 0; line = 0 }
+
+abbrev pub When : Bool → Type 0 → Type 0
+When true P = P
+When false P = Unit {0}
+
+-- the bits of a number: of the row's value, or of the value of its expression, which is in the range of its field
+abbrev pub IsNumber : PlainNumber → Sight → Option Tree → List Bool → Type 0
+IsNumber number sight value bits = by number.fixed
+  where
+    by : Option Term → Type 0
+    by None = (n : ℕ) × (value ≡ Some (trees.Number n)) × (n < 2 ^ nat_abs number.width) × (bits ≡ number_bits (nat_abs number.width) n)
+    by (Some term) =
+        (v : ℤ) × (value ≡ None) × (value_of term sight ≡ Ok v) × (fits_number number.form number.width v ≡ true)
+        × (bits ≡ number_bits (nat_abs number.width) (stored_number (nat_abs number.width) v))
+
+-- the size of a text: none, or the value of its expression, where a text of this type may have it
+abbrev pub IsSize : TextForm → Sight → Option Term → Option ℕ → Type 0
+IsSize form sight None size = size ≡ None
+IsSize form sight (Some term) size = (n : ℕ) × (value_of term sight ≡ Ok (pos n)) × (may_be_size form (pos n) ≡ true) × (size ≡ Some n)
+
+-- a value of a text is plain where what is stored tells it again: a `cstring` has no zero byte, no text is longer than its
+-- size leaves of it, and a `string` with a size has no zero byte at its end
+abbrev pub IsPlainZero : TextForm → List ℕ → Type 0
+IsPlainZero texts.Zero bytes = AllByRecursion (λ byte. byte ≢ 0) bytes
+IsPlainZero form bytes = Unit {0}
+
+abbrev pub IsPlainShort : Option ℕ → List ℕ → Type 0
+IsPlainShort None bytes = Unit {0}
+IsPlainShort (Some size) bytes = length bytes ≤ size
+
+abbrev pub IsPlainEnd : TextForm → Option ℕ → List ℕ → Type 0
+IsPlainEnd texts.Open (Some size) bytes = (front : List ℕ) → bytes ≢ front ++ 0 ∷ []
+IsPlainEnd form size bytes = Unit {0}
+
+abbrev pub left_by : TextForm → Option ℕ → Option ℕ
+left_by texts.Zero size = before_zero size
+left_by form size = size
+
+abbrev pub IsPlainText : TextForm → Option ℕ → List ℕ → Type 0
+IsPlainText form size bytes = IsPlainZero form bytes × IsPlainShort (left_by form size) bytes × IsPlainEnd form size bytes
+
+-- the bytes of a text: those of the row's value, which is plain where that is asked for, or those of its fixed parts
+abbrev pub AreBytes : (plain : Bool) → TextForm → Facts → Option (List PlainPart) → Option ℕ → Option Tree → List ℕ → Type 0
+AreBytes plain form known None size value bytes = (value ≡ Some (trees.Text bytes)) × When plain (IsPlainText form size bytes)
+AreBytes plain form known (Some parts) size value bytes = (value ≡ None) × (bytes_of nowhere known parts ≡ Ok bytes)
+
+-- the bits of a text: it has a size that it may have, or isn't too long without one
+pub record IsText (plain : Bool) (text : PlainText) (known : Facts) (sight : Sight) (value : Option Tree) (bits : List Bool) : Type 0 where
+  pub size : Option ℕ
+  pub has_size : IsSize text.form sight text.size size
+  pub bytes : List ℕ
+  pub are_bytes : AreBytes plain text.form known text.fixed size value bytes
+  pub short : is_too_long text.form size (length bytes) ≡ false
+  pub are_bits : bits ≡ bits_of (stored_text text.form size bytes)
+
+-- the bits of a piece at a place
+abbrev pub IsStored : (plain : Bool) → Piece → Facts → ℕ → Sight → Option Tree → List Bool → Type 0
+IsStored plain (OneNumber number) known at sight value bits = IsNumber number sight value bits
+IsStored plain (OneText text) known at sight value bits = IsText plain text known sight value bits
+IsStored plain (Zeros count) known at sight value bits = (value ≡ None) × (bits ≡ zeros count)
+IsStored plain (Filler unit) known at sight value bits = (value ≡ None) × (bits ≡ zeros (missing unit at))
+
+-- the marks of its bits: late or not
+abbrev pub marks : Names → Late → Piece → Sight → ℕ → Late
+marks met late piece sight count = replicate count (by piece)
+  where
+    with_term : Option Term → Bool
+    with_term None = false
+    with_term (Some term) = is_late met late term sight
+
+    by : Piece → Bool
+    by (OneNumber number) = with_term number.fixed
+    by piece = false
+
+-- Spelling.
+
+-- the most bits of a resource: those of 16,777,212 bytes
+abbrev pub most_bits : ℕ
+most_bits = 134217696
+
+-- a piece is at its place among all bits, seen with the finished names; no piece ends after the most bits
+pub record PieceSpells (plain : Bool) (known : Facts) (all : List Bool) (names : Environment) (met : Names) (piece : Piece) (value : Option Tree) (at : ℕ)
+    (late : Late) (after : ℕ) (late_after : Late) : Type 0 where
+  pub bits : List Bool
+  pub stored : IsStored plain piece known at (sees known all names at) value bits
+  pub there : take (length bits) (drop at all) ≡ bits
+  pub ends : after ≡ at + length bits
+  pub short : after ≤ most_bits
+  pub marked : late_after ≡ late ++ marks met late piece (sees known all names at) (length bits)
+
+-- a value in front of others, where there is one
+abbrev pub put : Option Tree → List Tree → List Tree
+put None values = values
+put (Some value) values = value ∷ values
+
+-- what is spelled from a place on, with the late marks before it and behind it
+abbrev pub RowSpells : Type 1
+RowSpells = ℕ → Late → ℕ → Late → Type 0
+
+-- one behind the other, each with its value or none
+abbrev pub InOrder : {A : Type 0} → (A → Option Tree → RowSpells) → List A → List Tree → RowSpells
+InOrder Spells [] values at late after late_after = (values ≡ []) × (after ≡ at) × (late_after ≡ late)
+InOrder Spells (x ∷ xs) values at late after late_after =
+    (value : Option Tree) × (rest : List Tree) × (mid : ℕ) × (late_mid : Late) × (values ≡ put value rest)
+    × Spells x value at late mid late_mid × InOrder Spells xs rest mid late_mid after late_after
+
+-- the value of a field, as the values of its pieces
+abbrev pub values_in : Option Tree → List Tree
+values_in None = []
+values_in (Some value) = values_of value
+
+module _ (plain : Bool) (known : Facts) (all : List Bool) (names : Environment) (met : Names) where
+  abbrev pub FieldSpells : PlainField → Option Tree → RowSpells
+  FieldSpells field value = InOrder (PieceSpells plain known all names met) (pieces_of field) (values_in value)
+
+  abbrev pub BodySpells : List PlainField → List Tree → RowSpells
+  BodySpells = InOrder FieldSpells
+
+-- how many values a row has: texts, and numbers, those of points each
+abbrev pub count_of : List Tree → ℕ
+count_of row = sum_by (λ value. length (values_of value)) row
+
+-- the row spells these bytes: its fields one behind the other from the first bit on, and then zero bits to a whole byte;
+-- plainly where the bytes tell the row again and it has at most 1,048,576 values
+pub record Spells (plain : Bool) (known : Facts) (body : List PlainField) (row : List Tree) (bytes : List ℕ) : Type 0 where
+  pub names : Environment
+  pub own : Within body outside names
+  pub end : ℕ
+  pub late : Late
+  pub fields : BodySpells plain known (bits_of bytes) names no_names body row 0 [] end late
+  pub filled : bits_of bytes ≡ filled 8 (take end (bits_of bytes))
+  pub within : end ≤ length (bits_of bytes)
+  pub few : When plain (count_of row ≤ 1048576)

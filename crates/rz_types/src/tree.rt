@@ -1,0 +1,19 @@
+use rz_core::{Bytes, Listing};
+
+/// A value of a row. (MPW Rez.)
+#[derive(Debug, Drop)]
+pub enum Tree {
+    /// A number, from 0 to below 2 to the power of the width of its field in bits.
+    Number(u32),
+    /// The bytes of a text, before they are cut or filled to a size.
+    Text(Bytes),
+    /// The numbers of a point or a rectangle, two or four.
+    Group(Numbers),
+}
+
+/// Numbers of 16 bits.
+pub type Numbers = Listing<u16>;
+
+/// The values that a resource gives to the fields of its type, in order: one for each field that has none of its
+/// own.
+pub type Row = Listing<Tree>;
