@@ -1,0 +1,11 @@
+pub mod Room
+pub mod Stores
+pub mod Expressions
+pub mod Put
+pub mod Shapes
+pub mod Spelling
+pub mod Sounding
+pub mod Law
+pub mod Numbers
+pub mod Small
+pub mod Answering

@@ -1,5 +1,5 @@
 -- The bytes that a row gives, field by field, or the first refusal. (MPW Rez.)
-use Rattle.std.specs.Prelude.{◌≡◌, ℕ, ◌+◌, ◌/◌, ℤ, pos, nat_abs, nat_lt, not, Bool, true, false, if◌then◌else◌, List, [], ◌∷◌, ◌++◌, length, Option, Some, None, option_map, Ok, Err}
+use Rattle.std.specs.Prelude.{◌≡◌, ℕ, ◌+◌, ◌/◌, min, ℤ, pos, nat_abs, nat_lt, not, Bool, true, false, if◌then◌else◌, List, [], ◌∷◌, ◌++◌, length, Option, Some, None, option_map, Ok, Err}
 use Rattle.std.specs.Option.{is_none}
 use Rattle.std.specs.declared.result.Result.{Result}
 use Rattle.rz_core.specs.Lists.{first_of, unless_fault}
@@ -17,10 +17,11 @@ use Rattle.rz_bits.specs.BitBuf.{filled, missing, zeros}
 use Rattle.rz_types.specs.Field.{PlainField, PlainNumber, PlainText}
 use Rattle.rz_types.specs.Range.{fits_number, may_be_size}
 use Rattle.rz_types.specs.Row.{takes_value}
-use Rattle.rz_types.specs.Spells.{most_bits, nowhere, pieces_of, values_in, Filler, OneNumber, OneText, Piece, Zeros}
+use Rattle.rz_types.specs.Spells.{most_bits, nowhere, pieces_of, values_for, Filler, OneNumber, OneText, Piece, Zeros}
 use Rattle.rz_types.specs.Stored.{is_too_long, stored_number, stored_text}
 use Rattle.rz_types.specs.Text.{bytes_of as text_bytes_of, PlainPart}
 use Rattle.rz_types.specs.Value.{field_sight}
+use Rattle.rz_types.specs.declared.field.NumForm.{NumForm}
 use Rattle.rz_types.specs.declared.field.TextForm.{TextForm}
 use Rattle.rz_types.specs.declared.tree.Tree.{Tree}
 use Rattle.rz_types.specs.declared.tree.Tree.TheVariants as trees
@@ -59,12 +60,12 @@ value_refusal piece (LaterData first end) = refusal 213 piece end
 value_refusal piece (DataWidth width) = refusal 213 piece width
 value_refusal piece (BadShift count) = refusal 215 piece count
 
+abbrev pub valued : ℕ → Result ℤ EvalFault → Result ℤ Refusal
+valued piece (Ok value) = Ok value
+valued piece (Err fault) = Err (value_refusal piece fault)
+
 abbrev pub value_in : ℕ → Facts → Term → Result ℤ Refusal
-value_in piece known term = by (value_of term (field_sight known []))
-  where
-    by : Result ℤ EvalFault → Result ℤ Refusal
-    by (Ok value) = Ok value
-    by (Err fault) = Err (value_refusal piece fault)
+value_in piece known term = valued piece (value_of term (field_sight known []))
 
 -- the number and the bytes that a value is
 abbrev pub number_in : Option Tree → ℕ
@@ -79,15 +80,19 @@ text_in value = []
 abbrev pub unless : Bool → Refusal → Option Refusal
 unless holds fault = if holds then None else Some fault
 
--- the bits of a number: of the row's, or of its expression's value, which is in the range of the field: 207
+-- the number that stands for the value of an expression, which is in the range of the field: 207
+abbrev pub fixed_number : ℕ → Facts → NumForm → ℤ → Term → Result ℕ Refusal
+fixed_number piece known form width term =
+    value_in piece known term >>= λ v. unless_fault (unless (fits_number form width v) (refusal 207 piece v)) (stored_number (nat_abs width) v)
+
+-- the number of a field: the row's, or that of its expression
+abbrev pub number_given : ℕ → Facts → NumForm → ℤ → Option Term → Option Tree → Result ℕ Refusal
+number_given piece known form width None value = Ok (number_in value)
+number_given piece known form width (Some term) value = fixed_number piece known form width term
+
 abbrev pub number_laid : ℕ → Facts → PlainNumber → Option Tree → Result (List Bool) Refusal
-number_laid piece known number value = by number.fixed
-  where
-    by : Option Term → Result (List Bool) Refusal
-    by None = Ok (number_bits (nat_abs number.width) (number_in value))
-    by (Some term) =
-        value_in piece known term >>= λ v. unless_fault (unless (fits_number number.form number.width v) (refusal 207 piece v))
-        (number_bits (nat_abs number.width) (stored_number (nat_abs number.width) v))
+number_laid piece known number value =
+    number_given piece known number.form number.width number.fixed value >>= λ n. Ok (number_bits (nat_abs number.width) n)
 
 -- the size of a text, where it has one
 abbrev pub size_in : ℕ → Facts → Option Term → Result (Option ℤ) Refusal
@@ -99,14 +104,18 @@ abbrev pub kept_number : Kept → ℤ
 kept_number (kept.Number number) = number
 kept_number other = pos 0
 
+-- the bytes of fixed parts
+abbrev pub joined : ℕ → Result (List ℕ) Fault → Result (List ℕ) Refusal
+joined piece (Ok bytes) = Ok bytes
+joined piece (Err fault) = Err (refusal fault.number piece (kept_number fault.kept))
+
+abbrev pub fixed_bytes : ℕ → Facts → List PlainPart → Result (List ℕ) Refusal
+fixed_bytes piece known parts = joined piece (text_bytes_of nowhere known parts)
+
 -- the bytes of a text: the row's, or those of the fixed parts
-abbrev pub bytes_in : ℕ → Facts → Option (List PlainPart) → Option Tree → Result (List ℕ) Refusal
-bytes_in piece known None value = Ok (text_in value)
-bytes_in piece known (Some parts) value = by (text_bytes_of nowhere known parts)
-  where
-    by : Result (List ℕ) Fault → Result (List ℕ) Refusal
-    by (Ok bytes) = Ok bytes
-    by (Err fault) = Err (refusal fault.number piece (kept_number fault.kept))
+abbrev pub bytes_given : ℕ → Facts → Option (List PlainPart) → Option Tree → Result (List ℕ) Refusal
+bytes_given piece known None value = Ok (text_in value)
+bytes_given piece known (Some parts) value = fixed_bytes piece known parts
 
 -- 207 for a size that the text may not have
 abbrev pub bad_size : ℕ → TextForm → Option ℤ → Option Refusal
@@ -114,15 +123,21 @@ bad_size piece form None = None
 bad_size piece form (Some size) = unless (may_be_size form size) (refusal 207 piece size)
 
 -- 216 for a text without a size whose length can't be said
-abbrev pub bad_length : ℕ → TextForm → Option ℤ → List ℕ → Option Refusal
-bad_length piece form size bytes = unless (not (is_too_long form (option_map nat_abs size) (length bytes))) (refusal 216 piece (pos (length bytes)))
+abbrev pub bad_length : ℕ → TextForm → Option ℤ → ℕ → Option Refusal
+bad_length piece form size count = unless (not (is_too_long form (option_map nat_abs size) count)) (refusal 216 piece (pos count))
+
+-- why so many bytes have no stored form with this size
+abbrev pub text_refusal : ℕ → TextForm → Option ℤ → ℕ → Option Refusal
+text_refusal piece form size count = first_of (bad_size piece form size ∷ bad_length piece form size count ∷ [])
+
+-- the bits of bytes with this size
+abbrev pub bytes_laid : ℕ → TextForm → Option ℤ → List ℕ → Result (List Bool) Refusal
+bytes_laid piece form size bytes = unless_fault (text_refusal piece form size (length bytes)) (bits_of (stored_text form (option_map nat_abs size) bytes))
 
 -- the bits of a text, or the first refusal: of its size's value, of its parts, of its size, of its length
 abbrev pub text_laid : ℕ → Facts → PlainText → Option Tree → Result (List Bool) Refusal
 text_laid piece known text value =
-    size_in piece known text.size >>= λ size. bytes_in piece known text.fixed value
-    >>= λ bytes. unless_fault (first_of (bad_size piece text.form size ∷ bad_length piece text.form size bytes ∷ []))
-    (bits_of (stored_text text.form (option_map nat_abs size) bytes))
+    size_in piece known text.size >>= λ size. bytes_given piece known text.fixed value >>= λ bytes. bytes_laid piece text.form size bytes
 
 abbrev pub piece_laid : Facts → Draft → Piece → Option Tree → Result (List Bool) Refusal
 piece_laid known draft (OneNumber number) value = number_laid draft.piece known number value
@@ -132,13 +147,17 @@ piece_laid known draft (Filler unit) value = Ok (zeros (missing unit (length dra
 
 -- Laying.
 
--- 301 for a piece that ends after the most bits, with the length in bytes to its end, rounded up
+-- a length in bytes, rounded up, as a refusal keeps it
 abbrev pub in_bytes : ℕ → ℕ
-in_bytes bits = (bits + 7) / 8
+in_bytes bits = min ((bits + 7) / 8) most_kept
+
+-- 301 for a piece that ends after the most bits, with the length to its end
+abbrev pub too_long : Draft → ℕ → Refusal
+too_long draft end = refusal 301 draft.piece (pos (in_bytes end))
 
 abbrev pub with_bits : Draft → List Bool → Result Draft Refusal
 with_bits draft bits =
-    if nat_lt most_bits (length draft.bits + length bits) then Err (refusal 301 draft.piece (pos (in_bytes (length draft.bits + length bits))))
+    if nat_lt most_bits (length draft.bits + length bits) then Err (too_long draft (length draft.bits + length bits))
     else Ok (record { piece = one_more draft.piece; bits = draft.bits ++ bits })
 
 abbrev pub lay : Facts → Draft → Piece → Option Tree → Result Draft Refusal
@@ -165,7 +184,7 @@ takes_one (OneText text) = is_none text.fixed
 takes_one piece = false
 
 abbrev pub field_laid : Facts → Draft → PlainField → Option Tree → Result Draft Refusal
-field_laid known draft field value = in_order takes_one (lay known) draft (pieces_of field) (values_in value)
+field_laid known draft field value = in_order takes_one (lay known) draft (pieces_of field) (values_for field value)
 
 abbrev pub body_laid : Facts → Draft → List PlainField → List Tree → Result Draft Refusal
 body_laid known draft body row = in_order takes_value (field_laid known) draft body row

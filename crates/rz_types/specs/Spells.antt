@@ -1,6 +1,7 @@
 -- Which bytes the values of a row spell under the fields of a type. (Inside Macintosh: More Macintosh Toolbox, Resource
 -- Manager; MPW Rez.)
-use Rattle.std.specs.Prelude.{◌≡◌, ◌≢◌, ℕ, ◌+◌, ◌-◌, ◌*◌, ◌<◌, ◌≤◌, ◌^◌, ℤ, pos, negsuc, nat_abs, nat_le, Bool, true, false, if◌then◌else◌, List, [], ◌∷◌, ◌++◌, length, map, take, drop, replicate, Option, Some, None, Ok}
+use Rattle.std.specs.Prelude.{◌≡◌, ◌≢◌, ℕ, ◌+◌, ◌-◌, ◌*◌, ◌<◌, ◌≤◌, ◌^◌, ℤ, pos, negsuc, nat_abs, nat_le, Bool, true, false, if◌then◌else◌, List, [], ◌∷◌, ◌++◌, length, map, take, drop, replicate, slice_index, Option, Some, None, Ok}
+use Rattle.std.specs.Option.{option_to_list}
 use Rattle.std.specs.List.{AllByRecursion, sum_by}
 use Rattle.rz_core.specs.declared.facts.Facts.{Facts}
 use Rattle.rz_core.specs.declared.fault.Mark.{Mark}
@@ -9,12 +10,13 @@ use Rattle.rz_expr.specs.Term.{Term}
 use Rattle.rz_expr.specs.Value.{value_of}
 use Rattle.rz_bits.specs.Bits.{bits_of, number_bits, number_of}
 use Rattle.rz_bits.specs.BitBuf.{filled, missing, zeros}
-use Rattle.rz_types.specs.Field.{Align, Fill, Number, PlainField, PlainNumber, PlainPoints, PlainText, Points, Text}
+use Rattle.rz_types.specs.Field.{Align, Fill, Number, PlainField, PlainNumber, PlainText, Points, Text}
 use Rattle.rz_types.specs.Range.{fits_number, may_be_size}
 use Rattle.rz_types.specs.Shape.{numbers_of}
 use Rattle.rz_types.specs.Stored.{before_zero, is_too_long, stored_number, stored_text}
 use Rattle.rz_types.specs.Text.{bytes_of, PlainPart}
 use Rattle.rz_types.specs.Value.{fact_of, symbol_key}
+use Rattle.rz_types.specs.declared.field.NumForm.{NumForm}
 use Rattle.rz_types.specs.declared.field.NumForm.TheVariants.{Integer}
 use Rattle.rz_types.specs.declared.field.Radix.TheVariants as radixes
 use Rattle.rz_types.specs.declared.field.TextForm.{TextForm}
@@ -35,26 +37,43 @@ pub data Piece : Type 0 where
 abbrev pub integer : Option Term → PlainNumber
 integer fixed = record { form = Integer; width = pos 16; unsigned = false; radix = radixes.Plain; symbols = []; fixed = fixed; key = false }
 
-abbrev pub numbers_in : PlainPoints → List PlainNumber
-numbers_in points = by points.fixed
-  where
-    by : Option (List Term) → List PlainNumber
-    by None = replicate (numbers_of points.rect) (integer None)
-    by (Some terms) = map (λ term. integer (Some term)) terms
+abbrev pub free_integer : Piece
+free_integer = OneNumber (integer None)
+
+abbrev pub fixed_integer : Term → Piece
+fixed_integer term = OneNumber (integer (Some term))
+
+-- those of a point or a rectangle: of the row, or of its expressions
+abbrev pub integers : Bool → Option (List Term) → List Piece
+integers rect None = replicate (numbers_of rect) free_integer
+integers rect (Some terms) = map fixed_integer terms
 
 -- the pieces of a field
 abbrev pub pieces_of : PlainField → List Piece
 pieces_of (Number number) = OneNumber number ∷ []
 pieces_of (Text text) = OneText text ∷ []
-pieces_of (Points points) = map OneNumber (numbers_in points)
+pieces_of (Points points) = integers points.rect points.fixed
 pieces_of (Fill unit count) = Zeros (unit * nat_abs count) ∷ []
 pieces_of (Align unit) = Filler unit ∷ []
 
--- the values of these pieces, where the field has this value
-abbrev pub values_of : Tree → List Tree
-values_of (trees.Number number) = trees.Number number ∷ []
-values_of (trees.Text bytes) = trees.Text bytes ∷ []
-values_of (trees.Group numbers) = map trees.Number numbers
+-- the numbers of a value
+abbrev pub group_in : Option Tree → List ℕ
+group_in (Some (trees.Group numbers)) = numbers
+group_in value = []
+
+-- the values of these pieces, where the field has this value or none
+abbrev pub values_for : PlainField → Option Tree → List Tree
+values_for (Points points) value = map trees.Number (group_in value)
+values_for field value = option_to_list value
+
+-- the value of a point or a rectangle is a group, or it has none; of the other fields their pieces say it
+abbrev pub IsGrouped : Option (List Term) → Option Tree → Type 0
+IsGrouped None value = (numbers : List ℕ) × (value ≡ Some (trees.Group numbers))
+IsGrouped (Some terms) value = value ≡ None
+
+abbrev pub IsGroupedFor : PlainField → Option Tree → Type 0
+IsGroupedFor (Points points) value = IsGrouped points.fixed value
+IsGroupedFor field value = Unit {0}
 
 -- What is seen.
 
@@ -105,14 +124,12 @@ When true P = P
 When false P = Unit {0}
 
 -- the bits of a number: of the row's value, or of the value of its expression, which is in the range of its field
-abbrev pub IsNumber : PlainNumber → Sight → Option Tree → List Bool → Type 0
-IsNumber number sight value bits = by number.fixed
-  where
-    by : Option Term → Type 0
-    by None = (n : ℕ) × (value ≡ Some (trees.Number n)) × (n < 2 ^ nat_abs number.width) × (bits ≡ number_bits (nat_abs number.width) n)
-    by (Some term) =
-        (v : ℤ) × (value ≡ None) × (value_of term sight ≡ Ok v) × (fits_number number.form number.width v ≡ true)
-        × (bits ≡ number_bits (nat_abs number.width) (stored_number (nat_abs number.width) v))
+abbrev pub IsNumber : NumForm → ℤ → Option Term → Sight → Option Tree → List Bool → Type 0
+IsNumber form width None sight value bits =
+    (n : ℕ) × (value ≡ Some (trees.Number n)) × (n < 2 ^ nat_abs width) × (bits ≡ number_bits (nat_abs width) n)
+IsNumber form width (Some term) sight value bits =
+    (v : ℤ) × (value ≡ None) × (value_of term sight ≡ Ok v) × (fits_number form width v ≡ true)
+    × (bits ≡ number_bits (nat_abs width) (stored_number (nat_abs width) v))
 
 -- the size of a text: none, or the value of its expression, where a text of this type may have it
 abbrev pub IsSize : TextForm → Sight → Option Term → Option ℕ → Type 0
@@ -156,22 +173,22 @@ pub record IsText (plain : Bool) (text : PlainText) (known : Facts) (sight : Sig
 
 -- the bits of a piece at a place
 abbrev pub IsStored : (plain : Bool) → Piece → Facts → ℕ → Sight → Option Tree → List Bool → Type 0
-IsStored plain (OneNumber number) known at sight value bits = IsNumber number sight value bits
+IsStored plain (OneNumber number) known at sight value bits = IsNumber number.form number.width number.fixed sight value bits
 IsStored plain (OneText text) known at sight value bits = IsText plain text known sight value bits
 IsStored plain (Zeros count) known at sight value bits = (value ≡ None) × (bits ≡ zeros count)
 IsStored plain (Filler unit) known at sight value bits = (value ≡ None) × (bits ≡ zeros (missing unit at))
 
 -- the marks of its bits: late or not
-abbrev pub marks : Names → Late → Piece → Sight → ℕ → Late
-marks met late piece sight count = replicate count (by piece)
-  where
-    with_term : Option Term → Bool
-    with_term None = false
-    with_term (Some term) = is_late met late term sight
+abbrev pub is_late_value : Names → Late → Option Term → Sight → Bool
+is_late_value met late None sight = false
+is_late_value met late (Some term) sight = is_late met late term sight
 
-    by : Piece → Bool
-    by (OneNumber number) = with_term number.fixed
-    by piece = false
+abbrev pub is_late_piece : Names → Late → Piece → Sight → Bool
+is_late_piece met late (OneNumber number) sight = is_late_value met late number.fixed sight
+is_late_piece met late piece sight = false
+
+abbrev pub marks : Names → Late → Piece → Sight → ℕ → Late
+marks met late piece sight count = replicate count (is_late_piece met late piece sight)
 
 -- Spelling.
 
@@ -205,21 +222,21 @@ InOrder Spells (x ∷ xs) values at late after late_after =
     (value : Option Tree) × (rest : List Tree) × (mid : ℕ) × (late_mid : Late) × (values ≡ put value rest)
     × Spells x value at late mid late_mid × InOrder Spells xs rest mid late_mid after late_after
 
--- the value of a field, as the values of its pieces
-abbrev pub values_in : Option Tree → List Tree
-values_in None = []
-values_in (Some value) = values_of value
-
 module _ (plain : Bool) (known : Facts) (all : List Bool) (names : Environment) (met : Names) where
   abbrev pub FieldSpells : PlainField → Option Tree → RowSpells
-  FieldSpells field value = InOrder (PieceSpells plain known all names met) (pieces_of field) (values_in value)
+  FieldSpells field value at late after late_after =
+      IsGroupedFor field value × InOrder (PieceSpells plain known all names met) (pieces_of field) (values_for field value) at late after late_after
 
   abbrev pub BodySpells : List PlainField → List Tree → RowSpells
   BodySpells = InOrder FieldSpells
 
 -- how many values a row has: texts, and numbers, those of points each
+abbrev pub count_in : Tree → ℕ
+count_in (trees.Group numbers) = length numbers
+count_in value = 1
+
 abbrev pub count_of : List Tree → ℕ
-count_of row = sum_by (λ value. length (values_of value)) row
+count_of row = sum_by count_in row
 
 -- the row spells these bytes: its fields one behind the other from the first bit on, and then zero bits to a whole byte;
 -- plainly where the bytes tell the row again and it has at most 1,048,576 values
@@ -231,4 +248,5 @@ pub record Spells (plain : Bool) (known : Facts) (body : List PlainField) (row :
   pub fields : BodySpells plain known (bits_of bytes) names no_names body row 0 [] end late
   pub filled : bits_of bytes ≡ filled 8 (take end (bits_of bytes))
   pub within : end ≤ length (bits_of bytes)
+  pub are_bytes : (k : ℕ) → slice_index bytes k < 256
   pub few : When plain (count_of row ≤ 1048576)

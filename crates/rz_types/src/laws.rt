@@ -1,10 +1,14 @@
 ghost use Rattle.std.specs.Prelude.{◌≡◌, ◌↔◌, ◌∷◌, ◌++◌, ℤ, [], false, true, length, List, None, Some};
 ghost use Rattle.std.specs.List.{list_any};
+ghost use Rattle.rz_core.specs.declared.facts.Facts.{Facts};
 ghost use Rattle.rz_core.specs.declared.resource.OsType.{OsType};
+ghost use Rattle.rz_expr.specs.Term.{Term};
+ghost use Rattle.rz_expr.specs.Value.{value_of};
 ghost use Rattle.rz_types.specs.Field.{PlainField};
 ghost use Rattle.rz_types.specs.Rules.{bad_width, broken, width_fault, BreaksNone, IsFirstBroken};
 ghost use Rattle.rz_types.specs.declared.rules.TypeFault.{TypeFault};
 ghost use Rattle.rz_types.specs.Scopes.{concerns, holds, is_narrower_for, PlacesDiffer};
+ghost use Rattle.rz_types.specs.Value.{field_sight, is_field_expression, IsArithmetic};
 ghost use Rattle.rz_types.specs.Table.{declared_behind, found, has_place, stands_at, Declaration};
 
 /// A law, with nothing to run: the first broken rule is that of the first field that breaks one, whatever
@@ -47,4 +51,10 @@ pub fn order_stays()
 /// in a table without declarations, and a further declaration brings none.
 pub fn places_stay_different()
     ensures { (table : List Declaration) (one : Declaration) → PlacesDiffer table → PlacesDiffer (declared_behind table one) }
+{}
+
+/// A law, with nothing to run: an expression of a field has a value for each resource, or is a quotient or a remainder
+/// by 0, or a shift by a count outside 0 to 31: it has no other fault.
+pub fn field_expressions_have_values()
+    ensures { (known : Facts) (term : Term) → is_field_expression term ≡ true → IsArithmetic (value_of term (field_sight known [])) }
 {}

@@ -20,7 +20,7 @@ pub use field::{
     Body, Exprs, Field, NumField, NumForm, PointField, Radix, Symbol, Symbols, TextField, TextForm,
 };
 pub use laws::{
-    first_broken_rule, last_declared_is_found, order_stays, others_are_found_as_before,
+    field_expressions_have_values, first_broken_rule, last_declared_is_found, order_stays, others_are_found_as_before,
     places_stay_different,
 };
 pub use range::{fits_number, may_be_size, own_width};
@@ -28,5 +28,5 @@ pub use rules::{TypeFault, check};
 pub use table::{Scope, TypeTable};
 pub use template::Template;
 pub use text::{TextPart, Texts, part_in, text_in, text_of};
-pub use tree::{Numbers, Row, Tree};
+pub use tree::{Numbers, Row, Tree, takes_value};
 pub use value::{FieldEnv, constant_value, number_of, symbol_number_of};

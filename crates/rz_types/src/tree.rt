@@ -1,3 +1,8 @@
+ghost use Rattle.std.specs.Prelude.{◌≡◌};
+ghost use Rattle.rz_types.specs.Field.{plain_field};
+ghost use Rattle.rz_types.specs.Row.{takes_value};
+
+use crate::Field;
 use rz_core::{Bytes, Listing};
 
 /// A value of a row. (MPW Rez.)
@@ -17,3 +22,15 @@ pub type Numbers = Listing<u16>;
 /// The values that a resource gives to the fields of its type, in order: one for each field that has none of its
 /// own.
 pub type Row = Listing<Tree>;
+
+/// Whether a row has a value of the field: the declaration gives none. (MPW Rez.)
+pub fn takes_value(field: &Field) -> bool
+    ensures { result ≡ takes_value (plain_field field.now) }
+{
+    match field {
+        Field::Num(number) => number.fixed.is_none(),
+        Field::Text(text) => text.fixed.is_none(),
+        Field::Points(points) => points.fixed.is_none(),
+        Field::Fill(..) | Field::Align(_) => false,
+    }
+}

@@ -1,0 +1,256 @@
+-- What is laid is spelled so: pieces, and values one behind the other.
+use Rattle.std.proofs.Common.{◌≡◌, ℕ, zero, suc, ◌+◌, ◌-◌, ◌*◌, ◌%◌, ◌^◌, ◌<◌, ◌≤◌, ℤ, pos, negsuc, Bool, true, false, ◌&&◌, List, [], ◌∷◌, ◌++◌, length, take, drop, map, Option, Some, None, Result, Ok, Err, refl, sym, ap, subst, ◌∙◌, arith}
+use Rattle.std.specs.Prelude.{if◌then◌else◌, nat_lt, not, nat_abs, option_map}
+use Rattle.std.specs.List.{AllByRecursion}
+use Rattle.std.specs.Option.{is_some, is_none}
+use Rattle.std.proofs.lemmas.Bool.{ltb-false}
+use Rattle.std.proofs.lemmas.List.{append_assoc, length-append, take-take, drop-take}
+use Rattle.std.proofs.Math.Seq.{take-append_seam, drop-append_seam}
+use Rattle.rz_core.specs.Lists.{or_else, unless_fault}
+use Rattle.rz_core.specs.Stop.{◌>>=◌}
+use Rattle.rz_core.specs.declared.facts.Facts.{Facts}
+use Rattle.rz_expr.specs.Environment.{Environment, Key}
+use Rattle.rz_expr.specs.Term.{Term}
+use Rattle.rz_expr.specs.Value.{value_of}
+use Rattle.rz_expr.specs.declared.value.EvalFault.{EvalFault}
+use Rattle.rz_bits.specs.Bits.{bits_of, number_bits}
+use Rattle.rz_bits.specs.BitBuf.{missing, zeros}
+use Rattle.rz_types.specs.Field.{PlainNumber, PlainText}
+use Rattle.rz_types.specs.Laid.{bad_length, bad_size, bytes_given, bytes_laid, first_value, fixed_bytes, fixed_number, in_order, joined, lay, number_given, number_in, one_more, other_values, piece_laid, refusal, size_in, takes_one, text_in, text_laid, text_refusal, too_long, unless, valued, value_in, value_refusal, with_bits, Draft, Refusal}
+use Rattle.rz_types.specs.Range.{fits_number, may_be_size}
+use Rattle.rz_types.specs.Spells.{marks, most_bits, nowhere, outside, put, sees, AreBytes, Filler, InOrder, IsNumber, IsSize, IsStored, IsText, Late, Names, OneNumber, OneText, Piece, PieceSpells, RowSpells, Zeros}
+use Rattle.rz_types.specs.Stored.{is_too_long, stored_number, stored_text}
+use Rattle.rz_types.specs.Text.{bytes_of as text_bytes_of, PlainPart}
+use Rattle.rz_types.specs.Value.{field_sight, is_field_expression, symbol_key}
+use Rattle.rz_types.specs.declared.field.NumForm.{NumForm}
+use Rattle.rz_types.specs.declared.field.TextForm.{TextForm}
+use Rattle.rz_types.specs.declared.field.TextForm.TheVariants as forms
+use Rattle.rz_types.specs.declared.tree.Tree.{Tree}
+use Rattle.rz_types.specs.declared.tree.Tree.TheVariants as trees
+use Rattle.rz_layout.proofs.Spelling.{seen, HasFields, IsField}
+
+-- Results.
+
+pub record Chained {X Y : Type 0} (first : Result X Refusal) (next : X → Result Y Refusal) (y : Y) : Type 0 where
+  pub value : X
+  pub is : first ≡ Ok value
+  pub leads : next value ≡ Ok y
+
+pub chained : {X Y : Type 0} (first : Result X Refusal) (next : X → Result Y Refusal) (y : Y) → (first >>= next) ≡ Ok y → Chained first next y
+chained (Ok x) next y is = record { value = x; is = refl; leads = is }
+chained (Err fault) next y is = absurd cc
+
+pub same_ok : {X : Type 0} (x y : X) → ◌≡◌ {A = Result X Refusal} (Ok x) (Ok y) → x ≡ y
+same_ok x y is = cc is
+
+unrefused : {X : Type 0} (found : Option Refusal) (x y : X) → unless_fault found x ≡ Ok y → (found ≡ None) × (x ≡ y)
+unrefused None x y is = (refl, same_ok x y is)
+unrefused (Some fault) x y is = absurd cc
+
+held : (test : Bool) (fault : Refusal) → unless test fault ≡ None → test ≡ true
+held true fault is = refl
+held false fault is = absurd cc
+
+first_none : (one later : Option Refusal) → or_else one later ≡ None → (one ≡ None) × (later ≡ None)
+first_none None later is = (refl, is)
+first_none (Some fault) later is = absurd cc
+
+not_true : (b : Bool) → not b ≡ true → b ≡ false
+not_true true is = absurd cc
+not_true false is = refl
+
+-- What a piece takes.
+
+abbrev pub NumberValue : ℤ → Option Term → Option Tree → Type 0
+NumberValue width None value = (n : ℕ) × (value ≡ Some (trees.Number n)) × (n < 2 ^ nat_abs width)
+NumberValue width (Some term) value = value ≡ None
+
+abbrev pub TextValue : Option (List PlainPart) → Option Tree → Type 0
+TextValue None value = (bytes : List ℕ) × (value ≡ Some (trees.Text bytes))
+TextValue (Some parts) value = value ≡ None
+
+abbrev pub PieceValue : Piece → Option Tree → Type 0
+PieceValue (OneNumber number) value = NumberValue number.width number.fixed value
+PieceValue (OneText text) value = TextValue text.fixed value
+PieceValue (Zeros count) value = value ≡ None
+PieceValue (Filler unit) value = value ≡ None
+
+-- each takes its value of those that are given
+abbrev pub Fed : {A : Type 0} → (A → Bool) → (A → Option Tree → Type 0) → List A → List Tree → Type 0
+Fed takes Has [] values = values ≡ []
+Fed takes Has (x ∷ xs) values =
+    Has x (first_value (takes x) values) × (values ≡ put (first_value (takes x) values) (other_values (takes x) values)) × Fed takes Has xs (other_values (takes x) values)
+
+module _ (known : Facts) (all : List Bool) where
+  valued_is : (piece : ℕ) (found : Result ℤ EvalFault) (v : ℤ) → valued piece found ≡ Ok v → found ≡ Ok v
+  valued_is piece (Ok value) v is = ap (λ (z : ℤ). Ok z) (same_ok value v is)
+  valued_is piece (Err fault) v is = absurd cc
+
+  value_sound : (piece at : ℕ) (term : Term) (v : ℤ) → is_field_expression term ≡ true → value_in piece known term ≡ Ok v → value_of term (sees known all outside at) ≡ Ok v
+  value_sound piece at term v field is = seen known all outside (λ key. refl) at term field ∙ valued_is piece (value_of term (field_sight known [])) v is
+
+  number_sound : (piece at : ℕ) (form : NumForm) (width : ℤ) (fixed : Option Term) → IsField fixed → (value : Option Tree) → NumberValue width fixed value → (bits : List Bool)
+      → (number_given piece known form width fixed value >>= λ n. Ok (number_bits (nat_abs width) n)) ≡ Ok bits
+      → IsNumber form width fixed (sees known all outside at) value bits
+  number_sound piece at form width None field value has bits is =
+      (has.0, has.1, has.2, sym (same_ok _ bits is) ∙ ap (λ (o : Option Tree). number_bits (nat_abs width) (number_in o)) has.1)
+  number_sound piece at form width (Some term) field value has bits is =
+      let outer = chained (fixed_number piece known form width term) (λ n. Ok (number_bits (nat_abs width) n)) bits is in
+      let inner = chained (value_in piece known term) (λ v. unless_fault (unless (fits_number form width v) (refusal 207 piece v)) (stored_number (nat_abs width) v)) outer.value outer.is in
+      let free = unrefused (unless (fits_number form width inner.value) (refusal 207 piece inner.value)) (stored_number (nat_abs width) inner.value) outer.value inner.leads in
+      (
+        inner.value,
+        has,
+        value_sound piece at term inner.value field inner.is,
+        held (fits_number form width inner.value) (refusal 207 piece inner.value) free.0,
+        sym (same_ok _ bits outer.leads) ∙ ap (number_bits (nat_abs width)) (sym free.1),
+      )
+
+  -- a size that the text may have, as a number
+  record SizeSound (form : TextForm) (at : ℕ) (term : Option Term) (found : Option ℤ) : Type 0 where
+    is : IsSize form (sees known all outside at) term (option_map nat_abs found)
+
+  may_be_natural : (form : TextForm) (z : ℤ) → may_be_size form z ≡ true → pos (nat_abs z) ≡ z
+  may_be_natural form (pos n) is = refl
+  may_be_natural form (negsuc n) is = absurd (negative form is)
+    where
+      negative : (form : TextForm) → may_be_size form (negsuc n) ≡ true → ⊥
+      negative forms.Open is = cc
+      negative forms.Pascal is = cc
+      negative forms.WordLong is = cc
+      negative forms.Zero is = cc
+
+  size_sound : (piece at : ℕ) (form : TextForm) (term : Option Term) → IsField term → (found : Option ℤ) → size_in piece known term ≡ Ok found → bad_size piece form found ≡ None
+      → IsSize form (sees known all outside at) term (option_map nat_abs found)
+  size_sound piece at form None field found is allowed = ap (option_map nat_abs) (sym (same_ok None found is))
+  size_sound piece at form (Some term) field found is allowed =
+      let inner = chained (value_in piece known term) (λ size. Ok (Some size)) found is in
+      let same : Some inner.value ≡ found = same_ok _ found inner.leads in
+      let fits : may_be_size form inner.value ≡ true =
+      held (may_be_size form inner.value) (refusal 207 piece inner.value) (subst (λ (o : Option ℤ). bad_size piece form o ≡ None) (sym same) allowed) in
+      let natural = may_be_natural form inner.value fits in
+      (
+        nat_abs inner.value,
+        value_sound piece at term inner.value field inner.is ∙ ap (λ (z : ℤ). Ok z) (sym natural),
+        subst (λ (z : ℤ). may_be_size form z ≡ true) (sym natural) fits,
+        ap (option_map nat_abs) (sym same),
+      )
+
+  joined_is : (piece : ℕ) (found : Result (List ℕ) _) (bytes : List ℕ) → joined piece found ≡ Ok bytes → found ≡ Ok bytes
+  joined_is piece (Ok value) bytes is = ap (λ (bs : List ℕ). Ok bs) (same_ok value bytes is)
+  joined_is piece (Err fault) bytes is = absurd cc
+
+  bytes_sound : (piece : ℕ) (form : TextForm) (fixed : Option (List PlainPart)) (size : Option ℕ) (value : Option Tree) → TextValue fixed value → (bytes : List ℕ)
+      → bytes_given piece known fixed value ≡ Ok bytes → AreBytes false form known fixed size value bytes
+  bytes_sound piece form None size value has bytes is =
+      (has.1 ∙ ap (λ (bs : List ℕ). Some (trees.Text bs)) (ap text_in (sym has.1) ∙ same_ok (text_in value) bytes is), tt)
+  bytes_sound piece form (Some parts) size value has bytes is = (has, joined_is piece (text_bytes_of nowhere known parts) bytes is)
+
+  text_sound : (piece at : ℕ) (text : PlainText) → IsField text.size → (value : Option Tree) → TextValue text.fixed value → (bits : List Bool)
+      → text_laid piece known text value ≡ Ok bits → IsText false text known (sees known all outside at) value bits
+  text_sound piece at text field value has bits is =
+      let one = chained (size_in piece known text.size) (λ size. bytes_given piece known text.fixed value >>= λ bytes. bytes_laid piece text.form size bytes) bits is in
+      let two = chained (bytes_given piece known text.fixed value) (λ bytes. bytes_laid piece text.form one.value bytes) bits one.leads in
+      let free = unrefused (text_refusal piece text.form one.value (length two.value)) (bits_of (stored_text text.form (option_map nat_abs one.value) two.value)) bits two.leads in
+      let each = first_none (bad_size piece text.form one.value) (or_else (bad_length piece text.form one.value (length two.value)) None) free.0 in
+      let short = first_none (bad_length piece text.form one.value (length two.value)) None each.1 in
+      record {
+        size = option_map nat_abs one.value;
+        has_size = size_sound piece at text.form text.size field one.value one.is each.0;
+        bytes = two.value;
+        are_bytes = bytes_sound piece text.form text.fixed (option_map nat_abs one.value) value has two.value two.is;
+        short = not_true _ (held _ (refusal 216 piece (pos (length two.value))) short.0);
+        are_bits = sym free.1;
+      }
+
+  stored_sound : (piece : Piece) → HasFields piece → (value : Option Tree) → PieceValue piece value → (draft : Draft) (bits : List Bool)
+      → piece_laid known draft piece value ≡ Ok bits → IsStored false piece known (length draft.bits) (sees known all outside (length draft.bits)) value bits
+  stored_sound (OneNumber number) field value has draft bits is =
+      number_sound draft.piece (length draft.bits) number.form number.width number.fixed field value has bits is
+  stored_sound (OneText text) field value has draft bits is = text_sound draft.piece (length draft.bits) text field value has bits is
+  stored_sound (Zeros count) field value has draft bits is = (has, sym (same_ok _ bits is))
+  stored_sound (Filler unit) field value has draft bits is = (has, sym (same_ok _ bits is))
+
+  -- what a draft grew by
+  record Grew (draft next : Draft) : Type 0 where
+    more : List Bool
+    is : next.bits ≡ draft.bits ++ more
+    short : length draft.bits + length more ≤ most_bits
+
+  -- all bits begin with those of the draft
+  abbrev pub Front : Draft → Type 0
+  Front draft = take (length draft.bits) all ≡ draft.bits
+
+  with_grew : (draft next : Draft) (bits : List Bool) → with_bits draft bits ≡ Ok next → (next.bits ≡ draft.bits ++ bits) × (length draft.bits + length bits ≤ most_bits)
+  with_grew draft next bits is = by (nat_lt most_bits (length draft.bits + length bits)) refl is
+    where
+      by : (test : Bool) → nat_lt most_bits (length draft.bits + length bits) ≡ test
+          → (if test then Err (too_long draft (length draft.bits + length bits)) else Ok (record { piece = one_more draft.piece; bits = draft.bits ++ bits })) ≡ Ok next
+          → (next.bits ≡ draft.bits ++ bits) × (length draft.bits + length bits ≤ most_bits)
+      by true over so = absurd cc
+      by false over so = (sym (ap (λ (d : Draft). d.bits) (same_ok _ next so)), ltb-false most_bits (length draft.bits + length bits) over)
+
+  front_back : (draft next : Draft) (bits : List Bool) → next.bits ≡ draft.bits ++ bits → Front next → Front draft
+  front_back draft next bits is front =
+      let long : length next.bits ≡ length draft.bits + length bits = ap length is ∙ length-append draft.bits bits in
+      sym (take-take (length draft.bits) (length next.bits) all (omega (arith, long)))
+      ∙ ap (take (length draft.bits)) (front ∙ is)
+      ∙ take-append_seam draft.bits bits
+
+  there : (draft next : Draft) (bits : List Bool) → next.bits ≡ draft.bits ++ bits → Front next → take (length bits) (drop (length draft.bits) all) ≡ bits
+  there draft next bits is front =
+      let long : length next.bits ≡ length draft.bits + length bits = ap length is ∙ length-append draft.bits bits in
+      sym (drop-take (length draft.bits) (length bits) all)
+      ∙ ap (λ n. drop (length draft.bits) (take n all)) (sym long)
+      ∙ ap (drop (length draft.bits)) (front ∙ is)
+      ∙ drop-append_seam draft.bits bits
+
+  -- what is laid is spelled, and the draft before is a front too
+  pub record Sounds (Is : ℕ → Late → Type 0) (draft : Draft) : Type 0 where
+    pub late_after : Late
+    pub spells : Is (length draft.bits) late_after
+    pub front : Front draft
+
+  pub piece_sound : (met : Names) (piece : Piece) → HasFields piece → (value : Option Tree) → PieceValue piece value → (draft next : Draft) → lay known draft piece value ≡ Ok next → Front next
+      → (late : Late) → Sounds (λ at late_after. PieceSpells false known all outside met piece value at late (length next.bits) late_after) draft
+  piece_sound met piece field value has draft next is front late =
+      let inner = chained (piece_laid known draft piece value) (with_bits draft) next is in
+      let grew = with_grew draft next inner.value inner.leads in
+      let long : length next.bits ≡ length draft.bits + length inner.value = ap length grew.0 ∙ length-append draft.bits inner.value in
+      record {
+        late_after = late ++ marks met late piece (sees known all outside (length draft.bits)) (length inner.value);
+        spells = record {
+          bits = inner.value;
+          stored = stored_sound piece field value has draft inner.value inner.is;
+          there = there draft next inner.value grew.0 front;
+          ends = long;
+          short = subst (λ n. n ≤ most_bits) (sym long) grew.1;
+          marked = refl;
+        };
+        front = front_back draft next inner.value grew.0 front;
+      }
+
+  -- One behind the other.
+
+  module _ {A : Type 0} (Is : A → Option Tree → RowSpells) (takes : A → Bool) (lay_one : Draft → A → Option Tree → Result Draft Refusal) (Good : A → Type 0) (Has : A → Option Tree → Type 0)
+      (sounds : (x : A) → Good x → (value : Option Tree) → Has x value → (draft next : Draft) → lay_one draft x value ≡ Ok next → Front next → (late : Late)
+          → Sounds (λ at late_after. Is x value at late (length next.bits) late_after) draft) where
+    pub order_sound : (xs : List A) → AllByRecursion Good xs → (values : List Tree) → Fed takes Has xs values → (draft next : Draft) → in_order takes lay_one draft xs values ≡ Ok next → Front next
+        → (late : Late) → Sounds (λ at late_after. InOrder Is xs values at late (length next.bits) late_after) draft
+    order_sound [] each values fed draft next is front late =
+        let same : draft ≡ next = same_ok draft next is in
+        record {
+          late_after = late;
+          spells = (fed, ap (λ (d : Draft). length d.bits) (sym same), refl);
+          front = subst Front (sym same) front;
+        }
+    order_sound (x ∷ xs) each values fed draft next is front late =
+        let inner = chained (lay_one draft x (first_value (takes x) values)) (λ mid. in_order takes lay_one mid xs (other_values (takes x) values)) next is in
+        let mid_front = order_sound xs each.1 (other_values (takes x) values) fed.2 inner.value next inner.leads front late in
+        let one = sounds x each.0 (first_value (takes x) values) fed.0 draft inner.value inner.is mid_front.front late in
+        let more = order_sound xs each.1 (other_values (takes x) values) fed.2 inner.value next inner.leads front one.late_after in
+        record {
+          late_after = more.late_after;
+          spells = (first_value (takes x) values, other_values (takes x) values, length inner.value.bits, one.late_after, fed.1, one.spells, more.spells);
+          front = one.front;
+        }

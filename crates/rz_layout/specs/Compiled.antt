@@ -1,0 +1,27 @@
+-- What `compile` answers.
+use Rattle.std.specs.Prelude.{ℕ, ◌==◌, Bool, false, ◌||◌, List, Ok, Err}
+use Rattle.std.specs.declared.result.Result.{Result}
+use Rattle.rz_core.specs.declared.facts.Facts.{Facts}
+use Rattle.rz_core.specs.declared.stop.Stop.{Stop}
+use Rattle.rz_core.specs.declared.stop.Stop.TheVariants.{NoMemory, Refused}
+use Rattle.rz_layout.specs.Fault.{refusal_of}
+use Rattle.rz_layout.specs.declared.fault.LayFault.{LayFault}
+use Rattle.rz_types.specs.Field.{PlainField}
+use Rattle.rz_types.specs.Laid.{Refusal, Refuses}
+use Rattle.rz_types.specs.Spells.{Spells}
+use Rattle.rz_types.specs.declared.tree.Tree.{Tree}
+
+-- the bytes that a row spells, or its refusal
+abbrev pub IsCompiled : Facts → List PlainField → List Tree → Result (List ℕ) Refusal → Type 0
+IsCompiled known body row (Ok bytes) = Spells false known body row bytes
+IsCompiled known body row (Err fault) = Refuses known body row fault
+
+-- the call gave what is answered, or memory was refused
+abbrev pub MeetsLaid : {X : Type 0} → Result X (Stop LayFault) → (Result X Refusal → Type 0) → Type 0
+MeetsLaid (Ok value) answers = answers (Ok value)
+MeetsLaid (Err (Refused fault)) answers = answers (Err (refusal_of fault))
+MeetsLaid (Err NoMemory) answers = Unit {0}
+
+-- the faults that a row can have
+abbrev pub is_compile_fault : ℕ → Bool
+is_compile_fault number = (number == 207) || (number == 211) || (number == 215) || (number == 216) || (number == 301)

@@ -1,0 +1,45 @@
+-- What the code has laid, and what a call gives of it.
+use Rattle.std.specs.Prelude.{◌≡◌, ℕ, ◌+◌, ◌≤◌, ◌<◌, ℤ, List, length, Option, Ok, Err}
+use Rattle.std.specs.declared.result.Result.{Result}
+use Rattle.rz_core.specs.declared.stop.Stop.{Stop}
+use Rattle.rz_core.specs.declared.stop.Stop.TheVariants.{NoMemory, Refused}
+use Rattle.rz_layout.specs.Fault.{refusal_of}
+use Rattle.rz_layout.specs.declared.fault.LayFault.{LayFault}
+use Rattle.rz_layout.specs.declared.laid.Laid.{Laid}
+use Rattle.rz_core.specs.Stop.{◌>>=◌}
+use Rattle.rz_core.specs.declared.facts.Facts.{Facts}
+use Rattle.rz_types.specs.Field.{PlainText}
+use Rattle.rz_types.specs.declared.tree.Tree.{Tree}
+use Rattle.rz_types.specs.Laid.{bytes_given, bytes_laid, too_long, with_bits, Draft, Refusal}
+use Rattle.rz_types.specs.declared.field.TextForm.{TextForm}
+use Rattle.rz_types.specs.Spells.{most_bits}
+
+abbrev pub draft_of : Laid → Draft
+draft_of laid = record { piece = laid.piece; bits = laid.bits }
+
+-- the call gave this value or this refusal, or memory was refused
+abbrev pub GivesLaid : {X : Type 0} → Result X Refusal → Result X (Stop LayFault) → Type 0
+GivesLaid answer (Ok value) = answer ≡ Ok value
+GivesLaid answer (Err (Refused fault)) = answer ≡ Err (refusal_of fault)
+GivesLaid answer (Err NoMemory) = Unit {0}
+
+-- the call left this draft, or gave this refusal, or memory was refused
+abbrev pub Lays : Result Draft Refusal → Result (Unit {0}) (Stop LayFault) → Draft → Type 0
+Lays answer (Ok nothing) draft = answer ≡ Ok draft
+Lays answer (Err (Refused fault)) draft = answer ≡ Err (refusal_of fault)
+Lays answer (Err NoMemory) draft = Unit {0}
+
+-- so many bits more are allowed, or are refused as 301
+abbrev pub HasRoom : Draft → ℕ → Result (Unit {0}) (Stop LayFault) → Type 0
+HasRoom draft count (Ok nothing) = length draft.bits + count ≤ most_bits
+HasRoom draft count (Err (Refused fault)) =
+    (most_bits < length draft.bits + count) × (refusal_of fault ≡ too_long draft (length draft.bits + count))
+HasRoom draft count (Err NoMemory) = ⊥
+
+-- the draft behind the bits of bytes with this size
+abbrev pub text_put : Draft → TextForm → Option ℤ → List ℕ → Result Draft Refusal
+text_put draft form size bytes = bytes_laid draft.piece form size bytes >>= with_bits draft
+
+-- the draft behind a text whose size is known
+abbrev pub sized_put : Facts → Draft → PlainText → Option ℤ → Option Tree → Result Draft Refusal
+sized_put known draft text size value = bytes_given draft.piece known text.fixed value >>= λ bytes. text_put draft text.form size bytes

@@ -1,0 +1,103 @@
+ghost use Rattle.std.specs.Prelude.{IfOk, ◌≡◌, ◌≤◌, length, nat_abs, option_map};
+ghost use Rattle.rz_expr.specs.Term.{term_of};
+ghost use Rattle.rz_layout.specs.Laid.{draft_of, GivesLaid, Lays};
+ghost use Rattle.rz_layout.specs.Sound.{IsWidth};
+ghost use Rattle.rz_types.specs.Field.{plain_number};
+ghost use Rattle.rz_types.specs.Laid.{fixed_number, lay, number_given, number_in, value_in};
+ghost use Rattle.rz_types.specs.Spells.{most_bits, OneNumber};
+ghost use Rattle.rz_types.specs.Stored.{stored_number};
+
+use crate::LayFault;
+use crate::fault::value_fault;
+use crate::laid::Laid;
+use rz_core::{Facts, Stop};
+use rz_expr::{Expr, value_in};
+use rz_types::{FieldEnv, NumField, NumForm, Tree, fits_number};
+
+/// Lays a number: that of the row, or the value of its expression.
+pub fn lay_number(
+    field: &NumField,
+    value: Option<&Tree>,
+    facts: &Facts,
+    laid: &mut Laid,
+) -> Result<(), Stop<LayFault>>
+    requires width { IsWidth field.now.width }
+    requires short { length laid.old.bits ≤ most_bits }
+    ensures laid { Lays (lay facts.now (draft_of laid.old) (OneNumber (plain_number field.now)) (option_map (λ v. v.now) value.entry)) result (draft_of laid.new) }
+    ensures short { IfOk result (λ _. length laid.new.bits ≤ most_bits) }
+{
+    match number_given(field, value, facts, laid.piece) {
+        Ok(number) => laid.put_number(number, field.width as u8),
+        Err(stop) => Err(stop),
+    }
+}
+
+/// The number of a field: that of the row, or that of its expression.
+fn number_given(
+    field: &NumField,
+    value: Option<&Tree>,
+    facts: &Facts,
+    piece: u64,
+) -> Result<u32, Stop<LayFault>>
+    requires width { IsWidth field.now.width }
+    ensures { GivesLaid (number_given piece facts.now field.now.form field.now.width (option_map term_of field.now.fixed) (option_map (λ v. v.now) value.entry)) result }
+{
+    match &field.fixed {
+        Some(expr) => fixed_number(expr, field.form, field.width, facts, piece),
+        None => Ok(number_in(value)),
+    }
+}
+
+/// The number that a value of a row is.
+pub fn number_in(value: Option<&Tree>) -> u32
+    ensures { result ≡ number_in (option_map (λ v. v.now) value.entry) }
+{
+    match value {
+        Some(Tree::Number(number)) => *number,
+        _ => 0,
+    }
+}
+
+/// The number that the value of an expression is, or 207 where it isn't in the range of the field.
+pub fn fixed_number(
+    expr: &Expr,
+    form: NumForm,
+    width: i32,
+    facts: &Facts,
+    piece: u64,
+) -> Result<u32, Stop<LayFault>>
+    requires { IsWidth width }
+    ensures { GivesLaid (fixed_number piece facts.now form width (term_of expr.now)) result }
+{
+    let value = match expression_value(expr, facts, piece) {
+        Ok(value) => value,
+        Err(stop) => return Err(stop),
+    };
+    if !fits_number(form, width, value) {
+        return Err(Stop::Refused(LayFault {
+            number: 207,
+            piece,
+            value: i64::from(value),
+        }));
+    }
+    Ok(stored_number(width, value))
+}
+
+/// The value of an expression of a field.
+pub fn expression_value(expr: &Expr, facts: &Facts, piece: u64) -> Result<i32, Stop<LayFault>>
+    ensures { GivesLaid (value_in piece facts.now (term_of expr.now)) result }
+{
+    match value_in(expr, &FieldEnv { facts, symbols: &[] }) {
+        Ok(value) => Ok(value),
+        Err(fault) => Err(Stop::Refused(value_fault(fault, piece))),
+    }
+}
+
+/// The number from 0 to below 2 to the power of the width that stands for a value.
+fn stored_number(width: i32, value: i32) -> u32
+    requires { IsWidth width }
+    ensures { result ≡ stored_number (nat_abs width) value }
+{
+    let all = 1_u64 << (width as u32);
+    (u64::from(value.cast_unsigned()) % all) as u32
+}
