@@ -5,6 +5,7 @@ use Rattle.rz_core.specs.Stop.{◌>>=◌}
 use Rattle.rz_core.specs.declared.facts.Facts.{Facts}
 use Rattle.rz_core.specs.declared.fault.Fault.{Fault}
 use Rattle.rz_core.specs.declared.fault.Mark.{Mark}
+use Rattle.rz_expr.specs.Term.{Term}
 use Rattle.rz_items.specs.Item.{Braced, Named, Number, PlainItem, Text}
 use Rattle.rz_match.specs.Fits.{exceeds, is_char, list_of}
 use Rattle.rz_match.specs.Unfit.{mark_of, out_of_range, too_few, too_long, too_many, wrong_kind}
@@ -32,6 +33,9 @@ module _ {F V : Type 0} (one : ℕ → F → PlainItem → Result V Fault) (plac
 abbrev pub in_range : PlainNumber → Mark → ℤ → Result ℤ Fault
 in_range number mark value = if fits_number number.form number.width value then Ok value else Err (out_of_range mark value)
 
+abbrev pub expression_value : Facts → PlainNumber → Term → Mark → Result ℤ Fault
+expression_value known number term mark = symbol_number_of mark known number.symbols term >>= in_range number mark
+
 abbrev pub letter_value : Mark → List ℕ → Result ℤ Fault
 letter_value mark [] = Ok (pos 0)
 letter_value mark (byte ∷ []) = Ok (pos byte)
@@ -42,7 +46,7 @@ char_value true known position parts mark = bytes_of mark known parts >>= letter
 char_value false known position parts mark = Err (wrong_kind position mark)
 
 abbrev pub value_for : Facts → (position : ℕ) → PlainNumber → PlainItem → Result ℤ Fault
-value_for known position number (Number term mark) = symbol_number_of mark known number.symbols term >>= in_range number mark
+value_for known position number (Number term mark) = expression_value known number term mark
 value_for known position number (Text parts mark) = char_value (is_char number.form) known position parts mark
 value_for known position number (Braced items mark) = Err (wrong_kind position mark)
 value_for known position number (Named name items mark) = Err (wrong_kind position mark)

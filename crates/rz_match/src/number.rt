@@ -1,14 +1,16 @@
 ghost use Rattle.std.specs.Prelude.{◌≡◌, ◌<◌, ◌^◌, nat_abs, IfOk, ◌↔◌, IsTrue};
 ghost use Rattle.rz_core.specs.Stop.{Gives};
+ghost use Rattle.rz_expr.specs.Term.{term_of};
 ghost use Rattle.rz_items.specs.Item.{plain_item};
 ghost use Rattle.rz_match.specs.Fits.{is_char};
-ghost use Rattle.rz_match.specs.Matched.{char_value, in_range, letter_value, number_for, value_for};
+ghost use Rattle.rz_match.specs.Matched.{char_value, expression_value, in_range, letter_value, number_for, value_for};
 ghost use Rattle.rz_types.specs.Field.{plain_number};
 ghost use Rattle.rz_types.specs.Stored.{stored_number};
 ghost use Rattle.rz_types.specs.Text.{plain_parts};
 
 use crate::fault::{out_of_range, too_long, wrong_kind};
 use rz_core::{Facts, Fault, Mark, Stop};
+use rz_expr::Expr;
 use rz_items::Item;
 use rz_types::{NumField, NumForm, Texts, fits_number, symbol_number_of, text_of};
 use std::alloc::Global;
@@ -41,14 +43,25 @@ fn value_for(
     ensures { Gives (value_for facts.now position (plain_number field.now) (plain_item item.now)) result }
 {
     match item {
-        Item::Number(expr, mark) => {
-            let value = symbol_number_of(alloc, expr, *mark, facts, field.symbols.as_slice())?;
-            in_range(field, *mark, value)
-        }
+        Item::Number(expr, mark) => expression_value(alloc, field, expr, *mark, facts),
         Item::Text(texts, mark) => char_value(alloc, field.form, texts, *mark, position, facts),
         Item::List(_, mark) => Err(wrong_kind(position, *mark)),
         Item::Named(_, _, mark) => Err(wrong_kind(position, *mark)),
     }
+}
+
+/// The value of an expression, in the range of the number.
+fn expression_value(
+    alloc: Global,
+    field: &NumField,
+    expr: &Expr,
+    mark: Mark,
+    facts: &Facts,
+) -> Result<i32, Stop<Fault>>
+    ensures { Gives (expression_value facts.now (plain_number field.now) (term_of expr.now) mark) result }
+{
+    let value = symbol_number_of(alloc, expr, mark, facts, field.symbols.as_slice())?;
+    in_range(field, mark, value)
 }
 
 /// The value, where it is in the range of the number.
