@@ -1,11 +1,10 @@
 -- One field: the item is of it, or has a fault, exactly as is computed.
-use Rattle.std.proofs.Common.{◌≡◌, ℕ, Bool, true, false, List, [], ◌∷◌, inl, inr, refl, sym, ap, ◌∙◌}
+use Rattle.std.proofs.Common.{◌≡◌, ℕ, Bool, List, inl, inr, sym, ap, ◌∙◌}
 use Rattle.std.specs.Prelude.{Ok, Err, None, replicate, if◌then◌else◌}
 use Rattle.std.specs.declared.result.Result.{Result}
 use Rattle.rz_core.specs.Stop.{◌>>=◌}
 use Rattle.rz_core.specs.declared.facts.Facts.{Facts}
 use Rattle.rz_core.specs.declared.fault.Fault.{Fault}
-use Rattle.rz_core.specs.declared.fault.Mark.{Mark}
 use Rattle.rz_items.specs.Item.{Braced, Named, Number, PlainItem, Text}
 use Rattle.rz_match.specs.Fits.{exceeds, list_of, AreNumbersOf, IsItemOf, IsNumberOf, IsTextOf}
 use Rattle.rz_match.specs.Matched.{group_for, item_for, number_for, short_text, text_for}
@@ -46,7 +45,7 @@ module _ (known : Facts) (position : ℕ) (text : PlainText) where
   text_blamed : (item : PlainItem) (fault : Fault) → text_for known position text item ≡ Err fault → IsTextFault known position text item fault
   text_blamed (Text parts mark) fault e =
       elim (then_err (bytes_of mark known parts) (short_text text mark) fault e) [
-        inl broken ↦ inl broken
+        | inl broken ↦ inl broken
         | inr first ↦
             let long = unless_err (exceeds text first.0) first.0 (too_long mark first.0) fault first.2 in
             inr (first.0, first.1, long.0, sym long.1)

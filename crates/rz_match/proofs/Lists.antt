@@ -105,7 +105,7 @@ module _ {F V : Type 0} (one : ℕ → F → PlainItem → Result V Fault) (IsOf
     are_items = ap (λ (xs : List PlainItem). item ∷ xs) from.are_items;
     fit = (is, from.fit);
     breaks = let there : (before + 1) + length from.used ≡ before + length (item ∷ from.used) = omega arith in
-    subst (λ (n : ℕ). BreaksAt IsFaultOf place all (n + 1) from.others from.rest fault) there from.breaks;
+        subst (λ (n : ℕ). BreaksAt IsFaultOf place all (n + 1) from.others from.rest fault) there from.breaks;
   }
 
   module _ (sound : (position : ℕ) (field : F) (item : PlainItem) (value : V) → one position field item ≡ Ok value → IsOf field item value)
@@ -117,10 +117,10 @@ module _ {F V : Type 0} (one : ℕ → F → PlainItem → Result V Fault) (IsOf
     from_of before (field ∷ fields) [] fault e = at_once before (field ∷ fields) [] fault (sym (same_err {X = List V} (too_few place all) fault e))
     from_of before (field ∷ fields) (item ∷ items) fault e =
         elim (then_err (one (before + 1) field item) (λ value. matched_all one place all (before + 1) fields items >>= λ values. Ok (value ∷ values)) fault e) [
-          inl broken ↦ at_once before (field ∷ fields) (item ∷ items) fault (blamed (before + 1) field item fault broken)
+          | inl broken ↦ at_once before (field ∷ fields) (item ∷ items) fault (blamed (before + 1) field item fault broken)
           | inr first ↦
               elim (then_err (matched_all one place all (before + 1) fields items) (λ values. Ok (first.0 ∷ values)) fault first.2) [
-                inl broken ↦ later before field fields item items first.0 fault (sound (before + 1) field item first.0 first.1) (from_of (before + 1) fields items fault broken)
+                | inl broken ↦ later before field fields item items first.0 fault (sound (before + 1) field item first.0 first.1) (from_of (before + 1) fields items fault broken)
                 | inr others ↦ absurd (ok_err (first.0 ∷ others.0) fault others.2)
               ]
         ]

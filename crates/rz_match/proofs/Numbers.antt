@@ -42,7 +42,7 @@ module _ (known : Facts) (number : PlainNumber) (term : Term) (mark : Mark) wher
   expression_blamed : (fault : Fault) → expression_value known number term mark ≡ Err fault → IsExpressionFault known number term mark fault
   expression_blamed fault e =
       elim (then_err (symbol_number_of mark known number.symbols term) (in_range number mark) fault e) [
-        inl broken ↦ inl broken
+        | inl broken ↦ inl broken
         | inr first ↦
             let fits = if_err (fits_number number.form number.width first.0) first.0 (out_of_range mark first.0) fault first.2 in
             inr (first.0, first.1, fits.0, sym fits.1)
@@ -93,7 +93,7 @@ module _ (known : Facts) (position : ℕ) (parts : List PlainPart) (mark : Mark)
   char_blamed : (char : Bool) (fault : Fault) → char_value char known position parts mark ≡ Err fault → IsCharFault char known position parts mark fault
   char_blamed true fault e =
       elim (then_err (bytes_of mark known parts) (letter_value mark) fault e) [
-        inl broken ↦ inl broken
+        | inl broken ↦ inl broken
         | inr first ↦ inr (first.0, first.1, letter_blamed mark first.0 fault first.2)
       ]
   char_blamed false fault e = blame (wrong_kind position mark) fault e
@@ -151,7 +151,7 @@ module _ (known : Facts) where
       → number_for known position number item ≡ Err fault → IsNumberFault known position number item fault
   number_blamed position number item fault e =
       elim (then_err (value_for known position number item) (λ value. Ok (stored_number (nat_abs number.width) value)) fault e) [
-        inl broken ↦ value_blamed known position number item fault broken
+        | inl broken ↦ value_blamed known position number item fault broken
         | inr first ↦ absurd (ok_err (stored_number (nat_abs number.width) first.0) fault first.2)
       ]
 

@@ -45,7 +45,13 @@ pub fn match_items(
     ensures row { IfOk result (IsRow (template_of template.now)) }
     ensures nameable { (files : ℕ) → place.file < files → AreItemsWithin files (plain_items items.now) → OnFault result (IsNameable files) }
 {
-    match_all(alloc, template.body().as_slice(), items.as_slice(), place, facts)
+    match_all(
+        alloc,
+        template.body().as_slice(),
+        items.as_slice(),
+        place,
+        facts,
+    )
 }
 
 /// The row of these items under these fields.

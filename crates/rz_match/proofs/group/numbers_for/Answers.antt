@@ -7,7 +7,7 @@ use Rattle.rz_core.specs.declared.stop.Stop.{Stop}
 use Rattle.rz_items.specs.Item.{plain_item, plain_items}
 use Rattle.rz_match.specs.Matched.{number_for, numbers_for}
 use Rattle.rz_match.proofs.Steps.{no_field, no_item, one_more, one_stop, replicate_end, replicate_more, rest_at, rest_end, walked_through, Walked}
-use Rattle.rz_types.specs.Field.{plain_number, PlainNumber}
+use Rattle.rz_types.specs.Field.{PlainNumber}
 use Rattle.rz_types.specs.Shape.{numbers_of}
 use Rattle.rz_types.specs.Spells.{integer}
 use Rattle.rz_match.proofs.group.numbers_for.Goals as goal

@@ -1,9 +1,8 @@
-use Rattle.std.proofs.Common.{◌≡◌, ◌-◌, drop, None}
+use Rattle.std.proofs.Common.{◌-◌, drop, None}
 use Rattle.std.specs.Prelude.{replicate}
 use Rattle.rz_items.specs.Item.{plain_items}
 use Rattle.rz_match.specs.Matched.{number_for, numbers_for}
 use Rattle.rz_match.proofs.Steps.{Walked}
-use Rattle.rz_types.specs.Field.{plain_number}
 use Rattle.rz_types.specs.Shape.{numbers_of}
 use Rattle.rz_types.specs.Spells.{integer}
 use Rattle.rz_match.proofs.group.numbers_for.Given as goal

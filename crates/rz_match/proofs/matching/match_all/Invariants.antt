@@ -1,4 +1,4 @@
-use Rattle.std.proofs.Common.{◌≡◌, drop}
+use Rattle.std.proofs.Common.{drop}
 use Rattle.std.specs.Prelude.{filter}
 use Rattle.rz_items.specs.Item.{plain_items}
 use Rattle.rz_match.specs.Matched.{item_for, matched}
