@@ -1,0 +1,4 @@
+pub mod Fits
+pub mod Unfit
+pub mod Match
+pub mod Matched

@@ -1,0 +1,8 @@
+use Rattle.rz_match.proofs.Matches.{one_answer, some_answer}
+use Rattle.rz_match.proofs.laws.one_match.Goals as goal
+
+pub returns-clause-some : goal.returns-clause-some
+returns-clause-some c = some_answer
+
+pub returns-clause-one : goal.returns-clause-one
+returns-clause-one c = one_answer
