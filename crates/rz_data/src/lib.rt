@@ -10,6 +10,6 @@ mod head;
 mod laws;
 mod raw;
 
-pub use head::{AttrPart, AttrParts, HeadExpr};
+pub use head::{AttrPart, AttrParts, HeadExpr, read_head};
 pub use laws::{one_data, texts_are_closed};
 pub use raw::{RawStmt, read_raw};
