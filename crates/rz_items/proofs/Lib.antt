@@ -1,0 +1,5 @@
+pub mod Mirror
+pub mod First
+pub mod Each
+pub mod OneCompile
+pub mod Within
