@@ -1,7 +1,9 @@
 -- Items, one more at a time.
-use Rattle.std.proofs.Common.{◌≡◌, ℕ, ◌+◌, ◌≤◌, List, [], ◌∷◌, ◌++◌, length, length-append, refl, sym, ap, subst, ◌∙◌, append_assoc, arith}
-use Rattle.std.proofs.lemmas.List.{append-nil}
+use Rattle.std.proofs.Common.{◌≡◌, ℕ, ◌+◌, ◌≤◌, false, List, [], ◌∷◌, ◌++◌, length, length-append, map, take, refl, sym, ap, subst, ◌∙◌, append_assoc, arith}
+use Rattle.std.proofs.lemmas.List.{append-nil, map-append, take_all}
+use Rattle.std.specs.Borrow.{Bor}
 use Rattle.std.specs.List.{AllByRecursion}
+use Rattle.std.specs.Prelude.{◌==◌}
 use Rattle.rz_brackets.specs.Bracket.{closer, IsBracketed}
 use Rattle.rz_brackets.specs.Pieces.{last, more, AreCut, Parted}
 use Rattle.rz_brackets.specs.declared.bracket.Bracket.{Bracket}
@@ -85,3 +87,28 @@ stripped_other ([] ∷ []) first rest = refl
 stripped_other ((token ∷ tokens) ∷ []) first rest = refl
 stripped_other ([] ∷ next ∷ pieces) first rest = ap (λ (ps : List (List Token)). [] ∷ ps) (stripped_other (next ∷ pieces) first rest)
 stripped_other ((token ∷ tokens) ∷ next ∷ pieces) first rest = ap (λ (ps : List (List Token)). (token ∷ tokens) ∷ ps) (stripped_other (next ∷ pieces) first rest)
+
+stripped_some : (pieces : List (List Token)) (piece : List Token) → (length piece == 0) ≡ false → stripped (pieces ++ piece ∷ []) ≡ pieces ++ piece ∷ []
+stripped_some pieces [] some = cc
+stripped_some pieces (first ∷ rest) some = stripped_other pieces first rest
+
+take_before : {A : Type 0} (xs ys : List A) → take (length xs) (xs ++ ys) ≡ xs
+take_before [] ys = refl
+take_before (x ∷ xs) ys = ap (λ l. x ∷ l) (take_before xs ys)
+
+abbrev texts_of : List (Bor (List Token)) → List (List Token)
+texts_of pieces = map (λ piece. piece.now) pieces
+
+module _ (pieces before : List (Bor (List Token))) (end : Bor (List Token)) (are : pieces ≡ before ++ end ∷ []) where
+  whole : stripped (texts_of pieces) ≡ stripped (texts_of before ++ end.now ∷ [])
+  whole = ap (λ (ps : List (Bor (List Token))). stripped (texts_of ps)) are ∙ ap stripped (map-append (λ piece. piece.now) before (end ∷ []))
+
+  pub empty_left_out : end.now ≡ [] → texts_of (take (length before) pieces) ≡ stripped (texts_of pieces)
+  empty_left_out none =
+      ap (λ (ps : List (Bor (List Token))). texts_of (take (length before) ps)) are ∙ ap texts_of (take_before before (end ∷ []))
+      ∙ sym (whole ∙ ap (λ (p : List Token). stripped (texts_of before ++ p ∷ [])) none ∙ stripped_empty (texts_of before))
+
+  pub other_kept : (length end.now == 0) ≡ false → texts_of (take (length pieces) pieces) ≡ stripped (texts_of pieces)
+  other_kept some =
+      ap texts_of (take_all (length pieces) pieces (omega arith) ∙ are) ∙ map-append (λ piece. piece.now) before (end ∷ [])
+      ∙ sym (whole ∙ stripped_some (texts_of before) end.now some)

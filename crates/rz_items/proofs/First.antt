@@ -1,5 +1,5 @@
 -- The first tokens of an item tell which it is.
-use Rattle.std.proofs.Common.{◌≡◌, ℕ, Bool, true, false, if◌then◌else◌, List, [], ◌∷◌, Option, Some, None, refl, sym, ap, ◌∙◌}
+use Rattle.std.proofs.Common.{◌≡◌, ℕ, Bool, true, false, if◌then◌else◌, List, [], ◌∷◌, Option, Some, None, refl, sym, ap, subst, ◌∙◌}
 use Rattle.std.specs.Prelude.{option_map}
 use Rattle.rz_brackets.specs.Bracket.{begins, opens, IsBracketed}
 use Rattle.rz_brackets.specs.Pieces.{Parted}
@@ -83,5 +83,23 @@ pub simple_decided : (first : Token) (rest : List Token) → begins Curly (first
 simple_decided first rest off before None never = λ one is. never one (simple_only first rest one off before is)
 simple_decided first rest off before (Some one) is = simple first rest one off before is
 
-pub no_item : (one : PlainItem) → IsItem [] one → ⊥
-no_item one ()
+-- The same of tokens that begin so.
+
+module _ (tokens rest : List Token) (first : Token) (are : tokens ≡ first ∷ rest) (given : Option PlainItem) where
+  again : Decided (IsItem (first ∷ rest)) given → Decided (IsItem tokens) given
+  again = subst (λ (ts : List Token). Decided (IsItem ts) given) (sym are)
+
+  pub listed_here : begins Curly tokens ≡ true → (found : Option (List PlainItem)) → Decided (AreBraced tokens) found
+      → given ≡ option_map (λ items. Braced (items_of items) first.mark) found → Decided (IsItem tokens) given
+  listed_here starts found decided same =
+      again (subst (Decided (IsItem (first ∷ rest))) (sym same)
+      (listed_decided first rest (ap (begins Curly) (sym are) ∙ starts) found (subst (λ (ts : List Token). Decided (AreBraced ts) found) are decided)))
+
+  pub named_here : (name : List ℕ) → begins Curly tokens ≡ false → name_before first.shape rest ≡ Some name → (found : Option (List PlainItem)) → Decided (AreBraced rest) found
+      → given ≡ option_map (λ items. Named name (items_of items) first.mark) found → Decided (IsItem tokens) given
+  named_here name off before found decided same =
+      again (subst (Decided (IsItem (first ∷ rest))) (sym same) (named_decided first rest name (ap (begins Curly) (sym are) ∙ off) before found decided))
+
+  pub simple_here : begins Curly tokens ≡ false → name_before first.shape rest ≡ None → Decided (IsSimple first.mark tokens) given → Decided (IsItem tokens) given
+  simple_here off before decided =
+      again (simple_decided first rest (ap (begins Curly) (sym are) ∙ off) before given (subst (λ (ts : List Token). Decided (IsSimple first.mark ts) given) are decided))

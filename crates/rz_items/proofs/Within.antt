@@ -44,8 +44,8 @@ module _ (files : ℕ) where
 
   cut_within : (divider : Divider) (tokens : List Token) (pieces : List (List Token)) → AreCut divider tokens pieces → AreWithin files tokens → AreAllWithin pieces
   cut_within divider tokens pieces (last piece none) are = (are, tt)
-  cut_within divider tokens pieces (more whole parted rest is cut) are =
-      (parted_front divider tokens parted is are, cut_within divider parted.behind rest cut (parted_behind divider tokens parted is are))
+  cut_within divider tokens pieces (more whole parted rest is behind) are =
+      (parted_front divider tokens parted is are, cut_within divider parted.behind rest behind (parted_behind divider tokens parted is are))
 
   stripped_within : (pieces : List (List Token)) → AreAllWithin pieces → AreAllWithin (stripped pieces)
   stripped_within [] are = tt
