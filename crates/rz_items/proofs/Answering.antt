@@ -1,13 +1,13 @@
 -- What is answered, made of what was answered below.
-use Rattle.std.proofs.Common.{◌≡◌, true, List, [], ◌∷◌, Option, Some, None, Ok, Err, refl, sym, ap, subst, ◌∙◌}
-use Rattle.std.specs.Prelude.{option_map, IfOk}
+use Rattle.std.proofs.Common.{◌≡◌, true, List, ◌∷◌, Option, Some, None, Ok, Err, sym, subst, ◌∙◌}
+use Rattle.std.specs.Prelude.{IfOk}
 use Rattle.std.specs.declared.result.Result.{Result}
 use Rattle.rz_brackets.specs.Bracket.{IsBracketed}
 use Rattle.rz_brackets.specs.Pieces.{AreCut, Parted}
 use Rattle.rz_brackets.specs.Statements.{is_empty}
 use Rattle.rz_brackets.specs.declared.bracket.Bracket.{Bracket}
-use Rattle.rz_brackets.specs.declared.bracket.Bracket.TheVariants.{Curly, Round}
-use Rattle.rz_brackets.specs.declared.pieces.Divider.TheVariants.{Comma, Separator}
+use Rattle.rz_brackets.specs.declared.bracket.Bracket.TheVariants.{Curly}
+use Rattle.rz_brackets.specs.declared.pieces.Divider.TheVariants.{Separator}
 use Rattle.rz_core.proofs.Tests.{none_some}
 use Rattle.rz_core.specs.Decided.{Decided}
 use Rattle.rz_lex.specs.declared.token.Token.{Token}

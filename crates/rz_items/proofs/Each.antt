@@ -4,7 +4,7 @@ use Rattle.std.proofs.lemmas.List.{append-nil, map-append, take_all}
 use Rattle.std.specs.Borrow.{Bor}
 use Rattle.std.specs.List.{AllByRecursion}
 use Rattle.std.specs.Prelude.{◌==◌}
-use Rattle.rz_brackets.specs.Bracket.{closer, IsBracketed}
+use Rattle.rz_brackets.specs.Bracket.{IsBracketed}
 use Rattle.rz_brackets.specs.Pieces.{last, more, AreCut, Parted}
 use Rattle.rz_brackets.specs.declared.bracket.Bracket.{Bracket}
 use Rattle.rz_brackets.specs.declared.pieces.Divider.{Divider}

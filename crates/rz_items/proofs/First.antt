@@ -1,5 +1,5 @@
 -- The first tokens of an item tell which it is.
-use Rattle.std.proofs.Common.{◌≡◌, ℕ, Bool, true, false, if◌then◌else◌, List, [], ◌∷◌, Option, Some, None, refl, sym, ap, subst, ◌∙◌}
+use Rattle.std.proofs.Common.{◌≡◌, ℕ, Bool, true, false, if◌then◌else◌, List, ◌∷◌, Option, Some, None, refl, sym, ap, subst, ◌∙◌}
 use Rattle.std.specs.Prelude.{option_map}
 use Rattle.rz_brackets.specs.Bracket.{begins, opens, IsBracketed}
 use Rattle.rz_brackets.specs.Pieces.{Parted}

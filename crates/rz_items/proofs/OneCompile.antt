@@ -1,5 +1,5 @@
 -- Tokens are one `resource` statement at most.
-use Rattle.std.proofs.Common.{◌≡◌, List, [], ◌∷◌, Option, Some, None, refl, sym, ap, subst, ◌∙◌}
+use Rattle.std.proofs.Common.{◌≡◌, List, ◌∷◌, Option, Some, None, refl, sym, ap, subst, ◌∙◌}
 use Rattle.rz_core.proofs.Tests.{none_some, same_some, true_false}
 use Rattle.rz_brackets.specs.Bracket.{IsBracketed}
 use Rattle.rz_brackets.specs.Kind.{kind_in}
@@ -17,7 +17,7 @@ use Rattle.rz_core.specs.declared.fault.Mark.{Mark}
 use Rattle.rz_items.specs.Compile.{Compile, IsBody, IsCompile, IsHeaded}
 use Rattle.rz_items.specs.Item.{items_of, Braced, Named, Number, PlainItem}
 use Rattle.rz_items.specs.Items.{cut, listed, name_in, named, no_more, one_more, simple, stripped, AreEach, AreItems, IsItem}
-use Rattle.rz_items.specs.Simple.{IsSimple, IsSimpleBy}
+use Rattle.rz_items.specs.Simple.{IsSimpleBy}
 use Rattle.rz_items.proofs.First.{bracket_begins, name_stands, no_name_opens}
 
 module _ (one : OneExpression)

@@ -1,12 +1,11 @@
 -- Items stand where their tokens stand.
-use Rattle.std.proofs.Common.{◌≡◌, ℕ, List, [], ◌∷◌, ◌++◌, Option, Some, None, sym, subst}
+use Rattle.std.proofs.Common.{ℕ, List, [], ◌∷◌, ◌++◌, Option, Some, None, sym, subst}
 use Rattle.rz_brackets.specs.Bracket.{closer, IsBracketed}
 use Rattle.rz_brackets.specs.Pieces.{last, more, AreCut, IsParted, Parted}
 use Rattle.rz_brackets.specs.declared.bracket.Bracket.{Bracket}
 use Rattle.rz_brackets.specs.declared.bracket.Bracket.TheVariants.{Curly, Round}
 use Rattle.rz_brackets.specs.declared.pieces.Divider.{Divider}
 use Rattle.rz_brackets.specs.declared.pieces.Divider.TheVariants.{Separator}
-use Rattle.rz_core.specs.declared.fault.Mark.{Mark}
 use Rattle.rz_lex.specs.Within.{AreWithin}
 use Rattle.rz_lex.specs.declared.token.Token.{Token}
 use Rattle.rz_types.specs.Text.{text_in, PlainPart}

@@ -1,5 +1,5 @@
 -- The items of a `resource` statement, with `,` or `;` between them. (MPW Rez.)
-use Rattle.std.specs.Prelude.{◌≡◌, ℕ, Bool, true, false, if◌then◌else◌, List, [], ◌∷◌, Option, Some, None}
+use Rattle.std.specs.Prelude.{◌≡◌, ℕ, false, if◌then◌else◌, List, [], ◌∷◌, Option, Some, None}
 use Rattle.rz_brackets.specs.Bracket.{begins, IsBracketed}
 use Rattle.rz_brackets.specs.Pieces.{AreCut, Parted}
 use Rattle.rz_brackets.specs.declared.bracket.Bracket.TheVariants.{Curly}

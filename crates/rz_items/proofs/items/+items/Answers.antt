@@ -10,7 +10,7 @@ use Rattle.rz_core.specs.Decided.{Decided}
 use Rattle.rz_core.specs.declared.resource.Word.{Word}
 use Rattle.rz_lex.specs.declared.token.Token.{Token}
 use Rattle.rz_items.specs.Item.{plain_item, plain_items}
-use Rattle.rz_items.specs.Items.{cut, stripped, AreEach, IsItem}
+use Rattle.rz_items.specs.Items.{cut, AreEach, IsItem}
 use Rattle.rz_items.specs.Simple.{IsSimple}
 use Rattle.rz_items.proofs.Answering.{never_within, no_items, ok_so, same_within}
 use Rattle.rz_items.proofs.Each.{cut_short, each_all, each_more, each_nowhere, leads_first, stripped_short, AreShort, Leads}
