@@ -1,5 +1,5 @@
 -- Tokens are one statement at most.
-use Rattle.std.proofs.Common.{◌≡◌, ℕ, Bool, true, false, ◌&&◌, arith, List, [], ◌∷◌, Option, Some, None, Ok, refl, sym, ap, subst, ◌∙◌}
+use Rattle.std.proofs.Common.{◌≡◌, ℕ, true, false, arith, List, [], ◌∷◌, Ok, sym, ap, ◌∙◌}
 use Rattle.std.specs.declared.result.Result.{Result}
 use Rattle.std.specs.Char.{eq_ignore_ascii_case, to_ascii_lowercase}
 use Rattle.std.specs.Prelude.{codes}
@@ -8,14 +8,13 @@ use Rattle.std.proofs.lemmas.Bool.{eqb-true}
 use Rattle.rz_core.proofs.Tests.{both}
 use Rattle.rz_core.specs.Stop.{◌>>=◌}
 use Rattle.rz_core.specs.declared.fault.Fault.{Fault}
-use Rattle.rz_core.specs.declared.fault.Mark.{Mark}
 use Rattle.rz_lex.specs.declared.token.Shape.{Shape}
 use Rattle.rz_lex.specs.declared.token.Shape.TheVariants as shapes
 use Rattle.rz_lex.specs.declared.token.Token.{Token}
 use Rattle.rz_brackets.specs.Statements.{is_empty}
 use Rattle.rz_data.specs.Raw.{IsRaw, Raw}
 use Rattle.rz_items.specs.Compile.{Compile, IsCompile}
-use Rattle.rz_declare.specs.Constants.{declared, Declare}
+use Rattle.rz_declare.specs.Constants.{declared}
 use Rattle.rz_declare.specs.Declare.{IsDeclare}
 use Rattle.rz_declare.specs.Form.{DeclareForm}
 use Rattle.rz_expr.specs.Keyword.{is_keyword}

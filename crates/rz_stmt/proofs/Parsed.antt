@@ -1,5 +1,5 @@
 -- A `resource` statement, a `type` statement or none, as a statement.
-use Rattle.std.proofs.Common.{◌≡◌, ◌<◌, true, false, inl, inr, List, [], ◌∷◌, get_or, length, Ok, Err, arith, refl, sym, ap, subst, ◌∙◌}
+use Rattle.std.proofs.Common.{◌≡◌, ◌<◌, true, false, inl, inr, List, [], ◌∷◌, get_or, length, Ok, Err, arith, refl, sym, ap, ◌∙◌}
 use Rattle.std.specs.declared.result.Result.{Result}
 use Rattle.rz_core.specs.declared.fault.Fault.{Fault}
 use Rattle.rz_core.specs.declared.fault.Mark.{Mark}
@@ -7,7 +7,7 @@ use Rattle.rz_core.specs.declared.stop.Stop.{Stop}
 use Rattle.rz_core.specs.declared.stop.Stop.TheVariants.{NoMemory, Refused}
 use Rattle.rz_lex.specs.declared.token.Token.{Token}
 use Rattle.rz_core.specs.Stop.{◌>>=◌, Gives}
-use Rattle.rz_declare.specs.Constants.{declare_of, declared, seen, Declare}
+use Rattle.rz_declare.specs.Constants.{declare_of, declared, Declare}
 use Rattle.rz_declare.specs.Declare.{IsDeclare}
 use Rattle.rz_declare.specs.Form.{DeclareForm}
 use Rattle.rz_declare.specs.declared.constants.DeclareStmt.{DeclareStmt}
