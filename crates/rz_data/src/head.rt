@@ -30,13 +30,14 @@ pub type AttrParts = Listing<AttrPart>;
 pub struct HeadExpr {
     /// The id.
     pub id: Expr,
-    /// The name, where one is given.
+    /// The name, where one is given. `$$Name` stands in none.
     pub name: Option<Texts>,
     /// The attributes, none where they are left out.
     pub attributes: AttrParts,
 }
 
-/// The head that the pieces of its brackets are, where they are one.
+/// The head that the pieces of its brackets are: an id, then maybe a name, each part of which stood between quote
+/// marks, then maybe attributes. `None` exactly where they are none. (MPW Rez.)
 pub fn read_head(alloc: Global, pieces: &[&[Token]]) -> Result<Option<HeadExpr>, NoMemory>
     ensures { IfOk result (λ head. Decided (IsHead (map (λ piece. piece.now) pieces.now)) (option_map head_of head)) }
 {

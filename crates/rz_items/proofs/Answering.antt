@@ -8,7 +8,6 @@ use Rattle.rz_brackets.specs.Statements.{is_empty}
 use Rattle.rz_brackets.specs.declared.bracket.Bracket.{Bracket}
 use Rattle.rz_brackets.specs.declared.bracket.Bracket.TheVariants.{Curly}
 use Rattle.rz_brackets.specs.declared.pieces.Divider.TheVariants.{Separator}
-use Rattle.rz_core.proofs.Tests.{none_some}
 use Rattle.rz_core.specs.Decided.{Decided}
 use Rattle.rz_lex.specs.declared.token.Token.{Token}
 use Rattle.rz_items.specs.Compile.{IsBody}
@@ -18,20 +17,6 @@ use Rattle.rz_items.specs.Items.{cut, stripped, AreEach, AreItems}
 pub ok_so : {X E : Type 0} (P Q : X → Type 0) → ((x : X) → P x → Q x) → (result : Result X E) → IfOk result P → IfOk result Q
 ok_so P Q so (Ok x) holds = so x holds
 ok_so P Q so (Err fault) holds = holds
-
--- What stands in brackets.
-
-pub never_within : (bracket : Bracket) (tokens : List Token) → ((parted : Parted) → IsBracketed bracket tokens parted → ◌≡◌ {A = Option Parted} None (Some parted))
-    → (parted : Parted) → IsBracketed bracket tokens parted → ⊥
-never_within bracket tokens every parted is = none_some parted (every parted is)
-
-pub same_within : (bracket : Bracket) (tokens : List Token) (split : Parted)
-    → ((parted : Parted) → IsBracketed bracket tokens parted → ◌≡◌ {A = Option Parted} (Some split) (Some parted))
-    → (parted : Parted) → IsBracketed bracket tokens parted → split ≡ parted
-same_within bracket tokens split every parted is = same (every parted is)
-  where
-    same : ◌≡◌ {A = Option Parted} (Some split) (Some parted) → split ≡ parted
-    same e = cc e
 
 -- the items in braces are those of the body
 pub body_decided : (tokens : List Token) (split : Parted) → IsBracketed Curly tokens split → ((parted : Parted) → IsBracketed Curly tokens parted → split ≡ parted)
@@ -46,11 +31,3 @@ pub no_items : (tokens : List Token) (pieces : List (List Token)) → ((others :
     → ((items : List PlainItem) → AreEach (stripped pieces) items → ⊥) → (items : List PlainItem) → AreItems tokens items → ⊥
 no_items tokens pieces every never items (cut same others all is each) =
     never items (subst (λ (ps : List (List Token)). AreEach (stripped ps) items) (sym (every others is)) each)
-
--- Patterns of a slice.
-
-pub same_behind : (tokens xs ys : List Token) (a b x y : Token) → tokens ≡ a ∷ x ∷ xs → tokens ≡ b ∷ y ∷ ys → xs ≡ ys
-same_behind tokens xs ys a b x y is also = tails (sym is ∙ also)
-  where
-    tails : a ∷ x ∷ xs ≡ b ∷ y ∷ ys → xs ≡ ys
-    tails e = cc e

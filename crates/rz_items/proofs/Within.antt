@@ -1,10 +1,8 @@
 -- Items stand where their tokens stand.
-use Rattle.std.proofs.Common.{ℕ, List, [], ◌∷◌, ◌++◌, Option, Some, None, sym, subst}
-use Rattle.rz_brackets.specs.Bracket.{closer, IsBracketed}
-use Rattle.rz_brackets.specs.Pieces.{last, more, AreCut, IsParted, Parted}
-use Rattle.rz_brackets.specs.declared.bracket.Bracket.{Bracket}
+use Rattle.std.proofs.Common.{ℕ, ◌<◌, List, [], ◌∷◌, Option, Some, None, sym, subst}
+use Rattle.std.specs.List.{AllByRecursion}
+use Rattle.rz_brackets.proofs.Parts.{after_each, cut_each, within_each}
 use Rattle.rz_brackets.specs.declared.bracket.Bracket.TheVariants.{Curly, Round}
-use Rattle.rz_brackets.specs.declared.pieces.Divider.{Divider}
 use Rattle.rz_brackets.specs.declared.pieces.Divider.TheVariants.{Separator}
 use Rattle.rz_lex.specs.Within.{AreWithin}
 use Rattle.rz_lex.specs.declared.token.Token.{Token}
@@ -16,35 +14,11 @@ use Rattle.rz_items.specs.Places.{AreInside, AreItemsWithin, IsItemWithin}
 use Rattle.rz_items.specs.Simple.{IsSimpleBy}
 
 module _ (files : ℕ) where
-  front_within : (xs ys : List Token) → AreWithin files (xs ++ ys) → AreWithin files xs
-  front_within [] ys are = tt
-  front_within (x ∷ xs) ys are = (are.0, front_within xs ys are.1)
+  abbrev IsWithin : Token → Type 0
+  IsWithin token = token.mark.file < files
 
-  rest_within : (xs ys : List Token) → AreWithin files (xs ++ ys) → AreWithin files ys
-  rest_within [] ys are = are
-  rest_within (x ∷ xs) ys are = rest_within xs ys are.1
-
-  parted_front : (divider : Divider) (tokens : List Token) (parted : Parted) → IsParted divider tokens parted → AreWithin files tokens → AreWithin files parted.front
-  parted_front divider tokens parted is are = front_within parted.front (is.sign ∷ parted.behind) (subst (AreWithin files) is.are are)
-
-  parted_behind : (divider : Divider) (tokens : List Token) (parted : Parted) → IsParted divider tokens parted → AreWithin files tokens → AreWithin files parted.behind
-  parted_behind divider tokens parted is are = (rest_within parted.front (is.sign ∷ parted.behind) (subst (AreWithin files) is.are are)).1
-
-  bracket_front : (bracket : Bracket) (tokens : List Token) (parted : Parted) → IsBracketed bracket tokens parted → AreWithin files tokens → AreWithin files parted.front
-  bracket_front bracket tokens parted is are = parted_front (closer bracket) is.rest parted is.closes (subst (AreWithin files) is.are are).1
-
-  bracket_behind : (bracket : Bracket) (tokens : List Token) (parted : Parted) → IsBracketed bracket tokens parted → AreWithin files tokens → AreWithin files parted.behind
-  bracket_behind bracket tokens parted is are = parted_behind (closer bracket) is.rest parted is.closes (subst (AreWithin files) is.are are).1
-
-  -- each piece
   abbrev AreAllWithin : List (List Token) → Type 0
-  AreAllWithin [] = Unit {0}
-  AreAllWithin (piece ∷ pieces) = AreWithin files piece × AreAllWithin pieces
-
-  cut_within : (divider : Divider) (tokens : List Token) (pieces : List (List Token)) → AreCut divider tokens pieces → AreWithin files tokens → AreAllWithin pieces
-  cut_within divider tokens pieces (last piece none) are = (are, tt)
-  cut_within divider tokens pieces (more whole parted rest is behind) are =
-      (parted_front divider tokens parted is are, cut_within divider parted.behind rest behind (parted_behind divider tokens parted is are))
+  AreAllWithin pieces = AllByRecursion (AreWithin files) pieces
 
   stripped_within : (pieces : List (List Token)) → AreAllWithin pieces → AreAllWithin (stripped pieces)
   stripped_within [] are = tt
@@ -61,14 +35,14 @@ module _ (files : ℕ) where
   mutual
     item_within : (tokens : List Token) (one : PlainItem) → IsItem tokens one → AreWithin files tokens → IsItemWithin files one
     item_within tokens one (listed first rest parted items is none are) stand =
-        (stand.0, items_inside parted.front items are (bracket_front Curly (first ∷ rest) parted is stand))
+        (stand.0, items_inside parted.front items are (within_each IsWithin Curly (first ∷ rest) parted is stand))
     item_within tokens one (named first rest name parted items has is none are) stand =
-        (stand.0, items_inside parted.front items are (bracket_front Curly rest parted is stand.1))
+        (stand.0, items_inside parted.front items are (within_each IsWithin Curly rest parted is stand.1))
     item_within tokens one (simple first rest it off before so) stand = simple_within (text_in (first ∷ rest)) first rest one so stand
 
     items_inside : (tokens : List Token) (items : List PlainItem) → AreItems tokens items → AreWithin files tokens → AreInside files (items_of items)
     items_inside tokens items (cut same pieces all is each) stand =
-        each_inside (stripped pieces) items each (stripped_within pieces (cut_within Separator tokens pieces is stand))
+        each_inside (stripped pieces) items each (stripped_within pieces (cut_each IsWithin Separator tokens pieces is stand))
 
     each_inside : (pieces : List (List Token)) (items : List PlainItem) → AreEach pieces items → AreAllWithin pieces → AreInside files (items_of items)
     each_inside pieces items no_more stand = tt
@@ -82,6 +56,6 @@ module _ (files : ℕ) where
   compile_within tokens compile stand is =
       let headed = is.headed in
       let behind = (subst (AreWithin files) is.are stand).1.1 in
-      let body = bracket_behind Round is.behind headed.parted headed.in_brackets behind in
+      let body = after_each IsWithin Round is.behind headed.parted headed.in_brackets behind in
       all_within compile.items
-      (items_inside headed.has_body.0.front compile.items headed.has_body.3 (bracket_front Curly headed.parted.behind headed.has_body.0 headed.has_body.1 body))
+      (items_inside headed.has_body.0.front compile.items headed.has_body.3 (within_each IsWithin Curly headed.parted.behind headed.has_body.0 headed.has_body.1 body))

@@ -1,8 +1,7 @@
 use Rattle.std.proofs.Common.{List, subst}
-use Rattle.rz_brackets.proofs.Slices.{behind_of, two}
+use Rattle.rz_brackets.proofs.Slices.{behind_of, same_behind, two}
 use Rattle.rz_lex.specs.declared.token.Token.{Token}
 use Rattle.rz_items.specs.Compile.{IsHeaded}
-use Rattle.rz_items.proofs.Answering.{same_behind}
 use Rattle.rz_items.proofs.compile.read_compile.Goals as goal
 
 pub returns-in-None : goal.returns-in-None

@@ -6,7 +6,7 @@ use Rattle.rz_brackets.specs.declared.pieces.Divider.TheVariants.{Comma}
 use Rattle.rz_data.specs.Head.{IsHead}
 use Rattle.rz_lex.specs.declared.token.Token.{Token}
 use Rattle.rz_items.specs.Compile.{IsBody}
-use Rattle.rz_items.proofs.Answering.{never_within, same_within}
+use Rattle.rz_brackets.proofs.OneBracket.{never_within, same_within}
 use Rattle.rz_items.proofs.compile.read_headed.Goals as goal
 
 pub returns-in_default : goal.returns-in_default

@@ -12,7 +12,8 @@ use Rattle.rz_lex.specs.declared.token.Token.{Token}
 use Rattle.rz_items.specs.Item.{plain_item, plain_items}
 use Rattle.rz_items.specs.Items.{cut, AreEach, IsItem}
 use Rattle.rz_items.specs.Simple.{IsSimple}
-use Rattle.rz_items.proofs.Answering.{never_within, no_items, ok_so, same_within}
+use Rattle.rz_brackets.proofs.OneBracket.{never_within, same_within}
+use Rattle.rz_items.proofs.Answering.{no_items, ok_so}
 use Rattle.rz_items.proofs.Each.{cut_short, each_all, each_more, each_nowhere, leads_first, stripped_short, AreShort, Leads}
 use Rattle.rz_items.proofs.First.{listed_here, named_here, simple_here}
 use Rattle.rz_items.proofs.items.+items.Goals as goal
