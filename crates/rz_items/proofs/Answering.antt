@@ -1,11 +1,10 @@
 -- What is answered, made of what was answered below.
-use Rattle.std.proofs.Common.{◌≡◌, true, List, ◌∷◌, Option, Some, None, Ok, Err, sym, subst, ◌∙◌}
+use Rattle.std.proofs.Common.{◌≡◌, true, List, Option, Some, None, Ok, Err, sym, subst}
 use Rattle.std.specs.Prelude.{IfOk}
 use Rattle.std.specs.declared.result.Result.{Result}
 use Rattle.rz_brackets.specs.Bracket.{IsBracketed}
 use Rattle.rz_brackets.specs.Pieces.{AreCut, Parted}
 use Rattle.rz_brackets.specs.Statements.{is_empty}
-use Rattle.rz_brackets.specs.declared.bracket.Bracket.{Bracket}
 use Rattle.rz_brackets.specs.declared.bracket.Bracket.TheVariants.{Curly}
 use Rattle.rz_brackets.specs.declared.pieces.Divider.TheVariants.{Separator}
 use Rattle.rz_core.specs.Decided.{Decided}
