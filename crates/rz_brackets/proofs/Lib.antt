@@ -4,3 +4,4 @@ pub mod OneCut
 pub mod OneBracket
 pub mod Fronts
 pub mod Slices
+pub mod Parts

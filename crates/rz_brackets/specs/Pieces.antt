@@ -6,13 +6,15 @@ use Rattle.rz_lex.specs.declared.token.Shape.TheVariants as shapes
 use Rattle.rz_lex.specs.declared.token.Token.{Token}
 use Rattle.rz_brackets.specs.Statements.{open_behind, open_behind_all}
 use Rattle.rz_brackets.specs.declared.pieces.Divider.{Divider}
-use Rattle.rz_brackets.specs.declared.pieces.Divider.TheVariants.{CloseBrace, CloseBracket, CloseParen, Colon, Comma, Semicolon}
+use Rattle.rz_brackets.specs.declared.pieces.Divider.TheVariants.{CloseBrace, CloseBracket, CloseParen, Colon, Comma, Semicolon, Separator}
 
 -- it is the sign that divides
 abbrev pub divides : Divider → Shape → Bool
 divides Semicolon (shapes.Sign signs.Semicolon) = true
 divides Comma (shapes.Sign signs.Comma) = true
 divides Colon (shapes.Sign signs.Colon) = true
+divides Separator (shapes.Sign signs.Comma) = true
+divides Separator (shapes.Sign signs.Semicolon) = true
 divides CloseParen (shapes.Sign signs.CloseParen) = true
 divides CloseBracket (shapes.Sign signs.CloseBracket) = true
 divides CloseBrace (shapes.Sign signs.CloseBrace) = true

@@ -18,6 +18,8 @@ pub enum Divider {
     Comma,
     /// `:`
     Colon,
+    /// `,` or `;`
+    Separator,
     /// `)`
     CloseParen,
     /// `]`
@@ -75,6 +77,7 @@ fn is_divider(shape: &Shape, divider: Divider) -> bool
         Divider::Semicolon => matches!(shape, Shape::Sign(Sign::Semicolon)),
         Divider::Comma => matches!(shape, Shape::Sign(Sign::Comma)),
         Divider::Colon => matches!(shape, Shape::Sign(Sign::Colon)),
+        Divider::Separator => matches!(shape, Shape::Sign(Sign::Comma | Sign::Semicolon)),
         Divider::CloseParen => matches!(shape, Shape::Sign(Sign::CloseParen)),
         Divider::CloseBracket => matches!(shape, Shape::Sign(Sign::CloseBracket)),
         Divider::CloseBrace => matches!(shape, Shape::Sign(Sign::CloseBrace)),

@@ -9,9 +9,9 @@ use Rattle.rz_brackets.specs.Pieces.{AreCut, Parted}
 use Rattle.rz_brackets.specs.declared.bracket.Bracket.{Bracket}
 use Rattle.rz_brackets.specs.declared.pieces.Divider.{Divider}
 use Rattle.rz_brackets.specs.declared.pieces.Divider.TheVariants.{Comma}
-use Rattle.rz_data.specs.Head.{word_attribute, AreAttributes, Attribute, Head, IsAttribute, IsAttributeBy, IsHead, IsRest, IsRestBy, Value}
+use Rattle.rz_data.specs.Head.{name_in, word_attribute, AreAttributes, Attribute, Head, IsAttribute, IsAttributeBy, IsHead, IsRest, IsRestBy, Value}
 use Rattle.rz_data.specs.Raw.{texts_in, IsRaw, Raw}
-use Rattle.rz_types.specs.Text.{text_in, PlainPart}
+use Rattle.rz_types.specs.Text.{PlainPart}
 use Rattle.rz_data.proofs.Shaped.{in_brackets, same_kind}
 
 module _ (one : OneExpression) where
@@ -37,7 +37,7 @@ module _ (one : OneExpression) where
   one_rest : (pieces : List (List Token)) (name other : Option (List PlainPart)) (a b : List Attribute)
       → IsRest pieces name a → IsRest pieces other b → (name ≡ other) × (a ≡ b)
   one_rest [] name other a b is also = (is.0 ∙ sym also.0, is.1 ∙ sym also.1)
-  one_rest (piece ∷ pieces) name other a b is also = rest_by (text_in piece) piece pieces name other a b is also
+  one_rest (piece ∷ pieces) name other a b is also = rest_by (name_in piece) piece pieces name other a b is also
 
   pub one_head : (pieces : List (List Token)) (a b : Head) → IsHead pieces a → IsHead pieces b → a ≡ b
   one_head [] a b is also = absurd is

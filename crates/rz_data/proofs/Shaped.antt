@@ -2,7 +2,7 @@
 use Rattle.std.proofs.Common.{◌≡◌, ◌≤◌, true, List, [], ◌∷◌, get_or, length, Option, Some, None, sym, ap, subst, ◌∙◌, arith}
 use Rattle.rz_brackets.proofs.Slices.{behind_of, all_behind, two}
 use Rattle.rz_lex.specs.declared.token.Token.{Token}
-use Rattle.rz_data.specs.Head.{AreAttributes, Attribute, Head, IsHead, IsRestBy, IsRestOf}
+use Rattle.rz_data.specs.Head.{name_in, AreAttributes, Attribute, Head, IsHead, IsRestBy, IsRestOf}
 use Rattle.rz_expr.specs.Keyword.{is_keyword}
 use Rattle.rz_expr.specs.declared.keyword.Keyword.TheVariants as keywords
 use Rattle.rz_brackets.specs.Bracket.{IsBracketed}
@@ -11,14 +11,14 @@ use Rattle.rz_brackets.specs.Pieces.{AreCut, Parted}
 use Rattle.rz_brackets.specs.declared.bracket.Bracket.TheVariants.{Round}
 use Rattle.rz_brackets.specs.declared.pieces.Divider.TheVariants.{Comma}
 use Rattle.rz_data.specs.Raw.{is_open_brace, texts_in, IsRaw, Raw}
-use Rattle.rz_types.specs.Text.{text_in, PlainPart}
+use Rattle.rz_types.specs.Text.{PlainPart}
 
 -- What can't be.
 
-pub no_rest : (pieces others : List (List Token)) (first : List Token) → pieces ≡ first ∷ others → text_in first ≡ None
+pub no_rest : (pieces others : List (List Token)) (first : List Token) → pieces ≡ first ∷ others → name_in first ≡ None
     → ((attributes : List Attribute) → AreAttributes pieces attributes → ⊥) → (rest : Option (List PlainPart) × List Attribute) → IsRestOf pieces rest → ⊥
 no_rest pieces others first are no_text never rest is =
-    let by : IsRestBy (text_in first) first others rest.0 rest.1 = subst (λ (ps : List (List Token)). IsRestOf ps rest) are is in
+    let by : IsRestBy (name_in first) first others rest.0 rest.1 = subst (λ (ps : List (List Token)). IsRestOf ps rest) are is in
     let split : IsRestBy None first others rest.0 rest.1 = subst (λ (o : Option (List PlainPart)). IsRestBy o first others rest.0 rest.1) no_text by in
     never rest.1 (subst (λ (ps : List (List Token)). AreAttributes ps rest.1) (sym are) split.1)
 

@@ -1,5 +1,5 @@
 -- The head of a statement: an id, and then maybe a name and attributes. Its expressions are constants, so far. (MPW Rez.)
-use Rattle.std.specs.Prelude.{◌≡◌, ℕ, if◌then◌else◌, List, [], ◌∷◌, map, Option, Some, None, option_map}
+use Rattle.std.specs.Prelude.{◌≡◌, ℕ, Bool, true, false, ◌&&◌, if◌then◌else◌, List, [], ◌∷◌, map, Option, Some, None, option_map}
 use Rattle.rz_expr.specs.Attribute.{attribute_word}
 use Rattle.rz_expr.specs.declared.attribute.AttributeWord.{AttributeWord}
 use Rattle.rz_expr.specs.Constant.{IsConstant}
@@ -7,7 +7,7 @@ use Rattle.rz_expr.specs.Term.{term_of, Term}
 use Rattle.rz_lex.specs.declared.token.Shape.{Shape}
 use Rattle.rz_lex.specs.declared.token.Shape.TheVariants as shapes
 use Rattle.rz_lex.specs.declared.token.Token.{Token}
-use Rattle.rz_types.specs.Text.{plain_parts, text_in, PlainPart}
+use Rattle.rz_types.specs.Text.{plain_parts, text_in, NameFact, Plain, PlainPart}
 use Rattle.rz_data.specs.declared.head.AttrPart.{AttrPart}
 use Rattle.rz_data.specs.declared.head.AttrPart.TheVariants as parts
 use Rattle.rz_data.specs.declared.head.HeadExpr.{HeadExpr}
@@ -57,6 +57,23 @@ AreAttributes [] attributes = attributes ≡ []
 AreAttributes (piece ∷ pieces) attributes =
     (first : Attribute) × (rest : List Attribute) × IsAttribute piece first × AreAttributes pieces rest × (attributes ≡ first ∷ rest)
 
+-- a part that stood between quote marks: `$$Name` stands in no head
+abbrev pub is_quoted : PlainPart → Bool
+is_quoted (Plain bytes) = true
+is_quoted NameFact = false
+
+abbrev pub are_quoted : List PlainPart → Bool
+are_quoted [] = true
+are_quoted (part ∷ parts) = is_quoted part && are_quoted parts
+
+abbrev pub if_quoted : Option (List PlainPart) → Option (List PlainPart)
+if_quoted None = None
+if_quoted (Some parts) = if are_quoted parts then Some parts else None
+
+-- the name that a piece is: a text whose parts are all quoted
+abbrev pub name_in : List Token → Option (List PlainPart)
+name_in piece = if_quoted (text_in piece)
+
 -- what stands behind the id: a text is the name, and all other pieces are attributes
 abbrev pub IsRestBy : Option (List PlainPart) → List Token → List (List Token) → Option (List PlainPart) → List Attribute → Type 0
 IsRestBy (Some parts) piece pieces name attributes = (name ≡ Some parts) × AreAttributes pieces attributes
@@ -64,7 +81,7 @@ IsRestBy None piece pieces name attributes = (name ≡ None) × AreAttributes (p
 
 abbrev pub IsRest : List (List Token) → Option (List PlainPart) → List Attribute → Type 0
 IsRest [] name attributes = (name ≡ None) × (attributes ≡ [])
-IsRest (piece ∷ pieces) name attributes = IsRestBy (text_in piece) piece pieces name attributes
+IsRest (piece ∷ pieces) name attributes = IsRestBy (name_in piece) piece pieces name attributes
 
 abbrev pub IsRestOf : List (List Token) → Option (List PlainPart) × List Attribute → Type 0
 IsRestOf pieces rest = IsRest pieces rest.0 rest.1

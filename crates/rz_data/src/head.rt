@@ -3,12 +3,12 @@ ghost use Rattle.rz_expr.specs.Term.{term_of, Term};
 ghost use Rattle.rz_expr.specs.Attribute.{attribute_word};
 ghost use Rattle.rz_types.specs.Text.{plain_parts};
 ghost use Rattle.rz_core.specs.Decided.{Decided};
-ghost use Rattle.rz_data.specs.Head.{attribute_of, head_of, said, word_attribute, AreAttributes, Attribute, Head, IsAttribute, IsHead, IsRestOf};
+ghost use Rattle.rz_data.specs.Head.{are_quoted, attribute_of, head_of, name_in, said, word_attribute, AreAttributes, Attribute, Head, IsAttribute, IsHead, IsRestOf};
 
 use rz_core::{Listing, NoMemory, Word};
 use rz_expr::{AttributeWord, Expr, attribute_word, one_expression, read_constant};
 use rz_lex::{Shape, Token};
-use rz_types::{Texts, text_in};
+use rz_types::{TextPart, Texts, text_in};
 use std::alloc::Global;
 
 /// An attribute of a head. (MPW Rez.)
@@ -30,13 +30,14 @@ pub type AttrParts = Listing<AttrPart>;
 pub struct HeadExpr {
     /// The id.
     pub id: Expr,
-    /// The name, where one is given.
+    /// The name, where one is given. `$$Name` stands in none.
     pub name: Option<Texts>,
     /// The attributes, none where they are left out.
     pub attributes: AttrParts,
 }
 
-/// The head that the pieces of its brackets are, where they are one.
+/// The head that the pieces of its brackets are: an id, then maybe a name, each part of which stood between quote
+/// marks, then maybe attributes. `None` exactly where they are none. (MPW Rez.)
 pub fn read_head(alloc: Global, pieces: &[&[Token]]) -> Result<Option<HeadExpr>, NoMemory>
     ensures { IfOk result (λ head. Decided (IsHead (map (λ piece. piece.now) pieces.now)) (option_map head_of head)) }
 {
@@ -68,7 +69,7 @@ fn read_rest(
     let Some((first, others)) = pieces.split_first() else {
         return Ok(Some((None, AttrParts::new(alloc))));
     };
-    match text_in(alloc, first)? {
+    match name_in(alloc, first)? {
         Some(name) => match read_attributes(alloc, others)? {
             Some(attributes) => Ok(Some((Some(name), attributes))),
             None => Ok(None),
@@ -78,6 +79,34 @@ fn read_rest(
             None => Ok(None),
         },
     }
+}
+
+/// The name that a piece is: a text whose parts are all quoted.
+fn name_in(alloc: Global, piece: &[Token]) -> Result<Option<Texts>, NoMemory>
+    ensures { IfOk result (λ name. option_map plain_parts name ≡ name_in piece.now) }
+{
+    match text_in(alloc, piece)? {
+        Some(parts) => {
+            if are_quoted(&parts) {
+                Ok(Some(parts))
+            } else {
+                Ok(None)
+            }
+        }
+        None => Ok(None),
+    }
+}
+
+/// Whether all parts stood between quote marks.
+fn are_quoted(parts: &Texts) -> bool
+    ensures { result ≡ are_quoted (plain_parts parts.now) }
+{
+    for part in parts.as_slice() {
+        if !matches!(part, TextPart::Plain(_)) {
+            return false;
+        }
+    }
+    true
 }
 
 /// The attributes that the pieces are.

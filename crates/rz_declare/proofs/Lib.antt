@@ -11,7 +11,6 @@ pub mod GoBack
 pub mod Answering
 pub mod CanSay
 pub mod MadeSo
-pub mod Within
 pub mod Filled
 pub mod Bodies
 pub mod OneDeclare

@@ -31,7 +31,7 @@ use Rattle.rz_declare.proofs.ShapedValue.{number_shaped}
 use Rattle.rz_types.specs.Field as made
 use Rattle.rz_types.specs.Field.{PlainField, PlainNumber, PlainPoints, PlainText}
 use Rattle.rz_types.specs.Shape.{are_fixed_points, is_fixed_part, is_fixed_text, is_none_or, is_points_shaped, is_shaped, is_text_shaped, is_unit, numbers_of}
-use Rattle.rz_types.specs.Text.{part_in, parts_in, text_in, with_part, Plain, PlainPart}
+use Rattle.rz_types.specs.Text.{part_in, parts_in, text_in, with_part, NameFact, Plain, PlainPart}
 use Rattle.rz_types.specs.Value.{is_field_expression}
 use Rattle.rz_types.specs.declared.field.TextForm.{TextForm}
 
@@ -39,6 +39,7 @@ use Rattle.rz_types.specs.declared.field.TextForm.{TextForm}
 
 plain_part : (part : PlainPart) → is_fixed_part part ≡ true
 plain_part (Plain bytes) = refl
+plain_part NameFact = refl
 
 plain_parts : (parts : List PlainPart) → list_all is_fixed_part parts ≡ true
 plain_parts [] = refl

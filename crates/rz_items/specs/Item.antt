@@ -24,7 +24,7 @@ abbrev pub items_of : List PlainItem → PlainItems
 items_of [] = none
 items_of (item ∷ items) = more item (items_of items)
 
-abbrev item_step : Item-F PlainItem → PlainItem
+abbrev pub item_step : Item-F PlainItem → PlainItem
 item_step (Item-F.Number expr mark) = Number (term_of expr) mark
 item_step (Item-F.Text texts mark) = Text (plain_parts texts) mark
 item_step (Item-F.List items mark) = Braced (items_of items) mark

@@ -1,19 +1,19 @@
--- Where items stand. (MPW Rez.)
+-- In which files items stand.
 use Rattle.std.specs.Prelude.{ℕ, ◌<◌, List}
 use Rattle.std.specs.List.{AllByRecursion}
-use Rattle.rz_items.specs.Item.{Braced, more, Named, none, Number, PlainItem, PlainItems, Text}
+use Rattle.rz_items.specs.Item.{more, none, Braced, Named, Number, PlainItem, PlainItems, Text}
 
--- the mark of each item is of one of so many files, also within braces
+-- an item and all that is in it stand in some of so many files
 abbrev mutual
-  pub IsWithin : ℕ → PlainItem → Type 0
-  IsWithin files (Number term mark) = mark.file < files
-  IsWithin files (Text parts mark) = mark.file < files
-  IsWithin files (Braced items mark) = (mark.file < files) × AreAllWithin files items
-  IsWithin files (Named name items mark) = (mark.file < files) × AreAllWithin files items
+  pub IsItemWithin : ℕ → PlainItem → Type 0
+  IsItemWithin files (Number term mark) = mark.file < files
+  IsItemWithin files (Text parts mark) = mark.file < files
+  IsItemWithin files (Braced items mark) = (mark.file < files) × AreInside files items
+  IsItemWithin files (Named name items mark) = (mark.file < files) × AreInside files items
 
-  pub AreAllWithin : ℕ → PlainItems → Type 0
-  AreAllWithin files none = Unit {0}
-  AreAllWithin files (more item items) = IsWithin files item × AreAllWithin files items
+  pub AreInside : ℕ → PlainItems → Type 0
+  AreInside files none = Unit {0}
+  AreInside files (more item items) = IsItemWithin files item × AreInside files items
 
 abbrev pub AreItemsWithin : ℕ → List PlainItem → Type 0
-AreItemsWithin files items = AllByRecursion (IsWithin files) items
+AreItemsWithin files items = AllByRecursion (IsItemWithin files) items

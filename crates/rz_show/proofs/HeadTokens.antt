@@ -1,6 +1,6 @@
 -- The tokens of the head of a shown resource, as the pieces of a head.
 use Rattle.std.proofs.Common.{◌≡◌, ℕ, suc, ◌<◌, ◌^◌, ℤ, pos, negsuc, Bool, true, false, List, [], ◌∷◌, ◌++◌, map, Some, None, refl, sym, ap, subst, ◌∙◌, arith}
-use Rattle.std.specs.Prelude.{◌==◌, ◌&&◌, ◌||◌, ◌/◌, ◌%◌, nat_le, FitsSigned}
+use Rattle.std.specs.Prelude.{Option, if◌then◌else◌, ◌==◌, ◌&&◌, ◌||◌, ◌/◌, ◌%◌, nat_le, FitsSigned}
 use Rattle.std.specs.Int.{w16, w32}
 use Rattle.std.specs.List.{AllByRecursion}
 use Rattle.std.proofs.lemmas.Int.{int_wrap_fits}
@@ -16,13 +16,12 @@ use Rattle.rz_lex.specs.declared.sign.Sign.TheVariants as signs
 use Rattle.rz_lex.specs.declared.token.Shape.{Shape}
 use Rattle.rz_lex.specs.declared.token.Shape.TheVariants as shapes
 use Rattle.rz_lex.specs.declared.token.Token.{Token}
-use Rattle.rz_brackets.specs.Limit.{is_text}
 use Rattle.rz_brackets.specs.Pieces.{divides, has_divider, AreCut, Parted}
 use Rattle.rz_brackets.specs.Statements.{open_behind, open_behind_all}
 use Rattle.rz_brackets.specs.declared.pieces.Divider.TheVariants.{CloseParen, Comma}
 use Rattle.rz_expr.specs.Constant.{IsConstant}
-use Rattle.rz_data.specs.Head.{AreAttributes, Attribute, IsAttribute, IsRest, Set}
-use Rattle.rz_types.specs.Text.{part_in, parts_in, text_in, with_part}
+use Rattle.rz_data.specs.Head.{are_quoted, if_quoted, name_in, AreAttributes, Attribute, IsAttribute, IsRest, Set}
+use Rattle.rz_types.specs.Text.{part_in, parts_in, with_part, PlainPart}
 use Rattle.rz_show.specs.Statement.{attribute_part, attributes_of, behind_commas, id_shapes, id_term, name_part, name_pieces, text_parts, text_shapes}
 use Rattle.rz_show.proofs.Split.{front_and_back, none_left, one_and_more, shapes_in}
 use Rattle.rz_core.proofs.Tests.{by_test}
@@ -74,7 +73,7 @@ id_is_inner (negsuc n) = (refl, (refl, tt))
 -- an attribute and the token that it is
 pub record IsShownAttribute (a : Shape × Attribute) : Type 0 where
   pub inner : is_inner a.0 ≡ true
-  pub no_text : is_text a.0 ≡ false
+  pub no_text : part_in a.0 ≡ None
   pub means : (token : Token) → token.shape ≡ a.0 → IsAttribute (token ∷ []) a.1
 
 pub record AreShownAttributes (attributes : List (Shape × Attribute)) : Type 0 where
@@ -83,10 +82,10 @@ pub record AreShownAttributes (attributes : List (Shape × Attribute)) : Type 0 
 shown_both : {xs ys : List (Shape × Attribute)} → AreShownAttributes xs → AreShownAttributes ys → AreShownAttributes (xs ++ ys)
 shown_both {xs} {ys} front back = record { each = all_both IsShownAttribute xs ys front.each back.each }
 
-shown_word : (attr : ℕ) (attribute : words.Attribute) → ((token : Token) → token.shape ≡ word_of (setting_word attribute) → IsAttribute (token ∷ []) (Set (bit_of attribute)))
+shown_word : (attr : ℕ) (attribute : words.Attribute) → part_in (word_of (setting_word attribute)) ≡ None → ((token : Token) → token.shape ≡ word_of (setting_word attribute) → IsAttribute (token ∷ []) (Set (bit_of attribute)))
     → AreShownAttributes (attribute_part attr attribute)
-shown_word attr attribute means = by_test (AreShownAttributes (attribute_part attr attribute)) (attr / bit_of attribute % 2 == 1)
-    (λ h. rw h (record { each = (record { inner = refl; no_text = refl; means = means }, tt) }))
+shown_word attr attribute no_text means = by_test (AreShownAttributes (attribute_part attr attribute)) (attr / bit_of attribute % 2 == 1)
+    (λ h. rw h (record { each = (record { inner = refl; no_text = no_text; means = means }, tt) }))
     (λ h. rw h (record { each = tt }))
 
 tighter_than : {tokens : List Token} {term : Term} → Derives 0 tokens term → IsExpression tokens term
@@ -104,9 +103,9 @@ shown_attributes attr small = by_test (AreShownAttributes (attributes_of attr)) 
     (λ k. rw (h, k) (record {
       each = (record { inner = refl; no_text = refl; means = λ token is. rw is (Constant (pos attr), (tighter_than (number_term (token_of token.mark (shapes.Number attr)) attr refl (omega arith)), refl), refl) }, tt);
     }))
-    (λ k. rw (h, k) (shown_both (shown_both (shown_both (shown_both (shown_both (shown_word attr SystemHeap (λ token is. rw is refl)) (shown_word attr Purgeable (λ token is. rw is refl)))
-    (shown_word attr Locked (λ token is. rw is refl))) (shown_word attr Protected (λ token is. rw is refl)))
-    (shown_word attr Preload (λ token is. rw is refl))) (shown_word attr Changed (λ token is. rw is refl)))))
+    (λ k. rw (h, k) (shown_both (shown_both (shown_both (shown_both (shown_both (shown_word attr SystemHeap refl (λ token is. rw is refl)) (shown_word attr Purgeable refl (λ token is. rw is refl)))
+    (shown_word attr Locked refl (λ token is. rw is refl))) (shown_word attr Protected refl (λ token is. rw is refl)))
+    (shown_word attr Preload refl (λ token is. rw is refl))) (shown_word attr Changed refl (λ token is. rw is refl)))))
 
 -- The pieces of the head, behind the id.
 
@@ -135,18 +134,21 @@ texts_again (piece ∷ pieces) tokens is =
     let one = one_and_more tokens (shapes.Text piece) (text_shapes pieces) is in
     ap parts_in one.are ∙ rw one.one_is (rw (texts_again pieces one.more one.more_are) refl)
 
-text_again : (part : List ℕ) (name : List (List ℕ)) (piece : List Token) → shapes_in piece ≡ text_shapes (part ∷ name) → text_in piece ≡ Some (text_parts (part ∷ name))
-text_again part name [] is = absurd cc
-text_again part name (token ∷ piece) is = texts_again (part ∷ name) (token ∷ piece) is
+-- each of them is quoted
+all_quoted : (pieces : List (List ℕ)) → are_quoted (text_parts pieces) ≡ true
+all_quoted [] = refl
+all_quoted (piece ∷ pieces) = all_quoted pieces
 
-no_text_piece : (a : Shape × Attribute) → IsShownAttribute a → (piece : List Token) → shapes_in piece ≡ a.0 ∷ [] → text_in piece ≡ None
-no_text_piece a shown piece is =
+name_again : (part : List ℕ) (name : List (List ℕ)) (piece : List Token) → shapes_in piece ≡ text_shapes (part ∷ name) → name_in piece ≡ Some (text_parts (part ∷ name))
+name_again part name [] is = absurd cc
+name_again part name (token ∷ piece) is =
+    ap if_quoted (texts_again (part ∷ name) (token ∷ piece) is)
+    ∙ ap (λ (b : Bool). if b then Some (text_parts (part ∷ name)) else None) (all_quoted (part ∷ name))
+
+no_name_piece : (a : Shape × Attribute) → IsShownAttribute a → (piece : List Token) → shapes_in piece ≡ a.0 ∷ [] → name_in piece ≡ None
+no_name_piece a shown piece is =
     let one = one_and_more piece a.0 [] is in
-    ap text_in one.are ∙ go one.one.shape (ap is_text one.one_is ∙ shown.no_text) one.more
-  where
-    go : (shape : Shape) → is_text shape ≡ false → (more : List Token) → with_part (part_in shape) (parts_in more) ≡ None
-    go (shapes.Text bytes) other more = absurd cc
-    go _ other more = refl
+    ap name_in one.are ∙ ap (λ (o : Option PlainPart). if_quoted (with_part o (parts_in one.more))) (ap part_in one.one_is ∙ shown.no_text)
 
 pub rest_is : (name : List (List ℕ)) (attributes : List (Shape × Attribute)) → AllByRecursion IsShownAttribute attributes → (pieces : List (List Token))
     → map shapes_in pieces ≡ name_pieces name ++ map (λ a. a.0 ∷ []) attributes → IsRest pieces (name_part name) (map (λ a. a.1) attributes)
@@ -155,12 +157,12 @@ rest_is [] [] shown (piece ∷ pieces) is = absurd cc
 rest_is [] (a ∷ attributes) shown [] is = absurd cc
 rest_is [] (a ∷ attributes) shown (piece ∷ pieces) is =
     let first : shapes_in piece ≡ a.0 ∷ [] = cc in
-    rw (no_text_piece a shown.0 piece first) (refl, attribute_pieces (a ∷ attributes) shown (piece ∷ pieces) is)
+    rw (no_name_piece a shown.0 piece first) (refl, attribute_pieces (a ∷ attributes) shown (piece ∷ pieces) is)
 rest_is (part ∷ name) attributes shown [] is = absurd cc
 rest_is (part ∷ name) attributes shown (piece ∷ pieces) is =
     let first : shapes_in piece ≡ text_shapes (part ∷ name) = cc in
     let others : map shapes_in pieces ≡ map (λ a. a.0 ∷ []) attributes = cc in
-    rw (text_again part name piece first) (refl, attribute_pieces attributes shown pieces others)
+    rw (name_again part name piece first) (refl, attribute_pieces attributes shown pieces others)
 
 -- the id
 pub id_is : (id : ℤ) → FitsSigned w16 id → (tokens : List Token) → shapes_in tokens ≡ id_shapes id → IsConstant tokens (id_term id)

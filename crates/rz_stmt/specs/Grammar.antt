@@ -1,6 +1,5 @@
 -- Statements, each with the tokens that are it, or the first fault. (MPW Rez.)
-use Rattle.std.specs.Prelude.{◌≡◌, ◌⊎◌, ◌<◌, ℕ, true, false, Some, List, [], ◌∷◌, Ok, Err}
-use Rattle.std.specs.List.{AllByRecursion}
+use Rattle.std.specs.Prelude.{◌≡◌, ◌⊎◌, ℕ, true, false, Some, List, [], ◌∷◌, Ok, Err}
 use Rattle.std.specs.declared.result.Result.{Result}
 use Rattle.rz_core.specs.Stop.{◌>>=◌}
 use Rattle.rz_core.specs.declared.fault.Fault.{Fault}
@@ -13,6 +12,8 @@ use Rattle.rz_declare.specs.Constants.{declare_of, declared, Declare}
 use Rattle.rz_declare.specs.Declare.{IsDeclare}
 use Rattle.rz_declare.specs.Form.{DeclareForm}
 use Rattle.rz_declare.specs.Shaped.{IsShapedMade}
+use Rattle.rz_items.specs.Compile.{compile_of, Compile, IsCompile}
+use Rattle.rz_items.specs.Places.{AreItemsWithin}
 use Rattle.rz_brackets.specs.Limit.{is_within_limits}
 use Rattle.rz_data.specs.Raw.{raw_of, IsRaw, Raw}
 use Rattle.rz_brackets.specs.Statements.{is_empty}
@@ -22,11 +23,13 @@ use Rattle.rz_stmt.specs.declared.grammar.Stmt.TheVariants as forms
 pub data Statement : Type 0 where
   Empty : Statement
   Data : (raw : Raw) → Statement
+  Compiles : (one : Compile) → Statement
   Declares : (declare : Declare) → Statement
 
 abbrev pub statement_of : Stmt → Statement
 statement_of forms.Empty = Empty
 statement_of (forms.Raw raw) = Data (raw_of raw)
+statement_of (forms.Compile stmt) = Compiles (compile_of stmt)
 statement_of (forms.Declare stmt) = Declares (declare_of stmt)
 
 -- 221 and 201
@@ -45,6 +48,7 @@ mark_of (first ∷ rest) = first.mark
 pub data IsStatement (tokens : List Token) (answer : Result Statement Fault) : Type 0 where
   alone : is_empty tokens ≡ true → answer ≡ Ok Empty → IsStatement tokens answer
   data_statement : (one : Raw) → IsRaw tokens one → answer ≡ Ok (Data one) → IsStatement tokens answer
+  resource_statement : (one : Compile) → IsCompile tokens one → answer ≡ Ok (Compiles one) → IsStatement tokens answer
   type_statement : (form : DeclareForm) → IsDeclare tokens form → answer ≡ (declared (mark_of tokens) form >>= (λ made. Ok (Declares made))) → IsStatement tokens answer
 
 -- the statement that tokens within the limits are, 221 for tokens beyond them, or 201 for tokens that are none
@@ -59,6 +63,12 @@ Declared mark tokens answer =
     ((form : DeclareForm) × IsDeclare tokens form × (answer ≡ (declared mark form >>= (λ made. Ok (Declares made)))))
     ⊎ (((form : DeclareForm) → IsDeclare tokens form → ⊥) × (answer ≡ Err (syntax mark)))
 
+-- the `resource` statement that the tokens are, or else the `type` statement, or 201
+abbrev pub Compiled : Mark → List Token → Result Statement Fault → Type 0
+Compiled mark tokens answer =
+    ((one : Compile) × IsCompile tokens one × (answer ≡ Ok (Compiles one)))
+    ⊎ (((one : Compile) → IsCompile tokens one → ⊥) × Declared mark tokens answer)
+
 -- the call gave what is answered, or memory was refused
 abbrev pub Gave : Result Stmt (Stop Fault) → (Result Statement Fault → Type 0) → Type 0
 Gave (Ok one) answers = answers (Ok (statement_of one))
@@ -69,4 +79,12 @@ Gave (Err NoMemory) answers = Unit {0}
 abbrev pub IsShapedStatement : Statement → Type 0
 IsShapedStatement Empty = Unit {0}
 IsShapedStatement (Data raw) = Unit {0}
+IsShapedStatement (Compiles one) = Unit {0}
 IsShapedStatement (Declares declare) = IsShapedMade declare.made
+
+-- the items of a `resource` statement stand in some of so many files; no other statement has any
+abbrev pub IsPlacedStatement : ℕ → Statement → Type 0
+IsPlacedStatement files Empty = Unit {0}
+IsPlacedStatement files (Data raw) = Unit {0}
+IsPlacedStatement files (Compiles one) = AreItemsWithin files one.items
+IsPlacedStatement files (Declares declare) = Unit {0}

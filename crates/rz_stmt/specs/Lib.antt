@@ -7,6 +7,11 @@ pub use Rattle.rz_brackets.specs.Kind
 pub use Rattle.rz_data.specs.Head
 pub use Rattle.rz_data.specs.Raw
 pub use Rattle.rz_data.specs.Closed
+pub use Rattle.rz_items.specs.Item
+pub use Rattle.rz_items.specs.Simple
+pub use Rattle.rz_items.specs.Items
+pub use Rattle.rz_items.specs.Compile
+pub use Rattle.rz_items.specs.Places
 pub use Rattle.rz_types.specs.Text
 pub use Rattle.rz_declare.specs.Form
 pub use Rattle.rz_declare.specs.Declare

@@ -3,13 +3,14 @@ ghost use Rattle.rz_lex.specs.Within.{AreWithin};
 ghost use Rattle.rz_core.specs.Message.{IsNameable};
 ghost use Rattle.rz_core.specs.Stop.{OnFault};
 ghost use Rattle.rz_lex.specs.Lexeme.{AreLexed};
-ghost use Rattle.rz_stmt.specs.Grammar.{Declared, Gave, IsShapedStatement, Parses, statement_of};
+ghost use Rattle.rz_stmt.specs.Grammar.{Compiled, Declared, Gave, IsPlacedStatement, IsShapedStatement, Parses, statement_of};
 ghost use Rattle.rz_core.specs.declared.fault.Kept.TheVariants.{Nothing};
 
 use rz_brackets::{Span, is_empty_statement, is_within_limits};
 use rz_core::{Fault, Kept, Mark, Stop};
 use rz_data::{RawStmt, read_raw};
 use rz_declare::{DeclareStmt, declarations_are_shaped, read_declare, value_declare};
+use rz_items::{CompileStmt, items_are_within, read_compile};
 use rz_lex::{Token, Tokens};
 use std::alloc::Global;
 
@@ -20,6 +21,8 @@ pub enum Stmt {
     Empty,
     /// `data`.
     Raw(RawStmt),
+    /// `resource`.
+    Compile(CompileStmt),
     /// `type`.
     Declare(DeclareStmt),
 }
@@ -29,13 +32,15 @@ pub enum Stmt {
 /// row without one of `{ } , ;`; else 201 where the tokens are no statement; else that of the first constant of
 /// a `type` statement, from left to right, without a value: 211 for a zero divisor, 215 for a shift by a count
 /// outside 0 to 31 (kept: the count), or 207 for the value of a symbol outside the range of its field (kept:
-/// the value). The fields of a `type` statement are well shaped, where the tokens are as lines are cut into. The
-/// span lies within the tokens and isn't empty, as each of `statements`. (MPW Rez.)
+/// the value). The fields of a `type` statement are well shaped, where the tokens are as lines are cut into, and
+/// the items of a `resource` statement stand in the files of the tokens. The span lies within the tokens and isn't
+/// empty, as each of `statements`. (MPW Rez.)
 pub fn parse(alloc: Global, tokens: &Tokens, span: Span) -> Result<Stmt, Stop<Fault>>
     requires { (span.start < span.end) × (span.end ≤ length tokens.now) }
     ensures parsed { Gave result (Parses (take (span.end - span.start) (drop span.start tokens.now))) }
     ensures nameable { (files : ℕ) → AreWithin files tokens.now → OnFault result (IsNameable files) }
     ensures shaped { AreLexed tokens.now → IfOk result (λ stmt. IsShapedStatement (statement_of stmt)) }
+    ensures placed { (files : ℕ) → AreWithin files tokens.now → IfOk result (λ stmt. IsPlacedStatement files (statement_of stmt)) }
 {
     parse_all(
         alloc,
@@ -49,6 +54,7 @@ fn parse_all(alloc: Global, tokens: &[Token]) -> Result<Stmt, Stop<Fault>>
     ensures parsed { Gave result (Parses tokens.now) }
     ensures nameable { (files : ℕ) → AreWithin files tokens.now → OnFault result (IsNameable files) }
     ensures shaped { AreLexed tokens.now → IfOk result (λ stmt. IsShapedStatement (statement_of stmt)) }
+    ensures placed { (files : ℕ) → AreWithin files tokens.now → IfOk result (λ stmt. IsPlacedStatement files (statement_of stmt)) }
 {
     let mark = tokens[0].mark;
     if !is_within_limits(tokens) {
@@ -59,6 +65,20 @@ fn parse_all(alloc: Global, tokens: &[Token]) -> Result<Stmt, Stop<Fault>>
     }
     match read_raw(alloc, tokens)? {
         Some(raw) => Ok(Stmt::Raw(raw)),
+        None => parse_compile(alloc, mark, tokens),
+    }
+}
+
+/// The `resource` statement that the tokens are, or else the `type` statement, or 201.
+fn parse_compile(alloc: Global, mark: Mark, tokens: &[Token]) -> Result<Stmt, Stop<Fault>>
+    ensures parsed { Gave result (Compiled mark tokens.now) }
+    ensures nameable { (files : ℕ) → mark.file < files → OnFault result (IsNameable files) }
+    ensures shaped { AreLexed tokens.now → IfOk result (λ stmt. IsShapedStatement (statement_of stmt)) }
+    ensures placed { (files : ℕ) → AreWithin files tokens.now → IfOk result (λ stmt. IsPlacedStatement files (statement_of stmt)) }
+{
+    items_are_within();
+    match read_compile(alloc, tokens)? {
+        Some(stmt) => Ok(Stmt::Compile(stmt)),
         None => parse_declare(alloc, mark, tokens),
     }
 }
@@ -68,6 +88,7 @@ fn parse_declare(alloc: Global, mark: Mark, tokens: &[Token]) -> Result<Stmt, St
     ensures parsed { Gave result (Declared mark tokens.now) }
     ensures nameable { (files : ℕ) → mark.file < files → OnFault result (IsNameable files) }
     ensures shaped { AreLexed tokens.now → IfOk result (λ stmt. IsShapedStatement (statement_of stmt)) }
+    ensures placed { (files : ℕ) → IfOk result (λ stmt. IsPlacedStatement files (statement_of stmt)) }
 {
     declarations_are_shaped();
     let Some(stmt) = read_declare(alloc, tokens)? else {

@@ -5,11 +5,13 @@ ghost use Rattle.rz_stmt.specs.Grammar.{Parses, Statement};
 
 use rz_data::one_data;
 use rz_declare::one_declare;
+use rz_items::one_compile;
 
 /// A law, with nothing to run: tokens are one statement at most, or have one fault, and never both.
 pub fn one_statement()
     ensures { (tokens : List Token) (answer another : Result Statement Fault) → Parses tokens answer → Parses tokens another → answer ≡ another }
 {
     one_data();
+    one_compile();
     one_declare();
 }

@@ -1,8 +1,7 @@
 use Rattle.std.proofs.Common.{List, sym, subst}
-use Rattle.rz_brackets.proofs.Slices.{behind_of, two}
+use Rattle.rz_brackets.proofs.Slices.{behind_of, same_behind, two}
 use Rattle.rz_lex.specs.declared.token.Token.{Token}
 use Rattle.rz_declare.specs.Declare.{IsScoped}
-use Rattle.rz_declare.proofs.Within.{same_behind}
 use Rattle.rz_declare.proofs.declare.read_declare.Goals as goal
 
 pub returns-in-None : goal.returns-in-None

@@ -5,7 +5,7 @@ use Rattle.rz_brackets.specs.Pieces.{Parted}
 use Rattle.rz_brackets.specs.Statements.{is_empty}
 use Rattle.rz_brackets.specs.declared.bracket.Bracket.TheVariants.{Round}
 use Rattle.rz_expr.specs.Constant.{IsConstant}
-use Rattle.rz_declare.proofs.Within.{never_within, same_within}
+use Rattle.rz_brackets.proofs.OneBracket.{never_within, same_within}
 use Rattle.rz_declare.proofs.declare.read_given_id.Goals as goal
 
 pub returns-in_default : goal.returns-in_default

@@ -3,7 +3,7 @@ use Rattle.std.proofs.lemmas.Bool.{eqb-false}
 use Rattle.rz_brackets.specs.Held.{held_split}
 use Rattle.rz_brackets.specs.Pieces.{Parted}
 use Rattle.rz_brackets.specs.declared.bracket.Bracket.TheVariants.{Square}
-use Rattle.rz_declare.proofs.Within.{never_within, same_within}
+use Rattle.rz_brackets.proofs.OneBracket.{never_within, same_within}
 use Rattle.rz_declare.proofs.field.read_count.Goals as goal
 
 pub returns-in_default : goal.returns-in_default

@@ -5,7 +5,7 @@ use Rattle.rz_brackets.specs.Held.{held_split}
 use Rattle.rz_brackets.specs.Pieces.{Parted}
 use Rattle.rz_brackets.specs.declared.bracket.Bracket.TheVariants.{Curly}
 use Rattle.rz_declare.specs.FieldForm.{AreNumbers, IsPoints}
-use Rattle.rz_declare.proofs.Within.{never_within, same_within}
+use Rattle.rz_brackets.proofs.OneBracket.{never_within, same_within}
 use Rattle.rz_declare.proofs.field.read_points.Goals as goal
 
 pub returns-in_default-bracketed : goal.returns-in_default-bracketed

@@ -7,7 +7,7 @@ use Rattle.rz_brackets.specs.Pieces.{Parted}
 use Rattle.rz_brackets.specs.declared.bracket.Bracket.TheVariants.{Square}
 use Rattle.rz_declare.specs.FieldForm.{fixed_text}
 use Rattle.rz_declare.specs.FieldValue.{IsFieldExpression}
-use Rattle.rz_declare.proofs.Within.{never_within, same_within}
+use Rattle.rz_brackets.proofs.OneBracket.{never_within, same_within}
 use Rattle.rz_declare.proofs.field.read_sized.Goals as goal
 
 pub returns-in_default : goal.returns-in_default

@@ -4,7 +4,7 @@ use Rattle.rz_brackets.specs.Pieces.{Parted}
 use Rattle.rz_brackets.specs.declared.bracket.Bracket.TheVariants.{Square}
 use Rattle.rz_expr.specs.Constant.{IsConstant}
 use Rattle.rz_declare.specs.NumberField.{IsTail}
-use Rattle.rz_declare.proofs.Within.{never_within, same_within}
+use Rattle.rz_brackets.proofs.OneBracket.{never_within, same_within}
 use Rattle.rz_declare.proofs.number_field.read_bits.Goals as goal
 
 pub returns-in_default : goal.returns-in_default

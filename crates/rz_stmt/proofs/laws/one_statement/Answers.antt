@@ -2,4 +2,4 @@ use Rattle.rz_stmt.proofs.OneStatement.{one_answer}
 use Rattle.rz_stmt.proofs.laws.one_statement.Goals as goal
 
 pub returns : goal.returns
-returns c = one_answer c.one_data.ensures c.one_declare.ensures
+returns c = one_answer c.one_data.ensures c.one_compile.ensures c.one_declare.ensures

@@ -1,0 +1,23 @@
+ghost use Rattle.std.specs.Prelude.{◌≡◌, ℕ, List};
+ghost use Rattle.rz_lex.specs.Within.{AreWithin};
+ghost use Rattle.rz_lex.specs.declared.token.Token.{Token};
+ghost use Rattle.rz_items.specs.Compile.{Compile, IsCompile};
+ghost use Rattle.rz_items.specs.Places.{AreItemsWithin};
+
+use rz_brackets::pieces_are_cut;
+use rz_expr::one_expression;
+
+/// A law, with nothing to run: tokens are one `resource` statement at most.
+pub fn one_compile()
+    ensures { (tokens : List Token) (compile other : Compile) → IsCompile tokens compile → IsCompile tokens other → compile ≡ other }
+{
+    one_expression();
+    pieces_are_cut();
+}
+
+/// A law, with nothing to run: the items of a `resource` statement, and all that is in them, stand in the files in
+/// which its tokens stand.
+pub fn items_are_within()
+    ensures { (files : ℕ) (tokens : List Token) (compile : Compile)
+        → AreWithin files tokens → IsCompile tokens compile → AreItemsWithin files compile.items }
+{}

@@ -1,0 +1,62 @@
+ghost use Rattle.std.specs.Prelude.{◌≡◌, IfOk, option_map};
+ghost use Rattle.rz_core.specs.Decided.{Decided};
+ghost use Rattle.rz_expr.specs.Term.{term_of};
+ghost use Rattle.rz_items.specs.Item.{plain_item};
+ghost use Rattle.rz_items.specs.Simple.{is_item_expression, is_resource_fact, IsItemExpression, IsSimple};
+
+use crate::item::Item;
+use rz_core::{Mark, NoMemory};
+use rz_expr::{Expr, FactWord, one_expression, read_whole};
+use rz_lex::Token;
+use rz_types::text_in;
+use std::alloc::Global;
+
+/// The text or the number that the tokens are.
+pub fn read_simple(alloc: Global, mark: Mark, tokens: &[Token]) -> Result<Option<Item>, NoMemory>
+    ensures { IfOk result (λ item. Decided (IsSimple mark tokens.now) (option_map plain_item item)) }
+{
+    match text_in(alloc, tokens)? {
+        Some(texts) => Ok(Some(Item::Text(texts, mark))),
+        None => match read_expression(alloc, tokens)? {
+            Some(expr) => Ok(Some(Item::Number(expr, mark))),
+            None => Ok(None),
+        },
+    }
+}
+
+/// The expression that the tokens are, where it may stand in an item.
+fn read_expression(alloc: Global, tokens: &[Token]) -> Result<Option<Expr>, NoMemory>
+    ensures { IfOk result (λ expr. Decided (IsItemExpression tokens.now) (option_map term_of expr)) }
+{
+    one_expression();
+    match read_whole(alloc, tokens)? {
+        Some(expr) => {
+            if is_item_expression(&expr) {
+                Ok(Some(expr))
+            } else {
+                Ok(None)
+            }
+        }
+        None => Ok(None),
+    }
+}
+
+/// Whether an expression may stand in an item: it has no `$$CountOf` and no data functions, and of the facts only
+/// those of the resource.
+fn is_item_expression(expr: &Expr) -> bool
+    ensures { result ≡ is_item_expression (term_of expr.now) }
+{
+    match expr {
+        Expr::Number(_) | Expr::Name(_) => true,
+        Expr::Count(_) | Expr::Bits(..) => false,
+        Expr::Fact(which) => is_resource_fact(*which),
+        Expr::Unary(_, operand) => is_item_expression(operand),
+        Expr::Binary(_, left, right) => is_item_expression(left) && is_item_expression(right),
+    }
+}
+
+fn is_resource_fact(which: FactWord) -> bool
+    ensures { result ≡ is_resource_fact which }
+{
+    matches!(which, FactWord::Id | FactWord::Kind | FactWord::Attributes)
+}
