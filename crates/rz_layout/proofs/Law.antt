@@ -25,47 +25,7 @@ use Rattle.rz_types.specs.declared.field.TextForm.{TextForm}
 use Rattle.rz_types.specs.declared.tree.Tree.{Tree}
 use Rattle.rz_types.specs.declared.tree.Tree.TheVariants as trees
 use Rattle.rz_layout.proofs.Sounding.{chained, order_sound, piece_sound, same_ok, Fed, NumberValue, PieceValue, Sounds, TextValue}
-use Rattle.rz_layout.proofs.Spelling.{good, order_spelled, piece_spelled, Fits, Goes, HasFields, IsField}
-
--- The pieces of a field that has the shape of one.
-
-field_term : (symbols : List Symbol) (fixed : Option Term) → is_fixed_number symbols fixed ≡ true → IsField fixed
-field_term symbols None is = tt
-field_term symbols (Some term) is = (both (is_field_expression term) (is_empty symbols) is).0
-
-size_term : (size : Option Term) → is_none_or is_field_expression size ≡ true → IsField size
-size_term None is = tt
-size_term (Some term) is = is
-
-free_pieces : (count : ℕ) → AllByRecursion HasFields (replicate count free_integer)
-free_pieces zero = tt
-free_pieces (suc count) = (tt, free_pieces count)
-
-fixed_pieces : (terms : List Term) → list_all is_field_expression terms ≡ true → AllByRecursion HasFields (map fixed_integer terms)
-fixed_pieces [] is = tt
-fixed_pieces (term ∷ terms) is = let each = both (is_field_expression term) (list_all is_field_expression terms) is in (each.0, fixed_pieces terms each.1)
-
-point_pieces : (rect : Bool) (fixed : Option (List Term)) → is_none_or (are_fixed_points rect) fixed ≡ true → AllByRecursion HasFields (integers rect fixed)
-point_pieces rect None is = free_pieces (numbers_of rect)
-point_pieces rect (Some terms) is = fixed_pieces terms (both (length terms == numbers_of rect) (list_all is_field_expression terms) is).1
-
-abbrev pub FieldFields : PlainField → Type 0
-FieldFields field = AllByRecursion HasFields (pieces_of field)
-
-field_fields : (field : PlainField) → is_shaped false 0 field ≡ true → FieldFields field
-field_fields (Number number) is =
-    let front : Bool = is_own_width number.form number.width && list_all (is_symbol_of number.form number.width) number.symbols in
-    let one = both (front && is_fixed_number number.symbols number.fixed) (if number.key then is_key_shaped false number else true) is in
-    (field_term number.symbols number.fixed (both front (is_fixed_number number.symbols number.fixed) one.0).1, tt)
-field_fields (Text text) is = (size_term text.size (both (is_none_or is_field_expression text.size) (is_none_or is_fixed_text text.fixed) is).0, tt)
-field_fields (Points points) is = point_pieces points.rect points.fixed is
-field_fields (Fill unit count) is = (tt, tt)
-field_fields (Align unit) is = (tt, tt)
-
-pub body_fields : (body : List PlainField) → is_well_shaped body ≡ true → AllByRecursion FieldFields body
-body_fields [] is = tt
-body_fields (field ∷ fields) is =
-    let each = both (is_shaped false 0 field) (list_all (is_shaped false 0) fields) is in (field_fields field each.0, body_fields fields each.1)
+use Rattle.rz_layout.proofs.Spelling.{good, order_spelled, piece_spelled, Fits, Goes}
 
 -- Spelled, so laid.
 
@@ -92,45 +52,45 @@ group_taken None value it = ap is_some it.1
 group_taken (Some terms) value it = ap is_some it
 
 module _ (known : Facts) (all : List Bool) (names : Environment) (give : (key : Key) → names.give key ≡ symbol_key [] key) where
-  piece_taken : (piece : Piece) → HasFields piece → (value : Option Tree) (at after : ℕ) (late late_after : Late)
+  piece_taken : (piece : Piece) (value : Option Tree) (at after : ℕ) (late late_after : Late)
       → PieceSpells false known all names no_names piece value at late after late_after → is_some value ≡ takes_one piece
-  piece_taken (OneNumber number) field value at after late late_after it =
+  piece_taken (OneNumber number) value at after late late_after it =
       number_taken number.form number.width number.fixed (sees known all names at) value it.bits it.stored
-  piece_taken (OneText text) field value at after late late_after it =
+  piece_taken (OneText text) value at after late late_after it =
       bytes_taken text.form known text.fixed it.stored.size value it.stored.bytes it.stored.are_bytes
-  piece_taken (Zeros count) field value at after late late_after it = ap is_some it.stored.0
-  piece_taken (Filler unit) field value at after late late_after it = ap is_some it.stored.0
+  piece_taken (Zeros count) value at after late late_after it = ap is_some it.stored.0
+  piece_taken (Filler unit) value at after late late_after it = ap is_some it.stored.0
 
-  one_taken : (piece : Piece) → HasFields piece → (value : Option Tree) (at after : ℕ) (late late_after : Late)
+  one_taken : (piece : Piece) (value : Option Tree) (at after : ℕ) (late late_after : Late)
       → InOrder (PieceSpells false known all names no_names) (piece ∷ []) (option_to_list value) at late after late_after → is_some value ≡ takes_one piece
-  one_taken piece field value at after late late_after (v, rest, mid, late_mid, are, one, behind) =
-      single value v rest behind.0 are ∙ piece_taken piece field v at mid late late_mid one
+  one_taken piece value at after late late_after (v, rest, mid, late_mid, are, one, behind) =
+      single value v rest behind.0 are ∙ piece_taken piece v at mid late late_mid one
 
-  field_taken : (field : PlainField) → FieldFields field → (value : Option Tree) (at after : ℕ) (late late_after : Late)
+  field_taken : (field : PlainField) (value : Option Tree) (at after : ℕ) (late late_after : Late)
       → FieldSpells false known all names no_names field value at late after late_after → is_some value ≡ takes_value field
-  field_taken (Number number) fields value at after late late_after it = one_taken (OneNumber number) fields.0 value at after late late_after it.1
-  field_taken (Text text) fields value at after late late_after it = one_taken (OneText text) fields.0 value at after late late_after it.1
-  field_taken (Points points) fields value at after late late_after it = group_taken points.fixed value it.0
-  field_taken (Fill unit count) fields value at after late late_after it = one_taken (Zeros _) fields.0 value at after late late_after it.1
-  field_taken (Align unit) fields value at after late late_after it = one_taken (Filler unit) fields.0 value at after late late_after it.1
+  field_taken (Number number) value at after late late_after it = one_taken (OneNumber number) value at after late late_after it.1
+  field_taken (Text text) value at after late late_after it = one_taken (OneText text) value at after late late_after it.1
+  field_taken (Points points) value at after late late_after it = group_taken points.fixed value it.0
+  field_taken (Fill unit count) value at after late late_after it = one_taken (Zeros _) value at after late late_after it.1
+  field_taken (Align unit) value at after late late_after it = one_taken (Filler unit) value at after late late_after it.1
 
-  field_goes : (field : PlainField) → FieldFields field → (value : Option Tree) (at after : ℕ) (late late_after : Late)
+  field_goes : (field : PlainField) (value : Option Tree) (at after : ℕ) (late late_after : Late)
       → FieldSpells false known all names no_names field value at late after late_after → (draft : Draft) → Fits known all names give draft at
       → Goes known all names give (field_laid known draft field value) after
-  field_goes field fields value at after late late_after it =
-      order_spelled known all names give (PieceSpells false known all names no_names) takes_one (lay known) HasFields piece_taken (piece_spelled known all names give no_names)
-      (pieces_of field) fields (values_for field value) at after late late_after it.1
+  field_goes field value at after late late_after it =
+      order_spelled known all names give (PieceSpells false known all names no_names) takes_one (lay known) piece_taken (piece_spelled known all names give no_names)
+      (pieces_of field) (values_for field value) at after late late_after it.1
 
-  pub body_goes : (body : List PlainField) → AllByRecursion FieldFields body → (row : List Tree) (end : ℕ) (late : Late) → BodySpells false known all names no_names body row 0 [] end late
+  pub body_goes : (body : List PlainField) (row : List Tree) (end : ℕ) (late : Late) → BodySpells false known all names no_names body row 0 [] end late
       → Goes known all names give (body_laid known nothing_laid body row) end
-  body_goes body fields row end late it =
-      order_spelled known all names give (FieldSpells false known all names no_names) takes_value (field_laid known) FieldFields field_taken field_goes
-      body fields row 0 end [] late it nothing_laid (record { front = refl; size = refl })
+  body_goes body row end late it =
+      order_spelled known all names give (FieldSpells false known all names no_names) takes_value (field_laid known) field_taken field_goes
+      body row 0 end [] late it nothing_laid (record { front = refl; size = refl })
 
 module _ (read : (bytes : List ℕ) → ((k : ℕ) → slice_index bytes k < 256) → bytes_of (bits_of bytes) ≡ bytes) where
-  pub complete : (known : Facts) (body : List PlainField) (row : List Tree) (bytes : List ℕ) → is_well_shaped body ≡ true → Spells false known body row bytes → laid known body row ≡ Ok bytes
-  complete known body row bytes shaped it =
-      let goes = body_goes known (bits_of bytes) it.names (λ key. it.own.give key refl) body (body_fields body shaped) row it.end it.late it.fields in
+  pub complete : (known : Facts) (body : List PlainField) (row : List Tree) (bytes : List ℕ) → Spells false known body row bytes → laid known body row ≡ Ok bytes
+  complete known body row bytes it =
+      let goes = body_goes known (bits_of bytes) it.names (λ key. it.own.give key refl) body row it.end it.late it.fields in
       ap (λ (r : Result Draft Refusal). r >>= λ draft. good (bytes_of (filled 8 draft.bits))) goes.is
       ∙ ap good (ap (λ (bits : List Bool). bytes_of (filled 8 bits)) goes.fits.front ∙ ap bytes_of (sym it.filled) ∙ read bytes it.are_bytes)
 
@@ -208,29 +168,29 @@ row_fed (field ∷ fields) row (rest, one, others) =
     )
 
 module _ (known : Facts) (all : List Bool) where
-  field_sounds : (field : PlainField) → FieldFields field → (value : Option Tree) → FieldHas field value → (draft next : Draft) → field_laid known draft field value ≡ Ok next
+  field_sounds : (field : PlainField) (value : Option Tree) → FieldHas field value → (draft next : Draft) → field_laid known draft field value ≡ Ok next
       → take (length next.bits) all ≡ next.bits → (late : Late) → Sounds known all (λ at late_after. FieldSpells false known all outside no_names field value at late (length next.bits) late_after) draft
-  field_sounds field fields value has draft next is front late =
-      let it = order_sound known all (PieceSpells false known all outside no_names) takes_one (lay known) HasFields PieceValue (piece_sound known all no_names)
-      (pieces_of field) fields (values_for field value) has.1 draft next is front late in
+  field_sounds field value has draft next is front late =
+      let it = order_sound known all (PieceSpells false known all outside no_names) takes_one (lay known) PieceValue (piece_sound known all no_names)
+      (pieces_of field) (values_for field value) has.1 draft next is front late in
       record { late_after = it.late_after; spells = (has.0, it.spells); front = it.front }
 
-  pub body_sounds : (body : List PlainField) → AllByRecursion FieldFields body → (row : List Tree) → IsRow body row → (next : Draft) → body_laid known nothing_laid body row ≡ Ok next
+  pub body_sounds : (body : List PlainField) (row : List Tree) → IsRow body row → (next : Draft) → body_laid known nothing_laid body row ≡ Ok next
       → take (length next.bits) all ≡ next.bits → Sounds known all (λ at late_after. BodySpells false known all outside no_names body row at [] (length next.bits) late_after) nothing_laid
-  body_sounds body fields row are next is front =
-      order_sound known all (FieldSpells false known all outside no_names) takes_value (field_laid known) FieldFields FieldHas field_sounds body fields row (row_fed body row are) nothing_laid next is front []
+  body_sounds body row are next is front =
+      order_sound known all (FieldSpells false known all outside no_names) takes_value (field_laid known) FieldHas field_sounds body row (row_fed body row are) nothing_laid next is front []
 
 module _ (written : (bits : List Bool) → length bits % 8 ≡ 0 → bits_of (bytes_of bits) ≡ bits) (multiple : (unit : ℕ) (bits : List Bool) → 0 < unit → length (filled unit bits) % unit ≡ 0)
     (small : (bits : List Bool) (k : ℕ) → slice_index (bytes_of bits) k < 256) where
-  pub sound : (known : Facts) (body : List PlainField) (row : List Tree) (bytes : List ℕ) → is_well_shaped body ≡ true → IsRow body row → laid known body row ≡ Ok bytes
+  pub sound : (known : Facts) (body : List PlainField) (row : List Tree) (bytes : List ℕ) → IsRow body row → laid known body row ≡ Ok bytes
       → Spells false known body row bytes
-  sound known body row bytes shaped are is =
+  sound known body row bytes are is =
       let inner = chained (body_laid known nothing_laid body row) (λ draft. good (bytes_of (filled 8 draft.bits))) bytes is in
       let bits : List Bool = inner.value.bits in
       let bytes_are : bytes_of (filled 8 bits) ≡ bytes = same_ok _ bytes inner.leads in
       let all_is : bits_of bytes ≡ filled 8 bits = ap bits_of (sym bytes_are) ∙ written (filled 8 bits) (multiple 8 bits (omega (arith))) in
       let front : take (length bits) (bits_of bytes) ≡ bits = ap (take (length bits)) all_is ∙ take-append_seam bits (zeros (missing 8 (length bits))) in
-      let it = body_sounds known (bits_of bytes) body (body_fields body shaped) row are inner.value inner.is front in
+      let it = body_sounds known (bits_of bytes) body row are inner.value inner.is front in
       record {
         names = outside;
         own = record { give = λ key no. refl };

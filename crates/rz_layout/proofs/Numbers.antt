@@ -1,7 +1,8 @@
 -- The faults of rows.
-use Rattle.std.proofs.Common.{◌≡◌, ℕ, zero, suc, ◌+◌, ◌==◌, ◌||◌, ℤ, pos, Bool, true, false, List, [], ◌∷◌, ◌++◌, length, Option, Some, None, Result, Ok, Err, refl, sym, ap, subst, ◌∙◌}
-use Rattle.std.specs.Prelude.{if◌then◌else◌, nat_lt, nat_abs, option_map}
-use Rattle.std.specs.List.{AllByRecursion}
+use Rattle.std.proofs.Common.{◌≡◌, ℕ, zero, suc, ◌+◌, ◌==◌, ◌&&◌, ◌||◌, ℤ, pos, Bool, true, false, List, [], ◌∷◌, ◌++◌, length, Option, Some, None, Result, Ok, Err, refl, sym, ap, subst, ◌∙◌}
+use Rattle.std.specs.Prelude.{if◌then◌else◌, map, nat_lt, nat_abs, option_map, replicate}
+use Rattle.std.specs.List.{list_all, AllByRecursion}
+use Rattle.rz_core.proofs.Tests.{both}
 use Rattle.rz_core.specs.Lists.{first_of, or_else, unless_fault}
 use Rattle.rz_core.specs.Stop.{◌>>=◌}
 use Rattle.rz_core.specs.declared.facts.Facts.{Facts}
@@ -12,20 +13,69 @@ use Rattle.rz_expr.specs.declared.value.EvalFault.TheVariants.{BadShift, DataWid
 use Rattle.rz_bits.specs.Bits.{bits_of, bytes_of, number_bits}
 use Rattle.rz_bits.specs.BitBuf.{filled}
 use Rattle.rz_layout.specs.Compiled.{is_compile_fault}
-use Rattle.rz_types.specs.Field.{PlainField, PlainText}
+use Rattle.rz_types.specs.Field.{Align, Fill, Number, PlainField, PlainText, Points, Text}
 use Rattle.rz_types.specs.Laid.{bad_length, bad_size, body_laid, bytes_given, bytes_laid, field_laid, first_value, fixed_number, in_order, laid, lay, nothing_laid, number_given, one_more, other_values, piece_laid, refusal, size_in, takes_one, text_laid, text_refusal, too_long, unless, valued, value_in, with_bits, Draft, Refusal}
 use Rattle.rz_types.specs.Range.{fits_number, may_be_size}
 use Rattle.rz_types.specs.Row.{takes_value}
-use Rattle.rz_types.specs.Shape.{is_well_shaped}
-use Rattle.rz_types.specs.Spells.{most_bits, pieces_of, values_for, Filler, OneNumber, OneText, Piece, Zeros}
+use Rattle.rz_types.specs.Shape.{are_fixed_points, is_empty, is_fixed_number, is_fixed_text, is_key_shaped, is_none_or, is_own_width, is_shaped, is_symbol_of, is_well_shaped, numbers_of}
+use Rattle.rz_types.specs.Spells.{fixed_integer, free_integer, integers, most_bits, pieces_of, values_for, Filler, OneNumber, OneText, Piece, Zeros}
 use Rattle.rz_types.specs.Stored.{stored_number, stored_text}
 use Rattle.rz_types.specs.Text.{PlainPart}
 use Rattle.rz_types.specs.Value.{field_sight, is_field_expression, IsArithmetic}
 use Rattle.rz_types.specs.declared.field.NumForm.{NumForm}
+use Rattle.rz_types.specs.declared.field.Symbol.{Symbol}
 use Rattle.rz_types.specs.declared.field.TextForm.{TextForm}
 use Rattle.rz_types.specs.declared.tree.Tree.{Tree}
-use Rattle.rz_layout.proofs.Law.{body_fields, FieldFields}
-use Rattle.rz_layout.proofs.Spelling.{HasFields, IsField}
+
+abbrev pub IsField : Option Term → Type 0
+IsField None = Unit {0}
+IsField (Some term) = is_field_expression term ≡ true
+
+abbrev pub HasFields : Piece → Type 0
+HasFields (OneNumber number) = IsField number.fixed
+HasFields (OneText text) = IsField text.size
+HasFields (Zeros count) = Unit {0}
+HasFields (Filler unit) = Unit {0}
+
+-- The pieces of a field that has the shape of one.
+
+field_term : (symbols : List Symbol) (fixed : Option Term) → is_fixed_number symbols fixed ≡ true → IsField fixed
+field_term symbols None is = tt
+field_term symbols (Some term) is = (both (is_field_expression term) (is_empty symbols) is).0
+
+size_term : (size : Option Term) → is_none_or is_field_expression size ≡ true → IsField size
+size_term None is = tt
+size_term (Some term) is = is
+
+free_pieces : (count : ℕ) → AllByRecursion HasFields (replicate count free_integer)
+free_pieces zero = tt
+free_pieces (suc count) = (tt, free_pieces count)
+
+fixed_pieces : (terms : List Term) → list_all is_field_expression terms ≡ true → AllByRecursion HasFields (map fixed_integer terms)
+fixed_pieces [] is = tt
+fixed_pieces (term ∷ terms) is = let each = both (is_field_expression term) (list_all is_field_expression terms) is in (each.0, fixed_pieces terms each.1)
+
+point_pieces : (rect : Bool) (fixed : Option (List Term)) → is_none_or (are_fixed_points rect) fixed ≡ true → AllByRecursion HasFields (integers rect fixed)
+point_pieces rect None is = free_pieces (numbers_of rect)
+point_pieces rect (Some terms) is = fixed_pieces terms (both (length terms == numbers_of rect) (list_all is_field_expression terms) is).1
+
+abbrev pub FieldFields : PlainField → Type 0
+FieldFields field = AllByRecursion HasFields (pieces_of field)
+
+field_fields : (field : PlainField) → is_shaped false 0 field ≡ true → FieldFields field
+field_fields (Number number) is =
+    let front : Bool = is_own_width number.form number.width && list_all (is_symbol_of number.form number.width) number.symbols in
+    let one = both (front && is_fixed_number number.symbols number.fixed) (if number.key then is_key_shaped false number else true) is in
+    (field_term number.symbols number.fixed (both front (is_fixed_number number.symbols number.fixed) one.0).1, tt)
+field_fields (Text text) is = (size_term text.size (both (is_none_or is_field_expression text.size) (is_none_or is_fixed_text text.fixed) is).0, tt)
+field_fields (Points points) is = point_pieces points.rect points.fixed is
+field_fields (Fill unit count) is = (tt, tt)
+field_fields (Align unit) is = (tt, tt)
+
+pub body_fields : (body : List PlainField) → is_well_shaped body ≡ true → AllByRecursion FieldFields body
+body_fields [] is = tt
+body_fields (field ∷ fields) is =
+    let each = both (is_shaped false 0 field) (list_all (is_shaped false 0) fields) is in (field_fields field each.0, body_fields fields each.1)
 
 -- a refusal, where there is one, is such a fault
 abbrev pub Known : {X : Type 0} → Result X Refusal → Type 0

@@ -27,7 +27,7 @@ use Rattle.rz_types.specs.declared.field.TextForm.{TextForm}
 use Rattle.rz_types.specs.declared.field.TextForm.TheVariants as forms
 use Rattle.rz_types.specs.declared.tree.Tree.{Tree}
 use Rattle.rz_types.specs.declared.tree.Tree.TheVariants as trees
-use Rattle.rz_layout.proofs.Spelling.{seen, HasFields, IsField}
+use Rattle.rz_layout.proofs.Spelling.{seen}
 
 -- Results.
 
@@ -86,22 +86,22 @@ module _ (known : Facts) (all : List Bool) where
   valued_is piece (Ok value) v is = ap (λ (z : ℤ). Ok z) (same_ok value v is)
   valued_is piece (Err fault) v is = absurd cc
 
-  value_sound : (piece at : ℕ) (term : Term) (v : ℤ) → is_field_expression term ≡ true → value_in piece known term ≡ Ok v → value_of term (sees known all outside at) ≡ Ok v
-  value_sound piece at term v field is = seen known all outside (λ key. refl) at term field ∙ valued_is piece (value_of term (field_sight known [])) v is
+  value_sound : (piece at : ℕ) (term : Term) (v : ℤ) → value_in piece known term ≡ Ok v → value_of term (sees known all outside at) ≡ Ok v
+  value_sound piece at term v is = seen known all outside (λ key. refl) at term ∙ valued_is piece (value_of term (field_sight known [])) v is
 
-  number_sound : (piece at : ℕ) (form : NumForm) (width : ℤ) (fixed : Option Term) → IsField fixed → (value : Option Tree) → NumberValue width fixed value → (bits : List Bool)
+  number_sound : (piece at : ℕ) (form : NumForm) (width : ℤ) (fixed : Option Term) (value : Option Tree) → NumberValue width fixed value → (bits : List Bool)
       → (number_given piece known form width fixed value >>= λ n. Ok (number_bits (nat_abs width) n)) ≡ Ok bits
       → IsNumber form width fixed (sees known all outside at) value bits
-  number_sound piece at form width None field value has bits is =
+  number_sound piece at form width None value has bits is =
       (has.0, has.1, has.2, sym (same_ok _ bits is) ∙ ap (λ (o : Option Tree). number_bits (nat_abs width) (number_in o)) has.1)
-  number_sound piece at form width (Some term) field value has bits is =
+  number_sound piece at form width (Some term) value has bits is =
       let outer = chained (fixed_number piece known form width term) (λ n. Ok (number_bits (nat_abs width) n)) bits is in
       let inner = chained (value_in piece known term) (λ v. unless_fault (unless (fits_number form width v) (refusal 207 piece v)) (stored_number (nat_abs width) v)) outer.value outer.is in
       let free = unrefused (unless (fits_number form width inner.value) (refusal 207 piece inner.value)) (stored_number (nat_abs width) inner.value) outer.value inner.leads in
       (
         inner.value,
         has,
-        value_sound piece at term inner.value field inner.is,
+        value_sound piece at term inner.value inner.is,
         held (fits_number form width inner.value) (refusal 207 piece inner.value) free.0,
         sym (same_ok _ bits outer.leads) ∙ ap (number_bits (nat_abs width)) (sym free.1),
       )
@@ -120,10 +120,10 @@ module _ (known : Facts) (all : List Bool) where
       negative forms.WordLong is = cc
       negative forms.Zero is = cc
 
-  size_sound : (piece at : ℕ) (form : TextForm) (term : Option Term) → IsField term → (found : Option ℤ) → size_in piece known term ≡ Ok found → bad_size piece form found ≡ None
+  size_sound : (piece at : ℕ) (form : TextForm) (term : Option Term) (found : Option ℤ) → size_in piece known term ≡ Ok found → bad_size piece form found ≡ None
       → IsSize form (sees known all outside at) term (option_map nat_abs found)
-  size_sound piece at form None field found is allowed = ap (option_map nat_abs) (sym (same_ok None found is))
-  size_sound piece at form (Some term) field found is allowed =
+  size_sound piece at form None found is allowed = ap (option_map nat_abs) (sym (same_ok None found is))
+  size_sound piece at form (Some term) found is allowed =
       let inner = chained (value_in piece known term) (λ size. Ok (Some size)) found is in
       let same : Some inner.value ≡ found = same_ok _ found inner.leads in
       let fits : may_be_size form inner.value ≡ true =
@@ -131,7 +131,7 @@ module _ (known : Facts) (all : List Bool) where
       let natural = may_be_natural form inner.value fits in
       (
         nat_abs inner.value,
-        value_sound piece at term inner.value field inner.is ∙ ap (λ (z : ℤ). Ok z) (sym natural),
+        value_sound piece at term inner.value inner.is ∙ ap (λ (z : ℤ). Ok z) (sym natural),
         subst (λ (z : ℤ). may_be_size form z ≡ true) (sym natural) fits,
         ap (option_map nat_abs) (sym same),
       )
@@ -146,9 +146,9 @@ module _ (known : Facts) (all : List Bool) where
       (has.1 ∙ ap (λ (bs : List ℕ). Some (trees.Text bs)) (ap text_in (sym has.1) ∙ same_ok (text_in value) bytes is), tt)
   bytes_sound piece form (Some parts) size value has bytes is = (has, joined_is piece (text_bytes_of nowhere known parts) bytes is)
 
-  text_sound : (piece at : ℕ) (text : PlainText) → IsField text.size → (value : Option Tree) → TextValue text.fixed value → (bits : List Bool)
+  text_sound : (piece at : ℕ) (text : PlainText) (value : Option Tree) → TextValue text.fixed value → (bits : List Bool)
       → text_laid piece known text value ≡ Ok bits → IsText false text known (sees known all outside at) value bits
-  text_sound piece at text field value has bits is =
+  text_sound piece at text value has bits is =
       let one = chained (size_in piece known text.size) (λ size. bytes_given piece known text.fixed value >>= λ bytes. bytes_laid piece text.form size bytes) bits is in
       let two = chained (bytes_given piece known text.fixed value) (λ bytes. bytes_laid piece text.form one.value bytes) bits one.leads in
       let free = unrefused (text_refusal piece text.form one.value (length two.value)) (bits_of (stored_text text.form (option_map nat_abs one.value) two.value)) bits two.leads in
@@ -156,20 +156,20 @@ module _ (known : Facts) (all : List Bool) where
       let short = first_none (bad_length piece text.form one.value (length two.value)) None each.1 in
       record {
         size = option_map nat_abs one.value;
-        has_size = size_sound piece at text.form text.size field one.value one.is each.0;
+        has_size = size_sound piece at text.form text.size one.value one.is each.0;
         bytes = two.value;
         are_bytes = bytes_sound piece text.form text.fixed (option_map nat_abs one.value) value has two.value two.is;
         short = not_true _ (held _ (refusal 216 piece (pos (length two.value))) short.0);
         are_bits = sym free.1;
       }
 
-  stored_sound : (piece : Piece) → HasFields piece → (value : Option Tree) → PieceValue piece value → (draft : Draft) (bits : List Bool)
+  stored_sound : (piece : Piece) (value : Option Tree) → PieceValue piece value → (draft : Draft) (bits : List Bool)
       → piece_laid known draft piece value ≡ Ok bits → IsStored false piece known (length draft.bits) (sees known all outside (length draft.bits)) value bits
-  stored_sound (OneNumber number) field value has draft bits is =
-      number_sound draft.piece (length draft.bits) number.form number.width number.fixed field value has bits is
-  stored_sound (OneText text) field value has draft bits is = text_sound draft.piece (length draft.bits) text field value has bits is
-  stored_sound (Zeros count) field value has draft bits is = (has, sym (same_ok _ bits is))
-  stored_sound (Filler unit) field value has draft bits is = (has, sym (same_ok _ bits is))
+  stored_sound (OneNumber number) value has draft bits is =
+      number_sound draft.piece (length draft.bits) number.form number.width number.fixed value has bits is
+  stored_sound (OneText text) value has draft bits is = text_sound draft.piece (length draft.bits) text value has bits is
+  stored_sound (Zeros count) value has draft bits is = (has, sym (same_ok _ bits is))
+  stored_sound (Filler unit) value has draft bits is = (has, sym (same_ok _ bits is))
 
   -- what a draft grew by
   record Grew (draft next : Draft) : Type 0 where
@@ -211,9 +211,9 @@ module _ (known : Facts) (all : List Bool) where
     pub spells : Is (length draft.bits) late_after
     pub front : Front draft
 
-  pub piece_sound : (met : Names) (piece : Piece) → HasFields piece → (value : Option Tree) → PieceValue piece value → (draft next : Draft) → lay known draft piece value ≡ Ok next → Front next
+  pub piece_sound : (met : Names) (piece : Piece) (value : Option Tree) → PieceValue piece value → (draft next : Draft) → lay known draft piece value ≡ Ok next → Front next
       → (late : Late) → Sounds (λ at late_after. PieceSpells false known all outside met piece value at late (length next.bits) late_after) draft
-  piece_sound met piece field value has draft next is front late =
+  piece_sound met piece value has draft next is front late =
       let inner = chained (piece_laid known draft piece value) (with_bits draft) next is in
       let grew = with_grew draft next inner.value inner.leads in
       let long : length next.bits ≡ length draft.bits + length inner.value = ap length grew.0 ∙ length-append draft.bits inner.value in
@@ -221,7 +221,7 @@ module _ (known : Facts) (all : List Bool) where
         late_after = late ++ marks met late piece (sees known all outside (length draft.bits)) (length inner.value);
         spells = record {
           bits = inner.value;
-          stored = stored_sound piece field value has draft inner.value inner.is;
+          stored = stored_sound piece value has draft inner.value inner.is;
           there = there draft next inner.value grew.0 front;
           ends = long;
           short = subst (λ n. n ≤ most_bits) (sym long) grew.1;
@@ -232,23 +232,23 @@ module _ (known : Facts) (all : List Bool) where
 
   -- One behind the other.
 
-  module _ {A : Type 0} (Is : A → Option Tree → RowSpells) (takes : A → Bool) (lay_one : Draft → A → Option Tree → Result Draft Refusal) (Good : A → Type 0) (Has : A → Option Tree → Type 0)
-      (sounds : (x : A) → Good x → (value : Option Tree) → Has x value → (draft next : Draft) → lay_one draft x value ≡ Ok next → Front next → (late : Late)
+  module _ {A : Type 0} (Is : A → Option Tree → RowSpells) (takes : A → Bool) (lay_one : Draft → A → Option Tree → Result Draft Refusal) (Has : A → Option Tree → Type 0)
+      (sounds : (x : A) (value : Option Tree) → Has x value → (draft next : Draft) → lay_one draft x value ≡ Ok next → Front next → (late : Late)
           → Sounds (λ at late_after. Is x value at late (length next.bits) late_after) draft) where
-    pub order_sound : (xs : List A) → AllByRecursion Good xs → (values : List Tree) → Fed takes Has xs values → (draft next : Draft) → in_order takes lay_one draft xs values ≡ Ok next → Front next
+    pub order_sound : (xs : List A) (values : List Tree) → Fed takes Has xs values → (draft next : Draft) → in_order takes lay_one draft xs values ≡ Ok next → Front next
         → (late : Late) → Sounds (λ at late_after. InOrder Is xs values at late (length next.bits) late_after) draft
-    order_sound [] each values fed draft next is front late =
+    order_sound [] values fed draft next is front late =
         let same : draft ≡ next = same_ok draft next is in
         record {
           late_after = late;
           spells = (fed, ap (λ (d : Draft). length d.bits) (sym same), refl);
           front = subst Front (sym same) front;
         }
-    order_sound (x ∷ xs) each values fed draft next is front late =
+    order_sound (x ∷ xs) values fed draft next is front late =
         let inner = chained (lay_one draft x (first_value (takes x) values)) (λ mid. in_order takes lay_one mid xs (other_values (takes x) values)) next is in
-        let mid_front = order_sound xs each.1 (other_values (takes x) values) fed.2 inner.value next inner.leads front late in
-        let one = sounds x each.0 (first_value (takes x) values) fed.0 draft inner.value inner.is mid_front.front late in
-        let more = order_sound xs each.1 (other_values (takes x) values) fed.2 inner.value next inner.leads front one.late_after in
+        let mid_front = order_sound xs (other_values (takes x) values) fed.2 inner.value next inner.leads front late in
+        let one = sounds x (first_value (takes x) values) fed.0 draft inner.value inner.is mid_front.front late in
+        let more = order_sound xs (other_values (takes x) values) fed.2 inner.value next inner.leads front one.late_after in
         record {
           late_after = more.late_after;
           spells = (first_value (takes x) values, other_values (takes x) values, length inner.value.bits, one.late_after, fed.1, one.spells, more.spells);

@@ -20,7 +20,7 @@ use Rattle.rz_types.specs.Range.{fits_number, may_be_size}
 use Rattle.rz_types.specs.Spells.{most_bits, put, sees, AreBytes, Filler, InOrder, IsNumber, IsSize, IsStored, IsText, Late, Names, OneNumber, OneText, Piece, PieceSpells, RowSpells, Zeros}
 use Rattle.rz_types.specs.Stored.{is_too_long, stored_number, stored_text}
 use Rattle.rz_types.specs.Text.{PlainPart}
-use Rattle.rz_types.specs.Value.{field_sight, is_field_expression, symbol_key}
+use Rattle.rz_types.specs.Value.{fact_of, field_sight, symbol_key}
 use Rattle.rz_types.specs.declared.field.NumForm.{NumForm}
 use Rattle.rz_types.specs.declared.field.TextForm.{TextForm}
 use Rattle.rz_types.specs.declared.tree.Tree.{Tree}
@@ -29,20 +29,6 @@ use Rattle.rz_layout.proofs.Room.{laid_in}
 
 abbrev pub good : {X : Type 0} → X → Result X Refusal
 good x = Ok x
-
--- Values: an expression of a field sees no bits, and no names but `true` and `false`.
-
-module _ (one other : Sight) (names : (key : Key) → one.names.give key ≡ other.names.give key) (facts : (w : _) → one.fact w ≡ other.fact w) where
-  pub same_value : (term : Term) → is_field_expression term ≡ true → value_of term one ≡ value_of term other
-  same_value (Constant number) is = refl
-  same_value (Named name) is = ap (known_value name) (names (place_key name))
-  same_value (RowsOf name) is = absurd cc
-  same_value (BitsAt name start width) is = absurd cc
-  same_value (FactOf which) is = ap (λ (z : ℤ). value_of (Constant (reduced z)) one) (facts which)
-  same_value (OfOne op operand) is = ap (λ (r : Result ℤ EvalFault). r >>= λ value. Ok (operate_one op value)) (same_value operand is)
-  same_value (OfTwo op left right) is =
-      let each = both (is_field_expression left) (is_field_expression right) is in
-      λ i. same_value left each.0 i >>= λ a. same_value right each.1 i >>= λ b. operate op a b
 
 no_take : (b : ℕ) → ◌≡◌ {A = List Bool} (take b []) []
 no_take zero = refl
@@ -54,34 +40,23 @@ take_more (suc a) b n [] is = no_take n ∙ sym (no_take b)
 take_more (suc a) b zero (x ∷ xs) is = absurd (omega (arith, is))
 take_more (suc a) b (suc n) (x ∷ xs) is = ap (λ (ys : List Bool). x ∷ ys) (take_more a b n xs (omega (arith, is)))
 
--- Pieces whose expressions are those of fields.
-
-abbrev pub IsField : Option Term → Type 0
-IsField None = Unit {0}
-IsField (Some term) = is_field_expression term ≡ true
-
-abbrev pub HasFields : Piece → Type 0
-HasFields (OneNumber number) = IsField number.fixed
-HasFields (OneText text) = IsField text.size
-HasFields (Zeros count) = Unit {0}
-HasFields (Filler unit) = Unit {0}
-
 module _ (known : Facts) (all : List Bool) (names : Environment) (give : (key : Key) → names.give key ≡ symbol_key [] key) where
-  pub seen : (at : ℕ) (term : Term) → is_field_expression term ≡ true → value_of term (sees known all names at) ≡ value_of term (field_sight known [])
-  seen at term is = same_value (sees known all names at) (field_sight known []) give (λ w. refl) term is
+  -- `true` and `false` have values, and no other name
+  pub seen : (at : ℕ) (term : Term) → value_of term (sees known all names at) ≡ value_of term (field_sight known [])
+  seen at term = λ i. value_of term (record { names = record { give = λ key. give key i }; bits = λ first width. None; fact = fact_of known })
 
-  value_spelled : (piece at : ℕ) (term : Term) (v : ℤ) → is_field_expression term ≡ true → value_of term (sees known all names at) ≡ Ok v → value_in piece known term ≡ Ok v
-  value_spelled piece at term v field found = ap (valued piece) (sym (seen at term field) ∙ found)
+  value_spelled : (piece at : ℕ) (term : Term) (v : ℤ) → value_of term (sees known all names at) ≡ Ok v → value_in piece known term ≡ Ok v
+  value_spelled piece at term v found = ap (valued piece) (sym (seen at term) ∙ found)
 
-  number_spelled : (piece at : ℕ) (form : NumForm) (width : ℤ) (fixed : Option Term) → IsField fixed → (value : Option Tree) (bits : List Bool)
+  number_spelled : (piece at : ℕ) (form : NumForm) (width : ℤ) (fixed : Option Term) (value : Option Tree) (bits : List Bool)
       → IsNumber form width fixed (sees known all names at) value bits
       → (number_given piece known form width fixed value >>= λ n. Ok (number_bits (nat_abs width) n)) ≡ Ok bits
-  number_spelled piece at form width None field value bits it =
+  number_spelled piece at form width None value bits it =
       ap (λ (o : Option Tree). good (number_bits (nat_abs width) (number_in o))) it.1 ∙ ap good (sym it.3)
-  number_spelled piece at form width (Some term) field value bits it =
+  number_spelled piece at form width (Some term) value bits it =
       ap (λ (r : Result ℤ Refusal).
           (r >>= λ v. unless_fault (unless (fits_number form width v) (refusal 207 piece v)) (stored_number (nat_abs width) v)) >>= λ n. good (number_bits (nat_abs width) n))
-      (value_spelled piece at term it.0 field it.2)
+      (value_spelled piece at term it.0 it.2)
       ∙ ap (λ (b : Bool).
           unless_fault (unless b (refusal 207 piece it.0)) (stored_number (nat_abs width) it.0) >>= λ n. good (number_bits (nat_abs width) n))
       it.3
@@ -94,11 +69,11 @@ module _ (known : Facts) (all : List Bool) (names : Environment) (give : (key : 
     same : option_map nat_abs found ≡ size
     allowed : bad_size piece form found ≡ None
 
-  size_spelled : (piece at : ℕ) (form : TextForm) (term : Option Term) → IsField term → (size : Option ℕ) → IsSize form (sees known all names at) term size → HasSize piece form term size
-  size_spelled piece at form None field size it = record { found = None; is = refl; same = sym it; allowed = refl }
-  size_spelled piece at form (Some term) field size it = record {
+  size_spelled : (piece at : ℕ) (form : TextForm) (term : Option Term) (size : Option ℕ) → IsSize form (sees known all names at) term size → HasSize piece form term size
+  size_spelled piece at form None size it = record { found = None; is = refl; same = sym it; allowed = refl }
+  size_spelled piece at form (Some term) size it = record {
     found = Some (pos it.0);
-    is = ap (λ (r : Result ℤ Refusal). r >>= λ size. good (Some size)) (value_spelled piece at term (pos it.0) field it.1);
+    is = ap (λ (r : Result ℤ Refusal). r >>= λ size. good (Some size)) (value_spelled piece at term (pos it.0) it.1);
     same = sym it.3;
     allowed = ap (λ (b : Bool). unless b (refusal 207 piece (pos it.0))) it.2;
   }
@@ -108,10 +83,10 @@ module _ (known : Facts) (all : List Bool) (names : Environment) (give : (key : 
   bytes_spelled piece form None size value bytes it = ap (λ (o : Option Tree). good (text_in o)) it.0
   bytes_spelled piece form (Some parts) size value bytes it = ap (joined piece) it.1
 
-  text_spelled : (piece at : ℕ) (text : PlainText) → IsField text.size → (value : Option Tree) (bits : List Bool) → IsText false text known (sees known all names at) value bits
+  text_spelled : (piece at : ℕ) (text : PlainText) (value : Option Tree) (bits : List Bool) → IsText false text known (sees known all names at) value bits
       → text_laid piece known text value ≡ Ok bits
-  text_spelled piece at text field value bits it =
-      let s = size_spelled piece at text.form text.size field it.size it.has_size in
+  text_spelled piece at text value bits it =
+      let s = size_spelled piece at text.form text.size it.size it.has_size in
       let b = bytes_spelled piece text.form text.fixed it.size value it.bytes it.are_bytes in
       let too : is_too_long text.form (option_map nat_abs s.found) (length it.bytes) ≡ false =
       ap (λ (o : Option ℕ). is_too_long text.form o (length it.bytes)) s.same ∙ it.short in
@@ -120,13 +95,13 @@ module _ (known : Facts) (all : List Bool) (names : Environment) (give : (key : 
           (bits_of (stored_text text.form (s.same i) it.bytes)))
       ∙ ap good (sym it.are_bits)
 
-  pub stored_spelled : (piece : Piece) → HasFields piece → (draft : Draft) (value : Option Tree) (bits : List Bool)
+  pub stored_spelled : (piece : Piece) (draft : Draft) (value : Option Tree) (bits : List Bool)
       → IsStored false piece known (length draft.bits) (sees known all names (length draft.bits)) value bits → piece_laid known draft piece value ≡ Ok bits
-  stored_spelled (OneNumber number) field draft value bits it =
-      number_spelled draft.piece (length draft.bits) number.form number.width number.fixed field value bits it
-  stored_spelled (OneText text) field draft value bits it = text_spelled draft.piece (length draft.bits) text field value bits it
-  stored_spelled (Zeros count) field draft value bits it = ap good (sym it.1)
-  stored_spelled (Filler unit) field draft value bits it = ap good (sym it.1)
+  stored_spelled (OneNumber number) draft value bits it =
+      number_spelled draft.piece (length draft.bits) number.form number.width number.fixed value bits it
+  stored_spelled (OneText text) draft value bits it = text_spelled draft.piece (length draft.bits) text value bits it
+  stored_spelled (Zeros count) draft value bits it = ap good (sym it.1)
+  stored_spelled (Filler unit) draft value bits it = ap good (sym it.1)
 
   -- the draft has all bits up to a place
   pub record Fits (draft : Draft) (at : ℕ) : Type 0 where
@@ -140,14 +115,14 @@ module _ (known : Facts) (all : List Bool) (names : Environment) (give : (key : 
     pub is : laid ≡ Ok next
     pub fits : Fits next after
 
-  pub piece_spelled : (met : Names) (piece : Piece) → HasFields piece → (value : Option Tree) (at after : ℕ) (late late_after : Late)
+  pub piece_spelled : (met : Names) (piece : Piece) (value : Option Tree) (at after : ℕ) (late late_after : Late)
       → PieceSpells false known all names met piece value at late after late_after → (draft : Draft) → Fits draft at → Goes (lay known draft piece value) after
-  piece_spelled met piece field value at after late late_after it draft fits =
+  piece_spelled met piece value at after late late_after it draft fits =
       let stored = subst (λ (n : ℕ). IsStored false piece known n (sees known all names n) value it.bits) (sym fits.size) it.stored in
       let ends : length draft.bits + length it.bits ≡ after = ap (λ n. n + length it.bits) fits.size ∙ sym it.ends in
       record {
         next = record { piece = one_more draft.piece; bits = draft.bits ++ it.bits };
-        is = ap (λ (r : Result (List Bool) Refusal). r >>= with_bits draft) (stored_spelled piece field draft value it.bits stored)
+        is = ap (λ (r : Result (List Bool) Refusal). r >>= with_bits draft) (stored_spelled piece draft value it.bits stored)
             ∙ laid_in draft it.bits (subst (λ n. n ≤ most_bits) (sym ends) it.short);
         fits = record {
           front = (λ i. fits.front i ++ sym it.there i) ∙ sym (take_more at (length it.bits) after all it.ends);
@@ -157,9 +132,9 @@ module _ (known : Facts) (all : List Bool) (names : Environment) (give : (key : 
 
   -- One behind the other.
 
-  module _ {A : Type 0} (Is : A → Option Tree → RowSpells) (takes : A → Bool) (lay_one : Draft → A → Option Tree → Result Draft Refusal) (Good : A → Type 0)
-      (taken : (x : A) → Good x → (value : Option Tree) (at after : ℕ) (late late_after : Late) → Is x value at late after late_after → is_some value ≡ takes x)
-      (goes : (x : A) → Good x → (value : Option Tree) (at after : ℕ) (late late_after : Late) → Is x value at late after late_after → (draft : Draft) → Fits draft at
+  module _ {A : Type 0} (Is : A → Option Tree → RowSpells) (takes : A → Bool) (lay_one : Draft → A → Option Tree → Result Draft Refusal)
+      (taken : (x : A) (value : Option Tree) (at after : ℕ) (late late_after : Late) → Is x value at late after late_after → is_some value ≡ takes x)
+      (goes : (x : A) (value : Option Tree) (at after : ℕ) (late late_after : Late) → Is x value at late after late_after → (draft : Draft) → Fits draft at
           → Goes (lay_one draft x value) after) where
     first_is : (takes : Bool) (value : Option Tree) (rest : List Tree) → is_some value ≡ takes → first_value takes (put value rest) ≡ value
     first_is true (Some value) rest is = refl
@@ -173,14 +148,14 @@ module _ (known : Facts) (all : List Bool) (names : Environment) (give : (key : 
     others_are false (Some value) rest is = absurd cc
     others_are false None rest is = refl
 
-    pub order_spelled : (xs : List A) → AllByRecursion Good xs → (values : List Tree) (at after : ℕ) (late late_after : Late) → InOrder Is xs values at late after late_after
+    pub order_spelled : (xs : List A) (values : List Tree) (at after : ℕ) (late late_after : Late) → InOrder Is xs values at late after late_after
         → (draft : Draft) → Fits draft at → Goes (in_order takes lay_one draft xs values) after
-    order_spelled [] each values at after late late_after it draft fits =
+    order_spelled [] values at after late late_after it draft fits =
         record { next = draft; is = refl; fits = subst (Fits draft) (sym it.1) fits }
-    order_spelled (x ∷ xs) each values at after late late_after (value, rest, mid, late_mid, are, one, others) draft fits =
-        let is_taken = taken x each.0 value at mid late late_mid one in
-        let step = goes x each.0 value at mid late late_mid one draft fits in
-        let more = order_spelled xs each.1 rest mid after late_mid late_after others step.next step.fits in
+    order_spelled (x ∷ xs) values at after late late_after (value, rest, mid, late_mid, are, one, others) draft fits =
+        let is_taken = taken x value at mid late late_mid one in
+        let step = goes x value at mid late late_mid one draft fits in
+        let more = order_spelled xs rest mid after late_mid late_after others step.next step.fits in
         record {
           next = more.next;
           is = (λ i. lay_one draft x ((ap (first_value (takes x)) are ∙ first_is (takes x) value rest is_taken) i)

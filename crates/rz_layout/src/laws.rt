@@ -1,12 +1,10 @@
-ghost use Rattle.std.specs.Prelude.{◌≡◌, ℕ, List, true};
+ghost use Rattle.std.specs.Prelude.{◌≡◌, ℕ, List};
 ghost use Rattle.std.specs.declared.result.Result.{Result};
 ghost use Rattle.rz_core.specs.declared.facts.Facts.{Facts};
 ghost use Rattle.rz_layout.specs.Compiled.{IsCompiled};
 ghost use Rattle.rz_types.specs.Field.{PlainField};
 ghost use Rattle.rz_types.specs.Laid.{Refusal};
 ghost use Rattle.rz_types.specs.Row.{IsRow};
-ghost use Rattle.rz_types.specs.Shape.{is_well_shaped};
-ghost use Rattle.rz_types.specs.Rules.{keeps_rules};
 ghost use Rattle.rz_types.specs.declared.tree.Tree.{Tree};
 
 use rz_bits::{
@@ -14,12 +12,12 @@ use rz_bits::{
     numbers_are_written_back,
 };
 
-/// A law, with nothing to run: under the fields of a template a row spells exactly one list of bytes, or has exactly one
+/// A law, with nothing to run: under the fields of a type a row spells exactly one list of bytes, or has exactly one
 /// refusal, and never both.
 pub fn one_spelling()
-    ensures some { (known : Facts) (body : List PlainField) (row : List Tree) → is_well_shaped body ≡ true → keeps_rules body ≡ true → IsRow body row
+    ensures some { (known : Facts) (body : List PlainField) (row : List Tree) → IsRow body row
         → (answer : Result (List ℕ) Refusal) × IsCompiled known body row answer }
-    ensures one { (known : Facts) (body : List PlainField) (row : List Tree) → is_well_shaped body ≡ true
+    ensures one { (known : Facts) (body : List PlainField) (row : List Tree)
         → (answer other : Result (List ℕ) Refusal) → IsCompiled known body row answer → IsCompiled known body row other → answer ≡ other }
 {
     bytes_are_read_back();

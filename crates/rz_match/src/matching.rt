@@ -9,7 +9,7 @@ ghost use Rattle.rz_items.specs.Places.{AreItemsWithin};
 ghost use Rattle.rz_match.specs.Match.{IsMatch};
 ghost use Rattle.rz_match.specs.Matched.{item_for, matched};
 ghost use Rattle.rz_types.specs.Field.{plain_body, plain_field};
-ghost use Rattle.rz_types.specs.Row.{takes_value, IsRow};
+ghost use Rattle.rz_types.specs.Row.{IsRow};
 ghost use Rattle.rz_types.specs.Template.{template_of};
 ghost use Rattle.rz_types.specs.declared.tree.Tree.{Tree as tree};
 
@@ -19,7 +19,7 @@ use crate::number::number_for;
 use crate::text::text_for;
 use rz_core::{Facts, Fault, Mark, Stop};
 use rz_items::{Item, Items};
-use rz_types::{Field, Row, Template, Tree};
+use rz_types::{Field, Row, Template, Tree, takes_value};
 use std::alloc::Global;
 
 /// The row of the items of a statement at this place under a template, where of the resource so much is known: one
@@ -78,18 +78,6 @@ fn match_all(
     match items.get(before) {
         None => Ok(row),
         Some(item) => Err(too_many(item, items)),
-    }
-}
-
-/// Whether the row has the value of the field: the declaration gives none.
-fn takes_value(field: &Field) -> bool
-    ensures { result ≡ takes_value (plain_field field.now) }
-{
-    match field {
-        Field::Num(number) => number.fixed.is_none(),
-        Field::Text(text) => text.fixed.is_none(),
-        Field::Points(points) => points.fixed.is_none(),
-        Field::Fill(_, _) | Field::Align(_) => false,
     }
 }
 

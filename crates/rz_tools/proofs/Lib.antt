@@ -6,6 +6,7 @@ pub mod Warnings
 pub mod OneAnswer
 pub mod Forks
 pub mod Stepping
+pub mod Resources
 pub mod PutOut
 pub mod Values
 pub mod Again

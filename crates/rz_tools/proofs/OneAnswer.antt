@@ -1,7 +1,9 @@
 -- Words have one answer at most.
 use Rattle.std.proofs.Common.{◌≡◌, ℕ, List, [], ◌∷◌, map, Ok, Err, sym, ap, subst, ◌∙◌}
 use Rattle.std.specs.declared.result.Result.{Result}
+use Rattle.rz_core.specs.declared.facts.Facts.{Facts}
 use Rattle.rz_core.specs.declared.fault.Fault.{Fault}
+use Rattle.rz_core.specs.declared.fault.Mark.{Mark}
 use Rattle.rz_core.specs.declared.moment.Moment.{Moment}
 use Rattle.rz_folder.specs.Folder.{Files}
 use Rattle.rz_lex.specs.declared.token.Token.{Token}
@@ -14,11 +16,18 @@ use Rattle.rz_tools.specs.Answer.{misused, or_refused, shown, written, Answer}
 use Rattle.rz_tools.specs.Program.{Answers, AnswersTo, command, misplaced}
 use Rattle.rz_tools.specs.Rez.{fork_of_work, setting_of, Compiles, Forked, HasFork, Said, Unsaid}
 use Rattle.rz_tools.specs.Warning.{warning_lines}
-use Rattle.rz_tools.specs.Step.{nothing_made, work_behind, Means, Steps, WarnedFault, WithWarnings, Work}
-use Rattle.rz_stmt.specs.Grammar.{mark_of, Parses, Statement}
+use Rattle.rz_tools.specs.Step.{declared, list_behind, nothing_made, with_list, IsBehind, Means, Steps, WarnedFault, WithWarnings, Work}
+use Rattle.rz_stmt.specs.Grammar.{mark_of, Compiles as compiled_statement, Data, Declares, Empty, Parses, Statement}
 use Rattle.rz_core.specs.Answers.{Then}
 use Rattle.rz_tools.specs.ToolWords.{numbered}
 use Rattle.rz_tools.specs.declared.setting.Setting.{Setting}
+use Rattle.rz_items.specs.Item.{PlainItem}
+use Rattle.rz_layout.specs.Compiled.{IsCompiled}
+use Rattle.rz_match.specs.Match.{IsMatch}
+use Rattle.rz_types.specs.Field.{PlainField}
+use Rattle.rz_types.specs.Laid.{Refusal}
+use Rattle.rz_types.specs.declared.tree.Tree.{Tree}
+use Rattle.rz_tools.proofs.Resources.{once_list}
 use Rattle.rz_core.proofs.Once.{err, ok, ok_or_err, once_is, once_then, same_err, same_ok, Once}
 
 -- The laws of the crates below.
@@ -70,12 +79,26 @@ once_unsaid {X} answers once (Err a) (Err b) is also =
     same_err {X = X} _ _ (once (Err (record { fault = a.fault; files = a.files })) (Err (record { fault = b.fault; files = b.files })) is.0 also.0) in
     λ i. Err (record { fault = (same i).fault; files = (same i).files; said = (is.1 ∙ sym also.1) i })
 
-module _ (cutting : OneCutting) (statement_law : OneStatement) where
+abbrev pub OneMatch : Type 0
+OneMatch = (known : Facts) (place : Mark) (body : List PlainField) (items : List PlainItem) (answer another : Result (List Tree) Fault)
+    → IsMatch known place body items answer → IsMatch known place body items another → answer ≡ another
+
+abbrev pub OneSpelling : Type 0
+OneSpelling = (known : Facts) (body : List PlainField) (row : List Tree) (answer another : Result (List ℕ) Refusal)
+    → IsCompiled known body row answer → IsCompiled known body row another → answer ≡ another
+
+module _ (cutting : OneCutting) (statement_law : OneStatement) (matching : OneMatch) (spelling : OneSpelling) where
+  once_behind : (setting : Setting) (mark : Mark) (work : Work) (statement : Statement) → Once (IsBehind setting mark work statement)
+  once_behind setting mark work Empty = once_is (Ok work)
+  once_behind setting mark work (Data raw) = once_is (with_list work (list_behind setting mark work.list raw))
+  once_behind setting mark work (compiled_statement one) a b is also =
+      is.2 ∙ ap (with_list work) (once_list matching spelling setting mark work.types work.list one is.0 also.0 is.1 also.1) ∙ sym also.2
+  once_behind setting mark work (Declares one) = once_is (declared setting mark work one)
+
   one_step : (setting : Setting) (work : Work) (tokens : List Token) → Once (Steps setting work tokens)
   one_step setting work tokens =
-      once_with work.warnings (Then (Parses tokens) (λ statement answer. answer ≡ work_behind setting (mark_of tokens) work statement))
-      (once_then (Parses tokens) (λ statement answer. answer ≡ work_behind setting (mark_of tokens) work statement) (statement_law tokens)
-      (λ statement. once_is (work_behind setting (mark_of tokens) work statement)))
+      once_with work.warnings (Then (Parses tokens) (IsBehind setting (mark_of tokens) work))
+      (once_then (Parses tokens) (IsBehind setting (mark_of tokens) work) (statement_law tokens) (once_behind setting (mark_of tokens) work))
 
   one_meaning : (setting : Setting) (work : Work) (statements : List (List Token)) → Once (Means setting work statements)
   one_meaning setting work [] = once_is (Ok work)

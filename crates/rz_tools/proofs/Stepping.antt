@@ -12,7 +12,8 @@ use Rattle.rz_core.specs.Stop.{Gives, OnFault, ◌>>=◌}
 use Rattle.rz_core.specs.declared.stop.Stop.{Stop}
 use Rattle.rz_core.specs.declared.stop.Stop.TheVariants.{Refused, NoMemory}
 use Rattle.rz_stmt.specs.Constants as declare
-use Rattle.rz_stmt.specs.Grammar.{mark_of, Data, Declares, Empty, Gave, Parses}
+use Rattle.rz_stmt.specs.Grammar.{mark_of, Compiles, Data, Declares, Empty, Gave, Parses}
+use Rattle.rz_items.specs.Compile.{Compile}
 use Rattle.rz_stmt.specs.Raw.{Raw}
 use Rattle.rz_tools.specs.Data.{resource_of}
 use Rattle.rz_stmt.specs.Statements.{AreStatements}
@@ -23,7 +24,7 @@ use Rattle.rz_brackets.specs.declared.span.Span.{Span}
 use Rattle.rz_tools.specs.Held.{work_of}
 use Rattle.rz_tools.specs.Warning.{AreWarnings}
 use Rattle.rz_tools.specs.declared.step.Work as held
-use Rattle.rz_tools.specs.Step.{declared, list_behind, nothing_made, put_unless_protected, tokens_at, with_list, IsSpan, Means, Stepped, Steps, WarnedFault, Work, Worked}
+use Rattle.rz_tools.specs.Step.{declared, list_behind, nothing_made, put_unless_protected, tokens_at, with_list, IsListBehind, IsSpan, Means, Stepped, Steps, WarnedFault, Work, Worked}
 use Rattle.rz_tools.specs.declared.setting.Setting.{Setting}
 
 -- whatever the rest of the statements means after this, all mean so
@@ -132,6 +133,14 @@ module _ (setting : Setting) (work : Work) (ts : List Token) where
   raw_done raw mark (Err (Refused fault)) after parsed same done =
       (inl (Data raw, parsed, ap (with_list work) (done ∙ ap (λ m. list_behind setting m work.list raw) (sym same))), refl)
   raw_done raw mark (Err NoMemory) after parsed same done = tt
+
+  pub compiled_done : (one : Compile) (mark : Mark) (result : Result (Unit {0}) (Stop Fault)) (after : List Resource) → Parses ts (Ok (Compiles one)) → mark_of ts ≡ mark
+      → Stepped (IsListBehind setting mark work.types work.list one) result after → Worked (Steps setting work ts) result (record work { list = after })
+  compiled_done one mark (Ok nothing) after parsed same done =
+      inl (Compiles one, parsed, (Ok after, subst (λ (m : Mark). IsListBehind setting m work.types work.list one (Ok after)) (sym same) done, refl))
+  compiled_done one mark (Err (Refused fault)) after parsed same done =
+      (inl (Compiles one, parsed, (Err fault, subst (λ (m : Mark). IsListBehind setting m work.types work.list one (Err fault)) (sym same) done, refl)), refl)
+  compiled_done one mark (Err NoMemory) after parsed same done = tt
 
   pub declare_done : (one : declare.Declare) (mark : Mark) (result : Result (Unit {0}) (Stop Fault)) (after : Work) → Parses ts (Ok (Declares one)) → mark_of ts ≡ mark
       → Stepped (λ answer. answer ≡ declared setting mark work one) result after → OnFault result (λ fault. after.warnings ≡ work.warnings)

@@ -15,7 +15,8 @@ use Rattle.rz_core.specs.declared.resource.Resource.{Resource}
 use Rattle.rz_show.specs.Statement.{attributes_of, id_term, name_part, shown_raw, text_parts, IsStored}
 use Rattle.rz_types.specs.Text.{bytes_in, bytes_of, Plain}
 use Rattle.rz_types.specs.Value.{number_of}
-use Rattle.rz_tools.specs.Data.{bits_behind_all, contents_of, head_facts, id_of, most_bytes, name_of, resource_of, short_bytes, short_name}
+use Rattle.rz_tools.specs.Data.{contents_of, most_bytes, resource_of, short_bytes}
+use Rattle.rz_tools.specs.Head.{bits_behind_all, head_facts, id_of, name_of, short_name}
 use Rattle.rz_tools.specs.declared.setting.Setting.{Setting}
 
 module _ (mark : Mark) where
@@ -28,7 +29,7 @@ module _ (mark : Mark) where
   id_inside (negsuc n) fits = rw (le-leb n 32767 (omega (arith, fits))) refl
 
   pieces_again : (known : Facts) (pieces : List (List ℕ)) (whole : List ℕ) → flat_map (λ piece. piece) pieces ≡ whole → bytes_of mark known (text_parts pieces) ≡ Ok whole
-  pieces_again known pieces whole is = ap (λ (x : List ℕ). Ok x) (flat_map-map bytes_in (λ (piece : List ℕ). Plain piece) pieces ∙ is)
+  pieces_again known pieces whole is = ap (λ (x : List ℕ). Ok x) (flat_map-map (bytes_in known) (λ (piece : List ℕ). Plain piece) pieces ∙ is)
 
   name_value : (known : Facts) (pieces : List (List ℕ)) (name : List ℕ) → flat_map (λ piece. piece) pieces ≡ name → length name < 256 → name_of mark known (name_part pieces) ≡ Ok name
   name_value known [] name is short = ap (λ (x : List ℕ). Ok x) is

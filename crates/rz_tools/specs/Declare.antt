@@ -12,7 +12,7 @@ use Rattle.rz_core.specs.declared.stop.Stop.TheVariants.{Refused, NoMemory}
 use Rattle.rz_stmt.specs.Constants.{CopyOf, Fields, PlainMade}
 use Rattle.rz_declare.specs.declared.constants.Bounds.{Bounds}
 use Rattle.rz_declare.specs.declared.constants.Bounds.TheVariants as bounds
-use Rattle.rz_tools.specs.Data.{id_of}
+use Rattle.rz_tools.specs.Head.{id_of}
 use Rattle.rz_types.specs.Field.{PlainField}
 use Rattle.rz_types.specs.Rules.{checked}
 use Rattle.rz_types.specs.Table.{copied, Declaration}

@@ -5,7 +5,9 @@ pub mod Warning
 pub mod Made
 pub mod Answer
 pub mod WellFormed
+pub mod Head
 pub mod Data
+pub mod Resource
 pub mod Declare
 pub mod Step
 pub mod Held

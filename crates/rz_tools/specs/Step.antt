@@ -14,10 +14,12 @@ use Rattle.rz_lex.specs.declared.token.Token.{Token}
 use Rattle.rz_core.specs.Answers.{Then}
 use Rattle.rz_core.specs.declared.resource.OsType.{OsType}
 use Rattle.rz_stmt.specs.Constants as declare
-use Rattle.rz_stmt.specs.Grammar.{mark_of, Data, Declares, Empty, Parses, Statement}
+use Rattle.rz_stmt.specs.Grammar.{mark_of, Compiles, Data, Declares, Empty, Parses, Statement}
 use Rattle.rz_stmt.specs.Raw.{Raw}
 use Rattle.rz_brackets.specs.declared.span.Span.{Span}
+use Rattle.rz_items.specs.Compile.{Compile}
 use Rattle.rz_tools.specs.Data.{resource_of}
+use Rattle.rz_tools.specs.Resource.{IsResource}
 use Rattle.rz_tools.specs.Declare.{redeclared, scope_of, template_of}
 use Rattle.rz_tools.specs.ToolWords.{numbered}
 use Rattle.rz_tools.specs.declared.setting.Setting.{Setting}
@@ -79,11 +81,17 @@ abbrev pub declared : Setting → Mark → Work → declare.Declare → Result W
 declared setting mark work one =
     scope_of mark one.bounds >>= (λ scope. template_of mark work.types one.made >>= (λ template. Ok (with_type setting mark work (record { code = one.kind }) scope template)))
 
+-- the list behind a `resource` statement on this line
+abbrev pub IsListBehind : Setting → Mark → List Declaration → List Resource → Compile → Result (List Resource) Fault → Type 0
+IsListBehind setting mark types list one = Then (IsResource setting mark types one) (λ resource answer. answer ≡ put_unless_protected mark list resource)
+
 -- what is made behind a statement on this line
-abbrev pub work_behind : Setting → Mark → Work → Statement → Result Work Fault
-work_behind setting mark work Empty = Ok work
-work_behind setting mark work (Data raw) = with_list work (list_behind setting mark work.list raw)
-work_behind setting mark work (Declares one) = declared setting mark work one
+abbrev pub IsBehind : Setting → Mark → Work → Statement → Result Work Fault → Type 0
+IsBehind setting mark work Empty answer = answer ≡ Ok work
+IsBehind setting mark work (Data raw) answer = answer ≡ with_list work (list_behind setting mark work.list raw)
+IsBehind setting mark work (Compiles one) answer =
+    (list : Result (List Resource) Fault) × IsListBehind setting mark work.types work.list one list × (answer ≡ with_list work list)
+IsBehind setting mark work (Declares one) answer = answer ≡ declared setting mark work one
 
 -- a fault, and what was warned of before it
 pub record WarnedFault : Type 0 where
@@ -97,7 +105,7 @@ WithWarnings warnings answers (Err stopped) = answers (Err stopped.fault) × (st
 
 abbrev pub Steps : Setting → Work → List Token → Result Work WarnedFault → Type 0
 Steps setting work tokens =
-    WithWarnings work.warnings (Then (Parses tokens) (λ statement answer. answer ≡ work_behind setting (mark_of tokens) work statement))
+    WithWarnings work.warnings (Then (Parses tokens) (IsBehind setting (mark_of tokens) work))
 
 -- what is made after all statements, or the first fault; in each the words `rez` and `derez` are numbers
 abbrev pub Means : Setting → Work → List (List Token) → Result Work WarnedFault → Type 0

@@ -10,7 +10,7 @@ ghost use Rattle.rz_tools.specs.Step.{declared, Stepped};
 ghost use Rattle.rz_types.specs.Template.{plain_templates};
 ghost use Rattle.rz_types.specs.TypeTable.{table_of};
 
-use crate::data::id_of;
+use crate::head::id_of;
 use crate::setting::Setting;
 use crate::step::Work;
 use rz_core::{Fault, Kept, Mark, OsType, Stop};

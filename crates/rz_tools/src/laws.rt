@@ -13,6 +13,8 @@ ghost use Rattle.rz_tools.specs.declared.outcome.Outcome.TheVariants.{Done, NoMe
 
 use rz_expr::{attribute_words_are_spelled, keywords_are_spelled};
 use rz_fork::admitted_forks_fit;
+use rz_layout::one_spelling;
+use rz_match::one_match;
 use rz_pre::one_program;
 use rz_show::{shown_statements, shown_text};
 use rz_stmt::{one_cutting, one_statement};
@@ -27,6 +29,8 @@ pub fn one_answer()
     one_program();
     one_cutting();
     one_statement();
+    one_match();
+    one_spelling();
     one_command();
 }
 

@@ -4,23 +4,28 @@ ghost use Rattle.rz_core.specs.Message.{IsNameable};
 ghost use Rattle.rz_core.specs.Stop.{OnFault};
 ghost use Rattle.rz_lex.specs.Lexeme.{AreLexed};
 ghost use Rattle.rz_lex.specs.declared.token.Token.{Token};
+ghost use Rattle.rz_items.specs.Compile.{compile_of};
+ghost use Rattle.rz_items.specs.Item.{plain_items};
+ghost use Rattle.rz_items.specs.Places.{AreItemsWithin};
 ghost use Rattle.rz_stmt.specs.Raw.{raw_of};
 ghost use Rattle.rz_stmt.specs.Statements.{AreStatements};
 ghost use Rattle.rz_tools.specs.Held.{work_of};
 ghost use Rattle.rz_tools.specs.Warning.{AreWarnings};
 ghost use Rattle.rz_set.specs.ResSet.{found};
+ghost use Rattle.rz_types.specs.TypeTable.{table_of};
 ghost use Rattle.rz_tools.specs.ToolWords.{numbered};
-ghost use Rattle.rz_tools.specs.Step.{is_protected, list_behind, nothing_made, protected_fault, protects, put_unless_protected, tokens_at, IsSpan, Means, Stepped, Steps, Worked};
+ghost use Rattle.rz_tools.specs.Step.{is_protected, list_behind, nothing_made, protected_fault, protects, put_unless_protected, tokens_at, IsListBehind, IsSpan, Means, Stepped, Steps, Worked};
 
 use crate::data::resource_of;
 use crate::declare::declare_type;
+use crate::resource::resource_of_items;
 use crate::setting::Setting;
 use crate::tool_words::number_tool_words;
 use rz_core::{Fault, Kept, Listing, Mark, NoMemory, Resource, Stop};
 use rz_lex::Tokens;
 use rz_set::ResSet;
 use rz_statements::next_statement;
-use rz_stmt::{RawStmt, Span, Stmt, parse};
+use rz_stmt::{CompileStmt, RawStmt, Span, Stmt, parse};
 use rz_tokens::TokenStore;
 use rz_types::TypeTable;
 use std::alloc::Global;
@@ -123,6 +128,8 @@ fn step_at(
     match parse(alloc, tokens, span) {
         Ok(Stmt::Empty) => Ok(()),
         Ok(Stmt::Raw(raw)) => put_raw(alloc, &raw, mark, setting, &mut work.resources),
+        Ok(Stmt::Compile(stmt)) =>
+            put_compiled(alloc, &stmt, mark, setting, &work.types, &mut work.resources),
         Ok(Stmt::Declare(declare)) => declare_type(alloc, declare, mark, setting, work),
         Err(stop) => Err(stop),
     }
@@ -140,6 +147,24 @@ fn put_raw(
     ensures nameable { (files : ℕ) → mark.file < files → OnFault result (IsNameable files) }
 {
     match resource_of(alloc, raw, mark, setting) {
+        Ok(resource) => put(resources, resource, mark),
+        Err(stop) => Err(stop),
+    }
+}
+
+/// What a `resource` statement on this line does.
+fn put_compiled(
+    alloc: Global,
+    stmt: &CompileStmt,
+    mark: Mark,
+    setting: Setting,
+    types: &TypeTable,
+    resources: &mut ResSet,
+) -> Result<(), Stop<Fault>>
+    ensures put { Stepped (IsListBehind setting mark (table_of types.now) resources.old (compile_of stmt.now)) result resources.new }
+    ensures nameable { (files : ℕ) → mark.file < files → AreItemsWithin files (plain_items stmt.now.items) → OnFault result (IsNameable files) }
+{
+    match resource_of_items(alloc, stmt, mark, setting, types) {
         Ok(resource) => put(resources, resource, mark),
         Err(stop) => Err(stop),
     }

@@ -92,14 +92,9 @@ Late = List Bool
 abbrev pub is_late : Names → Late → Term → Sight → Bool
 is_late met late term sight = false
 
--- the number in so many bits from a bit on, where they stand before a place
-abbrev pub bits_before : List Bool → ℕ → ℤ → ℤ → Option ℤ
-bits_before all at (pos first) (pos width) = if nat_le (first + width) at then Some (pos (number_of (take width (drop first all)))) else None
-bits_before all at first width = None
-
--- what an expression sees at a place in a resource with these bits
+-- what an expression sees at a place in a resource with these bits; so far no expression of a field reads bits
 abbrev pub sees : Facts → List Bool → Environment → ℕ → Sight
-sees known all names at = record { names = names; bits = bits_before all at; fact = fact_of known }
+sees known all names at = record { names = names; bits = λ first width. None; fact = fact_of known }
 
 -- what has a value outside of all fields: `true` and `false`
 abbrev pub outside : Environment

@@ -21,7 +21,7 @@ returns-clause-compiled c =
     subst (λ (body : List PlainField). GivesLaid (laid c.args.facts.now body c.args.row.now) c.compile_fields.result) (ap plain_body c.as_slice.ensures ∙ c.body.ensures.body)
     (subst (λ (row : List Tree). GivesLaid (laid c.args.facts.now (plain_body c.as_slice.result.now) row) c.compile_fields.result) c.as_slice-2.ensures c.compile_fields.ensures) in
     compiled c.bytes_are_read_back.ensures c.bits_are_written_back.ensures c.filled_to_a_multiple.ensures.multiple
-    (small_bytes c.numbers_are_read_back.ensures c.numbers_are_written_back.ensures) c.args.facts.now (template_of c.args.template.now) c.args.row.now c.body.ensures.shaped c.requires.row
+    (small_bytes c.numbers_are_read_back.ensures c.numbers_are_written_back.ensures) c.args.facts.now (template_of c.args.template.now) c.args.row.now c.requires.row
     c.compile_fields.result gives
 
 pub returns-clause-every : goal.returns-clause-every
@@ -30,7 +30,7 @@ returns-clause-every c =
     subst (λ (body : List PlainField). GivesLaid (laid c.args.facts.now body c.args.row.now) c.compile_fields.result) (ap plain_body c.as_slice.ensures ∙ c.body.ensures.body)
     (subst (λ (row : List Tree). GivesLaid (laid c.args.facts.now (plain_body c.as_slice.result.now) row) c.compile_fields.result) c.as_slice-2.ensures c.compile_fields.ensures) in
     every_answer c.bytes_are_read_back.ensures c.bits_are_written_back.ensures c.filled_to_a_multiple.ensures.multiple
-    (small_bytes c.numbers_are_read_back.ensures c.numbers_are_written_back.ensures) c.args.facts.now (template_of c.args.template.now) c.args.row.now c.body.ensures.shaped
+    (small_bytes c.numbers_are_read_back.ensures c.numbers_are_written_back.ensures) c.args.facts.now (template_of c.args.template.now) c.args.row.now
     c.compile_fields.result gives
 
 pub returns-clause-number : goal.returns-clause-number

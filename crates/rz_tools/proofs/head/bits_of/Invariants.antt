@@ -1,7 +1,7 @@
 use Rattle.std.proofs.Common.{◌≡◌, drop, map}
 use Rattle.rz_stmt.specs.Head.{attribute_of}
-use Rattle.rz_tools.specs.Data.{bits_behind_all}
-use Rattle.rz_tools.proofs.data.bits_of.Given as goal
+use Rattle.rz_tools.specs.Head.{bits_behind_all}
+use Rattle.rz_tools.proofs.head.bits_of.Given as goal
 
 abbrev pub invariant-loop-attribute : goal.invariant-loop-attribute
 invariant-loop-attribute l =

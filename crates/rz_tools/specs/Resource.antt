@@ -1,0 +1,60 @@
+-- The resource of a `resource` statement: the values of its head, the type that is declared for it, the row that its items
+-- fit, and the bytes that the row spells, or the first fault. (MPW Rez.)
+use Rattle.std.specs.Prelude.{◌≡◌, ℕ, ◌==◌, if◌then◌else◌, List, Some, option_map, Ok, Err}
+use Rattle.std.specs.Option.{ok_or}
+use Rattle.std.specs.declared.result.Result.{Result}
+use Rattle.rz_core.specs.Answers.{Then}
+use Rattle.rz_core.specs.declared.facts.Facts.{Facts}
+use Rattle.rz_core.specs.declared.fault.Fault.{Fault}
+use Rattle.rz_core.specs.declared.fault.Kept.{Kept}
+use Rattle.rz_core.specs.declared.fault.Kept.TheVariants as kept
+use Rattle.rz_core.specs.declared.fault.Mark.{Mark}
+use Rattle.rz_core.specs.declared.resource.Resource.{Resource}
+use Rattle.rz_items.specs.Compile.{Compile}
+use Rattle.rz_items.specs.Item.{PlainItem}
+use Rattle.rz_layout.specs.Compiled.{IsCompiled}
+use Rattle.rz_match.specs.Match.{IsMatch}
+use Rattle.rz_tools.specs.Data.{with_bytes}
+use Rattle.rz_tools.specs.Head.{facts_of}
+use Rattle.rz_tools.specs.declared.setting.Setting.{Setting}
+use Rattle.rz_types.specs.Field.{PlainField}
+use Rattle.rz_types.specs.Laid.{Refusal}
+use Rattle.rz_types.specs.Table.{found, Declaration}
+use Rattle.rz_types.specs.declared.tree.Tree.{Tree}
+
+-- 202 for a resource whose type and id no declaration is for
+abbrev pub no_type : Mark → Facts → Fault
+no_type mark known = record { number = 202; mark = Some mark; kept = kept.Key known.kind known.id }
+
+-- the fields that are declared for a resource
+abbrev pub fields_for : Mark → List Declaration → Facts → Result (List PlainField) Fault
+fields_for mark types known = ok_or (option_map (λ one. one.template) (found known.kind known.id types)) (no_type mark known)
+
+-- what a refused row keeps: of a zero divisor nothing
+abbrev pub row_kept : Refusal → Kept
+row_kept fault = if fault.number == 211 then kept.Nothing else kept.Number fault.value
+
+-- a refused row, on this line
+abbrev pub row_fault : Mark → Refusal → Fault
+row_fault mark fault = record { number = fault.number; mark = Some mark; kept = row_kept fault }
+
+-- the bytes that a row spells, or its refusal on this line
+abbrev pub IsSpelled : Mark → Facts → List PlainField → List Tree → Result (List ℕ) Fault → Type 0
+IsSpelled mark known body row (Ok bytes) = IsCompiled known body row (Ok bytes)
+IsSpelled mark known body row (Err fault) = (refused : Refusal) × IsCompiled known body row (Err refused) × (fault ≡ row_fault mark refused)
+
+-- the bytes of items under these fields: those of the row that they fit
+abbrev pub AreItemBytes : Mark → Facts → List PlainItem → List PlainField → Result (List ℕ) Fault → Type 0
+AreItemBytes mark known items body = Then (IsMatch known mark body items) (IsSpelled mark known body)
+
+-- and under the fields that are declared for the resource
+abbrev pub AreBytes : Mark → List Declaration → List PlainItem → Facts → Result (List ℕ) Fault → Type 0
+AreBytes mark types items known = Then (λ body. body ≡ fields_for mark types known) (AreItemBytes mark known items)
+
+-- the resource of which this is known
+abbrev pub IsMade : Mark → List Declaration → List PlainItem → Facts → Result Resource Fault → Type 0
+IsMade mark types items known = Then (AreBytes mark types items known) (λ bytes answer. answer ≡ Ok (with_bytes known bytes))
+
+-- the resource of a statement on this line
+abbrev pub IsResource : Setting → Mark → List Declaration → Compile → Result Resource Fault → Type 0
+IsResource setting mark types one = Then (λ known. known ≡ facts_of setting mark one.kind one.head) (IsMade mark types one.items)
