@@ -147,12 +147,7 @@ pub fn bytes_of(alloc: Global, texts: &Texts) -> Result<Bytes, Fail> {
 }
 
 /// Appends what stands in the brackets of a head.
-pub fn show_head(
-    alloc: Global,
-    head: &HeadExpr,
-    mark: Mark,
-    text: &mut Bytes,
-) -> Result<(), Fail> {
+pub fn show_head(alloc: Global, head: &HeadExpr, mark: Mark, text: &mut Bytes) -> Result<(), Fail> {
     show_value(alloc, &head.id, mark, text)?;
     if let Some(name) = &head.name {
         text.append(b" <")?;

@@ -1,4 +1,6 @@
-use crate::data::{bytes_of, outcome_of, show_head, show_kind, show_value, tokens_of_lines, wrong_cases};
+use crate::data::{
+    bytes_of, outcome_of, show_head, show_kind, show_value, tokens_of_lines, wrong_cases,
+};
 use rz_core::{Bytes, Mark, write_decimal};
 use rz_stmt::{CompileStmt, Item};
 use std::alloc::Global;
@@ -129,8 +131,14 @@ fn resources_have_items(rt: HostRuntime) -> Result<(), Fail> {
 #[test]
 fn items_stand_on_lines(rt: HostRuntime) -> Result<(), Fail> {
     let alloc = rt.alloc();
-    let tokens = tokens_of_lines(alloc, "resource 'Test' (1) {\n1,\na\n{\n\"x\"\n\"y\", {\n2 } } };")?;
+    let tokens = tokens_of_lines(
+        alloc,
+        "resource 'Test' (1) {\n1,\na\n{\n\"x\"\n\"y\", {\n2 } } };",
+    )?;
     let outcome = outcome_of(alloc, &tokens)?;
-    assert_eq!(rt; outcome.as_slice(), "'Test' 1: 1@2 a{\"xy\"@5 {2@7}@6}@3".as_bytes());
+    assert_eq!(rt;
+        outcome.as_slice(),
+        "'Test' 1: 1@2 a{\"xy\"@5 {2@7}@6}@3".as_bytes()
+    );
     Ok(())
 }
