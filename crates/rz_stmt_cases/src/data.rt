@@ -1,4 +1,5 @@
 use crate::declares::show_declare;
+use crate::resources::show_compile;
 use rz_cases::{add_if_wrong, cases_of, tokens_of};
 use rz_core::{
     Attr, Bytes, Facts, Fault, Kept, Mark, Moment, OsType, Stop, write_decimal, write_signed,
@@ -82,7 +83,6 @@ data 'Tes' (1) { "a" }; => 201 on 1
 data "Test" (1) { "a" }; => 201 on 1
 dat 'Test' (1) { "a" }; => 201 on 1
 datas 'Test' (1) { "a" }; => 201 on 1
-resource 'Test' (1) { "a" }; => 201 on 1
 "data" 'Test' (1) { "a" }; => 201 on 1
 // the mark is that of the first token
 /* |*/ |data |'Test' (1) => 201 on 3
@@ -147,7 +147,7 @@ pub fn bytes_of(alloc: Global, texts: &Texts) -> Result<Bytes, Fail> {
 }
 
 /// Appends what stands in the brackets of a head.
-fn show_head(alloc: Global, head: &HeadExpr, mark: Mark, text: &mut Bytes) -> Result<(), Fail> {
+pub fn show_head(alloc: Global, head: &HeadExpr, mark: Mark, text: &mut Bytes) -> Result<(), Fail> {
     show_value(alloc, &head.id, mark, text)?;
     if let Some(name) = &head.name {
         text.append(b" <")?;
@@ -173,10 +173,10 @@ fn show_head(alloc: Global, head: &HeadExpr, mark: Mark, text: &mut Bytes) -> Re
     Ok(())
 }
 
-/// A `data` statement as text; a byte of its type that is no plain one is a `.`.
-fn show_raw(alloc: Global, raw: &RawStmt, mark: Mark) -> Result<Bytes, Fail> {
+/// A type between quote marks, with a blank behind it; a byte that is no plain one is a `.`.
+pub fn show_kind(alloc: Global, kind: OsType) -> Result<Bytes, Fail> {
     let mut text = Bytes::of(alloc, b"'")?;
-    for byte in raw.kind.code.to_be_bytes() {
+    for byte in kind.code.to_be_bytes() {
         text.push(if byte.is_ascii_graphic() || byte == b' ' {
             byte
         } else {
@@ -184,6 +184,12 @@ fn show_raw(alloc: Global, raw: &RawStmt, mark: Mark) -> Result<Bytes, Fail> {
         })?;
     }
     text.append(b"' ")?;
+    Ok(text)
+}
+
+/// A `data` statement as text.
+fn show_raw(alloc: Global, raw: &RawStmt, mark: Mark) -> Result<Bytes, Fail> {
+    let mut text = show_kind(alloc, raw.kind)?;
     show_head(alloc, &raw.head, mark, &mut text)?;
     for byte in bytes_of(alloc, &raw.texts)?.as_slice() {
         text.push(b' ')?;
@@ -203,6 +209,7 @@ pub fn outcome_of(alloc: Global, tokens: &Tokens) -> Result<Bytes, Fail> {
     match parse(alloc, tokens, Span { start: 0, end }) {
         Ok(Stmt::Empty) => Ok(Bytes::of(alloc, b"empty")?),
         Ok(Stmt::Raw(raw)) => show_raw(alloc, &raw, mark),
+        Ok(Stmt::Compile(stmt)) => show_compile(alloc, &stmt, mark),
         Ok(Stmt::Declare(stmt)) => show_declare(alloc, &stmt, mark),
         Err(Stop::Refused(fault)) => text_of_fault(alloc, &fault),
         Err(Stop::NoMemory) => Err(Fail::from("no memory")),

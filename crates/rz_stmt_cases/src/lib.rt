@@ -1,4 +1,4 @@
-//! Tests of statements: where they are cut, and what `data` and `type` statements are. It rests on `rz_stmt`,
+//! Tests of statements: where they are cut, and what `data`, `resource` and `type` statements are. It rests on `rz_stmt`,
 //! crates below it and `rz_cases`, and has no code that ships. It changes with what `rz_stmt` promises.
 #![tactic(auto)]
 
@@ -10,3 +10,5 @@ mod data;
 mod declares;
 #[cfg(test)]
 mod limits;
+#[cfg(test)]
+mod resources;
