@@ -91,7 +91,7 @@ module _ (cutting : OneCutting) (statement_law : OneStatement) (matching : OneMa
   once_behind : (setting : Setting) (mark : Mark) (work : Work) (statement : Statement) → Once (IsBehind setting mark work statement)
   once_behind setting mark work Empty = once_is (Ok work)
   once_behind setting mark work (Data raw) = once_is (with_list work (list_behind setting mark work.list raw))
-  once_behind setting mark work (compiled_statement one) a b is also =
+  once_behind setting mark work (compiled_statement one) = λ a b is also.
       is.2 ∙ ap (with_list work) (once_list matching spelling setting mark work.types work.list one is.0 also.0 is.1 also.1) ∙ sym also.2
   once_behind setting mark work (Declares one) = once_is (declared setting mark work one)
 

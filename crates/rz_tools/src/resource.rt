@@ -1,4 +1,4 @@
-ghost use Rattle.std.specs.Prelude.{◌≡◌, ◌<◌, ℕ, true, length, IfOk};
+ghost use Rattle.std.specs.Prelude.{◌≡◌, ◌<◌, ℕ, true, length, option_map, IfOk};
 ghost use Rattle.rz_core.specs.Answers.{Meets};
 ghost use Rattle.rz_core.specs.Message.{IsNameable};
 ghost use Rattle.rz_core.specs.Stop.{OnFault};
@@ -9,6 +9,7 @@ ghost use Rattle.rz_layout.specs.Compiled.{is_compile_fault};
 ghost use Rattle.rz_layout.specs.Fault.{refusal_of};
 ghost use Rattle.rz_tools.specs.Resource.{no_type, row_fault, AreBytes, AreItemBytes, IsMade, IsResource, IsSpelled};
 ghost use Rattle.rz_types.specs.Row.{IsRow};
+ghost use Rattle.rz_types.specs.Table.{found};
 ghost use Rattle.rz_types.specs.Template.{template_of};
 ghost use Rattle.rz_types.specs.TypeTable.{table_of};
 
@@ -72,10 +73,18 @@ fn bytes_of(
     ensures bytes { Meets result (AreBytes mark (table_of types.now) (plain_items items.now) known.now) }
     ensures nameable { (files : ℕ) → mark.file < files → AreItemsWithin files (plain_items items.now) → OnFault result (IsNameable files) }
 {
-    match types.find(known.kind, known.id) {
+    match template_for(types, known) {
         Some(template) => bytes_under(alloc, items, mark, known, template),
         None => Err(Stop::Refused(no_type(known, mark))),
     }
+}
+
+/// The template that is declared for the resource.
+fn template_for<'a>(types: &'a TypeTable, known: &Facts) -> Option<&'a Template>
+    ensures { option_map (λ template. template_of template.now) result
+        ≡ option_map (λ one. one.template) (found known.now.kind known.now.id (table_of types.now)) }
+{
+    types.find(known.kind, known.id)
 }
 
 /// The bytes of items under the fields of a template: those of the row that they fit.
