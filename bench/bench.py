@@ -137,6 +137,30 @@ def write_types(folder, rng, size):
     return fork_length({})
 
 
+def write_values(folder, rng, size):
+    """`resource` statements of a number and a string on 5,000 ids; a later one takes the place of an earlier one."""
+    resources, made, number = {}, 0, 0
+    with open(os.path.join(folder, "main.r"), "w") as source:
+        made += source.write("type 'Valu' { integer zero, one, ten = 10; pstring; align word; };\n")
+        while made < size:
+            text = "x" * rng.randrange(4)
+            value = rng.choice(("zero", "ten", "%d" % rng.randrange(65536)))
+            made += source.write("resource 'Valu' (%d) { %s, \"%s\" };\n" % (number % 5000, value, text))
+            resources["Valu", number % 5000] = 2 + (1 + len(text) + 1) // 2 * 2
+            number += 1
+    return fork_length(resources)
+
+
+def write_items(folder, rng, size):
+    """One type of many fields, and one `resource` statement with an item for each."""
+    count = size // len("byte;\n100,\n")
+    with open(os.path.join(folder, "main.r"), "w") as source:
+        source.write("type 'Item' {\n" + "byte;\n" * count + "};\nresource 'Item' (0) {\n")
+        source.writelines("%d,\n" % rng.randrange(100, 256) for _ in range(count))
+        source.write("};\n")
+    return fork_length({("Item", 0): count})
+
+
 def write_fork(folder, rng, size):
     """A fork of 4,000 resources in 500 types. Gives the length of its text."""
     count, kinds = 4000, 500
@@ -246,6 +270,8 @@ def main():
         ("includes", write_includes),
         ("names", write_names),
         ("types", write_types),
+        ("values", write_values),
+        ("items", write_items),
         ("fork", write_fork),
     )
     print("%s, seed %d, %d cores" % (program, seed, os.cpu_count()))

@@ -16,14 +16,14 @@ use Rattle.rz_declare.specs.NumberField.{numbered, AreNamed, IsBits, IsFixed, Is
 use Rattle.rz_declare.specs.Symbols.{IsSymbol}
 use Rattle.rz_declare.proofs.Each.{one_each}
 use Rattle.rz_declare.proofs.OneTerm.{OneCut, OneWithin}
-use Rattle.rz_declare.proofs.OneValue.{one_constant, one_value}
+use Rattle.rz_declare.proofs.OneValue.{one_constant, one_fixed_value}
 use Rattle.rz_declare.proofs.Valued.{one_symbol}
 use Rattle.rz_types.specs.declared.field.NumForm.{NumForm}
 
 module _ (one : OneExpression) (cut : OneCut) (within : OneWithin) (form : NumForm) where
   one_fixed : (tokens : List Token) (a b : NumberTail) → IsFixed form tokens a → IsFixed form tokens b → a ≡ b
   one_fixed tokens a b is also =
-      is.2 ∙ ap (λ (t : Term). record { symbols = []; fixed = Some t }) (one_value one form tokens is.0 also.0 is.1 also.1) ∙ sym also.2
+      is.2 ∙ ap (λ (t : Term). record { symbols = []; fixed = Some t }) (one_fixed_value one form tokens is.0 also.0 is.1 also.1) ∙ sym also.2
 
   one_named : (tokens : List Token) (a b : NumberTail) → AreNamed form tokens a → AreNamed form tokens b → a ≡ b
   one_named tokens a b is also =

@@ -26,7 +26,7 @@ use Rattle.rz_declare.specs.Form.{Align, FieldForm, Fill, Number, Points, Text}
 use Rattle.rz_declare.specs.declared.field_word.FieldWord.{FieldWord}
 use Rattle.rz_declare.specs.declared.field_word.FieldWord.TheVariants as words
 use Rattle.rz_declare.proofs.Pieces.{lexed_behind}
-use Rattle.rz_declare.proofs.ShapedNumber.{constant_field, number_formed, IsNumberFormed}
+use Rattle.rz_declare.proofs.ShapedNumber.{number_formed, IsNumberFormed}
 use Rattle.rz_declare.proofs.ShapedValue.{number_shaped}
 use Rattle.rz_types.specs.Field as made
 use Rattle.rz_types.specs.Field.{PlainField, PlainNumber, PlainPoints, PlainText}
@@ -68,7 +68,7 @@ fixed_shaped (token ∷ tokens) (Some parts) is = by (is_equals token.shape) (te
 text_by : (sized hex : Bool) (form : TextForm) (tokens : List Token) (text : PlainText) → IsTextBy sized hex form tokens text → is_text_shaped text ≡ true
 text_by true hex form tokens text is =
     subst (λ (t : PlainText). is_text_shaped t ≡ true) (sym is.6)
-    (λ i. constant_field is.1 is.4.1 i && fixed_shaped is.0.behind is.2 is.5 i)
+    (λ i. is.4.1 i && fixed_shaped is.0.behind is.2 is.5 i)
 text_by false hex form tokens text is =
     subst (λ (t : PlainText). is_text_shaped t ≡ true) (sym is.2) (λ i. true && fixed_shaped tokens is.0 is.1 i)
 
@@ -78,7 +78,7 @@ each_field : (pieces : List (List Token)) (terms : List Term) → AreEach IsFiel
 each_field [] terms is = (ap length is, ap (list_all is_field_expression) is)
 each_field (piece ∷ pieces) terms is =
     let rest = each_field pieces is.1 is.3 in
-    let first = constant_field is.0 is.2.1 in
+    let first = is.2.1 in
     (ap length is.4 ∙ omega (arith, rest.0), ap (list_all is_field_expression) is.4 ∙ (λ i. first i && rest.1 i))
 
 same_count : (rect : Bool) → count_of rect ≡ numbers_of rect

@@ -16,7 +16,7 @@ use Rattle.rz_lex.specs.declared.token.Token.{Token}
 use Rattle.rz_brackets.specs.declared.bracket.Bracket.TheVariants.{Square}
 use Rattle.rz_brackets.specs.declared.pieces.Divider.TheVariants.{Comma}
 use Rattle.rz_declare.specs.Each.{AreEach}
-use Rattle.rz_declare.specs.FieldValue.{is_equals, one_byte, IsValue, IsValueBy}
+use Rattle.rz_declare.specs.FieldValue.{is_equals, one_byte, IsFieldExpression, IsFixedValue, IsValueBy}
 use Rattle.rz_declare.specs.FieldWord.{FieldFront}
 use Rattle.rz_declare.specs.Form.{NamedTerm, NumberForm, Own, WidthForm, Written}
 use Rattle.rz_declare.specs.NumberField.{IsNumber, IsNumberBy, IsTail, IsTailBy, NumberTail}
@@ -27,22 +27,11 @@ use Rattle.rz_types.specs.Shape.{is_symbol_name}
 use Rattle.rz_types.specs.Value.{is_field_expression}
 use Rattle.rz_types.specs.declared.field.NumForm.{NumForm}
 
-pub constant_field : (term : Term) → is_constant term ≡ true → is_field_expression term ≡ true
-constant_field (Constant number) is = refl
-constant_field (Named name) is = is
-constant_field (RowsOf name) is = is
-constant_field (BitsAt name start width) is = is
-constant_field (FactOf which) is = cc
-constant_field (OfOne op operand) is = constant_field operand is
-constant_field (OfTwo op left right) is =
-    let parts = both (is_constant left) (is_constant right) is in
-    λ i. constant_field left parts.0 i && constant_field right parts.1 i
-
-value_by : (found : Option ℕ) (tokens : List Token) (term : Term) → IsValueBy found tokens term → is_field_expression term ≡ true
+value_by : (found : Option ℕ) (tokens : List Token) (term : Term) → IsValueBy IsFieldExpression found tokens term → is_field_expression term ≡ true
 value_by (Some byte) tokens term is = ap is_field_expression is
-value_by None tokens term is = constant_field term is.1
+value_by None tokens term is = is.1
 
-value_field : (form : NumForm) (tokens : List Token) (term : Term) → IsValue form tokens term → is_field_expression term ≡ true
+value_field : (form : NumForm) (tokens : List Token) (term : Term) → IsFixedValue form tokens term → is_field_expression term ≡ true
 value_field form tokens term is = value_by (one_byte form tokens) tokens term is
 
 -- Names of symbols.

@@ -13,7 +13,7 @@ use Rattle.rz_lex.specs.declared.token.Token.{Token}
 use Rattle.rz_declare.specs.Form.{NamedTerm}
 use Rattle.rz_declare.specs.Symbols.{name_in, IsGiven, IsSymbol}
 use Rattle.rz_declare.specs.Values.{given_or, out_of_range, values_of, with_value}
-use Rattle.rz_declare.proofs.OneValue.{one_value}
+use Rattle.rz_declare.proofs.OneValue.{one_symbol_value}
 use Rattle.rz_types.specs.declared.field.NumForm.{NumForm}
 use Rattle.rz_types.specs.declared.field.Symbol.{Symbol}
 
@@ -61,7 +61,7 @@ module _ (fits : ℤ → Bool) (mark : Mark) (all : Result (List Symbol) Fault) 
 module _ (one : OneExpression) (form : NumForm) where
   one_given : (tokens : List Token) (a b : Option Term) → IsGiven form tokens a → IsGiven form tokens b → a ≡ b
   one_given [] a b is also = is ∙ sym also
-  one_given (token ∷ tokens) a b is also = is.3 ∙ ap (λ (t : Term). Some t) (one_value one form tokens is.1 also.1 is.2 also.2) ∙ sym also.3
+  one_given (token ∷ tokens) a b is also = is.3 ∙ ap (λ (t : Term). Some t) (one_symbol_value one form tokens is.1 also.1 is.2 also.2) ∙ sym also.3
 
   pub one_symbol : (tokens : List Token) (a b : NamedTerm) → IsSymbol form tokens a → IsSymbol form tokens b → a ≡ b
   one_symbol [] a b is also = absurd is

@@ -8,7 +8,7 @@ use Rattle.rz_brackets.specs.declared.bracket.Bracket.TheVariants.{Square}
 use Rattle.rz_brackets.specs.declared.pieces.Divider.TheVariants.{Comma}
 use Rattle.rz_declare.specs.Each.{AreEach}
 use Rattle.rz_expr.specs.Constant.{IsConstant}
-use Rattle.rz_declare.specs.FieldValue.{is_equals, IsValue}
+use Rattle.rz_declare.specs.FieldValue.{is_equals, IsFixedValue}
 use Rattle.rz_declare.specs.FieldWord.{FieldFront}
 use Rattle.rz_declare.specs.Form.{named_of, NamedTerm, NumberForm, Own, WidthForm, Written}
 use Rattle.rz_declare.specs.Symbols.{IsSymbol}
@@ -29,7 +29,7 @@ tail_of tail = record { symbols = map named_of tail.symbols; fixed = option_map 
 
 -- behind `=` a fixed value
 abbrev pub IsFixed : NumForm → List Token → NumberTail → Type 0
-IsFixed form tokens tail = (term : Term) × IsValue form tokens term × (tail ≡ record { symbols = []; fixed = Some term })
+IsFixed form tokens tail = (term : Term) × IsFixedValue form tokens term × (tail ≡ record { symbols = []; fixed = Some term })
 
 -- symbols with commas between them
 abbrev pub AreNamed : NumForm → List Token → NumberTail → Type 0

@@ -6,7 +6,7 @@ use Rattle.rz_expr.specs.Words.{is_name, role_of}
 use Rattle.rz_lex.specs.declared.token.Shape.{Shape}
 use Rattle.rz_lex.specs.declared.token.Shape.TheVariants as shapes
 use Rattle.rz_lex.specs.declared.token.Token.{Token}
-use Rattle.rz_declare.specs.FieldValue.{is_equals, IsValue}
+use Rattle.rz_declare.specs.FieldValue.{is_equals, IsSymbolValue}
 use Rattle.rz_declare.specs.Form.{NamedTerm}
 use Rattle.rz_types.specs.declared.field.NumForm.{NumForm}
 
@@ -18,7 +18,7 @@ name_in shape = None
 -- behind the name stands nothing, or `=` and a value
 abbrev pub IsGiven : NumForm → List Token → Option Term → Type 0
 IsGiven form [] value = value ≡ None
-IsGiven form (token ∷ tokens) value = (is_equals token.shape ≡ true) × (term : Term) × IsValue form tokens term × (value ≡ Some term)
+IsGiven form (token ∷ tokens) value = (is_equals token.shape ≡ true) × (term : Term) × IsSymbolValue form tokens term × (value ≡ Some term)
 
 -- a symbol: its name, and maybe a value
 abbrev pub IsSymbol : NumForm → List Token → NamedTerm → Type 0

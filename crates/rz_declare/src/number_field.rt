@@ -7,7 +7,7 @@ ghost use Rattle.rz_declare.specs.NumberField.{numbered, shown, tail_of, AreName
 use crate::field_word::Front;
 use crate::form::{Names, NumberExpr, Width};
 use crate::symbols::read_symbols;
-use crate::value::{is_equals, read_value};
+use crate::value::{is_equals, read_fixed_value};
 use rz_brackets::{Bracket, Divider, bracketed, pieces_by};
 use rz_core::NoMemory;
 use rz_expr::{Expr, read_constant};
@@ -112,7 +112,7 @@ fn read_tail(alloc: Global, form: NumForm, tokens: &[Token]) -> Result<Option<Ta
 fn read_fixed(alloc: Global, form: NumForm, tokens: &[Token]) -> Result<Option<Tail>, NoMemory>
     ensures { IfOk result (λ tail. Decided (IsFixed form tokens.now) (option_map tail_of tail)) }
 {
-    match read_value(alloc, form, tokens)? {
+    match read_fixed_value(alloc, form, tokens)? {
         Some(value) => Ok(Some(Tail {
             symbols: Names::new(alloc),
             fixed: Some(value),

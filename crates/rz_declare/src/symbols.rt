@@ -7,7 +7,7 @@ ghost use Rattle.rz_declare.specs.Form.{named_of};
 ghost use Rattle.rz_declare.specs.Symbols.{name_in, IsGiven, IsSymbol};
 
 use crate::form::{Named, Names};
-use crate::value::{is_equals, read_value};
+use crate::value::{is_equals, read_symbol_value};
 use rz_core::{NoMemory, Word};
 use rz_expr::{Expr, role_of};
 use rz_lex::{Shape, Token};
@@ -75,7 +75,7 @@ fn read_given(
     if !is_equals(first) {
         return Ok(None);
     }
-    match read_value(alloc, form, rest)? {
+    match read_symbol_value(alloc, form, rest)? {
         Some(value) => Ok(Some(Some(value))),
         None => Ok(None),
     }

@@ -2,28 +2,57 @@ ghost use Rattle.std.specs.Prelude.{◌≡◌, IfOk, map, option_map};
 ghost use Rattle.rz_expr.specs.Term.{term_of};
 ghost use Rattle.rz_core.specs.Decided.{Decided};
 ghost use Rattle.rz_declare.specs.Each.{AreEach};
-ghost use Rattle.rz_declare.specs.FieldValue.{byte_in, is_equals, one_byte, IsFieldExpression, IsValue};
+ghost use Rattle.rz_declare.specs.FieldValue.{byte_in, is_equals, one_byte, IsFieldExpression, IsFixedValue, IsSymbolValue};
 
 use rz_core::NoMemory;
-use rz_expr::{Expr, read_constant};
+use rz_expr::{Expr, one_expression, read_constant, read_whole};
 use rz_lex::{Shape, Sign, Token};
-use rz_types::{Exprs, NumForm};
+use rz_types::{Exprs, NumForm, is_field_expression};
 use std::alloc::Global;
 
-/// The expression of a field that the tokens are. It is a constant, so far.
+/// The expression of a field that the tokens are: one without names other than `true` and `false`, and without `$$`
+/// functions other than the facts of the resource.
 pub fn read_expression(alloc: Global, tokens: &[Token]) -> Result<Option<Expr>, NoMemory>
     ensures { IfOk result (λ expr. Decided (IsFieldExpression tokens.now) (option_map term_of expr)) }
 {
-    read_constant(alloc, tokens)
+    one_expression();
+    match read_whole(alloc, tokens)? {
+        Some(expr) => {
+            if is_field_expression(&expr) {
+                Ok(Some(expr))
+            } else {
+                Ok(None)
+            }
+        }
+        None => Ok(None),
+    }
 }
 
-/// The value of a number field that the tokens are: an expression, or behind `char` a text of one byte.
-pub fn read_value(alloc: Global, form: NumForm, tokens: &[Token]) -> Result<Option<Expr>, NoMemory>
-    ensures { IfOk result (λ expr. Decided (IsValue form tokens.now) (option_map term_of expr)) }
+/// The fixed value of a number field that the tokens are: an expression, or behind `char` a text of one byte.
+pub fn read_fixed_value(
+    alloc: Global,
+    form: NumForm,
+    tokens: &[Token],
+) -> Result<Option<Expr>, NoMemory>
+    ensures { IfOk result (λ expr. Decided (IsFixedValue form tokens.now) (option_map term_of expr)) }
 {
     match one_byte(form, tokens) {
         Some(byte) => Ok(Some(Expr::Number(i32::from(byte)))),
         None => read_expression(alloc, tokens),
+    }
+}
+
+/// The value of a symbol that the tokens are: a constant, or behind `char` a text of one byte.
+pub fn read_symbol_value(
+    alloc: Global,
+    form: NumForm,
+    tokens: &[Token],
+) -> Result<Option<Expr>, NoMemory>
+    ensures { IfOk result (λ expr. Decided (IsSymbolValue form tokens.now) (option_map term_of expr)) }
+{
+    match one_byte(form, tokens) {
+        Some(byte) => Ok(Some(Expr::Number(i32::from(byte)))),
+        None => read_constant(alloc, tokens),
     }
 }
 

@@ -3,19 +3,11 @@ use Rattle.std.specs.Prelude.{◌≡◌, Bool, true, false, ◌&&◌, List, Opti
 use Rattle.rz_core.specs.declared.fault.Mark.{Mark}
 use Rattle.rz_expr.specs.Grammar.{IsExpression}
 use Rattle.rz_expr.specs.Term.{BitsAt, Constant, FactOf, Named, OfOne, OfTwo, RowsOf, Term}
-use Rattle.rz_expr.specs.declared.words.FactWord.{FactWord}
-use Rattle.rz_expr.specs.declared.words.FactWord.TheVariants as facts
 use Rattle.rz_lex.specs.declared.token.Token.{Token}
 use Rattle.rz_items.specs.Item as item
 use Rattle.rz_items.specs.Item.{PlainItem}
 use Rattle.rz_types.specs.Text.{text_in, PlainPart}
-
--- a fact of the resource
-abbrev pub is_resource_fact : FactWord → Bool
-is_resource_fact facts.Id = true
-is_resource_fact facts.Kind = true
-is_resource_fact facts.Attributes = true
-is_resource_fact other = false
+use Rattle.rz_types.specs.Value.{is_resource_fact}
 
 -- any names, but no rows and no bits of what is laid out, and of the facts those of the resource alone
 abbrev pub is_item_expression : Term → Bool

@@ -2,13 +2,13 @@ ghost use Rattle.std.specs.Prelude.{◌≡◌, IfOk, option_map};
 ghost use Rattle.rz_core.specs.Decided.{Decided};
 ghost use Rattle.rz_expr.specs.Term.{term_of};
 ghost use Rattle.rz_items.specs.Item.{plain_item};
-ghost use Rattle.rz_items.specs.Simple.{is_item_expression, is_resource_fact, IsItemExpression, IsSimple};
+ghost use Rattle.rz_items.specs.Simple.{is_item_expression, IsItemExpression, IsSimple};
 
 use crate::item::Item;
 use rz_core::{Mark, NoMemory};
-use rz_expr::{Expr, FactWord, one_expression, read_whole};
+use rz_expr::{Expr, one_expression, read_whole};
 use rz_lex::Token;
-use rz_types::text_in;
+use rz_types::{is_resource_fact, text_in};
 use std::alloc::Global;
 
 /// The text or the number that the tokens are.
@@ -53,10 +53,4 @@ fn is_item_expression(expr: &Expr) -> bool
         Expr::Unary(_, operand) => is_item_expression(operand),
         Expr::Binary(_, left, right) => is_item_expression(left) && is_item_expression(right),
     }
-}
-
-fn is_resource_fact(which: FactWord) -> bool
-    ensures { result ≡ is_resource_fact which }
-{
-    matches!(which, FactWord::Id | FactWord::Kind | FactWord::Attributes)
 }

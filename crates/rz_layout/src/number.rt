@@ -5,14 +5,13 @@ ghost use Rattle.rz_layout.specs.Sound.{IsWidth};
 ghost use Rattle.rz_types.specs.Field.{plain_number};
 ghost use Rattle.rz_types.specs.Laid.{fixed_number, lay, number_given, number_in, value_in};
 ghost use Rattle.rz_types.specs.Spells.{most_bits, OneNumber};
-ghost use Rattle.rz_types.specs.Stored.{stored_number};
 
 use crate::LayFault;
 use crate::fault::value_fault;
 use crate::laid::Laid;
 use rz_core::{Facts, Stop};
 use rz_expr::{Expr, value_in};
-use rz_types::{FieldEnv, NumField, NumForm, Tree, fits_number};
+use rz_types::{FieldEnv, NumField, NumForm, Tree, fits_number, stored_number};
 
 /// Lays a number: that of the row, or the value of its expression.
 pub fn lay_number(
@@ -91,13 +90,4 @@ pub fn expression_value(expr: &Expr, facts: &Facts, piece: u64) -> Result<i32, S
         Ok(value) => Ok(value),
         Err(fault) => Err(Stop::Refused(value_fault(fault, piece))),
     }
-}
-
-/// The number from 0 to below 2 to the power of the width that stands for a value.
-fn stored_number(width: i32, value: i32) -> u32
-    requires { IsWidth width }
-    ensures { result ≡ stored_number (nat_abs width) value }
-{
-    let all = 1_u64 << (width as u32);
-    (u64::from(value.cast_unsigned()) % all) as u32
 }

@@ -6,7 +6,7 @@ ghost use Rattle.rz_layout.specs.Text.{sized_length, stored_length};
 ghost use Rattle.rz_types.specs.Field.{plain_text};
 ghost use Rattle.rz_types.specs.Laid.{fixed_bytes, lay, refusal, size_in, text_in, text_refusal};
 ghost use Rattle.rz_types.specs.Spells.{most_bits, OneText};
-ghost use Rattle.rz_types.specs.Stored.{before_zero, is_too_long};
+ghost use Rattle.rz_types.specs.Stored.{before_zero};
 ghost use Rattle.rz_types.specs.Text.{plain_parts};
 
 use crate::LayFault;
@@ -15,7 +15,7 @@ use crate::number::expression_value;
 use crate::push::push_text;
 use rz_core::{Bytes, Facts, Kept, Mark, Stop};
 use rz_expr::Expr;
-use rz_types::{TextField, TextForm, Texts, Tree, may_be_size, text_of};
+use rz_types::{TextField, TextForm, Texts, Tree, is_too_long, may_be_size, text_of};
 use std::alloc::Global;
 
 /// Lays a text: the bytes of the row, or those of its fixed parts, in its stored form.
@@ -152,17 +152,6 @@ fn text_refusal(form: TextForm, size: Option<i32>, count: u64, piece: u64) -> Op
                 None
             }
         }
-    }
-}
-
-/// Whether a text of so many bytes without a size is too long for its type.
-fn is_too_long(form: TextForm, count: u64) -> bool
-    ensures { result ≡ is_too_long form None count }
-{
-    match form {
-        TextForm::Open | TextForm::Zero => false,
-        TextForm::Pascal => count > 255,
-        TextForm::WordLong => count > 65_535,
     }
 }
 

@@ -5,14 +5,13 @@ ghost use Rattle.rz_items.specs.Item.{plain_item};
 ghost use Rattle.rz_match.specs.Fits.{is_char};
 ghost use Rattle.rz_match.specs.Matched.{char_value, expression_value, in_range, letter_value, number_for, value_for};
 ghost use Rattle.rz_types.specs.Field.{plain_number};
-ghost use Rattle.rz_types.specs.Stored.{stored_number};
 ghost use Rattle.rz_types.specs.Text.{plain_parts};
 
 use crate::fault::{out_of_range, too_long, wrong_kind};
 use rz_core::{Facts, Fault, Mark, Stop};
 use rz_expr::Expr;
 use rz_items::Item;
-use rz_types::{NumField, NumForm, Texts, fits_number, symbol_number_of, text_of};
+use rz_types::{NumField, NumForm, Texts, fits_number, stored_number, symbol_number_of, text_of};
 use std::alloc::Global;
 
 /// The number that an item, at this position in its list, gives to a number.
@@ -111,19 +110,5 @@ fn letter_value(mark: Mark, bytes: &[u8]) -> Result<i32, Stop<Fault>>
         [] => Ok(0),
         [byte] => Ok(i32::from(*byte)),
         _ => Err(too_long(mark, bytes)),
-    }
-}
-
-/// The number of so many bits that stands for a value.
-fn stored_number(width: i32, value: i32) -> u32
-    ensures stored { result ≡ stored_number (nat_abs width) value }
-    ensures small { result < 2 ^ nat_abs width }
-{
-    let bits = value.cast_unsigned();
-    let width = width.unsigned_abs();
-    if width < 32 {
-        bits % 2_u32.pow(width)
-    } else {
-        bits
     }
 }

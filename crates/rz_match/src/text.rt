@@ -8,13 +8,8 @@ ghost use Rattle.rz_types.specs.Field.{plain_text};
 use crate::fault::{mark_of, too_long, wrong_kind};
 use rz_core::{Bytes, Facts, Fault, Mark, Stop};
 use rz_items::Item;
-use rz_types::{TextField, TextForm, text_of};
+use rz_types::{TextField, is_too_long, text_of};
 use std::alloc::Global;
-
-/// The most bytes of a text behind a byte with its length, and behind 16 bits.
-const MOST_PASCAL: usize = 255;
-
-const MOST_WORD_LONG: usize = 65_535;
 
 /// The bytes that an item, at this position in its list, gives to a text.
 pub(crate) fn text_for(
@@ -51,12 +46,5 @@ fn short_text(field: &TextField, mark: Mark, bytes: Bytes) -> Result<Bytes, Stop
 fn exceeds(field: &TextField, bytes: &[u8]) -> bool
     ensures { result ≡ exceeds (plain_text field.now) bytes.now }
 {
-    if field.size.is_some() {
-        return false;
-    }
-    match field.form {
-        TextForm::Pascal => MOST_PASCAL < bytes.len(),
-        TextForm::WordLong => MOST_WORD_LONG < bytes.len(),
-        TextForm::Open | TextForm::Zero => false,
-    }
+    field.size.is_none() && is_too_long(field.form, bytes.len() as u64)
 }

@@ -10,6 +10,7 @@ mod field;
 mod laws;
 mod range;
 mod rules;
+mod stored;
 mod table;
 mod template;
 mod text;
@@ -25,8 +26,11 @@ pub use laws::{
 };
 pub use range::{fits_number, may_be_size, own_width};
 pub use rules::{TypeFault, check};
+pub use stored::{is_too_long, stored_number};
 pub use table::{Scope, TypeTable};
 pub use template::Template;
 pub use text::{TextPart, Texts, part_in, text_in, text_of};
 pub use tree::{Numbers, Row, Tree, takes_value};
-pub use value::{FieldEnv, constant_value, number_of, symbol_number_of};
+pub use value::{
+    FieldEnv, constant_value, is_field_expression, is_resource_fact, number_of, symbol_number_of,
+};

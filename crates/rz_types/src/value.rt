@@ -5,7 +5,7 @@ ghost use Rattle.rz_core.specs.Stop.{Gives, OnFault};
 ghost use Rattle.rz_expr.specs.Constant.{is_constant};
 ghost use Rattle.rz_expr.specs.Term.{term_of};
 ghost use Rattle.rz_expr.specs.Value.{reduced};
-ghost use Rattle.rz_types.specs.Value.{constant_value, fact_of, field_sight, is_field_expression, number_of, symbol_number_of, symbol_value, value_fault, IsArithmeticFault};
+ghost use Rattle.rz_types.specs.Value.{constant_value, fact_of, field_sight, is_field_expression, is_resource_fact, number_of, symbol_number_of, symbol_value, value_fault, IsArithmeticFault};
 
 use crate::Symbol;
 use rz_core::{Facts, Fault, Kept, Mark, Stop, Word};
@@ -48,6 +48,28 @@ impl Env for FieldEnv<'_> {
     }
 
     ghost law = { Prim.search rules };
+}
+
+/// Whether an expression may stand in a field: it has no names but `true` and `false`, and of the `$$` functions the
+/// facts of the resource alone. (MPW Rez.)
+pub fn is_field_expression(expr: &Expr) -> bool
+    ensures { result ≡ is_field_expression (term_of expr.now) }
+{
+    match expr {
+        Expr::Number(_) => true,
+        Expr::Name(name) => predefined(name).is_some(),
+        Expr::Count(_) | Expr::Bits(..) => false,
+        Expr::Fact(which) => is_resource_fact(*which),
+        Expr::Unary(_, operand) => is_field_expression(operand),
+        Expr::Binary(_, left, right) => is_field_expression(left) && is_field_expression(right),
+    }
+}
+
+/// Whether it is a fact of the resource: `$$ID`, `$$Type` or `$$Attributes`.
+pub fn is_resource_fact(which: FactWord) -> bool
+    ensures { result ≡ is_resource_fact which }
+{
+    matches!(which, FactWord::Id | FactWord::Kind | FactWord::Attributes)
 }
 
 /// The value of the first symbol of a name, in whatever case.

@@ -2,7 +2,7 @@ use Rattle.std.proofs.Common.{ℕ, ◌%◌, ◌^◌, ◌<◌, ◌≤◌, nat_abs
 use Rattle.std.proofs.Math.Nat.{mod-eq_of_lt}
 use Rattle.std.proofs.Math.Pow.{pow_mono}
 use Rattle.std.proofs.lemmas.Int.{to_z-of_z}
-use Rattle.rz_match.proofs.number.stored_number.Goals as goal
+use Rattle.rz_types.proofs.stored.stored_number.Goals as goal
 
 below : (width bits : ℕ) → 32 ≤ width → bits < 2 ^ 32 → bits < 2 ^ width
 below width bits wide fits = let more : 2 ^ 32 ≤ 2 ^ width = pow_mono wide in omega arith
