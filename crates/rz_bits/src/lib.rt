@@ -11,8 +11,8 @@ mod laws;
 mod tail;
 
 pub use bit_buf::BitBuf;
-pub use tail::missing;
 pub use laws::{
     bits_are_written_back, bytes_are_read_back, filled_to_a_multiple, numbers_are_read_back,
     numbers_are_written_back,
 };
+pub use tail::missing;

@@ -1,3 +1,6 @@
+ghost use Rattle.std.specs.Prelude.{◌≡◌, ◌≢◌, ◌<◌, OnOk};
+ghost use Rattle.std.specs.String.{string_bytes, string_len};
+
 use crate::CaseFault;
 use std::alloc::Global;
 
@@ -35,7 +38,10 @@ pub fn add_if_wrong(
     wanted: &[u8],
     came: &[u8],
     wrong: &mut String,
-) -> Result<(), CaseFault> {
+) -> Result<(), CaseFault>
+    ensures right { OnOk result (came.now ≡ wanted.now → string_bytes wrong.new ≡ string_bytes wrong.old) }
+    ensures wrong { OnOk result (came.now ≢ wanted.now → string_len wrong.old < string_len wrong.new) }
+{
     if came == wanted {
         return Ok(());
     }

@@ -5,8 +5,7 @@ use Rattle.std.proofs.lemmas.Bool.{le-leb}
 use Rattle.std.proofs.lemmas.Option.{same_Some}
 use Rattle.rz_core.proofs.Tests.{both}
 use Rattle.rz_core.specs.declared.resource.Word.{Word}
-use Rattle.rz_expr.specs.Constant.{is_constant}
-use Rattle.rz_expr.specs.Term.{BitsAt, Constant, FactOf, Named, OfOne, OfTwo, RowsOf, Term}
+use Rattle.rz_expr.specs.Term.{Term}
 use Rattle.rz_expr.specs.Words.{is_name, role_of}
 use Rattle.rz_lex.specs.Lexeme.{is_lexed, is_lexed_word, AreLexed}
 use Rattle.rz_lex.specs.Printed.{is_word}

@@ -6,6 +6,8 @@
 //! A status of its own, as 5, stands in the help text of `rz_tools` and in README.md too.
 #![tactic(auto)]
 
+ghost use Rattle.rz_host.specs.Clock.{IsMomentAt};
+
 use rz_core::Moment;
 use rz_folder::{RealFolder, RealSink, Sink};
 use rz_tools::run;
@@ -51,10 +53,17 @@ fn without_memory<E: Sink>(err: &mut E) -> ExitCode {
     ExitCode::from(NO_MEMORY)
 }
 
-/// The moment of the host's clock. One that is outside the range of moments, or can't be read, is taken
-/// as the first second of 1904.
+/// The moment of the host's clock.
 fn moment_of(clock: &impl Clock) -> Moment {
-    match unix_seconds(clock).and_then(Moment::of_unix) {
+    moment_at(unix_seconds(clock))
+}
+
+/// The moment so many seconds after the first second of 1970. One that is outside the range of moments, or can't be
+/// told, is taken as the first second of 1904.
+fn moment_at(seconds: Option<i64>) -> Moment
+    ensures { IsMomentAt seconds result }
+{
+    match seconds.and_then(Moment::of_unix) {
         Some(moment) => moment,
         None => Moment::of_unix(Moment::FIRST).unwrap(),
     }

@@ -1,5 +1,5 @@
 -- What `compile` answers, from what is laid.
-use Rattle.std.proofs.Common.{◌≡◌, ℕ, ◌%◌, ◌<◌, Bool, true, List, length, Result, Ok, Err, refl, sym, ap, subst, ◌∙◌}
+use Rattle.std.proofs.Common.{◌≡◌, ℕ, ◌%◌, ◌<◌, Bool, true, List, length, Result, Ok, Err, refl, subst}
 use Rattle.std.specs.Prelude.{slice_index}
 use Rattle.rz_core.specs.Stop.{OnFault}
 use Rattle.rz_core.specs.declared.facts.Facts.{Facts}

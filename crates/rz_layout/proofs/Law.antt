@@ -1,11 +1,10 @@
 -- A row spells exactly the bytes that are laid: fields and bodies.
-use Rattle.std.proofs.Common.{◌≡◌, ℕ, zero, suc, ◌+◌, ◌%◌, ◌^◌, ◌<◌, ◌≤◌, ◌==◌, ℤ, pos, Bool, true, false, ◌&&◌, List, [], ◌∷◌, ◌++◌, length, take, map, Option, Some, None, Result, Ok, Err, refl, sym, ap, subst, ◌∙◌, arith}
-use Rattle.std.specs.Prelude.{if◌then◌else◌, nat_abs, replicate, slice_index}
-use Rattle.std.specs.List.{list_all, AllByRecursion}
+use Rattle.std.proofs.Common.{◌≡◌, ℕ, ◌%◌, ◌<◌, ℤ, Bool, true, false, List, [], ◌∷◌, length, take, map, Option, Some, None, Result, Ok, refl, sym, ap, subst, ◌∙◌, arith}
+use Rattle.std.specs.Prelude.{replicate, slice_index}
+use Rattle.std.specs.List.{AllByRecursion}
 use Rattle.std.specs.Option.{is_some, is_none, option_to_list}
 use Rattle.std.proofs.lemmas.List.{length-append}
 use Rattle.std.proofs.Math.Seq.{take-append_seam}
-use Rattle.rz_core.proofs.Tests.{both}
 use Rattle.rz_core.specs.Stop.{◌>>=◌}
 use Rattle.rz_core.specs.declared.facts.Facts.{Facts}
 use Rattle.rz_expr.specs.Environment.{Environment, Key}
@@ -15,12 +14,11 @@ use Rattle.rz_bits.specs.BitBuf.{filled, missing, zeros}
 use Rattle.rz_types.specs.Field.{Align, Fill, Number, PlainField, PlainNumber, PlainPoints, PlainText, Points, Text}
 use Rattle.rz_types.specs.Laid.{body_laid, field_laid, first_value, laid, lay, nothing_laid, other_values, takes_one, Draft, Refusal}
 use Rattle.rz_types.specs.Row.{takes_value, IsFieldOf, IsRow}
-use Rattle.rz_types.specs.Shape.{are_fixed_points, is_empty, is_fixed_number, is_fixed_text, is_key_shaped, is_none_or, is_own_width, is_shaped, is_symbol_of, is_well_shaped, numbers_of}
-use Rattle.rz_types.specs.Spells.{fixed_integer, free_integer, group_in, integers, no_names, outside, pieces_of, put, sees, values_for, AreBytes, BodySpells, FieldSpells, Filler, InOrder, IsGrouped, IsGroupedFor, IsNumber, Late, Names, OneNumber, OneText, Piece, PieceSpells, Spells, Within, Zeros}
+use Rattle.rz_types.specs.Shape.{numbers_of}
+use Rattle.rz_types.specs.Spells.{fixed_integer, free_integer, group_in, integers, no_names, outside, pieces_of, put, sees, values_for, AreBytes, BodySpells, FieldSpells, Filler, InOrder, IsGrouped, IsGroupedFor, IsNumber, Late, OneNumber, OneText, Piece, PieceSpells, Spells, Zeros}
 use Rattle.rz_types.specs.Text.{PlainPart}
-use Rattle.rz_types.specs.Value.{is_field_expression, symbol_key}
+use Rattle.rz_types.specs.Value.{symbol_key}
 use Rattle.rz_types.specs.declared.field.NumForm.{NumForm}
-use Rattle.rz_types.specs.declared.field.Symbol.{Symbol}
 use Rattle.rz_types.specs.declared.field.TextForm.{TextForm}
 use Rattle.rz_types.specs.declared.tree.Tree.{Tree}
 use Rattle.rz_types.specs.declared.tree.Tree.TheVariants as trees
@@ -141,8 +139,7 @@ fed_fixed (term ∷ terms) = (refl, refl, fed_fixed terms)
 points_have : (points : PlainPoints) (row rest : List Tree) (fixed : Option (List Term)) → IsFieldOf (is_none fixed) (Points points) row rest
     → IsGrouped fixed (first_value (is_none fixed) row) × Fed takes_one PieceValue (integers points.rect fixed) (map trees.Number (group_in (first_value (is_none fixed) row)))
 points_have points row rest None it =
-    let value : first_value true row ≡ Some (trees.Group it.1.0) = ap (first_value true) it.2 ∙ ap (λ (t : Tree). Some t) it.1.1 in
-    (
+    let value : first_value true row ≡ Some (trees.Group it.1.0) = ap (first_value true) it.2 ∙ ap (λ (t : Tree). Some t) it.1.1 in (
       (it.1.0, value),
       subst (λ (v : Option Tree). Fed takes_one PieceValue (replicate (numbers_of points.rect) free_integer) (map trees.Number (group_in v))) (sym value)
           (subst (λ (n : ℕ). Fed takes_one PieceValue (replicate n free_integer) (map trees.Number it.1.0)) it.1.2 (fed_group it.1.0 it.1.3)),
@@ -160,12 +157,11 @@ field_has (Align unit) row rest it = (tt, (refl, refl, refl))
 
 row_fed : (body : List PlainField) (row : List Tree) → IsRow body row → Fed takes_value FieldHas body row
 row_fed [] row it = it
-row_fed (field ∷ fields) row (rest, one, others) =
-    (
-      field_has field row rest one,
-      row_put (takes_value field) field row rest one,
-      row_fed fields (other_values (takes_value field) row) (subst (IsRow fields) (rest_is (takes_value field) field row rest one) others),
-    )
+row_fed (field ∷ fields) row (rest, one, others) = (
+  field_has field row rest one,
+  row_put (takes_value field) field row rest one,
+  row_fed fields (other_values (takes_value field) row) (subst (IsRow fields) (rest_is (takes_value field) field row rest one) others),
+)
 
 module _ (known : Facts) (all : List Bool) where
   field_sounds : (field : PlainField) (value : Option Tree) → FieldHas field value → (draft next : Draft) → field_laid known draft field value ≡ Ok next

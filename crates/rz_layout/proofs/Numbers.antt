@@ -1,25 +1,25 @@
 -- The faults of rows.
-use Rattle.std.proofs.Common.{◌≡◌, ℕ, zero, suc, ◌+◌, ◌==◌, ◌&&◌, ◌||◌, ℤ, pos, Bool, true, false, List, [], ◌∷◌, ◌++◌, length, Option, Some, None, Result, Ok, Err, refl, sym, ap, subst, ◌∙◌}
-use Rattle.std.specs.Prelude.{if◌then◌else◌, map, nat_lt, nat_abs, option_map, replicate}
+use Rattle.std.proofs.Common.{◌≡◌, ℕ, zero, suc, ◌+◌, ◌==◌, ◌&&◌, ℤ, pos, Bool, true, false, List, [], ◌∷◌, ◌++◌, length, Option, Some, None, Result, Ok, Err, refl}
+use Rattle.std.specs.Prelude.{if◌then◌else◌, map, nat_lt, nat_abs, replicate}
 use Rattle.std.specs.List.{list_all, AllByRecursion}
 use Rattle.rz_core.proofs.Tests.{both}
-use Rattle.rz_core.specs.Lists.{first_of, or_else, unless_fault}
+use Rattle.rz_core.specs.Lists.{or_else, unless_fault}
 use Rattle.rz_core.specs.Stop.{◌>>=◌}
 use Rattle.rz_core.specs.declared.facts.Facts.{Facts}
 use Rattle.rz_expr.specs.Term.{Term}
 use Rattle.rz_expr.specs.Value.{value_of}
 use Rattle.rz_expr.specs.declared.value.EvalFault.{EvalFault}
 use Rattle.rz_expr.specs.declared.value.EvalFault.TheVariants.{BadShift, DataWidth, LaterData, UnknownName, ZeroDivisor}
-use Rattle.rz_bits.specs.Bits.{bits_of, bytes_of, number_bits}
+use Rattle.rz_bits.specs.Bits.{bytes_of, number_bits}
 use Rattle.rz_bits.specs.BitBuf.{filled}
 use Rattle.rz_layout.specs.Compiled.{is_compile_fault}
-use Rattle.rz_types.specs.Field.{Align, Fill, Number, PlainField, PlainText, Points, Text}
-use Rattle.rz_types.specs.Laid.{bad_length, bad_size, body_laid, bytes_given, bytes_laid, field_laid, first_value, fixed_number, in_order, laid, lay, nothing_laid, number_given, one_more, other_values, piece_laid, refusal, size_in, takes_one, text_laid, text_refusal, too_long, unless, valued, value_in, with_bits, Draft, Refusal}
+use Rattle.rz_types.specs.Field.{Align, Fill, Number, PlainField, Points, Text}
+use Rattle.rz_types.specs.Laid.{bad_length, bad_size, body_laid, bytes_given, bytes_laid, field_laid, first_value, in_order, laid, lay, nothing_laid, number_given, one_more, other_values, piece_laid, refusal, size_in, takes_one, text_refusal, too_long, unless, valued, value_in, with_bits, Draft, Refusal}
 use Rattle.rz_types.specs.Range.{fits_number, may_be_size}
 use Rattle.rz_types.specs.Row.{takes_value}
 use Rattle.rz_types.specs.Shape.{are_fixed_points, is_empty, is_fixed_number, is_fixed_text, is_key_shaped, is_none_or, is_own_width, is_shaped, is_symbol_of, is_well_shaped, numbers_of}
 use Rattle.rz_types.specs.Spells.{fixed_integer, free_integer, integers, most_bits, pieces_of, values_for, Filler, OneNumber, OneText, Piece, Zeros}
-use Rattle.rz_types.specs.Stored.{stored_number, stored_text}
+use Rattle.rz_types.specs.Stored.{stored_number}
 use Rattle.rz_types.specs.Text.{PlainPart}
 use Rattle.rz_types.specs.Value.{field_sight, is_field_expression, IsArithmetic}
 use Rattle.rz_types.specs.declared.field.NumForm.{NumForm}
@@ -136,7 +136,7 @@ module _ (arithmetic : (known : Facts) (term : Term) → is_field_expression ter
   laid_known piece form size bytes =
       unless_known (text_refusal piece form size (length bytes)) _
       (or_known (bad_size piece form size) (or_else (bad_length piece form size (length bytes)) None) (bad_size_known piece form size)
-          (or_known (bad_length piece form size (length bytes)) None (test_known _ (refusal 216 piece (pos (length bytes))) refl) tt))
+      (or_known (bad_length piece form size (length bytes)) None (test_known _ (refusal 216 piece (pos (length bytes))) refl) tt))
 
   piece_known : (draft : Draft) (piece : Piece) → HasFields piece → (value : Option Tree) → Known (piece_laid known draft piece value)
   piece_known draft (OneNumber number) is value =

@@ -1,5 +1,5 @@
 -- A text that is laid as a piece.
-use Rattle.std.proofs.Common.{◌≡◌, ℕ, ℤ, ◌*◌, ◌++◌, Bool, List, length, Option, None, Result, sym, ap, ◌∙◌}
+use Rattle.std.proofs.Common.{◌≡◌, ℕ, ℤ, ◌*◌, ◌++◌, Bool, List, length, Option, None, sym, ap, ◌∙◌}
 use Rattle.std.specs.Prelude.{nat_abs, option_map}
 use Rattle.rz_core.specs.Lists.{unless_fault}
 use Rattle.rz_core.specs.Stop.{◌>>=◌}

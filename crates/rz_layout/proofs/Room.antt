@@ -1,13 +1,11 @@
 -- Bits that are laid as a piece, and those for which there is no room.
-use Rattle.std.proofs.Common.{◌≡◌, ℕ, zero, suc, ◌+◌, ◌*◌, ◌/◌, ◌<◌, ◌≤◌, Bool, true, false, List, [], ◌∷◌, ◌++◌, length, Result, Ok, Err, refl, sym, ap, subst, ◌∙◌, arith, pos, ℤ}
-use Rattle.std.specs.Prelude.{if◌then◌else◌, nat_lt, replicate}
+use Rattle.std.proofs.Common.{◌≡◌, ℕ, zero, suc, ◌+◌, ◌<◌, ◌≤◌, Bool, true, false, List, ◌++◌, length, Result, Ok, Err, refl, sym, ap, subst, ◌∙◌, arith}
+use Rattle.std.specs.Prelude.{if◌then◌else◌, nat_lt}
 use Rattle.std.proofs.lemmas.Bool.{le-ltb, ltb-false}
 use Rattle.rz_core.specs.declared.stop.Stop.{Stop}
 use Rattle.rz_core.specs.declared.stop.Stop.TheVariants.{NoMemory, Refused}
-use Rattle.std.proofs.lemmas.List.{append_assoc, length-append, length-replicate}
-use Rattle.rz_bits.specs.Bits.{bits_of, number_bits}
-use Rattle.rz_bits.specs.BitBuf.{zeros}
-use Rattle.rz_layout.specs.Fault.{refusal_of}
+use Rattle.std.proofs.lemmas.List.{length-append}
+use Rattle.rz_bits.specs.Bits.{number_bits}
 use Rattle.rz_layout.specs.Laid.{HasRoom, Lays}
 use Rattle.rz_layout.specs.declared.fault.LayFault.{LayFault}
 use Rattle.rz_types.specs.Laid.{one_more, too_long, with_bits, Draft, Refusal}

@@ -1,7 +1,7 @@
 -- The fields of a template one by one, and their values.
-use Rattle.std.proofs.Common.{◌≡◌, ℕ, ◌+◌, ◌<◌, ℤ, Bool, true, false, ◌&&◌, List, [], ◌∷◌, length, get_or, drop, map, Option, Some, None, Result, Ok, Err, refl, sym, ap, subst, ◌∙◌}
+use Rattle.std.proofs.Common.{◌≡◌, ℕ, ◌+◌, ◌<◌, ℤ, Bool, true, false, List, [], ◌∷◌, length, get_or, drop, map, Option, Some, None, Result, Ok, Err, refl, sym, ap, subst, ◌∙◌}
 use Rattle.std.specs.Prelude.{option_map}
-use Rattle.std.specs.List.{list_all, AllByRecursion}
+use Rattle.std.specs.List.{list_all}
 use Rattle.std.specs.Option.{is_none}
 use Rattle.std.proofs.lemmas.List.{drop_more}
 use Rattle.rz_core.proofs.Tests.{both}
@@ -15,9 +15,9 @@ use Rattle.rz_layout.specs.Laid.{Lays}
 use Rattle.rz_layout.specs.Sound.{AreSound, HasValue, IsGroupBy, IsSound}
 use Rattle.rz_layout.specs.declared.fault.LayFault.{LayFault}
 use Rattle.rz_types.specs.Field.{Align, Fill, Number, PlainField, PlainPoints, Points, Text, plain_body, plain_field}
-use Rattle.rz_types.specs.Laid.{body_laid, field_laid, first_value, in_order, other_values, Draft, Refusal}
+use Rattle.rz_types.specs.Laid.{body_laid, field_laid, first_value, other_values, Draft, Refusal}
 use Rattle.rz_types.specs.Row.{takes_value, IsFieldOf, IsRow}
-use Rattle.rz_types.specs.Rules.{bad_width, broken, broken_at, keeps_rules, walked, Visit}
+use Rattle.rz_types.specs.Rules.{bad_width, broken, broken_at, keeps_rules, walked}
 use Rattle.rz_types.specs.Shape.{is_shaped, is_well_shaped, numbers_of}
 use Rattle.rz_types.specs.Spells.{group_in}
 use Rattle.rz_types.specs.declared.field.Field.{Field}

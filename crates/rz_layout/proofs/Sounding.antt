@@ -1,27 +1,23 @@
 -- What is laid is spelled so: pieces, and values one behind the other.
-use Rattle.std.proofs.Common.{◌≡◌, ℕ, zero, suc, ◌+◌, ◌-◌, ◌*◌, ◌%◌, ◌^◌, ◌<◌, ◌≤◌, ℤ, pos, negsuc, Bool, true, false, ◌&&◌, List, [], ◌∷◌, ◌++◌, length, take, drop, map, Option, Some, None, Result, Ok, Err, refl, sym, ap, subst, ◌∙◌, arith}
+use Rattle.std.proofs.Common.{◌≡◌, ℕ, ◌+◌, ◌^◌, ◌<◌, ◌≤◌, ℤ, pos, negsuc, Bool, true, false, List, [], ◌∷◌, ◌++◌, length, take, drop, Option, Some, None, Result, Ok, Err, refl, sym, ap, subst, ◌∙◌, arith}
 use Rattle.std.specs.Prelude.{if◌then◌else◌, nat_lt, not, nat_abs, option_map}
-use Rattle.std.specs.List.{AllByRecursion}
-use Rattle.std.specs.Option.{is_some, is_none}
 use Rattle.std.proofs.lemmas.Bool.{ltb-false}
-use Rattle.std.proofs.lemmas.List.{append_assoc, length-append, take-take, drop-take}
+use Rattle.std.proofs.lemmas.List.{length-append, take-take, drop-take}
 use Rattle.std.proofs.Math.Seq.{take-append_seam, drop-append_seam}
 use Rattle.rz_core.specs.Lists.{or_else, unless_fault}
 use Rattle.rz_core.specs.Stop.{◌>>=◌}
 use Rattle.rz_core.specs.declared.facts.Facts.{Facts}
-use Rattle.rz_expr.specs.Environment.{Environment, Key}
 use Rattle.rz_expr.specs.Term.{Term}
 use Rattle.rz_expr.specs.Value.{value_of}
 use Rattle.rz_expr.specs.declared.value.EvalFault.{EvalFault}
 use Rattle.rz_bits.specs.Bits.{bits_of, number_bits}
-use Rattle.rz_bits.specs.BitBuf.{missing, zeros}
-use Rattle.rz_types.specs.Field.{PlainNumber, PlainText}
-use Rattle.rz_types.specs.Laid.{bad_length, bad_size, bytes_given, bytes_laid, first_value, fixed_bytes, fixed_number, in_order, joined, lay, number_given, number_in, one_more, other_values, piece_laid, refusal, size_in, takes_one, text_in, text_laid, text_refusal, too_long, unless, valued, value_in, value_refusal, with_bits, Draft, Refusal}
+use Rattle.rz_types.specs.Field.{PlainText}
+use Rattle.rz_types.specs.Laid.{bad_length, bad_size, bytes_given, bytes_laid, first_value, fixed_number, in_order, joined, lay, number_given, number_in, one_more, other_values, piece_laid, refusal, size_in, text_in, text_laid, text_refusal, too_long, unless, valued, value_in, with_bits, Draft, Refusal}
 use Rattle.rz_types.specs.Range.{fits_number, may_be_size}
 use Rattle.rz_types.specs.Spells.{marks, most_bits, nowhere, outside, put, sees, AreBytes, Filler, InOrder, IsNumber, IsSize, IsStored, IsText, Late, Names, OneNumber, OneText, Piece, PieceSpells, RowSpells, Zeros}
-use Rattle.rz_types.specs.Stored.{is_too_long, stored_number, stored_text}
+use Rattle.rz_types.specs.Stored.{stored_number, stored_text}
 use Rattle.rz_types.specs.Text.{bytes_of as text_bytes_of, PlainPart}
-use Rattle.rz_types.specs.Value.{field_sight, is_field_expression, symbol_key}
+use Rattle.rz_types.specs.Value.{field_sight}
 use Rattle.rz_types.specs.declared.field.NumForm.{NumForm}
 use Rattle.rz_types.specs.declared.field.TextForm.{TextForm}
 use Rattle.rz_types.specs.declared.field.TextForm.TheVariants as forms
@@ -97,8 +93,7 @@ module _ (known : Facts) (all : List Bool) where
   number_sound piece at form width (Some term) value has bits is =
       let outer = chained (fixed_number piece known form width term) (λ n. Ok (number_bits (nat_abs width) n)) bits is in
       let inner = chained (value_in piece known term) (λ v. unless_fault (unless (fits_number form width v) (refusal 207 piece v)) (stored_number (nat_abs width) v)) outer.value outer.is in
-      let free = unrefused (unless (fits_number form width inner.value) (refusal 207 piece inner.value)) (stored_number (nat_abs width) inner.value) outer.value inner.leads in
-      (
+      let free = unrefused (unless (fits_number form width inner.value) (refusal 207 piece inner.value)) (stored_number (nat_abs width) inner.value) outer.value inner.leads in (
         inner.value,
         has,
         value_sound piece at term inner.value inner.is,
@@ -128,8 +123,7 @@ module _ (known : Facts) (all : List Bool) where
       let same : Some inner.value ≡ found = same_ok _ found inner.leads in
       let fits : may_be_size form inner.value ≡ true =
       held (may_be_size form inner.value) (refusal 207 piece inner.value) (subst (λ (o : Option ℤ). bad_size piece form o ≡ None) (sym same) allowed) in
-      let natural = may_be_natural form inner.value fits in
-      (
+      let natural = may_be_natural form inner.value fits in (
         nat_abs inner.value,
         value_sound piece at term inner.value inner.is ∙ ap (λ (z : ℤ). Ok z) (sym natural),
         subst (λ (z : ℤ). may_be_size form z ≡ true) (sym natural) fits,
@@ -234,7 +228,7 @@ module _ (known : Facts) (all : List Bool) where
 
   module _ {A : Type 0} (Is : A → Option Tree → RowSpells) (takes : A → Bool) (lay_one : Draft → A → Option Tree → Result Draft Refusal) (Has : A → Option Tree → Type 0)
       (sounds : (x : A) (value : Option Tree) → Has x value → (draft next : Draft) → lay_one draft x value ≡ Ok next → Front next → (late : Late)
-          → Sounds (λ at late_after. Is x value at late (length next.bits) late_after) draft) where
+      → Sounds (λ at late_after. Is x value at late (length next.bits) late_after) draft) where
     pub order_sound : (xs : List A) (values : List Tree) → Fed takes Has xs values → (draft next : Draft) → in_order takes lay_one draft xs values ≡ Ok next → Front next
         → (late : Late) → Sounds (λ at late_after. InOrder Is xs values at late (length next.bits) late_after) draft
     order_sound [] values fed draft next is front late =

@@ -1,22 +1,18 @@
 -- What is spelled is laid so: pieces, and values one behind the other.
-use Rattle.std.proofs.Common.{◌≡◌, ℕ, zero, suc, ◌+◌, ◌-◌, ◌*◌, ◌%◌, ◌^◌, ◌<◌, ◌≤◌, ℤ, pos, Bool, true, false, ◌&&◌, List, [], ◌∷◌, ◌++◌, length, take, drop, Option, Some, None, Result, Ok, Err, refl, sym, ap, subst, ◌∙◌, arith}
-use Rattle.std.specs.Prelude.{if◌then◌else◌, not, map, nat_abs, option_map}
-use Rattle.std.specs.List.{AllByRecursion}
-use Rattle.std.specs.Option.{is_some, is_none}
-use Rattle.std.proofs.lemmas.List.{length-append, take-append-drop}
-use Rattle.rz_core.proofs.Tests.{both}
+use Rattle.std.proofs.Common.{◌≡◌, ℕ, zero, suc, ◌+◌, ◌≤◌, ℤ, pos, Bool, true, false, List, [], ◌∷◌, ◌++◌, length, take, drop, Option, Some, None, Result, Ok, refl, sym, ap, subst, ◌∙◌, arith}
+use Rattle.std.specs.Prelude.{not, nat_abs, option_map}
+use Rattle.std.specs.Option.{is_some}
+use Rattle.std.proofs.lemmas.List.{length-append}
 use Rattle.rz_core.specs.Lists.{or_else, unless_fault}
 use Rattle.rz_core.specs.Stop.{◌>>=◌}
 use Rattle.rz_core.specs.declared.facts.Facts.{Facts}
-use Rattle.rz_expr.specs.Environment.{place_key, Environment, Key, Sight}
-use Rattle.rz_expr.specs.Term.{BitsAt, Constant, FactOf, Named, OfOne, OfTwo, RowsOf, Term}
-use Rattle.rz_expr.specs.Value.{known_value, operate, operate_one, reduced, value_of}
-use Rattle.rz_expr.specs.declared.value.EvalFault.{EvalFault}
+use Rattle.rz_expr.specs.Environment.{Environment, Key}
+use Rattle.rz_expr.specs.Term.{Term}
+use Rattle.rz_expr.specs.Value.{value_of}
 use Rattle.rz_bits.specs.Bits.{bits_of, number_bits}
-use Rattle.rz_bits.specs.BitBuf.{missing, zeros}
 use Rattle.rz_types.specs.Field.{PlainText}
-use Rattle.rz_types.specs.Laid.{bad_size, bytes_given, bytes_laid, first_value, fixed_number, in_order, joined, lay, number_given, number_in, one_more, other_values, piece_laid, refusal, size_in, takes_one, text_in, text_laid, unless, valued, value_in, with_bits, Draft, Refusal}
-use Rattle.rz_types.specs.Range.{fits_number, may_be_size}
+use Rattle.rz_types.specs.Laid.{bad_size, bytes_given, bytes_laid, first_value, in_order, joined, lay, number_given, number_in, one_more, other_values, piece_laid, refusal, size_in, text_in, text_laid, unless, valued, value_in, with_bits, Draft, Refusal}
+use Rattle.rz_types.specs.Range.{fits_number}
 use Rattle.rz_types.specs.Spells.{most_bits, put, sees, AreBytes, Filler, InOrder, IsNumber, IsSize, IsStored, IsText, Late, Names, OneNumber, OneText, Piece, PieceSpells, RowSpells, Zeros}
 use Rattle.rz_types.specs.Stored.{is_too_long, stored_number, stored_text}
 use Rattle.rz_types.specs.Text.{PlainPart}
@@ -24,7 +20,6 @@ use Rattle.rz_types.specs.Value.{fact_of, field_sight, symbol_key}
 use Rattle.rz_types.specs.declared.field.NumForm.{NumForm}
 use Rattle.rz_types.specs.declared.field.TextForm.{TextForm}
 use Rattle.rz_types.specs.declared.tree.Tree.{Tree}
-use Rattle.rz_types.specs.declared.tree.Tree.TheVariants as trees
 use Rattle.rz_layout.proofs.Room.{laid_in}
 
 abbrev pub good : {X : Type 0} → X → Result X Refusal
@@ -55,10 +50,10 @@ module _ (known : Facts) (all : List Bool) (names : Environment) (give : (key : 
       ap (λ (o : Option Tree). good (number_bits (nat_abs width) (number_in o))) it.1 ∙ ap good (sym it.3)
   number_spelled piece at form width (Some term) value bits it =
       ap (λ (r : Result ℤ Refusal).
-          (r >>= λ v. unless_fault (unless (fits_number form width v) (refusal 207 piece v)) (stored_number (nat_abs width) v)) >>= λ n. good (number_bits (nat_abs width) n))
+      (r >>= λ v. unless_fault (unless (fits_number form width v) (refusal 207 piece v)) (stored_number (nat_abs width) v)) >>= λ n. good (number_bits (nat_abs width) n))
       (value_spelled piece at term it.0 it.2)
       ∙ ap (λ (b : Bool).
-          unless_fault (unless b (refusal 207 piece it.0)) (stored_number (nat_abs width) it.0) >>= λ n. good (number_bits (nat_abs width) n))
+      unless_fault (unless b (refusal 207 piece it.0)) (stored_number (nat_abs width) it.0) >>= λ n. good (number_bits (nat_abs width) n))
       it.3
       ∙ ap good (sym it.4)
 
@@ -92,7 +87,7 @@ module _ (known : Facts) (all : List Bool) (names : Environment) (give : (key : 
       ap (λ (o : Option ℕ). is_too_long text.form o (length it.bytes)) s.same ∙ it.short in
       (λ i. s.is i >>= λ size. b i >>= λ bytes. bytes_laid piece text.form size bytes)
       ∙ (λ i. unless_fault (or_else (s.allowed i) (or_else (unless (not (too i)) (refusal 216 piece (pos (length it.bytes)))) None))
-          (bits_of (stored_text text.form (s.same i) it.bytes)))
+      (bits_of (stored_text text.form (s.same i) it.bytes)))
       ∙ ap good (sym it.are_bits)
 
   pub stored_spelled : (piece : Piece) (draft : Draft) (value : Option Tree) (bits : List Bool)
@@ -107,7 +102,6 @@ module _ (known : Facts) (all : List Bool) (names : Environment) (give : (key : 
   pub record Fits (draft : Draft) (at : ℕ) : Type 0 where
     pub front : draft.bits ≡ take at all
     pub size : length draft.bits ≡ at
-
 
   -- what is laid next fits to a further place
   pub record Goes (laid : Result Draft Refusal) (after : ℕ) : Type 0 where
@@ -135,7 +129,7 @@ module _ (known : Facts) (all : List Bool) (names : Environment) (give : (key : 
   module _ {A : Type 0} (Is : A → Option Tree → RowSpells) (takes : A → Bool) (lay_one : Draft → A → Option Tree → Result Draft Refusal)
       (taken : (x : A) (value : Option Tree) (at after : ℕ) (late late_after : Late) → Is x value at late after late_after → is_some value ≡ takes x)
       (goes : (x : A) (value : Option Tree) (at after : ℕ) (late late_after : Late) → Is x value at late after late_after → (draft : Draft) → Fits draft at
-          → Goes (lay_one draft x value) after) where
+      → Goes (lay_one draft x value) after) where
     first_is : (takes : Bool) (value : Option Tree) (rest : List Tree) → is_some value ≡ takes → first_value takes (put value rest) ≡ value
     first_is true (Some value) rest is = refl
     first_is true None rest is = absurd cc
@@ -159,7 +153,7 @@ module _ (known : Facts) (all : List Bool) (names : Environment) (give : (key : 
         record {
           next = more.next;
           is = (λ i. lay_one draft x ((ap (first_value (takes x)) are ∙ first_is (takes x) value rest is_taken) i)
-                  >>= λ next. in_order takes lay_one next xs ((ap (other_values (takes x)) are ∙ others_are (takes x) value rest is_taken) i))
+              >>= λ next. in_order takes lay_one next xs ((ap (other_values (takes x)) are ∙ others_are (takes x) value rest is_taken) i))
               ∙ ap (λ (r : Result Draft Refusal). r >>= λ next. in_order takes lay_one next xs rest) step.is
               ∙ more.is;
           fits = more.fits;

@@ -1,8 +1,8 @@
 -- Zero bits and the bits of bytes, one part after the other.
-use Rattle.std.proofs.Common.{◌≡◌, ℕ, zero, suc, ◌+◌, ◌-◌, ◌*◌, ◌/◌, ◌%◌, ◌^◌, ◌<◌, ◌≤◌, ◌==◌, Bool, true, false, List, [], ◌∷◌, ◌++◌, length, get_or, take, drop, Result, Ok, Err, Option, Some, None, refl, sym, ap, subst, ◌∙◌, arith}
-use Rattle.std.specs.Prelude.{min, replicate, OnOk}
+use Rattle.std.proofs.Common.{◌≡◌, ℕ, zero, suc, ◌+◌, ◌-◌, ◌*◌, ◌/◌, ◌%◌, ◌^◌, ◌<◌, ◌≤◌, ◌==◌, Bool, false, List, [], ◌∷◌, ◌++◌, length, get_or, take, drop, Result, Ok, Err, Option, Some, None, refl, sym, ap, subst, ◌∙◌, arith}
+use Rattle.std.specs.Prelude.{replicate, OnOk}
 use Rattle.std.proofs.lemmas.List.{append_assoc, append-nil, drop_more, length-append, length-replicate, length-take, replicate-append-replicate, take_all}
-use Rattle.rz_bits.specs.Bits.{bit, bits_of, number_bits}
+use Rattle.rz_bits.specs.Bits.{bits_of, number_bits}
 use Rattle.rz_bits.specs.BitBuf.{zeros}
 use Rattle.rz_layout.specs.Text.{sized_length, stored_length}
 use Rattle.rz_types.specs.Stored.{before_zero, sized, stored_text, to_size}
@@ -102,8 +102,8 @@ filled_bits bits middle after size bytes less is so =
     so ∙ ap (λ bs. bs ++ zeros (8 * (size - length bytes))) is
     ∙ append_assoc bits (bits_of bytes) (zeros (8 * (size - length bytes)))
     ∙ ap (λ bs. bits ++ bs) (
-        (λ i. bits_of (sym (take_all size bytes (omega (arith, less))) i) ++ sym (zero_bytes (size - length bytes)) i)
-        ∙ sym (append_bits (take size bytes) (replicate (size - length bytes) 0)))
+    (λ i. bits_of (sym (take_all size bytes (omega (arith, less))) i) ++ sym (zero_bytes (size - length bytes)) i)
+    ∙ sym (append_bits (take size bytes) (replicate (size - length bytes) 0)))
 
 pub zero_end : (bits middle after : List Bool) (bytes : List ℕ) → middle ≡ bits ++ bits_of bytes → after ≡ middle ++ bits_of (0 ∷ []) → after ≡ bits ++ bits_of (bytes ++ 0 ∷ [])
 zero_end bits middle after bytes is so =

@@ -136,7 +136,9 @@ fn lay_field(
         Field::Num(number) => lay_number(number, value, facts, laid),
         Field::Text(text) => lay_text(alloc, text, value, facts, laid),
         Field::Points(points) => lay_points(points, value, facts, laid),
-        Field::Fill(unit, count) => laid.put_zeros(u64::from(*unit) * u64::from(count.unsigned_abs())),
+        Field::Fill(unit, count) => laid.put_zeros(
+            u64::from(*unit) * u64::from(count.unsigned_abs()),
+        ),
         Field::Align(unit) => laid.put_filler(*unit),
     }
 }

@@ -86,7 +86,13 @@ pub fn fixed_number(
 pub fn expression_value(expr: &Expr, facts: &Facts, piece: u64) -> Result<i32, Stop<LayFault>>
     ensures { GivesLaid (value_in piece facts.now (term_of expr.now)) result }
 {
-    match value_in(expr, &FieldEnv { facts, symbols: &[] }) {
+    match value_in(
+        expr,
+        &FieldEnv {
+            facts,
+            symbols: &[],
+        },
+    ) {
         Ok(value) => Ok(value),
         Err(fault) => Err(Stop::Refused(value_fault(fault, piece))),
     }

@@ -1,6 +1,6 @@
 -- The resource of a `resource` statement, one part after the other.
 use Rattle.std.proofs.Common.{◌≡◌, inl, inr, ℕ, List, Result, Ok, Err, refl, sym, ap, ◌∙◌}
-use Rattle.rz_core.proofs.Once.{err, ok, ok_or_err, once_by, once_is, once_then, same_err, same_ok, Once}
+use Rattle.rz_core.proofs.Once.{ok_or_err, once_by, once_is, once_then, same_err, same_ok, Once}
 use Rattle.rz_core.specs.Answers.{Meets, Then}
 use Rattle.rz_core.specs.declared.facts.Facts.{Facts}
 use Rattle.rz_core.specs.declared.fault.Fault.{Fault}
@@ -72,9 +72,9 @@ module _ (matching : (known : Facts) (place : Mark) (body : List PlainField) (it
   once_resource setting mark types one =
       once_then (λ known. known ≡ facts_of setting mark one.kind one.head) (IsMade mark types one.items) (once_is (facts_of setting mark one.kind one.head))
       (λ known. once_then (AreBytes mark types one.items known) (λ bytes answer. answer ≡ Ok (with_bytes known bytes))
-          (once_then (λ body. body ≡ fields_for mark types known) (AreItemBytes mark known one.items) (once_is (fields_for mark types known))
-              (λ body. once_then (IsMatch known mark body one.items) (IsSpelled mark known body) (matching known mark body one.items) (once_spelled mark known body)))
-          (λ bytes. once_is (Ok (with_bytes known bytes))))
+      (once_then (λ body. body ≡ fields_for mark types known) (AreItemBytes mark known one.items) (once_is (fields_for mark types known))
+      (λ body. once_then (IsMatch known mark body one.items) (IsSpelled mark known body) (matching known mark body one.items) (once_spelled mark known body)))
+      (λ bytes. once_is (Ok (with_bytes known bytes))))
 
   pub once_list : (setting : Setting) (mark : Mark) (types : List Declaration) (list : List Resource) (one : Compile) → Once (IsListBehind setting mark types list one)
   once_list setting mark types list one =

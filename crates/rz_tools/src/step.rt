@@ -128,8 +128,14 @@ fn step_at(
     match parse(alloc, tokens, span) {
         Ok(Stmt::Empty) => Ok(()),
         Ok(Stmt::Raw(raw)) => put_raw(alloc, &raw, mark, setting, &mut work.resources),
-        Ok(Stmt::Compile(stmt)) =>
-            put_compiled(alloc, &stmt, mark, setting, &work.types, &mut work.resources),
+        Ok(Stmt::Compile(stmt)) => put_compiled(
+            alloc,
+            &stmt,
+            mark,
+            setting,
+            &work.types,
+            &mut work.resources,
+        ),
         Ok(Stmt::Declare(declare)) => declare_type(alloc, declare, mark, setting, work),
         Err(stop) => Err(stop),
     }

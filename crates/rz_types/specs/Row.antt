@@ -1,6 +1,6 @@
 -- Rows: the values that a resource gives to the fields of its type, one for each field that has none of its own. (MPW
 -- Rez.)
-use Rattle.std.specs.Prelude.{◌≡◌, ℕ, ◌<◌, ◌^◌, nat_abs, Bool, true, false, List, [], ◌∷◌, length, Option, None}
+use Rattle.std.specs.Prelude.{◌≡◌, ℕ, ◌<◌, ◌^◌, nat_abs, Bool, true, false, List, [], ◌∷◌, length}
 use Rattle.std.specs.List.{AllByRecursion}
 use Rattle.std.specs.Option.{is_none}
 use Rattle.rz_types.specs.Field.{Align, Fill, Number, PlainField, Points, Text}

@@ -1,6 +1,6 @@
 -- Which bytes the values of a row spell under the fields of a type. (Inside Macintosh: More Macintosh Toolbox, Resource
 -- Manager; MPW Rez.)
-use Rattle.std.specs.Prelude.{◌≡◌, ◌≢◌, ℕ, ◌+◌, ◌-◌, ◌*◌, ◌<◌, ◌≤◌, ◌^◌, ℤ, pos, negsuc, nat_abs, nat_le, Bool, true, false, if◌then◌else◌, List, [], ◌∷◌, ◌++◌, length, map, take, drop, replicate, slice_index, Option, Some, None, Ok}
+use Rattle.std.specs.Prelude.{◌≡◌, ◌≢◌, ℕ, ◌+◌, ◌*◌, ◌<◌, ◌≤◌, ◌^◌, ℤ, pos, nat_abs, Bool, true, false, List, [], ◌∷◌, ◌++◌, length, map, take, drop, replicate, slice_index, Option, Some, None, Ok}
 use Rattle.std.specs.Option.{option_to_list}
 use Rattle.std.specs.List.{AllByRecursion, sum_by}
 use Rattle.rz_core.specs.declared.facts.Facts.{Facts}
@@ -8,7 +8,7 @@ use Rattle.rz_core.specs.declared.fault.Mark.{Mark}
 use Rattle.rz_expr.specs.Environment.{Environment, Key, Sight}
 use Rattle.rz_expr.specs.Term.{Term}
 use Rattle.rz_expr.specs.Value.{value_of}
-use Rattle.rz_bits.specs.Bits.{bits_of, number_bits, number_of}
+use Rattle.rz_bits.specs.Bits.{bits_of, number_bits}
 use Rattle.rz_bits.specs.BitBuf.{filled, missing, zeros}
 use Rattle.rz_types.specs.Field.{Align, Fill, Number, PlainField, PlainNumber, PlainText, Points, Text}
 use Rattle.rz_types.specs.Range.{fits_number, may_be_size}

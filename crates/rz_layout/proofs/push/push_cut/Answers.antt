@@ -1,4 +1,4 @@
-use Rattle.std.proofs.Common.{◌≡◌, ◌*◌, ◌-◌, ◌<◌, ◌++◌, length, arith}
+use Rattle.std.proofs.Common.{◌≡◌, ◌*◌, ◌-◌, ◌++◌, length, arith}
 use Rattle.rz_bits.specs.Bits.{bits_of}
 use Rattle.rz_bits.specs.BitBuf.{zeros}
 use Rattle.rz_types.specs.Stored.{sized}

@@ -1,5 +1,5 @@
-use Rattle.std.proofs.Common.{◌≡◌, ◌+◌, ◌*◌, ◌<◌, ◌++◌, [], ◌∷◌, List, Bool, ℕ, Option, length, sym, ap, subst, ◌∙◌, arith}
-use Rattle.rz_bits.specs.Bits.{bits_of, number_bits}
+use Rattle.std.proofs.Common.{◌≡◌, ◌*◌, ◌++◌, [], ◌∷◌, ℕ, Option, length, sym, ap, ◌∙◌, arith}
+use Rattle.rz_bits.specs.Bits.{bits_of}
 use Rattle.rz_layout.specs.Text.{sized_length}
 use Rattle.rz_types.specs.Stored.{before_zero, stored_text, to_size}
 use Rattle.rz_types.specs.declared.field.TextForm.{TextForm}
@@ -36,6 +36,6 @@ returns-in_ok-push_sized-in-Zero c =
     on_ok c.push_bytes.result (c.push_bytes.new.bits ≡ c.push_sized-in-Zero.new.bits ++ bits_of (0 ∷ []))
     (c.push_bytes.new.bits ≡ c.args.bits.now ++ bits_of (stored_text c.args.form c.args.size c.args.bytes.now))
     (λ so. zero_end c.args.bits.now c.push_sized-in-Zero.new.bits c.push_bytes.new.bits (to_size (before_zero c.args.size) c.args.bytes.now)
-        (c.in_ok-push_sized-in-Zero.ensures ∙ ap (λ (s : Option ℕ). c.args.bits.now ++ bits_of (to_size s c.args.bytes.now)) c.before_zero.ensures) so
-        ∙ ap (λ (f : TextForm). c.args.bits.now ++ bits_of (stored_text f c.args.size c.args.bytes.now)) (sym c.in-Zero.is))
+    (c.in_ok-push_sized-in-Zero.ensures ∙ ap (λ (s : Option ℕ). c.args.bits.now ++ bits_of (to_size s c.args.bytes.now)) c.before_zero.ensures) so
+    ∙ ap (λ (f : TextForm). c.args.bits.now ++ bits_of (stored_text f c.args.size c.args.bytes.now)) (sym c.in-Zero.is))
     c.push_bytes.ensures

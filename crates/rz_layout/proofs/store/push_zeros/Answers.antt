@@ -1,4 +1,4 @@
-use Rattle.std.proofs.Common.{◌≡◌, ◌+◌, ◌-◌, ◌++◌, arith, sym, ap, ◌∙◌, subst}
+use Rattle.std.proofs.Common.{◌-◌, ◌++◌, arith, ap, ◌∙◌}
 use Rattle.rz_bits.specs.BitBuf.{zeros}
 use Rattle.rz_layout.proofs.Stores.{zeros_last, zeros_more, zeros_room}
 use Rattle.rz_layout.proofs.store.push_zeros.Goals as goal

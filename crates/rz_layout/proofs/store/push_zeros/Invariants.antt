@@ -1,4 +1,4 @@
-use Rattle.std.proofs.Common.{◌≡◌, ◌+◌, ◌-◌, ◌<◌, ◌^◌, ◌++◌, length}
+use Rattle.std.proofs.Common.{◌≡◌, ◌+◌, ◌<◌, ◌^◌, ◌++◌, length}
 use Rattle.rz_bits.specs.BitBuf.{zeros}
 use Rattle.rz_layout.proofs.store.push_zeros.Given as goal
 

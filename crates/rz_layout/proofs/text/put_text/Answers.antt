@@ -8,15 +8,15 @@ pub returns-in-Err-clause-laid : goal.returns-in-Err-clause-laid
 returns-in-Err-clause-laid c =
     subst (λ r. Lays r (Err c.in-Err.stop) (draft_of c.args.laid.now)) (sym (put_is (draft_of c.args.laid.now) c.args.form c.args.size c.args.bytes.now c.in_default.ensures))
     (no_room (draft_of c.args.laid.now) (text_bits (draft_of c.args.laid.now) c.args.form c.args.size c.args.bytes.now) (8 * c.stored_length.result)
-        (text_count (draft_of c.args.laid.now) c.args.form c.args.size c.args.bytes.now c.unsigned-size.result c.stored_length.result c.unsigned-size.ensures c.stored_length.ensures.length)
-        c.in-Err.stop c.in-Err.ensures (draft_of c.args.laid.now))
+    (text_count (draft_of c.args.laid.now) c.args.form c.args.size c.args.bytes.now c.unsigned-size.result c.stored_length.result c.unsigned-size.ensures c.stored_length.ensures.length)
+    c.in-Err.stop c.in-Err.ensures (draft_of c.args.laid.now))
 
 pub returns-clause-laid : goal.returns-clause-laid
 returns-clause-laid c =
     put_is (draft_of c.args.laid.now) c.args.form c.args.size c.args.bytes.now c.in_default.ensures
     ∙ some_room (draft_of c.args.laid.now) (text_bits (draft_of c.args.laid.now) c.args.form c.args.size c.args.bytes.now) (8 * c.stored_length.result)
-        (text_count (draft_of c.args.laid.now) c.args.form c.args.size c.args.bytes.now c.unsigned-size.result c.stored_length.result c.unsigned-size.ensures c.stored_length.ensures.length)
-        c.in-Ok.ensures
+    (text_count (draft_of c.args.laid.now) c.args.form c.args.size c.args.bytes.now c.unsigned-size.result c.stored_length.result c.unsigned-size.ensures c.stored_length.ensures.length)
+    c.in-Ok.ensures
     ∙ (λ i. Ok (record { piece = sym c.one_more-laid.ensures i; bits = sym (pushed (draft_of c.args.laid.now) c.args.form c.args.size c.args.bytes.now c.unsigned-size.result c.push_text.new.bits c.unsigned-size.ensures c.in_ok-push_text.ensures) i }))
 
 pub returns-clause-short : goal.returns-clause-short

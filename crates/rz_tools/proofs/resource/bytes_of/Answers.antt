@@ -1,6 +1,5 @@
-use Rattle.std.proofs.Common.{◌≡◌, List, Option, Some, Ok, sym, ap, ◌∙◌}
+use Rattle.std.proofs.Common.{◌≡◌, List, Option, ap}
 use Rattle.std.specs.Option.{ok_or}
-use Rattle.std.specs.Prelude.{option_map}
 use Rattle.rz_items.specs.Item.{plain_items}
 use Rattle.rz_tools.specs.Resource.{fields_for, no_type, AreItemBytes}
 use Rattle.rz_types.specs.Field.{PlainField}

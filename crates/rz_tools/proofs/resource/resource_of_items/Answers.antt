@@ -1,5 +1,4 @@
 use Rattle.std.proofs.Common.{◌≡◌, sym}
-use Rattle.rz_items.specs.Compile.{compile_of}
 use Rattle.rz_items.specs.Item.{plain_items}
 use Rattle.rz_stmt.specs.Head.{head_of}
 use Rattle.rz_tools.specs.Head.{facts_of}

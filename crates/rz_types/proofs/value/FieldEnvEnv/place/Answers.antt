@@ -1,4 +1,4 @@
-use Rattle.std.proofs.Common.{rules, sym, ap, ◌∙◌}
+use Rattle.std.proofs.Common.{sym, ◌∙◌}
 use Rattle.rz_types.proofs.Symbols.{as_symbol, no_symbol}
 use Rattle.rz_types.proofs.value.FieldEnvEnv.place.Goals as goal
 
