@@ -25,12 +25,12 @@ module _ (read : (bytes : List ℕ) → ((k : ℕ) → slice_index bytes k < 256
   -- an answer is what is laid
   pub answer_is : (answer : Result (List ℕ) Refusal) → IsCompiled known body row answer → laid known body row ≡ answer
   answer_is (Ok bytes) it = complete read known body row bytes it
-  answer_is (Err fault) it = it
+  answer_is (Err fault) it = it.1
 
   module _ (are : IsRow body row) where
     pub laid_is : (answer : Result (List ℕ) Refusal) → laid known body row ≡ answer → IsCompiled known body row answer
     laid_is (Ok bytes) is = sound written multiple small known body row bytes are is
-    laid_is (Err fault) is = is
+    laid_is (Err fault) is = (are, is)
 
     pub one_answer : (answer : Result (List ℕ) Refusal) × IsCompiled known body row answer
     one_answer = (laid known body row, laid_is (laid known body row) refl)

@@ -7,6 +7,7 @@ use Rattle.std.proofs.Math.Seq.{take-append_seam, drop-append_seam}
 use Rattle.rz_core.specs.Lists.{or_else, unless_fault}
 use Rattle.rz_core.specs.Stop.{◌>>=◌}
 use Rattle.rz_core.specs.declared.facts.Facts.{Facts}
+use Rattle.rz_expr.specs.Environment.{Sight}
 use Rattle.rz_expr.specs.Term.{Term}
 use Rattle.rz_expr.specs.Value.{value_of}
 use Rattle.rz_expr.specs.declared.value.EvalFault.{EvalFault}
@@ -14,7 +15,7 @@ use Rattle.rz_bits.specs.Bits.{bits_of, number_bits}
 use Rattle.rz_types.specs.Field.{PlainText}
 use Rattle.rz_types.specs.Laid.{bad_length, bad_size, bytes_given, bytes_laid, first_value, fixed_number, in_order, joined, lay, number_given, number_in, one_more, other_values, piece_laid, refusal, size_in, text_in, text_laid, text_refusal, too_long, unless, valued, value_in, with_bits, Draft, Refusal}
 use Rattle.rz_types.specs.Range.{fits_number, may_be_size}
-use Rattle.rz_types.specs.Spells.{marks, most_bits, nowhere, outside, put, sees, AreBytes, Filler, InOrder, IsNumber, IsSize, IsStored, IsText, Late, Names, OneNumber, OneText, Piece, PieceSpells, RowSpells, Zeros}
+use Rattle.rz_types.specs.Spells.{is_late_size, is_late_value, marks, most_bits, nowhere, outside, put, sees, AreBytes, Filler, InOrder, IsNumber, IsSize, IsStored, IsText, Late, Names, OneNumber, OneText, Piece, PieceSpells, RowSpells, Zeros}
 use Rattle.rz_types.specs.Stored.{stored_number, stored_text}
 use Rattle.rz_types.specs.Text.{bytes_of as text_bytes_of, PlainPart}
 use Rattle.rz_types.specs.Value.{field_sight}
@@ -205,6 +206,16 @@ module _ (known : Facts) (all : List Bool) where
     pub spells : Is (length draft.bits) late_after
     pub front : Front draft
 
+  no_late_value : (met : Names) (late : Late) (term : Option Term) (sight : Sight) → is_late_value met late term sight ≡ false
+  no_late_value met late None sight = refl
+  no_late_value met late (Some term) sight = refl
+
+  no_late_size : (met : Names) (late : Late) (piece : Piece) (sight : Sight) → is_late_size met late piece sight ≡ false
+  no_late_size met late (OneNumber number) sight = refl
+  no_late_size met late (OneText text) sight = no_late_value met late text.size sight
+  no_late_size met late (Zeros count) sight = refl
+  no_late_size met late (Filler unit) sight = refl
+
   pub piece_sound : (met : Names) (piece : Piece) (value : Option Tree) → PieceValue piece value → (draft next : Draft) → lay known draft piece value ≡ Ok next → Front next
       → (late : Late) → Sounds (λ at late_after. PieceSpells false known all outside met piece value at late (length next.bits) late_after) draft
   piece_sound met piece value has draft next is front late =
@@ -216,6 +227,7 @@ module _ (known : Facts) (all : List Bool) where
         spells = record {
           bits = inner.value;
           stored = stored_sound piece value has draft inner.value inner.is;
+          early = no_late_size met late piece (sees known all outside (length draft.bits));
           there = there draft next inner.value grew.0 front;
           ends = long;
           short = subst (λ n. n ≤ most_bits) (sym long) grew.1;

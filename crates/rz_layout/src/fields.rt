@@ -30,7 +30,8 @@ use std::alloc::Global;
 /// or 215, a shift by a count outside 0 to 31 (kept: the count); 207 for a value outside the range of its number, or a
 /// size that its text may not have (kept: the value); 216 for a text without a size that is too long for its type
 /// (kept: its length); 301 where a piece ends after 16,777,212 bytes (kept: the length to its end in bytes, rounded
-/// up). Its time is in proportion to the row and the bytes. (MPW Rez.)
+/// up). Its time is in proportion to the fields, their expressions and fixed texts, the row and the bytes. (MPW
+/// Rez.)
 pub fn compile(
     alloc: Global,
     template: &Template,

@@ -31,7 +31,8 @@ use std::alloc::Global;
 /// name that is no symbol of the field nor `true` or `false` (kept: the name), 207, a value that isn't in the range
 /// of the field (kept: the value), 211, a zero divisor, 215, a shift by a count outside 0 to 31 (kept: the count),
 /// and 216, a text of more than one byte for a `char`, or one too long for a `pstring` or `wstring` without a size
-/// (kept: how many bytes it has). (MPW Rez.)
+/// (kept: how many bytes it has). Items as statements have them hold no `$$CountOf` and no data functions; of these
+/// the first would be 203, and the others 203 or 213. (MPW Rez.)
 pub fn match_items(
     alloc: Global,
     template: &Template,

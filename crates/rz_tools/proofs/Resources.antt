@@ -70,9 +70,9 @@ module _ (matching : (known : Facts) (place : Mark) (body : List PlainField) (it
 
   pub once_resource : (setting : Setting) (mark : Mark) (types : List Declaration) (one : Compile) → Once (IsResource setting mark types one)
   once_resource setting mark types one =
-      once_then (λ known. known ≡ facts_of setting mark one.kind one.head) (IsMade mark types one.items) (once_is (facts_of setting mark one.kind one.head))
+      once_then (λ answer. answer ≡ facts_of setting mark one.kind one.head) (IsMade mark types one.items) (once_is (facts_of setting mark one.kind one.head))
       (λ known. once_then (AreBytes mark types one.items known) (λ bytes answer. answer ≡ Ok (with_bytes known bytes))
-      (once_then (λ body. body ≡ fields_for mark types known) (AreItemBytes mark known one.items) (once_is (fields_for mark types known))
+      (once_then (λ answer. answer ≡ fields_for mark types known) (AreItemBytes mark known one.items) (once_is (fields_for mark types known))
       (λ body. once_then (IsMatch known mark body one.items) (IsSpelled mark known body) (matching known mark body one.items) (once_spelled mark known body)))
       (λ bytes. once_is (Ok (with_bytes known bytes))))
 

@@ -49,7 +49,7 @@ AreItemBytes mark known items body = Then (IsMatch known mark body items) (IsSpe
 
 -- and under the fields that are declared for the resource
 abbrev pub AreBytes : Mark → List Declaration → List PlainItem → Facts → Result (List ℕ) Fault → Type 0
-AreBytes mark types items known = Then (λ body. body ≡ fields_for mark types known) (AreItemBytes mark known items)
+AreBytes mark types items known = Then (λ answer. answer ≡ fields_for mark types known) (AreItemBytes mark known items)
 
 -- the resource of which this is known
 abbrev pub IsMade : Mark → List Declaration → List PlainItem → Facts → Result Resource Fault → Type 0
@@ -57,4 +57,4 @@ IsMade mark types items known = Then (AreBytes mark types items known) (λ bytes
 
 -- the resource of a statement on this line
 abbrev pub IsResource : Setting → Mark → List Declaration → Compile → Result Resource Fault → Type 0
-IsResource setting mark types one = Then (λ known. known ≡ facts_of setting mark one.kind one.head) (IsMade mark types one.items)
+IsResource setting mark types one = Then (λ answer. answer ≡ facts_of setting mark one.kind one.head) (IsMade mark types one.items)

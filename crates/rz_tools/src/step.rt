@@ -64,8 +64,9 @@ impl Work {
 /// type and id of an earlier one takes its place, unless that one is protected (219), and every other one goes
 /// to the end. A type that is declared again goes to the end of the table, and is warned of unless the
 /// setting allows it. One statement is held at a time. Work and memory are in proportion to the tokens of `data`
-/// statements; each declaration of a type goes over the table of types once, and one that copies takes the memory of
-/// what it copies.
+/// statements, and of `resource` statements also to the fields of their types; a name in an item is looked for among
+/// the symbols of its field. Each declaration of a type and each `resource` statement goes over the table of types
+/// once, and a declaration that copies takes the memory of what it copies.
 pub fn compile_statements(
     alloc: Global,
     tokens: &TokenStore,

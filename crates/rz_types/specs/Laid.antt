@@ -16,7 +16,7 @@ use Rattle.rz_bits.specs.Bits.{bits_of, bytes_of, number_bits}
 use Rattle.rz_bits.specs.BitBuf.{filled, missing, zeros}
 use Rattle.rz_types.specs.Field.{PlainField, PlainNumber, PlainText}
 use Rattle.rz_types.specs.Range.{fits_number, may_be_size}
-use Rattle.rz_types.specs.Row.{takes_value}
+use Rattle.rz_types.specs.Row.{takes_value, IsRow}
 use Rattle.rz_types.specs.Spells.{most_bits, nowhere, pieces_of, values_for, Filler, OneNumber, OneText, Piece, Zeros}
 use Rattle.rz_types.specs.Stored.{is_too_long, stored_number, stored_text}
 use Rattle.rz_types.specs.Text.{bytes_of as text_bytes_of, PlainPart}
@@ -193,6 +193,6 @@ body_laid known draft body row = in_order takes_value (field_laid known) draft b
 abbrev pub laid : Facts → List PlainField → List Tree → Result (List ℕ) Refusal
 laid known body row = body_laid known nothing_laid body row >>= λ draft. Ok (bytes_of (filled 8 draft.bits))
 
--- the row is refused so
+-- a row of these fields is refused so
 abbrev pub Refuses : Facts → List PlainField → List Tree → Refusal → Type 0
-Refuses known body row fault = laid known body row ≡ Err fault
+Refuses known body row fault = IsRow body row × (laid known body row ≡ Err fault)

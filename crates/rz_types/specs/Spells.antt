@@ -131,8 +131,8 @@ abbrev pub IsSize : TextForm → Sight → Option Term → Option ℕ → Type 0
 IsSize form sight None size = size ≡ None
 IsSize form sight (Some term) size = (n : ℕ) × (value_of term sight ≡ Ok (pos n)) × (may_be_size form (pos n) ≡ true) × (size ≡ Some n)
 
--- a value of a text is plain where what is stored tells it again: a `cstring` has no zero byte, no text is longer than its
--- size leaves of it, and a `string` with a size has no zero byte at its end
+-- a value of a text is plain where what is stored tells it again: each of its bytes is one, a `cstring` has no zero byte, no
+-- text is longer than its size leaves of it, and a `string` with a size has no zero byte at its end
 abbrev pub IsPlainZero : TextForm → List ℕ → Type 0
 IsPlainZero texts.Zero bytes = AllByRecursion (λ byte. byte ≢ 0) bytes
 IsPlainZero form bytes = Unit {0}
@@ -150,7 +150,7 @@ left_by texts.Zero size = before_zero size
 left_by form size = size
 
 abbrev pub IsPlainText : TextForm → Option ℕ → List ℕ → Type 0
-IsPlainText form size bytes = IsPlainZero form bytes × IsPlainShort (left_by form size) bytes × IsPlainEnd form size bytes
+IsPlainText form size bytes = AllByRecursion (λ byte. byte < 256) bytes × IsPlainZero form bytes × IsPlainShort (left_by form size) bytes × IsPlainEnd form size bytes
 
 -- the bytes of a text: those of the row's value, which is plain where that is asked for, or those of its fixed parts
 abbrev pub AreBytes : (plain : Bool) → TextForm → Facts → Option (List PlainPart) → Option ℕ → Option Tree → List ℕ → Type 0
@@ -182,6 +182,11 @@ abbrev pub is_late_piece : Names → Late → Piece → Sight → Bool
 is_late_piece met late (OneNumber number) sight = is_late_value met late number.fixed sight
 is_late_piece met late piece sight = false
 
+-- the size of a text is late where its expression is: no such text is spelled
+abbrev pub is_late_size : Names → Late → Piece → Sight → Bool
+is_late_size met late (OneText text) sight = is_late_value met late text.size sight
+is_late_size met late piece sight = false
+
 abbrev pub marks : Names → Late → Piece → Sight → ℕ → Late
 marks met late piece sight count = replicate count (is_late_piece met late piece sight)
 
@@ -196,6 +201,7 @@ pub record PieceSpells (plain : Bool) (known : Facts) (all : List Bool) (names :
     (late : Late) (after : ℕ) (late_after : Late) : Type 0 where
   pub bits : List Bool
   pub stored : IsStored plain piece known at (sees known all names at) value bits
+  pub early : is_late_size met late piece (sees known all names at) ≡ false
   pub there : take (length bits) (drop at all) ≡ bits
   pub ends : after ≡ at + length bits
   pub short : after ≤ most_bits

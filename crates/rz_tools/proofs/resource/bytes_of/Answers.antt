@@ -10,6 +10,6 @@ use Rattle.rz_tools.proofs.resource.bytes_of.Goals as goal
 
 pub returns-in-Some-clause-bytes : goal.returns-in-Some-clause-bytes
 returns-in-Some-clause-bytes c =
-    then_meets (λ body. body ≡ fields_for c.args.mark (table_of c.args.types.now) c.args.known.now) (AreItemBytes c.args.mark c.args.known.now (plain_items c.args.items.now))
+    then_meets (λ answer. answer ≡ fields_for c.args.mark (table_of c.args.types.now) c.args.known.now) (AreItemBytes c.args.mark c.args.known.now (plain_items c.args.items.now))
     (template_of c.in-Some.template.now) (ap (λ (o : Option (List PlainField)). ok_or o (no_type c.args.mark c.args.known.now)) c.in-Some.ensures)
     c.bytes_under.result c.bytes_under.ensures.bytes
