@@ -22,6 +22,8 @@ pub struct Case {
     pub out: Option<Vec<u8>>,
     /// What is wanted on standard error; nothing, unless the case states it.
     pub err: Option<Vec<u8>>,
+    /// In how many places the case is wrong on purpose; in none, unless the case states it.
+    pub wrong: Option<usize>,
 }
 
 /// A file that is there before the run.
@@ -92,6 +94,7 @@ impl Case {
             left: Vec::new(alloc),
             out: None,
             err: None,
+            wrong: None,
         }
     }
 

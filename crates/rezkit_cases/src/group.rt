@@ -60,14 +60,25 @@ fn cases_in<R: Files + AllocGlobal>(rt: &R, name: &str) -> Result<Vec<Case>, Tro
     }
 }
 
-/// Runs a case, prints all that differs, and says whether anything does.
+/// Runs a case, prints all that differs, and says whether anything does. A case that is wrong on purpose in so many
+/// places differs where not just so many do.
 fn print_differences<R: AllocGlobal + Print>(rt: &R, name: &str, case: &Case) -> Result<bool> {
     let ran = run_case(rt.alloc(), case)?;
     let found = differences(rt.alloc(), case, &ran)?;
+    let wrong = case.wrong.unwrap_or(0);
+    if found.len() == wrong {
+        return Ok(false);
+    }
+    let line = case.line;
+    let title = case.name.as_str();
     for difference in &found {
-        let line = case.line;
-        let title = case.name.as_str();
         println!(rt; "{name}:{line}: {title}: {difference}")?;
     }
-    Ok(!found.is_empty())
+    if wrong > 0 {
+        let count = found.len();
+        println!(rt;
+            "{name}:{line}: {title}: {count} places differ, and {wrong} are wrong on purpose"
+        )?;
+    }
+    Ok(true)
 }

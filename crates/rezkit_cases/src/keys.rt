@@ -41,6 +41,10 @@ fn add_plain(alloc: Global, case: &mut Case, entry: &Entry<'_>) -> Result<(), Tr
             let status = given(entry.argument.parse::<u8>().ok(), entry)?;
             set_once(&mut case.status, status, entry)
         }
+        "differs" => {
+            let places = given(entry.argument.parse::<usize>().ok(), entry)?;
+            set_once(&mut case.wrong, places, entry)
+        }
         "gone" => push_left(alloc, case, entry.argument, None, entry),
         _ => Err(entry.flaw("there is no such key")),
     }
