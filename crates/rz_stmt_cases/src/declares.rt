@@ -66,7 +66,9 @@ type 'Byte' { bitstring[]; }; => 201 on 1
 type 'Byte' { byte[3]; }; => 201 on 1
 type 'Byte' { byte = ; }; => 201 on 1
 type 'Byte' { byte = x; }; => 201 on 1
-type 'Byte' { byte = $$ID; }; => 201 on 1
+type 'Byte' { byte a = $$ID; }; => 201 on 1
+type 'Byte' { byte = $$Year; }; => 201 on 1
+type 'Byte' { bitstring[$$ID]; }; => 201 on 1
 type 'Byte' { byte = "a"; }; => 201 on 1
 type 'Byte' { char = "ab"; }; => 201 on 1
 type 'Byte' { char = ""; }; => 201 on 1
@@ -83,6 +85,8 @@ type 'Byte' { fill; }; => 201 on 1
 type 'Byte' { fill bit[1] 2; }; => 201 on 1
 type 'Byte' { align bit; }; => 201 on 1
 type 'Byte' { align word[2]; }; => 201 on 1
+// facts of a resource, here of one with the id 0
+type 'Byte' { byte = $$ID; }; => 'Byte' any {byte =0; }.
 // what isn't built yet
 type 'Byte' { x: byte; }; => 201 on 1
 type 'Byte' { array { byte; }; }; => 201 on 1
