@@ -17,7 +17,7 @@ use Rattle.rz_items.specs.Compile.{Compile, IsCompile}
 use Rattle.rz_declare.specs.Constants.{declared}
 use Rattle.rz_declare.specs.Declare.{IsDeclare}
 use Rattle.rz_declare.specs.Form.{DeclareForm}
-use Rattle.rz_expr.specs.Keyword.{is_keyword}
+use Rattle.rz_expr.specs.Keyword.{is_keyword, spelling}
 use Rattle.rz_expr.specs.declared.keyword.Keyword.{Keyword}
 use Rattle.rz_expr.specs.declared.keyword.Keyword.TheVariants as keywords
 use Rattle.rz_stmt.specs.Grammar.{alone, beyond, data_statement, mark_of, none, resource_statement, statement, type_statement, Compiles, Data, Declares, IsStatement, Parses, Statement}
@@ -42,26 +42,23 @@ not_words (n ∷ word) more others a b differ is also =
     let other : to_ascii_lowercase n ≡ to_ascii_lowercase b = eqb-true (to_ascii_lowercase n) (to_ascii_lowercase b) (both (eq_ignore_ascii_case n b) (str_eq_ignore_ascii_case word others) also).0 in
     differ (sym first ∙ other)
 
+-- a token that is two keywords would be one word in two spellings
+two_keywords : (one other : Keyword) → ((word : List ℕ) → str_eq_ignore_ascii_case word (spelling one) ≡ true → str_eq_ignore_ascii_case word (spelling other) ≡ true → ⊥)
+    → (shape : Shape) → is_keyword one shape ≡ true → is_keyword other shape ≡ true → ⊥
+two_keywords one other never (shapes.Word word) is also = never word.bytes is also
+two_keywords one other never (shapes.Number n) is also = cc
+two_keywords one other never (shapes.Literal bytes) is also = cc
+two_keywords one other never (shapes.Text bytes) is also = cc
+two_keywords one other never (shapes.Sign sign) is also = cc
+
 data_or_resource : (shape : Shape) → is_keyword keywords.Data shape ≡ true → is_keyword keywords.Resource shape ≡ true → ⊥
-data_or_resource (shapes.Word word) is also = not_words word.bytes (codes "ata") (codes "esource") 100 114 (λ e. omega (arith, e)) is also
-data_or_resource (shapes.Number n) is also = cc
-data_or_resource (shapes.Literal bytes) is also = cc
-data_or_resource (shapes.Text bytes) is also = cc
-data_or_resource (shapes.Sign sign) is also = cc
+data_or_resource = two_keywords keywords.Data keywords.Resource (λ word. not_words word (codes "ata") (codes "esource") 100 114 (λ e. omega (arith, e)))
 
 data_or_type : (shape : Shape) → is_keyword keywords.Data shape ≡ true → is_keyword keywords.Kind shape ≡ true → ⊥
-data_or_type (shapes.Word word) is also = not_words word.bytes (codes "ata") (codes "ype") 100 116 (λ e. omega (arith, e)) is also
-data_or_type (shapes.Number n) is also = cc
-data_or_type (shapes.Literal bytes) is also = cc
-data_or_type (shapes.Text bytes) is also = cc
-data_or_type (shapes.Sign sign) is also = cc
+data_or_type = two_keywords keywords.Data keywords.Kind (λ word. not_words word (codes "ata") (codes "ype") 100 116 (λ e. omega (arith, e)))
 
 resource_or_type : (shape : Shape) → is_keyword keywords.Resource shape ≡ true → is_keyword keywords.Kind shape ≡ true → ⊥
-resource_or_type (shapes.Word word) is also = not_words word.bytes (codes "esource") (codes "ype") 114 116 (λ e. omega (arith, e)) is also
-resource_or_type (shapes.Number n) is also = cc
-resource_or_type (shapes.Literal bytes) is also = cc
-resource_or_type (shapes.Text bytes) is also = cc
-resource_or_type (shapes.Sign sign) is also = cc
+resource_or_type = two_keywords keywords.Resource keywords.Kind (λ word. not_words word (codes "esource") (codes "ype") 114 116 (λ e. omega (arith, e)))
 
 -- the first word is one word
 first_word : (tokens xs ys : List Token) (word other : Token) (keyword : Keyword) → tokens ≡ word ∷ xs → tokens ≡ other ∷ ys → is_keyword keyword word.shape ≡ true
