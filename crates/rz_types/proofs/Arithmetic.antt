@@ -1,17 +1,20 @@
 -- An expression of a field has a value, a divisor of 0 or a bad shift.
-use Rattle.std.proofs.Common.{◌≡◌, ℕ, ℤ, pos, negsuc, Bool, true, false, ◌&&◌, List, [], Option, Some, None, Result, Ok, Err, refl, sym, subst, ap, ◌∙◌}
+use Rattle.std.proofs.Common.{◌≡◌, ℕ, ℤ, pos, negsuc, Bool, true, false, List, [], Option, Some, None, Result, Ok, Err, refl, sym, subst, ap, ◌∙◌}
 use Rattle.std.specs.Prelude.{◌*ℤ◌, ◌^◌, if◌then◌else◌, int_div, int_rem, nat_lt}
 use Rattle.std.specs.Int.{int_shr}
 use Rattle.std.specs.Option.{is_some}
-use Rattle.rz_core.proofs.Tests.{and_so}
+use Rattle.rz_core.proofs.Tests.{and_so, both, true_false}
+use Rattle.rz_core.proofs.Lists.{or_else_none}
+use Rattle.rz_core.specs.Lists.{or_else}
 use Rattle.rz_core.specs.Stop.{◌>>=◌, Gives, OnFault}
 use Rattle.rz_core.specs.declared.facts.Facts.{Facts}
 use Rattle.rz_core.specs.declared.fault.Fault.{Fault}
 use Rattle.rz_core.specs.declared.fault.Mark.{Mark}
+use Rattle.rz_core.specs.declared.resource.Word.{Word}
 use Rattle.rz_core.specs.declared.stop.Stop.{Stop}
 use Rattle.rz_core.specs.declared.stop.Stop.TheVariants.{NoMemory, Refused}
 use Rattle.rz_expr.specs.Constant.{constant_sight, is_constant}
-use Rattle.rz_expr.specs.Environment.{place_key, predefined, Sight}
+use Rattle.rz_expr.specs.Environment.{count_key, place_key, predefined, Environment, Sight}
 use Rattle.rz_expr.specs.Term.{BitsAt, Constant, FactOf, Named, OfOne, OfTwo, RowsOf, Term}
 use Rattle.rz_expr.specs.Value.{divided, is_zero, known_value, operate, operate_one, reduced, shifted, value_of}
 use Rattle.rz_expr.specs.declared.expr.BinaryOp.{BinaryOp}
@@ -19,11 +22,10 @@ use Rattle.rz_expr.specs.declared.expr.BinaryOp.TheVariants as two
 use Rattle.rz_expr.specs.declared.value.EvalFault.{EvalFault}
 use Rattle.rz_expr.specs.declared.value.EvalFault.TheVariants.{BadShift, ZeroDivisor}
 use Rattle.rz_expr.proofs.Cases.{same_value}
-use Rattle.rz_types.specs.Value.{field_sight, is_field_expression, number_of, value_fault, with_fault, IsArithmetic, IsArithmeticFault}
-
-both : (one other : Bool) → (one && other) ≡ true → (one ≡ true) × (other ≡ true)
-both true other is = (refl, is)
-both false other is = absurd cc
+use Rattle.rz_types.specs.Names.{GivesCounts, GivesPredefined}
+use Rattle.rz_types.specs.Rules.{unknown_array}
+use Rattle.rz_types.specs.Walk.{is_among}
+use Rattle.rz_types.specs.Value.{field_sight, is_field_expression, is_fixed_expression, names_sight, number_of, value_fault, with_fault, IsArithmetic, IsArithmeticFault}
 
 chained : (first : Result ℤ EvalFault) (next : ℤ → Result ℤ EvalFault) → IsArithmetic first → ((x : ℤ) → IsArithmetic (next x)) → IsArithmetic (first >>= next)
 chained (Ok x) next one rest = rest x
@@ -64,34 +66,83 @@ operate_sound two.BitOr left right = tt
 operate_sound two.And left right = tt
 operate_sound two.Or left right = tt
 
-named_sound : (name : List ℕ) (value : Option ℤ) → is_some value ≡ true → IsArithmetic (known_value name value)
-named_sound name (Some value) is = tt
-named_sound name None is = absurd cc
+given_sound : (name : List ℕ) (given : Option ℤ) (value : ℤ) → given ≡ Some value → IsArithmetic (known_value name given)
+given_sound name (Some own) value is = tt
+given_sound name None value is = absurd cc
 
--- a sight in which `true` and `false` have values
-SeesBoth : Sight → Type 0
-SeesBoth sight = (name : List ℕ) → is_some (predefined name) ≡ true → is_some (sight.names.give (place_key name)) ≡ true
+something : (given : Option ℤ) → is_some given ≡ true → (value : ℤ) × (given ≡ Some value)
+something (Some value) is = (value, refl)
+something None is = absurd cc
 
-sound : (sight : Sight) → SeesBoth sight → (term : Term) → is_field_expression term ≡ true → IsArithmetic (value_of term sight)
-unfolding SeesBoth
-sound sight sees (Constant number) is = tt
-sound sight sees (Named name) is = named_sound name (sight.names.give (place_key name)) (sees name is)
-sound sight sees (RowsOf name) is = absurd cc
-sound sight sees (BitsAt name start width) is = absurd cc
-sound sight sees (FactOf which) is = tt
-sound sight sees (OfOne op operand) is = chained (value_of operand sight) (λ value. Ok (operate_one op value)) (sound sight sees operand is) (λ x. tt)
-sound sight sees (OfTwo op left right) is =
+is_there : (holds : Bool) (name : List ℕ) → (if holds then None else Some name) ≡ None → holds ≡ true
+is_there true name none = refl
+is_there false name none = absurd cc
+
+-- where `true` and `false` have values, and each of these arrays has a number of rows
+pub sight_sound : (sight : Sight) (scope : List Word) → GivesPredefined sight.names → GivesCounts scope sight.names → (term : Term)
+    → is_fixed_expression term ≡ true → unknown_array scope term ≡ None → IsArithmetic (value_of term sight)
+sight_sound sight scope gives counts (Constant number) is known = tt
+sight_sound sight scope gives counts (Named name) is known =
+    let own = something (predefined name) is in
+    let given = gives.give name own.0 own.1 in
+    given_sound name (sight.names.give (place_key name)) given.0 given.1
+sight_sound sight scope gives counts (RowsOf name) is known =
+    let given = counts.give name (is_there (is_among name scope) name known) in
+    given_sound name (sight.names.give (count_key name)) given.0 given.1
+sight_sound sight scope gives counts (BitsAt name start width) is known = absurd cc
+sight_sound sight scope gives counts (FactOf which) is known = tt
+sight_sound sight scope gives counts (OfOne op operand) is known =
+    chained (value_of operand sight) (λ value. Ok (operate_one op value)) (sight_sound sight scope gives counts operand is known) (λ x. tt)
+sight_sound sight scope gives counts (OfTwo op left right) is known =
+    let each = both (is_fixed_expression left) (is_fixed_expression right) is in
+    let named = or_else_none (unknown_array scope left) (unknown_array scope right) known in
+    chained (value_of left sight) (λ one. value_of right sight >>= λ other. operate op one other) (sight_sound sight scope gives counts left each.0 named.0)
+    (λ one. chained (value_of right sight) (λ other. operate op one other) (sight_sound sight scope gives counts right each.1 named.1)
+    (λ other. operate_sound op one other))
+
+pub fixed_sound : (known : Facts) (names : Environment) (scope : List Word) (term : Term) → GivesPredefined names → GivesCounts scope names
+    → is_fixed_expression term ≡ true → unknown_array scope term ≡ None → IsArithmetic (value_of term (names_sight known names))
+fixed_sound known names scope term gives counts is named = sight_sound (names_sight known names) scope gives counts term is named
+
+-- An expression of a size is one of a fixed value that names no array.
+
+field_is_fixed : (term : Term) → is_field_expression term ≡ true → is_fixed_expression term ≡ true
+field_is_fixed (Constant number) is = refl
+field_is_fixed (Named name) is = is
+field_is_fixed (RowsOf name) is = absurd cc
+field_is_fixed (BitsAt name start width) is = absurd cc
+field_is_fixed (FactOf which) is = is
+field_is_fixed (OfOne op operand) is = field_is_fixed operand is
+field_is_fixed (OfTwo op left right) is =
     let each = both (is_field_expression left) (is_field_expression right) is in
-    chained (value_of left sight) (λ one. value_of right sight >>= λ other. operate op one other) (sound sight sees left each.0)
-    (λ one. chained (value_of right sight) (λ other. operate op one other) (sound sight sees right each.1) (λ other. operate_sound op one other))
+    and_so (is_fixed_expression left) (is_fixed_expression right) (field_is_fixed left each.0) (field_is_fixed right each.1)
 
-facts_see : (known : Facts) → SeesBoth (field_sight known [])
-unfolding SeesBoth
-facts_see known = λ name is. ap is_some (sym (same_value name)) ∙ is
+names_none : (scope : List Word) (term : Term) → is_field_expression term ≡ true → unknown_array scope term ≡ None
+names_none scope (Constant number) is = refl
+names_none scope (Named name) is = refl
+names_none scope (RowsOf name) is = absurd cc
+names_none scope (BitsAt name start width) is = absurd cc
+names_none scope (FactOf which) is = refl
+names_none scope (OfOne op operand) is = names_none scope operand is
+names_none scope (OfTwo op left right) is =
+    let each = both (is_field_expression left) (is_field_expression right) is in
+    ap (λ (o : Option (List ℕ)). or_else o (unknown_array scope right)) (names_none scope left each.0) ∙ names_none scope right each.1
 
-constants_see : SeesBoth constant_sight
-unfolding SeesBoth
-constants_see = λ name is. ap is_some (sym (same_value name)) ∙ is
+no_counts : (names : Environment) → GivesCounts [] names
+no_counts names = record { give = λ name is. absurd (true_false (sym is)) }
+
+sound : (sight : Sight) → GivesPredefined sight.names → (term : Term) → is_field_expression term ≡ true → IsArithmetic (value_of term sight)
+sound sight gives term is = sight_sound sight [] gives (no_counts sight.names) term (field_is_fixed term is) (names_none [] term is)
+
+pub size_sound : (known : Facts) (names : Environment) (term : Term) → GivesPredefined names → is_field_expression term ≡ true
+    → IsArithmetic (value_of term (names_sight known names))
+size_sound known names term gives is = sound (names_sight known names) gives term is
+
+facts_see : (known : Facts) → GivesPredefined (field_sight known []).names
+facts_see known = record { give = λ name value is. (value, sym (same_value name) ∙ is) }
+
+constants_see : GivesPredefined constant_sight.names
+constants_see = record { give = λ name value is. (value, sym (same_value name) ∙ is) }
 
 pub constant_stands : (term : Term) → is_constant term ≡ true → is_field_expression term ≡ true
 constant_stands (Constant number) is = refl

@@ -1,131 +1,82 @@
--- The first broken rule, one field more at a time.
-use Rattle.std.proofs.Common.{◌≡◌, ℕ, ◌+◌, ℤ, false, List, [], ◌∷◌, ◌++◌, length, drop, map, Option, Some, None, refl, sym, ap, ◌∙◌, arith}
-use Rattle.std.specs.Prelude.{◌↔◌, option_map, slice_get}
-use Rattle.std.specs.List.{AllByRecursion}
-use Rattle.std.proofs.lemmas.List.{at_drop_more}
-use Rattle.std.proofs.lemmas.Option.{get_or_from_slice_get, slice_get_within}
+-- The first fault of a body, in the words of its steps.
+use Rattle.std.proofs.Common.{◌≡◌, List, [], ◌∷◌, ◌++◌, map, Option, Some, None, refl, ap, ◌∙◌, inl, inr}
+use Rattle.std.specs.Prelude.{◌↔◌, ◌⊎◌}
 use Rattle.rz_core.specs.Lists.{first_of, or_else}
 use Rattle.rz_core.proofs.Lists.{or_else_none}
-use Rattle.rz_types.specs.Field.{PlainField}
-use Rattle.rz_types.specs.Rules.{bad_width, broken, broken_at, unknown_label, walk, walked, width_fault, BreaksNone, IsFirstBroken, Visit}
+use Rattle.rz_types.specs.Field.{PlainBody}
+use Rattle.rz_types.specs.Rules.{broken, broken_at, unknown_at, BreaksFirst, BreaksNone, IsFirstBroken, KeepAll}
+use Rattle.rz_types.specs.Walk.{walk, Step}
 use Rattle.rz_types.specs.declared.rules.TypeFault.{TypeFault}
 
-or_assoc : {F : Type 0} (a b c : Option F) → or_else a (or_else b c) ≡ or_else (or_else a b) c
-or_assoc None b c = refl
-or_assoc (Some x) b c = refl
+module _ (rule : Step → Option TypeFault) where
+  first_or : (x : Step) (xs : List Step) (fault : TypeFault) (own : Option TypeFault) → rule x ≡ own → or_else own (first_of (map rule xs)) ≡ Some fault
+      → (first_of (map rule xs) ≡ Some fault → BreaksFirst rule xs fault) → BreaksFirst rule (x ∷ xs) fault
+  first_or x xs fault None keeps is later =
+      let there = later is in record {
+        front = x ∷ there.front;
+        step = there.step;
+        behind = there.behind;
+        whole = ap (λ (l : List Step). x ∷ l) there.whole;
+        kept = (keeps, there.kept);
+        breaks = there.breaks;
+      }
+  first_or x xs fault (Some own) breaks is later = record { front = []; step = x; behind = xs; whole = refl; kept = tt; breaks = breaks ∙ is }
 
-or_none : {F : Type 0} (a : Option F) → or_else a None ≡ a
-or_none None = refl
-or_none (Some x) = refl
+  pub first_there : (xs : List Step) (fault : TypeFault) → first_of (map rule xs) ≡ Some fault → BreaksFirst rule xs fault
+  first_there [] fault is = absurd cc
+  first_there (x ∷ xs) fault is = first_or x xs fault (rule x) refl is (λ later. first_there xs fault later)
 
-abbrev pub visit_of : ℕ → PlainField → Visit
-visit_of position field = record { position = position; in_case = false; depth = 0; field = field }
+  first_at : (front : List Step) (step : Step) (behind : List Step) (fault : TypeFault) → KeepAll rule front → rule step ≡ Some fault
+      → first_of (map rule (front ++ step ∷ behind)) ≡ Some fault
+  first_at [] step behind fault kept breaks = ap (λ (o : Option TypeFault). or_else o (first_of (map rule behind))) breaks
+  first_at (x ∷ front) step behind fault kept breaks =
+      ap (λ (o : Option TypeFault). or_else o (first_of (map rule (front ++ step ∷ behind)))) kept.0 ∙ first_at front step behind fault kept.1 breaks
 
--- the first fault of these fields, of which the first has this position
-abbrev pub fault_from : ℕ → List PlainField → Option TypeFault
-fault_from position fields = first_of (map broken_at (walked false 0 position fields))
+  pub first_back : (xs : List Step) (fault : TypeFault) → BreaksFirst rule xs fault → first_of (map rule xs) ≡ Some fault
+  first_back xs fault first =
+      ap (λ (l : List Step). first_of (map rule l)) first.whole ∙ first_at first.front first.step first.behind fault first.kept first.breaks
 
-from_append : (position : ℕ) (front behind : List PlainField)
-    → fault_from position (front ++ behind) ≡ or_else (fault_from position front) (fault_from (position + length front) behind)
-from_append position [] behind = let same : position ≡ position + 0 = omega arith in ap (λ n. fault_from n behind) same
-from_append position (x ∷ front) behind =
-    let same : position + 1 + length front ≡ position + length (x ∷ front) = omega arith in
-    ap (or_else (broken_at (visit_of position x))) (from_append (position + 1) front behind)
-    ∙ or_assoc (broken_at (visit_of position x)) (fault_from (position + 1) front) (fault_from (position + 1 + length front) behind)
-    ∙ ap (λ n. or_else (or_else (broken_at (visit_of position x)) (fault_from (position + 1) front)) (fault_from n behind)) same
+  pub none_there : (xs : List Step) → first_of (map rule xs) ≡ None → KeepAll rule xs
+  none_there [] is = tt
+  none_there (x ∷ xs) is = let each = or_else_none (rule x) (first_of (map rule xs)) is in (each.0, none_there xs each.1)
 
-kept_from : (body : List PlainField) → broken body ≡ None → fault_from 0 body ≡ None
-kept_from body kept = sym (or_none (fault_from 0 body)) ∙ kept
+  pub none_back : (xs : List Step) → KeepAll rule xs → first_of (map rule xs) ≡ None
+  none_back [] all = refl
+  none_back (x ∷ xs) all = ap (λ (o : Option TypeFault). or_else o (first_of (map rule xs))) all.0 ∙ none_back xs all.1
 
-pub first_breaks : (front behind : List PlainField) (field : PlainField) (value : ℤ) → broken front ≡ None → bad_width field ≡ Some value
-    → broken (front ++ field ∷ behind) ≡ Some (width_fault (length front) value)
-first_breaks front behind field value kept breaks =
-    or_none (fault_from 0 (front ++ field ∷ behind))
-    ∙ from_append 0 front (field ∷ behind)
-    ∙ ap (λ (o : Option _). or_else o (fault_from (0 + length front) (field ∷ behind))) (kept_from front kept)
-    ∙ ap (λ (o : Option ℤ). or_else (option_map (width_fault (0 + length front)) o) (fault_from (0 + length front + 1) behind)) breaks
-    ∙ ap (λ n. Some (width_fault n value)) (let same : 0 + length front ≡ length front = omega arith in same)
+-- The two rounds of rules.
 
-pub none_breaks : (front : List PlainField) (field : PlainField) → broken front ≡ None → bad_width field ≡ None → broken (front ++ field ∷ []) ≡ None
-none_breaks front field kept keeps =
-    or_none (fault_from 0 (front ++ field ∷ []))
-    ∙ from_append 0 front (field ∷ [])
-    ∙ ap (λ (o : Option _). or_else o (fault_from (0 + length front) (field ∷ []))) (kept_from front kept)
-    ∙ ap (λ (o : Option ℤ). or_else (option_map (width_fault (0 + length front)) o) None) keeps
+either : (one other : Option TypeFault) (fault : TypeFault) → or_else one other ≡ Some fault → (one ≡ Some fault) ⊎ ((one ≡ None) × (other ≡ Some fault))
+either None other fault is = inr (refl, is)
+either (Some own) other fault is = inl is
 
--- The loop: what is left at the field with position `i`.
+later : (one other : Option TypeFault) (fault : TypeFault) → one ≡ None → other ≡ Some fault → or_else one other ≡ Some fault
+later one other fault none is = ap (λ (o : Option TypeFault). or_else o other) none ∙ is
 
-module _ (xs : List PlainField) (i : ℕ) (x : PlainField) (is : slice_get xs i ≡ Some x) where
-  from_at : fault_from i (drop i xs) ≡ or_else (broken_at (visit_of i x)) (fault_from (i + 1) (drop (i + 1) xs))
-  from_at =
-      at_drop_more (fault_from i) xs i x (slice_get_within xs i x is)
-      ∙ ap (λ (y : PlainField). or_else (broken_at (visit_of i y)) (fault_from (i + 1) (drop (i + 1) xs))) (get_or_from_slice_get xs i x x is)
+earlier : (one other : Option TypeFault) (fault : TypeFault) → one ≡ Some fault → or_else one other ≡ Some fault
+earlier one other fault is = ap (λ (o : Option TypeFault). or_else o other) is
 
-  pub fault_more : bad_width x ≡ None → or_else (fault_from i (drop i xs)) (unknown_label xs) ≡ broken xs
-      → or_else (fault_from (i + 1) (drop (i + 1) xs)) (unknown_label xs) ≡ broken xs
-  fault_more keeps so_far =
-      ap (λ (o : Option TypeFault). or_else o (unknown_label xs))
-      (sym (from_at ∙ ap (λ (o : Option ℤ). or_else (option_map (width_fault i) o) (fault_from (i + 1) (drop (i + 1) xs))) keeps)) ∙ so_far
+found : (body : PlainBody) (fault : TypeFault) → broken body ≡ Some fault → IsFirstBroken body fault
+found body fault is =
+    elim (either (first_of (map broken_at (walk body))) (first_of (map unknown_at (walk body))) fault is) [
+      | inl broken ↦ inl (first_there broken_at (walk body) fault broken)
+      | inr unknown ↦ inr (none_there broken_at (walk body) unknown.0, first_there unknown_at (walk body) fault unknown.1)
+    ]
 
-  pub fault_stop : (value : ℤ) → bad_width x ≡ Some value → or_else (fault_from i (drop i xs)) (unknown_label xs) ≡ broken xs → Some (width_fault i value) ≡ broken xs
-  fault_stop value breaks so_far =
-      ap (λ (o : Option TypeFault). or_else o (unknown_label xs))
-      (sym (from_at ∙ ap (λ (o : Option ℤ). or_else (option_map (width_fault i) o) (fault_from (i + 1) (drop (i + 1) xs))) breaks)) ∙ so_far
+first : (body : PlainBody) (fault : TypeFault) → IsFirstBroken body fault → broken body ≡ Some fault
+first body fault (inl broken) = earlier _ (first_of (map unknown_at (walk body))) fault (first_back broken_at (walk body) fault broken)
+first body fault (inr unknown) =
+    later (first_of (map broken_at (walk body))) _ fault (none_back broken_at (walk body) unknown.0) (first_back unknown_at (walk body) fault unknown.1)
 
--- The first fault of a walk, both ways.
+pub broken_is : (body : PlainBody) (fault : TypeFault) → (broken body ≡ Some fault) ↔ IsFirstBroken body fault
+broken_is body fault = (found body fault, first body fault)
 
-record First (visits : List Visit) (fault : TypeFault) : Type 0 where
-  front : List Visit
-  visit : Visit
-  behind : List Visit
-  whole : visits ≡ front ++ visit ∷ behind
-  kept : AllByRecursion (λ before. broken_at before ≡ None) front
-  breaks : broken_at visit ≡ Some fault
-
-first_or : (x : Visit) (xs : List Visit) (fault : TypeFault) (own : Option TypeFault) → broken_at x ≡ own → or_else own (first_of (map broken_at xs)) ≡ Some fault
-    → (first_of (map broken_at xs) ≡ Some fault → First xs fault) → First (x ∷ xs) fault
-first_or x xs fault None keeps is later =
-    let there = later is in record {
-      front = x ∷ there.front;
-      visit = there.visit;
-      behind = there.behind;
-      whole = ap (λ (l : List Visit). x ∷ l) there.whole;
-      kept = (keeps, there.kept);
-      breaks = there.breaks;
-    }
-first_or x xs fault (Some own) breaks is later = record { front = []; visit = x; behind = xs; whole = refl; kept = tt; breaks = breaks ∙ is }
-
-first_there : (xs : List Visit) (fault : TypeFault) → first_of (map broken_at xs) ≡ Some fault → First xs fault
-first_there [] fault is = absurd cc
-first_there (x ∷ xs) fault is = first_or x xs fault (broken_at x) refl is (λ later. first_there xs fault later)
-
-first_back : (front : List Visit) (visit : Visit) (behind : List Visit) (fault : TypeFault) → AllByRecursion (λ before. broken_at before ≡ None) front
-    → broken_at visit ≡ Some fault → first_of (map broken_at (front ++ visit ∷ behind)) ≡ Some fault
-first_back [] visit behind fault kept breaks = ap (λ (o : Option TypeFault). or_else o (first_of (map broken_at behind))) breaks
-first_back (x ∷ front) visit behind fault kept breaks =
-    ap (λ (o : Option TypeFault). or_else o (first_of (map broken_at (front ++ visit ∷ behind)))) kept.0 ∙ first_back front visit behind fault kept.1 breaks
-
-pub broken_is : (body : List PlainField) (fault : TypeFault) → (broken body ≡ Some fault) ↔ IsFirstBroken body fault
-broken_is body fault = (
-  (λ is. let there = first_there (walk body) fault (sym (or_none (fault_from 0 body)) ∙ is) in record {
-    front = there.front;
-    visit = there.visit;
-    behind = there.behind;
-    whole = there.whole;
-    kept = there.kept;
-    breaks = there.breaks;
-  }),
-  (λ first. or_none (fault_from 0 body) ∙ ap (λ (l : List Visit). first_of (map broken_at l)) first.whole
-      ∙ first_back first.front first.visit first.behind fault first.kept first.breaks),
+pub broken_none : (body : PlainBody) → (broken body ≡ None) ↔ BreaksNone body
+broken_none body = (
+  (λ is.
+      let each = or_else_none (first_of (map broken_at (walk body))) (first_of (map unknown_at (walk body))) is in
+      (none_there broken_at (walk body) each.0, none_there unknown_at (walk body) each.1)),
+  (λ all.
+      ap (λ (o : Option TypeFault). or_else o (first_of (map unknown_at (walk body)))) (none_back broken_at (walk body) all.0)
+      ∙ none_back unknown_at (walk body) all.1),
 )
-
-none_there : (xs : List Visit) → first_of (map broken_at xs) ≡ None → AllByRecursion (λ visit. broken_at visit ≡ None) xs
-none_there [] is = tt
-none_there (x ∷ xs) is = let each = or_else_none (broken_at x) (first_of (map broken_at xs)) is in (each.0, none_there xs each.1)
-
-none_back : (xs : List Visit) → AllByRecursion (λ visit. broken_at visit ≡ None) xs → first_of (map broken_at xs) ≡ None
-none_back [] all = refl
-none_back (x ∷ xs) all = ap (λ (o : Option TypeFault). or_else o (first_of (map broken_at xs))) all.0 ∙ none_back xs all.1
-
-pub broken_none : (body : List PlainField) → (broken body ≡ None) ↔ BreaksNone body
-broken_none body = ((λ is. none_there (walk body) (kept_from body is)), (λ all. or_none (fault_from 0 body) ∙ none_back (walk body) all))

@@ -1,8 +1,12 @@
 -- Fields as contracts see them, without where their expressions lie in memory. (MPW Rez.)
-use Rattle.std.specs.Prelude.{ℕ, ℤ, Bool, List, map, Option, option_map}
+use Rattle.std.specs.Prelude.{ℕ, ℤ, Bool, List, [], ◌∷◌, map, Option, option_map}
+use Rattle.rz_core.specs.declared.resource.Word.{Word}
 use Rattle.rz_expr.specs.Term.{term_of, Term}
+use Rattle.rz_types.specs.declared.field.ArrayField.{ArrayField}
+use Rattle.rz_types.specs.declared.field.Case.{Case}
 use Rattle.rz_types.specs.declared.field.Field.{Field}
-use Rattle.rz_types.specs.declared.field.Field.TheVariants as forms
+use Rattle.rz_types.specs.declared.field.Field.TheFolds.{fold-ArrayField, fold-Case, fold-Field}
+use Rattle.rz_types.specs.declared.field.Field.TheOpen.{ArrayField-F, Case-F, Field-F}
 use Rattle.rz_types.specs.declared.field.NumField.{NumField}
 use Rattle.rz_types.specs.declared.field.NumForm.{NumForm}
 use Rattle.rz_types.specs.declared.field.PointField.{PointField}
@@ -31,12 +35,25 @@ pub record PlainPoints : Type 0 where
   pub rect : Bool
   pub fixed : Option (List Term)
 
-pub data PlainField : Type 0 where
-  Number : (number : PlainNumber) → PlainField
-  Text : (text : PlainText) → PlainField
-  Points : (points : PlainPoints) → PlainField
-  Fill : (unit : ℕ) (count : ℤ) → PlainField
-  Align : (unit : ℕ) → PlainField
+mutual
+  pub data PlainField : Type 0 where
+    Number : (number : PlainNumber) → PlainField
+    Text : (text : PlainText) → PlainField
+    Points : (points : PlainPoints) → PlainField
+    Fill : (unit : ℕ) (count : ℤ) → PlainField
+    Align : (unit : ℕ) → PlainField
+    Array : (name : Option Word) (count : Option ℤ) (row : PlainBody) → PlainField
+    Switch : (cases : PlainCases) → PlainField
+
+  -- the fields of a declaration, of a row of an array or of a case, in order
+  pub data PlainBody : Type 0 where
+    no_fields : PlainBody
+    field_and : (field : PlainField) (others : PlainBody) → PlainBody
+
+  -- the cases of a switch, in order
+  pub data PlainCases : Type 0 where
+    no_cases : PlainCases
+    case_and : (name : Word) (row : PlainBody) (others : PlainCases) → PlainCases
 
 abbrev pub plain_number : NumField → PlainNumber
 plain_number field = record {
@@ -55,13 +72,48 @@ plain_text field = record { form = field.form; hex = field.hex; size = option_ma
 abbrev pub plain_points : PointField → PlainPoints
 plain_points field = record { rect = field.rect; fixed = option_map (map term_of) field.fixed }
 
+abbrev pub body_of : List PlainField → PlainBody
+body_of [] = no_fields
+body_of (field ∷ fields) = field_and field (body_of fields)
+
+-- a case by itself
+pub record PlainCase : Type 0 where
+  pub name : Word
+  pub row : PlainBody
+
+abbrev pub cases_of : List PlainCase → PlainCases
+cases_of [] = no_cases
+cases_of (one ∷ cases) = case_and one.name one.row (cases_of cases)
+
+-- What the code holds.
+
+abbrev pub array_step : ArrayField-F PlainField PlainField PlainCase → PlainField
+array_step array = Array array.name array.count (body_of array.row)
+
+abbrev pub case_step : Case-F PlainField PlainField PlainCase → PlainCase
+case_step one = record { name = one.name; row = body_of one.row }
+
+abbrev pub field_step : Field-F PlainField PlainField PlainCase → PlainField
+field_step (Field-F.Num field) = Number (plain_number field)
+field_step (Field-F.Text field) = Text (plain_text field)
+field_step (Field-F.Points field) = Points (plain_points field)
+field_step (Field-F.Fill unit count) = Fill unit count
+field_step (Field-F.Align unit) = Align unit
+field_step (Field-F.Array array) = array
+field_step (Field-F.Switch cases) = Switch (cases_of cases)
+
 -- the plain field that a field is
 abbrev pub plain_field : Field → PlainField
-plain_field (forms.Num field) = Number (plain_number field)
-plain_field (forms.Text field) = Text (plain_text field)
-plain_field (forms.Points field) = Points (plain_points field)
-plain_field (forms.Fill unit count) = Fill unit count
-plain_field (forms.Align unit) = Align unit
+plain_field = fold-Field PlainField PlainField PlainCase field_step array_step case_step
 
-abbrev pub plain_body : List Field → List PlainField
-plain_body fields = map plain_field fields
+abbrev pub plain_array : ArrayField → PlainField
+plain_array = fold-ArrayField PlainField PlainField PlainCase field_step array_step case_step
+
+abbrev pub plain_case : Case → PlainCase
+plain_case = fold-Case PlainField PlainField PlainCase field_step array_step case_step
+
+abbrev pub plain_body : List Field → PlainBody
+plain_body fields = body_of (map plain_field fields)
+
+abbrev pub plain_cases : List Case → PlainCases
+plain_cases cases = cases_of (map plain_case cases)

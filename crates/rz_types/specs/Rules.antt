@@ -1,18 +1,42 @@
 -- The rules of type declarations, and the first that a body breaks. (MPW Rez.)
-use Rattle.std.specs.Prelude.{◌≡◌, ℕ, ◌+◌, ℤ, pos, Bool, true, false, if◌then◌else◌, List, [], ◌∷◌, ◌++◌, map, Option, Some, None, option_map}
-use Rattle.std.specs.List.{AllByRecursion}
-use Rattle.std.specs.Option.{is_none}
+use Rattle.std.specs.Prelude.{◌≡◌, ◌⊎◌, ℕ, ◌==◌, min, ℤ, pos, Bool, true, false, not, ◌||◌, if◌then◌else◌, List, [], ◌∷◌, ◌++◌, map, Option, Some, None, option_map}
+use Rattle.std.specs.List.{AllByRecursion, list_any}
+use Rattle.std.specs.Option.{is_none, option_to_list}
 use Rattle.std.specs.declared.result.Result.{Result}
-use Rattle.rz_core.specs.Lists.{first_of, or_else, unless_fault}
+use Rattle.rz_core.specs.Lists.{first_in, first_of, or_else, unless_fault}
+use Rattle.rz_core.specs.declared.fault.Kept.{Kept}
 use Rattle.rz_core.specs.declared.fault.Kept.TheVariants as kept
+use Rattle.rz_core.specs.declared.resource.Word.{Word}
 use Rattle.rz_expr.specs.Constant.{constant_of}
-use Rattle.rz_expr.specs.Term.{Term}
-use Rattle.rz_types.specs.Field.{Align, Fill, Number, PlainField, Points, Text}
+use Rattle.rz_expr.specs.Term.{BitsAt, Constant, FactOf, Named, OfOne, OfTwo, RowsOf, Term}
+use Rattle.rz_types.specs.Field.{case_and, field_and, no_cases, no_fields, Align, Array, Fill, Number, PlainBody, PlainCases, PlainField, Points, Switch, Text}
 use Rattle.rz_types.specs.Range.{is_between, may_be_size}
+use Rattle.rz_types.specs.Row.{takes_value}
+use Rattle.rz_types.specs.Walk.{at_field, behind_case, is_among, walk, Step}
 use Rattle.rz_types.specs.declared.field.NumForm.{NumForm}
 use Rattle.rz_types.specs.declared.field.NumForm.TheVariants.{Bits}
 use Rattle.rz_types.specs.declared.field.TextForm.{TextForm}
+use Rattle.rz_types.specs.declared.keys.CaseKey.{CaseKey}
 use Rattle.rz_types.specs.declared.rules.TypeFault.{TypeFault}
+
+-- Faults.
+
+-- the most that a fault keeps of a position
+abbrev pub kept_position : ℕ → ℕ
+kept_position position = min position 9223372036854775807
+
+abbrev pub type_fault : ℕ → ℕ → Kept → TypeFault
+type_fault number position what = record { number = number; field = kept_position position; kept = what }
+
+-- 231 to 236 keep a name, of an array or of a case
+abbrev pub name_fault : ℕ → ℕ → Word → TypeFault
+name_fault number position name = type_fault number position (kept.Name name.bytes)
+
+-- what is found where a test holds
+abbrev pub found_if : {A : Type 0} → Bool → A → Option A
+found_if holds x = if holds then Some x else None
+
+-- Widths, counts and sizes.
 
 -- the widths that a number may have: those of a bitstring are bounded, every other type has its own
 abbrev pub may_be_width : NumForm → ℤ → Bool
@@ -22,6 +46,10 @@ may_be_width form width = true
 -- how many units a fill may have
 abbrev pub may_be_count : ℤ → Bool
 may_be_count count = is_between (pos 0) (pos 16777212) count
+
+-- how many rows may be stated of an array
+abbrev pub may_be_rows : ℤ → Bool
+may_be_rows count = is_between (pos 0) (pos 1048576) count
 
 -- a value that may not be
 abbrev pub unless : Bool → ℤ → Option ℤ
@@ -36,6 +64,10 @@ abbrev pub bad_size : TextForm → Option Term → Option ℤ
 bad_size form None = None
 bad_size form (Some size) = unless_size form (constant_of size)
 
+abbrev pub bad_rows : Option ℤ → Option ℤ
+bad_rows None = None
+bad_rows (Some count) = unless (may_be_rows count) count
+
 -- the width, the count or the size of a field that may not be
 abbrev pub bad_width : PlainField → Option ℤ
 bad_width (Number number) = unless (may_be_width number.form number.width) number.width
@@ -43,59 +75,153 @@ bad_width (Text text) = bad_size text.form text.size
 bad_width (Points points) = None
 bad_width (Fill unit count) = unless (may_be_count count) count
 bad_width (Align unit) = None
+bad_width (Array name count row) = bad_rows count
+bad_width (Switch cases) = None
 
 -- 238 for the field at this position
 abbrev pub width_fault : ℕ → ℤ → TypeFault
-width_fault position value = record { number = 238; field = position; kept = kept.Number value }
+width_fault position value = type_fault 238 position (kept.Number value)
 
--- The walk.
+-- Fields.
 
--- a field where it stands: its position in the walk, from 0, whether it stands directly in a case, and within how many
--- arrays and switches
-pub record Visit : Type 0 where
-  pub position : ℕ
-  pub in_case : Bool
-  pub depth : ℕ
-  pub field : PlainField
+-- 231 for an array whose name one before it has
+abbrev pub array_twice : ℕ → List Word → Option Word → Option TypeFault
+array_twice position before None = None
+array_twice position before (Some name) = found_if (is_among name.bytes before) (name_fault 231 position name)
 
--- fields in the order of the walk, each with the next position; so far none has fields within it
-abbrev pub walked : (in_case : Bool) (depth position : ℕ) → List PlainField → List Visit
-walked in_case depth position [] = []
-walked in_case depth position (field ∷ fields) =
-    record { position = position; in_case = in_case; depth = depth; field = field } ∷ walked in_case depth (position + 1) fields
+-- the first name that stands among those before it
+abbrev pub repeats : List Word → Word → Option Word
+repeats before name = if is_among name.bytes before then Some name else None
 
--- those of a body, depth first
-abbrev pub walk : List PlainField → List Visit
-walk body = walked false 0 0 body
+abbrev pub repeated : List Word → Option Word
+repeated names = first_in repeats [] names
 
--- the first rule that a field breaks where it stands, in the order of their numbers
-abbrev pub broken_at : Visit → Option TypeFault
-broken_at visit = option_map (width_fault visit.position) (bad_width visit.field)
+abbrev pub case_names : PlainCases → List Word
+case_names no_cases = []
+case_names (case_and name row others) = name ∷ case_names others
 
--- behind the walk, 212 for a name that an expression can't name: so far no expression names labels or arrays
-abbrev pub unknown_label : List PlainField → Option TypeFault
-unknown_label body = None
+-- 232 for a switch of which two cases have one name
+abbrev pub case_twice : ℕ → PlainCases → Option TypeFault
+case_twice position cases = option_map (name_fault 232 position) (repeated (case_names cases))
 
--- the first rule that a body breaks: that of the first field in the walk that breaks one, else the one behind the walk
-abbrev pub broken : List PlainField → Option TypeFault
-broken body = or_else (first_of (map broken_at (walk body))) (unknown_label body)
+-- a row takes one value at least
+abbrev pub has_values : PlainBody → Bool
+has_values no_fields = false
+has_values (field_and field fields) = takes_value field || has_values fields
 
--- a field of the walk breaks a rule by this fault, and none before it breaks one
-pub record IsFirstBroken (body : List PlainField) (fault : TypeFault) : Type 0 where
-  pub front : List Visit
-  pub visit : Visit
-  pub behind : List Visit
-  pub whole : walk body ≡ front ++ visit ∷ behind
-  pub kept : AllByRecursion (λ before. broken_at before ≡ None) front
-  pub breaks : broken_at visit ≡ Some fault
+-- 237 for an array whose rows take no value
+abbrev pub no_values : ℕ → PlainBody → Option TypeFault
+no_values position row = found_if (not (has_values row)) (type_fault 237 position (kept.Number (pos (kept_position position))))
 
--- no field of the walk breaks a rule
-abbrev pub BreaksNone : List PlainField → Type 0
-BreaksNone body = AllByRecursion (λ visit. broken_at visit ≡ None) (walk body)
+-- what is wrong with a field where it stands, beside its widths
+abbrev pub bad_place : ℕ → List Word → PlainField → Option TypeFault
+bad_place position before (Array name count row) = or_else (array_twice position before name) (no_values position row)
+bad_place position before (Switch cases) = case_twice position cases
+bad_place position before field = None
 
-abbrev pub keeps_rules : List PlainField → Bool
+-- Cases.
+
+abbrev pub differ : Option ℕ → Option ℕ → Bool
+differ (Some one) (Some other) = not (one == other)
+differ one other = true
+
+abbrev pub has_other_width : CaseKey → CaseKey → Bool
+has_other_width key one = not (key.width == one.width)
+
+abbrev pub has_other_place : CaseKey → CaseKey → Bool
+has_other_place key one = differ key.distance one.distance
+
+abbrev pub has_same_bits : CaseKey → CaseKey → Bool
+has_same_bits key one = key.bits == one.bits
+
+-- the number of the first rule that the keys of a case break, behind those of the cases before it: 233 where it isn't one key,
+-- 234 where it has another width than one before, 235 where not only fields of fixed width stand before it, or other widths
+-- than before those, 236 where it has the same bits as one before
+abbrev pub key_rule : List CaseKey → List CaseKey → Option ℕ
+key_rule [] before = Some 233
+key_rule (key ∷ []) before =
+    first_of
+    (found_if (list_any (has_other_width key) before) 234
+    ∷ found_if (is_none key.distance || list_any (has_other_place key) before) 235
+    ∷ found_if (list_any (has_same_bits key) before) 236
+    ∷ [])
+key_rule (key ∷ next ∷ keys) before = Some 233
+
+abbrev pub bad_case : ℕ → Word → List CaseKey → List CaseKey → Option TypeFault
+bad_case position name keys before = option_map (λ number. name_fault number position name) (key_rule keys before)
+
+-- Names that an expression can't name.
+
+-- the first array that an expression names and that isn't one of these
+abbrev pub unknown_array : List Word → Term → Option (List ℕ)
+unknown_array scope (Constant number) = None
+unknown_array scope (Named name) = None
+unknown_array scope (RowsOf name) = if is_among name scope then None else Some name
+unknown_array scope (BitsAt name start width) = or_else (unknown_array scope start) (unknown_array scope width)
+unknown_array scope (FactOf which) = None
+unknown_array scope (OfOne op operand) = unknown_array scope operand
+unknown_array scope (OfTwo op left right) = or_else (unknown_array scope left) (unknown_array scope right)
+
+abbrev pub terms_in : Option (List Term) → List Term
+terms_in None = []
+terms_in (Some terms) = terms
+
+-- the expressions of a field, as they are written
+abbrev pub expressions_of : PlainField → List Term
+expressions_of (Number number) = option_to_list number.fixed
+expressions_of (Text text) = option_to_list text.size
+expressions_of (Points points) = terms_in points.fixed
+expressions_of field = []
+
+abbrev pub unknown_in : List Word → PlainField → Option (List ℕ)
+unknown_in scope field = first_of (map (unknown_array scope) (expressions_of field))
+
+-- 212 keeps the name as it is written
+abbrev pub unknown_fault : ℕ → List ℕ → TypeFault
+unknown_fault position name = type_fault 212 position (kept.Name name)
+
+-- The first broken rule.
+
+-- the first rule that a step of the walk breaks, in the order of their numbers
+abbrev pub broken_at : Step → Option TypeFault
+broken_at (at_field position before scope field) = or_else (bad_place position before field) (option_map (width_fault position) (bad_width field))
+broken_at (behind_case position name keys before) = bad_case position name keys before
+
+-- the first name at a step that the field can't name
+abbrev pub unknown_at : Step → Option TypeFault
+unknown_at (at_field position before scope field) = option_map (unknown_fault position) (unknown_in scope field)
+unknown_at (behind_case position name keys before) = None
+
+-- the first rule that a body breaks: that of the first step in the walk that breaks one, else, behind the walk, that of the
+-- first name that can't be named
+abbrev pub broken : PlainBody → Option TypeFault
+broken body = or_else (first_of (map broken_at (walk body))) (first_of (map unknown_at (walk body)))
+
+abbrev pub keeps_rules : PlainBody → Bool
 keeps_rules body = is_none (broken body)
 
 -- the body of a template, or the first rule that it breaks
-abbrev pub checked : List PlainField → Result (List PlainField) TypeFault
+abbrev pub checked : PlainBody → Result PlainBody TypeFault
 checked body = unless_fault (broken body) body
+
+-- The same in other words.
+
+-- no step breaks a rule
+abbrev pub KeepAll : (Step → Option TypeFault) → List Step → Type 0
+KeepAll rule walk = AllByRecursion (λ step. rule step ≡ None) walk
+
+-- a step breaks a rule by this fault, and none before it does
+pub record BreaksFirst (rule : Step → Option TypeFault) (walk : List Step) (fault : TypeFault) : Type 0 where
+  pub front : List Step
+  pub step : Step
+  pub behind : List Step
+  pub whole : walk ≡ front ++ step ∷ behind
+  pub kept : KeepAll rule front
+  pub breaks : rule step ≡ Some fault
+
+-- the first fault of a body: of the walk, or of a name where the walk has none
+abbrev pub IsFirstBroken : PlainBody → TypeFault → Type 0
+IsFirstBroken body fault = BreaksFirst broken_at (walk body) fault ⊎ (KeepAll broken_at (walk body) × BreaksFirst unknown_at (walk body) fault)
+
+abbrev pub BreaksNone : PlainBody → Type 0
+BreaksNone body = KeepAll broken_at (walk body) × KeepAll unknown_at (walk body)

@@ -6,10 +6,11 @@ use Rattle.std.specs.Ordering.{int_eq}
 use Rattle.rz_expr.specs.Constant.{constant_of}
 use Rattle.rz_expr.specs.Term.{Term}
 use Rattle.rz_expr.specs.Words.{is_name, role_of}
-use Rattle.rz_types.specs.Field.{Align, Fill, Number, PlainField, PlainNumber, PlainPoints, PlainText, Points, Text}
+use Rattle.rz_core.specs.declared.resource.Word.{Word}
+use Rattle.rz_types.specs.Field.{case_and, field_and, no_cases, no_fields, Align, Array, Fill, Number, PlainBody, PlainCases, PlainField, PlainNumber, PlainPoints, PlainText, Points, Switch, Text}
 use Rattle.rz_types.specs.Range.{fits_number, own_width}
 use Rattle.rz_types.specs.Text.{NameFact, Plain, PlainPart}
-use Rattle.rz_types.specs.Value.{is_field_expression}
+use Rattle.rz_types.specs.Value.{is_field_expression, is_fixed_expression}
 use Rattle.rz_types.specs.declared.field.NumForm.{NumForm}
 use Rattle.rz_types.specs.declared.field.NumForm.TheVariants.{Bits, Boolean, Byte, Char, Integer, Longint}
 use Rattle.rz_types.specs.declared.field.Symbol.{Symbol}
@@ -39,7 +40,7 @@ is_symbol_of form width symbol = is_symbol_name symbol.name.bytes && fits_number
 -- a fixed value is an expression, and then there are no symbols
 abbrev pub is_fixed_number : List Symbol → Option Term → Bool
 is_fixed_number symbols None = true
-is_fixed_number symbols (Some term) = is_field_expression term && is_empty symbols
+is_fixed_number symbols (Some term) = is_fixed_expression term && is_empty symbols
 
 -- the types that a key may have
 abbrev pub may_be_key : NumForm → Bool
@@ -83,7 +84,7 @@ abbrev pub numbers_of : Bool → ℕ
 numbers_of rect = if rect then 4 else 2
 
 abbrev pub are_fixed_points : Bool → List Term → Bool
-are_fixed_points rect terms = (length terms == numbers_of rect) && list_all is_field_expression terms
+are_fixed_points rect terms = (length terms == numbers_of rect) && list_all is_fixed_expression terms
 
 abbrev pub is_points_shaped : PlainPoints → Bool
 is_points_shaped points = is_none_or (are_fixed_points points.rect) points.fixed
@@ -95,14 +96,29 @@ is_unit unit = (unit == 1) || (unit == 4) || (unit == 8) || (unit == 16) || (uni
 
 -- Fields.
 
--- the field of a case or not, within so many arrays and switches
-abbrev pub is_shaped : (in_case : Bool) (depth : ℕ) → PlainField → Bool
-is_shaped in_case depth (Number number) = is_number_shaped in_case number
-is_shaped in_case depth (Text text) = is_text_shaped text
-is_shaped in_case depth (Points points) = is_points_shaped points
-is_shaped in_case depth (Fill unit count) = is_unit unit
-is_shaped in_case depth (Align unit) = is_unit unit && not (unit == 1)
+-- the name of an array or a case
+abbrev pub is_own_name : Word → Bool
+is_own_name name = is_symbol_name name.bytes
 
--- the fields of a declaration, which stand in no case and in nothing else
-abbrev pub is_well_shaped : List PlainField → Bool
-is_well_shaped body = list_all (is_shaped false 0) body
+abbrev mutual
+  -- the field of a case, or of another body
+  pub is_shaped : (in_case : Bool) → PlainField → Bool
+  is_shaped in_case (Number number) = is_number_shaped in_case number
+  is_shaped in_case (Text text) = is_text_shaped text
+  is_shaped in_case (Points points) = is_points_shaped points
+  is_shaped in_case (Fill unit count) = is_unit unit
+  is_shaped in_case (Align unit) = is_unit unit && not (unit == 1)
+  is_shaped in_case (Array name count row) = is_none_or is_own_name name && are_shaped false row
+  is_shaped in_case (Switch cases) = are_cases_shaped cases
+
+  pub are_shaped : (in_case : Bool) → PlainBody → Bool
+  are_shaped in_case no_fields = true
+  are_shaped in_case (field_and field fields) = is_shaped in_case field && are_shaped in_case fields
+
+  pub are_cases_shaped : PlainCases → Bool
+  are_cases_shaped no_cases = true
+  are_cases_shaped (case_and name row others) = is_own_name name && (are_shaped true row && are_cases_shaped others)
+
+-- the fields of a declaration, which stand in no case
+abbrev pub is_well_shaped : PlainBody → Bool
+is_well_shaped body = are_shaped false body

@@ -1,27 +1,31 @@
 -- Which bytes the values of a row spell under the fields of a type. (Inside Macintosh: More Macintosh Toolbox, Resource
 -- Manager; MPW Rez.)
-use Rattle.std.specs.Prelude.{◌≡◌, ◌≢◌, ℕ, ◌+◌, ◌*◌, ◌<◌, ◌≤◌, ◌^◌, ℤ, pos, nat_abs, Bool, true, false, List, [], ◌∷◌, ◌++◌, length, map, take, drop, replicate, slice_index, Option, Some, None, Ok}
+use Rattle.std.specs.Prelude.{◌≡◌, ◌≢◌, ℕ, ◌+◌, ◌*◌, ◌<◌, ◌≤◌, ◌^◌, ℤ, pos, nat_abs, Bool, true, false, ◌||◌, List, [], ◌∷◌, ◌++◌, length, map, take, drop, replicate, slice_index, Option, Some, None, Ok}
 use Rattle.std.specs.Option.{option_to_list}
 use Rattle.std.specs.List.{AllByRecursion, sum_by}
+use Rattle.std.specs.Str.{str_eq_ignore_ascii_case}
+use Rattle.rz_core.specs.declared.resource.Word.{Word}
 use Rattle.rz_core.specs.declared.facts.Facts.{Facts}
 use Rattle.rz_core.specs.declared.fault.Mark.{Mark}
-use Rattle.rz_expr.specs.Environment.{Environment, Key, Sight}
+use Rattle.rz_expr.specs.Environment.{count_key, count_of, place_of, Environment, Key, Sight}
 use Rattle.rz_expr.specs.Term.{Term}
 use Rattle.rz_expr.specs.Value.{value_of}
 use Rattle.rz_bits.specs.Bits.{bits_of, number_bits}
 use Rattle.rz_bits.specs.BitBuf.{filled, missing, zeros}
-use Rattle.rz_types.specs.Field.{Align, Fill, Number, PlainField, PlainNumber, PlainText, Points, Text}
+use Rattle.rz_types.specs.Field.{case_and, field_and, no_cases, no_fields, Align, Array, Fill, Number, PlainBody, PlainCases, PlainField, PlainNumber, PlainText, Points, Switch, Text}
 use Rattle.rz_types.specs.Range.{fits_number, may_be_size}
+use Rattle.rz_types.specs.Row.{By, IsStated}
 use Rattle.rz_types.specs.Shape.{numbers_of}
 use Rattle.rz_types.specs.Stored.{before_zero, is_too_long, stored_number, stored_text}
 use Rattle.rz_types.specs.Text.{bytes_of, PlainPart}
-use Rattle.rz_types.specs.Value.{fact_of, symbol_key}
+use Rattle.rz_types.specs.Value.{names_sight, symbol_key}
 use Rattle.rz_types.specs.declared.field.NumForm.{NumForm}
 use Rattle.rz_types.specs.declared.field.NumForm.TheVariants.{Integer}
 use Rattle.rz_types.specs.declared.field.Radix.TheVariants as radixes
 use Rattle.rz_types.specs.declared.field.TextForm.{TextForm}
 use Rattle.rz_types.specs.declared.field.TextForm.TheVariants as texts
-use Rattle.rz_types.specs.declared.tree.Tree.{Tree}
+use Rattle.rz_types.specs.declared.tree.Tree.{fold-Tree, out-Tree, Tree}
+use Rattle.rz_types.specs.declared.tree.Tree.TheOpen.{Tree-F}
 use Rattle.rz_types.specs.declared.tree.Tree.TheVariants as trees
 
 -- Pieces.
@@ -48,18 +52,24 @@ abbrev pub integers : Bool → Option (List Term) → List Piece
 integers rect None = replicate (numbers_of rect) free_integer
 integers rect (Some terms) = map fixed_integer terms
 
--- the pieces of a field
+-- the pieces of a field that has no fields within it
 abbrev pub pieces_of : PlainField → List Piece
 pieces_of (Number number) = OneNumber number ∷ []
 pieces_of (Text text) = OneText text ∷ []
 pieces_of (Points points) = integers points.rect points.fixed
 pieces_of (Fill unit count) = Zeros (unit * nat_abs count) ∷ []
 pieces_of (Align unit) = Filler unit ∷ []
+pieces_of (Array name count row) = []
+pieces_of (Switch cases) = []
 
 -- the numbers of a value
+abbrev pub numbers_of_group : Tree-F Tree → List ℕ
+numbers_of_group (Tree-F.Group numbers) = numbers
+numbers_of_group value = []
+
 abbrev pub group_in : Option Tree → List ℕ
-group_in (Some (trees.Group numbers)) = numbers
-group_in value = []
+group_in None = []
+group_in (Some value) = numbers_of_group (out-Tree value)
 
 -- the values of these pieces, where the field has this value or none
 abbrev pub values_for : PlainField → Option Tree → List Tree
@@ -94,19 +104,41 @@ is_late met late term sight = false
 
 -- what an expression sees at a place in a resource with these bits; so far no expression of a field reads bits
 abbrev pub sees : Facts → List Bool → Environment → ℕ → Sight
-sees known all names at = record { names = names; bits = λ first width. None; fact = fact_of known }
+sees known all names at = names_sight known names
 
 -- what has a value outside of all fields: `true` and `false`
 abbrev pub outside : Environment
 outside = record { give = symbol_key [] }
 
--- the fields give this key a value: labels and arrays do; so far no field is one
-abbrev pub declares : List PlainField → Key → Bool
-declares body key = false
+-- the key is the number of rows of an array of this name, in whatever case
+abbrev pub counts_rows : List ℕ → Key → Bool
+counts_rows name (place_of other) = false
+counts_rows name (count_of other) = str_eq_ignore_ascii_case name other
 
--- in a body names have other values than outside only where its fields give them
-pub record Within (body : List PlainField) (outer own : Environment) : Type 0 where
+-- the name of an array gives this key a value
+abbrev pub gives_count : Option Word → Key → Bool
+gives_count None key = false
+gives_count (Some name) key = counts_rows name.bytes key
+
+-- the field gives this key a value: so far an array does, by the number of its rows
+abbrev pub gives_key : PlainField → Key → Bool
+gives_key (Array name count row) key = gives_count name key
+gives_key field key = false
+
+-- one of the fields of a body does
+abbrev pub declares : PlainBody → Key → Bool
+declares no_fields key = false
+declares (field_and field fields) key = gives_key field key || declares fields key
+
+-- In a body names have other values than outside only where its fields give them. The body of a row has a number, from 0,
+-- which is for names that tell rows apart; so far no name does.
+pub record Within (body : PlainBody) (number : Option ℕ) (outer own : Environment) : Type 0 where
   pub give : (key : Key) → declares body key ≡ false → own.give key ≡ outer.give key
+
+-- so many rows are counted by the name of their array
+abbrev pub IsCounted : Option Word → ℕ → Environment → Type 0
+IsCounted None rows names = Unit {0}
+IsCounted (Some name) rows names = names.give (count_key name.bytes) ≡ Some (pos rows)
 
 -- Values.
 
@@ -216,38 +248,102 @@ put (Some value) values = value ∷ values
 abbrev pub RowSpells : Type 1
 RowSpells = ℕ → Late → ℕ → Late → Type 0
 
+-- one with its value or none, and the others behind it
+abbrev pub Then : (Option Tree → RowSpells) → (List Tree → RowSpells) → List Tree → RowSpells
+Then One Others values at late after late_after =
+    (value : Option Tree) × (rest : List Tree) × (mid : ℕ) × (late_mid : Late) × (values ≡ put value rest)
+    × One value at late mid late_mid × Others rest mid late_mid after late_after
+
+-- none, and nothing of the row is left
+abbrev pub AtEnd : List Tree → RowSpells
+AtEnd values at late after late_after = (values ≡ []) × (after ≡ at) × (late_after ≡ late)
+
 -- one behind the other, each with its value or none
 abbrev pub InOrder : {A : Type 0} → (A → Option Tree → RowSpells) → List A → List Tree → RowSpells
-InOrder Spells [] values at late after late_after = (values ≡ []) × (after ≡ at) × (late_after ≡ late)
-InOrder Spells (x ∷ xs) values at late after late_after =
-    (value : Option Tree) × (rest : List Tree) × (mid : ℕ) × (late_mid : Late) × (values ≡ put value rest)
-    × Spells x value at late mid late_mid × InOrder Spells xs rest mid late_mid after late_after
+InOrder Spells [] values = AtEnd values
+InOrder Spells (x ∷ xs) values = Then (Spells x) (InOrder Spells xs) values
 
-module _ (plain : Bool) (known : Facts) (all : List Bool) (names : Environment) (met : Names) where
-  abbrev pub FieldSpells : PlainField → Option Tree → RowSpells
-  FieldSpells field value at late after late_after =
+-- a body with names of its own: those outside, and those that its fields give
+abbrev pub Inside : PlainBody → Option ℕ → Environment → (Environment → RowSpells) → RowSpells
+Inside body number outer Body at late after late_after = (own : Environment) × Within body number outer own × Body own at late after late_after
+
+-- rows one behind the other, of which the first has this number
+abbrev pub RowsSpell : (ℕ → List Tree → RowSpells) → ℕ → List (List Tree) → RowSpells
+RowsSpell Row number [] at late after late_after = (after ≡ at) × (late_after ≡ late)
+RowsSpell Row number (row ∷ rows) at late after late_after =
+    (mid : ℕ) × (late_mid : Late) × Row number row at late mid late_mid × RowsSpell Row (number + 1) rows mid late_mid after late_after
+
+-- the name of the case that a value is
+abbrev pub choice_of_tree : Tree-F Tree → List ℕ
+choice_of_tree (Tree-F.Choice name row) = name.bytes
+choice_of_tree value = []
+
+abbrev pub choice_in : Option Tree → List ℕ
+choice_in None = []
+choice_in (Some value) = choice_of_tree (out-Tree value)
+
+-- the value is the case of this name
+abbrev pub is_case : Word → Option Tree → Bool
+is_case name value = str_eq_ignore_ascii_case name.bytes (choice_in value)
+
+module _ (plain : Bool) (known : Facts) (all : List Bool) (met : Names) where
+  -- a field without fields within it: its pieces
+  abbrev pub PiecesSpell : PlainField → Environment → Option Tree → RowSpells
+  PiecesSpell field names value at late after late_after =
       IsGroupedFor field value × InOrder (PieceSpells plain known all names met) (pieces_of field) (values_for field value) at late after late_after
 
-  abbrev pub BodySpells : List PlainField → List Tree → RowSpells
-  BodySpells = InOrder FieldSpells
+  abbrev mutual
+    -- a field, seen with the names of its body: an array is its rows, a switch is the fields of the case that is chosen
+    pub FieldSpells : PlainField → Environment → Option Tree → RowSpells
+    FieldSpells (Number number) names value = PiecesSpell (Number number) names value
+    FieldSpells (Text text) names value = PiecesSpell (Text text) names value
+    FieldSpells (Points points) names value = PiecesSpell (Points points) names value
+    FieldSpells (Fill unit count) names value = PiecesSpell (Fill unit count) names value
+    FieldSpells (Align unit) names value = PiecesSpell (Align unit) names value
+    FieldSpells (Array name count row) names value = λ at late after late_after.
+        (rows : List (List Tree)) × (value ≡ Some (trees.Rows rows)) × IsStated count (length rows) × IsCounted name (length rows) names
+        × RowsSpell (λ number line. Inside row (Some number) names (λ own. BodySpells row own line)) 0 rows at late after late_after
+    FieldSpells (Switch cases) names value = CaseSpells cases names value
 
--- how many values a row has: texts, and numbers, those of points each
+    -- the first case that has the name of the value, with its key, a number among its fields
+    pub CaseSpells : PlainCases → Environment → Option Tree → RowSpells
+    CaseSpells no_cases names value = λ at late after late_after. ⊥
+    CaseSpells (case_and name row others) names value = λ at late after late_after.
+        By (is_case name value)
+        ((line : List Tree) × (value ≡ Some (trees.Choice name line)) × Inside row None names (λ own. BodySpells row own line) at late after late_after)
+        (CaseSpells others names value at late after late_after)
+
+    -- the fields of a body one behind the other, each with its value or none
+    pub BodySpells : PlainBody → Environment → List Tree → RowSpells
+    BodySpells no_fields names values = AtEnd values
+    BodySpells (field_and field fields) names values = Then (FieldSpells field names) (BodySpells fields names) values
+
+-- how many values a row has: texts, numbers, those of points each, and rows of arrays
+abbrev pub count_in_rows : List (List ℕ) → ℕ
+count_in_rows rows = length rows + sum_by (λ counts. sum_by (λ count. count) counts) rows
+
+abbrev pub count_step : Tree-F ℕ → ℕ
+count_step (Tree-F.Number number) = 1
+count_step (Tree-F.Text bytes) = 1
+count_step (Tree-F.Group numbers) = length numbers
+count_step (Tree-F.Rows rows) = count_in_rows rows
+count_step (Tree-F.Choice name counts) = sum_by (λ count. count) counts
+
 abbrev pub count_in : Tree → ℕ
-count_in (trees.Group numbers) = length numbers
-count_in value = 1
+count_in value = fold-Tree ℕ count_step value
 
-abbrev pub count_of : List Tree → ℕ
-count_of row = sum_by count_in row
+abbrev pub values_in : List Tree → ℕ
+values_in row = sum_by count_in row
 
 -- the row spells these bytes: its fields one behind the other from the first bit on, and then zero bits to a whole byte;
 -- plainly where the bytes tell the row again and it has at most 1,048,576 values
-pub record Spells (plain : Bool) (known : Facts) (body : List PlainField) (row : List Tree) (bytes : List ℕ) : Type 0 where
+pub record Spells (plain : Bool) (known : Facts) (body : PlainBody) (row : List Tree) (bytes : List ℕ) : Type 0 where
   pub names : Environment
-  pub own : Within body outside names
+  pub own : Within body None outside names
   pub end : ℕ
   pub late : Late
-  pub fields : BodySpells plain known (bits_of bytes) names no_names body row 0 [] end late
+  pub fields : BodySpells plain known (bits_of bytes) no_names body names row 0 [] end late
   pub filled : bits_of bytes ≡ filled 8 (take end (bits_of bytes))
   pub within : end ≤ length (bits_of bytes)
   pub are_bytes : (k : ℕ) → slice_index bytes k < 256
-  pub few : When plain (count_of row ≤ 1048576)
+  pub few : When plain (values_in row ≤ 1048576)

@@ -7,7 +7,7 @@ use Rattle.std.specs.declared.result.Result.{Result}
 use Rattle.rz_core.specs.Lists.{or_else}
 use Rattle.rz_core.specs.declared.fault.Kept.TheVariants.{Key}
 use Rattle.rz_core.specs.declared.resource.OsType.{OsType}
-use Rattle.rz_types.specs.Field.{PlainField}
+use Rattle.rz_types.specs.Field.{PlainBody}
 use Rattle.rz_types.specs.declared.rules.TypeFault.{TypeFault}
 use Rattle.rz_types.specs.declared.table.Scope.{Scope}
 use Rattle.rz_types.specs.declared.table.Scope.TheVariants.{Any, Id, Range}
@@ -15,7 +15,7 @@ use Rattle.rz_types.specs.declared.table.Scope.TheVariants.{Any, Id, Range}
 pub record Declaration : Type 0 where
   pub kind : OsType
   pub scope : Scope
-  pub template : List PlainField
+  pub template : PlainBody
 
 -- Places.
 
@@ -80,5 +80,5 @@ asked kind None table = last_such (is_for kind is_any) table
 abbrev pub no_such_type : OsType → Option ℤ → TypeFault
 no_such_type kind id = record { number = 239; field = 0; kept = Key kind (unwrap_or id (pos 0)) }
 
-abbrev pub copied : OsType → Option ℤ → List Declaration → Result (List PlainField) TypeFault
+abbrev pub copied : OsType → Option ℤ → List Declaration → Result PlainBody TypeFault
 copied kind id table = ok_or (option_map (λ one. one.template) (asked kind id table)) (no_such_type kind id)

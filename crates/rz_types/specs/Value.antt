@@ -9,7 +9,7 @@ use Rattle.rz_core.specs.declared.fault.Fault.{Fault}
 use Rattle.rz_core.specs.declared.fault.Kept.TheVariants as kept
 use Rattle.rz_core.specs.declared.fault.Mark.{Mark}
 use Rattle.rz_expr.specs.Constant.{constant_sight}
-use Rattle.rz_expr.specs.Environment.{count_of, place_of, predefined, Key, Sight}
+use Rattle.rz_expr.specs.Environment.{count_of, place_of, predefined, Environment, Key, Sight}
 use Rattle.rz_expr.specs.Term.{BitsAt, Constant, FactOf, Named, OfOne, OfTwo, RowsOf, Term}
 use Rattle.rz_expr.specs.Value.{value_of}
 use Rattle.rz_expr.specs.declared.value.EvalFault.{EvalFault}
@@ -33,7 +33,8 @@ is_resource_fact facts.Kind = true
 is_resource_fact facts.Attributes = true
 is_resource_fact other = false
 
--- Field expressions: no names but `true` and `false`, and of the functions the facts of the resource.
+-- Field expressions, those of sizes and heads: no names but `true` and `false`, and of the functions the facts of the
+-- resource.
 
 abbrev pub is_field_expression : Term → Bool
 is_field_expression (Constant number) = true
@@ -43,6 +44,16 @@ is_field_expression (BitsAt name start width) = false
 is_field_expression (FactOf which) = is_resource_fact which
 is_field_expression (OfOne op operand) = is_field_expression operand
 is_field_expression (OfTwo op left right) = is_field_expression left && is_field_expression right
+
+-- an expression of a fixed value: it may also name arrays, by the number of their rows
+abbrev pub is_fixed_expression : Term → Bool
+is_fixed_expression (Constant number) = true
+is_fixed_expression (Named name) = is_some (predefined name)
+is_fixed_expression (RowsOf name) = true
+is_fixed_expression (BitsAt name start width) = false
+is_fixed_expression (FactOf which) = is_resource_fact which
+is_fixed_expression (OfOne op operand) = is_fixed_expression operand
+is_fixed_expression (OfTwo op left right) = is_fixed_expression left && is_fixed_expression right
 
 -- What is seen.
 
@@ -59,6 +70,10 @@ symbol_key symbols (count_of name) = None
 -- with the facts of a resource and a field's symbols
 abbrev pub field_sight : Facts → List Symbol → Sight
 field_sight known symbols = record { names = record { give = symbol_key symbols }; bits = λ first width. None; fact = fact_of known }
+
+-- with names that have these values, and the facts of a resource; so far no expression of a field reads bits
+abbrev pub names_sight : Facts → Environment → Sight
+names_sight known names = record { names = names; bits = λ first width. None; fact = fact_of known }
 
 -- Values.
 

@@ -1,16 +1,18 @@
 ghost use Rattle.std.specs.Prelude.{◌≡◌, IfOk, map, option_map};
 ghost use Rattle.rz_expr.specs.Term.{term_of};
-ghost use Rattle.rz_types.specs.Field.{plain_body, plain_field, plain_number, plain_points, plain_text};
+ghost use Rattle.rz_types.specs.Field.{plain_array, plain_body, plain_case, plain_cases, plain_field, plain_number, plain_points, plain_text};
 ghost use Rattle.rz_types.specs.Text.{plain_part, plain_parts};
 
 use crate::{
-    Body, Exprs, Field, NumField, PointField, Symbol, Symbols, TextField, TextPart, Texts,
+    ArrayField, Body, Case, Cases, Exprs, Field, NumField, PointField, Symbol, Symbols, TextField,
+    TextPart, Texts,
 };
-use rz_core::{Bytes, NoMemory};
+use rz_core::{Bytes, NoMemory, Word};
 use rz_expr::{Expr, copy};
 use std::alloc::Global;
 
 /// A copy of a body.
+#[cycle(copies)]
 pub fn copy_body(alloc: Global, body: &Body) -> Result<Body, NoMemory>
     ensures { IfOk result (λ copy. plain_body copy ≡ plain_body body.now) }
 {
@@ -21,6 +23,7 @@ pub fn copy_body(alloc: Global, body: &Body) -> Result<Body, NoMemory>
     Ok(copies)
 }
 
+#[cycle(copies)]
 fn copy_field(alloc: Global, field: &Field) -> Result<Field, NoMemory>
     ensures { IfOk result (λ copy. plain_field copy ≡ plain_field field.now) }
 {
@@ -30,7 +33,51 @@ fn copy_field(alloc: Global, field: &Field) -> Result<Field, NoMemory>
         Field::Points(points) => Ok(Field::Points(copy_points(alloc, points)?)),
         Field::Fill(unit, count) => Ok(Field::Fill(*unit, *count)),
         Field::Align(unit) => Ok(Field::Align(*unit)),
+        Field::Array(array) => Ok(Field::Array(copy_array(alloc, array)?)),
+        Field::Switch(cases) => Ok(Field::Switch(copy_cases(alloc, cases)?)),
     }
+}
+
+#[cycle(copies)]
+fn copy_array(alloc: Global, array: &ArrayField) -> Result<ArrayField, NoMemory>
+    ensures { IfOk result (λ copy. plain_array copy ≡ plain_array array.now) }
+{
+    let name = copy_name(alloc, &array.name)?;
+    let row = copy_body(alloc, &array.row)?;
+    Ok(ArrayField {
+        name,
+        count: array.count,
+        row,
+    })
+}
+
+fn copy_name(alloc: Global, name: &Option<Word>) -> Result<Option<Word>, NoMemory>
+    ensures { IfOk result (λ copy. copy ≡ name.now) }
+{
+    match name {
+        Some(name) => Ok(Some(name.copy(alloc)?)),
+        None => Ok(None),
+    }
+}
+
+#[cycle(copies)]
+fn copy_cases(alloc: Global, cases: &Cases) -> Result<Cases, NoMemory>
+    ensures { IfOk result (λ copies. plain_cases copies ≡ plain_cases cases.now) }
+{
+    let mut copies = Cases::new(alloc);
+    for case in cases.as_slice() {
+        copies.push(copy_case(alloc, case)?)?;
+    }
+    Ok(copies)
+}
+
+#[cycle(copies)]
+fn copy_case(alloc: Global, case: &Case) -> Result<Case, NoMemory>
+    ensures { IfOk result (λ copy. plain_case copy ≡ plain_case case.now) }
+{
+    let name = case.name.copy(alloc)?;
+    let row = copy_body(alloc, &case.row)?;
+    Ok(Case { name, row })
 }
 
 fn copy_number(alloc: Global, field: &NumField) -> Result<NumField, NoMemory>

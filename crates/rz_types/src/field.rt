@@ -105,8 +105,34 @@ pub struct PointField {
     pub fixed: Option<Exprs>,
 }
 
+/// An array: rows of fields, each row with values of its own. (MPW Rez.)
+#[derive(Debug, Drop)]
+#[cycle(field)]
+pub struct ArrayField {
+    /// The name, where it has one.
+    pub name: Option<Word>,
+    /// How many rows it has, where that is stated.
+    pub count: Option<i32>,
+    /// The fields of a row.
+    pub row: Body,
+}
+
+/// A case of a switch: a name, and the fields that stand there where it is chosen. (MPW Rez.)
+#[derive(Debug, Drop)]
+#[cycle(field)]
+pub struct Case {
+    /// The name.
+    pub name: Word,
+    /// The fields.
+    pub row: Body,
+}
+
+/// The cases of a switch, in order.
+pub type Cases = Listing<Case>;
+
 /// A field of a type declaration. (MPW Rez.)
 #[derive(Debug, Drop)]
+#[cycle(field)]
 pub enum Field {
     /// A number.
     Num(NumField),
@@ -118,6 +144,10 @@ pub enum Field {
     Fill(u8, i32),
     /// `align`: zeros to the next multiple of a unit in bits.
     Align(u8),
+    /// `array`
+    Array(ArrayField),
+    /// `switch`
+    Switch(Cases),
 }
 
 /// The fields of a type declaration, in order.

@@ -1,26 +1,34 @@
-ghost use Rattle.std.specs.Prelude.{◌≡◌, ◌↔◌, ◌∷◌, ◌++◌, ℤ, [], false, true, length, List, None, Some};
+ghost use Rattle.std.specs.Prelude.{◌≡◌, ◌↔◌, ◌∷◌, ◌++◌, ℤ, [], false, true, List, None, Some};
 ghost use Rattle.std.specs.List.{list_any};
 ghost use Rattle.rz_core.specs.declared.facts.Facts.{Facts};
 ghost use Rattle.rz_core.specs.declared.resource.OsType.{OsType};
 ghost use Rattle.rz_expr.specs.Term.{Term};
 ghost use Rattle.rz_expr.specs.Value.{value_of};
-ghost use Rattle.rz_types.specs.Field.{PlainField};
-ghost use Rattle.rz_types.specs.Rules.{bad_width, broken, width_fault, BreaksNone, IsFirstBroken};
+ghost use Rattle.rz_types.specs.Field.{PlainBody};
+ghost use Rattle.rz_types.specs.Kept.{IsKept};
+ghost use Rattle.rz_types.specs.Rules.{broken, keeps_rules, BreaksNone, IsFirstBroken};
 ghost use Rattle.rz_types.specs.declared.rules.TypeFault.{TypeFault};
 ghost use Rattle.rz_types.specs.Scopes.{concerns, holds, is_narrower_for, PlacesDiffer};
-ghost use Rattle.rz_types.specs.Value.{field_sight, is_field_expression, IsArithmetic};
+ghost use Rattle.rz_core.specs.declared.resource.Word.{Word};
+ghost use Rattle.rz_expr.specs.Environment.{Environment};
+ghost use Rattle.rz_types.specs.Rules.{unknown_array};
+ghost use Rattle.rz_types.specs.Value.{is_field_expression, is_fixed_expression, names_sight, IsArithmetic};
+ghost use Rattle.rz_types.specs.Names.{GivesCounts, GivesPredefined};
 ghost use Rattle.rz_types.specs.Table.{declared_behind, found, has_place, stands_at, Declaration};
 
-/// A law, with nothing to run: the first broken rule is that of the first field that breaks one, whatever
-/// stands behind it; and a body breaks none exactly where each of its fields keeps them. So a body breaks
-/// this rule first exactly where a field of its walk breaks it and none before that field breaks one.
+/// A law, with nothing to run: a body has this fault first exactly where a step of the walk breaks a rule by it and
+/// none before does, or where no step breaks a rule, and a step has this name that can't be named and none before has
+/// one; and it breaks no rule exactly where each step keeps them.
 pub fn first_broken_rule()
-    ensures first { (front behind : List PlainField) (field : PlainField) (value : ℤ) → broken front ≡ None
-        → bad_width field ≡ Some value → broken (front ++ field ∷ behind) ≡ Some (width_fault (length front) value) }
-    ensures none { (front : List PlainField) (field : PlainField) → broken front ≡ None → bad_width field ≡ None
-        → broken (front ++ field ∷ []) ≡ None }
-    ensures fault { (body : List PlainField) (fault : TypeFault) → (broken body ≡ Some fault) ↔ IsFirstBroken body fault }
-    ensures kept { (body : List PlainField) → (broken body ≡ None) ↔ BreaksNone body }
+    ensures fault { (body : PlainBody) (fault : TypeFault) → (broken body ≡ Some fault) ↔ IsFirstBroken body fault }
+    ensures kept { (body : PlainBody) → (broken body ≡ None) ↔ BreaksNone body }
+{}
+
+/// A law, with nothing to run: what keeps the rules keeps them within: widths may be, arrays of one body have different
+/// names and so have the cases of a switch, the rows of an array take a value, and each array that an expression names
+/// is one of its own body or of those around.
+pub fn rules_hold_within()
+    ensures { (body : PlainBody) → keeps_rules body ≡ true → IsKept body }
 {}
 
 /// A law, with nothing to run: the declaration that was made last is found for each id that its scope holds,
@@ -53,8 +61,12 @@ pub fn places_stay_different()
     ensures { (table : List Declaration) (one : Declaration) → PlacesDiffer table → PlacesDiffer (declared_behind table one) }
 {}
 
-/// A law, with nothing to run: an expression of a field has a value for each resource, or is a quotient or a remainder
-/// by 0, or a shift by a count outside 0 to 31: it has no other fault.
+/// A law, with nothing to run: an expression of a size has a value for each resource, or is a quotient or a remainder
+/// by 0, or a shift by a count outside 0 to 31: it has no other fault. So has that of a fixed value, where each array that
+/// it names has a number of rows.
 pub fn field_expressions_have_values()
-    ensures { (known : Facts) (term : Term) → is_field_expression term ≡ true → IsArithmetic (value_of term (field_sight known [])) }
+    ensures sizes { (known : Facts) (names : Environment) (term : Term) → GivesPredefined names → is_field_expression term ≡ true
+        → IsArithmetic (value_of term (names_sight known names)) }
+    ensures values { (known : Facts) (names : Environment) (scope : List Word) (term : Term) → GivesPredefined names → GivesCounts scope names
+        → is_fixed_expression term ≡ true → unknown_array scope term ≡ None → IsArithmetic (value_of term (names_sight known names)) }
 {}

@@ -9,6 +9,7 @@
 
 mod copies;
 mod field;
+mod keys;
 mod laws;
 mod range;
 mod rules;
@@ -18,13 +19,15 @@ mod template;
 mod text;
 mod tree;
 mod value;
+mod walk;
 
 pub use field::{
-    Body, Exprs, Field, NumField, NumForm, PointField, Radix, Symbol, Symbols, TextField, TextForm,
+    ArrayField, Body, Case, Cases, Exprs, Field, NumField, NumForm, PointField, Radix, Symbol,
+    Symbols, TextField, TextForm,
 };
 pub use laws::{
     field_expressions_have_values, first_broken_rule, last_declared_is_found, order_stays,
-    others_are_found_as_before, places_stay_different,
+    others_are_found_as_before, places_stay_different, rules_hold_within,
 };
 pub use range::{fits_number, may_be_size, own_width};
 pub use rules::{TypeFault, check};
@@ -32,7 +35,8 @@ pub use stored::{is_too_long, stored_number};
 pub use table::{Scope, TypeTable};
 pub use template::Template;
 pub use text::{TextPart, Texts, part_in, text_in, text_of};
-pub use tree::{Numbers, Row, Tree, takes_value};
+pub use tree::{Numbers, Row, RowList, Tree, takes_value};
 pub use value::{
-    FieldEnv, constant_value, is_field_expression, is_resource_fact, number_of, symbol_number_of,
+    FieldEnv, constant_value, fact_of, is_field_expression, is_fixed_expression, is_resource_fact,
+    number_of, symbol_number_of,
 };

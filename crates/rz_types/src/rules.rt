@@ -1,65 +1,348 @@
-ghost use Rattle.std.specs.Prelude.{◌≡◌, true};
+ghost use Rattle.std.specs.Prelude.{IfOk, ◌≡◌, map, option_map, true};
+ghost use Rattle.std.specs.Option.{option_to_list};
 ghost use Rattle.rz_core.specs.Stop.{Gives};
-ghost use Rattle.rz_types.specs.Field.{plain_body, plain_field, plain_text};
-ghost use Rattle.rz_types.specs.Rules.{bad_size, bad_width, broken, checked, may_be_count, may_be_width, unless, width_fault};
+ghost use Rattle.rz_core.specs.Lists.{first_of, or_else};
+ghost use Rattle.rz_expr.specs.Term.{term_of};
+ghost use Rattle.rz_types.specs.Field.{plain_body, plain_cases, plain_field, plain_text};
+ghost use Rattle.rz_types.specs.Rules.{array_twice, bad_case, bad_place, bad_rows, bad_size, bad_width, case_names, checked, differ, has_other_place, has_other_width, has_same_bits, has_values, key_rule, may_be_count, may_be_rows, may_be_width, name_fault, no_values, repeated, unknown_array, unknown_fault, unknown_in, unless, width_fault};
 ghost use Rattle.rz_types.specs.Shape.{is_well_shaped};
 ghost use Rattle.rz_types.specs.Template.{plain_templates};
+ghost use Rattle.rz_types.specs.Walk.{is_among};
+ghost use Rattle.std.specs.List.{list_any};
 
-use crate::{Body, Field, NumForm, Template, TextField, may_be_size};
-use rz_core::{Kept, Stop};
-use rz_expr::constant_of;
+use crate::keys::CaseKey;
+use crate::walk::check_fields;
+use crate::{Body, Case, Exprs, Field, NumForm, Template, TextField, may_be_size, takes_value};
+use rz_core::{Kept, NoMemory, Stop, Word};
+use rz_expr::{Expr, constant_of};
 use std::alloc::Global;
 
 /// The most units of a `fill`.
 const MOST_UNITS: i32 = 16_777_212;
+
+/// The most that a fault keeps of a position.
+pub const MOST_KEPT: u64 = 9_223_372_036_854_775_807;
+
+/// The most rows that may be stated of an array.
+const MOST_ROWS: i32 = 1_048_576;
 
 /// A broken rule of a type declaration.
 #[derive(Debug, Drop)]
 pub struct TypeFault {
     /// The number of the rule in the table of faults.
     pub number: u16,
-    /// The position of the field, from 0.
+    /// The position of the field in a walk depth first, from 0, at most 2^63 - 1.
     pub field: u64,
     /// What is kept of the cause.
     pub kept: Kept,
 }
 
-/// The template of a body, or the first field that breaks a rule: 238 for the width of a `bitstring` outside
-/// 1 to 32, the count of a `fill` outside 0 to 16,777,212, or a constant size of a text that its type can't
-/// have (kept: the value). A `string` has a size from 0 on, a `pstring` from 0 to 255, a `wstring` from 0 to
-/// 65,535, a `cstring` from 1 on. A size that is no constant, or a constant without a value, breaks no rule.
-/// These rules take no memory. The body has the shape of a declaration: the width of a type that has its
-/// own, two or four fixed numbers of points, units that there are, and so on. (MPW Rez.)
-pub fn check(_alloc: Global, body: Body) -> Result<Template, Stop<TypeFault>>
+/// The template of a body, or the first rule that it breaks. A walk goes over the fields depth first; a field's own
+/// rules come before those of the fields within it, those of a case behind its fields. 231: an array has the name of one
+/// before it (kept: the name). 232: two cases of a switch have one name (kept: the later's). 233: a case hasn't exactly
+/// one key; 234: the keys of a switch have different widths; 235: the fields before a key haven't all a fixed width, or
+/// the keys stand at different distances; 236: two keys have the same bits (kept of each: the name of the case; the field
+/// is the switch). 237: the rows of an array take no value (kept: the position of the field). 238: the width of a
+/// `bitstring` outside 1 to 32, the count of an array outside 0 to 1,048,576, the count of a `fill` outside 0 to
+/// 16,777,212, or a constant size of a text that its type can't have (kept: the value): a `string` has a size from 0 on, a
+/// `pstring` from 0 to 255, a `wstring` from 0 to 65,535, a `cstring` from 1 on; a size that is no constant, or a constant
+/// without a value, breaks no rule. Behind the walk 212: the first array that an expression names and that is none of its
+/// own body and of those around (kept: the name). Names are the same in whatever case. The body has the shape of a
+/// declaration: the width of a type that has its own, two or four fixed numbers of points, units that there are, and so
+/// on. The walk goes as deep as arrays and switches stand in one another. (MPW Rez.)
+pub fn check(alloc: Global, body: Body) -> Result<Template, Stop<TypeFault>>
     requires { is_well_shaped (plain_body body) ≡ true }
     ensures { Gives (checked (plain_body body)) (plain_templates result) }
 {
-    match first_broken(body.as_slice()) {
-        None => Ok(Template::of(body)),
-        Some(fault) => Err(Stop::Refused(fault)),
+    match check_fields(alloc, body.as_slice()) {
+        Ok(()) => Ok(Template::of(body)),
+        Err(stop) => Err(stop),
     }
 }
 
-/// The first broken rule.
-fn first_broken(fields: &[Field]) -> Option<TypeFault>
-    ensures { result ≡ broken (plain_body fields.now) }
+/// The first rule that a field at this position breaks itself, behind arrays of these names.
+pub fn broken_field(
+    alloc: Global,
+    position: u64,
+    before: &[&Word],
+    field: &Field,
+) -> Result<Option<TypeFault>, NoMemory>
+    ensures { IfOk result (λ fault. fault ≡ or_else (bad_place position (map (λ name. name.now) before.now) (plain_field field.now))
+        (option_map (width_fault position) (bad_width (plain_field field.now)))) }
 {
-    let mut position = 0;
-    for field in fields {
-        if let Some(value) = bad_width(field) {
-            return Some(width_fault(position, value));
+    match bad_place(alloc, position, before, field)? {
+        Some(fault) => Ok(Some(fault)),
+        None => match bad_width(field) {
+            Some(value) => Ok(Some(width_fault(position, value))),
+            None => Ok(None),
+        },
+    }
+}
+
+/// What is wrong with a field where it stands, beside its widths.
+fn bad_place(
+    alloc: Global,
+    position: u64,
+    before: &[&Word],
+    field: &Field,
+) -> Result<Option<TypeFault>, NoMemory>
+    ensures { IfOk result (λ fault. fault ≡ bad_place position (map (λ name. name.now) before.now) (plain_field field.now)) }
+{
+    match field {
+        Field::Array(array) => match array_twice(alloc, position, before, &array.name)? {
+            Some(fault) => Ok(Some(fault)),
+            None => Ok(no_values(position, array.row.as_slice())),
+        },
+        Field::Switch(cases) => case_twice(alloc, position, cases.as_slice()),
+        _ => Ok(None),
+    }
+}
+
+/// 231 for an array whose name one before it has.
+fn array_twice(
+    alloc: Global,
+    position: u64,
+    before: &[&Word],
+    name: &Option<Word>,
+) -> Result<Option<TypeFault>, NoMemory>
+    ensures { IfOk result (λ fault. fault ≡ array_twice position (map (λ name. name.now) before.now) name.now) }
+{
+    let Some(name) = name else {
+        return Ok(None);
+    };
+    if is_among(name.bytes.as_slice(), before) {
+        Ok(Some(name_fault(alloc, 231, position, name)?))
+    } else {
+        Ok(None)
+    }
+}
+
+/// 237 for an array whose rows take no value.
+fn no_values(position: u64, row: &[Field]) -> Option<TypeFault>
+    ensures { result ≡ no_values position (plain_body row.now) }
+{
+    if has_values(row) {
+        return None;
+    }
+    let position = position.min(MOST_KEPT);
+    Some(TypeFault {
+        number: 237,
+        field: position,
+        kept: Kept::Number(position as i64),
+    })
+}
+
+/// Whether a row of these fields takes one value at least.
+fn has_values(row: &[Field]) -> bool
+    ensures { result ≡ has_values (plain_body row.now) }
+{
+    for field in row {
+        if takes_value(field) {
+            return true;
         }
-        position += 1;
+    }
+    false
+}
+
+/// 232 for a switch of which two cases have one name.
+fn case_twice(alloc: Global, position: u64, cases: &[Case]) -> Result<Option<TypeFault>, NoMemory>
+    ensures { IfOk result (λ fault. fault ≡ option_map (name_fault 232 position) (repeated (case_names (plain_cases cases.now)))) }
+{
+    match repeated(alloc, cases)? {
+        Some(name) => Ok(Some(name_fault(alloc, 232, position, name)?)),
+        None => Ok(None),
+    }
+}
+
+/// The first case name that stands before it too.
+fn repeated<'a>(alloc: Global, cases: &'a [Case]) -> Result<Option<&'a Word>, NoMemory>
+    ensures { IfOk result (λ name. option_map (λ name. name.now) name ≡ repeated (case_names (plain_cases cases.now))) }
+{
+    let mut before = Vec::new(alloc);
+    for case in cases {
+        if is_among(case.name.bytes.as_slice(), &before) {
+            return Ok(Some(&case.name));
+        }
+        before.push(&case.name)?;
+    }
+    Ok(None)
+}
+
+/// Whether a name is one of these, in whatever case.
+fn is_among(name: &[u8], names: &[&Word]) -> bool
+    ensures { result ≡ is_among name.now (map (λ name. name.now) names.now) }
+{
+    for one in names {
+        if one.is(name) {
+            return true;
+        }
+    }
+    false
+}
+
+/// The first rule that a case of the switch at this position breaks, by its keys, behind cases with those keys.
+pub fn broken_behind(
+    alloc: Global,
+    position: u64,
+    name: &Word,
+    keys: &[CaseKey],
+    before: &[CaseKey],
+) -> Result<Option<TypeFault>, NoMemory>
+    ensures { IfOk result (λ fault. fault ≡ bad_case position name.now keys.now before.now) }
+{
+    match key_rule(keys, before) {
+        Some(number) => Ok(Some(name_fault(alloc, number, position, name)?)),
+        None => Ok(None),
+    }
+}
+
+/// The number of the first rule that the keys of a case break, behind these.
+fn key_rule(keys: &[CaseKey], before: &[CaseKey]) -> Option<u16>
+    ensures { result ≡ key_rule keys.now before.now }
+{
+    let [key] = keys else {
+        return Some(233);
+    };
+    if has_other_width(key, before) {
+        Some(234)
+    } else if key.distance.is_none() || has_other_place(key, before) {
+        Some(235)
+    } else if has_same_bits(key, before) {
+        Some(236)
+    } else {
+        None
+    }
+}
+
+/// Whether one of the keys has another width.
+fn has_other_width(key: &CaseKey, before: &[CaseKey]) -> bool
+    ensures { result ≡ list_any (has_other_width key.now) before.now }
+{
+    for one in before {
+        if key.width != one.width {
+            return true;
+        }
+    }
+    false
+}
+
+/// Whether one of the keys stands at another distance.
+fn has_other_place(key: &CaseKey, before: &[CaseKey]) -> bool
+    ensures { result ≡ list_any (has_other_place key.now) before.now }
+{
+    for one in before {
+        if differ(key.distance, one.distance) {
+            return true;
+        }
+    }
+    false
+}
+
+fn differ(one: Option<u64>, other: Option<u64>) -> bool
+    ensures { result ≡ differ one other }
+{
+    match (one, other) {
+        (Some(one), Some(other)) => one != other,
+        _ => true,
+    }
+}
+
+/// Whether one of the keys has the same bits.
+fn has_same_bits(key: &CaseKey, before: &[CaseKey]) -> bool
+    ensures { result ≡ list_any (has_same_bits key.now) before.now }
+{
+    for one in before {
+        if key.bits == one.bits {
+            return true;
+        }
+    }
+    false
+}
+
+/// The first array that a field names and that isn't one of these.
+pub fn unknown_in<'a>(scope: &[&Word], field: &'a Field) -> Option<&'a Word>
+    ensures { option_map (λ name. name.now.bytes) result ≡ unknown_in (map (λ name. name.now) scope.now) (plain_field field.now) }
+{
+    match field {
+        Field::Num(number) => unknown_in_value(scope, &number.fixed),
+        Field::Text(text) => unknown_in_value(scope, &text.size),
+        Field::Points(points) => match &points.fixed {
+            Some(exprs) => unknown_in_all(scope, exprs),
+            None => None,
+        },
+        _ => None,
+    }
+}
+
+fn unknown_in_value<'a>(scope: &[&Word], value: &'a Option<Expr>) -> Option<&'a Word>
+    ensures { option_map (λ name. name.now.bytes) result
+        ≡ first_of (map (unknown_array (map (λ name. name.now) scope.now)) (option_to_list (option_map term_of value.now))) }
+{
+    match value {
+        Some(expr) => unknown_array(scope, expr),
+        None => None,
+    }
+}
+
+fn unknown_in_all<'a>(scope: &[&Word], exprs: &'a Exprs) -> Option<&'a Word>
+    ensures { option_map (λ name. name.now.bytes) result ≡ first_of (map (unknown_array (map (λ name. name.now) scope.now)) (map term_of exprs.now)) }
+{
+    for expr in exprs.as_slice() {
+        if let Some(name) = unknown_array(scope, expr) {
+            return Some(name);
+        }
     }
     None
 }
 
-fn width_fault(field: u64, value: i32) -> TypeFault
-    ensures { result ≡ width_fault field value }
+/// The first array that an expression names and that isn't one of these.
+fn unknown_array<'a>(scope: &[&Word], expr: &'a Expr) -> Option<&'a Word>
+    ensures { option_map (λ name. name.now.bytes) result ≡ unknown_array (map (λ name. name.now) scope.now) (term_of expr.now) }
+{
+    match expr {
+        Expr::Number(_) | Expr::Name(_) | Expr::Fact(_) => None,
+        Expr::Count(name) => {
+            if is_among(name.bytes.as_slice(), scope) {
+                None
+            } else {
+                Some(name)
+            }
+        }
+        Expr::Unary(_, operand) => unknown_array(scope, operand),
+        Expr::Bits(_, one, other) | Expr::Binary(_, one, other) => {
+            match unknown_array(scope, one) {
+                Some(name) => Some(name),
+                None => unknown_array(scope, other),
+            }
+        }
+    }
+}
+
+/// A fault of a field at this position that keeps a name.
+fn name_fault(alloc: Global, number: u16, position: u64, name: &Word) -> Result<TypeFault, NoMemory>
+    ensures { IfOk result (λ fault. fault ≡ name_fault number position name.now) }
+{
+    Ok(TypeFault {
+        number,
+        field: position.min(MOST_KEPT),
+        kept: Kept::Name(name.copy(alloc)?.bytes),
+    })
+}
+
+/// 212 for an array that a field at this position can't name.
+pub fn unknown_fault(alloc: Global, position: u64, name: &Word) -> Result<TypeFault, NoMemory>
+    ensures { IfOk result (λ fault. fault ≡ unknown_fault position name.now.bytes) }
+{
+    name_fault(alloc, 212, position, name)
+}
+
+/// 238 for a field at this position.
+fn width_fault(position: u64, value: i32) -> TypeFault
+    ensures { result ≡ width_fault position value }
 {
     TypeFault {
         number: 238,
-        field,
+        field: position.min(MOST_KEPT),
         kept: Kept::Number(i64::from(value)),
     }
 }
@@ -72,7 +355,18 @@ fn bad_width(field: &Field) -> Option<i32>
         Field::Num(number) => unless(may_be_width(number.form, number.width), number.width),
         Field::Text(text) => bad_size(text),
         Field::Fill(_, count) => unless(may_be_count(*count), *count),
-        Field::Points(_) | Field::Align(_) => None,
+        Field::Array(array) => bad_rows(array.count),
+        Field::Points(_) | Field::Align(_) | Field::Switch(_) => None,
+    }
+}
+
+/// The stated number of rows, where it can't be.
+fn bad_rows(count: Option<i32>) -> Option<i32>
+    ensures { result ≡ bad_rows count }
+{
+    match count {
+        Some(count) => unless(may_be_rows(count), count),
+        None => None,
     }
 }
 
@@ -108,4 +402,10 @@ fn may_be_count(count: i32) -> bool
     ensures { result ≡ may_be_count count }
 {
     0 <= count && count <= MOST_UNITS
+}
+
+fn may_be_rows(count: i32) -> bool
+    ensures { result ≡ may_be_rows count }
+{
+    0 <= count && count <= MOST_ROWS
 }

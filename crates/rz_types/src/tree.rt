@@ -3,7 +3,7 @@ ghost use Rattle.rz_types.specs.Field.{plain_field};
 ghost use Rattle.rz_types.specs.Row.{takes_value};
 
 use crate::Field;
-use rz_core::{Bytes, Listing};
+use rz_core::{Bytes, Listing, Word};
 
 /// A value of a row. (MPW Rez.)
 #[derive(Debug, Drop)]
@@ -14,6 +14,10 @@ pub enum Tree {
     Text(Bytes),
     /// The numbers of a point or a rectangle, two or four.
     Group(Numbers),
+    /// The rows of an array.
+    Rows(RowList),
+    /// The case of a switch, by its name as it is declared, and the values of its fields.
+    Choice(Word, Row),
 }
 
 /// Numbers of 16 bits.
@@ -22,6 +26,9 @@ pub type Numbers = Listing<u16>;
 /// The values that a resource gives to the fields of its type, in order: one for each field that has none of its
 /// own.
 pub type Row = Listing<Tree>;
+
+/// The rows of an array, in order.
+pub type RowList = Listing<Row>;
 
 /// Whether a row has a value of the field: the declaration gives none. (MPW Rez.)
 pub fn takes_value(field: &Field) -> bool
@@ -32,5 +39,6 @@ pub fn takes_value(field: &Field) -> bool
         Field::Text(text) => text.fixed.is_none(),
         Field::Points(points) => points.fixed.is_none(),
         Field::Fill(..) | Field::Align(_) => false,
+        Field::Array(_) | Field::Switch(_) => true,
     }
 }

@@ -5,7 +5,7 @@ ghost use Rattle.rz_core.specs.Stop.{Gives, OnFault};
 ghost use Rattle.rz_expr.specs.Constant.{is_constant};
 ghost use Rattle.rz_expr.specs.Term.{term_of};
 ghost use Rattle.rz_expr.specs.Value.{reduced};
-ghost use Rattle.rz_types.specs.Value.{constant_value, fact_of, field_sight, is_field_expression, is_resource_fact, number_of, symbol_number_of, symbol_value, value_fault, IsArithmeticFault};
+ghost use Rattle.rz_types.specs.Value.{constant_value, fact_of, field_sight, is_field_expression, is_fixed_expression, is_resource_fact, number_of, symbol_number_of, symbol_value, value_fault, IsArithmeticFault};
 
 use crate::Symbol;
 use rz_core::{Facts, Fault, Kept, Mark, Stop, Word};
@@ -50,8 +50,8 @@ impl Env for FieldEnv<'_> {
     ghost law = { Prim.search rules };
 }
 
-/// Whether an expression may stand in a field: it has no names but `true` and `false`, and of the `$$` functions the
-/// facts of the resource alone. (MPW Rez.)
+/// Whether an expression may stand in a head or in the size of a text: it has no names but `true` and `false`, and of
+/// the `$$` functions the facts of the resource alone. (MPW Rez.)
 pub fn is_field_expression(expr: &Expr) -> bool
     ensures { result ≡ is_field_expression (term_of expr.now) }
 {
@@ -62,6 +62,20 @@ pub fn is_field_expression(expr: &Expr) -> bool
         Expr::Fact(which) => is_resource_fact(*which),
         Expr::Unary(_, operand) => is_field_expression(operand),
         Expr::Binary(_, left, right) => is_field_expression(left) && is_field_expression(right),
+    }
+}
+
+/// Whether an expression may stand for a fixed value: it may have `$$CountOf` too. (MPW Rez.)
+pub fn is_fixed_expression(expr: &Expr) -> bool
+    ensures { result ≡ is_fixed_expression (term_of expr.now) }
+{
+    match expr {
+        Expr::Number(_) | Expr::Count(_) => true,
+        Expr::Name(name) => predefined(name).is_some(),
+        Expr::Bits(..) => false,
+        Expr::Fact(which) => is_resource_fact(*which),
+        Expr::Unary(_, operand) => is_fixed_expression(operand),
+        Expr::Binary(_, left, right) => is_fixed_expression(left) && is_fixed_expression(right),
     }
 }
 
@@ -86,7 +100,7 @@ fn symbol_value(symbols: &[Symbol], name: &Word) -> Option<i32>
 
 /// What is known of a resource, as a number of 32 bits with a sign. No expression of a field has the words of
 /// the date so far.
-fn fact_of(facts: &Facts, which: FactWord) -> i32
+pub fn fact_of(facts: &Facts, which: FactWord) -> i32
     ensures { result ≡ reduced (fact_of facts.now which) }
 {
     match which {

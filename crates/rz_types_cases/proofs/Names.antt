@@ -1,10 +1,14 @@
 -- A number with the symbol `one` has the shape of a field.
-use Rattle.std.proofs.Common.{◌≡◌, ℕ, ℤ, pos, Bool, true, false, List, [], ◌∷◌, ◌++◌, None, refl, sym, subst, ◌∙◌}
+use Rattle.std.proofs.Common.{◌≡◌, ℕ, ℤ, pos, Bool, true, false, List, [], ◌∷◌, ◌++◌, None, refl, sym, ap, subst, ◌∙◌}
 use Rattle.std.specs.Prelude.{codes}
 use Rattle.rz_expr.specs.Attribute.{attribute_word}
 use Rattle.rz_expr.specs.Keyword.{keyword_of}
-use Rattle.rz_types.specs.Field.{PlainNumber}
+use Rattle.rz_types.specs.Field.{array_step, case_step, field_step, plain_field, plain_number, Number, PlainCase, PlainField, PlainNumber}
 use Rattle.rz_types.specs.Shape.{is_number_shaped}
+use Rattle.rz_types.specs.declared.field.Field.TheFolds.{fold-roll-Field}
+use Rattle.rz_types.specs.declared.field.Field.TheOpen.{Field-F}
+use Rattle.rz_types.specs.declared.field.Field.TheVariants as fields
+use Rattle.rz_types.specs.declared.field.NumField.{NumField}
 use Rattle.rz_types.specs.declared.field.NumForm.TheVariants.{Byte}
 use Rattle.rz_types.specs.declared.field.Radix.TheVariants.{Hex}
 use Rattle.rz_types.specs.declared.field.Symbol.{Symbol}
@@ -24,3 +28,7 @@ pub number_shaped : (before symbols : List Symbol) (name : List ℕ) → before 
 number_shaped before symbols name empty is pushed =
     let all : symbols ≡ symbol_of (codes "one") ∷ [] = pushed ∙ (λ j. empty j ++ symbol_of (is j) ∷ []) in
     subst (λ (l : List Symbol). is_number_shaped false (number_with l) ≡ true) (sym all) own
+
+-- the plain field that a number is
+pub number_is : (number : NumField) → plain_field (fields.Num number) ≡ Number (plain_number number)
+number_is number = ap plain_field (sym (fields.rolls-Num number)) ∙ fold-roll-Field PlainField PlainField PlainCase field_step array_step case_step (Field-F.Num number)

@@ -1,13 +1,14 @@
 ghost use Rattle.std.specs.Prelude.{◌≡◌, true, false, IfOk};
 ghost use Rattle.rz_expr.specs.Term.{term_of};
 ghost use Rattle.rz_types.specs.Field.{plain_body, plain_field};
-ghost use Rattle.rz_types.specs.Shape.{is_own_width, is_shaped, is_well_shaped};
+ghost use Rattle.rz_types.specs.Shape.{are_shaped, is_own_width, is_shaped, is_well_shaped};
 ghost use Rattle.rz_types.specs.Value.{is_field_expression};
 
 use rz_core::{Bytes, Kept, Listing, NoMemory, Stop, Word};
 use rz_expr::{BinaryOp, Expr, FactWord};
 use rz_types::{
-    Body, Field, NumField, NumForm, PointField, Radix, TextField, TextForm, TypeFault, check,
+    ArrayField, Body, Field, NumField, NumForm, PointField, Radix, TextField, TextForm, TypeFault,
+    check,
 };
 use std::alloc::Global;
 use std::test::Fail;
@@ -15,7 +16,7 @@ use std::test::Fail;
 /// A number field.
 fn number(alloc: Global, form: NumForm, width: i32) -> Field
     requires { is_own_width form width ≡ true }
-    ensures { is_shaped false 0 (plain_field result) ≡ true }
+    ensures { is_shaped false (plain_field result) ≡ true }
 {
     Field::Num(NumField {
         form,
@@ -31,7 +32,7 @@ fn number(alloc: Global, form: NumForm, width: i32) -> Field
 /// A text field with a size.
 fn sized(form: TextForm, size: Expr) -> Field
     requires { is_field_expression (term_of size) ≡ true }
-    ensures { is_shaped false 0 (plain_field result) ≡ true }
+    ensures { is_shaped false (plain_field result) ≡ true }
 {
     Field::Text(TextField {
         form,
@@ -62,7 +63,7 @@ fn told(alloc: Global, body: Body) -> Result<Option<(u64, i64)>, Fail>
 
 /// What is told of a body of one field.
 fn told_of(alloc: Global, field: Field) -> Result<Option<i64>, Fail>
-    requires { is_shaped false 0 (plain_field field) ≡ true }
+    requires { is_shaped false (plain_field field) ≡ true }
 {
     let mut body = Body::new(alloc);
     body.push(field)?;
@@ -203,5 +204,60 @@ fn a_body_without_fields_is_a_template(rt: HostRuntime) -> Result<(), Fail> {
         return Err(Fail::from("no template"));
     };
     assert!(rt; template.body().is_empty());
+    Ok(())
+}
+
+/// An array without a name.
+fn array(count: Option<i32>, row: Body) -> Field
+    requires { are_shaped false (plain_body row) ≡ true }
+    ensures { is_shaped false (plain_field result) ≡ true }
+{
+    Field::Array(ArrayField {
+        name: None,
+        count,
+        row,
+    })
+}
+
+/// A body of one field.
+fn only(alloc: Global, field: Field) -> Result<Body, NoMemory>
+    requires { is_shaped false (plain_field field) ≡ true }
+    ensures { IfOk result (λ body. are_shaped false (plain_body body) ≡ true) }
+{
+    let mut body = Body::new(alloc);
+    body.push(field)?;
+    Ok(body)
+}
+
+/// Counts of arrays, and which are told.
+const ROWS: [(i32, Option<i64>); 5] = [
+    (-1, Some(-1)),
+    (0, None),
+    (1_048_576, None),
+    (1_048_577, Some(1_048_577)),
+    (2_147_483_647, Some(2_147_483_647)),
+];
+
+#[test]
+fn stated_rows_are_as_many_as_a_row_has_values(rt: HostRuntime) -> Result<(), Fail> {
+    let alloc = rt.alloc();
+    for (count, wanted) in ROWS {
+        let row = only(alloc, number(alloc, NumForm::Byte, 8))?;
+        assert_eq!(rt; told_of(alloc, array(Some(count), row))?, wanted, "{count}");
+    }
+    Ok(())
+}
+
+#[test]
+fn positions_are_counted_depth_first(rt: HostRuntime) -> Result<(), Fail> {
+    let alloc = rt.alloc();
+    let mut inner = Body::new(alloc);
+    inner.push(number(alloc, NumForm::Byte, 8))?;
+    inner.push(number(alloc, NumForm::Bits, 33))?;
+    let mut body = Body::new(alloc);
+    let row = only(alloc, number(alloc, NumForm::Byte, 8))?;
+    body.push(array(None, row))?;
+    body.push(array(None, only(alloc, array(None, inner))?))?;
+    assert_eq!(rt; told(alloc, body)?, Some((5, 33)));
     Ok(())
 }

@@ -120,7 +120,7 @@ fn copies_are_of_what_is_found(rt: HostRuntime) -> Result<(), Fail> {
 
 /// A number with a symbol.
 fn symbol_number(alloc: Global) -> Result<Field, Fail>
-    ensures { IfOk result (λ field. is_shaped false 0 (plain_field field) ≡ true) }
+    ensures { IfOk result (λ field. is_shaped false (plain_field field) ≡ true) }
 {
     let mut symbols = Symbols::new(alloc);
     let name = Word {
@@ -140,7 +140,7 @@ fn symbol_number(alloc: Global) -> Result<Field, Fail>
 
 /// A number with a fixed value.
 fn fixed_number(alloc: Global) -> Result<Field, Fail>
-    ensures { IfOk result (λ field. is_shaped false 0 (plain_field field) ≡ true) }
+    ensures { IfOk result (λ field. is_shaped false (plain_field field) ≡ true) }
 {
     let operand = Box::new(alloc, Expr::Fact(FactWord::Id))?;
     Ok(Field::Num(NumField {
@@ -156,7 +156,7 @@ fn fixed_number(alloc: Global) -> Result<Field, Fail>
 
 /// A text with a size and fixed bytes.
 fn fixed_text(alloc: Global) -> Result<Field, Fail>
-    ensures { IfOk result (λ field. is_shaped false 0 (plain_field field) ≡ true) }
+    ensures { IfOk result (λ field. is_shaped false (plain_field field) ≡ true) }
 {
     let mut texts = Texts::new(alloc);
     texts.push(TextPart::Plain(Bytes::of(alloc, b"ab")?))?;
@@ -170,7 +170,7 @@ fn fixed_text(alloc: Global) -> Result<Field, Fail>
 
 /// A point with fixed numbers.
 fn fixed_point(alloc: Global) -> Result<Field, Fail>
-    ensures { IfOk result (λ field. is_shaped false 0 (plain_field field) ≡ true) }
+    ensures { IfOk result (λ field. is_shaped false (plain_field field) ≡ true) }
 {
     let mut exprs = Exprs::new(alloc);
     exprs.push(Expr::Number(1))?;

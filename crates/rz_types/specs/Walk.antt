@@ -1,0 +1,86 @@
+-- The walk over the fields of a declaration, depth first, and what stands where. (MPW Rez.)
+use Rattle.std.specs.Prelude.{ℕ, ◌+◌, Bool, List, [], ◌∷◌, ◌++◌, length}
+use Rattle.std.specs.List.{flat_map, list_any}
+use Rattle.std.specs.Option.{option_to_list}
+use Rattle.std.specs.Str.{str_eq_ignore_ascii_case}
+use Rattle.rz_core.specs.declared.resource.Word.{Word}
+use Rattle.rz_types.specs.Field.{case_and, field_and, no_cases, no_fields, Align, Array, Fill, Number, PlainBody, PlainCases, PlainField, Points, Switch, Text}
+use Rattle.rz_types.specs.Width.{case_keys}
+use Rattle.rz_types.specs.declared.keys.CaseKey.{CaseKey}
+
+-- Names.
+
+-- the name is one of these, in whatever case
+abbrev pub is_among : List ℕ → List Word → Bool
+is_among name names = list_any (λ one. str_eq_ignore_ascii_case one.bytes name) names
+
+-- the name of an array
+abbrev pub own_names : PlainField → List Word
+own_names (Array name count row) = option_to_list name
+own_names field = []
+
+-- the names of the arrays of a body, without those within its fields
+abbrev pub names_of : PlainBody → List Word
+names_of no_fields = []
+names_of (field_and field fields) = own_names field ++ names_of fields
+
+-- Fields.
+
+abbrev mutual
+  -- the fields within a field, depth first
+  pub within : PlainField → List PlainField
+  within (Number number) = []
+  within (Text text) = []
+  within (Points points) = []
+  within (Fill unit count) = []
+  within (Align unit) = []
+  within (Array name count row) = all_fields row
+  within (Switch cases) = all_in_cases cases
+
+  -- the fields of a body with those within them
+  pub all_fields : PlainBody → List PlainField
+  all_fields no_fields = []
+  all_fields (field_and field fields) = field ∷ (within field ++ all_fields fields)
+
+  pub all_in_cases : PlainCases → List PlainField
+  all_in_cases no_cases = []
+  all_in_cases (case_and name row others) = all_fields row ++ all_in_cases others
+
+-- The walk.
+
+pub data Step : Type 0 where
+  -- a field: its position in the walk, from 0, the names of the arrays before it, and those of the arrays that it may name: of
+  -- its own body, and of the bodies around
+  at_field : (position : ℕ) (before scope : List Word) (field : PlainField) → Step
+  -- the end of a case: the position of its switch, the name of the case, its keys, and those of the cases before it
+  behind_case : (position : ℕ) (name : Word) (keys before : List CaseKey) → Step
+
+abbrev mutual
+  -- the steps within a field
+  pub steps_within : (position : ℕ) (before scope : List Word) → PlainField → List Step
+  steps_within position before scope (Number number) = []
+  steps_within position before scope (Text text) = []
+  steps_within position before scope (Points points) = []
+  steps_within position before scope (Fill unit count) = []
+  steps_within position before scope (Align unit) = []
+  steps_within position before scope (Array name count row) = steps (position + 1) (before ++ option_to_list name) (scope ++ names_of row) row
+  steps_within position before scope (Switch cases) = case_steps position (position + 1) before scope [] cases
+
+  -- those of fields, the first of which has this position
+  pub steps : (position : ℕ) (before scope : List Word) → PlainBody → List Step
+  steps position before scope no_fields = []
+  steps position before scope (field_and field fields) =
+      at_field position before scope field
+      ∷ (steps_within position before scope field
+      ++ steps (position + 1 + length (within field)) (before ++ flat_map own_names (field ∷ within field)) scope fields)
+
+  -- those of the cases of a switch, behind cases with these keys
+  pub case_steps : (switch position : ℕ) (before scope : List Word) (keys : List CaseKey) → PlainCases → List Step
+  case_steps switch position before scope keys no_cases = []
+  case_steps switch position before scope keys (case_and name row others) =
+      steps position before (scope ++ names_of row) row
+      ++ behind_case switch name (case_keys row) keys
+      ∷ case_steps switch (position + length (all_fields row)) (before ++ flat_map own_names (all_fields row)) scope (keys ++ case_keys row) others
+
+abbrev pub walk : PlainBody → List Step
+walk body = steps 0 [] (names_of body) body
