@@ -5,3 +5,4 @@ pub mod OneBracket
 pub mod Fronts
 pub mod Slices
 pub mod Parts
+pub mod Short

@@ -19,9 +19,9 @@ pub fn limits_are_kept()
     ensures { (tokens : List Token) → (is_within_limits tokens ≡ true) ↔ KeepsLimits tokens }
 {}
 
-/// A law, with nothing to run: for each sign that divides, all tokens are pieces, and they are so in one way;
-/// what stands before the first such sign outside brackets, and what behind it, is one thing, and so is what stands
-/// in brackets at the front.
+/// A law, with nothing to run: for each divider, all tokens are pieces, and they are so in one way; what stands
+/// before the first such token outside brackets, and what behind it, is one thing, and so is what stands in brackets
+/// at the front.
 pub fn pieces_are_cut()
     ensures some { (divider : Divider) (tokens : List Token) → (pieces : List (List Token)) × AreCut divider tokens pieces }
     ensures one { (divider : Divider) (tokens : List Token) (pieces others : List (List Token))

@@ -1,15 +1,16 @@
-ghost use Rattle.std.specs.Prelude.{◌≡◌, ◌==◌, ◌&&◌, ◌<◌, IfNone, IfOk, IfSome, List, Some, false, length, map, option_map};
+ghost use Rattle.std.specs.Prelude.{◌≡◌, ◌<◌, IfNone, IfOk, IfSome, List, Some, false, length, map, option_map};
 ghost use Rattle.rz_lex.specs.declared.token.Token.{Token};
 ghost use Rattle.rz_brackets.specs.Held.{held_split};
-ghost use Rattle.rz_brackets.specs.Pieces.{divides, has_divider, AreCut, IsParted, Parted};
+ghost use Rattle.rz_brackets.specs.Pieces.{divides, divides_at, has_divider, AreCut, IsParted, Parted};
 
 use crate::cutting::open_behind;
 use crate::laws::pieces_are_cut;
 use rz_core::NoMemory;
+use rz_expr::{Keyword, is_keyword};
 use rz_lex::{Shape, Sign, Token};
 use std::alloc::Global;
 
-/// A sign that divides tokens where it stands outside brackets, or closes the bracket in which they stand.
+/// What divides tokens where it stands outside brackets, or closes the bracket in which they stand.
 #[derive(Clone, Copy, Debug, PartialEq, Eq)]
 pub enum Divider {
     /// `;`
@@ -20,6 +21,8 @@ pub enum Divider {
     Colon,
     /// `,` or `;`
     Separator,
+    /// `case`
+    Case,
     /// `)`
     CloseParen,
     /// `]`
@@ -28,17 +31,17 @@ pub enum Divider {
     CloseBrace,
 }
 
-/// The tokens before a sign that divides, and those behind it.
+/// The tokens before one that divides, and those behind it.
 #[derive(Drop)]
 pub struct Split<'a> {
-    /// The tokens before the sign.
+    /// The tokens before it.
     pub front: &'a [Token],
     /// The tokens behind it.
     pub behind: &'a [Token],
 }
 
-/// The tokens before the first such sign outside brackets, and those behind it. `None` exactly where there is
-/// no such sign.
+/// The tokens before the first that divides outside brackets, and those behind it. `None` exactly where there is
+/// no such token.
 pub fn split_at(tokens: &[Token], divider: Divider) -> Option<Split<'_>>
     ensures found { IfSome result (λ split. IsParted divider tokens.now (held_split split)) }
     ensures every { (parted : Parted) → IsParted divider tokens.now parted → option_map held_split result ≡ Some parted }
@@ -50,7 +53,7 @@ pub fn split_at(tokens: &[Token], divider: Divider) -> Option<Split<'_>>
     let mut depth = 0;
     let mut rest = tokens;
     while let Some((first, behind)) = rest.split_first() {
-        if divides(&first.shape, divider, depth) {
+        if divides(first, divider, depth) {
             return Some(Split {
                 front: tokens.split_at(size).0,
                 behind,
@@ -63,28 +66,30 @@ pub fn split_at(tokens: &[Token], divider: Divider) -> Option<Split<'_>>
     None
 }
 
-/// Whether it is the sign, and no bracket is open.
-fn divides(shape: &Shape, divider: Divider, depth: usize) -> bool
-    ensures { result ≡ (divides divider shape.now && (depth == 0)) }
+/// Whether it divides, and no bracket is open.
+fn divides(token: &Token, divider: Divider, depth: usize) -> bool
+    ensures { result ≡ divides_at divider depth token.now }
 {
-    is_divider(shape, divider) && depth == 0
+    is_divider(token, divider) && depth == 0
 }
 
-fn is_divider(shape: &Shape, divider: Divider) -> bool
-    ensures { result ≡ divides divider shape.now }
+fn is_divider(token: &Token, divider: Divider) -> bool
+    ensures { result ≡ divides divider token.now.shape }
 {
+    let shape = &token.shape;
     match divider {
         Divider::Semicolon => matches!(shape, Shape::Sign(Sign::Semicolon)),
         Divider::Comma => matches!(shape, Shape::Sign(Sign::Comma)),
         Divider::Colon => matches!(shape, Shape::Sign(Sign::Colon)),
         Divider::Separator => matches!(shape, Shape::Sign(Sign::Comma | Sign::Semicolon)),
+        Divider::Case => is_keyword(token, Keyword::Case),
         Divider::CloseParen => matches!(shape, Shape::Sign(Sign::CloseParen)),
         Divider::CloseBracket => matches!(shape, Shape::Sign(Sign::CloseBracket)),
         Divider::CloseBrace => matches!(shape, Shape::Sign(Sign::CloseBrace)),
     }
 }
 
-/// The pieces between such signs outside brackets, one at least.
+/// The pieces between the tokens that divide outside brackets, one at least.
 pub fn pieces_by(
     alloc: Global,
     tokens: &[Token],
