@@ -1,5 +1,5 @@
 -- What is answered, made of what was answered below.
-use Rattle.std.proofs.Common.{◌≡◌, Option, Some, None, Ok, Err, sym, ap, ◌∙◌}
+use Rattle.std.proofs.Common.{◌≡◌, Option, Some, None, Ok, Err, refl, sym, ap, ◌∙◌}
 use Rattle.std.specs.Prelude.{option_map, IfOk}
 use Rattle.std.specs.declared.result.Result.{Result}
 use Rattle.rz_core.specs.Stop.{◌>>=◌, Gives}
@@ -21,3 +21,12 @@ pub found_so : {X Y E : Type 0} (view : Y → X) (P Q : X → Type 0) → ((x : 
     → (result : Result (Option Y) E) → IfOk result (λ found. Decided Q (option_map view found)) → IfOk result (λ found. Decided P (option_map view found))
 found_so view P Q forth back (Ok found) holds = decided_so view P Q forth back found holds
 found_so view P Q forth back (Err fault) holds = holds
+
+-- What was made, of what.
+
+pub then_ok : {X Y F : Type 0} (found : Result X F) (next : X → Result Y F) (made : Y) → (found >>= next) ≡ Ok made → (value : X) × (found ≡ Ok value) × (next value ≡ Ok made)
+then_ok (Ok value) next made is = (value, refl, is)
+then_ok (Err fault) next made is = cc
+
+pub same_ok : {X F : Type 0} (a b : X) → ◌≡◌ {A = Result X F} (Ok a) (Ok b) → a ≡ b
+same_ok a b is = cc is

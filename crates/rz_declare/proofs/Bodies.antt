@@ -1,4 +1,4 @@
--- The values of fields, one more at a time.
+-- The values of fields and of cases, one more at a time.
 use Rattle.std.proofs.Common.{◌≡◌, List, [], ◌∷◌, ◌++◌, Ok, Err, refl, sym, ap, ◌∙◌}
 use Rattle.std.specs.declared.result.Result.{Result}
 use Rattle.rz_core.specs.Stop.{◌>>=◌, Gives}
@@ -6,53 +6,56 @@ use Rattle.rz_core.specs.declared.fault.Fault.{Fault}
 use Rattle.rz_core.specs.declared.fault.Mark.{Mark}
 use Rattle.rz_core.specs.declared.stop.Stop.{Stop}
 use Rattle.rz_core.specs.declared.stop.Stop.TheVariants.{NoMemory, Refused}
-use Rattle.rz_declare.specs.Constants.{body_value, field_value}
-use Rattle.rz_declare.specs.Form.{FieldForm}
-use Rattle.rz_types.specs.Field.{PlainField}
+use Rattle.rz_declare.specs.Constants.{body_value, cases_value, case_value}
+use Rattle.rz_declare.specs.Form as form
+use Rattle.rz_declare.specs.Form.{BodyForm, CaseForm, CasesForm, FieldForm}
+use Rattle.rz_declare.proofs.Each.{before, before_more}
+use Rattle.rz_types.specs.Field.{body_of, case_and, cases_of, field_and, no_cases, no_fields, PlainBody, PlainCase, PlainCases, PlainField}
 
-abbrev behind : List PlainField → Result (List PlainField) Fault → Result (List PlainField) Fault
-behind front more = more >>= (λ others. Ok (front ++ others))
+module _ {X Y : Type 0} (join : X → Y → Y) where
+  -- the values so far before those that follow
+  abbrev pub so_far : List X → Result Y Fault → Result Y Fault
+  so_far front more = more >>= (λ others. Ok (before join front others))
 
-in_front : (one : PlainField) (front : List PlainField) (more : Result (List PlainField) Fault) → (behind front more >>= (λ others. Ok (one ∷ others))) ≡ behind (one ∷ front) more
-in_front one front (Ok others) = refl
-in_front one front (Err fault) = refl
+  pub none_yet : (more : Result Y Fault) → more ≡ so_far [] more
+  none_yet (Ok others) = refl
+  none_yet (Err fault) = refl
 
-nothing_before : (more : Result (List PlainField) Fault) → more ≡ behind [] more
-nothing_before (Ok others) = refl
-nothing_before (Err fault) = refl
-
--- fields with values, and those behind them
-go_on : (mark : Mark) (fields others : List FieldForm) (front : List PlainField) → body_value mark fields ≡ Ok front
-    → body_value mark (fields ++ others) ≡ behind front (body_value mark others)
-go_on mark [] others front is = nothing_before (body_value mark others) ∙ ap (λ (l : List PlainField). behind l (body_value mark others)) (same is)
-  where
-    same : ◌≡◌ {A = Result (List PlainField) Fault} (Ok []) (Ok front) → [] ≡ front
-    same e = cc e
-go_on mark (field ∷ fields) others front is = by (field_value mark field) (body_value mark fields) (λ rest so. go_on mark fields others rest so) is
-  where
-    by : (one : Result PlainField Fault) (more : Result (List PlainField) Fault)
-        → ((rest : List PlainField) → more ≡ Ok rest → body_value mark (fields ++ others) ≡ behind rest (body_value mark others))
-        → (one >>= (λ value. more >>= (λ rest. Ok (value ∷ rest)))) ≡ Ok front
-        → (one >>= (λ value. body_value mark (fields ++ others) >>= (λ rest. Ok (value ∷ rest)))) ≡ behind front (body_value mark others)
-    by (Ok value) (Ok rest) onward so =
-        ap (λ (r : Result (List PlainField) Fault). r >>= (λ others. Ok (value ∷ others))) (onward rest refl) ∙ in_front value rest (body_value mark others)
-        ∙ ap (λ (l : List PlainField). behind l (body_value mark others)) (same (value ∷ rest) so)
+  module _ (all : Result Y Fault) (front : List X) (one : Result X Fault) (more : Result Y Fault)
+      (is : all ≡ so_far front (one >>= (λ value. more >>= (λ others. Ok (join value others))))) where
+    pub one_more : (value : X) (after : List X) → one ≡ Ok value → after ≡ front ++ value ∷ [] → all ≡ so_far after more
+    one_more value after has pushed =
+        is ∙ ap (λ (r : Result X Fault). so_far front (r >>= (λ x. more >>= (λ others. Ok (join x others))))) has ∙ by more
+        ∙ ap (λ (l : List X). so_far l more) (sym pushed)
       where
-        same : (l : List PlainField) → ◌≡◌ {A = Result (List PlainField) Fault} (Ok l) (Ok front) → l ≡ front
-        same l e = cc e
-    by (Ok value) (Err fault) onward so = cc
-    by (Err fault) more onward so = cc
+        by : (r : Result Y Fault) → so_far front (r >>= (λ others. Ok (join value others))) ≡ so_far (front ++ value ∷ []) r
+        by (Ok others) = ap (λ (chain : Y). Ok chain) (before_more join front value others)
+        by (Err fault) = refl
 
-module _ (mark : Mark) (fields : List FieldForm) (front : List PlainField) (is : body_value mark fields ≡ Ok front) (field : FieldForm) where
-  pub value_more : (value : PlainField) (after : List PlainField) → field_value mark field ≡ Ok value → after ≡ front ++ value ∷ []
-      → body_value mark (fields ++ field ∷ []) ≡ Ok after
-  value_more value after has pushed =
-      go_on mark fields (field ∷ []) front is
-      ∙ ap (λ (r : Result PlainField Fault). behind front (r >>= (λ one. Ok (one ∷ [])))) has ∙ ap (λ (l : List PlainField). Ok l) (sym pushed)
+    pub one_stops : (stop : Stop Fault) → Gives {X = X} one (Err stop) → Gives {X = Y} all (Err stop)
+    one_stops (Refused fault) faulty = is ∙ ap (λ (r : Result X Fault). so_far front (r >>= (λ x. more >>= (λ others. Ok (join x others))))) faulty
+    one_stops NoMemory faulty = tt
 
-  pub value_stops : (all others : List FieldForm) (stop : Stop Fault) → all ≡ fields ++ field ∷ others → Gives {X = PlainField} (field_value mark field) (Err stop)
-      → Gives {X = List PlainField} (body_value mark all) (Err stop)
-  value_stops all others (Refused fault) are faulty =
-      ap (body_value mark) are ∙ go_on mark fields (field ∷ others) front is
-      ∙ ap (λ (r : Result PlainField Fault). behind front (r >>= (λ one. body_value mark others >>= (λ rest. Ok (one ∷ rest))))) faulty
-  value_stops all others NoMemory are faulty = tt
+-- Fields.
+
+pub all_fields : (fields : List PlainField) → before field_and fields no_fields ≡ body_of fields
+all_fields [] = refl
+all_fields (field ∷ fields) = ap (field_and field) (all_fields fields)
+
+-- Cases.
+
+abbrev pub with_case : PlainCase → PlainCases → PlainCases
+with_case one cases = case_and one.name one.row cases
+
+pub all_cases : (cases : List PlainCase) → before with_case cases no_cases ≡ cases_of cases
+all_cases [] = refl
+all_cases (one ∷ cases) = ap (with_case one) (all_cases cases)
+
+pub case_first : (mark : Mark) (one : CaseForm) (cases : CasesForm)
+    → cases_value mark (form.case_and one.name one.row cases) ≡ (case_value mark one >>= (λ made. cases_value mark cases >>= (λ others. Ok (with_case made others))))
+case_first mark one cases = by (body_value mark one.row)
+  where
+    by : (row : Result PlainBody Fault) → (row >>= (λ fields. cases_value mark cases >>= (λ others. Ok (case_and one.name fields others))))
+        ≡ ((row >>= (λ fields. Ok (record { name = one.name; row = fields }))) >>= (λ made. cases_value mark cases >>= (λ others. Ok (with_case made others))))
+    by (Ok own) = refl
+    by (Err fault) = refl

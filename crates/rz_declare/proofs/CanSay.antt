@@ -14,8 +14,8 @@ use Rattle.rz_expr.specs.Value.{reduced, value_of}
 use Rattle.rz_expr.specs.Constant.{constant_sight}
 use Rattle.rz_expr.specs.declared.value.EvalFault.{EvalFault}
 use Rattle.rz_expr.specs.declared.value.EvalFault.TheVariants.{BadShift, DataWidth, LaterData, UnknownName, ZeroDivisor}
-use Rattle.rz_declare.specs.Constants.{body_value, count_value, declare_of, declared, field_value, id_value, made_value, number_of_width, number_value, scope_value, seen, width_value}
-use Rattle.rz_declare.specs.Form.{DeclareForm, FieldForm, MadeForm, NamedTerm, NumberForm, Own, ScopeForm, WidthForm, Written}
+use Rattle.rz_declare.specs.Constants.{body_value, cases_value, count_value, declare_of, declared, field_value, given_value, key_value, made_value, number_of_width, number_value, scope_value, seen, width_value}
+use Rattle.rz_declare.specs.Form.{BodyForm, CasesForm, DeclareForm, FieldForm, MadeForm, NamedTerm, NumberForm, Own, ScopeForm, WidthForm, Written}
 use Rattle.rz_declare.specs.Form as form
 use Rattle.rz_types.specs.Value.{constant_value, value_fault, with_fault}
 use Rattle.rz_types.specs.Range.{fits_number}
@@ -74,24 +74,44 @@ module _ (files : ℕ) (mark : Mark) (within : mark.file < files) where
   say_of_width number width =
       then_say files (values_of (fits_number number.form width) mark (pos 0) number.symbols) _ (say_values (fits_number number.form width) number.symbols (pos 0)) (λ symbols. tt)
 
+  say_key : (key : Bool) (fixed : Option Term) → CanSay files (key_value mark key fixed)
+  say_key true (Some term) = then_say files (constant_value mark term) _ (say_constant term) (λ value. tt)
+  say_key true None = tt
+  say_key false fixed = tt
+
   say_number : (number : NumberForm) → CanSay files (number_value mark number)
-  say_number number = then_say files (width_value mark number.width) (number_of_width mark number) (say_width number.width) (say_of_width number)
+  say_number number =
+      then_say files (width_value mark number.width) _ (say_width number.width)
+      (λ width. then_say files (key_value mark number.key number.fixed) _ (say_key number.key number.fixed) (λ done. say_of_width number width))
 
   say_count : (count : Option Term) → CanSay files (count_value mark count)
   say_count None = tt
   say_count (Some term) = say_constant term
 
-  say_field : (field : FieldForm) → CanSay files (field_value mark field)
-  say_field (form.Number number) = then_say files (number_value mark number) _ (say_number number) (λ value. tt)
-  say_field (form.Text text) = tt
-  say_field (form.Points points) = tt
-  say_field (form.Fill unit count) = then_say files (count_value mark count) _ (say_count count) (λ value. tt)
-  say_field (form.Align unit) = tt
+  say_where_given : (given : Option Term) → CanSay files (given_value mark given)
+  say_where_given None = tt
+  say_where_given (Some term) = then_say files (constant_value mark term) _ (say_constant term) (λ value. tt)
 
-  say_body : (body : List FieldForm) → CanSay files (body_value mark body)
-  say_body [] = tt
-  say_body (field ∷ fields) =
-      then_say files (field_value mark field) _ (say_field field) (λ one. then_say files (body_value mark fields) _ (say_body fields) (λ others. tt))
+  mutual
+    say_field : (field : FieldForm) → CanSay files (field_value mark field)
+    say_field (form.Number number) = then_say files (number_value mark number) _ (say_number number) (λ value. tt)
+    say_field (form.Text text) = tt
+    say_field (form.Points points) = tt
+    say_field (form.Fill unit count) = then_say files (count_value mark count) _ (say_count count) (λ value. tt)
+    say_field (form.Align unit) = tt
+    say_field (form.Array name count row) =
+        then_say files (given_value mark count) _ (say_where_given count) (λ rows. then_say files (body_value mark row) _ (say_body row) (λ fields. tt))
+    say_field (form.Switch cases) = then_say files (cases_value mark cases) _ (say_cases cases) (λ made. tt)
+
+    say_body : (body : BodyForm) → CanSay files (body_value mark body)
+    say_body form.no_fields = tt
+    say_body (form.field_and field fields) =
+        then_say files (field_value mark field) _ (say_field field) (λ one. then_say files (body_value mark fields) _ (say_body fields) (λ others. tt))
+
+    say_cases : (cases : CasesForm) → CanSay files (cases_value mark cases)
+    say_cases form.no_cases = tt
+    say_cases (form.case_and name row cases) =
+        then_say files (body_value mark row) _ (say_body row) (λ fields. then_say files (cases_value mark cases) _ (say_cases cases) (λ others. tt))
 
   say_scope : (scope : ScopeForm) → CanSay files (scope_value mark scope)
   say_scope form.Any = tt
@@ -99,13 +119,9 @@ module _ (files : ℕ) (mark : Mark) (within : mark.file < files) where
   say_scope (form.Two first last) =
       then_say files (constant_value mark first) _ (say_constant first) (λ from. then_say files (constant_value mark last) _ (say_constant last) (λ to. tt))
 
-  say_id : (id : Option Term) → CanSay files (id_value mark id)
-  say_id None = tt
-  say_id (Some term) = then_say files (constant_value mark term) _ (say_constant term) (λ value. tt)
-
   say_made : (made : MadeForm) → CanSay files (made_value mark made)
   say_made (form.Fields body) = then_say files (body_value mark body) _ (say_body body) (λ fields. tt)
-  say_made (form.CopyOf kind id) = then_say files (id_value mark id) _ (say_id id) (λ value. tt)
+  say_made (form.CopyOf kind id) = then_say files (given_value mark id) _ (say_where_given id) (λ value. tt)
 
   say_declared : (stmt : DeclareForm) → CanSay files (declared mark stmt)
   say_declared stmt =

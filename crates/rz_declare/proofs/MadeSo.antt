@@ -27,9 +27,9 @@ no_keyword keyword bracket (shapes.Literal bytes) is also = true_false (sym also
 no_keyword keyword bracket (shapes.Text bytes) is also = true_false (sym also)
 no_keyword keyword bracket (shapes.Sign sign) is also = true_false (sym also)
 
-two_brackets : (shape : Shape) → opens Curly shape ≡ true → opens Round shape ≡ true → ⊥
-two_brackets (shapes.Sign signs.OpenBrace) is also = true_false (sym also)
-two_brackets _ is also = true_false (sym is)
+two_brackets : (shape : Shape) → opens Curly shape ≡ true → (opens Round shape ≡ false) × (opens Square shape ≡ false)
+two_brackets (shapes.Sign signs.OpenBrace) is = (refl, refl)
+two_brackets _ is = absurd (true_false (sym is))
 
 pub begins_so : (bracket : Bracket) (tokens : List Token) (parted : Parted) → IsBracketed bracket tokens parted → begins bracket tokens ≡ true
 begins_so bracket tokens parted is = ap (begins bracket) is.are ∙ is.opens
@@ -40,7 +40,11 @@ keyword_begins keyword bracket tokens behind word are is opens = no_keyword keyw
 
 curly_or_round : (tokens : List Token) → begins Curly tokens ≡ true → begins Round tokens ≡ true → ⊥
 curly_or_round [] is also = true_false (sym is)
-curly_or_round (token ∷ tokens) is also = two_brackets token.shape is also
+curly_or_round (token ∷ tokens) is also = true_false (sym also ∙ (two_brackets token.shape is).0)
+
+pub curly_or_square : (tokens : List Token) → begins Curly tokens ≡ true → begins Square tokens ≡ true → ⊥
+curly_or_square [] is also = true_false (sym is)
+curly_or_square (token ∷ tokens) is also = true_false (sym also ∙ (two_brackets token.shape is).1)
 
 pub not_empty : (bracket : Bracket) (tokens : List Token) (parted : Parted) → IsBracketed bracket tokens parted → is_empty tokens ≡ false
 not_empty bracket tokens parted is = ap is_empty is.are ∙ by is.rest parted.front is.closes.are

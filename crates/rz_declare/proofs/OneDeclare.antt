@@ -14,9 +14,9 @@ use Rattle.rz_declare.specs.Body.{IsBody}
 use Rattle.rz_declare.specs.Declare.{AreIds, IsDeclare, IsMade, IsScope, IsScoped}
 use Rattle.rz_declare.specs.DeclareSteps.{AreFieldsMade, AreForAny, AreForIds, AreScoped, IsCopy, IsCopyId, IsCopyIdBy, IsGivenId}
 use Rattle.rz_expr.specs.Constant.{IsConstant}
-use Rattle.rz_declare.specs.Form.{Any, CopyOf, DeclareForm, FieldForm, Fields, MadeForm, One, ScopeForm, Two}
+use Rattle.rz_declare.specs.Form.{Any, BodyForm, CopyOf, DeclareForm, Fields, MadeForm, One, ScopeForm, Two}
 use Rattle.rz_declare.proofs.MadeSo.{any_back, copy_back, fields_back, ids_back}
-use Rattle.rz_declare.proofs.OneField.{one_body}
+use Rattle.rz_declare.proofs.OneBody.{one_body}
 use Rattle.rz_declare.proofs.OneTerm.{OneCut, OneWithin}
 use Rattle.rz_declare.proofs.OneValue.{one_constant}
 
@@ -47,8 +47,8 @@ module _ (one : OneExpression) (cut : OneCut) (within : OneWithin) where
   fields_made : (tokens : List Token) (a b : MadeForm) → AreFieldsMade tokens a → AreFieldsMade tokens b → a ≡ b
   fields_made tokens a b is also =
       let parted = within Curly tokens is.0 also.0 is.2 also.2 in
-      let body = one_body one cut within also.0.front is.1 also.1 (subst (λ (p : Parted). IsBody p.front is.1) parted is.4) also.4 in
-      is.5 ∙ ap (λ (fields : List FieldForm). Fields fields) body ∙ sym also.5
+      let body = one_body one cut within false also.0.front is.1 also.1 (subst (λ (p : Parted). IsBody false p.front is.1) parted is.4) also.4 in
+      is.5 ∙ ap (λ (fields : BodyForm). Fields fields) body ∙ sym also.5
 
   given_id : (tokens : List Token) (a b : Option Term) → IsGivenId tokens a → IsGivenId tokens b → a ≡ b
   given_id tokens a b is also =

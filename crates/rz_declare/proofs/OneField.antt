@@ -1,18 +1,17 @@
--- Fields are one at most.
+-- Fields with no fields of their own are one at most.
 use Rattle.std.proofs.Common.{◌≡◌, ℕ, Bool, true, false, List, [], ◌∷◌, Option, Some, None, sym, ap, subst, ◌∙◌}
 use Rattle.rz_expr.proofs.OneTerm.{OneExpression}
 use Rattle.rz_core.proofs.Tests.{same_some}
 use Rattle.rz_brackets.specs.Bracket.{begins}
 use Rattle.rz_brackets.specs.Pieces.{Parted}
 use Rattle.rz_brackets.specs.declared.bracket.Bracket.TheVariants.{Curly, Square}
-use Rattle.rz_brackets.specs.declared.pieces.Divider.TheVariants.{Comma, Semicolon}
+use Rattle.rz_brackets.specs.declared.pieces.Divider.TheVariants.{Comma}
 use Rattle.rz_expr.specs.Term.{Term}
 use Rattle.rz_lex.specs.declared.token.Token.{Token}
-use Rattle.rz_declare.specs.Body.{AreFields, IsBody}
 use Rattle.rz_declare.specs.Each.{AreEach}
-use Rattle.rz_declare.specs.FieldForm.{align_of, fixed_text, AreNumbers, IsCount, IsField, IsFieldFront, IsFieldOf, IsFill, IsFillOf, IsPoints, IsPointsField, IsSized, IsText, IsTextBy, IsTextField, IsUnsized}
+use Rattle.rz_declare.specs.FieldForm.{align_of, fixed_text, AreNumbers, IsCount, IsFieldFront, IsFieldOf, IsFill, IsFillOf, IsFlat, IsPoints, IsPointsField, IsSized, IsText, IsTextBy, IsTextField, IsUnsized}
 use Rattle.rz_expr.specs.Constant.{IsConstant}
-use Rattle.rz_declare.specs.FieldValue.{IsFieldExpression}
+use Rattle.rz_declare.specs.FieldValue.{IsFieldExpression, IsFixedExpression}
 use Rattle.rz_declare.specs.FieldWord.{front_in, hex_of, unit_in, FieldFront}
 use Rattle.rz_declare.specs.Form.{Align, FieldForm, Fill, Number, NumberForm, Points, Text}
 use Rattle.rz_declare.specs.declared.field_word.FieldWord.{FieldWord}
@@ -21,7 +20,7 @@ use Rattle.rz_declare.proofs.Each.{one_each}
 use Rattle.rz_declare.proofs.Fronts.{fronts}
 use Rattle.rz_declare.proofs.OneNumber.{one_number}
 use Rattle.rz_declare.proofs.OneTerm.{OneCut, OneWithin}
-use Rattle.rz_declare.proofs.OneValue.{one_constant, one_field_expression}
+use Rattle.rz_declare.proofs.OneValue.{one_constant, one_field_expression, one_fixed_expression}
 use Rattle.rz_types.specs.Field.{PlainPoints, PlainText}
 use Rattle.rz_types.specs.declared.field.TextForm.{TextForm}
 use Rattle.rz_types.specs.Text.{PlainPart}
@@ -53,7 +52,7 @@ module _ (one : OneExpression) (cut : OneCut) (within : OneWithin) where
   one_numbers : (rect : Bool) (tokens : List Token) (a b : List Term) → AreNumbers rect tokens a → AreNumbers rect tokens b → a ≡ b
   one_numbers rect tokens a b is also =
       let pieces = cut Comma tokens is.0 also.0 is.1 also.1 in
-      one_each IsFieldExpression (one_field_expression one) also.0 a b (subst (λ (ps : List (List Token)). AreEach IsFieldExpression ps a) pieces is.3) also.3
+      one_each IsFixedExpression (one_fixed_expression one) also.0 a b (subst (λ (ps : List (List Token)). AreEach IsFixedExpression ps a) pieces is.3) also.3
 
   one_points : (rect : Bool) (tokens : List Token) (a b : PlainPoints) → IsPoints rect tokens a → IsPoints rect tokens b → a ≡ b
   one_points rect [] a b is also = is ∙ sym also
@@ -89,17 +88,7 @@ module _ (one : OneExpression) (cut : OneCut) (within : OneWithin) where
   field_of words.Fill front a b is also = one_fill front.tail a b is.1 also.1
   field_of words.Align front a b is also = is.3 ∙ ap (λ (u : ℕ). Align u) (same_some (align_of front.tail) is.0 also.0 is.2 also.2) ∙ sym also.3
 
-  pub one_field : (tokens : List Token) (a b : FieldForm) → IsField tokens a → IsField tokens b → a ≡ b
-  one_field tokens a b is also =
+  pub one_flat : (tokens : List Token) (a b : FieldForm) → IsFlat tokens a → IsFlat tokens b → a ≡ b
+  one_flat tokens a b is also =
       let front = same_some (front_in false None tokens) is.0 also.0 ((fronts tokens is.0).1 is.1) ((fronts tokens also.0).1 also.1) in
       field_of also.0.word also.0 a b (subst (λ (f : FieldFront). IsFieldFront f a) front is.2) also.2
-
-  one_fields : (pieces : List (List Token)) (a b : List FieldForm) → AreFields pieces a → AreFields pieces b → a ≡ b
-  one_fields [] a b is also = is ∙ sym also
-  one_fields ([] ∷ pieces) a b is also = one_fields pieces a b is also
-  one_fields ((token ∷ tokens) ∷ pieces) a b is also =
-      is.4 ∙ (λ i. one_field (token ∷ tokens) is.0 also.0 is.2 also.2 i ∷ one_fields pieces is.1 also.1 is.3 also.3 i) ∙ sym also.4
-
-  pub one_body : (tokens : List Token) (a b : List FieldForm) → IsBody tokens a → IsBody tokens b → a ≡ b
-  one_body tokens a b is also =
-      one_fields also.0 a b (subst (λ (ps : List (List Token)). AreFields ps a) (cut Semicolon tokens is.0 also.0 is.1 also.1) is.2) also.2

@@ -1,13 +1,9 @@
--- Fields of declarations are well shaped.
-use Rattle.std.proofs.Common.{◌≡◌, ℕ, ℤ, ◌==◌, ◌&&◌, not, Bool, true, false, if◌then◌else◌, List, [], ◌∷◌, length, Option, Some, None, Ok, Err, refl, sym, ap, subst, ◌∙◌, arith}
+-- Fields with no fields of their own are formed as they should be.
+use Rattle.std.proofs.Common.{◌≡◌, ℕ, ◌==◌, ◌&&◌, not, Bool, true, false, if◌then◌else◌, List, [], ◌∷◌, length, Option, Some, None, refl, sym, ap, subst, ◌∙◌, arith}
 use Rattle.std.specs.Prelude.{option_and_then, option_map}
 use Rattle.std.specs.List.{list_all}
-use Rattle.std.specs.declared.result.Result.{Result}
 use Rattle.std.proofs.lemmas.Bool.{eq-eqb}
 use Rattle.std.proofs.lemmas.Option.{same_Some}
-use Rattle.rz_core.specs.Stop.{◌>>=◌}
-use Rattle.rz_core.specs.declared.fault.Fault.{Fault}
-use Rattle.rz_core.specs.declared.fault.Mark.{Mark}
 use Rattle.rz_expr.specs.Keyword.{keyword_in}
 use Rattle.rz_expr.specs.Term.{Term}
 use Rattle.rz_expr.specs.declared.keyword.Keyword.{Keyword}
@@ -17,23 +13,25 @@ use Rattle.rz_lex.specs.declared.token.Shape.{Shape}
 use Rattle.rz_lex.specs.declared.token.Token.{Token}
 use Rattle.rz_brackets.specs.Bracket.{begins}
 use Rattle.rz_brackets.specs.declared.bracket.Bracket.TheVariants.{Square}
-use Rattle.rz_declare.specs.Constants.{count_value, field_value, number_value}
 use Rattle.rz_declare.specs.Each.{AreEach}
-use Rattle.rz_declare.specs.FieldForm.{align_of, count_of, fixed_text, AreNumbers, IsField, IsFieldOf, IsFill, IsFillOf, IsPoints, IsTextBy}
-use Rattle.rz_declare.specs.FieldValue.{is_equals, IsFieldExpression}
+use Rattle.rz_declare.specs.FieldForm.{align_of, count_of, fixed_text, AreNumbers, IsFieldOf, IsFill, IsFillOf, IsFlat, IsPoints, IsTextBy}
+use Rattle.rz_declare.specs.FieldFront.{IsFront}
+use Rattle.rz_declare.specs.FieldValue.{is_equals, IsFixedExpression}
 use Rattle.rz_declare.specs.FieldWord.{align_unit, unit_in, unit_word, FieldFront}
-use Rattle.rz_declare.specs.Form.{Align, FieldForm, Fill, Number, Points, Text}
+use Rattle.rz_declare.specs.Form.{case_and, field_and, no_cases, no_fields, Align, Array, BodyForm, CasesForm, FieldForm, Fill, Number, Points, Switch, Text}
+use Rattle.rz_declare.specs.Key.{IsKey, IsKeyOf}
 use Rattle.rz_declare.specs.declared.field_word.FieldWord.{FieldWord}
 use Rattle.rz_declare.specs.declared.field_word.FieldWord.TheVariants as words
 use Rattle.rz_declare.proofs.Pieces.{lexed_behind}
-use Rattle.rz_declare.proofs.ShapedNumber.{number_formed, IsNumberFormed}
-use Rattle.rz_declare.proofs.ShapedValue.{number_shaped}
-use Rattle.rz_types.specs.Field as made
-use Rattle.rz_types.specs.Field.{PlainField, PlainNumber, PlainPoints, PlainText}
-use Rattle.rz_types.specs.Shape.{are_fixed_points, is_fixed_part, is_fixed_text, is_none_or, is_points_shaped, is_shaped, is_text_shaped, is_unit, numbers_of}
+use Rattle.rz_declare.proofs.ShapedNumber.{key_formed, no_key_formed, number_formed, IsKeyFormed, IsNumberFormed}
+use Rattle.rz_types.specs.Field.{PlainPoints, PlainText}
+use Rattle.rz_types.specs.Shape.{are_fixed_points, is_fixed_part, is_fixed_text, is_none_or, is_own_name, is_points_shaped, is_text_shaped, is_unit, numbers_of}
 use Rattle.rz_types.specs.Text.{part_in, parts_in, text_in, with_part, NameFact, Plain, PlainPart}
-use Rattle.rz_types.specs.Value.{is_field_expression}
+use Rattle.rz_types.specs.Value.{is_fixed_expression}
 use Rattle.rz_types.specs.declared.field.TextForm.{TextForm}
+
+tail_lexed : (tokens : List Token) (front : FieldFront) → IsFront tokens front → AreLexed tokens → AreLexed front.tail
+tail_lexed tokens front is are = (lexed_behind is.words (is.last ∷ front.tail) (subst AreLexed is.are are)).1
 
 -- Texts.
 
@@ -74,12 +72,12 @@ text_by false hex form tokens text is =
 
 -- Points and rectangles.
 
-each_field : (pieces : List (List Token)) (terms : List Term) → AreEach IsFieldExpression pieces terms → (length terms ≡ length pieces) × (list_all is_field_expression terms ≡ true)
-each_field [] terms is = (ap length is, ap (list_all is_field_expression) is)
+each_field : (pieces : List (List Token)) (terms : List Term) → AreEach IsFixedExpression pieces terms → (length terms ≡ length pieces) × (list_all is_fixed_expression terms ≡ true)
+each_field [] terms is = (ap length is, ap (list_all is_fixed_expression) is)
 each_field (piece ∷ pieces) terms is =
     let rest = each_field pieces is.1 is.3 in
     let first = is.2.1 in
-    (ap length is.4 ∙ omega (arith, rest.0), ap (list_all is_field_expression) is.4 ∙ (λ i. first i && rest.1 i))
+    (ap length is.4 ∙ omega (arith, rest.0), ap (list_all is_fixed_expression) is.4 ∙ (λ i. first i && rest.1 i))
 
 same_count : (rect : Bool) → count_of rect ≡ numbers_of rect
 same_count true = refl
@@ -134,57 +132,52 @@ align_by (token ∷ other ∷ tokens) unit is = cc
 
 -- Fields as they are written.
 
-abbrev pub IsFieldFormed : FieldForm → Type 0
-IsFieldFormed (Number number) = IsNumberFormed number
-IsFieldFormed (Text text) = is_text_shaped text ≡ true
-IsFieldFormed (Points points) = is_points_shaped points ≡ true
-IsFieldFormed (Fill unit count) = is_unit unit ≡ true
-IsFieldFormed (Align unit) = (is_unit unit && not (unit == 1)) ≡ true
+abbrev mutual
+  pub IsFieldFormed : (in_case : Bool) → FieldForm → Type 0
+  IsFieldFormed in_case (Number number) = IsNumberFormed number × IsKeyFormed in_case number
+  IsFieldFormed in_case (Text text) = is_text_shaped text ≡ true
+  IsFieldFormed in_case (Points points) = is_points_shaped points ≡ true
+  IsFieldFormed in_case (Fill unit count) = is_unit unit ≡ true
+  IsFieldFormed in_case (Align unit) = (is_unit unit && not (unit == 1)) ≡ true
+  IsFieldFormed in_case (Array name count row) = (is_none_or is_own_name name ≡ true) × IsBodyFormed false row
+  IsFieldFormed in_case (Switch cases) = AreCasesFormed cases
 
-fill_of : (unit : ℕ) (tokens : List Token) (field : FieldForm) → is_unit unit ≡ true → IsFillOf unit tokens field → IsFieldFormed field
-fill_of unit [] field shaped is = subst IsFieldFormed (sym is) shaped
-fill_of unit (token ∷ tokens) field shaped is = subst IsFieldFormed (sym is.2) shaped
+  pub IsBodyFormed : (in_case : Bool) → BodyForm → Type 0
+  IsBodyFormed in_case no_fields = Unit {0}
+  IsBodyFormed in_case (field_and field fields) = IsFieldFormed in_case field × IsBodyFormed in_case fields
 
-fill_formed : (tokens : List Token) (field : FieldForm) → IsFill tokens field → IsFieldFormed field
-fill_formed [] field is = absurd is
-fill_formed (token ∷ tokens) field is = fill_of is.0 tokens field (unit_shaped token.shape is.0 is.1) is.2
+  pub AreCasesFormed : CasesForm → Type 0
+  AreCasesFormed no_cases = Unit {0}
+  AreCasesFormed (case_and name row cases) = (is_own_name name ≡ true) × IsBodyFormed true row × AreCasesFormed cases
 
-field_of : (word : FieldWord) (front : FieldFront) (field : FieldForm) → IsFieldOf word front field → AreLexed front.tail → IsFieldFormed field
-field_of (words.Number form) front field is are = subst IsFieldFormed (sym is.2) (number_formed form front is.0 is.1 are)
-field_of (words.Text form) front field is are = subst IsFieldFormed (sym is.4) (text_by (begins Square front.tail) is.0 form front.tail is.1 is.3)
-field_of (words.Points rect) front field is are = subst IsFieldFormed (sym is.3) (points_shaped rect front.tail is.0 is.2)
-field_of words.Fill front field is are = fill_formed front.tail field is.1
-field_of words.Align front field is are = subst IsFieldFormed (sym is.3) (align_by front.tail is.0 is.2)
+module _ (in_case : Bool) where
+  fill_of : (unit : ℕ) (tokens : List Token) (field : FieldForm) → is_unit unit ≡ true → IsFillOf unit tokens field → IsFieldFormed in_case field
+  fill_of unit [] field shaped is = subst (IsFieldFormed in_case) (sym is) shaped
+  fill_of unit (token ∷ tokens) field shaped is = subst (IsFieldFormed in_case) (sym is.2) shaped
 
-pub field_formed : (tokens : List Token) (field : FieldForm) → IsField tokens field → AreLexed tokens → IsFieldFormed field
-field_formed tokens field is are =
-    field_of is.0.word is.0 field is.2 (lexed_behind is.1.words (is.1.last ∷ is.0.tail) (subst AreLexed is.1.are are)).1
+  fill_formed : (tokens : List Token) (field : FieldForm) → IsFill tokens field → IsFieldFormed in_case field
+  fill_formed [] field is = absurd is
+  fill_formed (token ∷ tokens) field is = fill_of is.0 tokens field (unit_shaped token.shape is.0 is.1) is.2
 
--- Fields with their values.
+  field_of : (word : FieldWord) (front : FieldFront) (field : FieldForm) → IsFieldOf word front field → AreLexed front.tail → IsFieldFormed in_case field
+  field_of (words.Number form) front field is are =
+      subst (IsFieldFormed in_case) (sym is.2) (number_formed form front is.0 is.1 are, no_key_formed form front is.0 in_case is.1)
+  field_of (words.Text form) front field is are = subst (IsFieldFormed in_case) (sym is.4) (text_by (begins Square front.tail) is.0 form front.tail is.1 is.3)
+  field_of (words.Points rect) front field is are = subst (IsFieldFormed in_case) (sym is.3) (points_shaped rect front.tail is.0 is.2)
+  field_of words.Fill front field is are = fill_formed front.tail field is.1
+  field_of words.Align front field is are = subst (IsFieldFormed in_case) (sym is.3) (align_by front.tail is.0 is.2)
 
-module _ (mark : Mark) where
-  number_by : (found : Result PlainNumber Fault) → ((number : PlainNumber) → found ≡ Ok number → is_shaped false 0 (made.Number number) ≡ true)
-      → (field : PlainField) → (found >>= (λ value. Ok (made.Number value))) ≡ Ok field → is_shaped false 0 field ≡ true
-  number_by (Ok number) shaped field is = subst (λ (f : PlainField). is_shaped false 0 f ≡ true) (same is) (shaped number refl)
-    where
-      same : ◌≡◌ {A = Result PlainField Fault} (Ok (made.Number number)) (Ok field) → made.Number number ≡ field
-      same e = cc e
-  number_by (Err fault) shaped field is = cc
+  pub flat_formed : (tokens : List Token) (field : FieldForm) → IsFlat tokens field → AreLexed tokens → IsFieldFormed in_case field
+  flat_formed tokens field is are = field_of is.0.word is.0 field is.2 (tail_lexed tokens is.0 is.1 are)
 
-  fill_by : (unit : ℕ) → is_unit unit ≡ true → (found : Result ℤ Fault) → (field : PlainField) → (found >>= (λ value. Ok (made.Fill unit value))) ≡ Ok field
-      → is_shaped false 0 field ≡ true
-  fill_by unit shaped (Ok count) field is = subst (λ (f : PlainField). is_shaped false 0 f ≡ true) (same is) shaped
-    where
-      same : ◌≡◌ {A = Result PlainField Fault} (Ok (made.Fill unit count)) (Ok field) → made.Fill unit count ≡ field
-      same e = cc e
-  fill_by unit shaped (Err fault) field is = cc
+key_of : (word : FieldWord) (front : FieldFront) (field : FieldForm) → IsKeyOf word front field → AreLexed front.tail → IsFieldFormed true field
+key_of (words.Number form) front field is are =
+    let number = number_formed form front is.1.0 is.1.1 are in
+    subst (IsFieldFormed true) (sym is.1.3) (
+      record { width = number.width; names = number.names; fixed = number.fixed },
+      key_formed form front is.1.0 is.0 is.1.1 is.1.2,
+    )
+key_of word front field is are = absurd is
 
-  as_made : (own field : PlainField) → ◌≡◌ {A = Result PlainField Fault} (Ok own) (Ok field) → own ≡ field
-  as_made own field e = cc e
-
-  pub field_shaped : (form : FieldForm) → IsFieldFormed form → (field : PlainField) → field_value mark form ≡ Ok field → is_shaped false 0 field ≡ true
-  field_shaped (Number number) formed field is = number_by (number_value mark number) (number_shaped mark number formed) field is
-  field_shaped (Text text) formed field is = subst (λ (f : PlainField). is_shaped false 0 f ≡ true) (as_made (made.Text text) field is) formed
-  field_shaped (Points points) formed field is = subst (λ (f : PlainField). is_shaped false 0 f ≡ true) (as_made (made.Points points) field is) formed
-  field_shaped (Fill unit count) formed field is = fill_by unit formed (count_value mark count) field is
-  field_shaped (Align unit) formed field is = subst (λ (f : PlainField). is_shaped false 0 f ≡ true) (as_made (made.Align unit) field is) formed
+pub a_key_formed : (tokens : List Token) (field : FieldForm) → IsKey tokens field → AreLexed tokens → IsFieldFormed true field
+a_key_formed tokens field is are = key_of is.0.word is.0 field is.2 (tail_lexed tokens is.0 is.1 are)

@@ -1,5 +1,5 @@
 -- Numbers of declarations are well shaped.
-use Rattle.std.proofs.Common.{◌≡◌, ℕ, ℤ, ◌&&◌, Bool, true, false, if◌then◌else◌, List, [], ◌∷◌, length, Option, Some, None, refl, sym, ap, subst, arith}
+use Rattle.std.proofs.Common.{◌≡◌, ℕ, ℤ, ◌&&◌, Bool, true, false, if◌then◌else◌, List, [], ◌∷◌, length, Option, Some, None, refl, sym, ap, subst, ◌∙◌, arith}
 use Rattle.std.specs.Prelude.{nat_le}
 use Rattle.std.proofs.lemmas.Bool.{le-leb}
 use Rattle.std.proofs.lemmas.Option.{same_Some}
@@ -15,22 +15,23 @@ use Rattle.rz_lex.specs.declared.token.Token.{Token}
 use Rattle.rz_brackets.specs.declared.bracket.Bracket.TheVariants.{Square}
 use Rattle.rz_brackets.specs.declared.pieces.Divider.TheVariants.{Comma}
 use Rattle.rz_declare.specs.Each.{AreEach}
-use Rattle.rz_declare.specs.FieldValue.{is_equals, one_byte, IsFieldExpression, IsFixedValue, IsValueBy}
+use Rattle.rz_declare.specs.FieldValue.{is_equals, one_byte, IsFixedExpression, IsFixedValue, IsValueBy}
 use Rattle.rz_declare.specs.FieldWord.{FieldFront}
 use Rattle.rz_declare.specs.Form.{NamedTerm, NumberForm, Own, WidthForm, Written}
+use Rattle.rz_declare.specs.Key.{as_key, is_key_value}
 use Rattle.rz_declare.specs.NumberField.{IsNumber, IsNumberBy, IsTail, IsTailBy, NumberTail}
 use Rattle.rz_declare.specs.Symbols.{name_in, IsSymbol}
 use Rattle.rz_declare.proofs.Pieces.{after_lexed, cut_lexed, AreAllLexed}
 use Rattle.rz_types.specs.Range.{own_width}
-use Rattle.rz_types.specs.Shape.{is_symbol_name}
-use Rattle.rz_types.specs.Value.{is_field_expression}
+use Rattle.rz_types.specs.Shape.{is_symbol_name, may_be_key}
+use Rattle.rz_types.specs.Value.{is_fixed_expression}
 use Rattle.rz_types.specs.declared.field.NumForm.{NumForm}
 
-value_by : (found : Option ℕ) (tokens : List Token) (term : Term) → IsValueBy IsFieldExpression found tokens term → is_field_expression term ≡ true
-value_by (Some byte) tokens term is = ap is_field_expression is
+value_by : (found : Option ℕ) (tokens : List Token) (term : Term) → IsValueBy IsFixedExpression found tokens term → is_fixed_expression term ≡ true
+value_by (Some byte) tokens term is = ap is_fixed_expression is
 value_by None tokens term is = is.1
 
-value_field : (form : NumForm) (tokens : List Token) (term : Term) → IsFixedValue form tokens term → is_field_expression term ≡ true
+value_field : (form : NumForm) (tokens : List Token) (term : Term) → IsFixedValue form tokens term → is_fixed_expression term ≡ true
 value_field form tokens term is = value_by (one_byte form tokens) tokens term is
 
 -- Names of symbols.
@@ -42,7 +43,7 @@ name_shaped (b ∷ bytes) lexed name =
     let parts = both (is_word (b ∷ bytes)) (nat_le (length (b ∷ bytes)) 255) lexed in
     λ i. some i && parts.1 i && name i
 
-name_of : (shape : Shape) (word : Word) → is_lexed shape ≡ true → name_in shape ≡ Some word → is_symbol_name word.bytes ≡ true
+pub name_of : (shape : Shape) (word : Word) → is_lexed shape ≡ true → name_in shape ≡ Some word → is_symbol_name word.bytes ≡ true
 name_of (shapes.Word own) word lexed is = by (is_name (role_of own.bytes)) refl is
   where
     by : (b : Bool) → is_name (role_of own.bytes) ≡ b → (if b then Some own else None) ≡ Some word → is_symbol_name word.bytes ≡ true
@@ -70,7 +71,7 @@ each_name form (piece ∷ pieces) symbols is are =
 
 abbrev pub IsFixedShaped : List NamedTerm → Option Term → Type 0
 IsFixedShaped symbols None = Unit {0}
-IsFixedShaped symbols (Some term) = (is_field_expression term ≡ true) × (symbols ≡ [])
+IsFixedShaped symbols (Some term) = (is_fixed_expression term ≡ true) × (symbols ≡ [])
 
 pub record IsTailShaped (tail : NumberTail) : Type 0 where
   pub names : AreNamesShaped tail.symbols
@@ -106,6 +107,27 @@ number_by (Some width) form front number own is are =
 number_by None form front number own is are =
     let tail = tail_shaped form is.0.behind is.2 is.5 (after_lexed Square front.tail is.0 is.3 are) in
     subst IsNumberFormed (sym is.6) (record { width = own; names = tail.names; fixed = tail.fixed })
+
+-- a key has a type that may be one and a constant as its value, and stands directly in a case
+abbrev pub IsKeyFormedBy : Bool → Bool → NumForm → Option Term → Type 0
+IsKeyFormedBy false in_case form fixed = Unit {0}
+IsKeyFormedBy true in_case form fixed = (in_case ≡ true) × (may_be_key form ≡ true) × (is_key_value fixed ≡ true)
+
+abbrev pub IsKeyFormed : Bool → NumberForm → Type 0
+IsKeyFormed in_case number = IsKeyFormedBy number.key in_case number.form number.fixed
+
+number_no_key : (width : Option ℤ) (form : NumForm) (front : FieldFront) (number : NumberForm) → IsNumberBy width form front number → (number.form ≡ form) × (number.key ≡ false)
+number_no_key (Some width) form front number is = (ap (λ (n : NumberForm). n.form) is.2, ap (λ (n : NumberForm). n.key) is.2)
+number_no_key None form front number is = (ap (λ (n : NumberForm). n.form) is.6, ap (λ (n : NumberForm). n.key) is.6)
+
+-- any other number
+pub no_key_formed : (form : NumForm) (front : FieldFront) (number : NumberForm) (in_case : Bool) → IsNumber form front number → IsKeyFormed in_case number
+no_key_formed form front number in_case is =
+    subst (λ (key : Bool). IsKeyFormedBy key in_case number.form number.fixed) (sym (number_no_key (own_width form) form front number is).1) tt
+
+pub key_formed : (form : NumForm) (front : FieldFront) (number : NumberForm) → may_be_key form ≡ true → IsNumber form front number → is_key_value number.fixed ≡ true
+    → IsKeyFormed true (as_key number)
+key_formed form front number may is value = (refl, ap may_be_key (number_no_key (own_width form) form front number is).0 ∙ may, value)
 
 pub number_formed : (form : NumForm) (front : FieldFront) (number : NumberForm) → IsNumber form front number → AreLexed front.tail → IsNumberFormed number
 number_formed form front number is are = number_by (own_width form) form front number refl is are

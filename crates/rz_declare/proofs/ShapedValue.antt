@@ -2,22 +2,29 @@
 use Rattle.std.proofs.Common.{◌≡◌, ℤ, ◌&&◌, Bool, true, false, if◌then◌else◌, List, [], ◌∷◌, Option, Some, None, Ok, Err, refl, sym, ap, subst, ◌∙◌}
 use Rattle.std.specs.Prelude.{pos, ◌+ℤ◌}
 use Rattle.std.specs.List.{list_all}
+use Rattle.std.specs.Option.{is_some}
 use Rattle.std.specs.Ordering.{int_eq}
+use Rattle.std.specs.Result.{result_ok}
 use Rattle.std.specs.declared.result.Result.{Result}
 use Rattle.std.proofs.lemmas.Bool.Decides.{Decides-int_eq}
 use Rattle.std.proofs.lemmas.Option.{same_Some}
+use Rattle.rz_core.proofs.Tests.{both, true_false}
 use Rattle.rz_core.specs.Stop.{◌>>=◌}
 use Rattle.rz_core.specs.declared.fault.Fault.{Fault}
 use Rattle.rz_core.specs.declared.fault.Mark.{Mark}
 use Rattle.rz_expr.specs.Term.{Term}
-use Rattle.rz_expr.specs.Value.{reduced}
-use Rattle.rz_declare.specs.Constants.{number_of_width, number_value, width_value}
+use Rattle.rz_expr.specs.Constant.{constant_sight, is_constant}
+use Rattle.rz_expr.specs.Value.{reduced, value_of}
+use Rattle.rz_expr.specs.declared.value.EvalFault.{EvalFault}
+use Rattle.rz_declare.specs.Constants.{key_value, number_value, width_value}
 use Rattle.rz_declare.specs.Form.{NamedTerm, NumberForm, Own, WidthForm, Written}
 use Rattle.rz_declare.specs.Values.{given_or, out_of_range, values_of, with_value}
-use Rattle.rz_declare.proofs.ShapedNumber.{AreNamesShaped, IsFixedShaped, IsNumberFormed, IsWidthOf}
+use Rattle.rz_declare.proofs.Answering.{same_ok, then_ok}
+use Rattle.rz_declare.proofs.ShapedNumber.{AreNamesShaped, IsFixedShaped, IsKeyFormed, IsKeyFormedBy, IsNumberFormed, IsWidthOf}
 use Rattle.rz_types.specs.Field.{PlainNumber}
 use Rattle.rz_types.specs.Range.{fits_number, own_width}
-use Rattle.rz_types.specs.Shape.{is_fixed_number, is_none_or, is_number_shaped, is_own_width, is_symbol_name, is_symbol_of}
+use Rattle.rz_types.specs.Shape.{has_value, is_empty, is_fixed_number, is_none_or, is_number_shaped, is_own_width, is_symbol_name, is_symbol_of, may_be_key}
+use Rattle.rz_types.specs.Value.{is_fixed_expression, with_fault}
 use Rattle.rz_types.specs.declared.field.NumForm.{NumForm}
 use Rattle.rz_types.specs.declared.field.Symbol.{Symbol}
 
@@ -86,30 +93,41 @@ width_shaped mark form (Own bits) width is made = own_by width bits (own_width f
     same e = cc e
 width_shaped mark form (Written term) width is made = none_own width (own_width form) is
 
+-- Keys.
+
+-- a constant that was computed has a value
+constant_has : (mark : Mark) (term : Term) (done : Unit {0}) → is_constant term ≡ true → key_value mark true (Some term) ≡ Ok done → has_value (Some term) ≡ true
+constant_has mark term done constant is = by (is_constant term) (value_of term constant_sight) constant is
+  where
+    by : (b : Bool) (found : Result ℤ EvalFault) → b ≡ true → (with_fault mark found >>= (λ value. Ok tt)) ≡ Ok done → is_some (if b then result_ok found else None) ≡ true
+    by true (Ok value) one so = refl
+    by true (Err fault) one so = cc
+    by false found one so = cc
+
+module _ (mark : Mark) (in_case : Bool) (form : NumForm) (symbols : List Symbol) where
+  -- the last part of the shape of a number
+  abbrev IsKeyMade : Bool → Option Term → Type 0
+  IsKeyMade key fixed = (if key then in_case && may_be_key form && is_empty symbols && has_value fixed else true) ≡ true
+
+  key_made : (key : Bool) (fixed : Option Term) (done : Unit {0}) → IsKeyFormedBy key in_case form fixed → is_fixed_number symbols fixed ≡ true → key_value mark key fixed ≡ Ok done
+      → IsKeyMade key fixed
+  key_made false fixed done formed shaped is = refl
+  key_made true None done formed shaped is = absurd (true_false (sym formed.2))
+  key_made true (Some term) done formed shaped is =
+      let none = (both (is_fixed_expression term) (is_empty symbols) shaped).1 in
+      let has = constant_has mark term done formed.2 is in
+      λ i. formed.0 i && formed.1 i && none i && has i
+
 -- Numbers.
 
-module _ (mark : Mark) (number : NumberForm) (formed : IsNumberFormed number) where
-  by_symbols : (width : ℤ) → is_own_width number.form width ≡ true → (found : Result (List Symbol) Fault)
-      → values_of (fits_number number.form width) mark (pos 0) number.symbols ≡ found → (made : PlainNumber)
-      → (found >>= (λ symbols. Ok (record { form = number.form; width = width; unsigned = number.unsigned; radix = number.radix; symbols = symbols; fixed = number.fixed; key = false })))
-      ≡ Ok made → is_number_shaped false made ≡ true
-  by_symbols width own (Ok symbols) are made is =
-      let shaped = symbols_shaped number.form width mark number.symbols formed.names (pos 0) symbols are in
-      let fixed = fixed_shaped number.form width mark number.symbols number.fixed formed.fixed (pos 0) symbols are in
-      subst (λ (n : PlainNumber). is_number_shaped false n ≡ true) (same is) (λ i. own i && shaped i && fixed i && true)
-    where
-      same : ◌≡◌ {A = Result PlainNumber Fault}
-          (Ok (record { form = number.form; width = width; unsigned = number.unsigned; radix = number.radix; symbols = symbols; fixed = number.fixed; key = false })) (Ok made)
-          → record { form = number.form; width = width; unsigned = number.unsigned; radix = number.radix; symbols = symbols; fixed = number.fixed; key = false } ≡ made
-      same e = cc e
-  by_symbols width own (Err fault) are made is = cc
-
-  by_width : (found : Result ℤ Fault) → width_value mark number.width ≡ found → (made : PlainNumber) → (found >>= number_of_width mark number) ≡ Ok made
-      → is_number_shaped false made ≡ true
-  by_width (Ok width) has made is =
-      by_symbols width (width_shaped mark number.form number.width width formed.width has)
-      (values_of (fits_number number.form width) mark (pos 0) number.symbols) refl made is
-  by_width (Err fault) has made is = cc
-
-  pub number_shaped : (made : PlainNumber) → number_value mark number ≡ Ok made → is_number_shaped false made ≡ true
-  number_shaped made is = by_width (width_value mark number.width) refl made is
+module _ (mark : Mark) (in_case : Bool) (number : NumberForm) (formed : IsNumberFormed number) (key : IsKeyFormed in_case number) where
+  pub number_shaped : (made : PlainNumber) → number_value mark number ≡ Ok made → is_number_shaped in_case made ≡ true
+  number_shaped made is =
+      let width = then_ok (width_value mark number.width) _ made is in
+      let done = then_ok (key_value mark number.key number.fixed) _ made width.2 in
+      let symbols = then_ok (values_of (fits_number number.form width.0) mark (pos 0) number.symbols) _ made done.2 in
+      let own = width_shaped mark number.form number.width width.0 formed.width width.1 in
+      let shaped = symbols_shaped number.form width.0 mark number.symbols formed.names (pos 0) symbols.0 symbols.1 in
+      let fixed = fixed_shaped number.form width.0 mark number.symbols number.fixed formed.fixed (pos 0) symbols.0 symbols.1 in
+      let last = key_made mark in_case number.form symbols.0 number.key number.fixed done.0 key fixed done.1 in
+      subst (λ (n : PlainNumber). is_number_shaped in_case n ≡ true) (same_ok _ made symbols.2) (λ i. own i && shaped i && fixed i && last i)

@@ -1,6 +1,6 @@
 -- A `type` statement as it is written: `type`, a type, maybe ids in brackets, and fields in braces, or `as` and another
 -- type. (MPW Rez.)
-use Rattle.std.specs.Prelude.{◌≡◌, ℕ, true, List, [], ◌∷◌, Some, None}
+use Rattle.std.specs.Prelude.{◌≡◌, ℕ, true, false, List, [], ◌∷◌, Some, None}
 use Rattle.rz_expr.specs.Keyword.{is_keyword}
 use Rattle.rz_expr.specs.Term.{Term}
 use Rattle.rz_expr.specs.declared.keyword.Keyword.TheVariants as keywords
@@ -13,7 +13,7 @@ use Rattle.rz_brackets.specs.declared.bracket.Bracket.TheVariants.{Curly, Round}
 use Rattle.rz_brackets.specs.declared.pieces.Divider.TheVariants.{Colon}
 use Rattle.rz_declare.specs.Body.{IsBody}
 use Rattle.rz_expr.specs.Constant.{IsConstant}
-use Rattle.rz_declare.specs.Form.{Any, CopyOf, DeclareForm, FieldForm, Fields, MadeForm, One, ScopeForm, Two}
+use Rattle.rz_declare.specs.Form.{Any, BodyForm, CopyOf, DeclareForm, Fields, MadeForm, One, ScopeForm, Two}
 
 -- the ids: one, or the first and the last
 abbrev pub AreIds : List (List Token) → ScopeForm → Type 0
@@ -28,7 +28,7 @@ IsScope tokens scope = (pieces : List (List Token)) × AreCut Colon tokens piece
 -- what the type is, and the `;` that ends the statement
 pub data IsMade (tokens : List Token) (made : MadeForm) : Type 0 where
   -- fields in braces
-  in_braces : (parted : Parted) (body : List FieldForm) → IsBracketed Curly tokens parted → is_empty parted.behind ≡ true → IsBody parted.front body
+  in_braces : (parted : Parted) (body : BodyForm) → IsBracketed Curly tokens parted → is_empty parted.behind ≡ true → IsBody false parted.front body
       → made ≡ Fields body → IsMade tokens made
   -- `as` and another type
   copied : (word kind : Token) (behind : List Token) (code : ℕ) → tokens ≡ word ∷ kind ∷ behind → is_keyword keywords.As word.shape ≡ true

@@ -12,7 +12,7 @@ use Rattle.rz_brackets.specs.declared.bracket.Bracket.TheVariants.{Curly, Round}
 use Rattle.rz_declare.specs.Body.{IsBody}
 use Rattle.rz_declare.specs.Declare.{IsMade, IsScope, IsScoped}
 use Rattle.rz_expr.specs.Constant.{IsConstant}
-use Rattle.rz_declare.specs.Form.{made_form, scope_form, Any, CopyOf, FieldForm, Fields, MadeForm, One, ScopeForm, Two}
+use Rattle.rz_declare.specs.Form.{made_form, scope_form, Any, BodyForm, CopyOf, Fields, MadeForm, One, ScopeForm, Two}
 use Rattle.rz_declare.specs.declared.declare.Scoped.{Scoped}
 
 abbrev pub IsOneId : List Token → ScopeForm → Type 0
@@ -23,7 +23,7 @@ AreTwoIds first last scope = (from to : Term) × IsConstant first from × IsCons
 
 abbrev pub AreFieldsMade : List Token → MadeForm → Type 0
 AreFieldsMade tokens made =
-    (parted : Parted) × (body : List FieldForm) × IsBracketed Curly tokens parted × (is_empty parted.behind ≡ true) × IsBody parted.front body × (made ≡ Fields body)
+    (parted : Parted) × (body : BodyForm) × IsBracketed Curly tokens parted × (is_empty parted.behind ≡ true) × IsBody false parted.front body × (made ≡ Fields body)
 
 abbrev pub IsGivenId : List Token → Option Term → Type 0
 IsGivenId tokens id = (parted : Parted) × (term : Term) × IsBracketed Round tokens parted × (is_empty parted.behind ≡ true) × IsConstant parted.front term × (id ≡ Some term)

@@ -1,4 +1,4 @@
--- The fields of type declarations as they are written. (MPW Rez.)
+-- The fields of type declarations that have no fields of their own, as they are written. (MPW Rez.)
 use Rattle.std.specs.Prelude.{◌≡◌, ℕ, Bool, true, false, not, ◌&&◌, if◌then◌else◌, List, [], ◌∷◌, length, Option, Some, None, option_map}
 use Rattle.std.specs.Option.{is_none}
 use Rattle.rz_expr.specs.Term.{Term}
@@ -10,7 +10,7 @@ use Rattle.rz_brackets.specs.declared.pieces.Divider.TheVariants.{Comma}
 use Rattle.rz_declare.specs.Each.{AreEach}
 use Rattle.rz_declare.specs.FieldFront.{IsFront}
 use Rattle.rz_expr.specs.Constant.{IsConstant}
-use Rattle.rz_declare.specs.FieldValue.{is_equals, IsFieldExpression}
+use Rattle.rz_declare.specs.FieldValue.{is_equals, IsFieldExpression, IsFixedExpression}
 use Rattle.rz_declare.specs.FieldWord.{align_unit, hex_of, unit_in, FieldFront}
 use Rattle.rz_declare.specs.Form.{Align, FieldForm, Fill, Number, NumberForm, Points, Text}
 use Rattle.rz_declare.specs.NumberField.{IsNumber}
@@ -63,7 +63,7 @@ count_of rect = if rect then 4 else 2
 -- two numbers, or four, with commas between them
 abbrev pub AreNumbers : Bool → List Token → List Term → Type 0
 AreNumbers rect tokens terms =
-    (pieces : List (List Token)) × AreCut Comma tokens pieces × (length pieces ≡ count_of rect) × AreEach IsFieldExpression pieces terms
+    (pieces : List (List Token)) × AreCut Comma tokens pieces × (length pieces ≡ count_of rect) × AreEach IsFixedExpression pieces terms
 
 -- nothing, or `=` and the numbers in braces
 abbrev pub IsPoints : Bool → List Token → PlainPoints → Type 0
@@ -115,6 +115,6 @@ IsFieldOf words.Align front field = IsAlignField front field
 abbrev pub IsFieldFront : FieldFront → FieldForm → Type 0
 IsFieldFront front field = IsFieldOf front.word front field
 
--- the tokens are a field: what stands before the word that says what it is, that word, and what stands behind it
-abbrev pub IsField : List Token → FieldForm → Type 0
-IsField tokens field = (front : FieldFront) × IsFront tokens front × IsFieldFront front field
+-- the tokens are such a field: what stands before the word that says what it is, that word, and what stands behind it
+abbrev pub IsFlat : List Token → FieldForm → Type 0
+IsFlat tokens field = (front : FieldFront) × IsFront tokens front × IsFieldFront front field

@@ -7,13 +7,17 @@ use Rattle.rz_lex.specs.declared.sign.Sign.TheVariants as signs
 use Rattle.rz_lex.specs.declared.token.Shape.{Shape}
 use Rattle.rz_lex.specs.declared.token.Shape.TheVariants as shapes
 use Rattle.rz_lex.specs.declared.token.Token.{Token}
-use Rattle.rz_types.specs.Value.{is_field_expression}
+use Rattle.rz_types.specs.Value.{is_field_expression, is_fixed_expression}
 use Rattle.rz_types.specs.declared.field.NumForm.{NumForm}
 use Rattle.rz_types.specs.declared.field.NumForm.TheVariants.{Char}
 
--- an expression that may stand in a field: no names but `true` and `false`, and of the functions the facts of the resource
+-- an expression that may stand for a size: no names but `true` and `false`, and of the functions the facts of the resource
 abbrev pub IsFieldExpression : List Token → Term → Type 0
 IsFieldExpression tokens term = IsExpression tokens term × (is_field_expression term ≡ true)
+
+-- one that may stand for a fixed value: of the functions the counts of rows too
+abbrev pub IsFixedExpression : List Token → Term → Type 0
+IsFixedExpression tokens term = IsExpression tokens term × (is_fixed_expression term ≡ true)
 
 abbrev pub byte_in : Shape → Option ℕ
 byte_in (shapes.Text (byte ∷ [])) = Some byte
@@ -28,9 +32,9 @@ abbrev pub IsValueBy : (List Token → Term → Type 0) → Option ℕ → List 
 IsValueBy Is (Some byte) tokens term = term ≡ Constant (pos byte)
 IsValueBy Is None tokens term = Is tokens term
 
--- the fixed value of a number field: the number of such a byte, or an expression of a field
+-- the fixed value of a number field: the number of such a byte, or an expression
 abbrev pub IsFixedValue : NumForm → List Token → Term → Type 0
-IsFixedValue form tokens = IsValueBy IsFieldExpression (one_byte form tokens) tokens
+IsFixedValue form tokens = IsValueBy IsFixedExpression (one_byte form tokens) tokens
 
 -- the value of a symbol: the number of such a byte, or a constant
 abbrev pub IsSymbolValue : NumForm → List Token → Term → Type 0

@@ -3,10 +3,13 @@ pub mod Form
 pub mod FieldValue
 pub mod FieldWord
 pub mod FieldFront
-pub mod Held
+pub mod Start
 pub mod Symbols
+pub mod Head
+pub mod Held
 pub mod NumberField
 pub mod FieldForm
+pub mod Key
 pub mod Body
 pub mod Declare
 pub mod DeclareSteps

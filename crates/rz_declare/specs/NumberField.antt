@@ -52,10 +52,10 @@ abbrev pub shown : Option Radix → Radix
 shown (Some radix) = radix
 shown None = Plain
 
--- the number of these parts
+-- the number of these parts, no key
 abbrev pub numbered : NumForm → WidthForm → FieldFront → NumberTail → NumberForm
 numbered form width front tail =
-    record { form = form; width = width; unsigned = front.unsigned; radix = shown front.radix; symbols = tail.symbols; fixed = tail.fixed }
+    record { form = form; width = width; unsigned = front.unsigned; radix = shown front.radix; symbols = tail.symbols; fixed = tail.fixed; key = false }
 
 -- a number whose type says its width
 abbrev pub IsOfWidth : NumForm → ℤ → FieldFront → NumberForm → Type 0

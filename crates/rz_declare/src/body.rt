@@ -1,36 +1,127 @@
-ghost use Rattle.std.specs.Prelude.{IfOk, map, option_map};
-ghost use Rattle.rz_declare.specs.Body.{AreFields, IsBody};
+ghost use Rattle.std.specs.Prelude.{IfOk, option_map};
 ghost use Rattle.rz_core.specs.Decided.{Decided};
-ghost use Rattle.rz_declare.specs.Form.{field_form};
+ghost use Rattle.rz_declare.specs.Body.{AreCases, IsArray, IsBody, IsCase, IsField, IsSwitch};
+ghost use Rattle.rz_declare.specs.Form.{body_form, case_form, cases_form, field_form};
 
-use crate::field::read_field;
-use crate::form::FieldExprs;
-use rz_brackets::{Divider, pieces_by};
+use crate::field::read_flat;
+use crate::form::{ArrayExpr, CaseExpr, CaseExprs, FieldExpr, FieldExprs};
+use crate::head::{behind_empty, braced, case_front, read_array_front};
+use crate::key::read_key;
+use crate::start::{Start, start_of};
+use rz_brackets::{Divider, pieces_are_cut, pieces_by};
 use rz_core::NoMemory;
+use rz_expr::one_expression;
 use rz_lex::Token;
 use std::alloc::Global;
 
-/// The fields that the tokens of a body are.
-pub fn read_body(alloc: Global, tokens: &[Token]) -> Result<Option<FieldExprs>, NoMemory>
-    ensures { IfOk result (λ body. Decided (IsBody tokens.now) (option_map (map field_form) body)) }
+/// The fields that the tokens are, in the body of a case or in another.
+#[cycle(body)]
+pub fn read_body(
+    alloc: Global,
+    in_case: bool,
+    tokens: &[Token],
+) -> Result<Option<FieldExprs>, NoMemory>
+    ensures { IfOk result (λ body. Decided (IsBody in_case tokens.now) (option_map body_form body)) }
 {
     let pieces = pieces_by(alloc, tokens, Divider::Semicolon)?;
-    read_pieces(alloc, &pieces)
-}
-
-/// The fields that the pieces are, each of which is a field or empty.
-fn read_pieces(alloc: Global, pieces: &[&[Token]]) -> Result<Option<FieldExprs>, NoMemory>
-    ensures { IfOk result (λ body. Decided (AreFields (map (λ piece. piece.now) pieces.now)) (option_map (map field_form) body)) }
-{
     let mut body = FieldExprs::new(alloc);
-    for piece in pieces {
+    for piece in &pieces {
         if piece.is_empty() {
             continue;
         }
-        let Some(field) = read_field(alloc, piece)? else {
+        let Some(field) = read_field(alloc, in_case, piece)? else {
             return Ok(None);
         };
         body.push(field)?;
     }
     Ok(Some(body))
+}
+
+/// The field that the tokens are, directly in a case or not.
+#[cycle(body)]
+fn read_field(alloc: Global, in_case: bool, tokens: &[Token]) -> Result<Option<FieldExpr>, NoMemory>
+    ensures { IfOk result (λ field. Decided (IsField in_case tokens.now) (option_map field_form field)) }
+{
+    match start_of(tokens) {
+        Start::Key(behind) => {
+            if in_case {
+                read_key(alloc, behind)
+            } else {
+                Ok(None)
+            }
+        }
+        Start::Array(behind) => read_array(alloc, behind),
+        Start::Switch(behind) => read_switch(alloc, behind),
+        Start::Flat => read_flat(alloc, tokens),
+    }
+}
+
+/// The array that the tokens behind `array` are. No key may stand directly in it.
+#[cycle(body)]
+fn read_array(alloc: Global, tokens: &[Token]) -> Result<Option<FieldExpr>, NoMemory>
+    ensures { IfOk result (λ field. Decided (IsArray tokens.now) (option_map field_form field)) }
+{
+    one_expression();
+    pieces_are_cut();
+    let Some(front) = read_array_front(alloc, tokens)? else {
+        return Ok(None);
+    };
+    match read_body(alloc, false, front.row)? {
+        Some(row) => Ok(Some(FieldExpr::Array(ArrayExpr {
+            name: front.name,
+            count: front.count,
+            row,
+        }))),
+        None => Ok(None),
+    }
+}
+
+/// The switch that the tokens behind `switch` are.
+#[cycle(body)]
+fn read_switch(alloc: Global, tokens: &[Token]) -> Result<Option<FieldExpr>, NoMemory>
+    ensures { IfOk result (λ field. Decided (IsSwitch tokens.now) (option_map field_form field)) }
+{
+    let Some(inside) = braced(tokens) else {
+        return Ok(None);
+    };
+    match read_cases(alloc, inside)? {
+        Some(cases) => Ok(Some(FieldExpr::Switch(cases))),
+        None => Ok(None),
+    }
+}
+
+/// The cases that the tokens are.
+#[cycle(body)]
+fn read_cases(alloc: Global, tokens: &[Token]) -> Result<Option<CaseExprs>, NoMemory>
+    ensures { IfOk result (λ cases. Decided (AreCases tokens.now) (option_map cases_form cases)) }
+{
+    let pieces = pieces_by(alloc, tokens, Divider::Case)?;
+    let Some(behind) = behind_empty(&pieces) else {
+        return Ok(None);
+    };
+    let mut cases = CaseExprs::new(alloc);
+    for piece in behind {
+        let Some(case) = read_case(alloc, piece)? else {
+            return Ok(None);
+        };
+        cases.push(case)?;
+    }
+    Ok(Some(cases))
+}
+
+/// The case that the tokens behind `case` are.
+#[cycle(body)]
+fn read_case(alloc: Global, tokens: &[Token]) -> Result<Option<CaseExpr>, NoMemory>
+    ensures { IfOk result (λ case. Decided (IsCase tokens.now) (option_map case_form case)) }
+{
+    let Some(front) = case_front(tokens) else {
+        return Ok(None);
+    };
+    let Some(row) = read_body(alloc, true, front.row)? else {
+        return Ok(None);
+    };
+    Ok(Some(CaseExpr {
+        name: front.name.copy(alloc)?,
+        row,
+    }))
 }

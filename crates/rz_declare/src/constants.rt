@@ -2,15 +2,18 @@ ghost use Rattle.std.specs.Prelude.{◌≡◌, ◌<◌, ℕ, map, option_map};
 ghost use Rattle.rz_core.specs.Message.{IsNameable};
 ghost use Rattle.rz_core.specs.Stop.{Gives, OnFault};
 ghost use Rattle.rz_expr.specs.Term.{term_of};
-ghost use Rattle.rz_types.specs.Field.{plain_body, plain_field, plain_number};
-ghost use Rattle.rz_declare.specs.Constants.{body_value, count_value, declare_of, declared, field_value, id_value, made_of, made_value, number_of_width, number_value, scope_value, seen, two_value, width_value};
-ghost use Rattle.rz_declare.specs.Form.{declare_form, field_form, made_form, number_form, scope_form, width_form};
+ghost use Rattle.rz_types.specs.Field.{plain_array, plain_body, plain_case, plain_cases, plain_field, plain_number};
+ghost use Rattle.rz_declare.specs.Constants.{body_value, case_value, cases_value, count_value, declare_of, declared, field_value, given_value, key_value, made_of, made_value, number_of_width, number_value, scope_value, seen, two_value, width_value};
+ghost use Rattle.rz_declare.specs.Form.{array_form, body_form, case_form, cases_form, declare_form, field_form, made_form, number_form, scope_form, width_form};
 
-use crate::form::{DeclareExpr, FieldExpr, FieldExprs, MadeExpr, NumberExpr, ScopeExpr, Width};
+use crate::form::{
+    ArrayExpr, CaseExpr, CaseExprs, DeclareExpr, FieldExpr, FieldExprs, MadeExpr, NumberExpr,
+    ScopeExpr, Width,
+};
 use crate::values::values_of;
 use rz_core::{Fault, Mark, OsType, Stop};
 use rz_expr::Expr;
-use rz_types::{Body, Field, NumField, constant_value};
+use rz_types::{ArrayField, Body, Case, Cases, Field, NumField, constant_value};
 use std::alloc::Global;
 
 /// For which ids a declaration is, as the statement says it. (MPW Rez.)
@@ -112,19 +115,20 @@ fn value_made(alloc: Global, mark: Mark, made: MadeExpr) -> Result<Made, Stop<Fa
             Ok(body) => Ok(Made::Fields(body)),
             Err(stop) => Err(stop),
         },
-        MadeExpr::Copy(kind, id) => match value_id(alloc, mark, &id) {
+        MadeExpr::Copy(kind, id) => match value_given(alloc, mark, &id) {
             Ok(id) => Ok(Made::Copy(kind, id)),
             Err(stop) => Err(stop),
         },
     }
 }
 
-fn value_id(alloc: Global, mark: Mark, id: &Option<Expr>) -> Result<Option<i32>, Stop<Fault>>
-    ensures { Gives (id_value mark (option_map term_of id.now)) result }
+/// What is written, where it is.
+fn value_given(alloc: Global, mark: Mark, given: &Option<Expr>) -> Result<Option<i32>, Stop<Fault>>
+    ensures { Gives (given_value mark (option_map term_of given.now)) result }
 {
-    match id {
-        Some(id) => match constant_value(alloc, id, mark) {
-            Ok(id) => Ok(Some(id)),
+    match given {
+        Some(expr) => match constant_value(alloc, expr, mark) {
+            Ok(value) => Ok(Some(value)),
             Err(stop) => Err(stop),
         },
         None => Ok(None),
@@ -132,8 +136,9 @@ fn value_id(alloc: Global, mark: Mark, id: &Option<Expr>) -> Result<Option<i32>,
 }
 
 /// The fields, one after the other.
+#[cycle(constants)]
 fn value_body(alloc: Global, mark: Mark, fields: FieldExprs) -> Result<Body, Stop<Fault>>
-    ensures { Gives (body_value mark (map field_form fields)) (seen plain_body result) }
+    ensures { Gives (body_value mark (body_form fields)) (seen plain_body result) }
 {
     let mut body = Body::new(alloc);
     for field in fields.into_vec() {
@@ -145,6 +150,7 @@ fn value_body(alloc: Global, mark: Mark, fields: FieldExprs) -> Result<Body, Sto
     Ok(body)
 }
 
+#[cycle(constants)]
 fn value_field(alloc: Global, mark: Mark, field: FieldExpr) -> Result<Field, Stop<Fault>>
     ensures { Gives (field_value mark (field_form field)) (seen plain_field result) }
 {
@@ -160,6 +166,61 @@ fn value_field(alloc: Global, mark: Mark, field: FieldExpr) -> Result<Field, Sto
             Err(stop) => Err(stop),
         },
         FieldExpr::Align(unit) => Ok(Field::Align(unit)),
+        FieldExpr::Array(array) => match value_array(alloc, mark, array) {
+            Ok(array) => Ok(Field::Array(array)),
+            Err(stop) => Err(stop),
+        },
+        FieldExpr::Switch(cases) => match value_cases(alloc, mark, cases) {
+            Ok(cases) => Ok(Field::Switch(cases)),
+            Err(stop) => Err(stop),
+        },
+    }
+}
+
+/// The array: the count of its rows, and then its fields.
+#[cycle(constants)]
+fn value_array(alloc: Global, mark: Mark, array: ArrayExpr) -> Result<ArrayField, Stop<Fault>>
+    ensures { Gives (field_value mark (array_form array)) (seen plain_array result) }
+{
+    let count = match value_given(alloc, mark, &array.count) {
+        Ok(count) => count,
+        Err(stop) => return Err(stop),
+    };
+    match value_body(alloc, mark, array.row) {
+        Ok(row) => Ok(ArrayField {
+            name: array.name,
+            count,
+            row,
+        }),
+        Err(stop) => Err(stop),
+    }
+}
+
+/// The cases, one after the other.
+#[cycle(constants)]
+fn value_cases(alloc: Global, mark: Mark, cases: CaseExprs) -> Result<Cases, Stop<Fault>>
+    ensures { Gives (cases_value mark (cases_form cases)) (seen plain_cases result) }
+{
+    let mut made = Cases::new(alloc);
+    for case in cases.into_vec() {
+        match value_case(alloc, mark, case) {
+            Ok(case) => made.push(case)?,
+            Err(stop) => return Err(stop),
+        }
+    }
+    Ok(made)
+}
+
+#[cycle(constants)]
+fn value_case(alloc: Global, mark: Mark, case: CaseExpr) -> Result<Case, Stop<Fault>>
+    ensures { Gives (case_value mark (case_form case)) (seen plain_case result) }
+{
+    match value_body(alloc, mark, case.row) {
+        Ok(row) => Ok(Case {
+            name: case.name,
+            row,
+        }),
+        Err(stop) => Err(stop),
     }
 }
 
@@ -172,13 +233,30 @@ fn value_count(alloc: Global, mark: Mark, count: &Option<Expr>) -> Result<i32, S
     }
 }
 
-/// The number: its width, and then its symbols.
+/// The number: its width, then its value if it is a key, and then its symbols.
 fn value_number(alloc: Global, mark: Mark, number: NumberExpr) -> Result<NumField, Stop<Fault>>
     ensures { Gives (number_value mark (number_form number)) (seen plain_number result) }
 {
-    match value_width(alloc, mark, &number.width) {
-        Ok(width) => make_number(alloc, mark, number, width),
+    let width = match value_width(alloc, mark, &number.width) {
+        Ok(width) => width,
+        Err(stop) => return Err(stop),
+    };
+    match value_key(alloc, mark, number.key, &number.fixed) {
+        Ok(()) => make_number(alloc, mark, number, width),
         Err(stop) => Err(stop),
+    }
+}
+
+/// The fixed value of a key, which is computed and not kept.
+fn value_key(alloc: Global, mark: Mark, key: bool, fixed: &Option<Expr>) -> Result<(), Stop<Fault>>
+    ensures { Gives (key_value mark key (option_map term_of fixed.now)) result }
+{
+    match fixed {
+        Some(value) if key => match constant_value(alloc, value, mark) {
+            Ok(_) => Ok(()),
+            Err(stop) => Err(stop),
+        },
+        _ => Ok(()),
     }
 }
 
@@ -207,7 +285,7 @@ fn make_number(
             radix: number.radix,
             symbols,
             fixed: number.fixed,
-            key: false,
+            key: number.key,
         }),
         Err(stop) => Err(stop),
     }

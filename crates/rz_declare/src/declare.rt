@@ -13,7 +13,9 @@ use rz_expr::{Expr, Keyword, is_keyword, read_constant};
 use rz_lex::Token;
 use std::alloc::Global;
 
-/// The `type` statement that the tokens are, as it is written. `None` exactly where they are none. (MPW Rez.)
+/// The `type` statement that the tokens are, as it is written. `None` exactly where they are none. It takes time in
+/// proportion to the tokens for each brace that is open, and reading goes as deep as braces are open: callers bound
+/// the tokens that they hand in. (MPW Rez.)
 pub fn read_declare(alloc: Global, tokens: &[Token]) -> Result<Option<DeclareExpr>, NoMemory>
     ensures { IfOk result (λ stmt. Decided (IsDeclare tokens.now) (option_map declare_form stmt)) }
 {
@@ -140,7 +142,7 @@ fn read_fields(alloc: Global, tokens: &[Token]) -> Result<Option<MadeExpr>, NoMe
     if !is_empty_statement(split.behind) {
         return Ok(None);
     }
-    match read_body(alloc, split.front)? {
+    match read_body(alloc, false, split.front)? {
         Some(body) => Ok(Some(MadeExpr::Fields(body))),
         None => Ok(None),
     }

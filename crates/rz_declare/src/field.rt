@@ -3,7 +3,7 @@ ghost use Rattle.rz_expr.specs.Term.{term_of};
 ghost use Rattle.rz_types.specs.Field.{plain_points, plain_text};
 ghost use Rattle.rz_types.specs.Text.{plain_parts};
 ghost use Rattle.rz_core.specs.Decided.{Decided};
-ghost use Rattle.rz_declare.specs.FieldForm.{align_of, count_of, fixed_text, is_bare, AreNumbers, IsAlignField, IsCount, IsField, IsFieldFront, IsFill, IsFillField, IsNumberField, IsPoints, IsPointsField, IsSized, IsText, IsTextField, IsUnsized};
+ghost use Rattle.rz_declare.specs.FieldForm.{align_of, count_of, fixed_text, is_bare, AreNumbers, IsAlignField, IsCount, IsFieldFront, IsFill, IsFillField, IsFlat, IsNumberField, IsPoints, IsPointsField, IsSized, IsText, IsTextField, IsUnsized};
 ghost use Rattle.rz_declare.specs.Form.{field_form};
 ghost use Rattle.rz_declare.specs.Held.{held_front};
 
@@ -18,11 +18,11 @@ use rz_lex::Token;
 use rz_types::{Exprs, NumForm, PointField, TextField, TextForm, Texts, text_in};
 use std::alloc::Global;
 
-/// The field that a piece of a body is.
-pub fn read_field(alloc: Global, piece: &[Token]) -> Result<Option<FieldExpr>, NoMemory>
-    ensures { IfOk result (λ field. Decided (IsField piece.now) (option_map field_form field)) }
+/// The field without fields of its own that the tokens are.
+pub fn read_flat(alloc: Global, tokens: &[Token]) -> Result<Option<FieldExpr>, NoMemory>
+    ensures { IfOk result (λ field. Decided (IsFlat tokens.now) (option_map field_form field)) }
 {
-    match front_in(piece, false, None) {
+    match front_in(tokens, false, None) {
         Some(front) => read_front(alloc, &front),
         None => Ok(None),
     }

@@ -35,6 +35,7 @@ pub enum MadeExpr {
 
 /// A field as it is written. (MPW Rez.)
 #[derive(Debug, Drop)]
+#[cycle(form)]
 pub enum FieldExpr {
     /// A number.
     Number(NumberExpr),
@@ -46,10 +47,39 @@ pub enum FieldExpr {
     Fill(u8, Option<Expr>),
     /// `align`: a unit in bits.
     Align(u8),
+    /// `array`
+    Array(ArrayExpr),
+    /// `switch`
+    Switch(CaseExprs),
 }
 
 /// Fields as they are written, in order.
 pub type FieldExprs = Listing<FieldExpr>;
+
+/// An array as it is written. (MPW Rez.)
+#[derive(Debug, Drop)]
+#[cycle(form)]
+pub struct ArrayExpr {
+    /// The name, where it has one.
+    pub name: Option<Word>,
+    /// How many rows it has, where that is written.
+    pub count: Option<Expr>,
+    /// The fields of a row.
+    pub row: FieldExprs,
+}
+
+/// A case of a switch as it is written: a name, and its fields. (MPW Rez.)
+#[derive(Debug, Drop)]
+#[cycle(form)]
+pub struct CaseExpr {
+    /// The name.
+    pub name: Word,
+    /// The fields.
+    pub row: FieldExprs,
+}
+
+/// The cases of a switch as they are written, in order.
+pub type CaseExprs = Listing<CaseExpr>;
 
 /// A number as it is written. (MPW Rez.)
 #[derive(Debug, Drop)]
@@ -66,6 +96,8 @@ pub struct NumberExpr {
     pub symbols: Names,
     /// The fixed value, where there is one.
     pub fixed: Option<Expr>,
+    /// Whether it is the key of a case.
+    pub key: bool,
 }
 
 /// How many bits a number has. (MPW Rez.)

@@ -1,8 +1,11 @@
 //! `type` statements. `read_declare` gives exactly the statement that the tokens are, with expressions where
 //! constants stand, or none; `value_declare` gives these their values from left to right, or the first fault.
+//! A body leads back to itself, by arrays and switches: `body` reads it with the fields that have fields of their
+//! own, whose first words stand in `start` and what stands before their braces or their fields in `head`; `field`
+//! reads the others, and `key` the keys of cases.
 //! It rests on `rz_core`, `rz_lex`, `rz_expr`, `rz_types` and `rz_brackets`.
-//! A new kind of field changes `form`, `field` and `values` here, each with its definitions, and `Field` of
-//! `rz_types`.
+//! A new kind of field changes `form`, `field` (or `start` and `body`, where it has fields of its own) and `constants`
+//! here, each with its definitions, and `Field` of `rz_types`.
 #![tactic(auto)]
 
 mod body;
@@ -11,8 +14,11 @@ mod declare;
 mod field;
 mod field_word;
 mod form;
+mod head;
+mod key;
 mod laws;
 mod number_field;
+mod start;
 mod symbols;
 mod value;
 mod values;
@@ -20,6 +26,7 @@ mod values;
 pub use constants::{Bounds, DeclareStmt, Made, value_declare};
 pub use declare::read_declare;
 pub use form::{
-    DeclareExpr, FieldExpr, FieldExprs, MadeExpr, Named, Names, NumberExpr, ScopeExpr, Width,
+    ArrayExpr, CaseExpr, CaseExprs, DeclareExpr, FieldExpr, FieldExprs, MadeExpr, Named, Names,
+    NumberExpr, ScopeExpr, Width,
 };
 pub use laws::{declarations_are_shaped, one_declare, symbols_have_values, words_before_fields};

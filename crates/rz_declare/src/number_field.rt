@@ -67,7 +67,7 @@ fn read_bits(alloc: Global, form: NumForm, front: &Front) -> Result<Option<Numbe
     }
 }
 
-/// The number of these parts.
+/// The number of these parts, no key.
 fn numbered(form: NumForm, width: Width, front: &Front, tail: Tail) -> NumberExpr
     ensures { number_form result ≡ numbered form (width_form width) (held_front front.now) (tail_of tail) }
 {
@@ -78,6 +78,7 @@ fn numbered(form: NumForm, width: Width, front: &Front, tail: Tail) -> NumberExp
         radix: shown(front.radix),
         symbols: tail.symbols,
         fixed: tail.fixed,
+        key: false,
     }
 }
 

@@ -52,7 +52,7 @@ fn read_symbol(alloc: Global, form: NumForm, piece: &[Token]) -> Result<Option<N
 }
 
 /// The name that a token is.
-fn name_in(token: &Token) -> Option<&Word>
+pub fn name_in(token: &Token) -> Option<&Word>
     ensures { option_copied result ≡ name_in token.now.shape }
 {
     match &token.shape {

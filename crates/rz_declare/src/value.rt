@@ -2,15 +2,15 @@ ghost use Rattle.std.specs.Prelude.{◌≡◌, IfOk, map, option_map};
 ghost use Rattle.rz_expr.specs.Term.{term_of};
 ghost use Rattle.rz_core.specs.Decided.{Decided};
 ghost use Rattle.rz_declare.specs.Each.{AreEach};
-ghost use Rattle.rz_declare.specs.FieldValue.{byte_in, is_equals, one_byte, IsFieldExpression, IsFixedValue, IsSymbolValue};
+ghost use Rattle.rz_declare.specs.FieldValue.{byte_in, is_equals, one_byte, IsFieldExpression, IsFixedExpression, IsFixedValue, IsSymbolValue};
 
 use rz_core::NoMemory;
 use rz_expr::{Expr, one_expression, read_constant, read_whole};
 use rz_lex::{Shape, Sign, Token};
-use rz_types::{Exprs, NumForm, is_field_expression};
+use rz_types::{Exprs, NumForm, is_field_expression, is_fixed_expression};
 use std::alloc::Global;
 
-/// The expression of a field that the tokens are: one without names other than `true` and `false`, and without `$$`
+/// The expression of a size that the tokens are: one without names other than `true` and `false`, and without `$$`
 /// functions other than the facts of the resource.
 pub fn read_expression(alloc: Global, tokens: &[Token]) -> Result<Option<Expr>, NoMemory>
     ensures { IfOk result (λ expr. Decided (IsFieldExpression tokens.now) (option_map term_of expr)) }
@@ -19,6 +19,23 @@ pub fn read_expression(alloc: Global, tokens: &[Token]) -> Result<Option<Expr>, 
     match read_whole(alloc, tokens)? {
         Some(expr) => {
             if is_field_expression(&expr) {
+                Ok(Some(expr))
+            } else {
+                Ok(None)
+            }
+        }
+        None => Ok(None),
+    }
+}
+
+/// The expression of a fixed value that the tokens are: of the `$$` functions it may have `$$CountOf` too.
+fn read_fixed_expression(alloc: Global, tokens: &[Token]) -> Result<Option<Expr>, NoMemory>
+    ensures { IfOk result (λ expr. Decided (IsFixedExpression tokens.now) (option_map term_of expr)) }
+{
+    one_expression();
+    match read_whole(alloc, tokens)? {
+        Some(expr) => {
+            if is_fixed_expression(&expr) {
                 Ok(Some(expr))
             } else {
                 Ok(None)
@@ -38,7 +55,7 @@ pub fn read_fixed_value(
 {
     match one_byte(form, tokens) {
         Some(byte) => Ok(Some(Expr::Number(i32::from(byte)))),
-        None => read_expression(alloc, tokens),
+        None => read_fixed_expression(alloc, tokens),
     }
 }
 
@@ -81,13 +98,13 @@ fn byte_in(token: &Token) -> Option<u8>
     }
 }
 
-/// The expressions that the pieces are.
+/// The expressions of fixed values that the pieces are.
 pub fn read_expressions(alloc: Global, pieces: &[&[Token]]) -> Result<Option<Exprs>, NoMemory>
-    ensures { IfOk result (λ exprs. Decided (AreEach IsFieldExpression (map (λ piece. piece.now) pieces.now)) (option_map (map term_of) exprs)) }
+    ensures { IfOk result (λ exprs. Decided (AreEach IsFixedExpression (map (λ piece. piece.now) pieces.now)) (option_map (map term_of) exprs)) }
 {
     let mut exprs = Exprs::new(alloc);
     for piece in pieces {
-        let Some(expr) = read_expression(alloc, piece)? else {
+        let Some(expr) = read_fixed_expression(alloc, piece)? else {
             return Ok(None);
         };
         exprs.push(expr)?;
