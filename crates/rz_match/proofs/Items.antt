@@ -9,10 +9,11 @@ use Rattle.rz_items.specs.Item.{Braced, Named, Number, PlainItem, Text}
 use Rattle.rz_match.specs.Fits.{exceeds, list_of, AreNumbersOf, IsItemOf, IsNumberOf, IsTextOf}
 use Rattle.rz_match.specs.Matched.{group_for, item_for, number_for, short_text, text_for}
 use Rattle.rz_match.specs.Unfit.{mark_of, too_long, wrong_kind, IsGroupFault, IsItemFault, IsNumberFault, IsTextFault}
+use Rattle.rz_match.proofs.Lines.{OneGiven, OneSound}
 use Rattle.rz_match.proofs.Lists.{fit_of, of_fit, of_unfit, unfit_of}
 use Rattle.rz_match.proofs.Numbers.{number_blamed, number_blames, number_complete, number_sound}
 use Rattle.rz_match.proofs.Results.{ok_err, same_err, same_ok, then_err, then_ok, unless_err, unless_ok}
-use Rattle.rz_types.specs.Field.{PlainField, PlainText}
+use Rattle.rz_types.specs.Field.{PlainNumber, PlainPoints, PlainText}
 use Rattle.rz_types.specs.Field as fields
 use Rattle.rz_types.specs.Shape.{numbers_of}
 use Rattle.rz_types.specs.Spells.{integer}
@@ -116,44 +117,62 @@ module _ {X : Type 0} (wrap : X → Tree) (given : Result X Fault) where
   err_wrapped : (fault : Fault) → given ≡ Err fault → (given >>= λ x. Ok (wrap x)) ≡ Err fault
   err_wrapped fault e = ap (λ (r : Result X Fault). r >>= λ x. Ok (wrap x)) e
 
+-- Numbers, texts and points.
+
 module _ (known : Facts) where
-  pub item_sound : (position : ℕ) (field : PlainField) (item : PlainItem) (value : Tree) → item_for known position field item ≡ Ok value → IsItemOf known field item value
-  item_sound position (fields.Number number) item value e =
-      let is = wrapped_ok trees.Number (number_for known position number item) value e in (is.0, number_sound known position number item is.0 is.1, is.2)
-  item_sound position (fields.Text text) item value e =
-      let is = wrapped_ok trees.Text (text_for known position text item) value e in (is.0, text_sound known position text item is.0 is.1, is.2)
-  item_sound position (fields.Points points) item value e =
-      let is = wrapped_ok trees.Group (group_for known position points.rect item) value e in (is.0, group_sound known position points.rect item is.0 is.1, is.2)
-  item_sound position (fields.Fill unit count) item value e = ok_err value (wrong_kind position (mark_of item)) (sym e)
-  item_sound position (fields.Align unit) item value e = ok_err value (wrong_kind position (mark_of item)) (sym e)
+  pub number_sounds : (number : PlainNumber) → OneSound (item_for known (fields.Number number)) (IsItemOf known (fields.Number number)) (IsItemFault known (fields.Number number))
+  number_sounds number = record {
+    sound = λ position item value e.
+        let is = wrapped_ok trees.Number (number_for known position number item) value e in (is.0, number_sound known position number item is.0 is.1, is.2);
+    blamed = λ position item fault e. number_blamed known position number item fault (wrapped_err trees.Number (number_for known position number item) fault e);
+  }
 
-  pub item_complete : (position : ℕ) (field : PlainField) (item : PlainItem) (value : Tree) → IsItemOf known field item value → item_for known position field item ≡ Ok value
-  item_complete position (fields.Number number) item value is =
-      ok_wrapped trees.Number (number_for known position number item) is.0 value (number_complete known position number item is.0 is.1) is.2
-  item_complete position (fields.Text text) item value is =
-      ok_wrapped trees.Text (text_for known position text item) is.0 value (text_complete known position text item is.0 is.1) is.2
-  item_complete position (fields.Points points) item value is =
-      ok_wrapped trees.Group (group_for known position points.rect item) is.0 value (group_complete known position points.rect item is.0 is.1) is.2
-  item_complete position (fields.Fill unit count) item value is = absurd is
-  item_complete position (fields.Align unit) item value is = absurd is
+  pub number_given : (number : PlainNumber) → OneGiven (item_for known (fields.Number number)) (IsItemOf known (fields.Number number)) (IsItemFault known (fields.Number number))
+  number_given number = record {
+    complete = λ position item value is.
+        ok_wrapped trees.Number (number_for known position number item) is.0 value (number_complete known position number item is.0 is.1) is.2;
+    blames = λ position item fault is. err_wrapped trees.Number (number_for known position number item) fault (number_blames known position number item fault is);
+  }
 
-  pub item_blamed : (position : ℕ) (field : PlainField) (item : PlainItem) (fault : Fault)
-      → item_for known position field item ≡ Err fault → IsItemFault known position field item fault
-  item_blamed position (fields.Number number) item fault e =
-      number_blamed known position number item fault (wrapped_err trees.Number (number_for known position number item) fault e)
-  item_blamed position (fields.Text text) item fault e = text_blamed known position text item fault (wrapped_err trees.Text (text_for known position text item) fault e)
-  item_blamed position (fields.Points points) item fault e =
-      group_blamed known position points.rect item fault (wrapped_err trees.Group (group_for known position points.rect item) fault e)
-  item_blamed position (fields.Fill unit count) item fault e = blame (wrong_kind position (mark_of item)) fault e
-  item_blamed position (fields.Align unit) item fault e = blame (wrong_kind position (mark_of item)) fault e
+  pub text_sounds : (text : PlainText) → OneSound (item_for known (fields.Text text)) (IsItemOf known (fields.Text text)) (IsItemFault known (fields.Text text))
+  text_sounds text = record {
+    sound = λ position item value e.
+        let is = wrapped_ok trees.Text (text_for known position text item) value e in (is.0, text_sound known position text item is.0 is.1, is.2);
+    blamed = λ position item fault e. text_blamed known position text item fault (wrapped_err trees.Text (text_for known position text item) fault e);
+  }
 
-  pub item_blames : (position : ℕ) (field : PlainField) (item : PlainItem) (fault : Fault)
-      → IsItemFault known position field item fault → item_for known position field item ≡ Err fault
-  item_blames position (fields.Number number) item fault is =
-      err_wrapped trees.Number (number_for known position number item) fault (number_blames known position number item fault is)
-  item_blames position (fields.Text text) item fault is =
-      err_wrapped trees.Text (text_for known position text item) fault (text_blames known position text item fault is)
-  item_blames position (fields.Points points) item fault is =
-      err_wrapped trees.Group (group_for known position points.rect item) fault (group_blames known position points.rect item fault is)
-  item_blames position (fields.Fill unit count) item fault is = ap (λ (f : Fault). Err f) (sym is)
-  item_blames position (fields.Align unit) item fault is = ap (λ (f : Fault). Err f) (sym is)
+  pub text_given : (text : PlainText) → OneGiven (item_for known (fields.Text text)) (IsItemOf known (fields.Text text)) (IsItemFault known (fields.Text text))
+  text_given text = record {
+    complete = λ position item value is. ok_wrapped trees.Text (text_for known position text item) is.0 value (text_complete known position text item is.0 is.1) is.2;
+    blames = λ position item fault is. err_wrapped trees.Text (text_for known position text item) fault (text_blames known position text item fault is);
+  }
+
+  pub points_sound : (points : PlainPoints) → OneSound (item_for known (fields.Points points)) (IsItemOf known (fields.Points points)) (IsItemFault known (fields.Points points))
+  points_sound points = record {
+    sound = λ position item value e.
+        let is = wrapped_ok trees.Group (group_for known position points.rect item) value e in (is.0, group_sound known position points.rect item is.0 is.1, is.2);
+    blamed = λ position item fault e. group_blamed known position points.rect item fault (wrapped_err trees.Group (group_for known position points.rect item) fault e);
+  }
+
+  pub points_given : (points : PlainPoints) → OneGiven (item_for known (fields.Points points)) (IsItemOf known (fields.Points points)) (IsItemFault known (fields.Points points))
+  points_given points = record {
+    complete = λ position item value is.
+        ok_wrapped trees.Group (group_for known position points.rect item) is.0 value (group_complete known position points.rect item is.0 is.1) is.2;
+    blames = λ position item fault is. err_wrapped trees.Group (group_for known position points.rect item) fault (group_blames known position points.rect item fault is);
+  }
+
+-- a field that takes no item
+abbrev NoneMatched : ℕ → PlainItem → Result Tree Fault
+NoneMatched position item = Err (wrong_kind position (mark_of item))
+
+pub none_sounds : OneSound NoneMatched (λ item value. ⊥) (λ position item fault. fault ≡ wrong_kind position (mark_of item))
+none_sounds = record {
+  sound = λ position item value e. ok_err value (wrong_kind position (mark_of item)) (sym e);
+  blamed = λ position item fault e. blame (wrong_kind position (mark_of item)) fault e;
+}
+
+pub none_given : OneGiven NoneMatched (λ item value. ⊥) (λ position item fault. fault ≡ wrong_kind position (mark_of item))
+none_given = record {
+  complete = λ position item value is. absurd is;
+  blames = λ position item fault is. ap (λ (f : Fault). Err f) (sym is);
+}

@@ -1,8 +1,12 @@
 pub mod Results
-pub mod Lists
 pub mod Steps
+pub mod Lists
 pub mod Numbers
+pub mod Lines
+pub mod Given
+pub mod RowLists
 pub mod Items
+pub mod Nested
 pub mod Matches
-pub mod Rows
 pub mod Named
+pub mod Rows

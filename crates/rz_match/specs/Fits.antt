@@ -1,12 +1,13 @@
 -- Which values the items of a `resource` statement give to the fields of its type. (MPW Rez.)
-use Rattle.std.specs.Prelude.{◌≡◌, ℕ, ℤ, pos, nat_abs, Bool, true, false, ◌&&◌, List, [], ◌∷◌, length, filter, replicate, None, Ok}
+use Rattle.std.specs.Prelude.{◌≡◌, ℕ, ℤ, pos, nat_abs, Bool, true, false, ◌&&◌, List, [], ◌∷◌, ◌++◌, length, replicate, None, Ok}
 use Rattle.std.specs.Option.{is_none}
+use Rattle.std.specs.Str.{str_eq_ignore_ascii_case}
 use Rattle.rz_core.specs.declared.facts.Facts.{Facts}
 use Rattle.rz_items.specs.Item.{Braced, more, Named, none, Number, PlainItem, PlainItems, Text}
-use Rattle.rz_types.specs.Field.{PlainField, PlainNumber, PlainText}
+use Rattle.rz_types.specs.Field.{PlainBody, PlainCases, PlainField, PlainNumber, PlainText}
 use Rattle.rz_types.specs.Field as fields
 use Rattle.rz_types.specs.Range.{fits_number}
-use Rattle.rz_types.specs.Row.{takes_value}
+use Rattle.rz_types.specs.Row.{takes_value, By, IsStated}
 use Rattle.rz_types.specs.Shape.{numbers_of}
 use Rattle.rz_types.specs.Spells.{integer}
 use Rattle.rz_types.specs.Stored.{is_too_long, stored_number}
@@ -22,7 +23,7 @@ abbrev pub list_of : PlainItems → List PlainItem
 list_of none = []
 list_of (more item items) = item ∷ list_of items
 
--- fields, items and values correspond one to one, in order
+-- fields of one kind, items and values correspond one to one, in order
 abbrev pub FitAll : {F V : Type 0} → (F → PlainItem → V → Type 0) → List F → List PlainItem → List V → Type 0
 FitAll IsOf [] [] [] = Unit {0}
 FitAll IsOf (field ∷ fields) (item ∷ items) (value ∷ values) = IsOf field item value × FitAll IsOf fields items values
@@ -69,16 +70,55 @@ abbrev pub AreNumbersOf : Facts → Bool → PlainItem → List ℕ → Type 0
 AreNumbersOf known rect (Braced items mark) numbers = FitAll (IsNumberOf known) (replicate (numbers_of rect) (integer None)) (list_of items) numbers
 AreNumbersOf known rect item numbers = ⊥
 
+-- Rows.
+
+-- the items in braces, where it is a list
+abbrev pub WithList : PlainItem → (List PlainItem → Type 0) → Type 0
+WithList (Braced items mark) IsSo = IsSo (list_of items)
+WithList (Number term mark) IsSo = ⊥
+WithList (Text parts mark) IsSo = ⊥
+WithList (Named name items mark) IsSo = ⊥
+
+-- the name and the items in braces behind it
+abbrev pub WithNamed : PlainItem → (List ℕ → List PlainItem → Type 0) → Type 0
+WithNamed (Named name items mark) IsSo = IsSo name (list_of items)
+WithNamed (Number term mark) IsSo = ⊥
+WithNamed (Text parts mark) IsSo = ⊥
+WithNamed (Braced items mark) IsSo = ⊥
+
+-- the first item gives the first value, where the field takes one, and the others give the others
+abbrev pub NextFits : Bool → (PlainItem → Tree → Type 0) → (List PlainItem → List Tree → Type 0) → List PlainItem → List Tree → Type 0
+NextFits true IsOne Others items row =
+    (item : PlainItem) × (rest : List PlainItem) × (value : Tree) × (values : List Tree) × (items ≡ item ∷ rest) × (row ≡ value ∷ values) × IsOne item value × Others rest values
+NextFits false IsOne Others items row = Others items row
+
+-- the items are those of rows, one row behind the other, each of one item at least
+abbrev pub RowsFit : (List PlainItem → List Tree → Type 0) → List PlainItem → List (List Tree) → Type 0
+RowsFit IsRow items [] = items ≡ []
+RowsFit IsRow items (row ∷ rows) =
+    (first : PlainItem) × (others rest : List PlainItem) × (items ≡ (first ∷ others) ++ rest) × IsRow (first ∷ others) row × RowsFit IsRow rest rows
+
 -- Fields.
 
--- the value that an item gives to a field
-abbrev pub IsItemOf : Facts → PlainField → PlainItem → Tree → Type 0
-IsItemOf known (fields.Number number) item value = (n : ℕ) × IsNumberOf known number item n × (value ≡ trees.Number n)
-IsItemOf known (fields.Text text) item value = (bytes : List ℕ) × IsTextOf known text item bytes × (value ≡ trees.Text bytes)
-IsItemOf known (fields.Points points) item value = (numbers : List ℕ) × AreNumbersOf known points.rect item numbers × (value ≡ trees.Group numbers)
-IsItemOf known (fields.Fill unit count) item value = ⊥
-IsItemOf known (fields.Align unit) item value = ⊥
+abbrev mutual
+  -- the value that an item gives to a field
+  pub IsItemOf : Facts → PlainField → PlainItem → Tree → Type 0
+  IsItemOf known (fields.Number number) item value = (n : ℕ) × IsNumberOf known number item n × (value ≡ trees.Number n)
+  IsItemOf known (fields.Text text) item value = (bytes : List ℕ) × IsTextOf known text item bytes × (value ≡ trees.Text bytes)
+  IsItemOf known (fields.Points points) item value = (numbers : List ℕ) × AreNumbersOf known points.rect item numbers × (value ≡ trees.Group numbers)
+  IsItemOf known (fields.Fill unit count) item value = ⊥
+  IsItemOf known (fields.Align unit) item value = ⊥
+  IsItemOf known (fields.Array name count row) item value =
+      WithList item (λ items. (rows : List (List Tree)) × RowsFit (Fits known row) items rows × IsStated count (length rows) × (value ≡ trees.Rows rows))
+  IsItemOf known (fields.Switch cases) item value = WithNamed item (λ name items. IsCaseOf known cases name items value)
 
--- the items give this row: one item and one value for each field that takes one
-abbrev pub Fits : Facts → List PlainField → List PlainItem → List Tree → Type 0
-Fits known body items row = FitAll (IsItemOf known) (filter takes_value body) items row
+  -- the case of this name, in whatever case its letters are, and the row that the items are
+  pub IsCaseOf : Facts → PlainCases → List ℕ → List PlainItem → Tree → Type 0
+  IsCaseOf known fields.no_cases name items value = ⊥
+  IsCaseOf known (fields.case_and own row others) name items value =
+      By (str_eq_ignore_ascii_case own.bytes name) ((line : List Tree) × Fits known row items line × (value ≡ trees.Choice own line)) (IsCaseOf known others name items value)
+
+  -- the items give this row: one item and one value for each field that takes one
+  pub Fits : Facts → PlainBody → List PlainItem → List Tree → Type 0
+  Fits known fields.no_fields items row = (items ≡ []) × (row ≡ [])
+  Fits known (fields.field_and field others) items row = NextFits (takes_value field) (IsItemOf known field) (Fits known others) items row

@@ -7,10 +7,10 @@ use Rattle.rz_core.specs.declared.fault.Mark.{Mark}
 use Rattle.rz_items.specs.Item.{PlainItem}
 use Rattle.rz_match.specs.Fits.{Fits}
 use Rattle.rz_match.specs.Unfit.{Unfit}
-use Rattle.rz_types.specs.Field.{PlainField}
+use Rattle.rz_types.specs.Field.{PlainBody}
 use Rattle.rz_types.specs.declared.tree.Tree.{Tree}
 
 -- what the items of a statement at this place are under the fields, where of the resource so much is known
-abbrev pub IsMatch : Facts → Mark → List PlainField → List PlainItem → Result (List Tree) Fault → Type 0
+abbrev pub IsMatch : Facts → Mark → PlainBody → List PlainItem → Result (List Tree) Fault → Type 0
 IsMatch known place body items (Ok row) = Fits known body items row
 IsMatch known place body items (Err fault) = Unfit known place body items fault

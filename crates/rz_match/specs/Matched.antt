@@ -1,15 +1,18 @@
 -- The row of items, computed from left to right up to the first fault. (MPW Rez.)
-use Rattle.std.specs.Prelude.{ℕ, ◌+◌, ℤ, pos, nat_abs, Bool, true, false, if◌then◌else◌, List, [], ◌∷◌, filter, replicate, None, Ok, Err}
+use Rattle.std.specs.Prelude.{ℕ, zero, suc, ◌+◌, ℤ, pos, nat_abs, Bool, true, false, if◌then◌else◌, List, [], ◌∷◌, length, replicate, Option, Some, None, Ok, Err}
+use Rattle.std.specs.Ordering.{int_eq}
+use Rattle.std.specs.Str.{str_eq_ignore_ascii_case}
 use Rattle.std.specs.declared.result.Result.{Result}
 use Rattle.rz_core.specs.Stop.{◌>>=◌}
 use Rattle.rz_core.specs.declared.facts.Facts.{Facts}
 use Rattle.rz_core.specs.declared.fault.Fault.{Fault}
 use Rattle.rz_core.specs.declared.fault.Mark.{Mark}
+use Rattle.rz_core.specs.declared.resource.Word.{Word}
 use Rattle.rz_expr.specs.Term.{Term}
 use Rattle.rz_items.specs.Item.{Braced, Named, Number, PlainItem, Text}
 use Rattle.rz_match.specs.Fits.{exceeds, is_char, list_of}
-use Rattle.rz_match.specs.Unfit.{mark_of, out_of_range, too_few, too_long, too_many, wrong_kind}
-use Rattle.rz_types.specs.Field.{PlainField, PlainNumber, PlainText}
+use Rattle.rz_match.specs.Unfit.{mark_of, no_case, other_count, out_of_range, too_few, too_long, too_many, wrong_kind}
+use Rattle.rz_types.specs.Field.{PlainBody, PlainCases, PlainField, PlainNumber, PlainText}
 use Rattle.rz_types.specs.Field as fields
 use Rattle.rz_types.specs.Range.{fits_number}
 use Rattle.rz_types.specs.Row.{takes_value}
@@ -69,13 +72,87 @@ abbrev pub group_for : Facts → (position : ℕ) → Bool → PlainItem → Res
 group_for known position rect (Braced items mark) = numbers_for known rect mark (list_of items)
 group_for known position rect item = Err (wrong_kind position (mark_of item))
 
-abbrev pub item_for : Facts → (position : ℕ) → PlainField → PlainItem → Result Tree Fault
-item_for known position (fields.Number number) item = number_for known position number item >>= λ n. Ok (trees.Number n)
-item_for known position (fields.Text text) item = text_for known position text item >>= λ bytes. Ok (trees.Text bytes)
-item_for known position (fields.Points points) item = group_for known position points.rect item >>= λ numbers. Ok (trees.Group numbers)
-item_for known position (fields.Fill unit count) item = Err (wrong_kind position (mark_of item))
-item_for known position (fields.Align unit) item = Err (wrong_kind position (mark_of item))
+-- Rows.
+
+-- a row, how many items of the list are behind it then, and the items that are left
+pub record Line : Type 0 where
+  pub row : List Tree
+  pub before : ℕ
+  pub rest : List PlainItem
+
+abbrev pub with_value : Tree → Line → Line
+with_value value line = record { row = value ∷ line.row; before = line.before; rest = line.rest }
+
+abbrev pub next_matched : Bool → (ℕ → PlainItem → Result Tree Fault) → (ℕ → List PlainItem → Result Line Fault) → Mark → List PlainItem → ℕ → List PlainItem → Result Line Fault
+next_matched true one others place all before [] = Err (too_few place all)
+next_matched true one others place all before (item ∷ rest) = one (before + 1) item >>= λ value. others (before + 1) rest >>= λ line. Ok (with_value value line)
+next_matched false one others place all before items = others before items
+
+-- rows until no item is left, at most so many
+abbrev pub rows_matched : (ℕ → List PlainItem → Result Line Fault) → ℕ → ℕ → List PlainItem → Result (List (List Tree)) Fault
+rows_matched row count before [] = Ok []
+rows_matched row zero before (item ∷ items) = Ok []
+rows_matched row (suc count) before (item ∷ items) =
+    row before (item ∷ items) >>= λ line. rows_matched row count line.before line.rest >>= λ rows. Ok (line.row ∷ rows)
+
+-- so many rows, where as many are stated
+abbrev pub is_stated : Option ℤ → ℕ → Bool
+is_stated None given = true
+is_stated (Some stated) given = int_eq stated (pos given)
+
+abbrev pub stated_of : Option ℤ → ℤ
+stated_of None = pos 0
+stated_of (Some stated) = stated
+
+abbrev pub counted : Mark → Option ℤ → List (List Tree) → Result Tree Fault
+counted place count rows = if is_stated count (length rows) then Ok (trees.Rows rows) else Err (other_count place (stated_of count) (length rows))
+
+-- no item is left
+abbrev pub nothing_left : List PlainItem → List Tree → List PlainItem → Result (List Tree) Fault
+nothing_left all row [] = Ok row
+nothing_left all row (item ∷ rest) = Err (too_many item all)
+
+abbrev pub whole_matched : (ℕ → List PlainItem → Result Line Fault) → List PlainItem → Result (List Tree) Fault
+whole_matched row items = row 0 items >>= λ line. nothing_left items line.row line.rest
+
+abbrev pub list_matched : (position : ℕ) → PlainItem → (Mark → List PlainItem → Result Tree Fault) → Result Tree Fault
+list_matched position (Braced items mark) given = given mark (list_of items)
+list_matched position (Number term mark) given = Err (wrong_kind position mark)
+list_matched position (Text parts mark) given = Err (wrong_kind position mark)
+list_matched position (Named name items mark) given = Err (wrong_kind position mark)
+
+abbrev pub named_matched : (position : ℕ) → PlainItem → (Mark → List ℕ → List PlainItem → Result Tree Fault) → Result Tree Fault
+named_matched position (Named name items mark) given = given mark name (list_of items)
+named_matched position (Number term mark) given = Err (wrong_kind position mark)
+named_matched position (Text parts mark) given = Err (wrong_kind position mark)
+named_matched position (Braced items mark) given = Err (wrong_kind position mark)
+
+abbrev pub choice : Word → List Tree → Result Tree Fault
+choice name line = Ok (trees.Choice name line)
+
+abbrev mutual
+  pub item_for : Facts → PlainField → (position : ℕ) → PlainItem → Result Tree Fault
+  item_for known (fields.Number number) position item = number_for known position number item >>= λ n. Ok (trees.Number n)
+  item_for known (fields.Text text) position item = text_for known position text item >>= λ bytes. Ok (trees.Text bytes)
+  item_for known (fields.Points points) position item = group_for known position points.rect item >>= λ numbers. Ok (trees.Group numbers)
+  item_for known (fields.Fill unit count) position item = Err (wrong_kind position (mark_of item))
+  item_for known (fields.Align unit) position item = Err (wrong_kind position (mark_of item))
+  item_for known (fields.Array name count row) position item =
+      list_matched position item (λ place items. rows_matched (row_matched known row place items) (length items) 0 items >>= counted place count)
+  item_for known (fields.Switch cases) position item = named_matched position item (case_matched known cases)
+
+  pub case_matched : Facts → PlainCases → Mark → List ℕ → List PlainItem → Result Tree Fault
+  case_matched known fields.no_cases mark name items = Err (no_case mark name)
+  case_matched known (fields.case_and own row others) mark name items =
+      if str_eq_ignore_ascii_case own.bytes name then whole_matched (row_matched known row mark items) items >>= choice own
+      else case_matched known others mark name items
+
+  -- a row of the items of a list at this place, so many of which are before it
+  pub row_matched : Facts → PlainBody → Mark → List PlainItem → ℕ → List PlainItem → Result Line Fault
+  row_matched known fields.no_fields place all before items = Ok (record { row = []; before = before; rest = items })
+  row_matched known (fields.field_and field others) place all before items =
+      next_matched (takes_value field) (item_for known field) (row_matched known others place all) place all before items
 
 -- the row of the items of a statement at this place
-abbrev pub matched : Facts → Mark → List PlainField → List PlainItem → Result (List Tree) Fault
-matched known place body items = matched_all (item_for known) place items 0 (filter takes_value body) items
+abbrev pub matched : Facts → Mark → PlainBody → List PlainItem → Result (List Tree) Fault
+matched known place body items = whole_matched (row_matched known body place items) items

@@ -1,20 +1,22 @@
 -- Why items don't fit the fields of a type: the first fault from left to right. (MPW Rez.)
-use Rattle.std.specs.Prelude.{◌≡◌, ◌⊎◌, ℕ, ◌+◌, ℤ, pos, Bool, true, false, List, [], ◌∷◌, ◌++◌, length, filter, replicate, Some, None, Ok, Err}
+use Rattle.std.specs.Prelude.{◌≡◌, ◌≢◌, ◌⊎◌, ℕ, ◌+◌, ℤ, pos, Bool, true, false, List, [], ◌∷◌, ◌++◌, length, replicate, Option, Some, None, Ok, Err}
+use Rattle.std.specs.Str.{str_eq_ignore_ascii_case}
 use Rattle.rz_core.specs.declared.facts.Facts.{Facts}
 use Rattle.rz_core.specs.declared.fault.Fault.{Fault}
 use Rattle.rz_core.specs.declared.fault.Kept.TheVariants as kept
 use Rattle.rz_core.specs.declared.fault.Mark.{Mark}
 use Rattle.rz_expr.specs.Term.{Term}
 use Rattle.rz_items.specs.Item.{Braced, Named, Number, PlainItem, Text}
-use Rattle.rz_match.specs.Fits.{exceeds, is_char, list_of, FitAll, IsItemOf, IsNumberOf}
-use Rattle.rz_types.specs.Field.{PlainField, PlainNumber, PlainText}
+use Rattle.rz_match.specs.Fits.{exceeds, is_char, list_of, FitAll, Fits, IsItemOf, IsNumberOf, RowsFit}
+use Rattle.rz_types.specs.Field.{PlainBody, PlainCases, PlainField, PlainNumber, PlainText}
 use Rattle.rz_types.specs.Field as fields
 use Rattle.rz_types.specs.Range.{fits_number}
-use Rattle.rz_types.specs.Row.{takes_value}
+use Rattle.rz_types.specs.Row.{takes_value, By}
 use Rattle.rz_types.specs.Shape.{numbers_of}
 use Rattle.rz_types.specs.Spells.{integer}
 use Rattle.rz_types.specs.Text.{bytes_of, PlainPart}
 use Rattle.rz_types.specs.Value.{symbol_number_of}
+use Rattle.rz_types.specs.declared.tree.Tree.{Tree}
 
 -- Faults.
 
@@ -48,7 +50,15 @@ too_many item items = keeps 209 (mark_of item) (pos (length items))
 abbrev pub too_long : Mark → List ℕ → Fault
 too_long mark bytes = keeps 216 mark (pos (length bytes))
 
--- Lists.
+-- no case of this name: 210 keeps it
+abbrev pub no_case : Mark → List ℕ → Fault
+no_case mark name = record { number = 210; mark = Some mark; kept = kept.Name name }
+
+-- another number of rows than is stated: 217 at the list, which keeps both
+abbrev pub other_count : Mark → ℤ → ℕ → Fault
+other_count place stated given = record { number = 217; mark = Some place; kept = kept.Pair stated (pos given) }
+
+-- Lists of one kind.
 
 -- what is wrong behind the fields and items that fit: the next item has this fault, or there is none for the next field, or
 -- there is no field for it
@@ -113,14 +123,75 @@ IsGroupFault known position rect (Braced items mark) fault =
     UnfitAll (IsNumberOf known) (IsNumberFault known) mark (replicate (numbers_of rect) (integer None)) (list_of items) fault
 IsGroupFault known position rect item fault = fault ≡ wrong_kind position (mark_of item)
 
--- the fault of an item for a field; a `fill` and an `align` take no item
-abbrev pub IsItemFault : Facts → (position : ℕ) → PlainField → PlainItem → Fault → Type 0
-IsItemFault known position (fields.Number number) item fault = IsNumberFault known position number item fault
-IsItemFault known position (fields.Text text) item fault = IsTextFault known position text item fault
-IsItemFault known position (fields.Points points) item fault = IsGroupFault known position points.rect item fault
-IsItemFault known position (fields.Fill unit count) item fault = fault ≡ wrong_kind position (mark_of item)
-IsItemFault known position (fields.Align unit) item fault = fault ≡ wrong_kind position (mark_of item)
+-- Rows.
+
+-- the next item has this fault, or it fits and those behind it have the fault; or there is none for the field
+abbrev pub NextUnfit : Bool → (PlainItem → Tree → Type 0) → (ℕ → PlainItem → Fault → Type 0) → (ℕ → List PlainItem → Fault → Type 0) → Mark → List PlainItem
+    → ℕ → List PlainItem → Fault → Type 0
+NextUnfit true IsOne IsFaultOf Others place all before [] fault = fault ≡ too_few place all
+NextUnfit true IsOne IsFaultOf Others place all before (item ∷ rest) fault =
+    IsFaultOf (before + 1) item fault ⊎ ((value : Tree) × IsOne item value × Others (before + 1) rest fault)
+NextUnfit false IsOne IsFaultOf Others place all before items fault = Others before items fault
+
+-- another number of rows than is stated
+abbrev pub IsOtherCount : Mark → Option ℤ → ℕ → Fault → Type 0
+IsOtherCount place None given fault = ⊥
+IsOtherCount place (Some stated) given fault = (stated ≢ pos given) × (fault ≡ other_count place stated given)
+
+-- some rows fit, and the items behind them are none; or they all fit, and are others than stated
+abbrev pub RowsUnfit : (List PlainItem → List Tree → Type 0) → (ℕ → List PlainItem → Fault → Type 0) → Mark → Option ℤ → List PlainItem → Fault → Type 0
+RowsUnfit IsRow RowUnfit place count items fault =
+    ((front : List PlainItem) × (item : PlainItem) × (rest : List PlainItem) × (rows : List (List Tree)) × (items ≡ front ++ item ∷ rest) × RowsFit IsRow front rows
+    × RowUnfit (length front) (item ∷ rest) fault)
+    ⊎ ((rows : List (List Tree)) × RowsFit IsRow items rows × IsOtherCount place count (length rows) fault)
+
+-- the items of a list are no row, or they are one and an item stands behind them
+abbrev pub WholeUnfit : (List PlainItem → List Tree → Type 0) → (ℕ → List PlainItem → Fault → Type 0) → List PlainItem → Fault → Type 0
+WholeUnfit IsRow RowUnfit items fault =
+    RowUnfit 0 items fault
+    ⊎ ((front : List PlainItem) × (item : PlainItem) × (rest : List PlainItem) × (row : List Tree) × (items ≡ front ++ item ∷ rest) × IsRow front row
+    × (fault ≡ too_many item items))
+
+-- an item that is no list, or whose list has the fault
+abbrev pub ListFault : (position : ℕ) → PlainItem → (Mark → List PlainItem → Fault → Type 0) → Fault → Type 0
+ListFault position (Braced items mark) IsSo fault = IsSo mark (list_of items) fault
+ListFault position (Number term mark) IsSo fault = fault ≡ wrong_kind position mark
+ListFault position (Text parts mark) IsSo fault = fault ≡ wrong_kind position mark
+ListFault position (Named name items mark) IsSo fault = fault ≡ wrong_kind position mark
+
+abbrev pub NamedFault : (position : ℕ) → PlainItem → (Mark → List ℕ → List PlainItem → Fault → Type 0) → Fault → Type 0
+NamedFault position (Named name items mark) IsSo fault = IsSo mark name (list_of items) fault
+NamedFault position (Number term mark) IsSo fault = fault ≡ wrong_kind position mark
+NamedFault position (Text parts mark) IsSo fault = fault ≡ wrong_kind position mark
+NamedFault position (Braced items mark) IsSo fault = fault ≡ wrong_kind position mark
+
+-- Fields.
+
+abbrev mutual
+  -- the fault of an item for a field; a `fill` and an `align` take no item
+  pub IsItemFault : Facts → PlainField → (position : ℕ) → PlainItem → Fault → Type 0
+  IsItemFault known (fields.Number number) position item fault = IsNumberFault known position number item fault
+  IsItemFault known (fields.Text text) position item fault = IsTextFault known position text item fault
+  IsItemFault known (fields.Points points) position item fault = IsGroupFault known position points.rect item fault
+  IsItemFault known (fields.Fill unit count) position item fault = fault ≡ wrong_kind position (mark_of item)
+  IsItemFault known (fields.Align unit) position item fault = fault ≡ wrong_kind position (mark_of item)
+  IsItemFault known (fields.Array name count row) position item fault =
+      ListFault position item (λ place items. RowsUnfit (Fits known row) (RowUnfit known row place items) place count items) fault
+  IsItemFault known (fields.Switch cases) position item fault = NamedFault position item (λ mark name items. IsCaseFault known cases mark name items) fault
+
+  -- no case of this name, or its items are no row of it
+  pub IsCaseFault : Facts → PlainCases → Mark → List ℕ → List PlainItem → Fault → Type 0
+  IsCaseFault known fields.no_cases mark name items fault = fault ≡ no_case mark name
+  IsCaseFault known (fields.case_and own row others) mark name items fault =
+      By (str_eq_ignore_ascii_case own.bytes name) (WholeUnfit (Fits known row) (RowUnfit known row mark items) items fault) (IsCaseFault known others mark name items fault)
+
+  -- the first fault of the items for the fields of a row: they stand in a list of all these items at this place, so many of
+  -- which are before them
+  pub RowUnfit : Facts → PlainBody → Mark → List PlainItem → (before : ℕ) → List PlainItem → Fault → Type 0
+  RowUnfit known fields.no_fields place all before items fault = ⊥
+  RowUnfit known (fields.field_and field others) place all before items fault =
+      NextUnfit (takes_value field) (IsItemOf known field) (IsItemFault known field) (RowUnfit known others place all) place all before items fault
 
 -- the first fault of the items of a statement at this place
-abbrev pub Unfit : Facts → Mark → List PlainField → List PlainItem → Fault → Type 0
-Unfit known place body items fault = UnfitAll (IsItemOf known) (IsItemFault known) place (filter takes_value body) items fault
+abbrev pub Unfit : Facts → Mark → PlainBody → List PlainItem → Fault → Type 0
+Unfit known place body items fault = WholeUnfit (Fits known body) (RowUnfit known body place items) items fault

@@ -1,10 +1,11 @@
-ghost use Rattle.std.specs.Prelude.{◌≡◌, ◌<◌, ◌^◌};
+ghost use Rattle.std.specs.Prelude.{◌≡◌, ◌<◌, ◌^◌, IfOk};
 ghost use Rattle.rz_core.specs.declared.stop.Stop.TheVariants.{Refused};
 ghost use Rattle.rz_items.specs.Item.{plain_item, plain_items};
-ghost use Rattle.rz_match.specs.Unfit.{keeps, mark_of, out_of_range, too_few, too_long, too_many, wrong_kind};
+ghost use Rattle.rz_match.specs.Unfit.{keeps, mark_of, no_case, other_count, out_of_range, too_few, too_long, too_many, wrong_kind};
 
-use rz_core::{Fault, Kept, Mark, Stop};
+use rz_core::{Fault, Kept, Mark, NoMemory, Stop, Word};
 use rz_items::Item;
+use std::alloc::Global;
 
 /// The place of an item's first token.
 pub(crate) fn mark_of(item: &Item) -> Mark
@@ -45,6 +46,29 @@ pub(crate) fn too_many(item: &Item, items: &[Item]) -> Stop<Fault>
     ensures { result ≡ Refused (too_many (plain_item item.now) (plain_items items.now)) }
 {
     Stop::Refused(keeps(209, mark_of(item), items.len() as i64))
+}
+
+/// No case of this name.
+pub(crate) fn no_case(alloc: Global, mark: Mark, name: &Word) -> Result<Fault, NoMemory>
+    ensures { IfOk result (λ fault. fault ≡ no_case mark name.now.bytes) }
+{
+    Ok(Fault {
+        number: 210,
+        mark: Some(mark),
+        kept: Kept::Name(name.copy(alloc)?.bytes),
+    })
+}
+
+/// So many rows, where another number is stated.
+pub(crate) fn other_count(place: Mark, stated: i32, given: u64) -> Fault
+    requires { given < 2 ^ 63 }
+    ensures { result ≡ other_count place stated given }
+{
+    Fault {
+        number: 217,
+        mark: Some(place),
+        kept: Kept::Pair(i64::from(stated), given as i64),
+    }
 }
 
 /// A text of too many bytes.

@@ -1,21 +1,9 @@
-use Rattle.std.proofs.Common.{◌≡◌, List, [], ◌∷◌, refl, sym, ap, subst, ◌∙◌}
+use Rattle.std.proofs.Common.{List, ap, sym, subst, ◌∙◌}
 use Rattle.rz_core.specs.Stop.{Gives}
-use Rattle.rz_core.specs.declared.fault.Mark.{Mark}
-use Rattle.rz_items.specs.Item.{items_of, plain_item, plain_items, Braced, PlainItem}
-use Rattle.rz_items.specs.declared.item.Item.{Item}
-use Rattle.rz_items.specs.declared.item.Item.TheFolds.{fold-roll-Item}
-use Rattle.rz_items.specs.declared.item.Item.TheOpen.{Item-F}
-use Rattle.rz_items.specs.declared.item.Item.TheVariants as variants
-use Rattle.rz_match.specs.Fits.{list_of}
+use Rattle.rz_items.specs.Item.{plain_item, plain_items, PlainItem}
 use Rattle.rz_match.specs.Matched.{group_for, numbers_for}
+use Rattle.rz_match.proofs.Given.{braced, listed}
 use Rattle.rz_match.proofs.group.group_for.Goals as goal
-
-listed : (items : List PlainItem) → list_of (items_of items) ≡ items
-listed [] = refl
-listed (item ∷ items) = ap (λ (rest : List PlainItem). item ∷ rest) (listed items)
-
-braced : (items : List Item) (mark : Mark) → plain_item (variants.List items mark) ≡ Braced (items_of (plain_items items)) mark
-braced items mark = ap plain_item (sym (variants.rolls-List items mark)) ∙ fold-roll-Item PlainItem _ (Item-F.List items mark)
 
 pub returns-in-List : goal.returns-in-List
 returns-in-List c =
