@@ -11,25 +11,27 @@ use Rattle.rz_layout.specs.Compiled.{is_compile_fault, IsCompiled, MeetsLaid}
 use Rattle.rz_layout.specs.Fault.{refusal_of}
 use Rattle.rz_layout.specs.Laid.{GivesLaid}
 use Rattle.rz_layout.specs.declared.fault.LayFault.{LayFault}
-use Rattle.rz_types.specs.Field.{PlainField}
+use Rattle.rz_types.specs.Field.{PlainBody}
+use Rattle.rz_types.specs.Kept.{IsKept}
 use Rattle.rz_types.specs.Laid.{laid, Refusal}
 use Rattle.rz_types.specs.Row.{IsRow}
 use Rattle.rz_types.specs.declared.tree.Tree.{Tree}
-use Rattle.rz_layout.proofs.Law.{complete, sound}
+use Rattle.rz_layout.proofs.Complete.{complete}
+use Rattle.rz_layout.proofs.Sound.{sound}
 use Rattle.rz_layout.proofs.Numbers.{Known}
 
 module _ (read : (bytes : List ℕ) → ((k : ℕ) → slice_index bytes k < 256) → bytes_of (bits_of bytes) ≡ bytes)
     (written : (bits : List Bool) → length bits % 8 ≡ 0 → bits_of (bytes_of bits) ≡ bits) (multiple : (unit : ℕ) (bits : List Bool) → 0 < unit → length (filled unit bits) % unit ≡ 0)
     (small : (bits : List Bool) (k : ℕ) → slice_index (bytes_of bits) k < 256)
-    (known : Facts) (body : List PlainField) (row : List Tree) where
+    (known : Facts) (body : PlainBody) (row : List Tree) where
   -- an answer is what is laid
   pub answer_is : (answer : Result (List ℕ) Refusal) → IsCompiled known body row answer → laid known body row ≡ answer
   answer_is (Ok bytes) it = complete read known body row bytes it
   answer_is (Err fault) it = it.1
 
-  module _ (are : IsRow body row) where
+  module _ (kept : IsKept body) (are : IsRow body row) where
     pub laid_is : (answer : Result (List ℕ) Refusal) → laid known body row ≡ answer → IsCompiled known body row answer
-    laid_is (Ok bytes) is = sound written multiple small known body row bytes are is
+    laid_is (Ok bytes) is = sound written multiple small known body kept row bytes are is
     laid_is (Err fault) is = (are, is)
 
     pub one_answer : (answer : Result (List ℕ) Refusal) × IsCompiled known body row answer

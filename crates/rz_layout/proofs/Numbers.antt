@@ -2,10 +2,13 @@
 use Rattle.std.proofs.Common.{◌≡◌, ℕ, zero, suc, ◌+◌, ◌==◌, ◌&&◌, ℤ, pos, Bool, true, false, List, [], ◌∷◌, ◌++◌, length, Option, Some, None, Result, Ok, Err, refl}
 use Rattle.std.specs.Prelude.{if◌then◌else◌, map, nat_lt, nat_abs, replicate}
 use Rattle.std.specs.List.{list_all, AllByRecursion}
+use Rattle.std.specs.Option.{option_to_list}
 use Rattle.rz_core.proofs.Tests.{both}
-use Rattle.rz_core.specs.Lists.{or_else, unless_fault}
+use Rattle.rz_core.specs.Lists.{first_of, or_else, unless_fault}
 use Rattle.rz_core.specs.Stop.{◌>>=◌}
 use Rattle.rz_core.specs.declared.facts.Facts.{Facts}
+use Rattle.rz_core.specs.declared.resource.Word.{Word}
+use Rattle.rz_expr.specs.Environment.{Environment}
 use Rattle.rz_expr.specs.Term.{Term}
 use Rattle.rz_expr.specs.Value.{value_of}
 use Rattle.rz_expr.specs.declared.value.EvalFault.{EvalFault}
@@ -13,69 +16,82 @@ use Rattle.rz_expr.specs.declared.value.EvalFault.TheVariants.{BadShift, DataWid
 use Rattle.rz_bits.specs.Bits.{bytes_of, number_bits}
 use Rattle.rz_bits.specs.BitBuf.{filled}
 use Rattle.rz_layout.specs.Compiled.{is_compile_fault}
-use Rattle.rz_types.specs.Field.{Align, Fill, Number, PlainField, Points, Text}
-use Rattle.rz_types.specs.Laid.{bad_length, bad_size, body_laid, bytes_given, bytes_laid, field_laid, first_value, in_order, laid, lay, nothing_laid, number_given, one_more, other_values, piece_laid, refusal, size_in, takes_one, text_refusal, too_long, unless, valued, value_in, with_bits, Draft, Refusal}
+use Rattle.rz_types.specs.Field.{case_and, field_and, no_cases, no_fields, Align, Array, Fill, Number, PlainBody, PlainCases, PlainField, PlainNumber, Points, Switch, Text}
+use Rattle.rz_types.specs.Kept.{AreCasesKept, AreKept, IsKept, IsKeptWithin}
+use Rattle.rz_types.specs.Laid.{bad_length, bad_size, body_laid, bytes_given, bytes_laid, case_laid, counted, field_laid, first_value, in_order, laid, lay, line_in, nothing_laid, number_given, one_more, other_values, piece_laid, refusal, rows_in, rows_laid, size_in, takes_one, text_refusal, too_long, unless, valued, value_in, with_bits, Draft, Refusal}
+use Rattle.rz_types.specs.Names.{GivesCounts, GivesPredefined}
 use Rattle.rz_types.specs.Range.{fits_number, may_be_size}
 use Rattle.rz_types.specs.Row.{takes_value}
-use Rattle.rz_types.specs.Shape.{are_fixed_points, is_empty, is_fixed_number, is_fixed_text, is_key_shaped, is_none_or, is_own_width, is_shaped, is_symbol_of, is_well_shaped, numbers_of}
-use Rattle.rz_types.specs.Spells.{fixed_integer, free_integer, integers, most_bits, pieces_of, values_for, Filler, OneNumber, OneText, Piece, Zeros}
+use Rattle.rz_types.specs.Rules.{terms_in, unknown_array, unknown_in}
+use Rattle.rz_types.specs.Shape.{are_cases_shaped, are_fixed_points, are_shaped, is_empty, is_fixed_number, is_fixed_text, is_key_shaped, is_none_or, is_number_shaped, is_own_name, is_own_width, is_shaped, is_symbol_of, is_well_shaped, numbers_of}
+use Rattle.rz_types.specs.Spells.{fixed_integer, free_integer, integers, is_case, most_bits, outside, pieces_of, values_for, Filler, OneNumber, OneText, Piece, Zeros}
 use Rattle.rz_types.specs.Stored.{stored_number}
 use Rattle.rz_types.specs.Text.{PlainPart}
-use Rattle.rz_types.specs.Value.{field_sight, is_field_expression, IsArithmetic}
+use Rattle.rz_types.specs.Value.{is_field_expression, is_fixed_expression, names_sight, IsArithmetic}
+use Rattle.rz_types.specs.Walk.{names_of}
 use Rattle.rz_types.specs.declared.field.NumForm.{NumForm}
 use Rattle.rz_types.specs.declared.field.Symbol.{Symbol}
 use Rattle.rz_types.specs.declared.field.TextForm.{TextForm}
 use Rattle.rz_types.specs.declared.tree.Tree.{Tree}
+use Rattle.rz_layout.proofs.Own.{gives_counts, gives_names, outside_counts, outside_gives}
 
-abbrev pub IsField : Option Term → Type 0
-IsField None = Unit {0}
-IsField (Some term) = is_field_expression term ≡ true
+-- an expression that has a value where these arrays are counted
+abbrev pub IsFixed : List Word → Term → Type 0
+IsFixed scope term = (is_fixed_expression term ≡ true) × (unknown_array scope term ≡ None)
 
-abbrev pub HasFields : Piece → Type 0
-HasFields (OneNumber number) = IsField number.fixed
-HasFields (OneText text) = IsField text.size
-HasFields (Zeros count) = Unit {0}
-HasFields (Filler unit) = Unit {0}
+abbrev pub IsFixedOr : List Word → Option Term → Type 0
+IsFixedOr scope None = Unit {0}
+IsFixedOr scope (Some term) = IsFixed scope term
+
+abbrev pub IsSizeOr : Option Term → Type 0
+IsSizeOr None = Unit {0}
+IsSizeOr (Some term) = is_field_expression term ≡ true
+
+abbrev pub HasTerms : List Word → Piece → Type 0
+HasTerms scope (OneNumber number) = IsFixedOr scope number.fixed
+HasTerms scope (OneText text) = IsSizeOr text.size
+HasTerms scope (Zeros count) = Unit {0}
+HasTerms scope (Filler unit) = Unit {0}
 
 -- The pieces of a field that has the shape of one.
 
-field_term : (symbols : List Symbol) (fixed : Option Term) → is_fixed_number symbols fixed ≡ true → IsField fixed
-field_term symbols None is = tt
-field_term symbols (Some term) is = (both (is_field_expression term) (is_empty symbols) is).0
+no_first : {A : Type 0} (one : Option A) (later : Option A) → or_else one later ≡ None → (one ≡ None) × (later ≡ None)
+no_first None later is = (refl, is)
+no_first (Some x) later is = absurd cc
 
-size_term : (size : Option Term) → is_none_or is_field_expression size ≡ true → IsField size
+fixed_term : (scope : List Word) (symbols : List Symbol) (fixed : Option Term) → is_fixed_number symbols fixed ≡ true → first_of (map (unknown_array scope) (option_to_list fixed)) ≡ None
+    → IsFixedOr scope fixed
+fixed_term scope symbols None is known = tt
+fixed_term scope symbols (Some term) is known =
+    ((both (is_fixed_expression term) (is_empty symbols) is).0, (no_first (unknown_array scope term) None known).0)
+
+size_term : (size : Option Term) → is_none_or is_field_expression size ≡ true → IsSizeOr size
 size_term None is = tt
 size_term (Some term) is = is
 
-free_pieces : (count : ℕ) → AllByRecursion HasFields (replicate count free_integer)
-free_pieces zero = tt
-free_pieces (suc count) = (tt, free_pieces count)
+free_pieces : (scope : List Word) (count : ℕ) → AllByRecursion (HasTerms scope) (replicate count free_integer)
+free_pieces scope zero = tt
+free_pieces scope (suc count) = (tt, free_pieces scope count)
 
-fixed_pieces : (terms : List Term) → list_all is_field_expression terms ≡ true → AllByRecursion HasFields (map fixed_integer terms)
-fixed_pieces [] is = tt
-fixed_pieces (term ∷ terms) is = let each = both (is_field_expression term) (list_all is_field_expression terms) is in (each.0, fixed_pieces terms each.1)
+fixed_pieces : (scope : List Word) (terms : List Term) → list_all is_fixed_expression terms ≡ true → first_of (map (unknown_array scope) terms) ≡ None
+    → AllByRecursion (HasTerms scope) (map fixed_integer terms)
+fixed_pieces scope [] is known = tt
+fixed_pieces scope (term ∷ terms) is known =
+    let each = both (is_fixed_expression term) (list_all is_fixed_expression terms) is in
+    let none = no_first (unknown_array scope term) (first_of (map (unknown_array scope) terms)) known in
+    ((each.0, none.0), fixed_pieces scope terms each.1 none.1)
 
-point_pieces : (rect : Bool) (fixed : Option (List Term)) → is_none_or (are_fixed_points rect) fixed ≡ true → AllByRecursion HasFields (integers rect fixed)
-point_pieces rect None is = free_pieces (numbers_of rect)
-point_pieces rect (Some terms) is = fixed_pieces terms (both (length terms == numbers_of rect) (list_all is_field_expression terms) is).1
+point_pieces : (scope : List Word) (rect : Bool) (fixed : Option (List Term)) → is_none_or (are_fixed_points rect) fixed ≡ true → first_of (map (unknown_array scope) (terms_in fixed)) ≡ None
+    → AllByRecursion (HasTerms scope) (integers rect fixed)
+point_pieces scope rect None is known = free_pieces scope (numbers_of rect)
+point_pieces scope rect (Some terms) is known = fixed_pieces scope terms (both (length terms == numbers_of rect) (list_all is_fixed_expression terms) is).1 known
 
-abbrev pub FieldFields : PlainField → Type 0
-FieldFields field = AllByRecursion HasFields (pieces_of field)
-
-field_fields : (field : PlainField) → is_shaped false 0 field ≡ true → FieldFields field
-field_fields (Number number) is =
+number_term : (scope : List Word) (in_case : Bool) (number : PlainNumber) → is_number_shaped in_case number ≡ true → first_of (map (unknown_array scope) (option_to_list number.fixed)) ≡ None
+    → IsFixedOr scope number.fixed
+number_term scope in_case number is known =
     let front : Bool = is_own_width number.form number.width && list_all (is_symbol_of number.form number.width) number.symbols in
-    let one = both (front && is_fixed_number number.symbols number.fixed) (if number.key then is_key_shaped false number else true) is in
-    (field_term number.symbols number.fixed (both front (is_fixed_number number.symbols number.fixed) one.0).1, tt)
-field_fields (Text text) is = (size_term text.size (both (is_none_or is_field_expression text.size) (is_none_or is_fixed_text text.fixed) is).0, tt)
-field_fields (Points points) is = point_pieces points.rect points.fixed is
-field_fields (Fill unit count) is = (tt, tt)
-field_fields (Align unit) is = (tt, tt)
-
-pub body_fields : (body : List PlainField) → is_well_shaped body ≡ true → AllByRecursion FieldFields body
-body_fields [] is = tt
-body_fields (field ∷ fields) is =
-    let each = both (is_shaped false 0 field) (list_all (is_shaped false 0) fields) is in (field_fields field each.0, body_fields fields each.1)
+    let one = both (front && is_fixed_number number.symbols number.fixed) (if number.key then is_key_shaped in_case number else true) is in
+    fixed_term scope number.symbols number.fixed (both front (is_fixed_number number.symbols number.fixed) one.0).1 known
 
 -- a refusal, where there is one, is such a fault
 abbrev pub Known : {X : Type 0} → Result X Refusal → Type 0
@@ -102,7 +118,11 @@ or_known : (one other : Option Refusal) → KnownFault one → KnownFault other 
 or_known None other is also = also
 or_known (Some fault) other is also = is
 
-module _ (arithmetic : (known : Facts) (term : Term) → is_field_expression term ≡ true → IsArithmetic (value_of term (field_sight known []))) (known : Facts) where
+-- With the values of expressions, where `true` and `false` have values, and each array of a scope is counted.
+module _ (sizes : (known : Facts) (names : Environment) (term : Term) → GivesPredefined names → is_field_expression term ≡ true → IsArithmetic (value_of term (names_sight known names)))
+    (values : (known : Facts) (names : Environment) (scope : List Word) (term : Term) → GivesPredefined names → GivesCounts scope names
+    → is_fixed_expression term ≡ true → unknown_array scope term ≡ None → IsArithmetic (value_of term (names_sight known names)))
+    (known : Facts) where
   valued_known : (piece : ℕ) (found : Result ℤ EvalFault) → IsArithmetic found → Known (valued piece found)
   valued_known piece (Ok value) is = tt
   valued_known piece (Err ZeroDivisor) is = refl
@@ -111,18 +131,20 @@ module _ (arithmetic : (known : Facts) (term : Term) → is_field_expression ter
   valued_known piece (Err (LaterData first end)) is = absurd is
   valued_known piece (Err (DataWidth width)) is = absurd is
 
-  value_known : (piece : ℕ) (term : Term) → is_field_expression term ≡ true → Known (value_in piece known term)
-  value_known piece term is = valued_known piece (value_of term (field_sight known [])) (arithmetic known term is)
+  module _ (scope : List Word) (names : Environment) (gives : GivesPredefined names) (counts : GivesCounts scope names) where
+    fixed_known : (piece : ℕ) (term : Term) → IsFixed scope term → Known (value_in piece known names term)
+    fixed_known piece term is = valued_known piece (value_of term (names_sight known names)) (values known names scope term gives counts is.0 is.1)
 
-  number_known : (piece : ℕ) (form : NumForm) (width : ℤ) (fixed : Option Term) → IsField fixed → (value : Option Tree) → Known (number_given piece known form width fixed value)
-  number_known piece form width None is value = tt
-  number_known piece form width (Some term) is value =
-      then_known (value_in piece known term) _ (value_known piece term is)
-      (λ v. unless_known (unless (fits_number form width v) (refusal 207 piece v)) (stored_number (nat_abs width) v) (test_known (fits_number form width v) (refusal 207 piece v) refl))
+    number_known : (piece : ℕ) (form : NumForm) (width : ℤ) (fixed : Option Term) → IsFixedOr scope fixed → (value : Option Tree) → Known (number_given piece known names form width fixed value)
+    number_known piece form width None is value = tt
+    number_known piece form width (Some term) is value =
+        then_known (value_in piece known names term) _ (fixed_known piece term is)
+        (λ v. unless_known (unless (fits_number form width v) (refusal 207 piece v)) (stored_number (nat_abs width) v) (test_known (fits_number form width v) (refusal 207 piece v) refl))
 
-  size_known : (piece : ℕ) (size : Option Term) → IsField size → Known (size_in piece known size)
-  size_known piece None is = tt
-  size_known piece (Some term) is = then_known (value_in piece known term) (λ size. Ok (Some size)) (value_known piece term is) (λ v. tt)
+    size_known : (piece : ℕ) (size : Option Term) → IsSizeOr size → Known (size_in piece known names size)
+    size_known piece None is = tt
+    size_known piece (Some term) is =
+        then_known (value_in piece known names term) (λ size. Ok (Some size)) (valued_known piece (value_of term (names_sight known names)) (sizes known names term gives is)) (λ v. tt)
 
   bytes_known : (piece : ℕ) (fixed : Option (List PlainPart)) (value : Option Tree) → Known (bytes_given piece known fixed value)
   bytes_known piece None value = tt
@@ -138,16 +160,6 @@ module _ (arithmetic : (known : Facts) (term : Term) → is_field_expression ter
       (or_known (bad_size piece form size) (or_else (bad_length piece form size (length bytes)) None) (bad_size_known piece form size)
       (or_known (bad_length piece form size (length bytes)) None (test_known _ (refusal 216 piece (pos (length bytes))) refl) tt))
 
-  piece_known : (draft : Draft) (piece : Piece) → HasFields piece → (value : Option Tree) → Known (piece_laid known draft piece value)
-  piece_known draft (OneNumber number) is value =
-      then_known (number_given draft.piece known number.form number.width number.fixed value) (λ n. Ok (number_bits (nat_abs number.width) n))
-      (number_known draft.piece number.form number.width number.fixed is value) (λ n. tt)
-  piece_known draft (OneText text) is value =
-      then_known (size_in draft.piece known text.size) _ (size_known draft.piece text.size is)
-      (λ size. then_known (bytes_given draft.piece known text.fixed value) _ (bytes_known draft.piece text.fixed value) (λ bytes. laid_known draft.piece text.form size bytes))
-  piece_known draft (Zeros count) is value = tt
-  piece_known draft (Filler unit) is value = tt
-
   with_known : (draft : Draft) (bits : List Bool) → Known (with_bits draft bits)
   with_known draft bits = by (nat_lt most_bits (length draft.bits + length bits))
     where
@@ -155,20 +167,87 @@ module _ (arithmetic : (known : Facts) (term : Term) → is_field_expression ter
       by true = refl
       by false = tt
 
-  lay_known : (draft : Draft) (piece : Piece) → HasFields piece → (value : Option Tree) → Known (lay known draft piece value)
-  lay_known draft piece is value = then_known (piece_laid known draft piece value) (with_bits draft) (piece_known draft piece is value) (λ bits. with_known draft bits)
+  module _ (scope : List Word) (names : Environment) (gives : GivesPredefined names) (counts : GivesCounts scope names) where
+    piece_known : (draft : Draft) (piece : Piece) → HasTerms scope piece → (value : Option Tree) → Known (piece_laid known names draft piece value)
+    piece_known draft (OneNumber number) is value =
+        then_known (number_given draft.piece known names number.form number.width number.fixed value) (λ n. Ok (number_bits (nat_abs number.width) n))
+        (number_known scope names gives counts draft.piece number.form number.width number.fixed is value) (λ n. tt)
+    piece_known draft (OneText text) is value =
+        then_known (size_in draft.piece known names text.size) _ (size_known scope names gives counts draft.piece text.size is)
+        (λ size. then_known (bytes_given draft.piece known text.fixed value) _ (bytes_known draft.piece text.fixed value) (λ bytes. laid_known draft.piece text.form size bytes))
+    piece_known draft (Zeros count) is value = tt
+    piece_known draft (Filler unit) is value = tt
 
-  module _ {A : Type 0} (takes : A → Bool) (lay_one : Draft → A → Option Tree → Result Draft Refusal) (Good : A → Type 0)
-      (one : (draft : Draft) (x : A) → Good x → (value : Option Tree) → Known (lay_one draft x value)) where
-    order_known : (xs : List A) → AllByRecursion Good xs → (draft : Draft) (values : List Tree) → Known (in_order takes lay_one draft xs values)
-    order_known [] each draft values = tt
-    order_known (x ∷ xs) each draft values =
-        then_known (lay_one draft x (first_value (takes x) values)) _ (one draft x each.0 (first_value (takes x) values)) (λ next. order_known xs each.1 next (other_values (takes x) values))
+    lay_known : (draft : Draft) (piece : Piece) → HasTerms scope piece → (value : Option Tree) → Known (lay known names draft piece value)
+    lay_known draft piece is value = then_known (piece_laid known names draft piece value) (with_bits draft) (piece_known draft piece is value) (λ bits. with_known draft bits)
 
-  field_known : (draft : Draft) (field : PlainField) → FieldFields field → (value : Option Tree) → Known (field_laid known draft field value)
-  field_known draft field is value = order_known takes_one (lay known) HasFields lay_known (pieces_of field) is draft (values_for field value)
+    pieces_known : (pieces : List Piece) → AllByRecursion (HasTerms scope) pieces → (draft : Draft) (values : List Tree) → Known (in_order takes_one (lay known names) draft pieces values)
+    pieces_known [] each draft values = tt
+    pieces_known (piece ∷ pieces) each draft values =
+        then_known (lay known names draft piece (first_value (takes_one piece) values)) _ (lay_known draft piece each.0 (first_value (takes_one piece) values))
+        (λ next. pieces_known pieces each.1 next (other_values (takes_one piece) values))
 
-  pub row_known : (body : List PlainField) (row : List Tree) → is_well_shaped body ≡ true → Known (laid known body row)
-  row_known body row shaped =
-      then_known (body_laid known nothing_laid body row) (λ draft. Ok (bytes_of (filled 8 draft.bits)))
-      (order_known takes_value (field_laid known) FieldFields field_known body (body_fields body shaped) nothing_laid row) (λ draft. tt)
+  -- Fields, rows, cases and bodies.
+
+  abbrev BodyKnown : List Word → PlainBody → Type 0
+  BodyKnown scope body = (names : Environment) → GivesPredefined names → GivesCounts scope names → (draft : Draft) (values : List Tree) → Known (body_laid known names draft body values)
+
+  abbrev FieldKnown : List Word → PlainField → Type 0
+  FieldKnown scope field = (names : Environment) → GivesPredefined names → GivesCounts scope names → (draft : Draft) (value : Option Tree) → Known (field_laid known names draft field value)
+
+  abbrev CasesKnown : List Word → PlainCases → Type 0
+  CasesKnown scope cases = (names : Environment) → GivesPredefined names → GivesCounts scope names → (draft : Draft) (value : Option Tree) → Known (case_laid known names draft cases value)
+
+  inside_known : (scope : List Word) (row : PlainBody) → BodyKnown (scope ++ names_of row) row → (outer : Environment) → GivesPredefined outer → GivesCounts scope outer
+      → (draft : Draft) (line : List Tree) → Known (body_laid known (counted row line outer) draft row line)
+  inside_known scope row is outer gives counts draft line =
+      is (counted row line outer) (gives_names row line outer gives) (gives_counts scope row line outer counts) draft line
+
+  rows_known : (lay_row : Draft → List Tree → Result Draft Refusal) → ((draft : Draft) (line : List Tree) → Known (lay_row draft line)) → (draft : Draft) (rows : List (List Tree))
+      → Known (rows_laid lay_row draft rows)
+  rows_known lay_row each draft [] = tt
+  rows_known lay_row each draft (line ∷ rows) = then_known (lay_row draft line) _ (each draft line) (λ next. rows_known lay_row each next rows)
+
+  either_known : (test : Bool) (this other : Result Draft Refusal) → Known this → Known other → Known (if test then this else other)
+  either_known true this other one more = one
+  either_known false this other one more = more
+
+  mutual
+    field_known : (scope : List Word) (in_case : Bool) (field : PlainField) → is_shaped in_case field ≡ true → unknown_in scope field ≡ None → IsKeptWithin scope field → FieldKnown scope field
+    field_known scope in_case (Number number) is none kept names gives counts draft value =
+        pieces_known scope names gives counts (OneNumber number ∷ []) (number_term scope in_case number is none, tt) draft (option_to_list value)
+    field_known scope in_case (Text text) is none kept names gives counts draft value =
+        pieces_known scope names gives counts (OneText text ∷ []) (size_term text.size (both (is_none_or is_field_expression text.size) (is_none_or is_fixed_text text.fixed) is).0, tt) draft (option_to_list value)
+    field_known scope in_case (Points points) is none kept names gives counts draft value =
+        pieces_known scope names gives counts (integers points.rect points.fixed) (point_pieces scope points.rect points.fixed is none) draft (values_for (Points points) value)
+    field_known scope in_case (Fill unit count) is none kept names gives counts draft value =
+        pieces_known scope names gives counts (pieces_of (Fill unit count)) (tt, tt) draft (option_to_list value)
+    field_known scope in_case (Align unit) is none kept names gives counts draft value =
+        pieces_known scope names gives counts (pieces_of (Align unit)) (tt, tt) draft (option_to_list value)
+    field_known scope in_case (Array name count row) is none kept names gives counts draft value =
+        let each = both (is_none_or is_own_name name) (are_shaped false row) is in
+        rows_known (λ draft line. body_laid known (counted row line names) draft row line)
+        (inside_known scope row (body_known (scope ++ names_of row) false row each.1 kept.2) names gives counts) draft (rows_in value)
+    field_known scope in_case (Switch cases) is none kept names gives counts draft value = cases_known scope cases is kept.1 names gives counts draft value
+
+    cases_known : (scope : List Word) (cases : PlainCases) → are_cases_shaped cases ≡ true → AreCasesKept scope cases → CasesKnown scope cases
+    cases_known scope no_cases is kept names gives counts draft value = tt
+    cases_known scope (case_and name row others) is kept names gives counts draft value =
+        let all = both (is_own_name name) (are_shaped true row && are_cases_shaped others) is in
+        let each = both (are_shaped true row) (are_cases_shaped others) all.1 in
+        either_known (is_case name value) (body_laid known (counted row (line_in value) names) draft row (line_in value)) (case_laid known names draft others value)
+        (inside_known scope row (body_known (scope ++ names_of row) true row each.0 kept.1) names gives counts draft (line_in value))
+        (cases_known scope others each.1 kept.2 names gives counts draft value)
+
+    body_known : (scope : List Word) (in_case : Bool) (body : PlainBody) → are_shaped in_case body ≡ true → AreKept scope body → BodyKnown scope body
+    body_known scope in_case no_fields is kept names gives counts draft values = tt
+    body_known scope in_case (field_and field fields) is kept names gives counts draft values =
+        let each = both (is_shaped in_case field) (are_shaped in_case fields) is in
+        then_known (field_laid known names draft field (first_value (takes_value field) values)) _
+        (field_known scope in_case field each.0 kept.1 kept.2 names gives counts draft (first_value (takes_value field) values))
+        (λ next. body_known scope in_case fields each.1 kept.3 names gives counts next (other_values (takes_value field) values))
+
+  pub row_known : (body : PlainBody) (row : List Tree) → is_well_shaped body ≡ true → IsKept body → Known (laid known body row)
+  row_known body row shaped kept =
+      then_known (body_laid known (counted body row outside) nothing_laid body row) (λ draft. Ok (bytes_of (filled 8 draft.bits)))
+      (inside_known [] body (body_known (names_of body) false body shaped kept.1) outside outside_gives outside_counts nothing_laid row) (λ draft. tt)

@@ -1,101 +1,128 @@
--- The fields of a template one by one, and their values.
-use Rattle.std.proofs.Common.{◌≡◌, ℕ, ◌+◌, ◌<◌, ℤ, Bool, true, false, List, [], ◌∷◌, length, get_or, drop, map, Option, Some, None, Result, Ok, Err, refl, sym, ap, subst, ◌∙◌}
-use Rattle.std.specs.Prelude.{option_map}
-use Rattle.std.specs.List.{list_all}
+-- The fields of a template can be laid with the values of a row.
+use Rattle.std.proofs.Common.{◌≡◌, inl, inr, ℕ, zero, suc, ◌<◌, ℤ, pos, Bool, true, false, ◌&&◌, ◌==◌, List, [], ◌∷◌, ◌++◌, length, Option, Some, None, sym, ap, subst, ◌∙◌, arith}
+use Rattle.std.specs.Prelude.{if◌then◌else◌, not}
+use Rattle.std.specs.Ordering.{int_eq}
+use Rattle.std.proofs.lemmas.Bool.Decides.{nat_tests, Decides-int_eq}
+use Rattle.std.specs.List.{list_all, AllByRecursion}
 use Rattle.std.specs.Option.{is_none}
-use Rattle.std.proofs.lemmas.List.{drop_more}
-use Rattle.rz_core.proofs.Tests.{both}
-use Rattle.rz_core.specs.Lists.{first_of, or_else}
-use Rattle.rz_core.specs.Stop.{◌>>=◌}
-use Rattle.rz_core.specs.declared.facts.Facts.{Facts}
-use Rattle.rz_core.specs.declared.stop.Stop.{Stop}
-use Rattle.rz_core.specs.declared.stop.Stop.TheVariants.{NoMemory, Refused}
+use Rattle.std.specs.Str.{str_eq_ignore_ascii_case}
+use Rattle.rz_core.proofs.Tests.{both, true_false}
+use Rattle.rz_core.specs.declared.resource.Word.{Word}
 use Rattle.rz_expr.specs.Term.{Term}
-use Rattle.rz_layout.specs.Laid.{Lays}
-use Rattle.rz_layout.specs.Sound.{AreSound, HasValue, IsGroupBy, IsSound}
-use Rattle.rz_layout.specs.declared.fault.LayFault.{LayFault}
-use Rattle.rz_types.specs.Field.{Align, Fill, Number, PlainField, PlainPoints, Points, Text, plain_body, plain_field}
-use Rattle.rz_types.specs.Laid.{body_laid, field_laid, first_value, other_values, Draft, Refusal}
-use Rattle.rz_types.specs.Row.{takes_value, IsFieldOf, IsRow}
-use Rattle.rz_types.specs.Rules.{bad_width, broken, broken_at, keeps_rules, walked}
-use Rattle.rz_types.specs.Shape.{is_shaped, is_well_shaped, numbers_of}
-use Rattle.rz_types.specs.Spells.{group_in}
-use Rattle.rz_types.specs.declared.field.Field.{Field}
-use Rattle.rz_types.specs.declared.rules.TypeFault.{TypeFault}
+use Rattle.rz_layout.specs.Sound.{AreSound, IsCaseSound, IsGroupBy, IsSound, IsWidth}
+use Rattle.rz_types.specs.Field.{case_and, field_and, no_cases, no_fields, Align, Array, Fill, Number, PlainBody, PlainCases, PlainField, PlainNumber, PlainPoints, Points, Switch, Text}
+use Rattle.rz_types.specs.Kept.{AreCasesKept, AreKept, Differ, IsKept, IsKeptWithin}
+use Rattle.rz_types.specs.Laid.{first_value, line_in, other_values, rows_in}
+use Rattle.rz_types.specs.Range.{is_between}
+use Rattle.rz_types.specs.Row.{takes_value, IsChoice, IsRow, IsValue}
+use Rattle.rz_types.specs.Rules.{bad_width, case_names, may_be_width, unless}
+use Rattle.rz_types.specs.Shape.{are_cases_shaped, are_shaped, is_fixed_number, is_key_shaped, is_none_or, is_number_shaped, is_own_name, is_own_width, is_shaped, is_symbol_of, is_unit, is_well_shaped}
+use Rattle.rz_types.specs.Spells.{group_in, is_case}
+use Rattle.rz_types.specs.Walk.{names_of}
+use Rattle.rz_types.specs.declared.field.NumForm.{NumForm}
+use Rattle.rz_types.specs.declared.field.NumForm.TheVariants.{Bits, Boolean, Byte, Char, Integer, Longint}
 use Rattle.rz_types.specs.declared.tree.Tree.{Tree}
+use Rattle.rz_types.specs.declared.tree.Tree.TheVariants as trees
+use Rattle.rz_layout.proofs.Own.{other_name}
+use Rattle.rz_layout.proofs.Rows.{choice_differs, fronted, Takes}
+use Rattle.rz_layout.proofs.Trees.{choice_is, group_is, line_is, rows_are}
 
--- No field breaks a rule.
+-- Widths and units.
 
-first_none : (one later : Option TypeFault) → or_else one later ≡ None → (one ≡ None) × (later ≡ None)
-first_none None later is = (refl, is)
-first_none (Some fault) later is = absurd cc
+same_width : (width own : ℤ) → int_eq width own ≡ true → IsWidth own → IsWidth width
+same_width width own same is = subst IsWidth (sym ((Decides-int_eq width own).0 same)) is
 
-no_fault : (make : ℤ → TypeFault) (found : Option ℤ) → option_map make found ≡ None → found ≡ None
-no_fault make None is = refl
-no_fault make (Some value) is = absurd cc
+bits_width : (width : ℤ) → unless (is_between (pos 1) (pos 32) width) width ≡ None → IsWidth width
+bits_width width kept = grind (arith, nat_tests)
 
-are_sound : (body : List PlainField) (position : ℕ) → list_all (is_shaped false 0) body ≡ true → first_of (map broken_at (walked false 0 position body)) ≡ None → AreSound body
-are_sound [] position shaped kept = tt
-are_sound (field ∷ fields) position shaped kept =
-    let one = both (is_shaped false 0 field) (list_all (is_shaped false 0) fields) shaped in
-    let none = first_none (broken_at (record { position = position; in_case = false; depth = 0; field = field })) (first_of (map broken_at (walked false 0 (position + 1) fields))) kept in
-    (record { shaped = one.0; kept = no_fault _ (bad_width field) none.0 }, are_sound fields (position + 1) one.1 none.1)
+form_width : (form : NumForm) (width : ℤ) → is_own_width form width ≡ true → unless (may_be_width form width) width ≡ None → IsWidth width
+form_width Bits width own kept = bits_width width kept
+form_width Byte width own kept = same_width width (pos 8) own (omega arith, omega arith)
+form_width Integer width own kept = same_width width (pos 16) own (omega arith, omega arith)
+form_width Longint width own kept = same_width width (pos 32) own (omega arith, omega arith)
+form_width Boolean width own kept = same_width width (pos 1) own (omega arith, omega arith)
+form_width Char width own kept = same_width width (pos 8) own (omega arith, omega arith)
 
-none_is : {A : Type 0} (found : Option A) → is_none found ≡ true → found ≡ None
-none_is None is = refl
-none_is (Some x) is = absurd cc
+number_width : (in_case : Bool) (number : PlainNumber) → is_number_shaped in_case number ≡ true → unless (may_be_width number.form number.width) number.width ≡ None → IsWidth number.width
+number_width in_case number is kept =
+    let own : Bool = is_own_width number.form number.width in
+    let front : Bool = own && list_all (is_symbol_of number.form number.width) number.symbols in
+    let one = both (front && is_fixed_number number.symbols number.fixed) (if number.key then is_key_shaped in_case number else true) is in
+    let two = both front (is_fixed_number number.symbols number.fixed) one.0 in
+    form_width number.form number.width (both own (list_all (is_symbol_of number.form number.width) number.symbols) two.0).0 kept
 
-pub sound_body : (body : List PlainField) → is_well_shaped body ≡ true → keeps_rules body ≡ true → AreSound body
-sound_body body shaped kept = are_sound body 0 shaped (first_none _ _ (none_is (broken body) kept)).0
+unit_above : (unit : ℕ) → (is_unit unit && not (unit == 1)) ≡ true → 0 < unit
+unit_above zero is = absurd (true_false (sym is))
+unit_above (suc unit) is = omega arith
 
--- A field and its value.
+-- Values.
 
-has_group : (points : PlainPoints) (row rest : List Tree) (fixed : Option (List Term)) → IsFieldOf (is_none fixed) (Points points) row rest → IsGroupBy points.rect fixed (first_value (is_none fixed) row)
-has_group points row rest None it =
-    subst (λ (r : List Tree). length (group_in (first_value true r)) ≡ numbers_of points.rect) (sym it.2) (ap (λ (t : Tree). length (group_in (Some t))) it.1.1 ∙ it.1.2)
-has_group points row rest (Some terms) it = refl
+group_by : (points : PlainPoints) (fixed : Option (List Term)) (value : Option Tree) → Takes (is_none fixed) (IsValue (Points points)) value → IsGroupBy points.rect fixed value
+group_by points None value (v, (numbers, is, count, small), some) =
+    ap (λ (ns : List ℕ). length ns) (ap group_in (some ∙ ap (λ (t : Tree). Some t) is) ∙ group_is numbers) ∙ count
+group_by points (Some terms) value none = none
 
-pub has_value : (field : PlainField) (row rest : List Tree) → IsFieldOf (takes_value field) field row rest → HasValue field (first_value (takes_value field) row)
-has_value (Number number) row rest it = tt
-has_value (Text text) row rest it = tt
-has_value (Points points) row rest it = has_group points row rest points.fixed it
-has_value (Fill unit count) row rest it = tt
-has_value (Align unit) row rest it = tt
+all_rows : (P Q : List Tree → Type 0) → ((row : List Tree) → P row → Q row) → (rows : List (List Tree)) → AllByRecursion P rows → AllByRecursion Q rows
+all_rows P Q so [] all = tt
+all_rows P Q so (row ∷ rows) all = (so row all.0, all_rows P Q so rows all.1)
 
-pub others_behind : (takes : Bool) (field : PlainField) (row rest : List Tree) → IsFieldOf takes field row rest → other_values takes row ≡ rest
-others_behind true field row rest it = ap (other_values true) it.2
-others_behind false field row rest it = it
+array_sound : (name : Option Word) (count : Option ℤ) (row : PlainBody) → ((line : List Tree) → IsRow row line → AreSound row line) → (value : Option Tree)
+    → Takes true (IsValue (Array name count row)) value → AllByRecursion (AreSound row) (rows_in value)
+array_sound name count row so value (v, (rows, is, stated, are), some) =
+    subst (AllByRecursion (AreSound row)) (sym (ap rows_in (some ∙ ap (λ (t : Tree). Some t) is) ∙ rows_are rows)) (all_rows (IsRow row) (AreSound row) so rows are)
 
--- Fields, one more at a time.
+-- what is no case of a switch is sound in it
+passed : (cases : PlainCases) (value : Option Tree) → AllByRecursion (λ name. is_case name value ≡ false) (case_names cases) → IsCaseSound cases value
+passed no_cases value none = tt
+passed (case_and name row others) value none = ((λ is. absurd (true_false (sym is ∙ none.0))), passed others value none.1)
 
-module _ (fields : List Field) (i : ℕ) (field : Field) (less : i < length fields) (item : field ≡ get_or fields i field) where
-  pub behind_is : plain_body (drop i fields) ≡ plain_field field ∷ plain_body (drop (i + 1) fields)
-  behind_is = ap plain_body (drop_more fields i field less) ∙ ap (λ (f : Field). plain_field f ∷ plain_body (drop (i + 1) fields)) (sym item)
+others_passed : (name : Word) (line : List Tree) (names : List Word) → AllByRecursion (λ later. str_eq_ignore_ascii_case name.bytes later.bytes ≡ false) names
+    → AllByRecursion (λ later. is_case later (Some (trees.Choice name line)) ≡ false) names
+others_passed name line [] differ = tt
+others_passed name line (later ∷ names) differ =
+    (ap (str_eq_ignore_ascii_case later.bytes) (choice_is name line) ∙ other_name name.bytes later.bytes differ.0, others_passed name line names differ.1)
 
-  pub sound_next : AreSound (plain_body (drop i fields)) → IsSound (plain_field field) × AreSound (plain_body (drop (i + 1) fields))
-  sound_next all = let each = subst AreSound behind_is all in (each.0, each.1)
+-- Fields, cases and bodies.
 
-  module _ (row : List Tree) (are : IsRow (plain_body (drop i fields)) row) where
-    split : IsRow (plain_field field ∷ plain_body (drop (i + 1) fields)) row
-    split = subst (λ (b : List PlainField). IsRow b row) behind_is are
+mutual
+  field_sound : (scope : List Word) (in_case : Bool) (field : PlainField) → is_shaped in_case field ≡ true → bad_width field ≡ None → IsKeptWithin scope field
+      → (value : Option Tree) → Takes (takes_value field) (IsValue field) value → IsSound field value
+  field_sound scope in_case (Number number) is wide kept value has = number_width in_case number is wide
+  field_sound scope in_case (Text text) is wide kept value has = tt
+  field_sound scope in_case (Points points) is wide kept value has = group_by points points.fixed value has
+  field_sound scope in_case (Fill unit count) is wide kept value has = tt
+  field_sound scope in_case (Align unit) is wide kept value has = unit_above unit is
+  field_sound scope in_case (Array name count row) is wide kept value has =
+      array_sound name count row (λ line are. body_sound (scope ++ names_of row) false row (both (is_none_or is_own_name name) (are_shaped false row) is).1 kept.2 line are) value has
+  field_sound scope in_case (Switch cases) is wide kept value has =
+      subst (IsCaseSound cases) (sym has.2) (cases_sound scope cases is kept.0 kept.1 has.0 has.1)
 
-    pub value_next : HasValue (plain_field field) (first_value (takes_value (plain_field field)) row)
-    value_next = has_value (plain_field field) row split.0 split.1
+  cases_sound : (scope : List Word) (cases : PlainCases) → are_cases_shaped cases ≡ true → Differ (case_names cases) → AreCasesKept scope cases
+      → (v : Tree) → IsChoice cases v → IsCaseSound cases (Some v)
+  cases_sound scope no_cases is differ kept v has = absurd has
+  cases_sound scope (case_and name row others) is differ kept v (inl (line, is_choice, are)) =
+      let some : Some v ≡ Some (trees.Choice name line) = ap (λ (t : Tree). Some t) is_choice in
+      let all = both (is_own_name name) (are_shaped true row && are_cases_shaped others) is in
+      let each = both (are_shaped true row) (are_cases_shaped others) all.1 in (
+        (λ chosen. subst (AreSound row) (sym (ap line_in some ∙ line_is name line)) (body_sound (scope ++ names_of row) true row each.0 kept.1 line are)),
+        subst (IsCaseSound others) (sym some) (passed others (Some (trees.Choice name line)) (others_passed name line (case_names others) differ.0)),
+      )
+  cases_sound scope (case_and name row others) is differ kept v (inr has) =
+      let all = both (is_own_name name) (are_shaped true row && are_cases_shaped others) is in
+      let each = both (are_shaped true row) (are_cases_shaped others) all.1 in (
+        (λ chosen. absurd (true_false (sym chosen ∙ choice_differs name others differ.0 v has))),
+        cases_sound scope others each.1 differ.1 kept.2 v has,
+      )
 
-    pub row_next : IsRow (plain_body (drop (i + 1) fields)) (other_values (takes_value (plain_field field)) row)
-    row_next = subst (IsRow (plain_body (drop (i + 1) fields))) (sym (others_behind (takes_value (plain_field field)) (plain_field field) row split.0 split.1)) split.2
+  body_sound : (scope : List Word) (in_case : Bool) (body : PlainBody) → are_shaped in_case body ≡ true → AreKept scope body
+      → (row : List Tree) → IsRow body row → AreSound body row
+  body_sound scope in_case no_fields is kept row has = tt
+  body_sound scope in_case (field_and field fields) is kept row (rest, one, others) =
+      let each = both (is_shaped in_case field) (are_shaped in_case fields) is in
+      let front = fronted (takes_value field) (IsValue field) row rest one in (
+        field_sound scope in_case field each.0 kept.0 kept.2 (first_value (takes_value field) row) front.one,
+        body_sound scope in_case fields each.1 kept.3 (other_values (takes_value field) row) (subst (IsRow fields) front.others others),
+      )
 
-  module _ (known : Facts) (row : List Tree) (draft : Draft) (all : Result Draft Refusal) (so : body_laid known draft (plain_body (drop i fields)) row ≡ all) where
-    abbrev pub laid_next : Draft → Result Draft Refusal
-    laid_next next = body_laid known next (plain_body (drop (i + 1) fields)) (other_values (takes_value (plain_field field)) row)
-
-    all_is : (field_laid known draft (plain_field field) (first_value (takes_value (plain_field field)) row) >>= laid_next) ≡ all
-    all_is = ap (λ (b : List PlainField). body_laid known draft b row) (sym behind_is) ∙ so
-
-    pub field_refused : (stop : Stop LayFault) (left other : Draft)
-        → Lays (field_laid known draft (plain_field field) (first_value (takes_value (plain_field field)) row)) (Err stop) left → Lays all (Err stop) other
-    field_refused NoMemory left other laid = tt
-    field_refused (Refused fault) left other laid = sym all_is ∙ ap (λ (r : Result Draft Refusal). r >>= laid_next) laid
-
-    pub field_more : (next : Draft) → field_laid known draft (plain_field field) (first_value (takes_value (plain_field field)) row) ≡ Ok next → laid_next next ≡ all
-    field_more next laid = sym (ap (λ (r : Result Draft Refusal). r >>= laid_next) laid) ∙ all_is
+pub sound_row : (body : PlainBody) (row : List Tree) → is_well_shaped body ≡ true → IsKept body → IsRow body row → AreSound body row
+sound_row body row shaped kept are = body_sound (names_of body) false body shaped kept.1 row are

@@ -7,24 +7,24 @@ use Rattle.std.proofs.Math.Seq.{take-append_seam, drop-append_seam}
 use Rattle.rz_core.specs.Lists.{or_else, unless_fault}
 use Rattle.rz_core.specs.Stop.{◌>>=◌}
 use Rattle.rz_core.specs.declared.facts.Facts.{Facts}
-use Rattle.rz_expr.specs.Environment.{Sight}
+use Rattle.rz_expr.specs.Environment.{Environment, Sight}
 use Rattle.rz_expr.specs.Term.{Term}
 use Rattle.rz_expr.specs.Value.{value_of}
 use Rattle.rz_expr.specs.declared.value.EvalFault.{EvalFault}
 use Rattle.rz_bits.specs.Bits.{bits_of, number_bits}
 use Rattle.rz_types.specs.Field.{PlainText}
-use Rattle.rz_types.specs.Laid.{bad_length, bad_size, bytes_given, bytes_laid, first_value, fixed_number, in_order, joined, lay, number_given, number_in, one_more, other_values, piece_laid, refusal, size_in, text_in, text_laid, text_refusal, too_long, unless, valued, value_in, with_bits, Draft, Refusal}
+use Rattle.rz_types.specs.Laid.{bad_length, bad_size, bytes_given, bytes_laid, first_value, fixed_number, in_order, joined, lay, number_given, number_in, one_more, other_values, piece_laid, refusal, size_in, takes_one, text_in, text_laid, text_refusal, too_long, unless, valued, value_in, with_bits, Draft, Refusal}
 use Rattle.rz_types.specs.Range.{fits_number, may_be_size}
-use Rattle.rz_types.specs.Spells.{is_late_size, is_late_value, marks, most_bits, nowhere, outside, put, sees, AreBytes, Filler, InOrder, IsNumber, IsSize, IsStored, IsText, Late, Names, OneNumber, OneText, Piece, PieceSpells, RowSpells, Zeros}
+use Rattle.rz_types.specs.Spells.{is_late_size, is_late_value, marks, most_bits, nowhere, put, AreBytes, Filler, InOrder, IsNumber, IsSize, IsStored, IsText, Late, Names, OneNumber, OneText, Piece, PieceSpells, RowSpells, Then, Zeros}
 use Rattle.rz_types.specs.Stored.{stored_number, stored_text}
 use Rattle.rz_types.specs.Text.{bytes_of as text_bytes_of, PlainPart}
-use Rattle.rz_types.specs.Value.{field_sight}
+use Rattle.rz_types.specs.Value.{names_sight}
 use Rattle.rz_types.specs.declared.field.NumForm.{NumForm}
 use Rattle.rz_types.specs.declared.field.TextForm.{TextForm}
 use Rattle.rz_types.specs.declared.field.TextForm.TheVariants as forms
 use Rattle.rz_types.specs.declared.tree.Tree.{Tree}
 use Rattle.rz_types.specs.declared.tree.Tree.TheVariants as trees
-use Rattle.rz_layout.proofs.Spelling.{seen}
+use Rattle.rz_layout.proofs.Trees.{number_is, text_is}
 
 -- Results.
 
@@ -72,39 +72,38 @@ PieceValue (OneText text) value = TextValue text.fixed value
 PieceValue (Zeros count) value = value ≡ None
 PieceValue (Filler unit) value = value ≡ None
 
--- each takes its value of those that are given
-abbrev pub Fed : {A : Type 0} → (A → Bool) → (A → Option Tree → Type 0) → List A → List Tree → Type 0
-Fed takes Has [] values = values ≡ []
-Fed takes Has (x ∷ xs) values =
-    Has x (first_value (takes x) values) × (values ≡ put (first_value (takes x) values) (other_values (takes x) values)) × Fed takes Has xs (other_values (takes x) values)
+-- each piece takes its value of those that are given
+abbrev pub Fed : List Piece → List Tree → Type 0
+Fed [] values = values ≡ []
+Fed (piece ∷ pieces) values =
+    PieceValue piece (first_value (takes_one piece) values) × (values ≡ put (first_value (takes_one piece) values) (other_values (takes_one piece) values))
+    × Fed pieces (other_values (takes_one piece) values)
 
-module _ (known : Facts) (all : List Bool) where
+-- Values.
+
+module _ (known : Facts) (names : Environment) where
   valued_is : (piece : ℕ) (found : Result ℤ EvalFault) (v : ℤ) → valued piece found ≡ Ok v → found ≡ Ok v
   valued_is piece (Ok value) v is = ap (λ (z : ℤ). Ok z) (same_ok value v is)
   valued_is piece (Err fault) v is = absurd cc
 
-  value_sound : (piece at : ℕ) (term : Term) (v : ℤ) → value_in piece known term ≡ Ok v → value_of term (sees known all outside at) ≡ Ok v
-  value_sound piece at term v is = seen known all outside (λ key. refl) at term ∙ valued_is piece (value_of term (field_sight known [])) v is
+  value_sound : (piece : ℕ) (term : Term) (v : ℤ) → value_in piece known names term ≡ Ok v → value_of term (names_sight known names) ≡ Ok v
+  value_sound piece term v is = valued_is piece (value_of term (names_sight known names)) v is
 
-  number_sound : (piece at : ℕ) (form : NumForm) (width : ℤ) (fixed : Option Term) (value : Option Tree) → NumberValue width fixed value → (bits : List Bool)
-      → (number_given piece known form width fixed value >>= λ n. Ok (number_bits (nat_abs width) n)) ≡ Ok bits
-      → IsNumber form width fixed (sees known all outside at) value bits
-  number_sound piece at form width None value has bits is =
-      (has.0, has.1, has.2, sym (same_ok _ bits is) ∙ ap (λ (o : Option Tree). number_bits (nat_abs width) (number_in o)) has.1)
-  number_sound piece at form width (Some term) value has bits is =
-      let outer = chained (fixed_number piece known form width term) (λ n. Ok (number_bits (nat_abs width) n)) bits is in
-      let inner = chained (value_in piece known term) (λ v. unless_fault (unless (fits_number form width v) (refusal 207 piece v)) (stored_number (nat_abs width) v)) outer.value outer.is in
+  number_sound : (piece : ℕ) (form : NumForm) (width : ℤ) (fixed : Option Term) (value : Option Tree) → NumberValue width fixed value → (bits : List Bool)
+      → (number_given piece known names form width fixed value >>= λ n. Ok (number_bits (nat_abs width) n)) ≡ Ok bits
+      → IsNumber form width fixed (names_sight known names) value bits
+  number_sound piece form width None value has bits is =
+      (has.0, has.1, has.2, sym (same_ok _ bits is) ∙ ap (λ (o : Option Tree). number_bits (nat_abs width) (number_in o)) has.1 ∙ ap (number_bits (nat_abs width)) (number_is has.0))
+  number_sound piece form width (Some term) value has bits is =
+      let outer = chained (fixed_number piece known names form width term) (λ n. Ok (number_bits (nat_abs width) n)) bits is in
+      let inner = chained (value_in piece known names term) (λ v. unless_fault (unless (fits_number form width v) (refusal 207 piece v)) (stored_number (nat_abs width) v)) outer.value outer.is in
       let free = unrefused (unless (fits_number form width inner.value) (refusal 207 piece inner.value)) (stored_number (nat_abs width) inner.value) outer.value inner.leads in (
         inner.value,
         has,
-        value_sound piece at term inner.value inner.is,
+        value_sound piece term inner.value inner.is,
         held (fits_number form width inner.value) (refusal 207 piece inner.value) free.0,
         sym (same_ok _ bits outer.leads) ∙ ap (number_bits (nat_abs width)) (sym free.1),
       )
-
-  -- a size that the text may have, as a number
-  record SizeSound (form : TextForm) (at : ℕ) (term : Option Term) (found : Option ℤ) : Type 0 where
-    is : IsSize form (sees known all outside at) term (option_map nat_abs found)
 
   may_be_natural : (form : TextForm) (z : ℤ) → may_be_size form z ≡ true → pos (nat_abs z) ≡ z
   may_be_natural form (pos n) is = refl
@@ -116,17 +115,17 @@ module _ (known : Facts) (all : List Bool) where
       negative forms.WordLong is = cc
       negative forms.Zero is = cc
 
-  size_sound : (piece at : ℕ) (form : TextForm) (term : Option Term) (found : Option ℤ) → size_in piece known term ≡ Ok found → bad_size piece form found ≡ None
-      → IsSize form (sees known all outside at) term (option_map nat_abs found)
-  size_sound piece at form None found is allowed = ap (option_map nat_abs) (sym (same_ok None found is))
-  size_sound piece at form (Some term) found is allowed =
-      let inner = chained (value_in piece known term) (λ size. Ok (Some size)) found is in
+  size_sound : (piece : ℕ) (form : TextForm) (term : Option Term) (found : Option ℤ) → size_in piece known names term ≡ Ok found → bad_size piece form found ≡ None
+      → IsSize form (names_sight known names) term (option_map nat_abs found)
+  size_sound piece form None found is allowed = ap (option_map nat_abs) (sym (same_ok None found is))
+  size_sound piece form (Some term) found is allowed =
+      let inner = chained (value_in piece known names term) (λ size. Ok (Some size)) found is in
       let same : Some inner.value ≡ found = same_ok _ found inner.leads in
       let fits : may_be_size form inner.value ≡ true =
       held (may_be_size form inner.value) (refusal 207 piece inner.value) (subst (λ (o : Option ℤ). bad_size piece form o ≡ None) (sym same) allowed) in
       let natural = may_be_natural form inner.value fits in (
         nat_abs inner.value,
-        value_sound piece at term inner.value inner.is ∙ ap (λ (z : ℤ). Ok z) (sym natural),
+        value_sound piece term inner.value inner.is ∙ ap (λ (z : ℤ). Ok z) (sym natural),
         subst (λ (z : ℤ). may_be_size form z ≡ true) (sym natural) fits,
         ap (option_map nat_abs) (sym same),
       )
@@ -138,20 +137,20 @@ module _ (known : Facts) (all : List Bool) where
   bytes_sound : (piece : ℕ) (form : TextForm) (fixed : Option (List PlainPart)) (size : Option ℕ) (value : Option Tree) → TextValue fixed value → (bytes : List ℕ)
       → bytes_given piece known fixed value ≡ Ok bytes → AreBytes false form known fixed size value bytes
   bytes_sound piece form None size value has bytes is =
-      (has.1 ∙ ap (λ (bs : List ℕ). Some (trees.Text bs)) (ap text_in (sym has.1) ∙ same_ok (text_in value) bytes is), tt)
+      (has.1 ∙ ap (λ (bs : List ℕ). Some (trees.Text bs)) (sym (ap text_in has.1 ∙ text_is has.0) ∙ same_ok (text_in value) bytes is), tt)
   bytes_sound piece form (Some parts) size value has bytes is = (has, joined_is piece (text_bytes_of nowhere known parts) bytes is)
 
-  text_sound : (piece at : ℕ) (text : PlainText) (value : Option Tree) → TextValue text.fixed value → (bits : List Bool)
-      → text_laid piece known text value ≡ Ok bits → IsText false text known (sees known all outside at) value bits
-  text_sound piece at text value has bits is =
-      let one = chained (size_in piece known text.size) (λ size. bytes_given piece known text.fixed value >>= λ bytes. bytes_laid piece text.form size bytes) bits is in
+  text_sound : (piece : ℕ) (text : PlainText) (value : Option Tree) → TextValue text.fixed value → (bits : List Bool)
+      → text_laid piece known names text value ≡ Ok bits → IsText false text known (names_sight known names) value bits
+  text_sound piece text value has bits is =
+      let one = chained (size_in piece known names text.size) (λ size. bytes_given piece known text.fixed value >>= λ bytes. bytes_laid piece text.form size bytes) bits is in
       let two = chained (bytes_given piece known text.fixed value) (λ bytes. bytes_laid piece text.form one.value bytes) bits one.leads in
       let free = unrefused (text_refusal piece text.form one.value (length two.value)) (bits_of (stored_text text.form (option_map nat_abs one.value) two.value)) bits two.leads in
       let each = first_none (bad_size piece text.form one.value) (or_else (bad_length piece text.form one.value (length two.value)) None) free.0 in
       let short = first_none (bad_length piece text.form one.value (length two.value)) None each.1 in
       record {
         size = option_map nat_abs one.value;
-        has_size = size_sound piece at text.form text.size one.value one.is each.0;
+        has_size = size_sound piece text.form text.size one.value one.is each.0;
         bytes = two.value;
         are_bytes = bytes_sound piece text.form text.fixed (option_map nat_abs one.value) value has two.value two.is;
         short = not_true _ (held _ (refusal 216 piece (pos (length two.value))) short.0);
@@ -159,31 +158,40 @@ module _ (known : Facts) (all : List Bool) where
       }
 
   stored_sound : (piece : Piece) (value : Option Tree) → PieceValue piece value → (draft : Draft) (bits : List Bool)
-      → piece_laid known draft piece value ≡ Ok bits → IsStored false piece known (length draft.bits) (sees known all outside (length draft.bits)) value bits
+      → piece_laid known names draft piece value ≡ Ok bits → IsStored false piece known (length draft.bits) (names_sight known names) value bits
   stored_sound (OneNumber number) value has draft bits is =
-      number_sound draft.piece (length draft.bits) number.form number.width number.fixed value has bits is
-  stored_sound (OneText text) value has draft bits is = text_sound draft.piece (length draft.bits) text value has bits is
+      number_sound draft.piece number.form number.width number.fixed value has bits is
+  stored_sound (OneText text) value has draft bits is = text_sound draft.piece text value has bits is
   stored_sound (Zeros count) value has draft bits is = (has, sym (same_ok _ bits is))
   stored_sound (Filler unit) value has draft bits is = (has, sym (same_ok _ bits is))
 
-  -- what a draft grew by
-  record Grew (draft next : Draft) : Type 0 where
-    more : List Bool
-    is : next.bits ≡ draft.bits ++ more
-    short : length draft.bits + length more ≤ most_bits
+-- No number is late so far.
 
+no_late_value : (met : Names) (late : Late) (term : Option Term) (sight : Sight) → is_late_value met late term sight ≡ false
+no_late_value met late None sight = refl
+no_late_value met late (Some term) sight = refl
+
+no_late_size : (met : Names) (late : Late) (piece : Piece) (sight : Sight) → is_late_size met late piece sight ≡ false
+no_late_size met late (OneNumber number) sight = refl
+no_late_size met late (OneText text) sight = no_late_value met late text.size sight
+no_late_size met late (Zeros count) sight = refl
+no_late_size met late (Filler unit) sight = refl
+
+-- What is laid, and all bits.
+
+with_grew : (draft next : Draft) (bits : List Bool) → with_bits draft bits ≡ Ok next → (next.bits ≡ draft.bits ++ bits) × (length draft.bits + length bits ≤ most_bits)
+with_grew draft next bits is = by (nat_lt most_bits (length draft.bits + length bits)) refl is
+  where
+    by : (test : Bool) → nat_lt most_bits (length draft.bits + length bits) ≡ test
+        → (if test then Err (too_long draft (length draft.bits + length bits)) else Ok (record { piece = one_more draft.piece; bits = draft.bits ++ bits })) ≡ Ok next
+        → (next.bits ≡ draft.bits ++ bits) × (length draft.bits + length bits ≤ most_bits)
+    by true over so = absurd cc
+    by false over so = (sym (ap (λ (d : Draft). d.bits) (same_ok _ next so)), ltb-false most_bits (length draft.bits + length bits) over)
+
+module _ (all : List Bool) where
   -- all bits begin with those of the draft
   abbrev pub Front : Draft → Type 0
   Front draft = take (length draft.bits) all ≡ draft.bits
-
-  with_grew : (draft next : Draft) (bits : List Bool) → with_bits draft bits ≡ Ok next → (next.bits ≡ draft.bits ++ bits) × (length draft.bits + length bits ≤ most_bits)
-  with_grew draft next bits is = by (nat_lt most_bits (length draft.bits + length bits)) refl is
-    where
-      by : (test : Bool) → nat_lt most_bits (length draft.bits + length bits) ≡ test
-          → (if test then Err (too_long draft (length draft.bits + length bits)) else Ok (record { piece = one_more draft.piece; bits = draft.bits ++ bits })) ≡ Ok next
-          → (next.bits ≡ draft.bits ++ bits) × (length draft.bits + length bits ≤ most_bits)
-      by true over so = absurd cc
-      by false over so = (sym (ap (λ (d : Draft). d.bits) (same_ok _ next so)), ltb-false most_bits (length draft.bits + length bits) over)
 
   front_back : (draft next : Draft) (bits : List Bool) → next.bits ≡ draft.bits ++ bits → Front next → Front draft
   front_back draft next bits is front =
@@ -206,57 +214,59 @@ module _ (known : Facts) (all : List Bool) where
     pub spells : Is (length draft.bits) late_after
     pub front : Front draft
 
-  no_late_value : (met : Names) (late : Late) (term : Option Term) (sight : Sight) → is_late_value met late term sight ≡ false
-  no_late_value met late None sight = refl
-  no_late_value met late (Some term) sight = refl
-
-  no_late_size : (met : Names) (late : Late) (piece : Piece) (sight : Sight) → is_late_size met late piece sight ≡ false
-  no_late_size met late (OneNumber number) sight = refl
-  no_late_size met late (OneText text) sight = no_late_value met late text.size sight
-  no_late_size met late (Zeros count) sight = refl
-  no_late_size met late (Filler unit) sight = refl
-
-  pub piece_sound : (met : Names) (piece : Piece) (value : Option Tree) → PieceValue piece value → (draft next : Draft) → lay known draft piece value ≡ Ok next → Front next
-      → (late : Late) → Sounds (λ at late_after. PieceSpells false known all outside met piece value at late (length next.bits) late_after) draft
-  piece_sound met piece value has draft next is front late =
-      let inner = chained (piece_laid known draft piece value) (with_bits draft) next is in
-      let grew = with_grew draft next inner.value inner.leads in
-      let long : length next.bits ≡ length draft.bits + length inner.value = ap length grew.0 ∙ length-append draft.bits inner.value in
+  -- one that takes its value, and the others behind it
+  pub then_sounds : (value : Option Tree) (rest values : List Tree) → values ≡ put value rest → (One : Option Tree → RowSpells) (Others : List Tree → RowSpells)
+      → (draft mid : Draft) (after : ℕ)
+      → (Front mid → (late : Late) → Sounds (λ at late_after. One value at late (length mid.bits) late_after) draft)
+      → ((late : Late) → Sounds (λ at late_after. Others rest at late after late_after) mid)
+      → (late : Late) → Sounds (λ at late_after. Then One Others values at late after late_after) draft
+  then_sounds value rest values are One Others draft mid after one others late =
+      let first = one (others late).front late in
+      let more = others first.late_after in
       record {
-        late_after = late ++ marks met late piece (sees known all outside (length draft.bits)) (length inner.value);
-        spells = record {
-          bits = inner.value;
-          stored = stored_sound piece value has draft inner.value inner.is;
-          early = no_late_size met late piece (sees known all outside (length draft.bits));
-          there = there draft next inner.value grew.0 front;
-          ends = long;
-          short = subst (λ n. n ≤ most_bits) (sym long) grew.1;
-          marked = refl;
-        };
-        front = front_back draft next inner.value grew.0 front;
+        late_after = more.late_after;
+        spells = (value, rest, length mid.bits, first.late_after, are, first.spells, more.spells);
+        front = first.front;
       }
 
-  -- One behind the other.
+  -- Pieces.
 
-  module _ {A : Type 0} (Is : A → Option Tree → RowSpells) (takes : A → Bool) (lay_one : Draft → A → Option Tree → Result Draft Refusal) (Has : A → Option Tree → Type 0)
-      (sounds : (x : A) (value : Option Tree) → Has x value → (draft next : Draft) → lay_one draft x value ≡ Ok next → Front next → (late : Late)
-      → Sounds (λ at late_after. Is x value at late (length next.bits) late_after) draft) where
-    pub order_sound : (xs : List A) (values : List Tree) → Fed takes Has xs values → (draft next : Draft) → in_order takes lay_one draft xs values ≡ Ok next → Front next
-        → (late : Late) → Sounds (λ at late_after. InOrder Is xs values at late (length next.bits) late_after) draft
-    order_sound [] values fed draft next is front late =
+  module _ (known : Facts) (names : Environment) (met : Names) where
+    pub piece_sound : (piece : Piece) (value : Option Tree) → PieceValue piece value → (draft next : Draft) → lay known names draft piece value ≡ Ok next → Front next
+        → (late : Late) → Sounds (λ at late_after. PieceSpells false known all names met piece value at late (length next.bits) late_after) draft
+    piece_sound piece value has draft next is front late =
+        let inner = chained (piece_laid known names draft piece value) (with_bits draft) next is in
+        let grew = with_grew draft next inner.value inner.leads in
+        let long : length next.bits ≡ length draft.bits + length inner.value = ap length grew.0 ∙ length-append draft.bits inner.value in
+        record {
+          late_after = late ++ marks met late piece (names_sight known names) (length inner.value);
+          spells = record {
+            bits = inner.value;
+            stored = stored_sound known names piece value has draft inner.value inner.is;
+            early = no_late_size met late piece (names_sight known names);
+            there = there draft next inner.value grew.0 front;
+            ends = long;
+            short = subst (λ n. n ≤ most_bits) (sym long) grew.1;
+            marked = refl;
+          };
+          front = front_back draft next inner.value grew.0 front;
+        }
+
+    -- pieces that take their values
+    pub pieces_sound : (pieces : List Piece) (values : List Tree) → Fed pieces values → (draft next : Draft) → in_order takes_one (lay known names) draft pieces values ≡ Ok next → Front next
+        → (late : Late) → Sounds (λ at late_after. InOrder (PieceSpells false known all names met) pieces values at late (length next.bits) late_after) draft
+    pieces_sound [] values fed draft next is front late =
         let same : draft ≡ next = same_ok draft next is in
         record {
           late_after = late;
           spells = (fed, ap (λ (d : Draft). length d.bits) (sym same), refl);
           front = subst Front (sym same) front;
         }
-    order_sound (x ∷ xs) values fed draft next is front late =
-        let inner = chained (lay_one draft x (first_value (takes x) values)) (λ mid. in_order takes lay_one mid xs (other_values (takes x) values)) next is in
-        let mid_front = order_sound xs (other_values (takes x) values) fed.2 inner.value next inner.leads front late in
-        let one = sounds x (first_value (takes x) values) fed.0 draft inner.value inner.is mid_front.front late in
-        let more = order_sound xs (other_values (takes x) values) fed.2 inner.value next inner.leads front one.late_after in
-        record {
-          late_after = more.late_after;
-          spells = (first_value (takes x) values, other_values (takes x) values, length inner.value.bits, one.late_after, fed.1, one.spells, more.spells);
-          front = one.front;
-        }
+    pieces_sound (piece ∷ pieces) values fed draft next is front late =
+        let inner = chained (lay known names draft piece (first_value (takes_one piece) values))
+        (λ mid. in_order takes_one (lay known names) mid pieces (other_values (takes_one piece) values)) next is in
+        then_sounds (first_value (takes_one piece) values) (other_values (takes_one piece) values) values fed.1 (PieceSpells false known all names met piece)
+        (InOrder (PieceSpells false known all names met) pieces) draft inner.value (length next.bits)
+        (λ mid late. piece_sound piece (first_value (takes_one piece) values) fed.0 draft inner.value inner.is mid late)
+        (λ late. pieces_sound pieces (other_values (takes_one piece) values) fed.2 inner.value next inner.leads front late)
+        late

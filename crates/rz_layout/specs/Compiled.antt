@@ -6,13 +6,13 @@ use Rattle.rz_core.specs.declared.stop.Stop.{Stop}
 use Rattle.rz_core.specs.declared.stop.Stop.TheVariants.{NoMemory, Refused}
 use Rattle.rz_layout.specs.Fault.{refusal_of}
 use Rattle.rz_layout.specs.declared.fault.LayFault.{LayFault}
-use Rattle.rz_types.specs.Field.{PlainField}
+use Rattle.rz_types.specs.Field.{PlainBody}
 use Rattle.rz_types.specs.Laid.{Refusal, Refuses}
 use Rattle.rz_types.specs.Spells.{Spells}
 use Rattle.rz_types.specs.declared.tree.Tree.{Tree}
 
 -- the bytes that a row spells, or its refusal
-abbrev pub IsCompiled : Facts → List PlainField → List Tree → Result (List ℕ) Refusal → Type 0
+abbrev pub IsCompiled : Facts → PlainBody → List Tree → Result (List ℕ) Refusal → Type 0
 IsCompiled known body row (Ok bytes) = Spells false known body row bytes
 IsCompiled known body row (Err fault) = Refuses known body row fault
 

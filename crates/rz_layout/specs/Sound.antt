@@ -1,20 +1,13 @@
--- Fields as templates have them, one by one, and their values.
-use Rattle.std.specs.Prelude.{◌≡◌, ◌≤ℤ◌, ℤ, pos, Bool, true, false, List, length, Option, None, Some}
+-- What the code asks of fields and their values.
+use Rattle.std.specs.Prelude.{◌≡◌, ◌<◌, ◌≤ℤ◌, ℤ, pos, Bool, true, List, length, Option, None, Some}
 use Rattle.std.specs.List.{AllByRecursion}
 use Rattle.rz_expr.specs.Term.{Term}
-use Rattle.rz_types.specs.Field.{PlainField, PlainPoints, Points}
-use Rattle.rz_types.specs.Spells.{group_in}
-use Rattle.rz_types.specs.Rules.{bad_width}
-use Rattle.rz_types.specs.Shape.{is_shaped, numbers_of}
+use Rattle.rz_types.specs.Field.{case_and, field_and, no_cases, no_fields, Align, Array, Fill, Number, PlainBody, PlainCases, PlainField, PlainPoints, Points, Switch, Text}
+use Rattle.rz_types.specs.Laid.{first_value, line_in, other_values, rows_in}
+use Rattle.rz_types.specs.Row.{takes_value}
+use Rattle.rz_types.specs.Shape.{numbers_of}
+use Rattle.rz_types.specs.Spells.{group_in, is_case}
 use Rattle.rz_types.specs.declared.tree.Tree.{Tree}
-
--- a field that has the shape of one, and breaks no rule
-pub record IsSound (field : PlainField) : Type 0 where
-  pub shaped : is_shaped false 0 field ≡ true
-  pub kept : bad_width field ≡ None
-
-abbrev pub AreSound : List PlainField → Type 0
-AreSound body = AllByRecursion IsSound body
 
 -- a width of 1 to 32 bits
 abbrev pub IsWidth : ℤ → Type 0
@@ -28,7 +21,23 @@ IsGroupBy rect (Some terms) value = value ≡ None
 abbrev pub IsGroupOf : PlainPoints → Option Tree → Type 0
 IsGroupOf points value = IsGroupBy points.rect points.fixed value
 
--- a field has a value as it takes it; of the others than points nothing is asked
-abbrev pub HasValue : PlainField → Option Tree → Type 0
-HasValue (Points points) value = IsGroupOf points value
-HasValue field value = Unit {0}
+abbrev mutual
+  -- a field that can be laid with this value: its width is one, a point has as many numbers as it takes, and so on within it
+  pub IsSound : PlainField → Option Tree → Type 0
+  IsSound (Number number) value = IsWidth number.width
+  IsSound (Text text) value = Unit {0}
+  IsSound (Points points) value = IsGroupOf points value
+  IsSound (Fill unit count) value = Unit {0}
+  IsSound (Align unit) value = 0 < unit
+  IsSound (Array name count row) value = AllByRecursion (AreSound row) (rows_in value)
+  IsSound (Switch cases) value = IsCaseSound cases value
+
+  -- the case that is chosen, with its row
+  pub IsCaseSound : PlainCases → Option Tree → Type 0
+  IsCaseSound no_cases value = Unit {0}
+  IsCaseSound (case_and name row others) value = (is_case name value ≡ true → AreSound row (line_in value)) × IsCaseSound others value
+
+  -- fields, each with its value of the row
+  pub AreSound : PlainBody → List Tree → Type 0
+  AreSound no_fields values = Unit {0}
+  AreSound (field_and field fields) values = IsSound field (first_value (takes_value field) values) × AreSound fields (other_values (takes_value field) values)

@@ -10,7 +10,9 @@ use rz_expr::Unvalued;
 pub struct LayFault {
     /// The number of the fault.
     pub number: u16,
-    /// The piece, from 0: each number of a point or a rectangle is one, and each other field. At most 2^63 - 1.
+    /// The piece, from 0: each number of a point or a rectangle is one, and each other field that has no fields within
+    /// it. Those of each row of an array follow one another in order, and so do those of the case that is chosen. At
+    /// most 2^63 - 1.
     pub piece: u64,
     /// The number that the fault keeps, or 0 where it keeps none.
     pub value: i64,

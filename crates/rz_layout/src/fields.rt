@@ -1,37 +1,49 @@
-ghost use Rattle.std.specs.Prelude.{IfOk, ◌≡◌, ◌≤◌, length, map, option_map, true};
+ghost use Rattle.std.specs.Prelude.{IfOk, ◌≡◌, ◌≤◌, length, option_map, true, List, ℕ, []};
 ghost use Rattle.std.specs.declared.result.Result.{Result as Answer};
 ghost use Rattle.rz_layout.specs.Compiled.{is_compile_fault, IsCompiled, MeetsLaid};
 ghost use Rattle.rz_layout.specs.Laid.{draft_of, GivesLaid, Lays};
-ghost use Rattle.rz_layout.specs.Sound.{AreSound, HasValue, IsSound};
+ghost use Rattle.rz_layout.specs.Names.{known};
+ghost use Rattle.rz_layout.specs.Sound.{AreSound, IsCaseSound, IsSound};
 ghost use Rattle.rz_core.specs.Stop.{OnFault};
-ghost use Rattle.rz_types.specs.Field.{plain_body, plain_field};
-ghost use Rattle.rz_types.specs.Laid.{body_laid, field_laid, first_value, laid, other_values, Refusal};
+ghost use Rattle.std.specs.List.{AllByRecursion};
+ghost use Rattle.rz_types.specs.Field.{plain_body, plain_cases, plain_field};
+ghost use Rattle.rz_types.specs.Laid.{body_laid, case_laid, counted, field_laid, laid, rows_laid, Refusal};
 ghost use Rattle.rz_types.specs.Row.{IsRow};
 ghost use Rattle.rz_types.specs.Spells.{most_bits};
 ghost use Rattle.rz_types.specs.Template.{template_of};
-ghost use Rattle.std.specs.Prelude.{List, ℕ};
 
 use crate::LayFault;
 use crate::laid::Laid;
+use crate::names::{Counted, NamesEnv, enter};
 use crate::number::lay_number;
 use crate::points::lay_points;
 use crate::text::lay_text;
+use crate::values::{choice_in, line_in, next_value, rows_in};
 use rz_bits::{
     bits_are_written_back, bytes_are_read_back, filled_to_a_multiple, numbers_are_read_back,
     numbers_are_written_back,
 };
 use rz_core::{Bytes, Facts, Stop};
-use rz_types::{Field, Row, Template, Tree, field_expressions_have_values, takes_value};
+use rz_types::{
+    Case, Field, Row, Template, Tree, field_expressions_have_values, rules_hold_within, takes_value,
+};
 use std::alloc::Global;
 
 /// The bytes that a row spells under a template, for a resource of which so much is known; there is one such list of
 /// bytes at most. It has at most 16,777,212 bytes; zero bits fill it to a whole byte. The row has one value for each
-/// field that takes one. Otherwise the fault is the first from left to right: of an expression 211, a zero divisor,
-/// or 215, a shift by a count outside 0 to 31 (kept: the count); 207 for a value outside the range of its number, or a
-/// size that its text may not have (kept: the value); 216 for a text without a size that is too long for its type
-/// (kept: its length); 301 where a piece ends after 16,777,212 bytes (kept: the length to its end in bytes, rounded
-/// up). Its time is in proportion to the fields, their expressions and fixed texts, the row and the bytes. (MPW
-/// Rez.)
+/// field that takes one: that of an array is its rows, and that of a switch the name of a case and a row of its fields.
+/// Pieces are counted from left to right, through all rows of an array and the case that is chosen; an array and a
+/// switch are none themselves. `$$CountOf` gives the number of rows of an array, by its name, to the fields of its own
+/// body and of those within it.
+///
+/// Otherwise the fault is the first from left to right: of an expression 211, a zero divisor, or 215, a shift by a count
+/// outside 0 to 31 (kept: the count); 207 for a value outside the range of its number, or a size that its text may not
+/// have (kept: the value); 216 for a text without a size that is too long for its type (kept: its length); 301 where a
+/// piece ends after 16,777,212 bytes (kept: the length to its end in bytes, rounded up).
+///
+/// Its time is in proportion to the fields that are laid, for each row those of its array, with their expressions and
+/// fixed texts, to the cases of each switch, to the row and to the bytes; a `$$CountOf` counts as many times as there
+/// are arrays in the bodies around it. (MPW Rez.)
 pub fn compile(
     alloc: Global,
     template: &Template,
@@ -49,6 +61,7 @@ pub fn compile(
     numbers_are_read_back();
     numbers_are_written_back();
     field_expressions_have_values();
+    rules_hold_within();
     compile_fields(alloc, template.body().as_slice(), row.as_slice(), facts)
 }
 
@@ -59,33 +72,63 @@ fn compile_fields(
     row: &[Tree],
     facts: &Facts,
 ) -> Result<Bytes, Stop<LayFault>>
-    requires sound { AreSound (plain_body fields.now) }
-    requires row { IsRow (plain_body fields.now) row.now }
+    requires { AreSound (plain_body fields.now) row.now }
     ensures { GivesLaid (laid facts.now (plain_body fields.now) row.now) result }
 {
     let mut laid = Laid::new(alloc);
-    lay_fields(alloc, fields, row, facts, &mut laid)?;
+    let mut counts = Vec::new(alloc);
+    lay_body(alloc, fields, row, facts, &mut counts, &mut laid)?;
     let Laid { bits, piece: _ } = laid;
     Ok(bits.finish())
 }
 
-/// Lays fields one behind the other, each with the next value of the row where it takes one.
-fn lay_fields(
+/// Lays the fields of a body, with the numbers of the rows of its arrays for names.
+#[cycle(lay)]
+fn lay_body<'a>(
     alloc: Global,
-    fields: &[Field],
+    fields: &'a [Field],
     row: &[Tree],
     facts: &Facts,
+    counts: &mut Vec<Counted<'a>>,
     laid: &mut Laid,
 ) -> Result<(), Stop<LayFault>>
-    requires sound { AreSound (plain_body fields.now) }
-    requires row { IsRow (plain_body fields.now) row.now }
+    requires sound { AreSound (plain_body fields.now) row.now }
     requires short { length laid.old.bits ≤ most_bits }
-    ensures { Lays (body_laid facts.now (draft_of laid.old) (plain_body fields.now) row.now) result (draft_of laid.new) }
+    ensures laid { Lays (body_laid facts.now (counted (plain_body fields.now) row.now (known counts.old.items)) (draft_of laid.old) (plain_body fields.now) row.now)
+        result (draft_of laid.new) }
+    ensures short { IfOk result (λ _. length laid.new.bits ≤ most_bits) }
+    ensures counts { IfOk result (λ _. counts.new.items ≡ counts.old.items) }
+{
+    let around = counts.len();
+    enter(fields, row, counts)?;
+    match lay_fields(alloc, fields, row, facts, counts, laid) {
+        Ok(()) => {}
+        Err(stop) => return Err(stop),
+    }
+    counts.truncate(around);
+    Ok(())
+}
+
+/// Lays fields one behind the other, each with the next value of the row where it takes one.
+#[cycle(lay)]
+fn lay_fields<'a>(
+    alloc: Global,
+    fields: &'a [Field],
+    row: &[Tree],
+    facts: &Facts,
+    counts: &mut Vec<Counted<'a>>,
+    laid: &mut Laid,
+) -> Result<(), Stop<LayFault>>
+    requires sound { AreSound (plain_body fields.now) row.now }
+    requires short { length laid.old.bits ≤ most_bits }
+    ensures laid { Lays (body_laid facts.now (known counts.old.items) (draft_of laid.old) (plain_body fields.now) row.now) result (draft_of laid.new) }
+    ensures short { IfOk result (λ _. length laid.new.bits ≤ most_bits) }
+    ensures counts { IfOk result (λ _. counts.new.items ≡ counts.old.items) }
 {
     let mut values = row;
     for field in fields {
         let next = next_value(takes_value(field), values);
-        match lay_field(alloc, field, next.value, facts, laid) {
+        match lay_field(alloc, field, next.value, facts, counts, laid) {
             Ok(()) => values = next.others,
             Err(stop) => return Err(stop),
         }
@@ -93,53 +136,92 @@ fn lay_fields(
     Ok(())
 }
 
-/// A value of a row, where one is taken, and the values behind it.
-#[derive(Drop)]
-struct NextValue<'a> {
-    value: Option<&'a Tree>,
-    others: &'a [Tree],
-}
-
-/// The first of the values, where one is taken, and the others.
-fn next_value(takes: bool, values: &[Tree]) -> NextValue<'_>
-    ensures value { option_map (λ v. v.now) result.value ≡ first_value takes values.now }
-    ensures others { result.others.now ≡ other_values takes values.now }
-{
-    if takes {
-        if let Some((first, others)) = values.split_first() {
-            return NextValue {
-                value: Some(first),
-                others,
-            };
-        }
-    }
-    NextValue {
-        value: None,
-        others: values,
-    }
-}
-
 /// Lays a field, with its value where it takes one.
-fn lay_field(
+#[cycle(lay)]
+fn lay_field<'a>(
     alloc: Global,
-    field: &Field,
+    field: &'a Field,
     value: Option<&Tree>,
     facts: &Facts,
+    counts: &mut Vec<Counted<'a>>,
     laid: &mut Laid,
 ) -> Result<(), Stop<LayFault>>
-    requires sound { IsSound (plain_field field.now) }
-    requires value { HasValue (plain_field field.now) (option_map (λ v. v.now) value) }
+    requires sound { IsSound (plain_field field.now) (option_map (λ v. v.now) value) }
     requires short { length laid.old.bits ≤ most_bits }
-    ensures laid { Lays (field_laid facts.now (draft_of laid.old) (plain_field field.now) (option_map (λ v. v.now) value.entry)) result (draft_of laid.new) }
+    ensures laid { Lays (field_laid facts.now (known counts.old.items) (draft_of laid.old) (plain_field field.now) (option_map (λ v. v.now) value.entry))
+        result (draft_of laid.new) }
     ensures short { IfOk result (λ _. length laid.new.bits ≤ most_bits) }
+    ensures counts { IfOk result (λ _. counts.new.items ≡ counts.old.items) }
 {
+    let names = NamesEnv {
+        facts,
+        counts: counts.as_slice(),
+    };
     match field {
-        Field::Num(number) => lay_number(number, value, facts, laid),
-        Field::Text(text) => lay_text(alloc, text, value, facts, laid),
-        Field::Points(points) => lay_points(points, value, facts, laid),
+        Field::Num(number) => lay_number(number, value, &names, laid),
+        Field::Text(text) => lay_text(alloc, text, value, &names, laid),
+        Field::Points(points) => lay_points(points, value, &names, laid),
         Field::Fill(unit, count) => laid.put_zeros(
             u64::from(*unit) * u64::from(count.unsigned_abs()),
         ),
         Field::Align(unit) => laid.put_filler(*unit),
+        Field::Array(array) => {
+            let fields = array.row.as_slice();
+            lay_rows(alloc, fields, rows_in(value), facts, counts, laid)
+        }
+        Field::Switch(cases) => lay_case(alloc, cases.as_slice(), value, facts, counts, laid),
     }
+}
+
+/// Lays the rows of an array one behind the other.
+#[cycle(lay)]
+fn lay_rows<'a>(
+    alloc: Global,
+    fields: &'a [Field],
+    rows: &[Row],
+    facts: &Facts,
+    counts: &mut Vec<Counted<'a>>,
+    laid: &mut Laid,
+) -> Result<(), Stop<LayFault>>
+    requires sound { AllByRecursion (AreSound (plain_body fields.now)) rows.now }
+    requires short { length laid.old.bits ≤ most_bits }
+    ensures laid { Lays (rows_laid (λ draft line. body_laid facts.now (counted (plain_body fields.now) line (known counts.old.items)) draft (plain_body fields.now) line) (draft_of laid.old) rows.now)
+        result (draft_of laid.new) }
+    ensures short { IfOk result (λ _. length laid.new.bits ≤ most_bits) }
+    ensures counts { IfOk result (λ _. counts.new.items ≡ counts.old.items) }
+{
+    for row in rows {
+        match lay_body(alloc, fields, row.as_slice(), facts, counts, laid) {
+            Ok(()) => {}
+            Err(stop) => return Err(stop),
+        }
+    }
+    Ok(())
+}
+
+/// Lays the fields of the case that is chosen.
+#[cycle(lay)]
+fn lay_case<'a>(
+    alloc: Global,
+    cases: &'a [Case],
+    value: Option<&Tree>,
+    facts: &Facts,
+    counts: &mut Vec<Counted<'a>>,
+    laid: &mut Laid,
+) -> Result<(), Stop<LayFault>>
+    requires sound { IsCaseSound (plain_cases cases.now) (option_map (λ v. v.now) value) }
+    requires short { length laid.old.bits ≤ most_bits }
+    ensures laid { Lays (case_laid facts.now (known counts.old.items) (draft_of laid.old) (plain_cases cases.now) (option_map (λ v. v.now) value.entry))
+        result (draft_of laid.new) }
+    ensures short { IfOk result (λ _. length laid.new.bits ≤ most_bits) }
+    ensures counts { IfOk result (λ _. counts.new.items ≡ counts.old.items) }
+{
+    let name = choice_in(value);
+    let row = line_in(value);
+    for case in cases {
+        if case.name.is(name) {
+            return lay_body(alloc, case.row.as_slice(), row, facts, counts, laid);
+        }
+    }
+    Ok(())
 }

@@ -1,23 +1,25 @@
-ghost use Rattle.std.specs.Prelude.{◌≡◌, ℕ, List};
+ghost use Rattle.std.specs.Prelude.{◌≡◌, true, ℕ, List};
 ghost use Rattle.std.specs.declared.result.Result.{Result};
 ghost use Rattle.rz_core.specs.declared.facts.Facts.{Facts};
 ghost use Rattle.rz_layout.specs.Compiled.{IsCompiled};
-ghost use Rattle.rz_types.specs.Field.{PlainField};
+ghost use Rattle.rz_types.specs.Field.{PlainBody};
 ghost use Rattle.rz_types.specs.Laid.{Refusal};
 ghost use Rattle.rz_types.specs.Row.{IsRow};
+ghost use Rattle.rz_types.specs.Rules.{keeps_rules};
 ghost use Rattle.rz_types.specs.declared.tree.Tree.{Tree};
 
 use rz_bits::{
     bits_are_written_back, bytes_are_read_back, filled_to_a_multiple, numbers_are_read_back,
     numbers_are_written_back,
 };
+use rz_types::rules_hold_within;
 
-/// A law, with nothing to run: under the fields of a type a row spells exactly one list of bytes, or has exactly one
-/// refusal, and never both.
+/// A law, with nothing to run: under the fields of a type that keep the rules a row spells exactly one list of bytes,
+/// or has exactly one refusal, and never both.
 pub fn one_spelling()
-    ensures some { (known : Facts) (body : List PlainField) (row : List Tree) → IsRow body row
+    ensures some { (known : Facts) (body : PlainBody) (row : List Tree) → keeps_rules body ≡ true → IsRow body row
         → (answer : Result (List ℕ) Refusal) × IsCompiled known body row answer }
-    ensures one { (known : Facts) (body : List PlainField) (row : List Tree)
+    ensures one { (known : Facts) (body : PlainBody) (row : List Tree)
         → (answer other : Result (List ℕ) Refusal) → IsCompiled known body row answer → IsCompiled known body row other → answer ≡ other }
 {
     bytes_are_read_back();
@@ -25,4 +27,5 @@ pub fn one_spelling()
     filled_to_a_multiple();
     numbers_are_read_back();
     numbers_are_written_back();
+    rules_hold_within();
 }

@@ -1,19 +1,24 @@
 //! Rows as bytes: `compile` gives exactly the bytes that the values of a row spell under the fields of a type, or
 //! exactly the first refusal, and there is always one of the two.
+//! A row of an array and the case of a switch that is chosen are laid as bodies of their own: inside, the names of
+//! their arrays have the numbers of their rows, and behind them no more.
 //! It rests on `rz_core`, `rz_expr`, `rz_bits` and `rz_types`, which has the definitions of spelling.
-//! A new kind of field is a case of `pieces_of` or of `IsStored` in `rz_types`, one of `piece_laid` there, and a case
-//! of `lay_field` here.
+//! A new kind of piece is a case of `IsStored` and of `piece_laid` in `rz_types`, and one of `lay_field` here. A new
+//! kind of field with fields within it is a case of `FieldSpells` and of `field_laid` there, and one of `lay_field`
+//! here; a new kind of name, one of `with_field` there and of `enter` here.
 #![tactic(auto)]
 
 mod fault;
 mod fields;
 mod laid;
 mod laws;
+mod names;
 mod number;
 mod points;
 mod push;
 mod store;
 mod text;
+mod values;
 
 pub use fault::LayFault;
 pub use fields::compile;

@@ -3,29 +3,32 @@ ghost use Rattle.rz_expr.specs.Term.{term_of};
 ghost use Rattle.rz_layout.specs.Laid.{draft_of, GivesLaid, Lays};
 ghost use Rattle.rz_layout.specs.Sound.{IsWidth};
 ghost use Rattle.rz_types.specs.Field.{plain_number};
-ghost use Rattle.rz_types.specs.Laid.{fixed_number, lay, number_given, number_in, value_in};
+ghost use Rattle.rz_layout.specs.Names.{known};
+ghost use Rattle.rz_types.specs.Laid.{fixed_number, lay, number_given, value_in};
 ghost use Rattle.rz_types.specs.Spells.{most_bits, OneNumber};
 
 use crate::LayFault;
 use crate::fault::value_fault;
 use crate::laid::Laid;
-use rz_core::{Facts, Stop};
+use crate::names::NamesEnv;
+use crate::values::number_in;
+use rz_core::Stop;
 use rz_expr::{Expr, value_in};
-use rz_types::{FieldEnv, NumField, NumForm, Tree, fits_number, stored_number};
+use rz_types::{NumField, NumForm, Tree, fits_number, stored_number};
 
 /// Lays a number: that of the row, or the value of its expression.
 pub fn lay_number(
     field: &NumField,
     value: Option<&Tree>,
-    facts: &Facts,
+    names: &NamesEnv<'_>,
     laid: &mut Laid,
 ) -> Result<(), Stop<LayFault>>
     requires width { IsWidth field.now.width }
     requires short { length laid.old.bits ≤ most_bits }
-    ensures laid { Lays (lay facts.now (draft_of laid.old) (OneNumber (plain_number field.now)) (option_map (λ v. v.now) value.entry)) result (draft_of laid.new) }
+    ensures laid { Lays (lay names.now.facts.now (known names.now.counts.now) (draft_of laid.old) (OneNumber (plain_number field.now)) (option_map (λ v. v.now) value.entry)) result (draft_of laid.new) }
     ensures short { IfOk result (λ _. length laid.new.bits ≤ most_bits) }
 {
-    match number_given(field, value, facts, laid.piece) {
+    match number_given(field, value, names, laid.piece) {
         Ok(number) => laid.put_number(number, field.width as u8),
         Err(stop) => Err(stop),
     }
@@ -35,25 +38,15 @@ pub fn lay_number(
 fn number_given(
     field: &NumField,
     value: Option<&Tree>,
-    facts: &Facts,
+    names: &NamesEnv<'_>,
     piece: u64,
 ) -> Result<u32, Stop<LayFault>>
     requires width { IsWidth field.now.width }
-    ensures { GivesLaid (number_given piece facts.now field.now.form field.now.width (option_map term_of field.now.fixed) (option_map (λ v. v.now) value.entry)) result }
+    ensures { GivesLaid (number_given piece names.now.facts.now (known names.now.counts.now) field.now.form field.now.width (option_map term_of field.now.fixed) (option_map (λ v. v.now) value.entry)) result }
 {
     match &field.fixed {
-        Some(expr) => fixed_number(expr, field.form, field.width, facts, piece),
+        Some(expr) => fixed_number(expr, field.form, field.width, names, piece),
         None => Ok(number_in(value)),
-    }
-}
-
-/// The number that a value of a row is.
-pub fn number_in(value: Option<&Tree>) -> u32
-    ensures { result ≡ number_in (option_map (λ v. v.now) value.entry) }
-{
-    match value {
-        Some(Tree::Number(number)) => *number,
-        _ => 0,
     }
 }
 
@@ -62,13 +55,13 @@ pub fn fixed_number(
     expr: &Expr,
     form: NumForm,
     width: i32,
-    facts: &Facts,
+    names: &NamesEnv<'_>,
     piece: u64,
 ) -> Result<u32, Stop<LayFault>>
     requires { IsWidth width }
-    ensures { GivesLaid (fixed_number piece facts.now form width (term_of expr.now)) result }
+    ensures { GivesLaid (fixed_number piece names.now.facts.now (known names.now.counts.now) form width (term_of expr.now)) result }
 {
-    let value = match expression_value(expr, facts, piece) {
+    let value = match expression_value(expr, names, piece) {
         Ok(value) => value,
         Err(stop) => return Err(stop),
     };
@@ -83,16 +76,14 @@ pub fn fixed_number(
 }
 
 /// The value of an expression of a field.
-pub fn expression_value(expr: &Expr, facts: &Facts, piece: u64) -> Result<i32, Stop<LayFault>>
-    ensures { GivesLaid (value_in piece facts.now (term_of expr.now)) result }
+pub fn expression_value(
+    expr: &Expr,
+    names: &NamesEnv<'_>,
+    piece: u64,
+) -> Result<i32, Stop<LayFault>>
+    ensures { GivesLaid (value_in piece names.now.facts.now (known names.now.counts.now) (term_of expr.now)) result }
 {
-    match value_in(
-        expr,
-        &FieldEnv {
-            facts,
-            symbols: &[],
-        },
-    ) {
+    match value_in(expr, names) {
         Ok(value) => Ok(value),
         Err(fault) => Err(Stop::Refused(value_fault(fault, piece))),
     }

@@ -1,17 +1,20 @@
 ghost use Rattle.std.specs.Prelude.{IfOk, ◌≡◌, ◌≤◌, [], length, map, option_map, replicate, None};
 ghost use Rattle.rz_expr.specs.Term.{term_of};
 ghost use Rattle.rz_layout.specs.Laid.{draft_of, Lays};
+ghost use Rattle.rz_layout.specs.Names.{known};
 ghost use Rattle.rz_layout.specs.Sound.{IsGroupOf};
 ghost use Rattle.rz_types.specs.Field.{plain_points};
 ghost use Rattle.rz_types.specs.Laid.{field_laid, in_order, lay, takes_one};
 ghost use Rattle.rz_types.specs.Field.{Points};
-ghost use Rattle.rz_types.specs.Spells.{fixed_integer, free_integer, group_in, most_bits};
+ghost use Rattle.rz_types.specs.Spells.{fixed_integer, free_integer, most_bits};
 ghost use Rattle.rz_types.specs.declared.tree.Tree.TheVariants as trees;
 
 use crate::LayFault;
 use crate::laid::Laid;
+use crate::names::NamesEnv;
 use crate::number::fixed_number;
-use rz_core::{Facts, Stop};
+use crate::values::group_in;
+use rz_core::Stop;
 use rz_expr::Expr;
 use rz_types::{NumForm, PointField, Tree};
 
@@ -19,34 +22,24 @@ use rz_types::{NumForm, PointField, Tree};
 pub fn lay_points(
     field: &PointField,
     value: Option<&Tree>,
-    facts: &Facts,
+    names: &NamesEnv<'_>,
     laid: &mut Laid,
 ) -> Result<(), Stop<LayFault>>
     requires value { IsGroupOf (plain_points field.now) (option_map (λ v. v.now) value) }
     requires short { length laid.old.bits ≤ most_bits }
-    ensures laid { Lays (field_laid facts.now (draft_of laid.old) (Points (plain_points field.now)) (option_map (λ v. v.now) value.entry)) result (draft_of laid.new) }
+    ensures laid { Lays (field_laid names.now.facts.now (known names.now.counts.now) (draft_of laid.old) (Points (plain_points field.now)) (option_map (λ v. v.now) value.entry)) result (draft_of laid.new) }
     ensures short { IfOk result (λ _. length laid.new.bits ≤ most_bits) }
 {
     match &field.fixed {
-        Some(exprs) => lay_fixed(exprs.as_slice(), facts, laid),
-        None => lay_group(group_in(value), facts, laid),
-    }
-}
-
-/// The numbers that a value of a row is.
-fn group_in<'a>(value: Option<&'a Tree>) -> &'a [u16]
-    ensures { result.now ≡ group_in (option_map (λ v. v.now) value.entry) }
-{
-    match value {
-        Some(Tree::Group(numbers)) => numbers.as_slice(),
-        _ => &[],
+        Some(exprs) => lay_fixed(exprs.as_slice(), names, laid),
+        None => lay_group(group_in(value), names, laid),
     }
 }
 
 /// Lays numbers of a row, each an `integer`.
-fn lay_group(numbers: &[u16], _facts: &Facts, laid: &mut Laid) -> Result<(), Stop<LayFault>>
+fn lay_group(numbers: &[u16], _names: &NamesEnv<'_>, laid: &mut Laid) -> Result<(), Stop<LayFault>>
     requires short { length laid.old.bits ≤ most_bits }
-    ensures laid { Lays (in_order takes_one (lay _facts.now) (draft_of laid.old) (replicate (length numbers.now) free_integer) (map trees.Number numbers.now))
+    ensures laid { Lays (in_order takes_one (lay _names.now.facts.now (known _names.now.counts.now)) (draft_of laid.old) (replicate (length numbers.now) free_integer) (map trees.Number numbers.now))
         result (draft_of laid.new) }
     ensures short { IfOk result (λ _. length laid.new.bits ≤ most_bits) }
 {
@@ -60,13 +53,13 @@ fn lay_group(numbers: &[u16], _facts: &Facts, laid: &mut Laid) -> Result<(), Sto
 }
 
 /// Lays the values of expressions, each an `integer`.
-fn lay_fixed(exprs: &[Expr], facts: &Facts, laid: &mut Laid) -> Result<(), Stop<LayFault>>
+fn lay_fixed(exprs: &[Expr], names: &NamesEnv<'_>, laid: &mut Laid) -> Result<(), Stop<LayFault>>
     requires short { length laid.old.bits ≤ most_bits }
-    ensures laid { Lays (in_order takes_one (lay facts.now) (draft_of laid.old) (map fixed_integer (map term_of exprs.now)) []) result (draft_of laid.new) }
+    ensures laid { Lays (in_order takes_one (lay names.now.facts.now (known names.now.counts.now)) (draft_of laid.old) (map fixed_integer (map term_of exprs.now)) []) result (draft_of laid.new) }
     ensures short { IfOk result (λ _. length laid.new.bits ≤ most_bits) }
 {
     for expr in exprs {
-        match lay_expression(expr, facts, laid) {
+        match lay_expression(expr, names, laid) {
             Ok(()) => {}
             Err(stop) => return Err(stop),
         }
@@ -75,12 +68,12 @@ fn lay_fixed(exprs: &[Expr], facts: &Facts, laid: &mut Laid) -> Result<(), Stop<
 }
 
 /// Lays the value of an expression as an `integer`.
-fn lay_expression(expr: &Expr, facts: &Facts, laid: &mut Laid) -> Result<(), Stop<LayFault>>
+fn lay_expression(expr: &Expr, names: &NamesEnv<'_>, laid: &mut Laid) -> Result<(), Stop<LayFault>>
     requires short { length laid.old.bits ≤ most_bits }
-    ensures laid { Lays (lay facts.now (draft_of laid.old) (fixed_integer (term_of expr.now)) None) result (draft_of laid.new) }
+    ensures laid { Lays (lay names.now.facts.now (known names.now.counts.now) (draft_of laid.old) (fixed_integer (term_of expr.now)) None) result (draft_of laid.new) }
     ensures short { IfOk result (λ _. length laid.new.bits ≤ most_bits) }
 {
-    match fixed_number(expr, NumForm::Integer, 16, facts, laid.piece) {
+    match fixed_number(expr, NumForm::Integer, 16, names, laid.piece) {
         Ok(number) => laid.put_number(number, 16),
         Err(stop) => Err(stop),
     }

@@ -2,17 +2,20 @@ ghost use Rattle.std.specs.Prelude.{IfOk, ◌≡◌, ◌<◌, ◌≤◌, ◌^◌
 ghost use Rattle.rz_expr.specs.Term.{term_of};
 ghost use Rattle.rz_layout.specs.Laid.{draft_of, sized_put, text_put, GivesLaid, Lays};
 ghost use Rattle.rz_layout.specs.Fault.{refusal_of};
+ghost use Rattle.rz_layout.specs.Names.{known};
 ghost use Rattle.rz_layout.specs.Text.{sized_length, stored_length};
 ghost use Rattle.rz_types.specs.Field.{plain_text};
-ghost use Rattle.rz_types.specs.Laid.{fixed_bytes, lay, refusal, size_in, text_in, text_refusal};
+ghost use Rattle.rz_types.specs.Laid.{fixed_bytes, lay, refusal, size_in, text_refusal};
 ghost use Rattle.rz_types.specs.Spells.{most_bits, OneText};
 ghost use Rattle.rz_types.specs.Stored.{before_zero};
 ghost use Rattle.rz_types.specs.Text.{plain_parts};
 
 use crate::LayFault;
 use crate::laid::{Laid, one_more};
+use crate::names::NamesEnv;
 use crate::number::expression_value;
 use crate::push::push_text;
+use crate::values::text_in;
 use rz_core::{Bytes, Facts, Kept, Mark, Stop};
 use rz_expr::Expr;
 use rz_types::{TextField, TextForm, Texts, Tree, is_too_long, may_be_size, text_of};
@@ -23,15 +26,15 @@ pub fn lay_text(
     alloc: Global,
     field: &TextField,
     value: Option<&Tree>,
-    facts: &Facts,
+    names: &NamesEnv<'_>,
     laid: &mut Laid,
 ) -> Result<(), Stop<LayFault>>
     requires short { length laid.old.bits ≤ most_bits }
-    ensures laid { Lays (lay facts.now (draft_of laid.old) (OneText (plain_text field.now)) (option_map (λ v. v.now) value.entry)) result (draft_of laid.new) }
+    ensures laid { Lays (lay names.now.facts.now (known names.now.counts.now) (draft_of laid.old) (OneText (plain_text field.now)) (option_map (λ v. v.now) value.entry)) result (draft_of laid.new) }
     ensures short { IfOk result (λ _. length laid.new.bits ≤ most_bits) }
 {
-    match size_in(&field.size, facts, laid.piece) {
-        Ok(size) => lay_sized(alloc, field, size, value, facts, laid),
+    match size_in(&field.size, names, laid.piece) {
+        Ok(size) => lay_sized(alloc, field, size, value, names.facts, laid),
         Err(stop) => Err(stop),
     }
 }
@@ -59,25 +62,19 @@ fn lay_sized(
 }
 
 /// The size of a text, where it has one.
-fn size_in(size: &Option<Expr>, facts: &Facts, piece: u64) -> Result<Option<i32>, Stop<LayFault>>
-    ensures { GivesLaid (size_in piece facts.now (option_map term_of size.now)) result }
+fn size_in(
+    size: &Option<Expr>,
+    names: &NamesEnv<'_>,
+    piece: u64,
+) -> Result<Option<i32>, Stop<LayFault>>
+    ensures { GivesLaid (size_in piece names.now.facts.now (known names.now.counts.now) (option_map term_of size.now)) result }
 {
     match size {
-        Some(expr) => match expression_value(expr, facts, piece) {
+        Some(expr) => match expression_value(expr, names, piece) {
             Ok(size) => Ok(Some(size)),
             Err(stop) => Err(stop),
         },
         None => Ok(None),
-    }
-}
-
-/// The bytes that a value of a row is.
-fn text_in<'a>(value: Option<&'a Tree>) -> &'a [u8]
-    ensures { result.now ≡ text_in (option_map (λ v. v.now) value.entry) }
-{
-    match value {
-        Some(Tree::Text(bytes)) => bytes.as_slice(),
-        _ => &[],
     }
 }
 
