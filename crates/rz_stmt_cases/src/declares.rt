@@ -1,7 +1,9 @@
 use crate::data::{bytes_of, show_value, wrong_cases};
 use rz_core::{Bytes, Mark, OsType, write_decimal, write_signed};
 use rz_stmt::{Bounds, DeclareStmt, Made};
-use rz_types::{Body, Field, NumField, NumForm, PointField, Radix, TextField, TextForm};
+use rz_types::{
+    ArrayField, Body, Cases, Field, NumField, NumForm, PointField, Radix, TextField, TextForm,
+};
 use std::alloc::Global;
 use std::test::Fail;
 
@@ -87,11 +89,60 @@ type 'Byte' { align bit; }; => 201 on 1
 type 'Byte' { align word[2]; }; => 201 on 1
 // facts of a resource, here of one with the id 0
 type 'Byte' { byte = $$ID; }; => 'Byte' any {byte =0; }.
+// arrays and switches
+type 'Byte' { array { byte; }; }; => 'Byte' any {array {byte; }; }.
+type 'Byte' { wide array a { byte; integer }; byte }; => 'Byte' any {array a {byte; integer; }; byte; }.
+type 'Byte' { ARRAY [1 + 2] { array TRUE { char } } }; => 'Byte' any {array 3 {array TRUE {char; }; }; }.
+type 'Byte' { array { }; }; => 'Byte' any {array {}; }.
+type 'Byte' { switch { case a: key byte = 1; case Locked: ; byte; }; }; => 'Byte' any {switch a {key byte =1; } Locked {byte; }; }.
+type 'Byte' { switch { }; }; => 'Byte' any {switch; }.
+type 'Byte' { switch { case a: byte b, c; key unsigned hex bitstring[7] = 4; pstring case d: switch { case e: } } }; => 'Byte' any {switch a {byte b:0 c:1; key bits 7 unsigned hex =4; pstring; } d {switch e {}; }; }.
+type 'Byte' { array a b { byte; }; }; => 201 on 1
+type 'Byte' { array a [1] { byte; }; }; => 201 on 1
+type 'Byte' { array [1] a { byte; }; }; => 201 on 1
+type 'Byte' { array [] { byte; }; }; => 201 on 1
+type 'Byte' { array 1 { byte; }; }; => 201 on 1
+type 'Byte' { array byte { byte; }; }; => 201 on 1
+type 'Byte' { array a; }; => 201 on 1
+type 'Byte' { array { byte; } a; }; => 201 on 1
+type 'Byte' { wide; }; => 201 on 1
+type 'Byte' { wide wide array { byte; }; }; => 201 on 1
+type 'Byte' { wide switch { }; }; => 201 on 1
+type 'Byte' { hex array { byte; }; }; => 201 on 1
+type 'Byte' { unsigned wide array { byte; }; }; => 201 on 1
+type 'Byte' { array { byte } byte; }; => 201 on 1
+type 'Byte' { switch { byte; case a: }; }; => 201 on 1
+type 'Byte' { switch { ; case a: }; }; => 201 on 1
+type 'Byte' { switch { case: byte; }; }; => 201 on 1
+type 'Byte' { switch { case a byte; }; }; => 201 on 1
+type 'Byte' { switch { case byte: byte; }; }; => 201 on 1
+type 'Byte' { switch { case a: case }; }; => 201 on 1
+type 'Byte' { switch a { case a: }; }; => 201 on 1
+type 'Byte' { case a: byte; }; => 201 on 1
+type 'Byte' { key byte = 1; }; => 201 on 1
+type 'Byte' { array { key byte = 1; }; }; => 201 on 1
+type 'Byte' { switch { case a: array { key byte = 1; }; }; }; => 201 on 1
+type 'Byte' { switch { case a: key byte; }; }; => 201 on 1
+type 'Byte' { switch { case a: key byte b; }; }; => 201 on 1
+type 'Byte' { switch { case a: key char = 1; }; }; => 201 on 1
+type 'Byte' { switch { case a: key boolean = 1; }; }; => 201 on 1
+type 'Byte' { switch { case a: key string = "a"; }; }; => 201 on 1
+type 'Byte' { switch { case a: hex key byte = 1; }; }; => 201 on 1
+type 'Byte' { switch { case a: key key byte = 1; }; }; => 201 on 1
+type 'Byte' { switch { case a: key byte = $$ID; }; }; => 201 on 1
+type 'Byte' { switch { case a: key byte = $$CountOf(b); }; }; => 201 on 1
+type 'Byte' { string[$$CountOf(a)]; }; => 201 on 1
+type 'Byte' { bitstring[$$CountOf(a)]; }; => 201 on 1
+type 'Byte' { array [$$CountOf(a)] { byte; }; }; => 201 on 1
+// constants within, from left to right
+type 'Byte' { array [1 / 0] { bitstring[1 << 40]; }; }; => 211 on 1
+type 'Byte' { array { bitstring[1 << 40]; }; fill bit[1 / 0]; }; => 215 on 1 40
+type 'Byte' { switch { case a: key bitstring[1 / 0] = 1 << 40; }; }; => 211 on 1
+type 'Byte' { switch { case a: key byte = 1 << 40; case b: byte c = 256; }; }; => 215 on 1 40
+type 'Byte' { switch { case a: byte c = 256; key byte = 1 / 0; }; }; => 207 on 1 256
 // what isn't built yet
 type 'Byte' { x: byte; }; => 201 on 1
-type 'Byte' { array { byte; }; }; => 201 on 1
-type 'Byte' { switch { case a: key byte = 1; }; }; => 201 on 1
-type 'Byte' { integer = $$CountOf(a); }; => 201 on 1
+type 'Byte' { integer = $$Word(a); }; => 201 on 1
 // constants without a value, the first from left to right, after the form
 type 'Byte' (1 / 0) { byte; }; => 211 on 1
 type 'Byte' (1 << 32 : 1 / 0) { byte; }; => 215 on 1 32
@@ -154,6 +205,9 @@ fn show_radix(radix: Radix, text: &mut Bytes) -> Result<(), Fail> {
 
 /// Appends a number.
 fn show_number(alloc: Global, number: &NumField, mark: Mark, text: &mut Bytes) -> Result<(), Fail> {
+    if number.key {
+        text.append(b"key ")?;
+    }
     show_form(number.form, number.width, text)?;
     if number.unsigned {
         text.append(b" unsigned")?;
@@ -219,7 +273,36 @@ fn show_points(
     Ok(())
 }
 
+/// Appends an array.
+#[cycle(show)]
+fn show_array(alloc: Global, array: &ArrayField, mark: Mark, text: &mut Bytes) -> Result<(), Fail> {
+    text.append(b"array ")?;
+    if let Some(name) = &array.name {
+        text.append(name.bytes.as_slice())?;
+        text.push(b' ')?;
+    }
+    if let Some(count) = array.count {
+        write_signed(i64::from(count), text)?;
+        text.push(b' ')?;
+    }
+    show_body(alloc, &array.row, mark, text)
+}
+
+/// Appends a switch.
+#[cycle(show)]
+fn show_switch(alloc: Global, cases: &Cases, mark: Mark, text: &mut Bytes) -> Result<(), Fail> {
+    text.append(b"switch")?;
+    for case in cases.as_slice() {
+        text.push(b' ')?;
+        text.append(case.name.bytes.as_slice())?;
+        text.push(b' ')?;
+        show_body(alloc, &case.row, mark, text)?;
+    }
+    Ok(())
+}
+
 /// Appends a field.
+#[cycle(show)]
 fn show_field(alloc: Global, field: &Field, mark: Mark, text: &mut Bytes) -> Result<(), Fail> {
     match field {
         Field::Num(number) => show_number(alloc, number, mark, text)?,
@@ -235,12 +318,15 @@ fn show_field(alloc: Global, field: &Field, mark: Mark, text: &mut Bytes) -> Res
             text.append(b"align ")?;
             write_decimal(u64::from(*unit), text)?;
         }
+        Field::Array(array) => show_array(alloc, array, mark, text)?,
+        Field::Switch(cases) => show_switch(alloc, cases, mark, text)?,
     }
     text.append(b"; ")?;
     Ok(())
 }
 
 /// Appends fields.
+#[cycle(show)]
 fn show_body(alloc: Global, body: &Body, mark: Mark, text: &mut Bytes) -> Result<(), Fail> {
     text.push(b'{')?;
     for field in body.as_slice() {

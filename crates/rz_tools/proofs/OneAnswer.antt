@@ -24,7 +24,7 @@ use Rattle.rz_tools.specs.declared.setting.Setting.{Setting}
 use Rattle.rz_items.specs.Item.{PlainItem}
 use Rattle.rz_layout.specs.Compiled.{IsCompiled}
 use Rattle.rz_match.specs.Match.{IsMatch}
-use Rattle.rz_types.specs.Field.{PlainField}
+use Rattle.rz_types.specs.Field.{PlainBody}
 use Rattle.rz_types.specs.Laid.{Refusal}
 use Rattle.rz_types.specs.declared.tree.Tree.{Tree}
 use Rattle.rz_tools.proofs.Resources.{once_list}
@@ -80,11 +80,11 @@ once_unsaid {X} answers once (Err a) (Err b) is also =
     λ i. Err (record { fault = (same i).fault; files = (same i).files; said = (is.1 ∙ sym also.1) i })
 
 abbrev pub OneMatch : Type 0
-OneMatch = (known : Facts) (place : Mark) (body : List PlainField) (items : List PlainItem) (answer another : Result (List Tree) Fault)
+OneMatch = (known : Facts) (place : Mark) (body : PlainBody) (items : List PlainItem) (answer another : Result (List Tree) Fault)
     → IsMatch known place body items answer → IsMatch known place body items another → answer ≡ another
 
 abbrev pub OneSpelling : Type 0
-OneSpelling = (known : Facts) (body : List PlainField) (row : List Tree) (answer another : Result (List ℕ) Refusal)
+OneSpelling = (known : Facts) (body : PlainBody) (row : List Tree) (answer another : Result (List ℕ) Refusal)
     → IsCompiled known body row answer → IsCompiled known body row another → answer ≡ another
 
 module _ (cutting : OneCutting) (statement_law : OneStatement) (matching : OneMatch) (spelling : OneSpelling) where

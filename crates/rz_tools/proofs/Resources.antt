@@ -19,7 +19,7 @@ use Rattle.rz_tools.specs.Head.{facts_of}
 use Rattle.rz_tools.specs.Resource.{fields_for, row_fault, AreBytes, AreItemBytes, IsMade, IsResource, IsSpelled}
 use Rattle.rz_tools.specs.Step.{put_unless_protected, IsListBehind, Stepped}
 use Rattle.rz_tools.specs.declared.setting.Setting.{Setting}
-use Rattle.rz_types.specs.Field.{PlainField}
+use Rattle.rz_types.specs.Field.{PlainBody}
 use Rattle.rz_types.specs.Laid.{Refusal}
 use Rattle.rz_types.specs.Table.{Declaration}
 use Rattle.rz_types.specs.declared.tree.Tree.{Tree}
@@ -37,11 +37,11 @@ module _ {X Y F : Type 0} (first : Result X F → Type 0) (next : X → Result Y
   then_stops NoMemory is = tt
 
 -- a row, with its fault on this line
-pub spelled_bytes : (mark : Mark) (known : Facts) (body : List PlainField) (row : List Tree) (bytes : List ℕ) → MeetsLaid (Ok bytes) (IsCompiled known body row)
+pub spelled_bytes : (mark : Mark) (known : Facts) (body : PlainBody) (row : List Tree) (bytes : List ℕ) → MeetsLaid (Ok bytes) (IsCompiled known body row)
     → Meets {F = Fault} (Ok bytes) (IsSpelled mark known body row)
 spelled_bytes mark known body row bytes is = is
 
-pub spelled_fault : (mark : Mark) (known : Facts) (body : List PlainField) (row : List Tree) (fault : LayFault) (told : Fault) → IsCompiled known body row (Err (refusal_of fault))
+pub spelled_fault : (mark : Mark) (known : Facts) (body : PlainBody) (row : List Tree) (fault : LayFault) (told : Fault) → IsCompiled known body row (Err (refusal_of fault))
     → told ≡ row_fault mark (refusal_of fault) → IsSpelled mark known body row (Err told)
 spelled_fault mark known body row fault told is tells = (refusal_of fault, is, tells)
 
@@ -60,9 +60,9 @@ module _ (setting : Setting) (mark : Mark) (types : List Declaration) (list : Li
 
 -- There is one answer.
 
-module _ (matching : (known : Facts) (place : Mark) (body : List PlainField) (items : List PlainItem) → Once (IsMatch known place body items))
-    (spelling : (known : Facts) (body : List PlainField) (row : List Tree) → Once (IsCompiled known body row)) where
-  once_spelled : (mark : Mark) (known : Facts) (body : List PlainField) (row : List Tree) → Once (IsSpelled mark known body row)
+module _ (matching : (known : Facts) (place : Mark) (body : PlainBody) (items : List PlainItem) → Once (IsMatch known place body items))
+    (spelling : (known : Facts) (body : PlainBody) (row : List Tree) → Once (IsCompiled known body row)) where
+  once_spelled : (mark : Mark) (known : Facts) (body : PlainBody) (row : List Tree) → Once (IsSpelled mark known body row)
   once_spelled mark known body row = once_by (IsSpelled mark known body row)
       (λ x y is also. same_ok {F = Refusal} x y (spelling known body row (Ok x) (Ok y) is also))
       (λ f g is also. is.2 ∙ ap (row_fault mark) (same_err {X = List ℕ} is.0 also.0 (spelling known body row (Err is.0) (Err also.0) is.1 also.1)) ∙ sym also.2)

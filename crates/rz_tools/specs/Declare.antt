@@ -13,7 +13,7 @@ use Rattle.rz_stmt.specs.Constants.{CopyOf, Fields, PlainMade}
 use Rattle.rz_declare.specs.declared.constants.Bounds.{Bounds}
 use Rattle.rz_declare.specs.declared.constants.Bounds.TheVariants as bounds
 use Rattle.rz_tools.specs.Head.{id_of}
-use Rattle.rz_types.specs.Field.{PlainField}
+use Rattle.rz_types.specs.Field.{PlainBody}
 use Rattle.rz_types.specs.Rules.{checked}
 use Rattle.rz_types.specs.Table.{copied, Declaration}
 use Rattle.rz_types.specs.declared.rules.TypeFault.{TypeFault}
@@ -50,7 +50,7 @@ copied_id mark None = Ok None
 copied_id mark (Some id) = id_of mark id >>= (λ id. Ok (Some id))
 
 -- the fields, which keep the rules, or those of another declaration: 239
-abbrev pub template_of : Mark → List Declaration → PlainMade → Result (List PlainField) Fault
+abbrev pub template_of : Mark → List Declaration → PlainMade → Result PlainBody Fault
 template_of mark types (Fields body) = on_line mark (checked body)
 template_of mark types (CopyOf kind id) = copied_id mark id >>= (λ id. on_line mark (copied (record { code = kind }) id types))
 

@@ -17,7 +17,7 @@ use Rattle.rz_match.specs.Match.{IsMatch}
 use Rattle.rz_tools.specs.Data.{with_bytes}
 use Rattle.rz_tools.specs.Head.{facts_of}
 use Rattle.rz_tools.specs.declared.setting.Setting.{Setting}
-use Rattle.rz_types.specs.Field.{PlainField}
+use Rattle.rz_types.specs.Field.{PlainBody}
 use Rattle.rz_types.specs.Laid.{Refusal}
 use Rattle.rz_types.specs.Table.{found, Declaration}
 use Rattle.rz_types.specs.declared.tree.Tree.{Tree}
@@ -27,7 +27,7 @@ abbrev pub no_type : Mark → Facts → Fault
 no_type mark known = record { number = 202; mark = Some mark; kept = kept.Key known.kind known.id }
 
 -- the fields that are declared for a resource
-abbrev pub fields_for : Mark → List Declaration → Facts → Result (List PlainField) Fault
+abbrev pub fields_for : Mark → List Declaration → Facts → Result PlainBody Fault
 fields_for mark types known = ok_or (option_map (λ one. one.template) (found known.kind known.id types)) (no_type mark known)
 
 -- what a refused row keeps: of a zero divisor nothing
@@ -39,12 +39,12 @@ abbrev pub row_fault : Mark → Refusal → Fault
 row_fault mark fault = record { number = fault.number; mark = Some mark; kept = row_kept fault }
 
 -- the bytes that a row spells, or its refusal on this line
-abbrev pub IsSpelled : Mark → Facts → List PlainField → List Tree → Result (List ℕ) Fault → Type 0
+abbrev pub IsSpelled : Mark → Facts → PlainBody → List Tree → Result (List ℕ) Fault → Type 0
 IsSpelled mark known body row (Ok bytes) = IsCompiled known body row (Ok bytes)
 IsSpelled mark known body row (Err fault) = (refused : Refusal) × IsCompiled known body row (Err refused) × (fault ≡ row_fault mark refused)
 
 -- the bytes of items under these fields: those of the row that they fit
-abbrev pub AreItemBytes : Mark → Facts → List PlainItem → List PlainField → Result (List ℕ) Fault → Type 0
+abbrev pub AreItemBytes : Mark → Facts → List PlainItem → PlainBody → Result (List ℕ) Fault → Type 0
 AreItemBytes mark known items body = Then (IsMatch known mark body items) (IsSpelled mark known body)
 
 -- and under the fields that are declared for the resource

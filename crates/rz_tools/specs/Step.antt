@@ -23,7 +23,7 @@ use Rattle.rz_tools.specs.Resource.{IsResource}
 use Rattle.rz_tools.specs.Declare.{redeclared, scope_of, template_of}
 use Rattle.rz_tools.specs.ToolWords.{numbered}
 use Rattle.rz_tools.specs.declared.setting.Setting.{Setting}
-use Rattle.rz_types.specs.Field.{PlainField}
+use Rattle.rz_types.specs.Field.{PlainBody}
 use Rattle.rz_types.specs.Table.{declared_behind, has_place, Declaration}
 use Rattle.rz_types.specs.declared.table.Scope.{Scope}
 
@@ -70,7 +70,7 @@ warned setting mark work kind scope =
     if has_place kind scope work.types && not setting.redeclare then work.warnings ++ redeclared mark kind scope ∷ [] else work.warnings
 
 -- with a declaration
-abbrev pub with_type : Setting → Mark → Work → OsType → Scope → List PlainField → Work
+abbrev pub with_type : Setting → Mark → Work → OsType → Scope → PlainBody → Work
 with_type setting mark work kind scope template = record {
   types = declared_behind work.types (record { kind = kind; scope = scope; template = template });
   list = work.list;
