@@ -17,7 +17,7 @@ pub fn read_items(alloc: Global, tokens: &[Token]) -> Result<Option<Items>, NoMe
     ensures { IfOk result (λ items. Decided (AreItems tokens.now) (option_map plain_items items)) }
 {
     let pieces = pieces_by(alloc, tokens, Divider::Separator)?;
-    let mut items = Items::new(alloc);
+    let mut items = Items::with_capacity(alloc, pieces.len())?;
     for piece in stripped(&pieces) {
         let Some(item) = read_item(alloc, piece)? else {
             return Ok(None);

@@ -1,18 +1,49 @@
-ghost use Rattle.std.specs.Prelude.{◌≡◌, IfOk, option_map};
+ghost use Rattle.std.specs.Prelude.{◌≡◌, pos, IfOk, IfSome, option_map};
 ghost use Rattle.rz_core.specs.Decided.{Decided};
-ghost use Rattle.rz_expr.specs.Term.{term_of};
+ghost use Rattle.rz_expr.specs.Term.{term_of, Constant};
+ghost use Rattle.rz_expr.specs.Value.{reduced};
 ghost use Rattle.rz_items.specs.Item.{plain_item};
 ghost use Rattle.rz_items.specs.Simple.{is_item_expression, IsItemExpression, IsSimple};
 
 use crate::item::Item;
 use rz_core::{Mark, NoMemory};
-use rz_expr::{Expr, one_expression, read_whole};
-use rz_lex::Token;
+use rz_expr::{Expr, one_expression, read_whole, signed};
+use rz_lex::{Shape, Token};
 use rz_types::{is_resource_fact, text_in};
 use std::alloc::Global;
 
 /// The text or the number that the tokens are.
 pub fn read_simple(alloc: Global, mark: Mark, tokens: &[Token]) -> Result<Option<Item>, NoMemory>
+    ensures { IfOk result (λ item. Decided (IsSimple mark tokens.now) (option_map plain_item item)) }
+{
+    match one_number(mark, tokens) {
+        Some(item) => Ok(Some(item)),
+        None => read_parts(alloc, mark, tokens),
+    }
+}
+
+/// The number that one token alone is. Most items are such, so they are read at once.
+fn one_number(mark: Mark, tokens: &[Token]) -> Option<Item>
+    ensures { IfSome result (λ item. IsSimple mark tokens.now (plain_item item)) }
+{
+    match tokens {
+        [token] => match &token.shape {
+            Shape::Number(number) => Some(Item::Number(constant(*number), mark)),
+            _ => None,
+        },
+        _ => None,
+    }
+}
+
+/// A number token as an expression.
+fn constant(number: u32) -> Expr
+    ensures { term_of result ≡ Constant (reduced (pos number)) }
+{
+    Expr::Number(signed(number))
+}
+
+/// The text or the number that any tokens are.
+fn read_parts(alloc: Global, mark: Mark, tokens: &[Token]) -> Result<Option<Item>, NoMemory>
     ensures { IfOk result (λ item. Decided (IsSimple mark tokens.now) (option_map plain_item item)) }
 {
     match text_in(alloc, tokens)? {

@@ -49,7 +49,7 @@ read_item-returns-in-None t c =
 pub read_items-loop-piece-init : goal.read_items-loop-piece-init
 read_items-loop-piece-init t c = record {
   leads = subst (Leads (map (λ piece. piece.now) c.stripped-piece-items.result.now) (map (λ piece. piece.now) c.stripped-piece-items.result.now))
-      (sym (ap plain_items c.new-items.ensures)) (leads_first (map (λ piece. piece.now) c.stripped-piece-items.result.now));
+      (sym (ap plain_items c.in_ok-items.ensures)) (leads_first (map (λ piece. piece.now) c.stripped-piece-items.result.now));
   short = subst (AreShort (length c.args.tokens.now)) (sym c.stripped-piece-items.ensures)
       (stripped_short (length c.args.tokens.now) (map (λ piece. piece.now) c.deref.result.now)
       (cut_short Separator c.args.tokens.now (map (λ piece. piece.now) c.deref.result.now)
