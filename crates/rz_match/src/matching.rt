@@ -102,7 +102,7 @@ fn match_row(
 ) -> Result<Line, Stop<Fault>>
     ensures { GivesLine items.now (row_matched facts.now (plain_body fields.now) place (plain_items items.now) before (plain_items (drop before items.now))) result }
 {
-    let mut row = Row::new(alloc);
+    let mut row = Row::with_capacity(alloc, values_of(fields))?;
     let mut next = before;
     for field in fields {
         if takes_value(field) {
@@ -117,6 +117,17 @@ fn match_row(
         }
     }
     Ok(Line { row, before: next })
+}
+
+/// How many values a row of the fields has, for the memory that it takes.
+fn values_of(fields: &[Field]) -> usize {
+    let mut size: usize = 0;
+    for field in fields {
+        if takes_value(field) {
+            size = size.saturating_add(1);
+        }
+    }
+    size
 }
 
 /// The value that an item, at this position in its list, gives to a field.
