@@ -239,7 +239,7 @@ const ROWS: [(i32, Option<i64>); 5] = [
 ];
 
 #[test]
-fn stated_rows_are_as_many_as_a_row_has_values(rt: HostRuntime) -> Result<(), Fail> {
+fn stated_rows_are_at_most_1048576(rt: HostRuntime) -> Result<(), Fail> {
     let alloc = rt.alloc();
     for (count, wanted) in ROWS {
         let row = only(alloc, number(alloc, NumForm::Byte, 8))?;
