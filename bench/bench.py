@@ -11,7 +11,8 @@ Printed are the bytes read, the seconds, MB/s, the peak memory in MB and for eac
 both the next size takes in place of the one before. Where `cpp` and `xxd` are on the machine, the 16 MB of
 the two longest kinds of source are given to `cpp -P`, and the digits of the hexadecimal one to `xxd -r -p`.
 The status is 1 where a length is wrong, or where from 4 to 16 MB more than five times the time or
-the memory is taken, or where a source of hexadecimal texts takes more than 12 bytes for each of its own.
+the memory is taken, or where a source of hexadecimal texts takes more than 12 bytes for each of its own,
+or where 16 MB of rows take more than twice the time of the same bytes as `data`, with a string for each value.
 """
 
 import os
@@ -27,6 +28,7 @@ MB = 1_000_000
 SIZES = (1, 4, 16)
 MOST_GROWTH = 5.0
 MOST_HEX_BYTES = 12.0
+MOST_TIMES_DATA = 2.0
 RUNS = 5
 
 
@@ -161,6 +163,51 @@ def write_items(folder, rng, size):
     return fork_length({("Item", 0): count})
 
 
+def write_rows(folder, rng, size):
+    """One array, each row of a number and a string of three bytes, counted by a number before it."""
+    count = size // len('100, "abc";\n')
+    with open(os.path.join(folder, "main.r"), "w") as source:
+        source.write("type 'Rows' { longint = $$CountOf(All); array All { byte; pstring; }; };\nresource 'Rows' (0) { {\n")
+        source.writelines('%d, "abc";\n' % rng.randrange(100, 256) for _ in range(count))
+        source.write("} };\n")
+    return fork_length({("Rows", 0): 4 + 5 * count})
+
+
+def write_rows_data(folder, rng, size):
+    """The bytes of `write_rows` as `data`, with a string for each value."""
+    count = size // len('100, "abc";\n')
+    with open(os.path.join(folder, "main.r"), "w") as source:
+        source.write("data 'Rows' (0) {\n$\"%08X\"\n" % count)
+        source.writelines('$"%02X" "\\0x03abc"\n' % rng.randrange(100, 256) for _ in range(count))
+        source.write("};\n")
+    return fork_length({("Rows", 0): 4 + 5 * count})
+
+
+def write_inner(folder, rng, size):
+    """An array of arrays of ten numbers each, every one counted before it."""
+    count = size // (len("{ };\n") + 10 * len("100, "))
+    with open(os.path.join(folder, "main.r"), "w") as source:
+        source.write(
+            "type 'Rows' { longint = $$CountOf(All); array All { byte = $$CountOf(Inner); array Inner { byte; }; }; };\n"
+            "resource 'Rows' (0) { {\n"
+        )
+        for _ in range(count):
+            source.write("{ %s };\n" % ", ".join("%d" % rng.randrange(100, 256) for _ in range(10)))
+        source.write("} };\n")
+    return fork_length({("Rows", 0): 4 + 11 * count})
+
+
+def write_inner_data(folder, rng, size):
+    """The bytes of `write_inner` as `data`, with a string for each value."""
+    count = size // (len("{ };\n") + 10 * len("100, "))
+    with open(os.path.join(folder, "main.r"), "w") as source:
+        source.write("data 'Rows' (0) {\n$\"%08X\"\n" % count)
+        for _ in range(count):
+            source.write('$"0A" %s\n' % " ".join('$"%02X"' % rng.randrange(100, 256) for _ in range(10)))
+        source.write("};\n")
+    return fork_length({("Rows", 0): 4 + 11 * count})
+
+
 def write_fork(folder, rng, size):
     """A fork of 4,000 resources in 500 types. Gives the length of its text."""
     count, kinds = 4000, 500
@@ -272,11 +319,16 @@ def main():
         ("types", write_types),
         ("values", write_values),
         ("items", write_items),
+        ("rows", write_rows),
+        ("rowsdata", write_rows_data),
+        ("inner", write_inner),
+        ("innerdata", write_inner_data),
         ("fork", write_fork),
     )
     print("%s, seed %d, %d cores" % (program, seed, os.cpu_count()))
     print("%-9s %5s %10s %8s %7s %8s %7s %12s" % ("kind", "MB", "bytes", "seconds", "MB/s", "peak MB", "/byte", "growth"))
     good = True
+    took = {}
     for kind, make in kinds:
         before = None
         for size in SIZES:
@@ -291,6 +343,11 @@ def main():
                 good = good and max(seconds / before[0], memory / before[1]) <= MOST_GROWTH
                 good = good and (kind != "hex" or memory / read <= MOST_HEX_BYTES)
             before = (seconds, memory)
+        took[kind] = before[0]
+    for kind in ("rows", "inner"):
+        times = took[kind] / took[kind + "data"]
+        print("%s: %.1f times the time of the same bytes as data" % (kind, times))
+        good = good and times <= MOST_TIMES_DATA
     compare(lambda: random.Random(seed))
     print("all lengths and limits hold" if good else "a length or a limit does not hold")
     sys.exit(0 if good else 1)
