@@ -11,3 +11,4 @@ pub mod Walks
 pub mod Broken
 pub mod Differing
 pub mod Keeping
+mod Examples

@@ -15,5 +15,7 @@ pub mod Template
 pub mod Table
 pub mod TypeTable
 pub mod Scopes
+pub mod Solve
 pub mod Spells
+pub mod Readable
 pub mod Laid

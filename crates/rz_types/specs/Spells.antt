@@ -1,7 +1,7 @@
 -- Which bytes the values of a row spell under the fields of a type. (Inside Macintosh: More Macintosh Toolbox, Resource
 -- Manager; MPW Rez.)
-use Rattle.std.specs.Prelude.{◌≡◌, ◌≢◌, ℕ, ◌+◌, ◌*◌, ◌<◌, ◌≤◌, ◌^◌, ℤ, pos, nat_abs, Bool, true, false, ◌||◌, List, [], ◌∷◌, ◌++◌, length, map, take, drop, replicate, slice_index, Option, Some, None, Ok}
-use Rattle.std.specs.Option.{option_to_list}
+use Rattle.std.specs.Prelude.{◌≡◌, ◌≢◌, ℕ, ◌+◌, ◌*◌, ◌<◌, ◌≤◌, ◌^◌, ℤ, pos, nat_abs, Bool, true, false, ◌&&◌, ◌||◌, not, if◌then◌else◌, List, [], ◌∷◌, ◌++◌, length, map, take, drop, replicate, slice_index, Option, Some, None, Ok}
+use Rattle.std.specs.Option.{is_some, option_to_list}
 use Rattle.std.specs.List.{AllByRecursion, sum_by}
 use Rattle.std.specs.Str.{str_eq_ignore_ascii_case}
 use Rattle.rz_core.specs.declared.resource.Word.{Word}
@@ -16,6 +16,7 @@ use Rattle.rz_types.specs.Field.{case_and, field_and, no_cases, no_fields, Align
 use Rattle.rz_types.specs.Range.{fits_number, may_be_size}
 use Rattle.rz_types.specs.Row.{By, IsStated}
 use Rattle.rz_types.specs.Shape.{numbers_of}
+use Rattle.rz_types.specs.Solve.{has_key, SolvesBack}
 use Rattle.rz_types.specs.Stored.{before_zero, is_too_long, stored_number, stored_text}
 use Rattle.rz_types.specs.Text.{bytes_of, PlainPart}
 use Rattle.rz_types.specs.Value.{names_sight, symbol_key}
@@ -87,12 +88,8 @@ IsGroupedFor field value = Unit {0}
 
 -- What is seen.
 
--- the names of labels that stand before a field; so far no field is a label
 abbrev pub Names : Type 0
 Names = Key → Bool
-
-abbrev pub no_names : Names
-no_names key = false
 
 -- which bits are those of a late number, one that is computed after all others: a mark for each bit
 abbrev pub Late : Type 0
@@ -130,6 +127,56 @@ abbrev pub declares : PlainBody → Key → Bool
 declares no_fields key = false
 declares (field_and field fields) key = gives_key field key || declares fields key
 
+-- What the fields before one tell of names: which stand before it, labels and arrays by the numbers of their rows, and which
+-- are told, by a stated count or by a number before it.
+pub record Passed : Type 0 where
+  pub met : Names
+  pub told : Names
+
+abbrev pub is_known : Passed → Names
+is_known passed key = passed.met key || passed.told key
+
+-- outside of all fields `true` and `false` are known
+abbrev pub nothing_passed : Passed
+nothing_passed = record { met = λ key. is_some (outside.give key); told = λ key. false }
+
+-- an array with a stated count tells its key
+abbrev pub states_count : Option Word → Option ℤ → Names
+states_count name None key = false
+states_count name (Some count) key = gives_count name key
+
+abbrev pub states_key : PlainField → Names
+states_key (Array name count row) key = states_count name count key
+states_key field key = false
+
+abbrev pub states : PlainBody → Names
+states no_fields key = false
+states (field_and field fields) key = states_key field key || states fields key
+
+-- at the front of a body: what was known outside of it but for its own names, and of these the stated counts
+abbrev pub at_front : PlainBody → Passed → Passed
+at_front body passed = record {
+  met = λ key. not (declares body key) && passed.met key;
+  told = λ key. if declares body key then states body key else passed.told key;
+}
+
+-- behind a number its expression's names are told
+abbrev pub told_by : Option Term → Passed → Passed
+told_by None passed = passed
+told_by (Some term) passed = record { met = passed.met; told = λ key. has_key key term || passed.told key }
+
+abbrev pub behind_piece : Piece → Passed → Passed
+behind_piece (OneNumber number) passed = told_by number.fixed passed
+behind_piece piece passed = passed
+
+abbrev pub behind_pieces : List Piece → Passed → Passed
+behind_pieces [] passed = passed
+behind_pieces (piece ∷ pieces) passed = behind_pieces pieces (behind_piece piece passed)
+
+-- behind a field: an array is met, and what its numbers tell
+abbrev pub behind : PlainField → Passed → Passed
+behind field passed = behind_pieces (pieces_of field) (record { met = λ key. gives_key field key || passed.met key; told = passed.told })
+
 -- In a body names have other values than outside only where its fields give them. The body of a row has a number, from 0,
 -- which is for names that tell rows apart; so far no name does.
 pub record Within (body : PlainBody) (number : Option ℕ) (outer own : Environment) : Type 0 where
@@ -150,13 +197,15 @@ abbrev pub When : Bool → Type 0 → Type 0
 When true P = P
 When false P = Unit {0}
 
--- the bits of a number: of the row's value, or of the value of its expression, which is in the range of its field
-abbrev pub IsNumber : NumForm → ℤ → Option Term → Sight → Option Tree → List Bool → Type 0
-IsNumber form width None sight value bits =
+-- the bits of a number: of the row's value, or of the value of its expression, which is in the range of its field; plainly where
+-- they tell the values of its names again that weren't known before it
+abbrev pub IsNumber : (plain : Bool) → Passed → NumForm → ℤ → Option Term → Sight → Option Tree → List Bool → Type 0
+IsNumber plain passed form width None sight value bits =
     (n : ℕ) × (value ≡ Some (trees.Number n)) × (n < 2 ^ nat_abs width) × (bits ≡ number_bits (nat_abs width) n)
-IsNumber form width (Some term) sight value bits =
+IsNumber plain passed form width (Some term) sight value bits =
     (v : ℤ) × (value ≡ None) × (value_of term sight ≡ Ok v) × (fits_number form width v ≡ true)
     × (bits ≡ number_bits (nat_abs width) (stored_number (nat_abs width) v))
+    × When plain (SolvesBack (is_known passed) (nat_abs width) sight term (stored_number (nat_abs width) v))
 
 -- the size of a text: none, or the value of its expression, where a text of this type may have it
 abbrev pub IsSize : TextForm → Sight → Option Term → Option ℕ → Type 0
@@ -199,11 +248,11 @@ pub record IsText (plain : Bool) (text : PlainText) (known : Facts) (sight : Sig
   pub are_bits : bits ≡ bits_of (stored_text text.form size bytes)
 
 -- the bits of a piece at a place
-abbrev pub IsStored : (plain : Bool) → Piece → Facts → ℕ → Sight → Option Tree → List Bool → Type 0
-IsStored plain (OneNumber number) known at sight value bits = IsNumber number.form number.width number.fixed sight value bits
-IsStored plain (OneText text) known at sight value bits = IsText plain text known sight value bits
-IsStored plain (Zeros count) known at sight value bits = (value ≡ None) × (bits ≡ zeros count)
-IsStored plain (Filler unit) known at sight value bits = (value ≡ None) × (bits ≡ zeros (missing unit at))
+abbrev pub IsStored : (plain : Bool) → Passed → Piece → Facts → ℕ → Sight → Option Tree → List Bool → Type 0
+IsStored plain passed (OneNumber number) known at sight value bits = IsNumber plain passed number.form number.width number.fixed sight value bits
+IsStored plain passed (OneText text) known at sight value bits = IsText plain text known sight value bits
+IsStored plain passed (Zeros count) known at sight value bits = (value ≡ None) × (bits ≡ zeros count)
+IsStored plain passed (Filler unit) known at sight value bits = (value ≡ None) × (bits ≡ zeros (missing unit at))
 
 -- the marks of its bits: late or not
 abbrev pub is_late_value : Names → Late → Option Term → Sight → Bool
@@ -229,15 +278,15 @@ abbrev pub most_bits : ℕ
 most_bits = 134217696
 
 -- a piece is at its place among all bits, seen with the finished names; no piece ends after the most bits
-pub record PieceSpells (plain : Bool) (known : Facts) (all : List Bool) (names : Environment) (met : Names) (piece : Piece) (value : Option Tree) (at : ℕ)
+pub record PieceSpells (plain : Bool) (known : Facts) (all : List Bool) (names : Environment) (passed : Passed) (piece : Piece) (value : Option Tree) (at : ℕ)
     (late : Late) (after : ℕ) (late_after : Late) : Type 0 where
   pub bits : List Bool
-  pub stored : IsStored plain piece known at (sees known all names at) value bits
-  pub early : is_late_size met late piece (sees known all names at) ≡ false
+  pub stored : IsStored plain passed piece known at (sees known all names at) value bits
+  pub early : is_late_size passed.met late piece (sees known all names at) ≡ false
   pub there : take (length bits) (drop at all) ≡ bits
   pub ends : after ≡ at + length bits
   pub short : after ≤ most_bits
-  pub marked : late_after ≡ late ++ marks met late piece (sees known all names at) (length bits)
+  pub marked : late_after ≡ late ++ marks passed.met late piece (sees known all names at) (length bits)
 
 -- a value in front of others, where there is one
 abbrev pub put : Option Tree → List Tree → List Tree
@@ -258,10 +307,10 @@ Then One Others values at late after late_after =
 abbrev pub AtEnd : List Tree → RowSpells
 AtEnd values at late after late_after = (values ≡ []) × (after ≡ at) × (late_after ≡ late)
 
--- one behind the other, each with its value or none
-abbrev pub InOrder : {A : Type 0} → (A → Option Tree → RowSpells) → List A → List Tree → RowSpells
-InOrder Spells [] values = AtEnd values
-InOrder Spells (x ∷ xs) values = Then (Spells x) (InOrder Spells xs) values
+-- pieces one behind the other, each with its value or none
+abbrev pub InOrder : (Passed → Piece → Option Tree → RowSpells) → Passed → List Piece → List Tree → RowSpells
+InOrder Spells passed [] values = AtEnd values
+InOrder Spells passed (piece ∷ pieces) values = Then (Spells passed piece) (InOrder Spells (behind_piece piece passed) pieces) values
 
 -- a body with names of its own: those outside, and those that its fields give
 abbrev pub Inside : PlainBody → Option ℕ → Environment → (Environment → RowSpells) → RowSpells
@@ -286,37 +335,38 @@ choice_in (Some value) = choice_of_tree (out-Tree value)
 abbrev pub is_case : Word → Option Tree → Bool
 is_case name value = str_eq_ignore_ascii_case name.bytes (choice_in value)
 
-module _ (plain : Bool) (known : Facts) (all : List Bool) (met : Names) where
+module _ (plain : Bool) (known : Facts) (all : List Bool) where
   -- a field without fields within it: its pieces
-  abbrev pub PiecesSpell : PlainField → Environment → Option Tree → RowSpells
-  PiecesSpell field names value at late after late_after =
-      IsGroupedFor field value × InOrder (PieceSpells plain known all names met) (pieces_of field) (values_for field value) at late after late_after
+  abbrev pub PiecesSpell : PlainField → Environment → Passed → Option Tree → RowSpells
+  PiecesSpell field names passed value at late after late_after =
+      IsGroupedFor field value × InOrder (PieceSpells plain known all names) passed (pieces_of field) (values_for field value) at late after late_after
 
   abbrev mutual
     -- a field, seen with the names of its body: an array is its rows, a switch is the fields of the case that is chosen
-    pub FieldSpells : PlainField → Environment → Option Tree → RowSpells
-    FieldSpells (Number number) names value = PiecesSpell (Number number) names value
-    FieldSpells (Text text) names value = PiecesSpell (Text text) names value
-    FieldSpells (Points points) names value = PiecesSpell (Points points) names value
-    FieldSpells (Fill unit count) names value = PiecesSpell (Fill unit count) names value
-    FieldSpells (Align unit) names value = PiecesSpell (Align unit) names value
-    FieldSpells (Array name count row) names value = λ at late after late_after.
+    pub FieldSpells : PlainField → Environment → Passed → Option Tree → RowSpells
+    FieldSpells (Number number) names passed value = PiecesSpell (Number number) names passed value
+    FieldSpells (Text text) names passed value = PiecesSpell (Text text) names passed value
+    FieldSpells (Points points) names passed value = PiecesSpell (Points points) names passed value
+    FieldSpells (Fill unit count) names passed value = PiecesSpell (Fill unit count) names passed value
+    FieldSpells (Align unit) names passed value = PiecesSpell (Align unit) names passed value
+    FieldSpells (Array name count row) names passed value = λ at late after late_after.
         (rows : List (List Tree)) × (value ≡ Some (trees.Rows rows)) × IsStated count (length rows) × IsCounted name (length rows) names
-        × RowsSpell (λ number line. Inside row (Some number) names (λ own. BodySpells row own line)) 0 rows at late after late_after
-    FieldSpells (Switch cases) names value = CaseSpells cases names value
+        × RowsSpell (λ number line. Inside row (Some number) names (λ own. BodySpells row own (at_front row passed) line)) 0 rows at late after late_after
+    FieldSpells (Switch cases) names passed value = CaseSpells cases names passed value
 
     -- the first case that has the name of the value, with its key, a number among its fields
-    pub CaseSpells : PlainCases → Environment → Option Tree → RowSpells
-    CaseSpells no_cases names value = λ at late after late_after. ⊥
-    CaseSpells (case_and name row others) names value = λ at late after late_after.
+    pub CaseSpells : PlainCases → Environment → Passed → Option Tree → RowSpells
+    CaseSpells no_cases names passed value = λ at late after late_after. ⊥
+    CaseSpells (case_and name row others) names passed value = λ at late after late_after.
         By (is_case name value)
-        ((line : List Tree) × (value ≡ Some (trees.Choice name line)) × Inside row None names (λ own. BodySpells row own line) at late after late_after)
-        (CaseSpells others names value at late after late_after)
+        ((line : List Tree) × (value ≡ Some (trees.Choice name line))
+        × Inside row None names (λ own. BodySpells row own (at_front row passed) line) at late after late_after)
+        (CaseSpells others names passed value at late after late_after)
 
     -- the fields of a body one behind the other, each with its value or none
-    pub BodySpells : PlainBody → Environment → List Tree → RowSpells
-    BodySpells no_fields names values = AtEnd values
-    BodySpells (field_and field fields) names values = Then (FieldSpells field names) (BodySpells fields names) values
+    pub BodySpells : PlainBody → Environment → Passed → List Tree → RowSpells
+    BodySpells no_fields names passed values = AtEnd values
+    BodySpells (field_and field fields) names passed values = Then (FieldSpells field names passed) (BodySpells fields names (behind field passed)) values
 
 -- how many values a row has: texts, numbers, those of points each, and rows of arrays
 abbrev pub count_in_rows : List (List ℕ) → ℕ
@@ -342,7 +392,7 @@ pub record Spells (plain : Bool) (known : Facts) (body : PlainBody) (row : List 
   pub own : Within body None outside names
   pub end : ℕ
   pub late : Late
-  pub fields : BodySpells plain known (bits_of bytes) no_names body names row 0 [] end late
+  pub fields : BodySpells plain known (bits_of bytes) body names (at_front body nothing_passed) row 0 [] end late
   pub filled : bits_of bytes ≡ filled 8 (take end (bits_of bytes))
   pub within : end ≤ length (bits_of bytes)
   pub are_bytes : (k : ℕ) → slice_index bytes k < 256

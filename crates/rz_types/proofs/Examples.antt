@@ -1,0 +1,58 @@
+-- Which declarations can be read, and what numbers tell of counts: examples that compute.
+use Rattle.std.proofs.Common.{◌≡◌, refl, ℕ, pos, List, [], Option, Some, None, true, false}
+use Rattle.std.specs.Prelude.{codes}
+use Rattle.rz_expr.specs.Environment.{count_key}
+use Rattle.rz_expr.specs.Constant.{constant_sight}
+use Rattle.rz_expr.specs.Term.{Constant, OfTwo, RowsOf, Term}
+use Rattle.rz_expr.specs.declared.expr.BinaryOp.TheVariants as two
+use Rattle.rz_types.specs.Field.{field_and, no_fields, Align, Array, Number, PlainField, Text}
+use Rattle.rz_types.specs.Readable.{is_readable}
+use Rattle.rz_types.specs.Solve.{solved_count}
+use Rattle.rz_types.specs.declared.field.NumForm.TheVariants as forms
+use Rattle.rz_types.specs.declared.field.Radix.TheVariants as radixes
+use Rattle.rz_types.specs.declared.field.TextForm.TheVariants as texts
+
+abbrev less_one : List ℕ → Term
+less_one name = OfTwo two.Minus (RowsOf name) (Constant (pos 1))
+
+empty_list : solved_count 16 (count_key (codes "parts")) constant_sight (less_one (codes "Parts")) 65535 ≡ Some (pos 0)
+empty_list = refl
+
+three : solved_count 16 (count_key (codes "parts")) constant_sight (less_one (codes "Parts")) 2 ≡ Some (pos 3)
+three = refl
+
+abbrev number : Option Term → PlainField
+number fixed = Number (record { form = forms.Integer; width = pos 16; unsigned = false; radix = radixes.Plain; symbols = []; fixed = fixed; key = false })
+
+abbrev pstring : PlainField
+pstring = Text (record { form = texts.Pascal; hex = false; size = None; fixed = None })
+
+abbrev open_text : PlainField
+open_text = Text (record { form = texts.Open; hex = false; size = None; fixed = None })
+
+abbrev named : List ℕ → PlainField → PlainField
+named name field = Array (Some (record { bytes = name })) None (field_and field no_fields)
+
+strings : is_readable (field_and (number (Some (RowsOf (codes "Strings")))) (field_and (named (codes "strings") pstring) no_fields)) ≡ true
+strings = refl
+
+twice : is_readable (field_and (number (Some (RowsOf (codes "a")))) (field_and (number (Some (OfTwo two.Times (RowsOf (codes "a")) (RowsOf (codes "A"))))) (field_and (named (codes "a") pstring) no_fields))) ≡ true
+twice = refl
+
+squared : is_readable (field_and (number (Some (OfTwo two.Times (RowsOf (codes "a")) (RowsOf (codes "A"))))) (field_and (named (codes "a") pstring) no_fields)) ≡ false
+squared = refl
+
+to_the_end : is_readable (field_and (Array None None (field_and pstring no_fields)) (field_and (number None) no_fields)) ≡ true
+to_the_end = refl
+
+open_rows : is_readable (field_and (Array None None (field_and open_text no_fields)) no_fields) ≡ false
+open_rows = refl
+
+aligned : is_readable (field_and open_text (field_and (Align 2) no_fields)) ≡ false
+aligned = refl
+
+inside : is_readable (field_and (named (codes "a") (named (codes "b") (number None))) no_fields) ≡ false
+inside = refl
+
+outer_count : is_readable (field_and (named (codes "a") (number (Some (RowsOf (codes "a"))))) no_fields) ≡ false
+outer_count = refl
