@@ -11,7 +11,7 @@ use Rattle.rz_bits.specs.BitBuf.{filled}
 use Rattle.rz_types.specs.Field.{case_and, field_and, no_cases, no_fields, Align, Array, Fill, Number, PlainBody, PlainCases, PlainField, Points, Switch, Text}
 use Rattle.rz_types.specs.Laid.{body_laid, case_laid, counted, field_laid, first_value, laid, line_in, nothing_laid, other_values, pieces_laid, rows_in, rows_laid, Draft, Refusal}
 use Rattle.rz_types.specs.Row.{takes_value, By}
-use Rattle.rz_types.specs.Spells.{no_names, is_case, outside, pieces_of, values_for, BodySpells, CaseSpells, FieldSpells, Filler, Inside, IsCounted, Late, OneNumber, OneText, PiecesSpell, RowsSpell, Spells, Zeros}
+use Rattle.rz_types.specs.Spells.{at_front, behind, is_case, nothing_passed, outside, pieces_of, values_for, BodySpells, CaseSpells, FieldSpells, Filler, Inside, IsCounted, Late, OneNumber, OneText, Passed, PiecesSpell, RowsSpell, Spells, Zeros}
 use Rattle.rz_types.specs.declared.tree.Tree.{Tree}
 use Rattle.rz_types.specs.declared.tree.Tree.TheVariants as trees
 use Rattle.rz_layout.proofs.Own.{alike_own, alike_same, Alike, AreCounted, FieldCounted}
@@ -26,99 +26,99 @@ module _ (known : Facts) (all : List Bool) where
   -- A field takes a value where it has one.
 
   module _ (names : Environment) where
-    case_taken : (cases : PlainCases) (value : Option Tree) (at after : ℕ) (late late_after : Late)
-        → CaseSpells false known all no_names cases names value at late after late_after → is_some value ≡ true
-    case_taken no_cases value at after late late_after it = absurd it
-    case_taken (case_and name row others) value at after late late_after it =
+    case_taken : (passed : Passed) (cases : PlainCases) (value : Option Tree) (at after : ℕ) (late late_after : Late)
+        → CaseSpells false known all cases names passed value at late after late_after → is_some value ≡ true
+    case_taken passed no_cases value at after late late_after it = absurd it
+    case_taken passed (case_and name row others) value at after late late_after it =
         either (is_some value ≡ true) ((line : List Tree) × (value ≡ Some (trees.Choice name line))
-        × Inside row None names (λ own. BodySpells false known all no_names row own line) at late after late_after)
-        (CaseSpells false known all no_names others names value at late after late_after)
-        (λ one. ap is_some one.1) (λ other. case_taken others value at after late late_after other) (is_case name value) it
+        × Inside row None names (λ own. BodySpells false known all row own (at_front row passed) line) at late after late_after)
+        (CaseSpells false known all others names passed value at late after late_after)
+        (λ one. ap is_some one.1) (λ other. case_taken passed others value at after late late_after other) (is_case name value) it
 
-    field_taken : (field : PlainField) (value : Option Tree) (at after : ℕ) (late late_after : Late)
-        → FieldSpells false known all no_names field names value at late after late_after → is_some value ≡ takes_value field
-    field_taken (Number number) value at after late late_after it = one_taken all known names names (alike_same names) no_names (OneNumber number) value at after late late_after it.1
-    field_taken (Text text) value at after late late_after it = one_taken all known names names (alike_same names) no_names (OneText text) value at after late late_after it.1
-    field_taken (Points points) value at after late late_after it = group_taken points.fixed value it.0
-    field_taken (Fill unit count) value at after late late_after it = one_taken all known names names (alike_same names) no_names (Zeros _) value at after late late_after it.1
-    field_taken (Align unit) value at after late late_after it = one_taken all known names names (alike_same names) no_names (Filler unit) value at after late late_after it.1
-    field_taken (Array name count row) value at after late late_after it = ap is_some it.1
-    field_taken (Switch cases) value at after late late_after it = case_taken cases value at after late late_after it
+    field_taken : (passed : Passed) (field : PlainField) (value : Option Tree) (at after : ℕ) (late late_after : Late)
+        → FieldSpells false known all field names passed value at late after late_after → is_some value ≡ takes_value field
+    field_taken passed (Number number) value at after late late_after it = one_taken all known names names (alike_same names) passed (OneNumber number) value at after late late_after it.1
+    field_taken passed (Text text) value at after late late_after it = one_taken all known names names (alike_same names) passed (OneText text) value at after late late_after it.1
+    field_taken passed (Points points) value at after late late_after it = group_taken points.fixed value it.0
+    field_taken passed (Fill unit count) value at after late late_after it = one_taken all known names names (alike_same names) passed (Zeros _) value at after late late_after it.1
+    field_taken passed (Align unit) value at after late late_after it = one_taken all known names names (alike_same names) passed (Filler unit) value at after late late_after it.1
+    field_taken passed (Array name count row) value at after late late_after it = ap is_some it.1
+    field_taken passed (Switch cases) value at after late late_after it = case_taken passed cases value at after late late_after it
 
     -- its arrays are counted by its names
 
-    field_counted : (field : PlainField) (value : Option Tree) (at after : ℕ) (late late_after : Late)
-        → FieldSpells false known all no_names field names value at late after late_after → FieldCounted field value names
-    field_counted (Number number) value at after late late_after it = tt
-    field_counted (Text text) value at after late late_after it = tt
-    field_counted (Points points) value at after late late_after it = tt
-    field_counted (Fill unit count) value at after late late_after it = tt
-    field_counted (Align unit) value at after late late_after it = tt
-    field_counted (Array name count row) value at after late late_after it =
+    field_counted : (passed : Passed) (field : PlainField) (value : Option Tree) (at after : ℕ) (late late_after : Late)
+        → FieldSpells false known all field names passed value at late after late_after → FieldCounted field value names
+    field_counted passed (Number number) value at after late late_after it = tt
+    field_counted passed (Text text) value at after late late_after it = tt
+    field_counted passed (Points points) value at after late late_after it = tt
+    field_counted passed (Fill unit count) value at after late late_after it = tt
+    field_counted passed (Align unit) value at after late late_after it = tt
+    field_counted passed (Array name count row) value at after late late_after it =
         subst (λ (rows : List (List Tree)). IsCounted name (length rows) names) (sym (rows_are it.0) ∙ sym (ap rows_in it.1)) it.3
-    field_counted (Switch cases) value at after late late_after it = tt
+    field_counted passed (Switch cases) value at after late late_after it = tt
 
-    body_counted : (body : PlainBody) (values : List Tree) (at after : ℕ) (late late_after : Late)
-        → BodySpells false known all no_names body names values at late after late_after → AreCounted body values names
-    body_counted no_fields values at after late late_after it = tt
-    body_counted (field_and field fields) values at after late late_after (value, rest, mid, late_mid, are, one, others) =
-        let is_taken = field_taken field value at mid late late_mid one in (
+    body_counted : (passed : Passed) (body : PlainBody) (values : List Tree) (at after : ℕ) (late late_after : Late)
+        → BodySpells false known all body names passed values at late after late_after → AreCounted body values names
+    body_counted passed no_fields values at after late late_after it = tt
+    body_counted passed (field_and field fields) values at after late late_after (value, rest, mid, late_mid, are, one, others) =
+        let is_taken = field_taken passed field value at mid late late_mid one in (
           subst (λ (v : Option Tree). FieldCounted field v names) (sym (ap (first_value (takes_value field)) are ∙ first_is (takes_value field) value rest is_taken))
-              (field_counted field value at mid late late_mid one),
+              (field_counted passed field value at mid late late_mid one),
           subst (λ (vs : List Tree). AreCounted fields vs names) (sym (ap (other_values (takes_value field)) are ∙ others_are (takes_value field) value rest is_taken))
-              (body_counted fields rest mid after late_mid late_after others),
+              (body_counted (behind field passed) fields rest mid after late_mid late_after others),
         )
 
   -- What a body spells is laid, with other names that are alike.
 
   abbrev BodyGoes : PlainBody → Type 0
-  BodyGoes body = (own inner : Environment) → Alike own inner → (values : List Tree) (at after : ℕ) (late late_after : Late)
-      → BodySpells false known all no_names body own values at late after late_after → (draft : Draft) → Fits all draft at
+  BodyGoes body = (passed : Passed) (own inner : Environment) → Alike own inner → (values : List Tree) (at after : ℕ) (late late_after : Late)
+      → BodySpells false known all body own passed values at late after late_after → (draft : Draft) → Fits all draft at
       → Goes all (body_laid known inner draft body values) after
 
-  inside_goes : (row : PlainBody) → BodyGoes row → (number : Option ℕ) (names inner : Environment) → Alike names inner → (line : List Tree) (at after : ℕ) (late late_after : Late)
-      → Inside row number names (λ own. BodySpells false known all no_names row own line) at late after late_after → (draft : Draft) → Fits all draft at
+  inside_goes : (row : PlainBody) → BodyGoes row → (passed : Passed) (number : Option ℕ) (names inner : Environment) → Alike names inner → (line : List Tree) (at after : ℕ) (late late_after : Late)
+      → Inside row number names (λ own. BodySpells false known all row own (at_front row passed) line) at late after late_after → (draft : Draft) → Fits all draft at
       → Goes all (body_laid known (counted row line inner) draft row line) after
-  inside_goes row goes number names inner alike line at after late late_after (own, within, spells) draft fits =
-      goes own (counted row line inner)
-      (alike_own row number line names own inner within (body_counted own row line at after late late_after spells) alike)
+  inside_goes row goes passed number names inner alike line at after late late_after (own, within, spells) draft fits =
+      goes (at_front row passed) own (counted row line inner)
+      (alike_own row number line names own inner within (body_counted own (at_front row passed) row line at after late late_after spells) alike)
       line at after late late_after spells draft fits
 
-  rows_goes : (row : PlainBody) → BodyGoes row → (names inner : Environment) → Alike names inner → (number : ℕ) (rows : List (List Tree)) (at after : ℕ) (late late_after : Late)
-      → RowsSpell (λ number line. Inside row (Some number) names (λ own. BodySpells false known all no_names row own line)) number rows at late after late_after
+  rows_goes : (row : PlainBody) → BodyGoes row → (passed : Passed) (names inner : Environment) → Alike names inner → (number : ℕ) (rows : List (List Tree)) (at after : ℕ) (late late_after : Late)
+      → RowsSpell (λ number line. Inside row (Some number) names (λ own. BodySpells false known all row own (at_front row passed) line)) number rows at late after late_after
       → (draft : Draft) → Fits all draft at → Goes all (rows_laid (λ draft line. body_laid known (counted row line inner) draft row line) draft rows) after
-  rows_goes row goes names inner alike number [] at after late late_after it draft fits = record { next = draft; is = refl; fits = subst (Fits all draft) (sym it.0) fits }
-  rows_goes row goes names inner alike number (line ∷ rows) at after late late_after (mid, late_mid, one, others) draft fits =
-      let first = inside_goes row goes (Some number) names inner alike line at mid late late_mid one draft fits in
-      let more = rows_goes row goes names inner alike (number + 1) rows mid after late_mid late_after others first.next first.fits in
+  rows_goes row goes passed names inner alike number [] at after late late_after it draft fits = record { next = draft; is = refl; fits = subst (Fits all draft) (sym it.0) fits }
+  rows_goes row goes passed names inner alike number (line ∷ rows) at after late late_after (mid, late_mid, one, others) draft fits =
+      let first = inside_goes row goes passed (Some number) names inner alike line at mid late late_mid one draft fits in
+      let more = rows_goes row goes passed names inner alike (number + 1) rows mid after late_mid late_after others first.next first.fits in
       record {
         next = more.next;
         is = ap (λ (r : Result Draft Refusal). r >>= λ next. rows_laid (λ draft line. body_laid known (counted row line inner) draft row line) next rows) first.is ∙ more.is;
         fits = more.fits;
       }
 
-  pieces_go : (field : PlainField) (names inner : Environment) → Alike names inner → (value : Option Tree) (at after : ℕ) (late late_after : Late)
-      → PiecesSpell false known all no_names field names value at late after late_after → (draft : Draft) → Fits all draft at
+  pieces_go : (passed : Passed) (field : PlainField) (names inner : Environment) → Alike names inner → (value : Option Tree) (at after : ℕ) (late late_after : Late)
+      → PiecesSpell false known all field names passed value at late after late_after → (draft : Draft) → Fits all draft at
       → Goes all (pieces_laid known inner draft field value) after
-  pieces_go field names inner alike value at after late late_after it draft fits =
-      pieces_goes all known names inner alike no_names (pieces_of field) (values_for field value) at after late late_after it.1 draft fits
+  pieces_go passed field names inner alike value at after late late_after it draft fits =
+      pieces_goes all known names inner alike passed (pieces_of field) (values_for field value) at after late late_after it.1 draft fits
 
   abbrev FieldGoes : PlainField → Type 0
-  FieldGoes field = (names inner : Environment) → Alike names inner → (value : Option Tree) (at after : ℕ) (late late_after : Late)
-      → FieldSpells false known all no_names field names value at late after late_after → (draft : Draft) → Fits all draft at
+  FieldGoes field = (passed : Passed) (names inner : Environment) → Alike names inner → (value : Option Tree) (at after : ℕ) (late late_after : Late)
+      → FieldSpells false known all field names passed value at late after late_after → (draft : Draft) → Fits all draft at
       → Goes all (field_laid known inner draft field value) after
 
   abbrev CasesGo : PlainCases → Type 0
-  CasesGo cases = (names inner : Environment) → Alike names inner → (value : Option Tree) (at after : ℕ) (late late_after : Late)
-      → CaseSpells false known all no_names cases names value at late after late_after → (draft : Draft) → Fits all draft at
+  CasesGo cases = (passed : Passed) (names inner : Environment) → Alike names inner → (value : Option Tree) (at after : ℕ) (late late_after : Late)
+      → CaseSpells false known all cases names passed value at late after late_after → (draft : Draft) → Fits all draft at
       → Goes all (case_laid known inner draft cases value) after
 
-  case_goes : (row : PlainBody) → BodyGoes row → (names inner : Environment) → Alike names inner → (name : Word) (value : Option Tree) (at after : ℕ) (late late_after : Late)
-      → (line : List Tree) × (value ≡ Some (trees.Choice name line)) × Inside row None names (λ own. BodySpells false known all no_names row own line) at late after late_after
+  case_goes : (row : PlainBody) → BodyGoes row → (passed : Passed) (names inner : Environment) → Alike names inner → (name : Word) (value : Option Tree) (at after : ℕ) (late late_after : Late)
+      → (line : List Tree) × (value ≡ Some (trees.Choice name line)) × Inside row None names (λ own. BodySpells false known all row own (at_front row passed) line) at late after late_after
       → (draft : Draft) → Fits all draft at → Goes all (body_laid known (counted row (line_in value) inner) draft row (line_in value)) after
-  case_goes row goes names inner alike name value at after late late_after (line, is, inside) draft fits =
+  case_goes row goes passed names inner alike name value at after late late_after (line, is, inside) draft fits =
       subst (λ (l : List Tree). Goes all (body_laid known (counted row l inner) draft row l) after) (sym (ap line_in is ∙ line_is name line))
-      (inside_goes row goes None names inner alike line at after late late_after inside draft fits)
+      (inside_goes row goes passed None names inner alike line at after late late_after inside draft fits)
 
   by_test : (This Other : Type 0) (this other : Result Draft Refusal) (after : ℕ) → (This → Goes all this after) → (Other → Goes all other after)
       → (test : Bool) → By test This Other → Goes all (if test then this else other) after
@@ -126,44 +126,44 @@ module _ (known : Facts) (all : List Bool) where
   by_test This Other this other after one more false it = more it
 
   array_goes : (name : Option Word) (count : Option ℤ) (row : PlainBody) → BodyGoes row → FieldGoes (Array name count row)
-  array_goes name count row goes names inner alike value at after late late_after (rows, is, stated, counts, spells) draft fits =
+  array_goes name count row goes passed names inner alike value at after late late_after (rows, is, stated, counts, spells) draft fits =
       subst (λ (lines : List (List Tree)). Goes all (rows_laid (λ draft line. body_laid known (counted row line inner) draft row line) draft lines) after)
       (sym (ap rows_in is ∙ rows_are rows))
-      (rows_goes row goes names inner alike 0 rows at after late late_after spells draft fits)
+      (rows_goes row goes passed names inner alike 0 rows at after late late_after spells draft fits)
 
   mutual
     field_goes : (field : PlainField) → FieldGoes field
-    field_goes (Number number) names inner alike = pieces_go (Number number) names inner alike
-    field_goes (Text text) names inner alike = pieces_go (Text text) names inner alike
-    field_goes (Points points) names inner alike = pieces_go (Points points) names inner alike
-    field_goes (Fill unit count) names inner alike = pieces_go (Fill unit count) names inner alike
-    field_goes (Align unit) names inner alike = pieces_go (Align unit) names inner alike
-    field_goes (Array name count row) names inner alike = array_goes name count row (body_goes row) names inner alike
-    field_goes (Switch cases) names inner alike = cases_go cases names inner alike
+    field_goes (Number number) passed names inner alike = pieces_go passed (Number number) names inner alike
+    field_goes (Text text) passed names inner alike = pieces_go passed (Text text) names inner alike
+    field_goes (Points points) passed names inner alike = pieces_go passed (Points points) names inner alike
+    field_goes (Fill unit count) passed names inner alike = pieces_go passed (Fill unit count) names inner alike
+    field_goes (Align unit) passed names inner alike = pieces_go passed (Align unit) names inner alike
+    field_goes (Array name count row) passed names inner alike = array_goes name count row (body_goes row) passed names inner alike
+    field_goes (Switch cases) passed names inner alike = cases_go cases passed names inner alike
 
     cases_go : (cases : PlainCases) → CasesGo cases
-    cases_go no_cases names inner alike value at after late late_after it draft fits = absurd it
-    cases_go (case_and name row others) names inner alike value at after late late_after it draft fits =
-        by_test ((line : List Tree) × (value ≡ Some (trees.Choice name line)) × Inside row None names (λ own. BodySpells false known all no_names row own line) at late after late_after)
-        (CaseSpells false known all no_names others names value at late after late_after)
+    cases_go no_cases passed names inner alike value at after late late_after it draft fits = absurd it
+    cases_go (case_and name row others) passed names inner alike value at after late late_after it draft fits =
+        by_test ((line : List Tree) × (value ≡ Some (trees.Choice name line)) × Inside row None names (λ own. BodySpells false known all row own (at_front row passed) line) at late after late_after)
+        (CaseSpells false known all others names passed value at late after late_after)
         (body_laid known (counted row (line_in value) inner) draft row (line_in value)) (case_laid known inner draft others value) after
-        (λ one. case_goes row (body_goes row) names inner alike name value at after late late_after one draft fits)
-        (λ other. cases_go others names inner alike value at after late late_after other draft fits)
+        (λ one. case_goes row (body_goes row) passed names inner alike name value at after late late_after one draft fits)
+        (λ other. cases_go others passed names inner alike value at after late late_after other draft fits)
         (is_case name value) it
 
     body_goes : (body : PlainBody) → BodyGoes body
-    body_goes no_fields own inner alike values at after late late_after it draft fits = record { next = draft; is = refl; fits = subst (Fits all draft) (sym it.1) fits }
-    body_goes (field_and field fields) own inner alike values at after late late_after (value, rest, mid, late_mid, are, one, others) draft fits =
-        let first = field_goes field own inner alike value at mid late late_mid one draft fits in
-        then_goes all (takes_value field) value rest values are (field_taken own field value at mid late late_mid one) (field_laid known inner draft field)
+    body_goes no_fields passed own inner alike values at after late late_after it draft fits = record { next = draft; is = refl; fits = subst (Fits all draft) (sym it.1) fits }
+    body_goes (field_and field fields) passed own inner alike values at after late late_after (value, rest, mid, late_mid, are, one, others) draft fits =
+        let first = field_goes field passed own inner alike value at mid late late_mid one draft fits in
+        then_goes all (takes_value field) value rest values are (field_taken own passed field value at mid late late_mid one) (field_laid known inner draft field)
         (λ next values. body_laid known inner next fields values) mid after first
-        (body_goes fields own inner alike rest mid after late_mid late_after others first.next first.fits)
+        (body_goes fields (behind field passed) own inner alike rest mid after late_mid late_after others first.next first.fits)
 
 module _ (read : (bytes : List ℕ) → ((k : ℕ) → slice_index bytes k < 256) → bytes_of (bits_of bytes) ≡ bytes) where
   pub complete : (known : Facts) (body : PlainBody) (row : List Tree) (bytes : List ℕ) → Spells false known body row bytes → laid known body row ≡ Ok bytes
   complete known body row bytes it =
       let all = bits_of bytes in
-      let goes = inside_goes known all body (body_goes known all body) None outside outside (alike_same outside) row 0 it.end [] it.late
+      let goes = inside_goes known all body (body_goes known all body) nothing_passed None outside outside (alike_same outside) row 0 it.end [] it.late
       (it.names, it.own, it.fields) nothing_laid (record { front = refl; size = refl }) in
       ap (λ (r : Result Draft Refusal). r >>= λ draft. good (bytes_of (filled 8 draft.bits))) goes.is
       ∙ ap good (ap (λ (bits : List Bool). bytes_of (filled 8 bits)) goes.fits.front ∙ ap bytes_of (sym it.filled) ∙ read bytes it.are_bytes)

@@ -18,7 +18,7 @@ use Rattle.rz_types.specs.Laid.{body_laid, case_laid, counted, field_laid, first
 use Rattle.rz_types.specs.Row.{takes_value, By, IsChoice, IsRow, IsValue}
 use Rattle.rz_types.specs.Rules.{case_names}
 use Rattle.rz_types.specs.Shape.{numbers_of}
-use Rattle.rz_types.specs.Spells.{fixed_integer, free_integer, group_in, integers, is_case, no_names, outside, pieces_of, put, values_for, BodySpells, CaseSpells, FieldSpells, Filler, Inside, IsCounted, IsGrouped, IsGroupedFor, Late, OneNumber, OneText, Piece, PiecesSpell, RowsSpell, Spells, Zeros}
+use Rattle.rz_types.specs.Spells.{at_front, behind, fixed_integer, free_integer, group_in, integers, is_case, nothing_passed, outside, pieces_of, put, values_for, BodySpells, CaseSpells, FieldSpells, Filler, Inside, IsCounted, IsGrouped, IsGroupedFor, Late, OneNumber, OneText, Passed, Piece, PiecesSpell, RowsSpell, Spells, Zeros}
 use Rattle.rz_types.specs.Text.{PlainPart}
 use Rattle.rz_types.specs.Walk.{names_of}
 use Rattle.rz_types.specs.declared.tree.Tree.{Tree}
@@ -84,53 +84,53 @@ text_has : (text : PlainText) (value : Option Tree) → Takes (takes_value (Text
 text_has text value it = single_fed (OneText text) value (taken (is_none text.fixed) (IsValue (Text text)) value it) (text_value text text.fixed value it)
 
 module _ (known : Facts) (all : List Bool) where
-  pieces_sounds : (field : PlainField) (names : Environment) (value : Option Tree) → IsGroupedFor field value → Fed (pieces_of field) (values_for field value) → (draft next : Draft)
+  pieces_sounds : (passed : Passed) (field : PlainField) (names : Environment) (value : Option Tree) → IsGroupedFor field value → Fed (pieces_of field) (values_for field value) → (draft next : Draft)
       → pieces_laid known names draft field value ≡ Ok next → Front all next
-      → (late : Late) → Sounds all (λ at late_after. PiecesSpell false known all no_names field names value at late (length next.bits) late_after) draft
-  pieces_sounds field names value grouped fed draft next is front late =
-      let it = pieces_sound all known names no_names (pieces_of field) (values_for field value) fed draft next is front late in
+      → (late : Late) → Sounds all (λ at late_after. PiecesSpell false known all field names passed value at late (length next.bits) late_after) draft
+  pieces_sounds passed field names value grouped fed draft next is front late =
+      let it = pieces_sound all known names passed (pieces_of field) (values_for field value) fed draft next is front late in
       record { late_after = it.late_after; spells = (grouped, it.spells); front = it.front }
 
   abbrev BodySounds : PlainBody → Type 0
-  BodySounds body = (names : Environment) (values : List Tree) → AreCounted body values names → IsRow body values → (draft next : Draft)
+  BodySounds body = (passed : Passed) (names : Environment) (values : List Tree) → AreCounted body values names → IsRow body values → (draft next : Draft)
       → body_laid known names draft body values ≡ Ok next → Front all next
-      → (late : Late) → Sounds all (λ at late_after. BodySpells false known all no_names body names values at late (length next.bits) late_after) draft
+      → (late : Late) → Sounds all (λ at late_after. BodySpells false known all body names passed values at late (length next.bits) late_after) draft
 
-  inside_sounds : (row : PlainBody) → Differ (names_of row) → BodySounds row → (number : Option ℕ) (outer : Environment) (line : List Tree) → IsRow row line → (draft next : Draft)
+  inside_sounds : (row : PlainBody) → Differ (names_of row) → BodySounds row → (passed : Passed) (number : Option ℕ) (outer : Environment) (line : List Tree) → IsRow row line → (draft next : Draft)
       → body_laid known (counted row line outer) draft row line ≡ Ok next → Front all next
-      → (late : Late) → Sounds all (λ at late_after. Inside row number outer (λ own. BodySpells false known all no_names row own line) at late (length next.bits) late_after) draft
-  inside_sounds row differ sounds number outer line is_row draft next is front late =
-      let it = sounds (counted row line outer) line (counted_are row line outer differ) is_row draft next is front late in
+      → (late : Late) → Sounds all (λ at late_after. Inside row number outer (λ own. BodySpells false known all row own (at_front row passed) line) at late (length next.bits) late_after) draft
+  inside_sounds row differ sounds passed number outer line is_row draft next is front late =
+      let it = sounds (at_front row passed) (counted row line outer) line (counted_are row line outer differ) is_row draft next is front late in
       record { late_after = it.late_after; spells = (counted row line outer, counted_within row number line outer, it.spells); front = it.front }
 
-  rows_sound : (row : PlainBody) → Differ (names_of row) → BodySounds row → (outer : Environment) (number : ℕ) (rows : List (List Tree)) → AllByRecursion (IsRow row) rows → (draft next : Draft)
+  rows_sound : (row : PlainBody) → Differ (names_of row) → BodySounds row → (passed : Passed) (outer : Environment) (number : ℕ) (rows : List (List Tree)) → AllByRecursion (IsRow row) rows → (draft next : Draft)
       → rows_laid (λ draft line. body_laid known (counted row line outer) draft row line) draft rows ≡ Ok next → Front all next
-      → (late : Late) → Sounds all (λ at late_after. RowsSpell (λ number line. Inside row (Some number) outer (λ own. BodySpells false known all no_names row own line)) number rows at late (length next.bits) late_after) draft
-  rows_sound row differ sounds outer number [] are draft next is front late =
+      → (late : Late) → Sounds all (λ at late_after. RowsSpell (λ number line. Inside row (Some number) outer (λ own. BodySpells false known all row own (at_front row passed) line)) number rows at late (length next.bits) late_after) draft
+  rows_sound row differ sounds passed outer number [] are draft next is front late =
       let same : draft ≡ next = same_ok draft next is in
       record { late_after = late; spells = (ap (λ (d : Draft). length d.bits) (sym same), refl); front = subst (Front all) (sym same) front }
-  rows_sound row differ sounds outer number (line ∷ rows) are draft next is front late =
+  rows_sound row differ sounds passed outer number (line ∷ rows) are draft next is front late =
       let inner = chained (body_laid known (counted row line outer) draft row line) (λ mid. rows_laid (λ draft line. body_laid known (counted row line outer) draft row line) mid rows) next is in
-      let mid = rows_sound row differ sounds outer (number + 1) rows are.1 inner.value next inner.leads front late in
-      let one = inside_sounds row differ sounds (Some number) outer line are.0 draft inner.value inner.is mid.front late in
-      let more = rows_sound row differ sounds outer (number + 1) rows are.1 inner.value next inner.leads front one.late_after in
+      let mid = rows_sound row differ sounds passed outer (number + 1) rows are.1 inner.value next inner.leads front late in
+      let one = inside_sounds row differ sounds passed (Some number) outer line are.0 draft inner.value inner.is mid.front late in
+      let more = rows_sound row differ sounds passed outer (number + 1) rows are.1 inner.value next inner.leads front one.late_after in
       record { late_after = more.late_after; spells = (length inner.value.bits, one.late_after, one.spells, more.spells); front = one.front }
 
   abbrev FieldSounds : PlainField → Type 0
-  FieldSounds field = (names : Environment) (value : Option Tree) → FieldCounted field value names → Takes (takes_value field) (IsValue field) value → (draft next : Draft)
+  FieldSounds field = (passed : Passed) (names : Environment) (value : Option Tree) → FieldCounted field value names → Takes (takes_value field) (IsValue field) value → (draft next : Draft)
       → field_laid known names draft field value ≡ Ok next → Front all next
-      → (late : Late) → Sounds all (λ at late_after. FieldSpells false known all no_names field names value at late (length next.bits) late_after) draft
+      → (late : Late) → Sounds all (λ at late_after. FieldSpells false known all field names passed value at late (length next.bits) late_after) draft
 
   abbrev CasesSound : PlainCases → Type 0
-  CasesSound cases = (names : Environment) (v : Tree) → IsChoice cases v → (draft next : Draft)
+  CasesSound cases = (passed : Passed) (names : Environment) (v : Tree) → IsChoice cases v → (draft next : Draft)
       → case_laid known names draft cases (Some v) ≡ Ok next → Front all next
-      → (late : Late) → Sounds all (λ at late_after. CaseSpells false known all no_names cases names (Some v) at late (length next.bits) late_after) draft
+      → (late : Late) → Sounds all (λ at late_after. CaseSpells false known all cases names passed (Some v) at late (length next.bits) late_after) draft
 
   array_sounds : (name : Option Word) (count : Option ℤ) (row : PlainBody) → Differ (names_of row) → BodySounds row → FieldSounds (Array name count row)
-  array_sounds name count row differ sounds names value counts (v, (rows, is_rows, stated, are), some) draft next is front late =
+  array_sounds name count row differ sounds passed names value counts (v, (rows, is_rows, stated, are), some) draft next is front late =
       let whole : value ≡ Some (trees.Rows rows) = some ∙ ap (λ (t : Tree). Some t) is_rows in
       let lines : rows_in value ≡ rows = ap rows_in whole ∙ rows_are rows in
-      let it = rows_sound row differ sounds names 0 rows are draft next
+      let it = rows_sound row differ sounds passed names 0 rows are draft next
       (sym (ap (rows_laid (λ draft line. body_laid known (counted row line names) draft row line) draft) lines) ∙ is) front late in
       record {
         late_after = it.late_after;
@@ -139,89 +139,89 @@ module _ (known : Facts) (all : List Bool) where
       }
 
   switch_sounds : (cases : PlainCases) → CasesSound cases → FieldSounds (Switch cases)
-  switch_sounds cases sounds names value counts (v, is_choice, some) draft next is front late =
-      let it = sounds names v is_choice draft next (sym (ap (case_laid known names draft cases) some) ∙ is) front late in
+  switch_sounds cases sounds passed names value counts (v, is_choice, some) draft next is front late =
+      let it = sounds passed names v is_choice draft next (sym (ap (case_laid known names draft cases) some) ∙ is) front late in
       record {
         late_after = it.late_after;
-        spells = subst (λ (o : Option Tree). CaseSpells false known all no_names cases names o (length draft.bits) late (length next.bits) it.late_after) (sym some) it.spells;
+        spells = subst (λ (o : Option Tree). CaseSpells false known all cases names passed o (length draft.bits) late (length next.bits) it.late_after) (sym some) it.spells;
         front = it.front;
       }
 
   -- a case that is chosen, and one that isn't
-  case_sounds : (name : Word) (row : PlainBody) (others : PlainCases) → Differ (names_of row) → BodySounds row → (names : Environment) (v : Tree)
+  case_sounds : (name : Word) (row : PlainBody) (others : PlainCases) → Differ (names_of row) → BodySounds row → (passed : Passed) (names : Environment) (v : Tree)
       → (line : List Tree) × (v ≡ trees.Choice name line) × IsRow row line → (draft next : Draft) → case_laid known names draft (case_and name row others) (Some v) ≡ Ok next → Front all next
-      → (late : Late) → Sounds all (λ at late_after. CaseSpells false known all no_names (case_and name row others) names (Some v) at late (length next.bits) late_after) draft
-  case_sounds name row others differ sounds names v (line, is_choice, is_row) draft next is front late =
+      → (late : Late) → Sounds all (λ at late_after. CaseSpells false known all (case_and name row others) names passed (Some v) at late (length next.bits) late_after) draft
+  case_sounds name row others differ sounds passed names v (line, is_choice, is_row) draft next is front late =
       let some : Some v ≡ Some (trees.Choice name line) = ap (λ (t : Tree). Some t) is_choice in
       let chosen : is_case name (Some v) ≡ true = ap (is_case name) some ∙ choice_chosen name line in
       let so : body_laid known (counted row line names) draft row line ≡ Ok next =
       sym (ap (λ (l : List Tree). body_laid known (counted row l names) draft row l) (ap line_in some ∙ line_is name line))
       ∙ sym (ap (λ (test : Bool). if test then body_laid known (counted row (line_in (Some v)) names) draft row (line_in (Some v)) else case_laid known names draft others (Some v)) chosen)
       ∙ is in
-      let it = inside_sounds row differ sounds None names line is_row draft next so front late in
+      let it = inside_sounds row differ sounds passed None names line is_row draft next so front late in
       record {
         late_after = it.late_after;
         spells = subst (λ (test : Bool). By test
             ((line : List Tree) × (Some v ≡ Some (trees.Choice name line))
-            × Inside row None names (λ own. BodySpells false known all no_names row own line) (length draft.bits) late (length next.bits) it.late_after)
-            (CaseSpells false known all no_names others names (Some v) (length draft.bits) late (length next.bits) it.late_after))
+            × Inside row None names (λ own. BodySpells false known all row own (at_front row passed) line) (length draft.bits) late (length next.bits) it.late_after)
+            (CaseSpells false known all others names passed (Some v) (length draft.bits) late (length next.bits) it.late_after))
             (sym chosen) (line, some, it.spells);
         front = it.front;
       }
 
   others_sound : (name : Word) (row : PlainBody) (others : PlainCases) → AllByRecursion (λ later. str_eq_ignore_ascii_case name.bytes later.bytes ≡ false) (case_names others)
-      → CasesSound others → (names : Environment) (v : Tree)
+      → CasesSound others → (passed : Passed) (names : Environment) (v : Tree)
       → IsChoice others v → (draft next : Draft) → case_laid known names draft (case_and name row others) (Some v) ≡ Ok next → Front all next
-      → (late : Late) → Sounds all (λ at late_after. CaseSpells false known all no_names (case_and name row others) names (Some v) at late (length next.bits) late_after) draft
-  others_sound name row others differ sounds names v is_choice draft next is front late =
-      let passed : is_case name (Some v) ≡ false = choice_differs name others differ v is_choice in
+      → (late : Late) → Sounds all (λ at late_after. CaseSpells false known all (case_and name row others) names passed (Some v) at late (length next.bits) late_after) draft
+  others_sound name row others differ sounds passed names v is_choice draft next is front late =
+      let other : is_case name (Some v) ≡ false = choice_differs name others differ v is_choice in
       let so : case_laid known names draft others (Some v) ≡ Ok next =
-      sym (ap (λ (test : Bool). if test then body_laid known (counted row (line_in (Some v)) names) draft row (line_in (Some v)) else case_laid known names draft others (Some v)) passed)
+      sym (ap (λ (test : Bool). if test then body_laid known (counted row (line_in (Some v)) names) draft row (line_in (Some v)) else case_laid known names draft others (Some v)) other)
       ∙ is in
-      let it = sounds names v is_choice draft next so front late in
+      let it = sounds passed names v is_choice draft next so front late in
       record {
         late_after = it.late_after;
         spells = subst (λ (test : Bool). By test
             ((line : List Tree) × (Some v ≡ Some (trees.Choice name line))
-            × Inside row None names (λ own. BodySpells false known all no_names row own line) (length draft.bits) late (length next.bits) it.late_after)
-            (CaseSpells false known all no_names others names (Some v) (length draft.bits) late (length next.bits) it.late_after))
-            (sym passed) it.spells;
+            × Inside row None names (λ own. BodySpells false known all row own (at_front row passed) line) (length draft.bits) late (length next.bits) it.late_after)
+            (CaseSpells false known all others names passed (Some v) (length draft.bits) late (length next.bits) it.late_after))
+            (sym other) it.spells;
         front = it.front;
       }
 
   mutual
     field_sounds : (scope : List Word) (field : PlainField) → IsKeptWithin scope field → FieldSounds field
-    field_sounds scope (Number number) kept names value counts has = pieces_sounds (Number number) names value tt (number_has number value has)
-    field_sounds scope (Text text) kept names value counts has = pieces_sounds (Text text) names value tt (text_has text value has)
-    field_sounds scope (Points points) kept names value counts has =
-        let each = points_have points points.fixed value has in pieces_sounds (Points points) names value each.0 each.1
-    field_sounds scope (Fill unit count) kept names value counts has = pieces_sounds (Fill unit count) names value tt (single_fed (Zeros (unit * nat_abs count)) value (ap is_some has) has)
-    field_sounds scope (Align unit) kept names value counts has = pieces_sounds (Align unit) names value tt (single_fed (Filler unit) value (ap is_some has) has)
-    field_sounds scope (Array name count row) kept names value counts has =
-        array_sounds name count row kept.1 (body_sounds (scope ++ names_of row) row kept.2) names value counts has
-    field_sounds scope (Switch cases) kept names value counts has = switch_sounds cases (cases_sound scope cases kept.0 kept.1) names value counts has
+    field_sounds scope (Number number) kept passed names value counts has = pieces_sounds passed (Number number) names value tt (number_has number value has)
+    field_sounds scope (Text text) kept passed names value counts has = pieces_sounds passed (Text text) names value tt (text_has text value has)
+    field_sounds scope (Points points) kept passed names value counts has =
+        let each = points_have points points.fixed value has in pieces_sounds passed (Points points) names value each.0 each.1
+    field_sounds scope (Fill unit count) kept passed names value counts has = pieces_sounds passed (Fill unit count) names value tt (single_fed (Zeros (unit * nat_abs count)) value (ap is_some has) has)
+    field_sounds scope (Align unit) kept passed names value counts has = pieces_sounds passed (Align unit) names value tt (single_fed (Filler unit) value (ap is_some has) has)
+    field_sounds scope (Array name count row) kept passed names value counts has =
+        array_sounds name count row kept.1 (body_sounds (scope ++ names_of row) row kept.2) passed names value counts has
+    field_sounds scope (Switch cases) kept passed names value counts has = switch_sounds cases (cases_sound scope cases kept.0 kept.1) passed names value counts has
 
     cases_sound : (scope : List Word) (cases : PlainCases) → Differ (case_names cases) → AreCasesKept scope cases → CasesSound cases
-    cases_sound scope no_cases differ kept names v is_choice = absurd is_choice
-    cases_sound scope (case_and name row others) differ kept names v (inl it) = case_sounds name row others kept.0 (body_sounds (scope ++ names_of row) row kept.1) names v it
-    cases_sound scope (case_and name row others) differ kept names v (inr it) = others_sound name row others differ.0 (cases_sound scope others differ.1 kept.2) names v it
+    cases_sound scope no_cases differ kept passed names v is_choice = absurd is_choice
+    cases_sound scope (case_and name row others) differ kept passed names v (inl it) = case_sounds name row others kept.0 (body_sounds (scope ++ names_of row) row kept.1) passed names v it
+    cases_sound scope (case_and name row others) differ kept passed names v (inr it) = others_sound name row others differ.0 (cases_sound scope others differ.1 kept.2) passed names v it
 
     body_sounds : (scope : List Word) (body : PlainBody) → AreKept scope body → BodySounds body
-    body_sounds scope no_fields kept names values counts is_row draft next is front late =
+    body_sounds scope no_fields kept passed names values counts is_row draft next is front late =
         let same : draft ≡ next = same_ok draft next is in
         record {
           late_after = late;
           spells = (is_row, ap (λ (d : Draft). length d.bits) (sym same), refl);
           front = subst (Front all) (sym same) front;
         }
-    body_sounds scope (field_and field fields) kept names values counts (rest, one, others) draft next is front late =
+    body_sounds scope (field_and field fields) kept passed names values counts (rest, one, others) draft next is front late =
         let each = fronted (takes_value field) (IsValue field) values rest one in
         let value = first_value (takes_value field) values in
-        let behind = other_values (takes_value field) values in
-        let inner = chained (field_laid known names draft field value) (λ mid. body_laid known names mid fields behind) next is in
-        then_sounds all value behind values each.whole (FieldSpells false known all no_names field names) (BodySpells false known all no_names fields names) draft inner.value (length next.bits)
-        (λ mid late. field_sounds scope field kept.2 names value counts.0 each.one draft inner.value inner.is mid late)
-        (λ late. body_sounds scope fields kept.3 names behind counts.1 (subst (IsRow fields) each.others others) inner.value next inner.leads front late)
+        let rest_values = other_values (takes_value field) values in
+        let inner = chained (field_laid known names draft field value) (λ mid. body_laid known names mid fields rest_values) next is in
+        then_sounds all value rest_values values each.whole (FieldSpells false known all field names passed) (BodySpells false known all fields names (behind field passed)) draft inner.value (length next.bits)
+        (λ mid late. field_sounds scope field kept.2 passed names value counts.0 each.one draft inner.value inner.is mid late)
+        (λ late. body_sounds scope fields kept.3 (behind field passed) names rest_values counts.1 (subst (IsRow fields) each.others others) inner.value next inner.leads front late)
         late
 
 module _ (written : (bits : List Bool) → length bits % 8 ≡ 0 → bits_of (bytes_of bits) ≡ bits) (multiple : (unit : ℕ) (bits : List Bool) → 0 < unit → length (filled unit bits) % unit ≡ 0)
@@ -235,7 +235,7 @@ module _ (written : (bits : List Bool) → length bits % 8 ≡ 0 → bits_of (by
       let bytes_are : bytes_of (filled 8 bits) ≡ bytes = same_ok _ bytes inner.leads in
       let all_is : bits_of bytes ≡ filled 8 bits = ap bits_of (sym bytes_are) ∙ written (filled 8 bits) (multiple 8 bits (omega (arith))) in
       let front : take (length bits) (bits_of bytes) ≡ bits = ap (take (length bits)) all_is ∙ take-append_seam bits (zeros (missing 8 (length bits))) in
-      let it = body_sounds known (bits_of bytes) (names_of body) body kept.1 names row (counted_are body row outside kept.0) are nothing_laid inner.value inner.is front [] in
+      let it = body_sounds known (bits_of bytes) (names_of body) body kept.1 (at_front body nothing_passed) names row (counted_are body row outside kept.0) are nothing_laid inner.value inner.is front [] in
       record {
         names = names;
         own = counted_within body None row outside;

@@ -15,7 +15,7 @@ use Rattle.rz_bits.specs.Bits.{bits_of, number_bits}
 use Rattle.rz_types.specs.Field.{PlainText}
 use Rattle.rz_types.specs.Laid.{bad_length, bad_size, bytes_given, bytes_laid, first_value, fixed_number, in_order, joined, lay, number_given, number_in, one_more, other_values, piece_laid, refusal, size_in, takes_one, text_in, text_laid, text_refusal, too_long, unless, valued, value_in, with_bits, Draft, Refusal}
 use Rattle.rz_types.specs.Range.{fits_number, may_be_size}
-use Rattle.rz_types.specs.Spells.{is_late_size, is_late_value, marks, most_bits, nowhere, put, AreBytes, Filler, InOrder, IsNumber, IsSize, IsStored, IsText, Late, Names, OneNumber, OneText, Piece, PieceSpells, RowSpells, Then, Zeros}
+use Rattle.rz_types.specs.Spells.{behind_piece, is_late_size, is_late_value, marks, most_bits, nowhere, put, AreBytes, Filler, InOrder, IsNumber, IsSize, IsStored, IsText, Late, Names, OneNumber, OneText, Passed, Piece, PieceSpells, RowSpells, Then, Zeros}
 use Rattle.rz_types.specs.Stored.{stored_number, stored_text}
 use Rattle.rz_types.specs.Text.{bytes_of as text_bytes_of, PlainPart}
 use Rattle.rz_types.specs.Value.{names_sight}
@@ -89,12 +89,12 @@ module _ (known : Facts) (names : Environment) where
   value_sound : (piece : ℕ) (term : Term) (v : ℤ) → value_in piece known names term ≡ Ok v → value_of term (names_sight known names) ≡ Ok v
   value_sound piece term v is = valued_is piece (value_of term (names_sight known names)) v is
 
-  number_sound : (piece : ℕ) (form : NumForm) (width : ℤ) (fixed : Option Term) (value : Option Tree) → NumberValue width fixed value → (bits : List Bool)
+  number_sound : (passed : Passed) (piece : ℕ) (form : NumForm) (width : ℤ) (fixed : Option Term) (value : Option Tree) → NumberValue width fixed value → (bits : List Bool)
       → (number_given piece known names form width fixed value >>= λ n. Ok (number_bits (nat_abs width) n)) ≡ Ok bits
-      → IsNumber form width fixed (names_sight known names) value bits
-  number_sound piece form width None value has bits is =
+      → IsNumber false passed form width fixed (names_sight known names) value bits
+  number_sound passed piece form width None value has bits is =
       (has.0, has.1, has.2, sym (same_ok _ bits is) ∙ ap (λ (o : Option Tree). number_bits (nat_abs width) (number_in o)) has.1 ∙ ap (number_bits (nat_abs width)) (number_is has.0))
-  number_sound piece form width (Some term) value has bits is =
+  number_sound passed piece form width (Some term) value has bits is =
       let outer = chained (fixed_number piece known names form width term) (λ n. Ok (number_bits (nat_abs width) n)) bits is in
       let inner = chained (value_in piece known names term) (λ v. unless_fault (unless (fits_number form width v) (refusal 207 piece v)) (stored_number (nat_abs width) v)) outer.value outer.is in
       let free = unrefused (unless (fits_number form width inner.value) (refusal 207 piece inner.value)) (stored_number (nat_abs width) inner.value) outer.value inner.leads in (
@@ -103,6 +103,7 @@ module _ (known : Facts) (names : Environment) where
         value_sound piece term inner.value inner.is,
         held (fits_number form width inner.value) (refusal 207 piece inner.value) free.0,
         sym (same_ok _ bits outer.leads) ∙ ap (number_bits (nat_abs width)) (sym free.1),
+        tt,
       )
 
   may_be_natural : (form : TextForm) (z : ℤ) → may_be_size form z ≡ true → pos (nat_abs z) ≡ z
@@ -157,13 +158,13 @@ module _ (known : Facts) (names : Environment) where
         are_bits = sym free.1;
       }
 
-  stored_sound : (piece : Piece) (value : Option Tree) → PieceValue piece value → (draft : Draft) (bits : List Bool)
-      → piece_laid known names draft piece value ≡ Ok bits → IsStored false piece known (length draft.bits) (names_sight known names) value bits
-  stored_sound (OneNumber number) value has draft bits is =
-      number_sound draft.piece number.form number.width number.fixed value has bits is
-  stored_sound (OneText text) value has draft bits is = text_sound draft.piece text value has bits is
-  stored_sound (Zeros count) value has draft bits is = (has, sym (same_ok _ bits is))
-  stored_sound (Filler unit) value has draft bits is = (has, sym (same_ok _ bits is))
+  stored_sound : (passed : Passed) (piece : Piece) (value : Option Tree) → PieceValue piece value → (draft : Draft) (bits : List Bool)
+      → piece_laid known names draft piece value ≡ Ok bits → IsStored false passed piece known (length draft.bits) (names_sight known names) value bits
+  stored_sound passed (OneNumber number) value has draft bits is =
+      number_sound passed draft.piece number.form number.width number.fixed value has bits is
+  stored_sound passed (OneText text) value has draft bits is = text_sound draft.piece text value has bits is
+  stored_sound passed (Zeros count) value has draft bits is = (has, sym (same_ok _ bits is))
+  stored_sound passed (Filler unit) value has draft bits is = (has, sym (same_ok _ bits is))
 
 -- No number is late so far.
 
@@ -231,19 +232,19 @@ module _ (all : List Bool) where
 
   -- Pieces.
 
-  module _ (known : Facts) (names : Environment) (met : Names) where
-    pub piece_sound : (piece : Piece) (value : Option Tree) → PieceValue piece value → (draft next : Draft) → lay known names draft piece value ≡ Ok next → Front next
-        → (late : Late) → Sounds (λ at late_after. PieceSpells false known all names met piece value at late (length next.bits) late_after) draft
-    piece_sound piece value has draft next is front late =
+  module _ (known : Facts) (names : Environment) where
+    pub piece_sound : (passed : Passed) (piece : Piece) (value : Option Tree) → PieceValue piece value → (draft next : Draft) → lay known names draft piece value ≡ Ok next → Front next
+        → (late : Late) → Sounds (λ at late_after. PieceSpells false known all names passed piece value at late (length next.bits) late_after) draft
+    piece_sound passed piece value has draft next is front late =
         let inner = chained (piece_laid known names draft piece value) (with_bits draft) next is in
         let grew = with_grew draft next inner.value inner.leads in
         let long : length next.bits ≡ length draft.bits + length inner.value = ap length grew.0 ∙ length-append draft.bits inner.value in
         record {
-          late_after = late ++ marks met late piece (names_sight known names) (length inner.value);
+          late_after = late ++ marks passed.met late piece (names_sight known names) (length inner.value);
           spells = record {
             bits = inner.value;
-            stored = stored_sound known names piece value has draft inner.value inner.is;
-            early = no_late_size met late piece (names_sight known names);
+            stored = stored_sound known names passed piece value has draft inner.value inner.is;
+            early = no_late_size passed.met late piece (names_sight known names);
             there = there draft next inner.value grew.0 front;
             ends = long;
             short = subst (λ n. n ≤ most_bits) (sym long) grew.1;
@@ -253,20 +254,20 @@ module _ (all : List Bool) where
         }
 
     -- pieces that take their values
-    pub pieces_sound : (pieces : List Piece) (values : List Tree) → Fed pieces values → (draft next : Draft) → in_order takes_one (lay known names) draft pieces values ≡ Ok next → Front next
-        → (late : Late) → Sounds (λ at late_after. InOrder (PieceSpells false known all names met) pieces values at late (length next.bits) late_after) draft
-    pieces_sound [] values fed draft next is front late =
+    pub pieces_sound : (passed : Passed) (pieces : List Piece) (values : List Tree) → Fed pieces values → (draft next : Draft) → in_order takes_one (lay known names) draft pieces values ≡ Ok next → Front next
+        → (late : Late) → Sounds (λ at late_after. InOrder (PieceSpells false known all names) passed pieces values at late (length next.bits) late_after) draft
+    pieces_sound passed [] values fed draft next is front late =
         let same : draft ≡ next = same_ok draft next is in
         record {
           late_after = late;
           spells = (fed, ap (λ (d : Draft). length d.bits) (sym same), refl);
           front = subst Front (sym same) front;
         }
-    pieces_sound (piece ∷ pieces) values fed draft next is front late =
+    pieces_sound passed (piece ∷ pieces) values fed draft next is front late =
         let inner = chained (lay known names draft piece (first_value (takes_one piece) values))
         (λ mid. in_order takes_one (lay known names) mid pieces (other_values (takes_one piece) values)) next is in
-        then_sounds (first_value (takes_one piece) values) (other_values (takes_one piece) values) values fed.1 (PieceSpells false known all names met piece)
-        (InOrder (PieceSpells false known all names met) pieces) draft inner.value (length next.bits)
-        (λ mid late. piece_sound piece (first_value (takes_one piece) values) fed.0 draft inner.value inner.is mid late)
-        (λ late. pieces_sound pieces (other_values (takes_one piece) values) fed.2 inner.value next inner.leads front late)
+        then_sounds (first_value (takes_one piece) values) (other_values (takes_one piece) values) values fed.1 (PieceSpells false known all names passed piece)
+        (InOrder (PieceSpells false known all names) (behind_piece piece passed) pieces) draft inner.value (length next.bits)
+        (λ mid late. piece_sound passed piece (first_value (takes_one piece) values) fed.0 draft inner.value inner.is mid late)
+        (λ late. pieces_sound (behind_piece piece passed) pieces (other_values (takes_one piece) values) fed.2 inner.value next inner.leads front late)
         late

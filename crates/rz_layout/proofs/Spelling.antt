@@ -13,7 +13,7 @@ use Rattle.rz_bits.specs.Bits.{bits_of, number_bits}
 use Rattle.rz_types.specs.Field.{PlainText}
 use Rattle.rz_types.specs.Laid.{bad_size, bytes_given, bytes_laid, first_value, in_order, joined, lay, number_given, number_in, one_more, other_values, piece_laid, refusal, size_in, text_in, takes_one, text_laid, then_laid, unless, valued, value_in, with_bits, Draft, Refusal}
 use Rattle.rz_types.specs.Range.{fits_number}
-use Rattle.rz_types.specs.Spells.{most_bits, put, AreBytes, Filler, InOrder, IsGrouped, IsNumber, IsSize, IsStored, IsText, Late, Names, OneNumber, OneText, Piece, PieceSpells, Zeros}
+use Rattle.rz_types.specs.Spells.{behind_piece, most_bits, put, AreBytes, Filler, InOrder, IsGrouped, IsNumber, IsSize, IsStored, IsText, Late, OneNumber, OneText, Passed, Piece, PieceSpells, Zeros}
 use Rattle.rz_types.specs.Stored.{is_too_long, stored_number, stored_text}
 use Rattle.rz_types.specs.Text.{PlainPart}
 use Rattle.rz_types.specs.Value.{names_sight}
@@ -42,14 +42,14 @@ module _ (known : Facts) (names inner : Environment) (alike : Alike names inner)
   value_spelled : (piece : ℕ) (term : Term) (v : ℤ) → value_of term (names_sight known names) ≡ Ok v → value_in piece known inner term ≡ Ok v
   value_spelled piece term v found = ap (valued piece) (sym (seen known names inner alike term) ∙ found)
 
-  number_spelled : (piece : ℕ) (form : NumForm) (width : ℤ) (fixed : Option Term) (value : Option Tree) (bits : List Bool)
-      → IsNumber form width fixed (names_sight known names) value bits
+  number_spelled : (passed : Passed) (piece : ℕ) (form : NumForm) (width : ℤ) (fixed : Option Term) (value : Option Tree) (bits : List Bool)
+      → IsNumber false passed form width fixed (names_sight known names) value bits
       → (number_given piece known inner form width fixed value >>= λ n. Ok (number_bits (nat_abs width) n)) ≡ Ok bits
-  number_spelled piece form width None value bits it =
+  number_spelled passed piece form width None value bits it =
       ap (λ (o : Option Tree). good (number_bits (nat_abs width) (number_in o))) it.1
       ∙ ap (λ (n : ℕ). good (number_bits (nat_abs width) n)) (number_is it.0)
       ∙ ap good (sym it.3)
-  number_spelled piece form width (Some term) value bits it =
+  number_spelled passed piece form width (Some term) value bits it =
       ap (λ (r : Result ℤ Refusal).
       (r >>= λ v. unless_fault (unless (fits_number form width v) (refusal 207 piece v)) (stored_number (nat_abs width) v)) >>= λ n. good (number_bits (nat_abs width) n))
       (value_spelled piece term it.0 it.2)
@@ -91,19 +91,19 @@ module _ (known : Facts) (names inner : Environment) (alike : Alike names inner)
       (bits_of (stored_text text.form (s.same i) it.bytes)))
       ∙ ap good (sym it.are_bits)
 
-  pub stored_spelled : (piece : Piece) (draft : Draft) (value : Option Tree) (bits : List Bool)
-      → IsStored false piece known (length draft.bits) (names_sight known names) value bits → piece_laid known inner draft piece value ≡ Ok bits
-  stored_spelled (OneNumber number) draft value bits it =
-      number_spelled draft.piece number.form number.width number.fixed value bits it
-  stored_spelled (OneText text) draft value bits it = text_spelled draft.piece text value bits it
-  stored_spelled (Zeros count) draft value bits it = ap good (sym it.1)
-  stored_spelled (Filler unit) draft value bits it = ap good (sym it.1)
+  pub stored_spelled : (passed : Passed) (piece : Piece) (draft : Draft) (value : Option Tree) (bits : List Bool)
+      → IsStored false passed piece known (length draft.bits) (names_sight known names) value bits → piece_laid known inner draft piece value ≡ Ok bits
+  stored_spelled passed (OneNumber number) draft value bits it =
+      number_spelled passed draft.piece number.form number.width number.fixed value bits it
+  stored_spelled passed (OneText text) draft value bits it = text_spelled draft.piece text value bits it
+  stored_spelled passed (Zeros count) draft value bits it = ap good (sym it.1)
+  stored_spelled passed (Filler unit) draft value bits it = ap good (sym it.1)
 
 -- Where a value is taken.
 
-number_taken : (form : NumForm) (width : ℤ) (fixed : Option Term) (sight : Sight) (value : Option Tree) (bits : List Bool) → IsNumber form width fixed sight value bits → is_some value ≡ is_none fixed
-number_taken form width None sight value bits it = ap is_some it.1
-number_taken form width (Some term) sight value bits it = ap is_some it.1
+number_taken : (passed : Passed) (form : NumForm) (width : ℤ) (fixed : Option Term) (sight : Sight) (value : Option Tree) (bits : List Bool) → IsNumber false passed form width fixed sight value bits → is_some value ≡ is_none fixed
+number_taken passed form width None sight value bits it = ap is_some it.1
+number_taken passed form width (Some term) sight value bits it = ap is_some it.1
 
 bytes_taken : (form : TextForm) (known : Facts) (fixed : Option (List PlainPart)) (size : Option ℕ) (value : Option Tree) (bytes : List ℕ) → AreBytes false form known fixed size value bytes
     → is_some value ≡ is_none fixed
@@ -154,15 +154,15 @@ module _ (all : List Bool) where
 
   -- Pieces.
 
-  module _ (known : Facts) (names inner : Environment) (alike : Alike names inner) (met : Names) where
-    pub piece_spelled : (piece : Piece) (value : Option Tree) (at after : ℕ) (late late_after : Late)
-        → PieceSpells false known all names met piece value at late after late_after → (draft : Draft) → Fits draft at → Goes (lay known inner draft piece value) after
-    piece_spelled piece value at after late late_after it draft fits =
-        let stored = subst (λ (n : ℕ). IsStored false piece known n (names_sight known names) value it.bits) (sym fits.size) it.stored in
+  module _ (known : Facts) (names inner : Environment) (alike : Alike names inner) where
+    pub piece_spelled : (passed : Passed) (piece : Piece) (value : Option Tree) (at after : ℕ) (late late_after : Late)
+        → PieceSpells false known all names passed piece value at late after late_after → (draft : Draft) → Fits draft at → Goes (lay known inner draft piece value) after
+    piece_spelled passed piece value at after late late_after it draft fits =
+        let stored = subst (λ (n : ℕ). IsStored false passed piece known n (names_sight known names) value it.bits) (sym fits.size) it.stored in
         let ends : length draft.bits + length it.bits ≡ after = ap (λ n. n + length it.bits) fits.size ∙ sym it.ends in
         record {
           next = record { piece = one_more draft.piece; bits = draft.bits ++ it.bits };
-          is = ap (λ (r : Result (List Bool) Refusal). r >>= with_bits draft) (stored_spelled known names inner alike piece draft value it.bits stored)
+          is = ap (λ (r : Result (List Bool) Refusal). r >>= with_bits draft) (stored_spelled known names inner alike passed piece draft value it.bits stored)
               ∙ laid_in draft it.bits (subst (λ n. n ≤ most_bits) (sym ends) it.short);
           fits = record {
             front = (λ i. fits.front i ++ sym it.there i) ∙ sym (take_more at (length it.bits) after all it.ends);
@@ -170,22 +170,22 @@ module _ (all : List Bool) where
           };
         }
 
-    piece_taken : (piece : Piece) (value : Option Tree) (at after : ℕ) (late late_after : Late)
-        → PieceSpells false known all names met piece value at late after late_after → is_some value ≡ takes_one piece
-    piece_taken (OneNumber number) value at after late late_after it = number_taken number.form number.width number.fixed (names_sight known names) value it.bits it.stored
-    piece_taken (OneText text) value at after late late_after it = bytes_taken text.form known text.fixed it.stored.size value it.stored.bytes it.stored.are_bytes
-    piece_taken (Zeros count) value at after late late_after it = ap is_some it.stored.0
-    piece_taken (Filler unit) value at after late late_after it = ap is_some it.stored.0
+    piece_taken : (passed : Passed) (piece : Piece) (value : Option Tree) (at after : ℕ) (late late_after : Late)
+        → PieceSpells false known all names passed piece value at late after late_after → is_some value ≡ takes_one piece
+    piece_taken passed (OneNumber number) value at after late late_after it = number_taken passed number.form number.width number.fixed (names_sight known names) value it.bits it.stored
+    piece_taken passed (OneText text) value at after late late_after it = bytes_taken text.form known text.fixed it.stored.size value it.stored.bytes it.stored.are_bytes
+    piece_taken passed (Zeros count) value at after late late_after it = ap is_some it.stored.0
+    piece_taken passed (Filler unit) value at after late late_after it = ap is_some it.stored.0
 
-    pub pieces_goes : (pieces : List Piece) (values : List Tree) (at after : ℕ) (late late_after : Late)
-        → InOrder (PieceSpells false known all names met) pieces values at late after late_after
+    pub pieces_goes : (passed : Passed) (pieces : List Piece) (values : List Tree) (at after : ℕ) (late late_after : Late)
+        → InOrder (PieceSpells false known all names) passed pieces values at late after late_after
         → (draft : Draft) → Fits draft at → Goes (in_order takes_one (lay known inner) draft pieces values) after
-    pieces_goes [] values at after late late_after it draft fits = record { next = draft; is = refl; fits = subst (Fits draft) (sym it.1) fits }
-    pieces_goes (piece ∷ pieces) values at after late late_after (value, rest, mid, late_mid, are, one, others) draft fits =
-        let first = piece_spelled piece value at mid late late_mid one draft fits in
-        then_goes (takes_one piece) value rest values are (piece_taken piece value at mid late late_mid one) (lay known inner draft piece)
+    pieces_goes passed [] values at after late late_after it draft fits = record { next = draft; is = refl; fits = subst (Fits draft) (sym it.1) fits }
+    pieces_goes passed (piece ∷ pieces) values at after late late_after (value, rest, mid, late_mid, are, one, others) draft fits =
+        let first = piece_spelled passed piece value at mid late late_mid one draft fits in
+        then_goes (takes_one piece) value rest values are (piece_taken passed piece value at mid late late_mid one) (lay known inner draft piece)
         (λ next values. in_order takes_one (lay known inner) next pieces values) mid after first
-        (pieces_goes pieces rest mid after late_mid late_after others first.next first.fits)
+        (pieces_goes (behind_piece piece passed) pieces rest mid after late_mid late_after others first.next first.fits)
 
     -- a single piece takes the value that there is
     single : (value v : Option Tree) (rest : List Tree) → rest ≡ [] → option_to_list value ≡ put v rest → is_some value ≡ is_some v
@@ -197,7 +197,7 @@ module _ (all : List Bool) where
         by (Some value) None is = absurd cc
         by (Some value) (Some v) is = refl
 
-    pub one_taken : (piece : Piece) (value : Option Tree) (at after : ℕ) (late late_after : Late)
-        → InOrder (PieceSpells false known all names met) (piece ∷ []) (option_to_list value) at late after late_after → is_some value ≡ takes_one piece
-    one_taken piece value at after late late_after (v, rest, mid, late_mid, are, one, behind) =
-        single value v rest behind.0 are ∙ piece_taken piece v at mid late late_mid one
+    pub one_taken : (passed : Passed) (piece : Piece) (value : Option Tree) (at after : ℕ) (late late_after : Late)
+        → InOrder (PieceSpells false known all names) passed (piece ∷ []) (option_to_list value) at late after late_after → is_some value ≡ takes_one piece
+    one_taken passed piece value at after late late_after (v, rest, mid, late_mid, are, one, behind) =
+        single value v rest behind.0 are ∙ piece_taken passed piece v at mid late late_mid one
