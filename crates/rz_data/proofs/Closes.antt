@@ -7,7 +7,7 @@ use Rattle.rz_lex.specs.declared.token.Token.{Token}
 use Rattle.rz_data.specs.Closed.{AreClosed}
 use Rattle.rz_data.specs.Raw.{is_close, is_close_brace, is_end, or_end, texts_in}
 use Rattle.rz_brackets.specs.Statements.{is_semicolon}
-use Rattle.rz_types.specs.Text.{part_in, parts_in, with_part, PlainPart}
+use Rattle.rz_fields.specs.Text.{part_in, parts_in, with_part, PlainPart}
 
 -- From the definition to the parts.
 

@@ -11,7 +11,7 @@ use Rattle.rz_brackets.specs.declared.pieces.Divider.{Divider}
 use Rattle.rz_brackets.specs.declared.pieces.Divider.TheVariants.{Comma}
 use Rattle.rz_data.specs.Head.{name_in, word_attribute, AreAttributes, Attribute, Head, IsAttribute, IsAttributeBy, IsHead, IsRest, IsRestBy, Value}
 use Rattle.rz_data.specs.Raw.{texts_in, IsRaw, Raw}
-use Rattle.rz_types.specs.Text.{PlainPart}
+use Rattle.rz_fields.specs.Text.{PlainPart}
 use Rattle.rz_data.proofs.Shaped.{in_brackets, same_kind}
 
 module _ (one : OneExpression) where

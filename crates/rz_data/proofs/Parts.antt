@@ -3,7 +3,7 @@ use Rattle.std.proofs.Common.{◌≡◌, List, [], ◌∷◌, ◌++◌, Option, 
 use Rattle.std.specs.Prelude.{option_map}
 use Rattle.rz_lex.specs.declared.token.Token.{Token}
 use Rattle.rz_data.specs.Raw.{is_end, or_end, texts_in}
-use Rattle.rz_types.specs.Text.{part_in, PlainPart}
+use Rattle.rz_fields.specs.Text.{part_in, PlainPart}
 
 both : (parts : List PlainPart) (part : PlainPart) (o : Option (List PlainPart))
     → option_map (λ more. parts ++ more) (option_map (λ more. part ∷ more) o) ≡ option_map (λ more. (parts ++ part ∷ []) ++ more) o

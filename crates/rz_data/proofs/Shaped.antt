@@ -11,7 +11,7 @@ use Rattle.rz_brackets.specs.Pieces.{AreCut, Parted}
 use Rattle.rz_brackets.specs.declared.bracket.Bracket.TheVariants.{Round}
 use Rattle.rz_brackets.specs.declared.pieces.Divider.TheVariants.{Comma}
 use Rattle.rz_data.specs.Raw.{is_open_brace, texts_in, IsRaw, Raw}
-use Rattle.rz_types.specs.Text.{PlainPart}
+use Rattle.rz_fields.specs.Text.{PlainPart}
 
 -- What can't be.
 

@@ -2,7 +2,7 @@
 use Rattle.std.specs.Prelude.{◌≡◌, true, List, ◌++◌, Some}
 use Rattle.rz_lex.specs.declared.token.Token.{Token}
 use Rattle.rz_data.specs.Raw.{is_end}
-use Rattle.rz_types.specs.Text.{parts_in, PlainPart}
+use Rattle.rz_fields.specs.Text.{parts_in, PlainPart}
 
 -- tokens that are each a part, and behind them the end of the statement
 pub record AreClosed (tokens : List Token) (parts : List PlainPart) : Type 0 where

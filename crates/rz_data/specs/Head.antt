@@ -7,7 +7,7 @@ use Rattle.rz_expr.specs.Term.{term_of, Term}
 use Rattle.rz_lex.specs.declared.token.Shape.{Shape}
 use Rattle.rz_lex.specs.declared.token.Shape.TheVariants as shapes
 use Rattle.rz_lex.specs.declared.token.Token.{Token}
-use Rattle.rz_types.specs.Text.{plain_parts, text_in, NameFact, Plain, PlainPart}
+use Rattle.rz_fields.specs.Text.{plain_parts, text_in, NameFact, Plain, PlainPart}
 use Rattle.rz_data.specs.declared.head.AttrPart.{AttrPart}
 use Rattle.rz_data.specs.declared.head.AttrPart.TheVariants as parts
 use Rattle.rz_data.specs.declared.head.HeadExpr.{HeadExpr}

@@ -5,4 +5,4 @@ pub use Rattle.rz_brackets.specs.Statements
 pub use Rattle.rz_brackets.specs.Pieces
 pub use Rattle.rz_brackets.specs.Bracket
 pub use Rattle.rz_brackets.specs.Kind
-pub use Rattle.rz_types.specs.Text
+pub use Rattle.rz_fields.specs.Text

@@ -13,7 +13,7 @@ use Rattle.rz_brackets.specs.Pieces.{AreCut, Parted}
 use Rattle.rz_brackets.specs.Statements.{is_semicolon}
 use Rattle.rz_brackets.specs.declared.bracket.Bracket.TheVariants.{Round}
 use Rattle.rz_brackets.specs.declared.pieces.Divider.TheVariants.{Comma}
-use Rattle.rz_types.specs.Text.{part_in, plain_parts, PlainPart}
+use Rattle.rz_fields.specs.Text.{part_in, plain_parts, PlainPart}
 use Rattle.rz_data.specs.declared.raw.RawStmt.{RawStmt}
 
 pub record Raw : Type 0 where

@@ -1,14 +1,14 @@
 ghost use Rattle.std.specs.Prelude.{◌≡◌, IfOk, List, MatchOption, map, option_map};
 ghost use Rattle.rz_expr.specs.Term.{term_of, Term};
 ghost use Rattle.rz_expr.specs.Attribute.{attribute_word};
-ghost use Rattle.rz_types.specs.Text.{plain_parts};
+ghost use Rattle.rz_fields.specs.Text.{plain_parts};
 ghost use Rattle.rz_core.specs.Decided.{Decided};
 ghost use Rattle.rz_data.specs.Head.{are_quoted, attribute_of, head_of, name_in, said, word_attribute, AreAttributes, Attribute, Head, IsAttribute, IsHead, IsRestOf};
 
 use rz_core::{Listing, NoMemory, Word};
 use rz_expr::{AttributeWord, Expr, attribute_word, one_expression, read_constant};
+use rz_fields::{TextPart, Texts, text_in};
 use rz_lex::{Shape, Token};
-use rz_types::{TextPart, Texts, text_in};
 use std::alloc::Global;
 
 /// An attribute of a head. (MPW Rez.)

@@ -2,7 +2,7 @@ ghost use Rattle.std.specs.Prelude.{◌≡◌, ◌↔◌, List, Some};
 ghost use Rattle.rz_lex.specs.declared.token.Token.{Token};
 ghost use Rattle.rz_data.specs.Closed.{AreClosed};
 ghost use Rattle.rz_data.specs.Raw.{texts_in, IsRaw, Raw};
-ghost use Rattle.rz_types.specs.Text.{PlainPart};
+ghost use Rattle.rz_fields.specs.Text.{PlainPart};
 
 use rz_brackets::pieces_are_cut;
 use rz_expr::one_expression;

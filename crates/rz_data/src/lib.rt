@@ -1,7 +1,7 @@
 //! `data` statements: their heads, and the texts that are their bytes. `read_raw` gives exactly the statement
 //! that the tokens are, or none, and there is one at most. The values of its expressions are computed by who asks
 //! for them. `read_head` reads the heads of `resource` statements too.
-//! It rests on `rz_core`, `rz_lex`, `rz_expr`, `rz_types` and `rz_brackets`.
+//! It rests on `rz_core`, `rz_lex`, `rz_expr`, `rz_fields` and `rz_brackets`.
 //! A new part of a head changes `head` here, `head` of `rz_tools`, which computes it, and `rz_show`, which writes
 //! it.
 #![tactic(auto)]

@@ -1,5 +1,5 @@
 ghost use Rattle.std.specs.Prelude.{◌≡◌, IfOk, option_map};
-ghost use Rattle.rz_types.specs.Text.{plain_parts};
+ghost use Rattle.rz_fields.specs.Text.{plain_parts};
 ghost use Rattle.rz_core.specs.Decided.{Decided};
 ghost use Rattle.rz_data.specs.Raw.{is_close, is_end, is_open_brace, raw_of, texts_in, IsRaw};
 
@@ -7,8 +7,8 @@ use crate::head::{HeadExpr, read_head};
 use rz_brackets::{Bracket, Divider, bracketed, is_semicolon, kind_in, pieces_by};
 use rz_core::{NoMemory, OsType};
 use rz_expr::{Keyword, is_keyword};
+use rz_fields::{Texts, part_in};
 use rz_lex::{Shape, Sign, Token};
-use rz_types::{Texts, part_in};
 use std::alloc::Global;
 
 /// A `data` statement. (MPW Rez.)

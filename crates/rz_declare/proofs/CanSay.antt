@@ -17,11 +17,11 @@ use Rattle.rz_expr.specs.declared.value.EvalFault.TheVariants.{BadShift, DataWid
 use Rattle.rz_declare.specs.Constants.{body_value, cases_value, count_value, declare_of, declared, field_value, given_value, key_value, made_value, number_of_width, number_value, scope_value, seen, width_value}
 use Rattle.rz_declare.specs.Form.{BodyForm, CasesForm, DeclareForm, FieldForm, MadeForm, NamedTerm, NumberForm, Own, ScopeForm, WidthForm, Written}
 use Rattle.rz_declare.specs.Form as form
-use Rattle.rz_types.specs.Value.{constant_value, value_fault, with_fault}
-use Rattle.rz_types.specs.Range.{fits_number}
+use Rattle.rz_fields.specs.Value.{constant_value, value_fault, with_fault}
+use Rattle.rz_fields.specs.Range.{fits_number}
 use Rattle.rz_declare.specs.Values.{given_or, out_of_range, values_of, with_value}
 use Rattle.rz_declare.specs.declared.constants.DeclareStmt.{DeclareStmt}
-use Rattle.rz_types.specs.declared.field.Symbol.{Symbol}
+use Rattle.rz_fields.specs.declared.field.Symbol.{Symbol}
 
 -- where it is a fault, a message can say it
 abbrev pub CanSay : {X : Type 0} → ℕ → Result X Fault → Type 0

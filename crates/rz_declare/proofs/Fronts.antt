@@ -7,7 +7,7 @@ use Rattle.rz_declare.specs.FieldWord.{by_modifier, field_word_in, front_in, mod
 use Rattle.rz_declare.specs.declared.field_word.FieldWord.{FieldWord}
 use Rattle.rz_declare.specs.declared.field_word.Modifier.{Modifier}
 use Rattle.rz_declare.specs.declared.field_word.Modifier.TheVariants.{Shown, Unsigned}
-use Rattle.rz_types.specs.declared.field.Radix.{Radix}
+use Rattle.rz_fields.specs.declared.field.Radix.{Radix}
 
 -- words that may stand behind some, and what is said by all of them
 data Adds : Bool → Option Radix → List Modifier → Bool → Option Radix → Type 0 where

@@ -11,7 +11,7 @@ use Rattle.rz_expr.specs.Value.{reduced}
 use Rattle.rz_declare.specs.Form.{NamedTerm}
 use Rattle.rz_declare.specs.GoOn.{GoWrong, HasItsValue, HaveValues, IsFaultOf, IsNext}
 use Rattle.rz_declare.specs.Values.{given_or, out_of_range, values_of, with_value}
-use Rattle.rz_types.specs.declared.field.Symbol.{Symbol}
+use Rattle.rz_fields.specs.declared.field.Symbol.{Symbol}
 
 module _ (fits : ℤ → Bool) (mark : Mark) where
   onto_next : (first : ℤ) (k : ℕ) (symbol : Symbol) (symbols : List Symbol) (value : ℤ) → IsNext first (suc k) (symbol ∷ symbols) value

@@ -9,10 +9,10 @@ use Rattle.rz_core.specs.declared.fault.Mark.{Mark}
 use Rattle.rz_expr.specs.Term.{Term}
 use Rattle.rz_expr.specs.Value.{reduced}
 use Rattle.rz_declare.specs.GoOn.{HasItsValue, HaveValues, IsNext}
-use Rattle.rz_types.specs.Value.{constant_value}
+use Rattle.rz_fields.specs.Value.{constant_value}
 use Rattle.rz_declare.specs.Form.{NamedTerm}
 use Rattle.rz_declare.specs.Values.{given_or, out_of_range, values_of, with_value}
-use Rattle.rz_types.specs.declared.field.Symbol.{Symbol}
+use Rattle.rz_fields.specs.declared.field.Symbol.{Symbol}
 
 module _ (fits : ℤ → Bool) (mark : Mark) where
   given_value : (next : ℤ) (given : Option Term) (value : ℤ) → given_or mark next given ≡ Ok value → (term : Term) → given ≡ Some term → constant_value mark term ≡ Ok value

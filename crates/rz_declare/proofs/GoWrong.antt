@@ -10,7 +10,7 @@ use Rattle.rz_declare.specs.GoOn.{GoWrong, HaveValues, IsFaultOf}
 use Rattle.rz_declare.specs.Form.{NamedTerm}
 use Rattle.rz_declare.specs.Values.{given_or, out_of_range, values_of, with_value}
 use Rattle.rz_declare.proofs.GoOn.{behind, onto}
-use Rattle.rz_types.specs.declared.field.Symbol.{Symbol}
+use Rattle.rz_fields.specs.declared.field.Symbol.{Symbol}
 
 module _ (fits : ℤ → Bool) (mark : Mark) where
   nothing : (next : ℤ) → HaveValues fits mark next [] []

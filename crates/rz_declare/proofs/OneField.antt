@@ -21,9 +21,9 @@ use Rattle.rz_declare.proofs.Fronts.{fronts}
 use Rattle.rz_declare.proofs.OneNumber.{one_number}
 use Rattle.rz_declare.proofs.OneTerm.{OneCut, OneWithin}
 use Rattle.rz_declare.proofs.OneValue.{one_constant, one_field_expression, one_fixed_expression}
-use Rattle.rz_types.specs.Field.{PlainPoints, PlainText}
-use Rattle.rz_types.specs.declared.field.TextForm.{TextForm}
-use Rattle.rz_types.specs.Text.{PlainPart}
+use Rattle.rz_fields.specs.Field.{PlainPoints, PlainText}
+use Rattle.rz_fields.specs.declared.field.TextForm.{TextForm}
+use Rattle.rz_fields.specs.Text.{PlainPart}
 
 module _ (one : OneExpression) (cut : OneCut) (within : OneWithin) where
   one_sized : (hex : Bool) (form : TextForm) (tokens : List Token) (a b : PlainText) → IsSized hex form tokens a → IsSized hex form tokens b → a ≡ b

@@ -11,7 +11,7 @@ use Rattle.rz_declare.specs.declared.field_word.FieldWord.TheVariants as words
 use Rattle.rz_declare.proofs.Fronts.{fronts}
 use Rattle.rz_declare.proofs.OneNumber.{one_number}
 use Rattle.rz_declare.proofs.OneTerm.{OneCut, OneWithin}
-use Rattle.rz_types.specs.declared.field.NumForm.{NumForm}
+use Rattle.rz_fields.specs.declared.field.NumForm.{NumForm}
 
 module _ (one : OneExpression) (cut : OneCut) (within : OneWithin) where
   one_key_number : (form : NumForm) (front : FieldFront) (a b : FieldForm) → IsKeyNumber form front a → IsKeyNumber form front b → a ≡ b

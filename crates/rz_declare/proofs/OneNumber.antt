@@ -11,14 +11,14 @@ use Rattle.rz_expr.specs.Constant.{IsConstant}
 use Rattle.rz_declare.specs.FieldValue.{is_equals}
 use Rattle.rz_declare.specs.FieldWord.{FieldFront}
 use Rattle.rz_declare.specs.Form.{NamedTerm, NumberForm, Own, Written}
-use Rattle.rz_types.specs.Range.{own_width}
+use Rattle.rz_fields.specs.Range.{own_width}
 use Rattle.rz_declare.specs.NumberField.{numbered, AreNamed, IsBits, IsFixed, IsNumber, IsNumberBy, IsOfWidth, IsTail, IsTailBy, NumberTail}
 use Rattle.rz_declare.specs.Symbols.{IsSymbol}
 use Rattle.rz_declare.proofs.Each.{one_each}
 use Rattle.rz_declare.proofs.OneTerm.{OneCut, OneWithin}
 use Rattle.rz_declare.proofs.OneValue.{one_constant, one_fixed_value}
 use Rattle.rz_declare.proofs.Valued.{one_symbol}
-use Rattle.rz_types.specs.declared.field.NumForm.{NumForm}
+use Rattle.rz_fields.specs.declared.field.NumForm.{NumForm}
 
 module _ (one : OneExpression) (cut : OneCut) (within : OneWithin) (form : NumForm) where
   one_fixed : (tokens : List Token) (a b : NumberTail) → IsFixed form tokens a → IsFixed form tokens b → a ≡ b

@@ -5,7 +5,7 @@ use Rattle.rz_expr.specs.Term.{Term}
 use Rattle.rz_lex.specs.declared.token.Token.{Token}
 use Rattle.rz_expr.specs.Constant.{IsConstant}
 use Rattle.rz_declare.specs.FieldValue.{one_byte, IsFieldExpression, IsFixedExpression, IsFixedValue, IsSymbolValue, IsValueBy}
-use Rattle.rz_types.specs.declared.field.NumForm.{NumForm}
+use Rattle.rz_fields.specs.declared.field.NumForm.{NumForm}
 
 module _ (one : OneExpression) where
   pub one_constant : (tokens : List Token) (a b : Term) → IsConstant tokens a → IsConstant tokens b → a ≡ b

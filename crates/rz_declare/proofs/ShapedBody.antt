@@ -22,9 +22,9 @@ use Rattle.rz_declare.proofs.Pieces.{after_lexed, cut_lexed, within_lexed, AreAl
 use Rattle.rz_declare.proofs.ShapedField.{a_key_formed, flat_formed, AreCasesFormed, IsBodyFormed, IsFieldFormed}
 use Rattle.rz_declare.proofs.ShapedNumber.{name_of}
 use Rattle.rz_declare.proofs.ShapedValue.{number_shaped}
-use Rattle.rz_types.specs.Field as made
-use Rattle.rz_types.specs.Field.{PlainBody, PlainCases, PlainField}
-use Rattle.rz_types.specs.Shape.{are_cases_shaped, are_shaped, is_none_or, is_own_name, is_shaped}
+use Rattle.rz_fields.specs.Field as made
+use Rattle.rz_fields.specs.Field.{PlainBody, PlainCases, PlainField}
+use Rattle.rz_fields.specs.Shape.{are_cases_shaped, are_shaped, is_none_or, is_own_name, is_shaped}
 
 -- Parts of fields.
 

@@ -24,11 +24,11 @@ use Rattle.rz_declare.specs.declared.field_word.FieldWord.{FieldWord}
 use Rattle.rz_declare.specs.declared.field_word.FieldWord.TheVariants as words
 use Rattle.rz_declare.proofs.Pieces.{lexed_behind}
 use Rattle.rz_declare.proofs.ShapedNumber.{key_formed, no_key_formed, number_formed, IsKeyFormed, IsNumberFormed}
-use Rattle.rz_types.specs.Field.{PlainPoints, PlainText}
-use Rattle.rz_types.specs.Shape.{are_fixed_points, is_fixed_part, is_fixed_text, is_none_or, is_own_name, is_points_shaped, is_text_shaped, is_unit, numbers_of}
-use Rattle.rz_types.specs.Text.{part_in, parts_in, text_in, with_part, NameFact, Plain, PlainPart}
-use Rattle.rz_types.specs.Value.{is_fixed_expression}
-use Rattle.rz_types.specs.declared.field.TextForm.{TextForm}
+use Rattle.rz_fields.specs.Field.{PlainPoints, PlainText}
+use Rattle.rz_fields.specs.Shape.{are_fixed_points, is_fixed_part, is_fixed_text, is_none_or, is_own_name, is_points_shaped, is_text_shaped, is_unit, numbers_of}
+use Rattle.rz_fields.specs.Text.{part_in, parts_in, text_in, with_part, NameFact, Plain, PlainPart}
+use Rattle.rz_fields.specs.Value.{is_fixed_expression}
+use Rattle.rz_fields.specs.declared.field.TextForm.{TextForm}
 
 tail_lexed : (tokens : List Token) (front : FieldFront) → IsFront tokens front → AreLexed tokens → AreLexed front.tail
 tail_lexed tokens front is are = (lexed_behind is.words (is.last ∷ front.tail) (subst AreLexed is.are are)).1

@@ -22,10 +22,10 @@ use Rattle.rz_declare.specs.Key.{as_key, is_key_value}
 use Rattle.rz_declare.specs.NumberField.{IsNumber, IsNumberBy, IsTail, IsTailBy, NumberTail}
 use Rattle.rz_declare.specs.Symbols.{name_in, IsSymbol}
 use Rattle.rz_declare.proofs.Pieces.{after_lexed, cut_lexed, AreAllLexed}
-use Rattle.rz_types.specs.Range.{own_width}
-use Rattle.rz_types.specs.Shape.{is_symbol_name, may_be_key}
-use Rattle.rz_types.specs.Value.{is_fixed_expression}
-use Rattle.rz_types.specs.declared.field.NumForm.{NumForm}
+use Rattle.rz_fields.specs.Range.{own_width}
+use Rattle.rz_fields.specs.Shape.{is_symbol_name, may_be_key}
+use Rattle.rz_fields.specs.Value.{is_fixed_expression}
+use Rattle.rz_fields.specs.declared.field.NumForm.{NumForm}
 
 value_by : (found : Option ℕ) (tokens : List Token) (term : Term) → IsValueBy IsFixedExpression found tokens term → is_fixed_expression term ≡ true
 value_by (Some byte) tokens term is = ap is_fixed_expression is

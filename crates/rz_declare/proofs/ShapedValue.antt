@@ -21,12 +21,12 @@ use Rattle.rz_declare.specs.Form.{NamedTerm, NumberForm, Own, WidthForm, Written
 use Rattle.rz_declare.specs.Values.{given_or, out_of_range, values_of, with_value}
 use Rattle.rz_declare.proofs.Answering.{same_ok, then_ok}
 use Rattle.rz_declare.proofs.ShapedNumber.{AreNamesShaped, IsFixedShaped, IsKeyFormed, IsKeyFormedBy, IsNumberFormed, IsWidthOf}
-use Rattle.rz_types.specs.Field.{PlainNumber}
-use Rattle.rz_types.specs.Range.{fits_number, own_width}
-use Rattle.rz_types.specs.Shape.{has_value, is_empty, is_fixed_number, is_none_or, is_number_shaped, is_own_width, is_symbol_name, is_symbol_of, may_be_key}
-use Rattle.rz_types.specs.Value.{is_fixed_expression, with_fault}
-use Rattle.rz_types.specs.declared.field.NumForm.{NumForm}
-use Rattle.rz_types.specs.declared.field.Symbol.{Symbol}
+use Rattle.rz_fields.specs.Field.{PlainNumber}
+use Rattle.rz_fields.specs.Range.{fits_number, own_width}
+use Rattle.rz_fields.specs.Shape.{has_value, is_empty, is_fixed_number, is_none_or, is_number_shaped, is_own_width, is_symbol_name, is_symbol_of, may_be_key}
+use Rattle.rz_fields.specs.Value.{is_fixed_expression, with_fault}
+use Rattle.rz_fields.specs.declared.field.NumForm.{NumForm}
+use Rattle.rz_fields.specs.declared.field.Symbol.{Symbol}
 
 -- Symbols with their values.
 

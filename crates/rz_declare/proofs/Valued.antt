@@ -14,8 +14,8 @@ use Rattle.rz_declare.specs.Form.{NamedTerm}
 use Rattle.rz_declare.specs.Symbols.{name_in, IsGiven, IsSymbol}
 use Rattle.rz_declare.specs.Values.{given_or, out_of_range, values_of, with_value}
 use Rattle.rz_declare.proofs.OneValue.{one_symbol_value}
-use Rattle.rz_types.specs.declared.field.NumForm.{NumForm}
-use Rattle.rz_types.specs.declared.field.Symbol.{Symbol}
+use Rattle.rz_fields.specs.declared.field.NumForm.{NumForm}
+use Rattle.rz_fields.specs.declared.field.Symbol.{Symbol}
 
 -- the symbols so far before those that follow
 abbrev pub behind_symbols : List Symbol → Result (List Symbol) Fault → Result (List Symbol) Fault

@@ -8,8 +8,8 @@ use Rattle.rz_core.specs.declared.fault.Mark.{Mark}
 use Rattle.rz_core.specs.declared.stop.Stop.{Stop}
 use Rattle.rz_declare.specs.Form.{BodyForm, CaseForm, CasesForm, DeclareForm, FieldForm, MadeForm, NumberForm, Own, ScopeForm, WidthForm, Written}
 use Rattle.rz_declare.specs.Form as form
-use Rattle.rz_types.specs.Value.{constant_value}
-use Rattle.rz_types.specs.Range.{fits_number}
+use Rattle.rz_fields.specs.Value.{constant_value}
+use Rattle.rz_fields.specs.Range.{fits_number}
 use Rattle.rz_declare.specs.Values.{values_of}
 use Rattle.rz_expr.specs.Term.{Term}
 use Rattle.rz_declare.specs.declared.constants.Bounds.{Bounds}
@@ -17,7 +17,7 @@ use Rattle.rz_declare.specs.declared.constants.Bounds.TheVariants.{Any, One, Two
 use Rattle.rz_declare.specs.declared.constants.DeclareStmt.{DeclareStmt}
 use Rattle.rz_declare.specs.declared.constants.Made.{Made}
 use Rattle.rz_declare.specs.declared.constants.Made.TheVariants as ways
-use Rattle.rz_types.specs.Field.{case_and, field_and, no_cases, no_fields, plain_body, Align, Array, Fill, Number, PlainBody, PlainCase, PlainCases, PlainField, PlainNumber, Points, Switch, Text}
+use Rattle.rz_fields.specs.Field.{case_and, field_and, no_cases, no_fields, plain_body, Align, Array, Fill, Number, PlainBody, PlainCase, PlainCases, PlainField, PlainNumber, Points, Switch, Text}
 
 -- fields, or what another type is
 pub data PlainMade : Type 0 where

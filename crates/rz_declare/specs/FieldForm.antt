@@ -14,12 +14,12 @@ use Rattle.rz_declare.specs.FieldValue.{is_equals, IsFieldExpression, IsFixedExp
 use Rattle.rz_declare.specs.FieldWord.{align_unit, hex_of, unit_in, FieldFront}
 use Rattle.rz_declare.specs.Form.{Align, FieldForm, Fill, Number, NumberForm, Points, Text}
 use Rattle.rz_declare.specs.NumberField.{IsNumber}
-use Rattle.rz_types.specs.Text.{text_in, PlainPart}
+use Rattle.rz_fields.specs.Text.{text_in, PlainPart}
 use Rattle.rz_declare.specs.declared.field_word.FieldWord.{FieldWord}
 use Rattle.rz_declare.specs.declared.field_word.FieldWord.TheVariants as words
-use Rattle.rz_types.specs.Field.{PlainPoints, PlainText}
-use Rattle.rz_types.specs.declared.field.NumForm.{NumForm}
-use Rattle.rz_types.specs.declared.field.TextForm.{TextForm}
+use Rattle.rz_fields.specs.Field.{PlainPoints, PlainText}
+use Rattle.rz_fields.specs.declared.field.NumForm.{NumForm}
+use Rattle.rz_fields.specs.declared.field.TextForm.{TextForm}
 
 -- nothing stands before the word of the field
 abbrev pub is_bare : FieldFront → Bool

@@ -4,7 +4,7 @@ use Rattle.rz_lex.specs.declared.token.Token.{Token}
 use Rattle.rz_declare.specs.FieldWord.{field_word_in, modifier_in, FieldFront}
 use Rattle.rz_declare.specs.declared.field_word.Modifier.{Modifier}
 use Rattle.rz_declare.specs.declared.field_word.Modifier.TheVariants.{Shown, Unsigned}
-use Rattle.rz_types.specs.declared.field.Radix.{Radix}
+use Rattle.rz_fields.specs.declared.field.Radix.{Radix}
 
 -- the tokens are these words
 abbrev pub AreModifiers : List Token → List Modifier → Type 0

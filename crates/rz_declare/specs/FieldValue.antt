@@ -7,9 +7,9 @@ use Rattle.rz_lex.specs.declared.sign.Sign.TheVariants as signs
 use Rattle.rz_lex.specs.declared.token.Shape.{Shape}
 use Rattle.rz_lex.specs.declared.token.Shape.TheVariants as shapes
 use Rattle.rz_lex.specs.declared.token.Token.{Token}
-use Rattle.rz_types.specs.Value.{is_field_expression, is_fixed_expression}
-use Rattle.rz_types.specs.declared.field.NumForm.{NumForm}
-use Rattle.rz_types.specs.declared.field.NumForm.TheVariants.{Char}
+use Rattle.rz_fields.specs.Value.{is_field_expression, is_fixed_expression}
+use Rattle.rz_fields.specs.declared.field.NumForm.{NumForm}
+use Rattle.rz_fields.specs.declared.field.NumForm.TheVariants.{Char}
 
 -- an expression that may stand for a size: no names but `true` and `false`, and of the functions the facts of the resource
 abbrev pub IsFieldExpression : List Token → Term → Type 0

@@ -9,10 +9,10 @@ use Rattle.rz_declare.specs.declared.field_word.FieldWord.{FieldWord}
 use Rattle.rz_declare.specs.declared.field_word.FieldWord.TheVariants.{Align, Fill, Number, Points, Text}
 use Rattle.rz_declare.specs.declared.field_word.Modifier.{Modifier}
 use Rattle.rz_declare.specs.declared.field_word.Modifier.TheVariants.{Shown, Unsigned}
-use Rattle.rz_types.specs.declared.field.NumForm.TheVariants as forms
-use Rattle.rz_types.specs.declared.field.Radix.{Radix}
-use Rattle.rz_types.specs.declared.field.Radix.TheVariants as radixes
-use Rattle.rz_types.specs.declared.field.TextForm.TheVariants as texts
+use Rattle.rz_fields.specs.declared.field.NumForm.TheVariants as forms
+use Rattle.rz_fields.specs.declared.field.Radix.{Radix}
+use Rattle.rz_fields.specs.declared.field.Radix.TheVariants as radixes
+use Rattle.rz_fields.specs.declared.field.TextForm.TheVariants as texts
 
 -- the word that says what a field is
 abbrev pub field_word : Keyword → Option FieldWord

@@ -16,9 +16,9 @@ use Rattle.rz_declare.specs.declared.form.ScopeExpr.{ScopeExpr}
 use Rattle.rz_declare.specs.declared.form.ScopeExpr.TheVariants as scopes
 use Rattle.rz_declare.specs.declared.form.Width.{Width}
 use Rattle.rz_declare.specs.declared.form.Width.TheVariants as widths
-use Rattle.rz_types.specs.Field.{plain_points, plain_text, PlainPoints, PlainText}
-use Rattle.rz_types.specs.declared.field.NumForm.{NumForm}
-use Rattle.rz_types.specs.declared.field.Radix.{Radix}
+use Rattle.rz_fields.specs.Field.{plain_points, plain_text, PlainPoints, PlainText}
+use Rattle.rz_fields.specs.declared.field.NumForm.{NumForm}
+use Rattle.rz_fields.specs.declared.field.Radix.{Radix}
 
 -- a name, and the value that is written for it
 pub record NamedTerm : Type 0 where

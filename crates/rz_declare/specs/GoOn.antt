@@ -4,10 +4,10 @@ use Rattle.rz_core.specs.declared.fault.Fault.{Fault}
 use Rattle.rz_core.specs.declared.fault.Mark.{Mark}
 use Rattle.rz_expr.specs.Term.{Term}
 use Rattle.rz_expr.specs.Value.{reduced}
-use Rattle.rz_types.specs.Value.{constant_value}
+use Rattle.rz_fields.specs.Value.{constant_value}
 use Rattle.rz_declare.specs.Form.{NamedTerm}
 use Rattle.rz_declare.specs.Values.{given_or, out_of_range}
-use Rattle.rz_types.specs.declared.field.Symbol.{Symbol}
+use Rattle.rz_fields.specs.declared.field.Symbol.{Symbol}
 
 -- one more than the symbol before, or at the front the first value
 abbrev pub IsNext : ℤ → ℕ → List Symbol → ℤ → Type 0

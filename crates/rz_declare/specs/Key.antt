@@ -9,8 +9,8 @@ use Rattle.rz_declare.specs.Form.{FieldForm, Number, NumberForm}
 use Rattle.rz_declare.specs.NumberField.{IsNumber}
 use Rattle.rz_declare.specs.declared.field_word.FieldWord.{FieldWord}
 use Rattle.rz_declare.specs.declared.field_word.FieldWord.TheVariants as words
-use Rattle.rz_types.specs.Shape.{may_be_key}
-use Rattle.rz_types.specs.declared.field.NumForm.{NumForm}
+use Rattle.rz_fields.specs.Shape.{may_be_key}
+use Rattle.rz_fields.specs.declared.field.NumForm.{NumForm}
 
 -- a constant as the fixed value
 abbrev pub is_key_value : Option Term → Bool

@@ -21,6 +21,6 @@ pub use Rattle.rz_brackets.specs.Statements
 pub use Rattle.rz_brackets.specs.Pieces
 pub use Rattle.rz_brackets.specs.Bracket
 pub use Rattle.rz_brackets.specs.Kind
-pub use Rattle.rz_types.specs.Text
-pub use Rattle.rz_types.specs.Value
-pub use Rattle.rz_types.specs.Range
+pub use Rattle.rz_fields.specs.Text
+pub use Rattle.rz_fields.specs.Value
+pub use Rattle.rz_fields.specs.Range

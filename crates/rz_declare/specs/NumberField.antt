@@ -13,10 +13,10 @@ use Rattle.rz_declare.specs.FieldWord.{FieldFront}
 use Rattle.rz_declare.specs.Form.{named_of, NamedTerm, NumberForm, Own, WidthForm, Written}
 use Rattle.rz_declare.specs.Symbols.{IsSymbol}
 use Rattle.rz_declare.specs.declared.number_field.Tail.{Tail}
-use Rattle.rz_types.specs.Range.{own_width}
-use Rattle.rz_types.specs.declared.field.NumForm.{NumForm}
-use Rattle.rz_types.specs.declared.field.Radix.{Radix}
-use Rattle.rz_types.specs.declared.field.Radix.TheVariants.{Plain}
+use Rattle.rz_fields.specs.Range.{own_width}
+use Rattle.rz_fields.specs.declared.field.NumForm.{NumForm}
+use Rattle.rz_fields.specs.declared.field.Radix.{Radix}
+use Rattle.rz_fields.specs.declared.field.Radix.TheVariants.{Plain}
 
 -- What stands behind the type: symbols, or the fixed value.
 

@@ -8,7 +8,7 @@ use Rattle.rz_lex.specs.declared.token.Shape.TheVariants as shapes
 use Rattle.rz_lex.specs.declared.token.Token.{Token}
 use Rattle.rz_declare.specs.FieldValue.{is_equals, IsSymbolValue}
 use Rattle.rz_declare.specs.Form.{NamedTerm}
-use Rattle.rz_types.specs.declared.field.NumForm.{NumForm}
+use Rattle.rz_fields.specs.declared.field.NumForm.{NumForm}
 
 -- the name that a token is
 abbrev pub name_in : Shape → Option Word

@@ -9,8 +9,8 @@ use Rattle.rz_core.specs.declared.resource.Word.{Word}
 use Rattle.rz_expr.specs.Term.{Term}
 use Rattle.rz_expr.specs.Value.{reduced}
 use Rattle.rz_declare.specs.Form.{NamedTerm}
-use Rattle.rz_types.specs.Value.{constant_value}
-use Rattle.rz_types.specs.declared.field.Symbol.{Symbol}
+use Rattle.rz_fields.specs.Value.{constant_value}
+use Rattle.rz_fields.specs.declared.field.Symbol.{Symbol}
 
 -- the value that is given, or else the next one
 abbrev pub given_or : Mark → ℤ → Option Term → Result ℤ Fault

@@ -1,7 +1,7 @@
 ghost use Rattle.std.specs.Prelude.{◌≡◌, IfOk, map, option_map};
 ghost use Rattle.rz_expr.specs.Term.{term_of};
-ghost use Rattle.rz_types.specs.Field.{plain_points, plain_text};
-ghost use Rattle.rz_types.specs.Text.{plain_parts};
+ghost use Rattle.rz_fields.specs.Field.{plain_points, plain_text};
+ghost use Rattle.rz_fields.specs.Text.{plain_parts};
 ghost use Rattle.rz_core.specs.Decided.{Decided};
 ghost use Rattle.rz_declare.specs.FieldForm.{align_of, count_of, fixed_text, is_bare, AreNumbers, IsAlignField, IsCount, IsFieldFront, IsFill, IsFillField, IsFlat, IsNumberField, IsPoints, IsPointsField, IsSized, IsText, IsTextField, IsUnsized};
 ghost use Rattle.rz_declare.specs.Form.{field_form};
@@ -14,8 +14,8 @@ use crate::value::{is_equals, read_expression, read_expressions};
 use rz_brackets::{Bracket, Divider, begins, bracketed, pieces_by};
 use rz_core::NoMemory;
 use rz_expr::{Expr, read_constant};
+use rz_fields::{Exprs, NumForm, PointField, TextField, TextForm, Texts, text_in};
 use rz_lex::Token;
-use rz_types::{Exprs, NumForm, PointField, TextField, TextForm, Texts, text_in};
 use std::alloc::Global;
 
 /// The field without fields of its own that the tokens are.

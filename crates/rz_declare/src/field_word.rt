@@ -3,8 +3,8 @@ ghost use Rattle.rz_declare.specs.FieldWord.{align_unit, field_word, field_word_
 ghost use Rattle.rz_declare.specs.Held.{held_front};
 
 use rz_expr::{Keyword, keyword_in};
+use rz_fields::{NumForm, Radix, TextForm};
 use rz_lex::Token;
-use rz_types::{NumForm, Radix, TextForm};
 
 /// The word that says what a field is.
 #[derive(Clone, Copy, Debug, PartialEq, Eq)]

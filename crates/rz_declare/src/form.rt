@@ -1,6 +1,6 @@
 use rz_core::{Listing, OsType, Word};
 use rz_expr::Expr;
-use rz_types::{NumForm, PointField, Radix, TextField};
+use rz_fields::{NumForm, PointField, Radix, TextField};
 
 /// A `type` statement as it is written, with expressions where constants stand. (MPW Rez.)
 #[derive(Debug, Drop)]

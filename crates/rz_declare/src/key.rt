@@ -4,7 +4,7 @@ ghost use Rattle.rz_expr.specs.Term.{term_of};
 ghost use Rattle.rz_declare.specs.Form.{field_form};
 ghost use Rattle.rz_declare.specs.Held.{held_front};
 ghost use Rattle.rz_declare.specs.Key.{is_key_value, IsKey, IsKeyFront, IsKeyNumber};
-ghost use Rattle.rz_types.specs.Shape.{may_be_key};
+ghost use Rattle.rz_fields.specs.Shape.{may_be_key};
 
 use crate::field_word::{FieldWord, Front, front_in};
 use crate::form::{FieldExpr, NumberExpr};
@@ -12,8 +12,8 @@ use crate::number_field::read_number;
 use rz_brackets::pieces_are_cut;
 use rz_core::NoMemory;
 use rz_expr::{Expr, is_constant, one_expression};
+use rz_fields::NumForm;
 use rz_lex::Token;
-use rz_types::NumForm;
 use std::alloc::Global;
 
 /// The key that the tokens behind `key` are: a number of a type that a key may have, with a constant as its fixed

@@ -3,7 +3,7 @@ ghost use Rattle.rz_core.specs.declared.fault.Fault.{Fault};
 ghost use Rattle.rz_core.specs.declared.fault.Mark.{Mark};
 ghost use Rattle.rz_lex.specs.Lexeme.{AreLexed};
 ghost use Rattle.rz_lex.specs.declared.token.Token.{Token};
-ghost use Rattle.rz_types.specs.declared.field.Symbol.{Symbol};
+ghost use Rattle.rz_fields.specs.declared.field.Symbol.{Symbol};
 ghost use Rattle.rz_declare.specs.Constants.{declared, Declare};
 ghost use Rattle.rz_declare.specs.Declare.{IsDeclare};
 ghost use Rattle.rz_declare.specs.FieldFront.{IsFront};

@@ -3,9 +3,9 @@
 //! A body leads back to itself, by arrays and switches: `body` reads it with the fields that have fields of their
 //! own, whose first words stand in `start` and what stands before their braces or their fields in `head`; `field`
 //! reads the others, and `key` the keys of cases.
-//! It rests on `rz_core`, `rz_lex`, `rz_expr`, `rz_types` and `rz_brackets`.
+//! It rests on `rz_core`, `rz_lex`, `rz_expr`, `rz_fields` and `rz_brackets`.
 //! A new kind of field changes `form`, `field` (or `start` and `body`, where it has fields of its own) and `constants`
-//! here, each with its definitions, and `Field` of `rz_types`.
+//! here, each with its definitions, and `Field` of `rz_fields`.
 #![tactic(auto)]
 
 mod body;

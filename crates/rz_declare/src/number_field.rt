@@ -11,8 +11,8 @@ use crate::value::{is_equals, read_fixed_value};
 use rz_brackets::{Bracket, Divider, bracketed, pieces_by};
 use rz_core::NoMemory;
 use rz_expr::{Expr, read_constant};
+use rz_fields::{NumForm, Radix, own_width};
 use rz_lex::Token;
-use rz_types::{NumForm, Radix, own_width};
 use std::alloc::Global;
 
 /// What stands behind the type of a number: symbols, or the fixed value.

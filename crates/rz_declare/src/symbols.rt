@@ -10,8 +10,8 @@ use crate::form::{Named, Names};
 use crate::value::{is_equals, read_symbol_value};
 use rz_core::{NoMemory, Word};
 use rz_expr::{Expr, role_of};
+use rz_fields::NumForm;
 use rz_lex::{Shape, Token};
-use rz_types::NumForm;
 use std::alloc::Global;
 
 /// The symbols that the pieces are.

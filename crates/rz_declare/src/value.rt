@@ -6,8 +6,8 @@ ghost use Rattle.rz_declare.specs.FieldValue.{byte_in, is_equals, one_byte, IsFi
 
 use rz_core::NoMemory;
 use rz_expr::{Expr, one_expression, read_constant, read_whole};
+use rz_fields::{Exprs, NumForm, is_field_expression, is_fixed_expression};
 use rz_lex::{Shape, Sign, Token};
-use rz_types::{Exprs, NumForm, is_field_expression, is_fixed_expression};
 use std::alloc::Global;
 
 /// The expression of a size that the tokens are: one without names other than `true` and `false`, and without `$$`

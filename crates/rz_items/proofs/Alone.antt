@@ -10,7 +10,7 @@ use Rattle.rz_items.specs.Simple.{IsSimple, IsSimpleBy}
 use Rattle.rz_lex.specs.declared.token.Shape.{Shape}
 use Rattle.rz_lex.specs.declared.token.Shape.TheVariants as shapes
 use Rattle.rz_lex.specs.declared.token.Token.{Token}
-use Rattle.rz_types.specs.Text.{part_in, with_part, PlainPart}
+use Rattle.rz_fields.specs.Text.{part_in, with_part, PlainPart}
 
 derives : (token : Token) (number : ℕ) → token.shape ≡ shapes.Number number → IsExpression (token ∷ []) (Constant (reduced (pos number)))
 derives token number is = tighter (tighter (tighter (tighter (tighter (tighter (tighter (tighter (tighter (tighter (operand (ap start_of is)))))))))))

@@ -4,8 +4,8 @@ use Rattle.rz_core.specs.declared.fault.Mark.{Mark}
 use Rattle.rz_core.specs.declared.resource.Word.{Word}
 use Rattle.rz_expr.specs.Term.{term_of}
 use Rattle.rz_expr.specs.declared.expr.Expr.{Expr}
-use Rattle.rz_types.specs.Text.{plain_parts}
-use Rattle.rz_types.specs.declared.text.TextPart.{TextPart}
+use Rattle.rz_fields.specs.Text.{plain_parts}
+use Rattle.rz_fields.specs.declared.text.TextPart.{TextPart}
 use Rattle.rz_items.specs.Item as plain
 use Rattle.rz_items.specs.Item.{item_step, items_of, plain_item, plain_items, PlainItem}
 use Rattle.rz_items.specs.declared.item.Item.{Item}

@@ -12,7 +12,7 @@ use Rattle.rz_data.proofs.OneData.{one_head}
 use Rattle.rz_data.specs.Head.{Head, IsHead}
 use Rattle.rz_expr.proofs.OneTerm.{OneExpression}
 use Rattle.rz_lex.specs.declared.token.Token.{Token}
-use Rattle.rz_types.specs.Text.{text_in, PlainPart}
+use Rattle.rz_fields.specs.Text.{text_in, PlainPart}
 use Rattle.rz_core.specs.declared.fault.Mark.{Mark}
 use Rattle.rz_items.specs.Compile.{Compile, IsBody, IsCompile, IsHeaded}
 use Rattle.rz_items.specs.Item.{items_of, Braced, Named, Number, PlainItem}

@@ -6,7 +6,7 @@ use Rattle.rz_brackets.specs.declared.bracket.Bracket.TheVariants.{Curly, Round}
 use Rattle.rz_brackets.specs.declared.pieces.Divider.TheVariants.{Separator}
 use Rattle.rz_lex.specs.Within.{AreWithin}
 use Rattle.rz_lex.specs.declared.token.Token.{Token}
-use Rattle.rz_types.specs.Text.{text_in, PlainPart}
+use Rattle.rz_fields.specs.Text.{text_in, PlainPart}
 use Rattle.rz_items.specs.Compile.{Compile, IsCompile}
 use Rattle.rz_items.specs.Item.{items_of, PlainItem}
 use Rattle.rz_items.specs.Items.{cut, listed, named, no_more, one_more, simple, stripped, AreEach, AreItems, IsItem}

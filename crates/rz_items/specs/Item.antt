@@ -2,7 +2,7 @@
 use Rattle.std.specs.Prelude.{ℕ, List, [], ◌∷◌, map}
 use Rattle.rz_core.specs.declared.fault.Mark.{Mark}
 use Rattle.rz_expr.specs.Term.{term_of, Term}
-use Rattle.rz_types.specs.Text.{plain_parts, PlainPart}
+use Rattle.rz_fields.specs.Text.{plain_parts, PlainPart}
 use Rattle.rz_items.specs.declared.item.Item.{Item}
 use Rattle.rz_items.specs.declared.item.Item.TheOpen.{Item-F}
 use Rattle.rz_items.specs.declared.item.Item.TheFolds.{fold-Item}

@@ -6,8 +6,8 @@ use Rattle.rz_expr.specs.Term.{BitsAt, Constant, FactOf, Named, OfOne, OfTwo, Ro
 use Rattle.rz_lex.specs.declared.token.Token.{Token}
 use Rattle.rz_items.specs.Item as item
 use Rattle.rz_items.specs.Item.{PlainItem}
-use Rattle.rz_types.specs.Text.{text_in, PlainPart}
-use Rattle.rz_types.specs.Value.{is_resource_fact}
+use Rattle.rz_fields.specs.Text.{text_in, PlainPart}
+use Rattle.rz_fields.specs.Value.{is_resource_fact}
 
 -- any names, but no rows and no bits of what is laid out, and of the facts those of the resource alone
 abbrev pub is_item_expression : Term → Bool

@@ -1,6 +1,6 @@
 use rz_core::{Listing, Mark, Word};
 use rz_expr::Expr;
-use rz_types::Texts;
+use rz_fields::Texts;
 
 /// An item of a `resource` statement, with the place of its first token. (MPW Rez.)
 #[derive(Debug, Drop)]

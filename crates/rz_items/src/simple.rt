@@ -8,8 +8,8 @@ ghost use Rattle.rz_items.specs.Simple.{is_item_expression, IsItemExpression, Is
 use crate::item::Item;
 use rz_core::{Mark, NoMemory};
 use rz_expr::{Expr, one_expression, read_whole, signed};
+use rz_fields::{is_resource_fact, text_in};
 use rz_lex::{Shape, Token};
-use rz_types::{is_resource_fact, text_in};
 use std::alloc::Global;
 
 /// The text or the number that the tokens are.

@@ -16,6 +16,10 @@ use Rattle.rz_expr.specs.declared.value.EvalFault.TheVariants.{BadShift, DataWid
 use Rattle.rz_bits.specs.Bits.{bytes_of, number_bits}
 use Rattle.rz_bits.specs.BitBuf.{filled}
 use Rattle.rz_layout.specs.Compiled.{is_compile_fault}
+use Rattle.rz_fields.specs.declared.field.NumForm.{NumForm}
+use Rattle.rz_fields.specs.declared.field.Symbol.{Symbol}
+use Rattle.rz_fields.specs.declared.field.TextForm.{TextForm}
+use Rattle.rz_fields.specs.declared.tree.Tree.{Tree}
 use Rattle.rz_types.specs.Field.{case_and, field_and, no_cases, no_fields, Align, Array, Fill, Number, PlainBody, PlainCases, PlainField, PlainNumber, Points, Switch, Text}
 use Rattle.rz_types.specs.Kept.{AreCasesKept, AreKept, IsKept, IsKeptWithin}
 use Rattle.rz_types.specs.Laid.{bad_length, bad_size, body_laid, bytes_given, bytes_laid, case_laid, counted, field_laid, first_value, in_order, laid, lay, line_in, nothing_laid, number_given, one_more, other_values, piece_laid, refusal, rows_in, rows_laid, size_in, takes_one, text_refusal, too_long, unless, valued, value_in, with_bits, Draft, Refusal}
@@ -29,10 +33,6 @@ use Rattle.rz_types.specs.Stored.{stored_number}
 use Rattle.rz_types.specs.Text.{PlainPart}
 use Rattle.rz_types.specs.Value.{is_field_expression, is_fixed_expression, names_sight, IsArithmetic}
 use Rattle.rz_types.specs.Walk.{names_of}
-use Rattle.rz_types.specs.declared.field.NumForm.{NumForm}
-use Rattle.rz_types.specs.declared.field.Symbol.{Symbol}
-use Rattle.rz_types.specs.declared.field.TextForm.{TextForm}
-use Rattle.rz_types.specs.declared.tree.Tree.{Tree}
 use Rattle.rz_layout.proofs.Own.{gives_counts, gives_names, outside_counts, outside_gives}
 
 -- an expression that has a value where these arrays are counted

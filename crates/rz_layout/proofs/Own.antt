@@ -13,6 +13,7 @@ use Rattle.rz_expr.proofs.Cases.{same_value}
 use Rattle.rz_expr.specs.Environment.{count_key, count_of, place_key, place_of, Environment, Key}
 use Rattle.rz_expr.specs.Term.{BitsAt, Constant, FactOf, Named, OfOne, OfTwo, RowsOf, Term}
 use Rattle.rz_expr.specs.Value.{known_value, number_at, operate, operate_one, value_of}
+use Rattle.rz_fields.specs.declared.tree.Tree.{Tree}
 use Rattle.rz_types.specs.Field.{field_and, no_fields, Align, Array, Fill, Number, PlainBody, PlainField, Points, Switch, Text}
 use Rattle.rz_types.specs.Kept.{Differ}
 use Rattle.rz_types.specs.Laid.{counted, first_value, other_values, rows_in, with_count, with_field}
@@ -21,7 +22,6 @@ use Rattle.rz_types.specs.Row.{takes_value}
 use Rattle.rz_types.specs.Spells.{declares, gives_count, gives_key, outside, IsCounted, Within}
 use Rattle.rz_types.specs.Value.{names_sight}
 use Rattle.rz_types.specs.Walk.{is_among, names_of}
-use Rattle.rz_types.specs.declared.tree.Tree.{Tree}
 use Rattle.rz_layout.proofs.Counts.{lower_eq}
 
 -- Names in whatever case.

@@ -12,6 +12,8 @@ use Rattle.rz_expr.specs.Environment.{Environment}
 use Rattle.rz_expr.specs.Term.{Term}
 use Rattle.rz_bits.specs.Bits.{bits_of, bytes_of}
 use Rattle.rz_bits.specs.BitBuf.{filled, missing, zeros}
+use Rattle.rz_fields.specs.declared.tree.Tree.{Tree}
+use Rattle.rz_fields.specs.declared.tree.Tree.TheVariants as trees
 use Rattle.rz_types.specs.Field.{case_and, field_and, no_cases, no_fields, Align, Array, Fill, Number, PlainBody, PlainCases, PlainField, PlainNumber, PlainPoints, PlainText, Points, Switch, Text}
 use Rattle.rz_types.specs.Kept.{AreCasesKept, AreKept, Differ, IsKept, IsKeptWithin}
 use Rattle.rz_types.specs.Laid.{body_laid, case_laid, counted, field_laid, first_value, laid, line_in, nothing_laid, other_values, pieces_laid, rows_in, rows_laid, takes_one, Draft}
@@ -21,8 +23,6 @@ use Rattle.rz_types.specs.Shape.{numbers_of}
 use Rattle.rz_types.specs.Spells.{at_front, behind, fixed_integer, free_integer, group_in, integers, is_case, nothing_passed, outside, pieces_of, put, values_for, BodySpells, CaseSpells, FieldSpells, Filler, Inside, IsCounted, IsGrouped, IsGroupedFor, Late, OneNumber, OneText, Passed, Piece, PiecesSpell, RowsSpell, Spells, Zeros}
 use Rattle.rz_types.specs.Text.{PlainPart}
 use Rattle.rz_types.specs.Walk.{names_of}
-use Rattle.rz_types.specs.declared.tree.Tree.{Tree}
-use Rattle.rz_types.specs.declared.tree.Tree.TheVariants as trees
 use Rattle.rz_layout.proofs.Own.{counted_are, counted_within, AreCounted, FieldCounted}
 use Rattle.rz_layout.proofs.Rows.{choice_chosen, choice_differs, fronted, Takes}
 use Rattle.rz_layout.proofs.Sounding.{chained, pieces_sound, same_ok, then_sounds, Fed, Front, NumberValue, PieceValue, Sounds, TextValue}

@@ -12,6 +12,11 @@ use Rattle.rz_expr.specs.Term.{Term}
 use Rattle.rz_expr.specs.Value.{value_of}
 use Rattle.rz_expr.specs.declared.value.EvalFault.{EvalFault}
 use Rattle.rz_bits.specs.Bits.{bits_of, number_bits}
+use Rattle.rz_fields.specs.declared.field.NumForm.{NumForm}
+use Rattle.rz_fields.specs.declared.field.TextForm.{TextForm}
+use Rattle.rz_fields.specs.declared.field.TextForm.TheVariants as forms
+use Rattle.rz_fields.specs.declared.tree.Tree.{Tree}
+use Rattle.rz_fields.specs.declared.tree.Tree.TheVariants as trees
 use Rattle.rz_types.specs.Field.{PlainText}
 use Rattle.rz_types.specs.Laid.{bad_length, bad_size, bytes_given, bytes_laid, first_value, fixed_number, in_order, joined, lay, number_given, number_in, one_more, other_values, piece_laid, refusal, size_in, takes_one, text_in, text_laid, text_refusal, too_long, unless, valued, value_in, with_bits, Draft, Refusal}
 use Rattle.rz_types.specs.Range.{fits_number, may_be_size}
@@ -19,11 +24,6 @@ use Rattle.rz_types.specs.Spells.{behind_piece, is_late_size, is_late_value, mar
 use Rattle.rz_types.specs.Stored.{stored_number, stored_text}
 use Rattle.rz_types.specs.Text.{bytes_of as text_bytes_of, PlainPart}
 use Rattle.rz_types.specs.Value.{names_sight}
-use Rattle.rz_types.specs.declared.field.NumForm.{NumForm}
-use Rattle.rz_types.specs.declared.field.TextForm.{TextForm}
-use Rattle.rz_types.specs.declared.field.TextForm.TheVariants as forms
-use Rattle.rz_types.specs.declared.tree.Tree.{Tree}
-use Rattle.rz_types.specs.declared.tree.Tree.TheVariants as trees
 use Rattle.rz_layout.proofs.Trees.{number_is, text_is}
 
 -- Results.

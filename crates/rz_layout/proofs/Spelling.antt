@@ -10,6 +10,9 @@ use Rattle.rz_expr.specs.Environment.{Environment, Sight}
 use Rattle.rz_expr.specs.Term.{Term}
 use Rattle.rz_expr.specs.Value.{value_of}
 use Rattle.rz_bits.specs.Bits.{bits_of, number_bits}
+use Rattle.rz_fields.specs.declared.field.NumForm.{NumForm}
+use Rattle.rz_fields.specs.declared.field.TextForm.{TextForm}
+use Rattle.rz_fields.specs.declared.tree.Tree.{Tree}
 use Rattle.rz_types.specs.Field.{PlainText}
 use Rattle.rz_types.specs.Laid.{bad_size, bytes_given, bytes_laid, first_value, in_order, joined, lay, number_given, number_in, one_more, other_values, piece_laid, refusal, size_in, text_in, takes_one, text_laid, then_laid, unless, valued, value_in, with_bits, Draft, Refusal}
 use Rattle.rz_types.specs.Range.{fits_number}
@@ -17,9 +20,6 @@ use Rattle.rz_types.specs.Spells.{behind_piece, most_bits, put, AreBytes, Filler
 use Rattle.rz_types.specs.Stored.{is_too_long, stored_number, stored_text}
 use Rattle.rz_types.specs.Text.{PlainPart}
 use Rattle.rz_types.specs.Value.{names_sight}
-use Rattle.rz_types.specs.declared.field.NumForm.{NumForm}
-use Rattle.rz_types.specs.declared.field.TextForm.{TextForm}
-use Rattle.rz_types.specs.declared.tree.Tree.{Tree}
 use Rattle.rz_layout.proofs.Own.{seen, Alike}
 use Rattle.rz_layout.proofs.Room.{laid_in}
 use Rattle.rz_layout.proofs.Trees.{number_is, text_is}

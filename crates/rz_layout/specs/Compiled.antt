@@ -6,10 +6,10 @@ use Rattle.rz_core.specs.declared.stop.Stop.{Stop}
 use Rattle.rz_core.specs.declared.stop.Stop.TheVariants.{NoMemory, Refused}
 use Rattle.rz_layout.specs.Fault.{refusal_of}
 use Rattle.rz_layout.specs.declared.fault.LayFault.{LayFault}
+use Rattle.rz_fields.specs.declared.tree.Tree.{Tree}
 use Rattle.rz_types.specs.Field.{PlainBody}
 use Rattle.rz_types.specs.Laid.{Refusal, Refuses}
 use Rattle.rz_types.specs.Spells.{Spells}
-use Rattle.rz_types.specs.declared.tree.Tree.{Tree}
 
 -- the bytes that a row spells, or its refusal
 abbrev pub IsCompiled : Facts → PlainBody → List Tree → Result (List ℕ) Refusal → Type 0

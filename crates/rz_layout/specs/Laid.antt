@@ -8,10 +8,10 @@ use Rattle.rz_layout.specs.declared.fault.LayFault.{LayFault}
 use Rattle.rz_layout.specs.declared.laid.Laid.{Laid}
 use Rattle.rz_core.specs.Stop.{◌>>=◌}
 use Rattle.rz_core.specs.declared.facts.Facts.{Facts}
+use Rattle.rz_fields.specs.declared.tree.Tree.{Tree}
+use Rattle.rz_fields.specs.declared.field.TextForm.{TextForm}
 use Rattle.rz_types.specs.Field.{PlainText}
-use Rattle.rz_types.specs.declared.tree.Tree.{Tree}
 use Rattle.rz_types.specs.Laid.{bytes_given, bytes_laid, too_long, with_bits, Draft, Refusal}
-use Rattle.rz_types.specs.declared.field.TextForm.{TextForm}
 use Rattle.rz_types.specs.Spells.{most_bits}
 
 abbrev pub draft_of : Laid → Draft

@@ -1,8 +1,8 @@
 -- How long the stored forms of texts are.
 use Rattle.std.specs.Prelude.{ℕ, ◌+◌, Option, None, Some}
+use Rattle.rz_fields.specs.declared.field.TextForm.{TextForm}
+use Rattle.rz_fields.specs.declared.field.TextForm.TheVariants.{Open, Pascal, WordLong, Zero}
 use Rattle.rz_types.specs.Stored.{before_zero}
-use Rattle.rz_types.specs.declared.field.TextForm.{TextForm}
-use Rattle.rz_types.specs.declared.field.TextForm.TheVariants.{Open, Pascal, WordLong, Zero}
 
 -- the bytes that a size leaves or fills to
 abbrev pub sized_length : Option ℕ → ℕ → ℕ

@@ -2,11 +2,11 @@ ghost use Rattle.std.specs.Prelude.{◌≡◌, true, ℕ, List};
 ghost use Rattle.std.specs.declared.result.Result.{Result};
 ghost use Rattle.rz_core.specs.declared.facts.Facts.{Facts};
 ghost use Rattle.rz_layout.specs.Compiled.{IsCompiled};
+ghost use Rattle.rz_fields.specs.declared.tree.Tree.{Tree};
 ghost use Rattle.rz_types.specs.Field.{PlainBody};
 ghost use Rattle.rz_types.specs.Laid.{Refusal};
 ghost use Rattle.rz_types.specs.Row.{IsRow};
 ghost use Rattle.rz_types.specs.Rules.{keeps_rules};
-ghost use Rattle.rz_types.specs.declared.tree.Tree.{Tree};
 
 use rz_bits::{
     bits_are_written_back, bytes_are_read_back, filled_to_a_multiple, numbers_are_read_back,

@@ -3,11 +3,11 @@ ghost use Rattle.rz_expr.specs.Term.{term_of};
 ghost use Rattle.rz_layout.specs.Laid.{draft_of, Lays};
 ghost use Rattle.rz_layout.specs.Names.{known};
 ghost use Rattle.rz_layout.specs.Sound.{IsGroupOf};
+ghost use Rattle.rz_fields.specs.declared.tree.Tree.TheVariants as trees;
 ghost use Rattle.rz_types.specs.Field.{plain_points};
 ghost use Rattle.rz_types.specs.Laid.{field_laid, in_order, lay, takes_one};
 ghost use Rattle.rz_types.specs.Field.{Points};
 ghost use Rattle.rz_types.specs.Spells.{fixed_integer, free_integer, most_bits};
-ghost use Rattle.rz_types.specs.declared.tree.Tree.TheVariants as trees;
 
 use crate::LayFault;
 use crate::laid::Laid;

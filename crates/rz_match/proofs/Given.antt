@@ -19,11 +19,11 @@ use Rattle.rz_match.specs.Line.{GivesLine}
 use Rattle.rz_match.specs.Matched.{counted, item_for, row_matched, rows_matched, Line}
 use Rattle.rz_match.proofs.Lines.{RowMatched}
 use Rattle.rz_match.proofs.Steps.{rows_behind}
+use Rattle.rz_fields.specs.declared.field.ArrayField.{ArrayField}
+use Rattle.rz_fields.specs.declared.field.Field.TheFolds.{fold_out-ArrayField}
+use Rattle.rz_fields.specs.declared.field.Field.TheViews.{out-ArrayField}
+use Rattle.rz_fields.specs.declared.tree.Tree.{Tree}
 use Rattle.rz_types.specs.Field.{array_step, case_step, field_step, plain_array, plain_body, Array, PlainBody, PlainCase, PlainField}
-use Rattle.rz_types.specs.declared.field.ArrayField.{ArrayField}
-use Rattle.rz_types.specs.declared.field.Field.TheFolds.{fold_out-ArrayField}
-use Rattle.rz_types.specs.declared.field.Field.TheViews.{out-ArrayField}
-use Rattle.rz_types.specs.declared.tree.Tree.{Tree}
 
 pub listed : (items : List PlainItem) → list_of (items_of items) ≡ items
 listed [] = refl

@@ -4,6 +4,10 @@ use Rattle.std.specs.Option.{is_none}
 use Rattle.std.specs.Str.{str_eq_ignore_ascii_case}
 use Rattle.rz_core.specs.declared.facts.Facts.{Facts}
 use Rattle.rz_items.specs.Item.{Braced, more, Named, none, Number, PlainItem, PlainItems, Text}
+use Rattle.rz_fields.specs.declared.field.NumForm.{NumForm}
+use Rattle.rz_fields.specs.declared.field.NumForm.TheVariants.{Char}
+use Rattle.rz_fields.specs.declared.tree.Tree.{Tree}
+use Rattle.rz_fields.specs.declared.tree.Tree.TheVariants as trees
 use Rattle.rz_types.specs.Field.{PlainBody, PlainCases, PlainField, PlainNumber, PlainText}
 use Rattle.rz_types.specs.Field as fields
 use Rattle.rz_types.specs.Range.{fits_number}
@@ -13,10 +17,6 @@ use Rattle.rz_types.specs.Spells.{integer}
 use Rattle.rz_types.specs.Stored.{is_too_long, stored_number}
 use Rattle.rz_types.specs.Text.{bytes_of}
 use Rattle.rz_types.specs.Value.{symbol_number_of}
-use Rattle.rz_types.specs.declared.field.NumForm.{NumForm}
-use Rattle.rz_types.specs.declared.field.NumForm.TheVariants.{Char}
-use Rattle.rz_types.specs.declared.tree.Tree.{Tree}
-use Rattle.rz_types.specs.declared.tree.Tree.TheVariants as trees
 
 -- items in braces, as a list
 abbrev pub list_of : PlainItems → List PlainItem

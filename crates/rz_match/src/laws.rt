@@ -5,9 +5,9 @@ ghost use Rattle.rz_core.specs.declared.fault.Fault.{Fault};
 ghost use Rattle.rz_core.specs.declared.fault.Mark.{Mark};
 ghost use Rattle.rz_items.specs.Item.{PlainItem};
 ghost use Rattle.rz_match.specs.Match.{IsMatch};
+ghost use Rattle.rz_fields.specs.declared.tree.Tree.{Tree};
 ghost use Rattle.rz_types.specs.Field.{PlainBody};
 ghost use Rattle.rz_types.specs.Rules.{keeps_rules};
-ghost use Rattle.rz_types.specs.declared.tree.Tree.{Tree};
 
 use rz_types::rules_hold_within;
 

@@ -9,10 +9,10 @@ ghost use Rattle.rz_items.specs.Places.{AreItemsWithin};
 ghost use Rattle.rz_match.specs.Line.{GivesLine};
 ghost use Rattle.rz_match.specs.Match.{IsMatch};
 ghost use Rattle.rz_match.specs.Matched.{case_matched, counted, item_for, matched, row_matched, rows_matched};
+ghost use Rattle.rz_fields.specs.declared.tree.Tree.{Tree as tree};
 ghost use Rattle.rz_types.specs.Field.{plain_array, plain_body, plain_cases, plain_field, Switch};
 ghost use Rattle.rz_types.specs.Row.{IsRow};
 ghost use Rattle.rz_types.specs.Template.{template_of};
-ghost use Rattle.rz_types.specs.declared.tree.Tree.{Tree as tree};
 
 use crate::fault::{mark_of, no_case, other_count, too_few, too_many, wrong_kind};
 use crate::group::group_for;

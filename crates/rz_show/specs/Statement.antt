@@ -23,7 +23,7 @@ use Rattle.rz_data.specs.Head.{Attribute, Set, Value}
 use Rattle.rz_brackets.specs.Limit.{is_within_limits}
 use Rattle.rz_data.specs.Raw.{IsRaw, Raw}
 use Rattle.rz_brackets.specs.Statements.{IsStatement}
-use Rattle.rz_types.specs.Text.{Plain, PlainPart}
+use Rattle.rz_fields.specs.Text.{Plain, PlainPart}
 
 -- what every resource has: a type of 32 bits, an id of 16, bytes in its name and its contents, and an attribute byte
 pub record IsStored (r : Resource) : Type 0 where

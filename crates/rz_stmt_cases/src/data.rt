@@ -5,9 +5,9 @@ use rz_core::{
     Attr, Bytes, Facts, Fault, Kept, Mark, Moment, OsType, Stop, write_decimal, write_signed,
 };
 use rz_expr::Expr;
+use rz_fields::Texts;
 use rz_lex::Tokens;
 use rz_stmt::{AttrPart, HeadExpr, RawStmt, Span, Stmt, number_of, parse, text_of};
-use rz_types::Texts;
 use std::alloc::Global;
 use std::test::Fail;
 

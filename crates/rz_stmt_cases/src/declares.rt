@@ -1,9 +1,9 @@
 use crate::data::{bytes_of, show_value, wrong_cases};
 use rz_core::{Bytes, Mark, OsType, write_decimal, write_signed};
-use rz_stmt::{Bounds, DeclareStmt, Made};
-use rz_types::{
+use rz_fields::{
     ArrayField, Body, Cases, Field, NumField, NumForm, PointField, Radix, TextField, TextForm,
 };
+use rz_stmt::{Bounds, DeclareStmt, Made};
 use std::alloc::Global;
 use std::test::Fail;
 

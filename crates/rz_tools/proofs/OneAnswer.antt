@@ -24,9 +24,9 @@ use Rattle.rz_tools.specs.declared.setting.Setting.{Setting}
 use Rattle.rz_items.specs.Item.{PlainItem}
 use Rattle.rz_layout.specs.Compiled.{IsCompiled}
 use Rattle.rz_match.specs.Match.{IsMatch}
+use Rattle.rz_fields.specs.declared.tree.Tree.{Tree}
 use Rattle.rz_types.specs.Field.{PlainBody}
 use Rattle.rz_types.specs.Laid.{Refusal}
-use Rattle.rz_types.specs.declared.tree.Tree.{Tree}
 use Rattle.rz_tools.proofs.Resources.{once_list}
 use Rattle.rz_core.proofs.Once.{err, ok, ok_or_err, once_is, once_then, same_err, same_ok, Once}
 

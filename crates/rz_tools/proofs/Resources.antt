@@ -19,10 +19,10 @@ use Rattle.rz_tools.specs.Head.{facts_of}
 use Rattle.rz_tools.specs.Resource.{fields_for, row_fault, AreBytes, AreItemBytes, IsMade, IsResource, IsSpelled}
 use Rattle.rz_tools.specs.Step.{put_unless_protected, IsListBehind, Stepped}
 use Rattle.rz_tools.specs.declared.setting.Setting.{Setting}
+use Rattle.rz_fields.specs.declared.tree.Tree.{Tree}
 use Rattle.rz_types.specs.Field.{PlainBody}
 use Rattle.rz_types.specs.Laid.{Refusal}
 use Rattle.rz_types.specs.Table.{Declaration}
-use Rattle.rz_types.specs.declared.tree.Tree.{Tree}
 
 -- One call behind another.
 

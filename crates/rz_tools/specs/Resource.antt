@@ -17,10 +17,10 @@ use Rattle.rz_match.specs.Match.{IsMatch}
 use Rattle.rz_tools.specs.Data.{with_bytes}
 use Rattle.rz_tools.specs.Head.{facts_of}
 use Rattle.rz_tools.specs.declared.setting.Setting.{Setting}
+use Rattle.rz_fields.specs.declared.tree.Tree.{Tree}
 use Rattle.rz_types.specs.Field.{PlainBody}
 use Rattle.rz_types.specs.Laid.{Refusal}
 use Rattle.rz_types.specs.Table.{found, Declaration}
-use Rattle.rz_types.specs.declared.tree.Tree.{Tree}
 
 -- 202 for a resource whose type and id no declaration is for
 abbrev pub no_type : Mark → Facts → Fault

@@ -1,182 +1,40 @@
--- An expression of a field has a value, a divisor of 0 or a bad shift.
-use Rattle.std.proofs.Common.{◌≡◌, ℕ, ℤ, pos, negsuc, Bool, true, false, List, [], Option, Some, None, Result, Ok, Err, refl, sym, subst, ap, ◌∙◌}
-use Rattle.std.specs.Prelude.{◌*ℤ◌, ◌^◌, if◌then◌else◌, int_div, int_rem, nat_lt}
-use Rattle.std.specs.Int.{int_shr}
-use Rattle.std.specs.Option.{is_some}
-use Rattle.rz_core.proofs.Tests.{and_so, both, true_false}
+-- An expression of a field has a value, a divisor of 0 or a bad shift, where the arrays that it names are known.
+use Rattle.std.proofs.Common.{◌≡◌, ℕ, Bool, true, false, List, Option, Some, None, refl}
+use Rattle.std.specs.Prelude.{if◌then◌else◌}
 use Rattle.rz_core.proofs.Lists.{or_else_none}
-use Rattle.rz_core.specs.Lists.{or_else}
-use Rattle.rz_core.specs.Stop.{◌>>=◌, Gives, OnFault}
+use Rattle.rz_core.proofs.Tests.{both}
 use Rattle.rz_core.specs.declared.facts.Facts.{Facts}
-use Rattle.rz_core.specs.declared.fault.Fault.{Fault}
-use Rattle.rz_core.specs.declared.fault.Mark.{Mark}
 use Rattle.rz_core.specs.declared.resource.Word.{Word}
-use Rattle.rz_core.specs.declared.stop.Stop.{Stop}
-use Rattle.rz_core.specs.declared.stop.Stop.TheVariants.{NoMemory, Refused}
-use Rattle.rz_expr.specs.Constant.{constant_sight, is_constant}
-use Rattle.rz_expr.specs.Environment.{count_key, place_key, predefined, Environment, Sight}
+use Rattle.rz_expr.specs.Environment.{Environment}
 use Rattle.rz_expr.specs.Term.{BitsAt, Constant, FactOf, Named, OfOne, OfTwo, RowsOf, Term}
-use Rattle.rz_expr.specs.Value.{divided, is_zero, known_value, operate, operate_one, reduced, shifted, value_of}
-use Rattle.rz_expr.specs.declared.expr.BinaryOp.{BinaryOp}
-use Rattle.rz_expr.specs.declared.expr.BinaryOp.TheVariants as two
-use Rattle.rz_expr.specs.declared.value.EvalFault.{EvalFault}
-use Rattle.rz_expr.specs.declared.value.EvalFault.TheVariants.{BadShift, ZeroDivisor}
-use Rattle.rz_expr.proofs.Cases.{same_value}
+use Rattle.rz_expr.specs.Value.{value_of}
+use Rattle.rz_fields.specs.Value.{is_field_expression, is_fixed_expression, names_sight, IsArithmetic}
+use Rattle.rz_fields.proofs.Arithmetic.{sight_sound, sound, KnowsArrays}
 use Rattle.rz_types.specs.Names.{GivesCounts, GivesPredefined}
 use Rattle.rz_types.specs.Rules.{unknown_array}
 use Rattle.rz_types.specs.Walk.{is_among}
-use Rattle.rz_types.specs.Value.{field_sight, is_field_expression, is_fixed_expression, names_sight, number_of, value_fault, with_fault, IsArithmetic, IsArithmeticFault}
 
-chained : (first : Result ℤ EvalFault) (next : ℤ → Result ℤ EvalFault) → IsArithmetic first → ((x : ℤ) → IsArithmetic (next x)) → IsArithmetic (first >>= next)
-chained (Ok x) next one rest = rest x
-chained (Err fault) next one rest = one
-
-either : (test : Bool) (fault : EvalFault) (x : ℤ) → IsArithmetic (Err fault) → IsArithmetic (if test then Err fault else Ok x)
-either true fault x one = one
-either false fault x one = tt
-
-or_fault : (test : Bool) (fault : EvalFault) (x : ℤ) → IsArithmetic (Err fault) → IsArithmetic (if test then Ok x else Err fault)
-or_fault true fault x one = tt
-or_fault false fault x one = one
-
-divided_sound : (quotient : ℤ → ℤ → ℤ) (left right : ℤ) → IsArithmetic (divided quotient left right)
-divided_sound quotient left right = either (is_zero right) ZeroDivisor (reduced (quotient left right)) tt
-
-shifted_sound : (shift : ℤ → ℕ → ℤ) (left right : ℤ) → IsArithmetic (shifted shift left right)
-shifted_sound shift left (pos count) = or_fault (nat_lt count 32) (BadShift (pos count)) (reduced (shift left count)) tt
-shifted_sound shift left (negsuc n) = tt
-
-operate_sound : (op : BinaryOp) (left right : ℤ) → IsArithmetic (operate op left right)
-operate_sound two.Times left right = tt
-operate_sound two.Divide left right = divided_sound int_div left right
-operate_sound two.Remainder left right = divided_sound int_rem left right
-operate_sound two.Plus left right = tt
-operate_sound two.Minus left right = tt
-operate_sound two.ShiftLeft left right = shifted_sound (λ number count. number *ℤ pos (2 ^ count)) left right
-operate_sound two.ShiftRight left right = shifted_sound int_shr left right
-operate_sound two.Greater left right = tt
-operate_sound two.GreaterEqual left right = tt
-operate_sound two.Less left right = tt
-operate_sound two.LessEqual left right = tt
-operate_sound two.Equal left right = tt
-operate_sound two.NotEqual left right = tt
-operate_sound two.BitAnd left right = tt
-operate_sound two.BitXor left right = tt
-operate_sound two.BitOr left right = tt
-operate_sound two.And left right = tt
-operate_sound two.Or left right = tt
-
-given_sound : (name : List ℕ) (given : Option ℤ) (value : ℤ) → given ≡ Some value → IsArithmetic (known_value name given)
-given_sound name (Some own) value is = tt
-given_sound name None value is = absurd cc
-
-something : (given : Option ℤ) → is_some given ≡ true → (value : ℤ) × (given ≡ Some value)
-something (Some value) is = (value, refl)
-something None is = absurd cc
-
-is_there : (holds : Bool) (name : List ℕ) → (if holds then None else Some name) ≡ None → holds ≡ true
+is_there : (holds : Bool) (name : List ℕ) → ◌≡◌ {A = Option (List ℕ)} (if holds then None else Some name) None → holds ≡ true
 is_there true name none = refl
 is_there false name none = absurd cc
 
--- where `true` and `false` have values, and each of these arrays has a number of rows
-pub sight_sound : (sight : Sight) (scope : List Word) → GivesPredefined sight.names → GivesCounts scope sight.names → (term : Term)
-    → is_fixed_expression term ≡ true → unknown_array scope term ≡ None → IsArithmetic (value_of term sight)
-sight_sound sight scope gives counts (Constant number) is known = tt
-sight_sound sight scope gives counts (Named name) is known =
-    let own = something (predefined name) is in
-    let given = gives.give name own.0 own.1 in
-    given_sound name (sight.names.give (place_key name)) given.0 given.1
-sight_sound sight scope gives counts (RowsOf name) is known =
-    let given = counts.give name (is_there (is_among name scope) name known) in
-    given_sound name (sight.names.give (count_key name)) given.0 given.1
-sight_sound sight scope gives counts (BitsAt name start width) is known = absurd cc
-sight_sound sight scope gives counts (FactOf which) is known = tt
-sight_sound sight scope gives counts (OfOne op operand) is known =
-    chained (value_of operand sight) (λ value. Ok (operate_one op value)) (sight_sound sight scope gives counts operand is known) (λ x. tt)
-sight_sound sight scope gives counts (OfTwo op left right) is known =
+-- where each of these arrays has a number of rows, so has each that an expression names
+arrays_known : (scope : List Word) (names : Environment) → GivesCounts scope names → (term : Term) → is_fixed_expression term ≡ true → unknown_array scope term ≡ None → KnowsArrays names term
+arrays_known scope names counts (Constant number) is none = tt
+arrays_known scope names counts (Named name) is none = tt
+arrays_known scope names counts (RowsOf name) is none = counts.give name (is_there (is_among name scope) name none)
+arrays_known scope names counts (BitsAt name start width) is none = tt
+arrays_known scope names counts (FactOf which) is none = tt
+arrays_known scope names counts (OfOne op operand) is none = arrays_known scope names counts operand is none
+arrays_known scope names counts (OfTwo op left right) is none =
     let each = both (is_fixed_expression left) (is_fixed_expression right) is in
-    let named = or_else_none (unknown_array scope left) (unknown_array scope right) known in
-    chained (value_of left sight) (λ one. value_of right sight >>= λ other. operate op one other) (sight_sound sight scope gives counts left each.0 named.0)
-    (λ one. chained (value_of right sight) (λ other. operate op one other) (sight_sound sight scope gives counts right each.1 named.1)
-    (λ other. operate_sound op one other))
+    let named = or_else_none (unknown_array scope left) (unknown_array scope right) none in
+    (arrays_known scope names counts left each.0 named.0, arrays_known scope names counts right each.1 named.1)
 
 pub fixed_sound : (known : Facts) (names : Environment) (scope : List Word) (term : Term) → GivesPredefined names → GivesCounts scope names
     → is_fixed_expression term ≡ true → unknown_array scope term ≡ None → IsArithmetic (value_of term (names_sight known names))
-fixed_sound known names scope term gives counts is named = sight_sound (names_sight known names) scope gives counts term is named
-
--- An expression of a size is one of a fixed value that names no array.
-
-field_is_fixed : (term : Term) → is_field_expression term ≡ true → is_fixed_expression term ≡ true
-field_is_fixed (Constant number) is = refl
-field_is_fixed (Named name) is = is
-field_is_fixed (RowsOf name) is = absurd cc
-field_is_fixed (BitsAt name start width) is = absurd cc
-field_is_fixed (FactOf which) is = is
-field_is_fixed (OfOne op operand) is = field_is_fixed operand is
-field_is_fixed (OfTwo op left right) is =
-    let each = both (is_field_expression left) (is_field_expression right) is in
-    and_so (is_fixed_expression left) (is_fixed_expression right) (field_is_fixed left each.0) (field_is_fixed right each.1)
-
-names_none : (scope : List Word) (term : Term) → is_field_expression term ≡ true → unknown_array scope term ≡ None
-names_none scope (Constant number) is = refl
-names_none scope (Named name) is = refl
-names_none scope (RowsOf name) is = absurd cc
-names_none scope (BitsAt name start width) is = absurd cc
-names_none scope (FactOf which) is = refl
-names_none scope (OfOne op operand) is = names_none scope operand is
-names_none scope (OfTwo op left right) is =
-    let each = both (is_field_expression left) (is_field_expression right) is in
-    ap (λ (o : Option (List ℕ)). or_else o (unknown_array scope right)) (names_none scope left each.0) ∙ names_none scope right each.1
-
-no_counts : (names : Environment) → GivesCounts [] names
-no_counts names = record { give = λ name is. absurd (true_false (sym is)) }
-
-sound : (sight : Sight) → GivesPredefined sight.names → (term : Term) → is_field_expression term ≡ true → IsArithmetic (value_of term sight)
-sound sight gives term is = sight_sound sight [] gives (no_counts sight.names) term (field_is_fixed term is) (names_none [] term is)
+fixed_sound known names scope term gives counts is none = sight_sound (names_sight known names) gives.give term is (arrays_known scope names counts term is none)
 
 pub size_sound : (known : Facts) (names : Environment) (term : Term) → GivesPredefined names → is_field_expression term ≡ true
     → IsArithmetic (value_of term (names_sight known names))
-size_sound known names term gives is = sound (names_sight known names) gives term is
-
-facts_see : (known : Facts) → GivesPredefined (field_sight known []).names
-facts_see known = record { give = λ name value is. (value, sym (same_value name) ∙ is) }
-
-constants_see : GivesPredefined constant_sight.names
-constants_see = record { give = λ name value is. (value, sym (same_value name) ∙ is) }
-
-pub constant_stands : (term : Term) → is_constant term ≡ true → is_field_expression term ≡ true
-constant_stands (Constant number) is = refl
-constant_stands (Named name) is = is
-constant_stands (RowsOf name) is = absurd cc
-constant_stands (BitsAt name start width) is = absurd cc
-constant_stands (FactOf which) is = absurd cc
-constant_stands (OfOne op operand) is = constant_stands operand is
-constant_stands (OfTwo op left right) is =
-    let each = both (is_constant left) (is_constant right) is in
-    and_so (is_field_expression left) (is_field_expression right) (constant_stands left each.0) (constant_stands right each.1)
-
-same_answer : (sight : Sight) (term : Term) (answer : Result ℤ (Stop EvalFault)) (fault : EvalFault) → Gives (value_of term sight) answer
-    → answer ≡ Err (Refused fault) → value_of term sight ≡ Err fault
-same_answer sight term answer fault gives is = subst (Gives (value_of term sight)) is gives
-
-pub field_sound : (known : Facts) (term : Term) → is_field_expression term ≡ true → IsArithmetic (value_of term (field_sight known []))
-field_sound known term is = sound (field_sight known []) (facts_see known) term is
-
--- the call gave a value or such a fault
-pub number_sound : (mark : Mark) (known : Facts) (term : Term) (answer : Result ℤ (Stop Fault)) → is_field_expression term ≡ true
-    → Gives (number_of mark known term) answer → OnFault answer (IsArithmeticFault mark)
-number_sound mark known term (Ok value) is gives = tt
-number_sound mark known term (Err NoMemory) is gives = tt
-number_sound mark known term (Err (Refused fault)) is gives = by (value_of term (field_sight known [])) (field_sound known term is) gives
-  where
-    by : (value : Result ℤ EvalFault) → IsArithmetic value → with_fault mark value ≡ Err fault → IsArithmeticFault mark fault
-    by (Ok value) sound gives = absurd cc
-    by (Err cause) sound gives = (cause, sound, sym (cc gives))
-
-pub constant_sound : (mark : Mark) (term : Term) (answer : Result ℤ (Stop EvalFault)) (fault : EvalFault) (given : Fault) → is_constant term ≡ true
-    → Gives (value_of term constant_sight) answer → answer ≡ Err (Refused fault) → given ≡ value_fault mark fault → IsArithmeticFault mark given
-constant_sound mark term answer fault given is gives refused as_given =
-    (fault, subst IsArithmetic (same_answer constant_sight term answer fault gives refused) (sound constant_sight constants_see term (constant_stands term is)), as_given)
-
-abbrev pub err : Stop EvalFault → Result ℤ (Stop EvalFault)
-err stop = Err stop
+size_sound known names term gives is = sound (names_sight known names) gives.give term is

@@ -1,9 +1,6 @@
 pub mod Found
 pub mod Places
-pub mod Symbols
 pub mod Arithmetic
-pub mod Bodies
-pub mod Capped
 pub mod Firsts
 pub mod Stepping
 pub mod Walking

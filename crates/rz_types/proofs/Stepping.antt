@@ -6,11 +6,11 @@ use Rattle.rz_core.specs.Stop.{◌>>=◌}
 use Rattle.rz_core.specs.declared.fault.Kept.{Kept}
 use Rattle.rz_core.specs.declared.fault.Kept.TheVariants as kept
 use Rattle.rz_core.specs.declared.resource.Word.{Word}
-use Rattle.rz_types.specs.Field.{Align, Array, Fill, Number, PlainBody, PlainCases, PlainField, Points, Switch, Text}
+use Rattle.rz_fields.specs.Field.{Align, Array, Fill, Number, PlainBody, PlainCases, PlainField, Points, Switch, Text}
+use Rattle.rz_fields.specs.declared.keys.CaseKey.{CaseKey}
 use Rattle.rz_types.specs.Rules.{array_twice, bad_case, bad_place, bad_width, broken_at, case_names, case_twice, found_if, has_values, kept_position, key_rule, no_values, repeated, unknown_at, unknown_in, width_fault}
 use Rattle.rz_types.specs.Walk.{at_field, behind_case, own_names, is_among, Step}
 use Rattle.rz_types.specs.Walked.{case_met, field_met, Met}
-use Rattle.rz_types.specs.declared.keys.CaseKey.{CaseKey}
 use Rattle.rz_types.specs.declared.rules.TypeFault.{TypeFault}
 use Rattle.rz_types.proofs.Firsts.{first_append, or_assoc, or_none}
 

@@ -7,12 +7,12 @@ use Rattle.std.proofs.lemmas.List.{append-nil}
 use Rattle.rz_core.specs.Lists.{first_of, or_else, unless_fault}
 use Rattle.rz_core.specs.Stop.{◌>>=◌}
 use Rattle.rz_core.specs.declared.resource.Word.{Word}
-use Rattle.rz_types.specs.Field.{case_and, field_and, no_cases, no_fields, Align, Array, Fill, Number, PlainBody, PlainCases, PlainField, Points, Switch, Text}
+use Rattle.rz_fields.specs.Field.{case_and, field_and, no_cases, no_fields, Align, Array, Fill, Number, PlainBody, PlainCases, PlainField, Points, Switch, Text}
+use Rattle.rz_fields.specs.Width.{case_keys}
+use Rattle.rz_fields.specs.declared.keys.CaseKey.{CaseKey}
 use Rattle.rz_types.specs.Rules.{broken, broken_at, kept_position, unknown_at}
 use Rattle.rz_types.specs.Walk.{all_fields, all_in_cases, at_field, behind_case, case_steps, names_of, own_names, steps, steps_within, walk, within}
 use Rattle.rz_types.specs.Walked.{body_met, case_met, cases_met, nothing_met, within_met, Met}
-use Rattle.rz_types.specs.Width.{case_keys}
-use Rattle.rz_types.specs.declared.keys.CaseKey.{CaseKey}
 use Rattle.rz_types.specs.declared.rules.TypeFault.{TypeFault}
 use Rattle.rz_types.proofs.Firsts.{or_none}
 use Rattle.rz_types.proofs.Stepping.{case_is, chain, chain_by, field_is, met_at, met_behind}

@@ -8,14 +8,14 @@ use Rattle.rz_core.specs.Stop.{◌>>=◌, Gives}
 use Rattle.rz_core.specs.declared.resource.Word.{Word}
 use Rattle.rz_core.specs.declared.stop.Stop.{Stop}
 use Rattle.rz_core.specs.declared.stop.Stop.TheVariants.{NoMemory, Refused}
-use Rattle.rz_types.specs.Field.{plain_body, plain_field, PlainBody}
+use Rattle.rz_fields.specs.Field.{plain_body, plain_field, PlainBody}
+use Rattle.rz_fields.specs.declared.field.Field.{Field}
+use Rattle.rz_fields.proofs.Bodies.{body_next}
 use Rattle.rz_types.specs.Rules.{broken}
 use Rattle.rz_types.specs.Walk.{names_of}
 use Rattle.rz_types.specs.Walked.{all_met, body_met, field_met, met_of, scope_of, within_met, Met, Walks}
-use Rattle.rz_types.specs.declared.field.Field.{Field}
 use Rattle.rz_types.specs.declared.rules.TypeFault.{TypeFault}
 use Rattle.rz_types.specs.declared.walk.Walk.{Walk}
-use Rattle.rz_types.proofs.Bodies.{body_next}
 use Rattle.rz_types.proofs.Walking.{all_checked}
 
 bound_twice : {X Y Z F : Type 0} (first : Result X F) (next : X → Result Y F) (last : Y → Result Z F) → (first >>= λ x. next x >>= last) ≡ ((first >>= next) >>= last)

@@ -7,7 +7,7 @@ use Rattle.std.specs.declared.result.Result.{Result}
 use Rattle.rz_core.specs.Lists.{or_else}
 use Rattle.rz_core.specs.declared.fault.Kept.TheVariants.{Key}
 use Rattle.rz_core.specs.declared.resource.OsType.{OsType}
-use Rattle.rz_types.specs.Field.{PlainBody}
+use Rattle.rz_fields.specs.Field.{PlainBody}
 use Rattle.rz_types.specs.declared.rules.TypeFault.{TypeFault}
 use Rattle.rz_types.specs.declared.table.Scope.{Scope}
 use Rattle.rz_types.specs.declared.table.Scope.TheVariants.{Any, Id, Range}

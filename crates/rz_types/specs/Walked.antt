@@ -6,11 +6,11 @@ use Rattle.rz_core.specs.Stop.{◌>>=◌}
 use Rattle.rz_core.specs.declared.resource.Word.{Word}
 use Rattle.rz_core.specs.declared.stop.Stop.{Stop}
 use Rattle.rz_core.specs.declared.stop.Stop.TheVariants.{NoMemory, Refused}
-use Rattle.rz_types.specs.Field.{case_and, field_and, no_cases, no_fields, Align, Array, Fill, Number, PlainBody, PlainCases, PlainField, Points, Switch, Text}
+use Rattle.rz_fields.specs.Field.{case_and, field_and, no_cases, no_fields, Align, Array, Fill, Number, PlainBody, PlainCases, PlainField, Points, Switch, Text}
+use Rattle.rz_fields.specs.Width.{case_keys}
+use Rattle.rz_fields.specs.declared.keys.CaseKey.{CaseKey}
 use Rattle.rz_types.specs.Rules.{bad_case, broken_at, kept_position, unknown_at}
 use Rattle.rz_types.specs.Walk.{at_field, names_of, own_names}
-use Rattle.rz_types.specs.Width.{case_keys}
-use Rattle.rz_types.specs.declared.keys.CaseKey.{CaseKey}
 use Rattle.rz_types.specs.declared.rules.TypeFault.{TypeFault}
 use Rattle.rz_types.specs.declared.walk.Walk.{Walk}
 

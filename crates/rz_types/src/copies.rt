@@ -1,14 +1,14 @@
 ghost use Rattle.std.specs.Prelude.{◌≡◌, IfOk, map, option_map};
 ghost use Rattle.rz_expr.specs.Term.{term_of};
-ghost use Rattle.rz_types.specs.Field.{plain_array, plain_body, plain_case, plain_cases, plain_field, plain_number, plain_points, plain_text};
-ghost use Rattle.rz_types.specs.Text.{plain_part, plain_parts};
+ghost use Rattle.rz_fields.specs.Field.{plain_array, plain_body, plain_case, plain_cases, plain_field, plain_number, plain_points, plain_text};
+ghost use Rattle.rz_fields.specs.Text.{plain_part, plain_parts};
 
-use crate::{
+use rz_core::{Bytes, NoMemory, Word};
+use rz_expr::{Expr, copy};
+use rz_fields::{
     ArrayField, Body, Case, Cases, Exprs, Field, NumField, PointField, Symbol, Symbols, TextField,
     TextPart, Texts,
 };
-use rz_core::{Bytes, NoMemory, Word};
-use rz_expr::{Expr, copy};
 use std::alloc::Global;
 
 /// A copy of a body.

@@ -4,15 +4,15 @@ ghost use Rattle.rz_core.specs.declared.facts.Facts.{Facts};
 ghost use Rattle.rz_core.specs.declared.resource.OsType.{OsType};
 ghost use Rattle.rz_expr.specs.Term.{Term};
 ghost use Rattle.rz_expr.specs.Value.{value_of};
-ghost use Rattle.rz_types.specs.Field.{PlainBody};
+ghost use Rattle.rz_fields.specs.Field.{PlainBody};
 ghost use Rattle.rz_types.specs.Kept.{IsKept};
 ghost use Rattle.rz_types.specs.Rules.{broken, keeps_rules, BreaksNone, IsFirstBroken};
 ghost use Rattle.rz_types.specs.declared.rules.TypeFault.{TypeFault};
 ghost use Rattle.rz_types.specs.Scopes.{concerns, holds, is_narrower_for, PlacesDiffer};
 ghost use Rattle.rz_core.specs.declared.resource.Word.{Word};
 ghost use Rattle.rz_expr.specs.Environment.{Environment};
+ghost use Rattle.rz_fields.specs.Value.{is_field_expression, is_fixed_expression, names_sight, IsArithmetic};
 ghost use Rattle.rz_types.specs.Rules.{unknown_array};
-ghost use Rattle.rz_types.specs.Value.{is_field_expression, is_fixed_expression, names_sight, IsArithmetic};
 ghost use Rattle.rz_types.specs.Names.{GivesCounts, GivesPredefined};
 ghost use Rattle.rz_types.specs.Table.{declared_behind, found, has_place, stands_at, Declaration};
 

@@ -3,18 +3,18 @@ ghost use Rattle.std.specs.Option.{option_to_list};
 ghost use Rattle.rz_core.specs.Stop.{Gives};
 ghost use Rattle.rz_core.specs.Lists.{first_of, or_else};
 ghost use Rattle.rz_expr.specs.Term.{term_of};
-ghost use Rattle.rz_types.specs.Field.{plain_body, plain_cases, plain_field, plain_text};
+ghost use Rattle.rz_fields.specs.Field.{plain_body, plain_cases, plain_field, plain_text};
+ghost use Rattle.rz_fields.specs.Shape.{is_well_shaped};
 ghost use Rattle.rz_types.specs.Rules.{array_twice, bad_case, bad_place, bad_rows, bad_size, bad_width, case_names, checked, differ, has_other_place, has_other_width, has_same_bits, has_values, key_rule, may_be_count, may_be_rows, may_be_width, name_fault, no_values, repeated, unknown_array, unknown_fault, unknown_in, unless, width_fault};
-ghost use Rattle.rz_types.specs.Shape.{is_well_shaped};
 ghost use Rattle.rz_types.specs.Template.{plain_templates};
 ghost use Rattle.rz_types.specs.Walk.{is_among};
 ghost use Rattle.std.specs.List.{list_any};
 
-use crate::keys::CaseKey;
+use crate::Template;
 use crate::walk::check_fields;
-use crate::{Body, Case, Exprs, Field, NumForm, Template, TextField, may_be_size, takes_value};
 use rz_core::{Kept, NoMemory, Stop, Word};
 use rz_expr::{Expr, constant_of};
+use rz_fields::{Body, Case, CaseKey, Exprs, Field, NumForm, TextField, may_be_size, takes_value};
 use std::alloc::Global;
 
 /// The most units of a `fill`.

@@ -1,11 +1,11 @@
 ghost use Rattle.std.specs.Prelude.{◌≡◌, true};
-ghost use Rattle.rz_types.specs.Field.{plain_body};
+ghost use Rattle.rz_fields.specs.Field.{plain_body};
+ghost use Rattle.rz_fields.specs.Shape.{is_well_shaped};
 ghost use Rattle.rz_types.specs.Rules.{keeps_rules};
-ghost use Rattle.rz_types.specs.Shape.{is_well_shaped};
 
-use crate::Body;
 use crate::copies::copy_body;
 use rz_core::NoMemory;
+use rz_fields::Body;
 use std::alloc::Global;
 
 /// A body that has the shape of a declaration and keeps the rules, as [`check`](crate::check) gives it.

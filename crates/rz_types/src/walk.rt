@@ -2,15 +2,14 @@ ghost use Rattle.std.specs.Prelude.{IfOk, OnOk, ◌≡◌, ◌+◌, ◌++◌, []
 ghost use Rattle.std.specs.Option.{option_to_list};
 ghost use Rattle.rz_core.specs.Stop.{Gives};
 ghost use Rattle.rz_core.specs.Lists.{unless_fault};
-ghost use Rattle.rz_types.specs.Field.{plain_body, plain_cases, plain_field};
+ghost use Rattle.rz_fields.specs.Field.{plain_body, plain_cases, plain_field};
 ghost use Rattle.rz_types.specs.Rules.{broken, kept_position, unknown_fault, unknown_in};
 ghost use Rattle.rz_types.specs.Walk.{names_of, own_names};
 ghost use Rattle.rz_types.specs.Walked.{all_met, body_met, cases_met, field_met, met_of, scope_of, Walks};
 
-use crate::keys::{CaseKey, case_keys};
 use crate::rules::{MOST_KEPT, TypeFault, broken_behind, broken_field, unknown_fault, unknown_in};
-use crate::{Case, Field};
 use rz_core::{NoMemory, Stop, Word};
+use rz_fields::{Case, CaseKey, Field, case_keys};
 use std::alloc::Global;
 
 /// A walk over the fields of a declaration, depth first.

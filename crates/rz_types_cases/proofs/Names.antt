@@ -3,15 +3,15 @@ use Rattle.std.proofs.Common.{◌≡◌, ℕ, ℤ, pos, Bool, true, false, List,
 use Rattle.std.specs.Prelude.{codes}
 use Rattle.rz_expr.specs.Attribute.{attribute_word}
 use Rattle.rz_expr.specs.Keyword.{keyword_of}
-use Rattle.rz_types.specs.Field.{array_step, case_step, field_step, plain_field, plain_number, Number, PlainCase, PlainField, PlainNumber}
-use Rattle.rz_types.specs.Shape.{is_number_shaped}
-use Rattle.rz_types.specs.declared.field.Field.TheFolds.{fold-roll-Field}
-use Rattle.rz_types.specs.declared.field.Field.TheOpen.{Field-F}
-use Rattle.rz_types.specs.declared.field.Field.TheVariants as fields
-use Rattle.rz_types.specs.declared.field.NumField.{NumField}
-use Rattle.rz_types.specs.declared.field.NumForm.TheVariants.{Byte}
-use Rattle.rz_types.specs.declared.field.Radix.TheVariants.{Hex}
-use Rattle.rz_types.specs.declared.field.Symbol.{Symbol}
+use Rattle.rz_fields.specs.declared.field.Field.TheFolds.{fold-roll-Field}
+use Rattle.rz_fields.specs.declared.field.Field.TheOpen.{Field-F}
+use Rattle.rz_fields.specs.declared.field.Field.TheVariants as fields
+use Rattle.rz_fields.specs.declared.field.NumField.{NumField}
+use Rattle.rz_fields.specs.declared.field.NumForm.TheVariants.{Byte}
+use Rattle.rz_fields.specs.declared.field.Radix.TheVariants.{Hex}
+use Rattle.rz_fields.specs.declared.field.Symbol.{Symbol}
+use Rattle.rz_fields.specs.Field.{array_step, case_step, field_step, plain_field, plain_number, Number, PlainCase, PlainField, PlainNumber}
+use Rattle.rz_fields.specs.Shape.{is_number_shaped}
 
 abbrev pub symbol_of : List ℕ → Symbol
 symbol_of name = record { name = record { bytes = name }; value = pos 1 }

@@ -1,15 +1,15 @@
 ghost use Rattle.std.specs.Prelude.{◌≡◌, true, false, IfOk};
 ghost use Rattle.rz_expr.specs.Term.{term_of};
-ghost use Rattle.rz_types.specs.Field.{plain_body, plain_field};
-ghost use Rattle.rz_types.specs.Shape.{are_shaped, is_own_width, is_shaped, is_well_shaped};
-ghost use Rattle.rz_types.specs.Value.{is_field_expression};
+ghost use Rattle.rz_fields.specs.Field.{plain_body, plain_field};
+ghost use Rattle.rz_fields.specs.Shape.{are_shaped, is_own_width, is_shaped, is_well_shaped};
+ghost use Rattle.rz_fields.specs.Value.{is_field_expression};
 
 use rz_core::{Bytes, Kept, Listing, NoMemory, Stop, Word};
 use rz_expr::{BinaryOp, Expr, FactWord};
-use rz_types::{
-    ArrayField, Body, Field, NumField, NumForm, PointField, Radix, TextField, TextForm, TypeFault,
-    check,
+use rz_fields::{
+    ArrayField, Body, Field, NumField, NumForm, PointField, Radix, TextField, TextForm,
 };
+use rz_types::{TypeFault, check};
 use std::alloc::Global;
 use std::test::Fail;
 

@@ -1,13 +1,14 @@
 ghost use Rattle.std.specs.Prelude.{◌≡◌, true, false, IfOk};
-ghost use Rattle.rz_types.specs.Field.{plain_field};
-ghost use Rattle.rz_types.specs.Shape.{is_shaped};
+ghost use Rattle.rz_fields.specs.Field.{plain_field};
+ghost use Rattle.rz_fields.specs.Shape.{is_shaped};
 
 use rz_core::{Bytes, Kept, OsType, Stop, Word};
 use rz_expr::{Expr, FactWord, UnaryOp};
-use rz_types::{
-    Body, Exprs, Field, NumField, NumForm, PointField, Radix, Scope, Symbol, Symbols, Template,
-    TextField, TextForm, TextPart, Texts, TypeFault, TypeTable, check,
+use rz_fields::{
+    Body, Exprs, Field, NumField, NumForm, PointField, Radix, Symbol, Symbols, TextField, TextForm,
+    TextPart, Texts,
 };
+use rz_types::{Scope, Template, TypeFault, TypeTable, check};
 use std::alloc::Global;
 use std::test::Fail;
 

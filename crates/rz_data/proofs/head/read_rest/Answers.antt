@@ -1,6 +1,6 @@
 use Rattle.std.proofs.Common.{map, sym, ap, ◌∙◌}
 use Rattle.std.specs.Prelude.{option_map}
-use Rattle.rz_types.specs.Text.{plain_parts}
+use Rattle.rz_fields.specs.Text.{plain_parts}
 use Rattle.rz_data.proofs.Shaped.{no_rest}
 use Rattle.rz_data.proofs.head.read_rest.Goals as goal
 

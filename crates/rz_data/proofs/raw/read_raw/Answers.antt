@@ -6,7 +6,7 @@ use Rattle.rz_lex.specs.declared.token.Token.{Token}
 use Rattle.rz_data.specs.Head.{IsHead}
 use Rattle.rz_data.specs.Raw.{is_open_brace, texts_in}
 use Rattle.std.specs.Prelude.{option_map}
-use Rattle.rz_types.specs.Text.{plain_parts}
+use Rattle.rz_fields.specs.Text.{plain_parts}
 use Rattle.rz_data.proofs.Shaped.{no_brackets, one_first, opened, same_parts}
 use Rattle.rz_data.proofs.raw.read_raw.Goals as goal
 

@@ -1,7 +1,7 @@
 use Rattle.std.proofs.Common.{[], ◌∷◌, sym, ap, ◌∙◌}
 use Rattle.std.specs.Prelude.{option_map}
 use Rattle.std.proofs.lemmas.List.{map-append}
-use Rattle.rz_types.specs.Text.{plain_part, plain_parts}
+use Rattle.rz_fields.specs.Text.{plain_part, plain_parts}
 use Rattle.rz_data.proofs.Parts.{text_more}
 use Rattle.rz_data.proofs.raw.texts_in.Goals as goal
 

@@ -1,7 +1,7 @@
 use Rattle.std.proofs.Common.{◌≡◌, ◌++◌, length}
 use Rattle.std.specs.Prelude.{option_map}
 use Rattle.rz_data.specs.Raw.{texts_in}
-use Rattle.rz_types.specs.Text.{plain_parts}
+use Rattle.rz_fields.specs.Text.{plain_parts}
 use Rattle.rz_data.proofs.raw.texts_in.Given as goal
 
 abbrev pub invariant-loop-first : goal.invariant-loop-first

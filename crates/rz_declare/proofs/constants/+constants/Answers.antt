@@ -4,7 +4,7 @@ use Rattle.rz_declare.specs.Constants.{body_value, cases_value, case_value, fiel
 use Rattle.rz_declare.specs.Form.{body_form, case_form, cases_form, field_form}
 use Rattle.rz_declare.specs.declared.form.CaseExpr.{CaseExpr}
 use Rattle.rz_declare.specs.declared.form.FieldExpr.{FieldExpr}
-use Rattle.rz_types.specs.Field.{field_and, plain_case, plain_field, PlainBody, PlainCases}
+use Rattle.rz_fields.specs.Field.{field_and, plain_case, plain_field, PlainBody, PlainCases}
 use Rattle.rz_declare.proofs.Bodies.{all_cases, all_fields, case_first, one_more, so_far, with_case}
 use Rattle.rz_declare.proofs.constants.+constants.Goals as goal
 

@@ -5,7 +5,7 @@ use Rattle.rz_core.specs.Stop.{◌>>=◌, Gives}
 use Rattle.rz_core.specs.declared.fault.Fault.{Fault}
 use Rattle.rz_declare.specs.Constants.{key_value, number_of_width, seen}
 use Rattle.rz_declare.specs.Form.{number_form}
-use Rattle.rz_types.specs.Field.{plain_number}
+use Rattle.rz_fields.specs.Field.{plain_number}
 use Rattle.rz_declare.proofs.constants.value_number.Goals as goal
 
 pub returns-in-Ok-value_key : goal.returns-in-Ok-value_key

@@ -1,7 +1,7 @@
 use Rattle.std.proofs.Common.{sym, ap, subst, ◌∙◌}
 use Rattle.std.specs.Prelude.{option_map}
 use Rattle.rz_core.proofs.Tests.{none_some}
-use Rattle.rz_types.specs.Text.{plain_parts}
+use Rattle.rz_fields.specs.Text.{plain_parts}
 use Rattle.rz_brackets.specs.Held.{held_split}
 use Rattle.rz_brackets.specs.Pieces.{Parted}
 use Rattle.rz_brackets.specs.declared.bracket.Bracket.TheVariants.{Square}

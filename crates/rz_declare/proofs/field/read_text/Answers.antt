@@ -2,7 +2,7 @@ use Rattle.std.proofs.Common.{Bool, subst}
 use Rattle.std.specs.Prelude.{IfOk, option_map}
 use Rattle.rz_core.specs.Decided.{Decided}
 use Rattle.rz_declare.specs.FieldForm.{IsTextBy}
-use Rattle.rz_types.specs.Field.{plain_text}
+use Rattle.rz_fields.specs.Field.{plain_text}
 use Rattle.rz_declare.proofs.field.read_text.Goals as goal
 
 pub returns-then-begins : goal.returns-then-begins

@@ -6,7 +6,7 @@ use Rattle.rz_core.specs.declared.fault.Fault.{Fault}
 use Rattle.rz_core.specs.declared.resource.Word.{Word}
 use Rattle.rz_expr.specs.Value.{reduced}
 use Rattle.rz_declare.specs.Form.{named_of}
-use Rattle.rz_types.specs.Range.{fits_number}
+use Rattle.rz_fields.specs.Range.{fits_number}
 use Rattle.rz_declare.specs.Values.{out_of_range, values_of}
 use Rattle.rz_declare.specs.declared.form.Named.{Named}
 use Rattle.rz_declare.proofs.Valued.{behind_symbols, no_room, one_more}

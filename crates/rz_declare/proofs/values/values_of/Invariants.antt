@@ -1,7 +1,7 @@
 use Rattle.std.proofs.Common.{◌≡◌, drop, map}
 use Rattle.std.specs.Prelude.{pos}
 use Rattle.rz_declare.specs.Form.{named_of}
-use Rattle.rz_types.specs.Range.{fits_number}
+use Rattle.rz_fields.specs.Range.{fits_number}
 use Rattle.rz_declare.specs.Values.{values_of}
 use Rattle.rz_declare.proofs.Valued.{behind_symbols}
 use Rattle.rz_declare.proofs.values.values_of.Given as goal

@@ -8,9 +8,9 @@ use Rattle.rz_match.specs.Line.{line_of}
 use Rattle.rz_match.specs.Matched.{case_matched, item_for, named_matched, row_matched, rows_matched}
 use Rattle.rz_match.proofs.Given.{array_is, array_refused, array_rows, braced, items_from, listed, named, row_given, row_refused}
 use Rattle.rz_match.proofs.Steps.{rows_behind}
+use Rattle.rz_fields.specs.declared.field.Field.TheViews.{out-ArrayField}
+use Rattle.rz_fields.specs.declared.tree.Tree.{Tree}
 use Rattle.rz_types.specs.Field.{plain_body, plain_cases, PlainField}
-use Rattle.rz_types.specs.declared.field.Field.TheViews.{out-ArrayField}
-use Rattle.rz_types.specs.declared.tree.Tree.{Tree}
 use Rattle.rz_match.proofs.matching.+matching.Goals as goal
 
 pub array_for-returns-in-Ok : goal.array_for-returns-in-Ok

@@ -6,9 +6,9 @@ use Rattle.rz_core.specs.Stop.{◌>>=◌, Gives}
 use Rattle.rz_core.specs.declared.fault.Fault.{Fault}
 use Rattle.rz_expr.specs.Term.{term_of}
 use Rattle.rz_match.specs.Matched.{in_range}
+use Rattle.rz_fields.specs.declared.field.Symbol.{Symbol}
 use Rattle.rz_types.specs.Field.{plain_number}
 use Rattle.rz_types.specs.Value.{symbol_number_of}
-use Rattle.rz_types.specs.declared.field.Symbol.{Symbol}
 use Rattle.rz_match.proofs.number.expression_value.Goals as goal
 
 pub returns : goal.returns

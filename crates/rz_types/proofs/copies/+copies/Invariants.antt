@@ -1,5 +1,5 @@
 use Rattle.std.proofs.Common.{◌≡◌, ◌++◌, drop, map}
-use Rattle.rz_types.specs.Field.{plain_case, plain_field}
+use Rattle.rz_fields.specs.Field.{plain_case, plain_field}
 use Rattle.rz_types.proofs.copies.+copies.Given as goal
 
 abbrev pub invariant-copy_body-loop-field : goal.invariant-copy_body-loop-field

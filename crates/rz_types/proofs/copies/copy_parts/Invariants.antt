@@ -1,5 +1,5 @@
 use Rattle.std.proofs.Common.{◌≡◌, ◌++◌, drop}
-use Rattle.rz_types.specs.Text.{plain_parts}
+use Rattle.rz_fields.specs.Text.{plain_parts}
 use Rattle.rz_types.proofs.copies.copy_parts.Given as goal
 
 abbrev pub invariant-loop-part : goal.invariant-loop-part

@@ -1,5 +1,5 @@
 use Rattle.std.proofs.Common.{◌≡◌, drop}
-use Rattle.rz_types.specs.Field.{plain_body}
+use Rattle.rz_fields.specs.Field.{plain_body}
 use Rattle.rz_types.specs.Rules.{has_values}
 use Rattle.rz_types.proofs.rules.has_values.Given as goal
 

@@ -1,6 +1,6 @@
 use Rattle.std.proofs.Common.{◌≡◌, drop, map}
 use Rattle.rz_core.specs.Lists.{first_in}
-use Rattle.rz_types.specs.Field.{plain_cases}
+use Rattle.rz_fields.specs.Field.{plain_cases}
 use Rattle.rz_types.specs.Rules.{case_names, repeated, repeats}
 use Rattle.rz_types.proofs.rules.repeated.Given as goal
 

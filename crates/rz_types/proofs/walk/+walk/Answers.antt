@@ -1,6 +1,6 @@
 use Rattle.std.proofs.Common.{◌≡◌, List, map, Bor, Err, Ok, ap, subst, ◌∙◌}
 use Rattle.rz_core.specs.declared.resource.Word.{Word}
-use Rattle.rz_types.specs.Field.{plain_body, plain_field}
+use Rattle.rz_fields.specs.Field.{plain_body, plain_field}
 use Rattle.rz_types.specs.Walk.{names_of}
 use Rattle.rz_types.specs.Walked.{all_met, body_met, met_of, scope_of, Walks}
 use Rattle.rz_types.proofs.Walks.{cut_back, walk_refused, walked_more}

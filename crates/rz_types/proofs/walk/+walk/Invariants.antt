@@ -1,5 +1,5 @@
 use Rattle.std.proofs.Common.{◌≡◌, [], drop}
-use Rattle.rz_types.specs.Field.{plain_body, plain_cases}
+use Rattle.rz_fields.specs.Field.{plain_body, plain_cases}
 use Rattle.rz_types.specs.Walked.{body_met, cases_met, met_of, scope_of}
 use Rattle.rz_types.proofs.walk.+walk.Given as goal
 

@@ -1,6 +1,6 @@
 use Rattle.std.proofs.Common.{None, refl, ap, ◌∙◌}
 use Rattle.rz_core.specs.Lists.{unless_fault}
-use Rattle.rz_types.specs.Field.{plain_body}
+use Rattle.rz_fields.specs.Field.{plain_body}
 use Rattle.rz_types.specs.Walked.{met_of}
 use Rattle.rz_types.proofs.Walks.{check_done, check_refused}
 use Rattle.rz_types.proofs.walk.check_fields.Goals as goal

@@ -1,5 +1,5 @@
 use Rattle.std.proofs.Common.{◌≡◌, ◌++◌, drop, map}
-use Rattle.rz_types.specs.Field.{plain_body}
+use Rattle.rz_fields.specs.Field.{plain_body}
 use Rattle.rz_types.specs.Walk.{names_of}
 use Rattle.rz_types.proofs.walk.push_names.Given as goal
 

@@ -1,6 +1,6 @@
 use Rattle.std.proofs.Common.{◌≡◌, true, false, sym, subst}
-use Rattle.rz_types.specs.Field.{PlainField}
-use Rattle.rz_types.specs.Shape.{is_shaped}
+use Rattle.rz_fields.specs.Field.{PlainField}
+use Rattle.rz_fields.specs.Shape.{is_shaped}
 use Rattle.rz_types_cases.proofs.Names.{number_is, number_shaped}
 use Rattle.rz_types_cases.proofs.finds.symbol_number.Goals as goal
 

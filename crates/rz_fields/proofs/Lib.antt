@@ -1,0 +1,4 @@
+pub mod Symbols
+pub mod Arithmetic
+pub mod Bodies
+pub mod Capped

@@ -1,0 +1,11 @@
+pub mod Text
+pub mod Range
+pub mod Value
+pub mod Field
+pub mod Shape
+pub mod Stored
+pub mod Row
+pub mod Width
+pub mod Solve
+pub mod Spells
+pub mod Laid
