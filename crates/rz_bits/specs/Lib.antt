@@ -1,3 +1,4 @@
 pub mod Bits
 pub mod BitBuf
 pub mod Held
+pub mod View

@@ -32,7 +32,7 @@ field_same one other (Align unit) same = refl
 field_same one other (Array name count row) same = refl
 field_same one other (Switch cases) same = refl
 
-keys_same : (one other : Option ℕ) (row : PlainBody) → option_map capped one ≡ option_map capped other → keys_from one row ≡ keys_from other row
+pub keys_same : (one other : Option ℕ) (row : PlainBody) → option_map capped one ≡ option_map capped other → keys_from one row ≡ keys_from other row
 keys_same one other no_fields same = refl
 keys_same one other (field_and field fields) same =
     (λ i. field_same one other field same i ++ keys_same (plus one (fixed_width field)) (plus other (fixed_width field)) fields (plus_same one other (fixed_width field) same) i)

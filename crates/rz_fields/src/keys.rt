@@ -63,8 +63,8 @@ fn push_number_key(
     Ok(())
 }
 
-/// The bits of a key, as a number.
-fn key_bits(number: &NumField) -> u32
+/// The bits of a key, as a number: those of the value of its constant, 0 where it has none. (MPW Rez.)
+pub fn key_bits(number: &NumField) -> u32
     ensures { result ≡ key_bits number.now.width (plain_number number.now).fixed }
 {
     match &number.fixed {
@@ -117,8 +117,9 @@ pub fn text_width(text: &TextField) -> Option<u64>
     }
 }
 
-/// How many bytes the stored form of a text with a size has.
-fn sized_bytes(form: TextForm, size: u32) -> u64
+/// How many bytes the stored form of a text with a size has: that of a `pstring` one more for its length, that of a
+/// `wstring` two; of a `cstring` the size counts the zero byte, and it has one at least. (MPW Rez.)
+pub fn sized_bytes(form: TextForm, size: u32) -> u64
     ensures bytes { result ≡ sized_bytes form size }
     ensures small { result < 2 ^ 33 }
 {

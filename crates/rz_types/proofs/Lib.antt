@@ -8,4 +8,10 @@ pub mod Walks
 pub mod Broken
 pub mod Differing
 pub mod Keeping
+pub mod SameNames
+pub mod Unknown
+pub mod SameKnown
+pub mod Noted
+pub mod LeastWidths
 mod Examples
+pub mod Apart

@@ -19,3 +19,4 @@ pub mod Table
 pub mod TypeTable
 pub mod Scopes
 pub mod Readable
+pub mod Notes

@@ -5,7 +5,7 @@ ghost use Rattle.rz_core.specs.declared.resource.OsType.{OsType};
 ghost use Rattle.rz_expr.specs.Term.{Term};
 ghost use Rattle.rz_expr.specs.Value.{value_of};
 ghost use Rattle.rz_fields.specs.Field.{PlainBody};
-ghost use Rattle.rz_types.specs.Kept.{IsKept};
+ghost use Rattle.rz_types.specs.Kept.{AreKeysApart, IsKept};
 ghost use Rattle.rz_types.specs.Rules.{broken, keeps_rules, BreaksNone, IsFirstBroken};
 ghost use Rattle.rz_types.specs.declared.rules.TypeFault.{TypeFault};
 ghost use Rattle.rz_types.specs.Scopes.{concerns, holds, is_narrower_for, PlacesDiffer};
@@ -29,6 +29,12 @@ pub fn first_broken_rule()
 /// is one of its own body or of those around.
 pub fn rules_hold_within()
     ensures { (body : PlainBody) → keeps_rules body ≡ true → IsKept body }
+{}
+
+/// A law, with nothing to run: where the rules are kept, each case of a switch has one key, behind fields of fixed width,
+/// and the keys of its cases stand at one place with one width, and have different bits; so in each switch within.
+pub fn keys_stand_apart()
+    ensures { (body : PlainBody) → keeps_rules body ≡ true → AreKeysApart body }
 {}
 
 /// A law, with nothing to run: the declaration that was made last is found for each id that its scope holds,

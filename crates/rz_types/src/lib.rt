@@ -8,15 +8,19 @@
 
 mod copies;
 mod laws;
+mod least;
+mod passed;
+mod readable;
 mod rules;
 mod table;
 mod template;
 mod walk;
 
 pub use laws::{
-    field_expressions_have_values, first_broken_rule, last_declared_is_found, order_stays,
-    others_are_found_as_before, places_stay_different, rules_hold_within,
+    field_expressions_have_values, first_broken_rule, keys_stand_apart, last_declared_is_found,
+    order_stays, others_are_found_as_before, places_stay_different, rules_hold_within,
 };
+pub use readable::is_readable;
 pub use rules::{TypeFault, check};
 pub use rz_fields::{
     ArrayField, Body, Case, Cases, Exprs, Field, FieldEnv, NumField, NumForm, Numbers, PointField,

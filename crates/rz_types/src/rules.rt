@@ -10,11 +10,12 @@ ghost use Rattle.rz_types.specs.Template.{plain_templates};
 ghost use Rattle.rz_types.specs.Walk.{is_among};
 ghost use Rattle.std.specs.List.{list_any};
 
-use crate::Template;
+use crate::readable::is_body_readable;
 use crate::walk::check_fields;
+use crate::{Body, Case, Exprs, Field, NumForm, Template, TextField, may_be_size, takes_value};
 use rz_core::{Kept, NoMemory, Stop, Word};
 use rz_expr::{Expr, constant_of};
-use rz_fields::{Body, Case, CaseKey, Exprs, Field, NumForm, TextField, may_be_size, takes_value};
+use rz_fields::CaseKey;
 use std::alloc::Global;
 
 /// The most units of a `fill`.
@@ -55,7 +56,10 @@ pub fn check(alloc: Global, body: Body) -> Result<Template, Stop<TypeFault>>
     ensures { Gives (checked (plain_body body)) (plain_templates result) }
 {
     match check_fields(alloc, body.as_slice()) {
-        Ok(()) => Ok(Template::of(body)),
+        Ok(()) => {
+            let readable = is_body_readable(alloc, body.as_slice())?;
+            Ok(Template::of(body, readable))
+        }
         Err(stop) => Err(stop),
     }
 }

@@ -1,32 +1,43 @@
 ghost use Rattle.std.specs.Prelude.{◌≡◌, true};
 ghost use Rattle.rz_fields.specs.Field.{plain_body};
 ghost use Rattle.rz_fields.specs.Shape.{is_well_shaped};
+ghost use Rattle.rz_types.specs.Readable.{is_readable};
 ghost use Rattle.rz_types.specs.Rules.{keeps_rules};
 
+use crate::Body;
 use crate::copies::copy_body;
 use rz_core::NoMemory;
-use rz_fields::Body;
 use std::alloc::Global;
 
 /// A body that has the shape of a declaration and keeps the rules, as [`check`](crate::check) gives it.
 #[derive(Debug, Drop)]
 pub struct Template {
     body: Body,
+    readable: bool,
     ghost shaped: { is_well_shaped (plain_body body) ≡ true },
     ghost kept: { keeps_rules (plain_body body) ≡ true },
+    ghost read: { readable ≡ is_readable (plain_body body) },
 }
 
 impl Template {
     ghost use Rattle.std.specs.Prelude.{IfOk};
     ghost use Rattle.rz_types.specs.Template.{template_of};
 
-    /// The template of a body that has the shape and keeps the rules.
-    pub(crate) fn of(body: Body) -> Template
+    /// The template of a body that has the shape and keeps the rules, with whether it can be read.
+    pub(crate) fn of(body: Body, readable: bool) -> Template
         requires shaped { is_well_shaped (plain_body body) ≡ true }
         requires kept { keeps_rules (plain_body body) ≡ true }
+        requires read { readable ≡ is_readable (plain_body body) }
         ensures { template_of result ≡ plain_body body }
     {
-        Template { body }
+        Template { body, readable }
+    }
+
+    /// Whether it can be read.
+    pub(crate) fn is_readable(&self) -> bool
+        ensures { result ≡ is_readable (template_of self.now) }
+    {
+        self.readable
     }
 
     /// Its fields.
@@ -44,6 +55,7 @@ impl Template {
     {
         Ok(Template {
             body: copy_body(alloc, &self.body)?,
+            readable: self.readable,
         })
     }
 }

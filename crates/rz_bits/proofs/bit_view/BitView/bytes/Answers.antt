@@ -1,0 +1,17 @@
+use Rattle.std.proofs.Common.{◌≡◌, ◌+◌, ◌*◌, ◌/◌, ◌≤◌, length, drop, ap, ◌∙◌, arith}
+use Rattle.rz_bits.specs.Bits.{bits_of, front_bytes}
+use Rattle.rz_bits.proofs.Windows.{bits_length, bytes_found}
+use Rattle.rz_bits.proofs.bit_view.BitView.bytes.Goals as goal
+
+pub returns-then-place-eq0-clause-bytes : goal.returns-then-place-eq0-clause-bytes
+returns-then-place-eq0-clause-bytes c =
+    let all = bits_of c.args.self.now.bytes.now in
+    let there : c.args.place + 8 * c.args.count ≤ length all = omega (arith, bits_length c.args.self.now.bytes.now) in
+    let whole : 8 * (c.args.place / 8) ≡ c.args.place = let zero = c.if-place-eq0.true in omega (arith, zero) in
+    bytes_found all c.args.place c.args.count c.in_ok-whole_bytes.field-0 there (c.in_ok-whole_bytes.ensures ∙ ap (λ n. front_bytes c.args.count (drop n all)) whole)
+
+pub returns-clause-bytes : goal.returns-clause-bytes
+returns-clause-bytes c =
+    let all = bits_of c.args.self.now.bytes.now in
+    let there : c.args.place + 8 * c.args.count ≤ length all = omega (arith, bits_length c.args.self.now.bytes.now) in
+    bytes_found all c.args.place c.args.count c.in_ok-shifted_bytes.field-0 there c.in_ok-shifted_bytes.ensures

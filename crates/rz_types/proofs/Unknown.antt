@@ -1,0 +1,253 @@
+-- The first name in an expression that isn't known is the one that a number can tell.
+use Rattle.std.proofs.Common.{◌≡◌, ◌⊎◌, inl, inr, Bool, true, false, ◌&&◌, ◌||◌, Option, Some, None, refl, sym, ap, subst, ◌∙◌}
+use Rattle.std.specs.Prelude.{not, if◌then◌else◌, option_map}
+use Rattle.std.specs.Option.{is_none, is_some}
+use Rattle.std.proofs.lemmas.Bool.{and_parts}
+use Rattle.rz_core.specs.Lists.{or_else}
+use Rattle.rz_expr.specs.Environment.{count_key, place_key, Key}
+use Rattle.rz_expr.specs.Term.{BitsAt, Constant, FactOf, Named, OfOne, OfTwo, RowsOf, Term}
+use Rattle.rz_fields.specs.Field.{PlainBody}
+use Rattle.rz_fields.specs.Solve.{can_solve, has_key, is_same_key}
+use Rattle.rz_fields.specs.Spells.{declares, is_known, Names, Passed}
+use Rattle.rz_types.specs.Notes.{first_unknown, if_unknown}
+use Rattle.rz_types.specs.Readable.{all_known, is_number_read, tells, tells_one}
+use Rattle.rz_types.proofs.SameNames.{key_is, key_itself}
+
+-- Tests.
+
+or_parts : (a b : Bool) → (a || b) ≡ true → (a ≡ true) ⊎ (b ≡ true)
+or_parts true b is = inl refl
+or_parts false b is = inr is
+
+or_left : (a b : Bool) → a ≡ true → (a || b) ≡ true
+or_left true b is = refl
+or_left false b is = absurd cc
+
+or_right : (a b : Bool) → b ≡ true → (a || b) ≡ true
+or_right true b is = refl
+or_right false b is = is
+
+-- what isn't known is the name itself
+no_other : (same known : Bool) → known ≡ false → (same || known) ≡ true → same ≡ true
+no_other true known none is = refl
+no_other false known none is = absurd cc
+
+both_ways : (a b : Bool) → (a ≡ true → b ≡ true) → (b ≡ true → a ≡ true) → a ≡ b
+both_ways true b to from = sym (to refl)
+both_ways false true to from = from refl
+both_ways false false to from = refl
+
+-- The first unknown name.
+
+if_none : (known : Names) (key : Key) → is_none (if_unknown known key) ≡ known key
+if_none known key = elim (known key) as (λ is. is_none (if is then None else Some key) ≡ is) [ true ↦ refl | false ↦ refl ]
+
+or_none : (one other : Option Key) (a b : Bool) → is_none one ≡ a → is_none other ≡ b → is_none (or_else one other) ≡ (a && b)
+or_none None other true b is so = so
+or_none None other false b is so = absurd cc
+or_none (Some key) other true b is so = absurd cc
+or_none (Some key) other false b is so = refl
+
+and_assoc : (a b c : Bool) → (a && (b && c)) ≡ (a && b && c)
+and_assoc true b c = refl
+and_assoc false b c = refl
+
+none_unknown : (known : Names) (term : Term) → is_none (first_unknown known term) ≡ all_known known term
+none_unknown known (Constant number) = refl
+none_unknown known (Named name) = if_none known (place_key name)
+none_unknown known (RowsOf name) = if_none known (count_key name)
+none_unknown known (BitsAt name start width) =
+    or_none (if_unknown known (place_key name)) (or_else (first_unknown known start) (first_unknown known width)) (known (place_key name)) (all_known known start && all_known known width)
+    (if_none known (place_key name))
+    (or_none (first_unknown known start) (first_unknown known width) (all_known known start) (all_known known width) (none_unknown known start) (none_unknown known width))
+    ∙ and_assoc (known (place_key name)) (all_known known start) (all_known known width)
+none_unknown known (FactOf which) = refl
+none_unknown known (OfOne op operand) = none_unknown known operand
+none_unknown known (OfTwo op left right) =
+    or_none (first_unknown known left) (first_unknown known right) (all_known known left) (all_known known right) (none_unknown known left) (none_unknown known right)
+
+none_of : {A : Type 0} (f : A → Key) (o : Option A) → is_none o ≡ is_none (option_map f o)
+none_of f None = refl
+none_of f (Some x) = refl
+
+flip : (none some : Bool) → some ≡ not none → none ≡ not some
+flip true some is = ap not (sym is)
+flip false some is = ap not (sym is)
+
+-- of the names as the code has them
+pub all_are : {A : Type 0} (f : A → Key) (o : Option A) (none : Bool) (known : Names) (term : Term) → is_some o ≡ not none → option_map f o ≡ first_unknown known term
+    → none ≡ all_known known term
+all_are f o none known term flipped is = flip none (is_some o) flipped ∙ none_of f o ∙ ap is_none is ∙ none_unknown known term
+
+-- it stands there, and isn't known
+abbrev Missing : Names → Term → Key → Type 0
+Missing known term key = (has_key key term ≡ true) × (known key ≡ false)
+
+if_missing : (known : Names) (key other : Key) → if_unknown known key ≡ Some other → (is_same_key other key ≡ true) × (known other ≡ false)
+if_missing known key other is =
+    let P : Bool → Type 0 = λ b. known key ≡ b → (if b then None else Some key) ≡ Some other → (is_same_key other key ≡ true) × (known other ≡ false) in
+    elim (known key) as P [
+      | true ↦ λ here none. absurd cc
+      | false ↦ λ here some.
+          let same : key ≡ other = cc in
+          (subst (λ (k : Key). is_same_key k key ≡ true) same (key_itself key), subst (λ (k : Key). known k ≡ false) same here)
+    ] refl is
+
+or_some : (one other : Option Key) (key : Key) → or_else one other ≡ Some key → (one ≡ Some key) ⊎ (other ≡ Some key)
+or_some None other key is = inr is
+or_some (Some x) other key is = inl is
+
+either_missing : (known : Names) (key : Key) (a b : Bool) → ((a ≡ true) × (known key ≡ false)) ⊎ ((b ≡ true) × (known key ≡ false)) → ((a || b) ≡ true) × (known key ≡ false)
+either_missing known key a b (inl one) = (or_left a b one.0, one.1)
+either_missing known key a b (inr one) = (or_right a b one.0, one.1)
+
+pub is_missing : (known : Names) (term : Term) (key : Key) → first_unknown known term ≡ Some key → Missing known term key
+is_missing known (Constant number) key is = absurd cc
+is_missing known (Named name) key is = if_missing known (place_key name) key is
+is_missing known (RowsOf name) key is = if_missing known (count_key name) key is
+is_missing known (BitsAt name start width) key is =
+    elim (or_some (if_unknown known (place_key name)) (or_else (first_unknown known start) (first_unknown known width)) key is) [
+      | inl one ↦
+          let here = if_missing known (place_key name) key one in
+          (or_left (is_same_key key (place_key name) || has_key key start) (has_key key width) (or_left (is_same_key key (place_key name)) (has_key key start) here.0), here.1)
+      | inr other ↦ elim (or_some (first_unknown known start) (first_unknown known width) key other) [
+        | inl one ↦
+            let here = is_missing known start key one in
+            (or_left (is_same_key key (place_key name) || has_key key start) (has_key key width) (or_right (is_same_key key (place_key name)) (has_key key start) here.0), here.1)
+        | inr one ↦
+            let here = is_missing known width key one in
+            (or_right (is_same_key key (place_key name) || has_key key start) (has_key key width) here.0, here.1)
+      ]
+    ]
+is_missing known (FactOf which) key is = absurd cc
+is_missing known (OfOne op operand) key is = is_missing known operand key is
+is_missing known (OfTwo op left right) key is =
+    elim (or_some (first_unknown known left) (first_unknown known right) key is) [
+      | inl one ↦ let here = is_missing known left key one in (or_left (has_key key left) (has_key key right) here.0, here.1)
+      | inr one ↦ let here = is_missing known right key one in (or_right (has_key key left) (has_key key right) here.0, here.1)
+    ]
+
+-- Where all names are known, each of them is.
+
+known_same : (known : Names) (key other : Key) → known other ≡ true → is_same_key key other ≡ true → known key ≡ true
+known_same known key other is same = ap known (key_is key other same) ∙ is
+
+pub has_known : (known : Names) (term : Term) (key : Key) → all_known known term ≡ true → has_key key term ≡ true → known key ≡ true
+has_known known (Constant number) key all has = absurd cc
+has_known known (Named name) key all has = known_same known key (place_key name) all has
+has_known known (RowsOf name) key all has = known_same known key (count_key name) all has
+has_known known (BitsAt name start width) key all has =
+    let ends = and_parts (known (place_key name) && all_known known start) (all_known known width) all in
+    let fronts = and_parts (known (place_key name)) (all_known known start) ends.0 in
+    elim (or_parts (is_same_key key (place_key name) || has_key key start) (has_key key width) has) [
+      | inl front ↦ elim (or_parts (is_same_key key (place_key name)) (has_key key start) front) [
+        | inl same ↦ known_same known key (place_key name) fronts.0 same
+        | inr there ↦ has_known known start key fronts.1 there
+      ]
+      | inr there ↦ has_known known width key ends.1 there
+    ]
+has_known known (FactOf which) key all has = absurd cc
+has_known known (OfOne op operand) key all has = has_known known operand key all has
+has_known known (OfTwo op left right) key all has =
+    let sides = and_parts (all_known known left) (all_known known right) all in
+    elim (or_parts (has_key key left) (has_key key right) has) [
+      | inl there ↦ has_known known left key sides.0 there
+      | inr there ↦ has_known known right key sides.1 there
+    ]
+
+-- The name that isn't known is the one that is told.
+
+abbrev with_key : Names → Key → Names
+with_key known key other = is_same_key key other || known other
+
+module _ (rest : PlainBody) (known : Names) (whole : Term) (missing : Key) (is : Missing known whole missing) where
+  only : (key : Key) → tells rest known whole key ≡ true → key ≡ missing
+  only key told =
+      let all = (and_parts (declares rest key && can_solve key whole) (all_known (with_key known key) whole) told).1 in
+      key_is key missing (no_other (is_same_key key missing) (known missing) is.1 (has_known (with_key known key) whole missing all is.0))
+
+  told_missing : (key : Key) → tells rest known whole key ≡ true → tells rest known whole missing ≡ true
+  told_missing key told = subst (λ (k : Key). tells rest known whole k ≡ true) (only key told) told
+
+  missing_told : (key : Key) → is_same_key missing key ≡ true → tells rest known whole missing ≡ true → tells rest known whole key ≡ true
+  missing_told key same told = subst (λ (k : Key). tells rest known whole k ≡ true) (key_is missing key same) told
+
+  one_tells : (term : Term) → tells_one rest known whole term ≡ true → tells rest known whole missing ≡ true
+  one_tells (Constant number) told = absurd cc
+  one_tells (Named name) told = told_missing (place_key name) told
+  one_tells (RowsOf name) told = told_missing (count_key name) told
+  one_tells (BitsAt name start width) told =
+      elim (or_parts (tells rest known whole (place_key name) || tells_one rest known whole start) (tells_one rest known whole width) told) [
+        | inl front ↦ elim (or_parts (tells rest known whole (place_key name)) (tells_one rest known whole start) front) [
+          | inl one ↦ told_missing (place_key name) one
+          | inr one ↦ one_tells start one
+        ]
+        | inr one ↦ one_tells width one
+      ]
+  one_tells (FactOf which) told = absurd cc
+  one_tells (OfOne op operand) told = one_tells operand told
+  one_tells (OfTwo op left right) told =
+      elim (or_parts (tells_one rest known whole left) (tells_one rest known whole right) told) [ inl one ↦ one_tells left one | inr one ↦ one_tells right one ]
+
+  tells_it : (term : Term) → has_key missing term ≡ true → tells rest known whole missing ≡ true → tells_one rest known whole term ≡ true
+  tells_it (Constant number) has told = absurd cc
+  tells_it (Named name) has told = missing_told (place_key name) has told
+  tells_it (RowsOf name) has told = missing_told (count_key name) has told
+  tells_it (BitsAt name start width) has told =
+      let front = tells rest known whole (place_key name) || tells_one rest known whole start in
+      elim (or_parts (is_same_key missing (place_key name) || has_key missing start) (has_key missing width) has) [
+        | inl before ↦ or_left front (tells_one rest known whole width)
+            (elim (or_parts (is_same_key missing (place_key name)) (has_key missing start) before) [
+              | inl same ↦ or_left (tells rest known whole (place_key name)) (tells_one rest known whole start) (missing_told (place_key name) same told)
+              | inr there ↦ or_right (tells rest known whole (place_key name)) (tells_one rest known whole start) (tells_it start there told)
+            ])
+        | inr there ↦ or_right front (tells_one rest known whole width) (tells_it width there told)
+      ]
+  tells_it (FactOf which) has told = absurd cc
+  tells_it (OfOne op operand) has told = tells_it operand has told
+  tells_it (OfTwo op left right) has told =
+      elim (or_parts (has_key missing left) (has_key missing right) has) [
+        | inl there ↦ or_left (tells_one rest known whole left) (tells_one rest known whole right) (tells_it left there told)
+        | inr there ↦ or_right (tells_one rest known whole left) (tells_one rest known whole right) (tells_it right there told)
+      ]
+
+  told_is : tells_one rest known whole whole ≡ tells rest known whole missing
+  told_is = both_ways (tells_one rest known whole whole) (tells rest known whole missing) (one_tells whole) (tells_it whole is.0)
+
+-- a number is read where the first name that isn't known is told
+pub number_tells : (rest : PlainBody) (passed : Passed) (term : Term) (missing : Key) → first_unknown (is_known passed) term ≡ Some missing
+    → tells rest (is_known passed) term missing ≡ is_number_read rest passed (Some term)
+number_tells rest passed term missing is =
+    let known = is_known passed in
+    sym (told_is rest known term missing (is_missing known term missing is))
+    ∙ ap (λ (all : Bool). all || tells_one rest known term term) (ap is_none (sym is) ∙ none_unknown known term)
+
+-- or where there is none
+pub number_known : (rest : PlainBody) (passed : Passed) (term : Term) → first_unknown (is_known passed) term ≡ None → true ≡ is_number_read rest passed (Some term)
+number_known rest passed term is =
+    ap (λ (all : Bool). all || tells_one rest (is_known passed) term term) (ap is_none (sym is) ∙ none_unknown (is_known passed) term)
+
+-- What is known behind it.
+
+or_gone : (a b : Bool) → (a ≡ true → b ≡ true) → b ≡ (a || b)
+or_gone true b to = to refl
+or_gone false b to = refl
+
+-- nothing more where all names were known
+pub known_still : (known : Names) (term : Term) → first_unknown known term ≡ None → known ≡ (λ key. has_key key term || known key)
+known_still known term is = λ i key.
+    or_gone (has_key key term) (known key) (has_known known term key (sym (none_unknown known term) ∙ ap is_none is)) i
+
+or_same : (a b known : Bool) → (a ≡ true → (b || known) ≡ true) → (b ≡ true → a ≡ true) → (b || known) ≡ (a || known)
+or_same true b known to from = to refl
+or_same false true known to from = let never = from refl in absurd cc
+or_same false false known to from = refl
+
+-- and else the name that was told
+pub known_then : (rest : PlainBody) (known : Names) (term : Term) (missing : Key) → first_unknown known term ≡ Some missing → tells rest known term missing ≡ true
+    → with_key known missing ≡ (λ key. has_key key term || known key)
+known_then rest known term missing is told =
+    let all = (and_parts (declares rest missing && can_solve missing term) (all_known (with_key known missing) term) told).1 in
+    let there = (is_missing known term missing is).0 in
+    λ i key. or_same (has_key key term) (is_same_key missing key) (known key) (has_known (with_key known missing) term key all)
+    (λ same. ap (λ (k : Key). has_key k term) (sym (key_is missing key same)) ∙ there) i

@@ -1,0 +1,8 @@
+use Rattle.rz_expr.specs.Term.{term_of}
+use Rattle.rz_types.specs.Notes.{key_of, known}
+use Rattle.rz_types.proofs.Unknown.{all_are}
+use Rattle.rz_types.proofs.passed.all_known.Goals as goal
+
+pub returns : goal.returns
+returns c =
+    all_are key_of c.first_unknown.result c.is_none.result (known c.args.notes.now) (term_of c.args.expr.now) c.is_none.ensures c.first_unknown.ensures

@@ -1,0 +1,25 @@
+use Rattle.std.proofs.Common.{◌≡◌, ◌+◌, ℕ, List, true, refl, drop, ap, ◌∙◌, rules, arith}
+use Rattle.rz_fields.specs.Field.{plain_body, plain_field}
+use Rattle.rz_fields.specs.declared.field.Field.{Field}
+use Rattle.rz_types.specs.Notes.{passed}
+use Rattle.rz_types.specs.Readable.{is_read}
+use Rattle.rz_types.proofs.Noted.{field_read, grew_more, row_read}
+use Rattle.rz_types.proofs.readable.+read.Goals as goal
+
+pub is_row_read-returns-clause-read : goal.is_row_read-returns-clause-read
+is_row_read-returns-clause-read t c =
+    row_read c.args.outermost c.args.row.now c.args.notes.now.items _ _ c.in_ok-push.ensures.items (λ before key. refl) c.in_ok-read.read c.in_ok-read.ensures.read
+
+pub are_read-loop-field-preserved : goal.are_read-loop-field-preserved
+are_read-loop-field-preserved t c =
+    let so : c.in_ok-is_read.field-0 ≡ true = search rules in
+    let rest = c.behind_of.ensures ∙ ap (λ (n : ℕ). drop (n + 1) c.args.fields.now) c.loop-field.invariant.behind in
+    record {
+      read = field_read c.args.outermost c.args.fields.now c.loop-field.field-index c.field-item.result c.loop-field-test.true c.field-item.is c.loop-field.notes.items
+          c.is_read.new.notes.items c.in_ok-is_read.field-0
+          (c.in_ok-is_read.ensures.read ∙ ap (λ (rest : List Field). is_read c.args.outermost (plain_body rest) (passed c.loop-field.notes.items) (plain_field c.field-item.result)) rest)
+          so (c.in_ok-is_read.ensures.known so)
+          ∙ c.loop-field.invariant.read;
+      grew = grew_more c.args.notes.now.items c.loop-field.notes.items c.is_read.new.notes.items c.loop-field.invariant.grew c.in_ok-is_read.ensures.grew;
+      behind = omega (arith, c.loop-field.invariant.behind);
+    }

@@ -1,0 +1,13 @@
+use Rattle.std.proofs.Common.{List, [], ◌∷◌, ◌++◌, ap, ◌∙◌}
+use Rattle.rz_types.specs.declared.field.Case.{Case}
+use Rattle.rz_types_cases.proofs.OwnNames.{switch_shaped}
+use Rattle.rz_types_cases.proofs.reads.switch.Goals as goal
+
+pub returns : goal.returns
+returns c =
+    let one = c.in_ok-case.field-0 in
+    let other = c.in_ok-case-2.field-0 in
+    switch_shaped c.push-2.new.self one other
+    (c.in_ok-push-2.ensures.ok
+    ∙ ap (λ (cases : List Case). cases ++ other ∷ []) (c.in_ok-push.ensures.ok ∙ ap (λ (cases : List Case). cases ++ one ∷ []) c.new-cases.ensures))
+    c.in_ok-case.ensures c.in_ok-case-2.ensures
