@@ -1,0 +1,285 @@
+-- A number that is spelled plainly is read.
+use Rattle.std.proofs.Common.{◌≡◌, ◌⊎◌, inl, inr, ℕ, zero, suc, ◌+◌, ◌<◌, ◌≤◌, ◌^◌, ◌%◌, ◌==◌, ℤ, pos, Bool, true, false, ◌&&◌, ◌||◌, List, length, take, drop, Option, Some, None, Result, Ok, Err, refl, sym, ap, ◌∙◌, subst, arith}
+use Rattle.std.specs.Prelude.{if◌then◌else◌, nat_abs, nat_le, option_and_then, option_map}
+use Rattle.std.specs.Int.{cast_unsigned, w64}
+use Rattle.std.proofs.lemmas.Bool.Decides.{nat_tests}
+use Rattle.std.proofs.lemmas.Nat.{pow_pos}
+use Rattle.std.proofs.Math.Nat.{mod-lt}
+use Rattle.rz_core.specs.Stop.{◌>>=◌}
+use Rattle.rz_core.specs.declared.facts.Facts.{Facts}
+use Rattle.rz_expr.specs.Environment.{count_key, place_key, Environment, IsPartOf, Key}
+use Rattle.rz_expr.specs.Term.{BitsAt, Constant, FactOf, Named, OfOne, OfTwo, RowsOf, Term}
+use Rattle.rz_expr.specs.Value.{known_value, value_of}
+use Rattle.rz_expr.specs.declared.value.EvalFault.{EvalFault}
+use Rattle.rz_bits.specs.Bits.{number_bits, number_of}
+use Rattle.rz_unlay.specs.Cursor.{is_stored, number_at, number_step, solve_all, Step}
+use Rattle.rz_fields.specs.declared.field.NumForm.{NumForm}
+use Rattle.rz_fields.specs.declared.tree.Tree.{Tree}
+use Rattle.rz_fields.specs.declared.tree.Tree.TheVariants as trees
+use Rattle.rz_types.specs.Field.{PlainBody}
+use Rattle.rz_types.specs.Readable.{all_known, is_number_read, tells, tells_one}
+use Rattle.rz_types.specs.Solve.{can_solve, has_key, is_same_key, solved_count, undoes_one, undoes_right, AreSolved, IsSolvedTo, SolvesBack}
+use Rattle.rz_types.specs.Spells.{declares, is_known, told_by, IsNumber, Names, Passed}
+use Rattle.rz_types.specs.Stored.{stored_number}
+use Rattle.rz_types.specs.Value.{names_sight}
+use Rattle.rz_unlay.proofs.Sees.{both_true, by_test, solve_same, value_same, Covers}
+use Rattle.rz_unlay.proofs.Told.{all_told, key_is, own_key, AreTold, IsTold}
+
+or_true : (a b : Bool) → (a || b) ≡ true → (a ≡ true) ⊎ (b ≡ true)
+or_true true b is = inl refl
+or_true false b is = inr is
+
+either_of : {P : Type 0} (a b : Bool) → (a ≡ true → P) → (b ≡ true → P) → (a || b) ≡ true → P
+either_of true b one other is = one refl
+either_of false b one other is = other is
+
+left_true : (a b : Bool) → a ≡ true → (a || b) ≡ true
+left_true true b is = refl
+left_true false b is = absurd cc
+
+right_true : (a b : Bool) → b ≡ true → (a || b) ≡ true
+right_true true b is = refl
+right_true false b is = is
+
+-- Names of an expression.
+
+-- a name that can be solved stands in it
+solved_there : (key : Key) (term : Term) → can_solve key term ≡ true → has_key key term ≡ true
+solved_there key (Constant number) can = absurd cc
+solved_there key (Named name) can = can
+solved_there key (RowsOf name) can = can
+solved_there key (BitsAt name start width) can = absurd cc
+solved_there key (FactOf which) can = absurd cc
+solved_there key (OfOne op operand) can = solved_there key operand (both_true (undoes_one op) (can_solve key operand) can).1
+solved_there key (OfTwo op left right) can =
+    by_test (has_key key left) _ _ (λ there is. left_true (has_key key left) (has_key key right) there)
+    (λ absent is. right_true (has_key key left) (has_key key right) (solved_there key right (both_true (undoes_right op) (can_solve key right) is).1)) can
+
+solved_to : (test : Bool) (solved value : Option ℤ) → test ≡ false → IsSolvedTo test solved value → solved ≡ value
+solved_to true solved value is to = absurd cc
+solved_to false solved value is to = to
+
+-- a name in it that isn't known is solved to its value
+solved_at : (known : Names) (solved : Key → Option ℤ) (names : Environment) (key : Key) → known key ≡ false → (term : Term) → AreSolved known solved names term → has_key key term ≡ true
+    → solved key ≡ names.give key
+solved_at known solved names key unknown (Constant number) are has = absurd cc
+solved_at known solved names key unknown (Named name) are has =
+    subst (λ (k : Key). known k ≡ false → solved k ≡ names.give k) (sym (key_is key (place_key name) has)) (λ so. solved_to (known (place_key name)) _ _ so are) unknown
+solved_at known solved names key unknown (RowsOf name) are has =
+    subst (λ (k : Key). known k ≡ false → solved k ≡ names.give k) (sym (key_is key (count_key name) has)) (λ so. solved_to (known (count_key name)) _ _ so are) unknown
+solved_at known solved names key unknown (BitsAt name start width) are has =
+    either_of (is_same_key key (place_key name) || has_key key start) (has_key key width)
+    (either_of (is_same_key key (place_key name)) (has_key key start)
+    (λ same. subst (λ (k : Key). known k ≡ false → solved k ≡ names.give k) (sym (key_is key (place_key name) same)) (λ so. solved_to (known (place_key name)) _ _ so are.0) unknown)
+    (λ there. solved_at known solved names key unknown start are.1 there))
+    (λ there. solved_at known solved names key unknown width are.2 there)
+    has
+solved_at known solved names key unknown (FactOf which) are has = absurd cc
+solved_at known solved names key unknown (OfOne op operand) are has = solved_at known solved names key unknown operand are has
+solved_at known solved names key unknown (OfTwo op left right) are has =
+    either_of (has_key key left) (has_key key right) (λ there. solved_at known solved names key unknown left are.0 there)
+    (λ there. solved_at known solved names key unknown right are.1 there) has
+
+-- names that stand in it are all its names
+all_of_its : (known : Names) (term : Term) → ((key : Key) → has_key key term ≡ true → known key ≡ true) → all_known known term ≡ true
+all_of_its known (Constant number) each = refl
+all_of_its known (Named name) each = each (place_key name) (own_key (place_key name))
+all_of_its known (RowsOf name) each = each (count_key name) (own_key (count_key name))
+all_of_its known (BitsAt name start width) each = rw (
+  each (place_key name) (left_true _ (has_key (place_key name) width) (left_true _ (has_key (place_key name) start) (own_key (place_key name)))),
+  all_of_its known start (λ key has. each key (left_true _ (has_key key width) (right_true (is_same_key key (place_key name)) (has_key key start) has))),
+  all_of_its known width (λ key has. each key (right_true _ (has_key key width) has)),
+) refl
+all_of_its known (FactOf which) each = refl
+all_of_its known (OfOne op operand) each = all_of_its known operand each
+all_of_its known (OfTwo op left right) each = rw (
+  all_of_its known left (λ key has. each key (left_true (has_key key left) (has_key key right) has)),
+  all_of_its known right (λ key has. each key (right_true (has_key key left) (has_key key right) has)),
+) refl
+
+-- in an expression with a value each name has one
+parts_have : {X Y : Type 0} (first : Result X EvalFault) (next : X → Result Y EvalFault) (value : Y) → (first >>= next) ≡ Ok value → (x : X) × (first ≡ Ok x) × (next x ≡ Ok value)
+parts_have (Ok x) next value is = (x, refl, is)
+parts_have (Err fault) next value is = absurd cc
+
+name_has : (name : List ℕ) (found : Option ℤ) (value : ℤ) → known_value name found ≡ Ok value → (v : ℤ) × (found ≡ Some v)
+name_has name None value is = absurd cc
+name_has name (Some v) value is = (v, refl)
+
+has_value : (facts : Facts) (names : Environment) (key : Key) (term : Term) (value : ℤ) → value_of term (names_sight facts names) ≡ Ok value → has_key key term ≡ true
+    → (v : ℤ) × (names.give key ≡ Some v)
+has_value facts names key (Constant number) value is has = absurd cc
+has_value facts names key (Named name) value is has =
+    let it = name_has name (names.give (place_key name)) value is in (it.0, ap names.give (key_is key (place_key name) has) ∙ it.1)
+has_value facts names key (RowsOf name) value is has =
+    let it = name_has name (names.give (count_key name)) value is in (it.0, ap names.give (key_is key (count_key name) has) ∙ it.1)
+has_value facts names key (BitsAt name start width) value is has =
+    let one = parts_have (known_value name (names.give (place_key name))) _ value is in
+    let two = parts_have (value_of start (names_sight facts names)) _ value one.2 in
+    let three = parts_have (value_of width (names_sight facts names)) _ value two.2 in
+    either_of (is_same_key key (place_key name) || has_key key start) (has_key key width)
+    (either_of (is_same_key key (place_key name)) (has_key key start)
+    (λ same. let it = name_has name (names.give (place_key name)) one.0 one.1 in (it.0, ap names.give (key_is key (place_key name) same) ∙ it.1))
+    (λ there. has_value facts names key start two.0 two.1 there))
+    (λ there. has_value facts names key width three.0 three.1 there)
+    has
+has_value facts names key (FactOf which) value is has = absurd cc
+has_value facts names key (OfOne op operand) value is has =
+    let one = parts_have (value_of operand (names_sight facts names)) _ value is in has_value facts names key operand one.0 one.1 has
+has_value facts names key (OfTwo op left right) value is has =
+    let one = parts_have (value_of left (names_sight facts names)) _ value is in
+    let two = parts_have (value_of right (names_sight facts names)) _ value one.2 in
+    either_of (has_key key left) (has_key key right) (λ there. has_value facts names key left one.0 one.1 there)
+    (λ there. has_value facts names key right two.0 two.1 there) has
+
+-- What a number tells.
+
+-- each name of an expression, whose names are known but for one that it tells
+module _ (known : Names) (env : Environment) (solved : Key → Environment → Option ℤ) where
+  told_if : (key : Key) → IsTold known env solved key → (name : Key) → (is_same_key key name || known name) ≡ true → IsTold known env solved name
+  told_if key told name is = either_of (is_same_key key name) (known name) (λ same. subst (IsTold known env solved) (key_is key name same) told) (λ is_known. inl is_known) is
+
+  each_told : (key : Key) → IsTold known env solved key → (term : Term) → all_known (λ other. is_same_key key other || known other) term ≡ true → AreTold known env solved term
+  each_told key told (Constant number) is = tt
+  each_told key told (Named name) is = told_if key told (place_key name) is
+  each_told key told (RowsOf name) is = told_if key told (count_key name) is
+  each_told key told (BitsAt name start width) is =
+      let one = both_true _ (all_known (λ other. is_same_key key other || known other) width) is in
+      let two = both_true (is_same_key key (place_key name) || known (place_key name)) (all_known (λ other. is_same_key key other || known other) start) one.0 in
+      (told_if key told (place_key name) two.0, each_told key told start two.1, each_told key told width one.1)
+  each_told key told (FactOf which) is = tt
+  each_told key told (OfOne op operand) is = each_told key told operand is
+  each_told key told (OfTwo op left right) is =
+      let each = both_true (all_known (λ other. is_same_key key other || known other) left) _ is in (each_told key told left each.0, each_told key told right each.1)
+
+  all_are_known : (term : Term) → all_known known term ≡ true → AreTold known env solved term
+  all_are_known (Constant number) is = tt
+  all_are_known (Named name) is = inl is
+  all_are_known (RowsOf name) is = inl is
+  all_are_known (BitsAt name start width) is =
+      let one = both_true _ (all_known known width) is in
+      let two = both_true (known (place_key name)) (all_known known start) one.0 in (inl two.0, all_are_known start two.1, all_are_known width one.1)
+  all_are_known (FactOf which) is = tt
+  all_are_known (OfOne op operand) is = all_are_known operand is
+  all_are_known (OfTwo op left right) is = let each = both_true (all_known known left) _ is in (all_are_known left each.0, all_are_known right each.1)
+
+-- the name that is told
+record Teller (rest : PlainBody) (known : Names) (whole : Term) : Type 0 where
+  key : Key
+  is : tells rest known whole key ≡ true
+
+teller : (rest : PlainBody) (known : Names) (whole term : Term) → tells_one rest known whole term ≡ true → Teller rest known whole
+teller rest known whole (Constant number) is = absurd cc
+teller rest known whole (Named name) is = record { key = place_key name; is = is }
+teller rest known whole (RowsOf name) is = record { key = count_key name; is = is }
+teller rest known whole (BitsAt name start width) is =
+    either_of (tells rest known whole (place_key name) || tells_one rest known whole start) (tells_one rest known whole width)
+    (either_of (tells rest known whole (place_key name)) (tells_one rest known whole start) (λ one. record { key = place_key name; is = one }) (teller rest known whole start))
+    (teller rest known whole width) is
+teller rest known whole (FactOf which) is = absurd cc
+teller rest known whole (OfOne op operand) is = teller rest known whole operand is
+teller rest known whole (OfTwo op left right) is =
+    either_of (tells_one rest known whole left) (tells_one rest known whole right) (teller rest known whole left) (teller rest known whole right) is
+
+module _ (facts : Facts) (rest : PlainBody) (known : Names) (env : Environment) (width : ℕ) (term : Term) (stored : ℕ) (value : ℤ)
+    (is_value : value_of term (names_sight facts env) ≡ Ok value) (back : SolvesBack known width (names_sight facts env) term stored) where
+  abbrev solved : Key → Environment → Option ℤ
+  solved key names = solved_count width key (names_sight facts names) term stored
+
+  key_told : (key : Key) → can_solve key term ≡ true → all_known (λ other. is_same_key key other || known other) term ≡ true → IsTold known env solved key
+  key_told key can others = by (known key) refl
+    where
+      by : (test : Bool) → known key ≡ test → IsTold known env solved key
+      by true is = inl is
+      by false is =
+          let there = solved_there key term can in
+          let has = has_value facts env key term value is_value there in
+          inr (
+            has.0,
+            has.1,
+            λ names covers part.
+                ap (λ (o : Option ℤ). option_map (λ count. pos (cast_unsigned w64 count % 2 ^ width)) o) (solve_same facts known names env covers part key term can others (pos stored))
+                ∙ solved_at known (λ key. solved key env) env key is term back there ∙ has.1,
+          )
+
+  pub names_told : (all_known known term || tells_one rest known term term) ≡ true → AreTold known env solved term
+  names_told is = either_of (all_known known term) (tells_one rest known term term) (all_are_known known env solved term)
+      (λ tells_it.
+      let it = teller rest known term term tells_it in
+      let one = both_true (declares rest it.key && can_solve it.key term) _ it.is in
+      let two = both_true (declares rest it.key) (can_solve it.key term) one.0 in
+      each_told known env solved it.key (key_told it.key two.1 one.1) term one.1)
+      is
+
+-- Reading it.
+
+length_is : (width number : ℕ) → length (number_bits width number) ≡ width
+unfolding number_bits
+length_is zero number = refl
+length_is (suc width) number = ap suc (length_is width number)
+
+number_there : (back : (width number : ℕ) → number < 2 ^ width → number_of (number_bits width number) ≡ number) → (all : List Bool) (at width number : ℕ) → number < 2 ^ width
+    → at + width ≤ length all → take width (drop at all) ≡ number_bits width number → number_at all at width ≡ Some number
+number_there back all at width number small within there =
+    let test : nat_le (at + width) (length all) ≡ true = grind (arith, nat_tests, within) in
+    ap (λ (b : Bool). option_map number_of (if b then Some (take width (drop at all)) else None)) test
+    ∙ ap (λ (bits : List Bool). Some (number_of bits)) there
+    ∙ ap (λ (n : ℕ). Some n) (back width number small)
+
+-- the reader is behind a number, with its value, and knows a part of the finished names
+pub record Goes (passed : Passed) (env : Environment) (value : Option Tree) (after : ℕ) (step : Option Step) : Type 0 where
+  pub names : Environment
+  pub is : step ≡ Some (record { value = value; after = after; names = names })
+  pub covers : Covers (is_known passed) names
+  pub part : IsPartOf names env
+
+told_covers : (term : Term) (passed : Passed) (names more : Environment) → Covers (is_known passed) names → IsPartOf names more
+    → ((key : Key) → has_key key term ≡ true → (value : ℤ) × (more.give key ≡ Some value)) → Covers (is_known (told_by (Some term) passed)) more
+told_covers term passed names more covers kept has key is =
+    either_of (passed.met key) (has_key key term || passed.told key)
+    (λ met. before (left_true (passed.met key) (passed.told key) met))
+    (either_of (has_key key term) (passed.told key) (has key) (λ told. before (right_true (passed.met key) (passed.told key) told)))
+    is
+  where
+    before : is_known passed key ≡ true → (value : ℤ) × (more.give key ≡ Some value)
+    before known = let it = covers key known in (it.0, kept.give key it.0 it.1)
+
+module _ (back : (width number : ℕ) → number < 2 ^ width → number_of (number_bits width number) ≡ number) (facts : Facts) (rest : PlainBody) (all : List Bool) (env : Environment) where
+  pub number_goes : (passed : Passed) (names : Environment) → Covers (is_known passed) names → IsPartOf names env → (form : NumForm) (width : ℤ) (fixed : Option Term) (value : Option Tree)
+      (bits : List Bool) (at : ℕ) → is_number_read rest passed fixed ≡ true → IsNumber true passed form width fixed (names_sight facts env) value bits
+      → take (length bits) (drop at all) ≡ bits → at + length bits ≤ length all
+      → Goes (told_by fixed passed) env value (at + length bits) (number_step facts all form width fixed names at)
+  number_goes passed names covers part form width None value bits at reads (n, is, small, are) there within =
+      let long : length bits ≡ nat_abs width = ap length are ∙ length_is (nat_abs width) n in
+      let found = number_there back all at (nat_abs width) n small (subst (λ (l : ℕ). at + l ≤ length all) long within) (sym (ap (λ (l : ℕ). take l (drop at all)) long) ∙ there ∙ are) in
+      record {
+        names = names;
+        is = ap (option_map (λ n. record { value = Some (trees.Number n); after = at + nat_abs width; names = names })) found
+            ∙ sym (λ i. Some (record { value = is i; after = at + long i; names = names }));
+        covers = covers;
+        part = part;
+      }
+  number_goes passed names covers part form width (Some term) value bits at reads (v, is, valued, fits, are, solves) there within =
+      let w = nat_abs width in
+      let n = stored_number w v in
+      let long : length bits ≡ w = ap length are ∙ length_is w n in
+      let small : n < 2 ^ w = mod-lt _ (pow_pos w) in
+      let found = number_there back all at w n small (subst (λ (l : ℕ). at + l ≤ length all) long within) (sym (ap (λ (l : ℕ). take l (drop at all)) long) ∙ there ∙ are) in
+      let told = names_told facts rest (is_known passed) env w term n v valued solves reads in
+      let goes = all_told (is_known passed) env (λ key seen. solved_count w key (names_sight facts seen) term n) term names covers part told in
+      let now : value_of term (names_sight facts goes.more) ≡ Ok v =
+      value_same facts (λ key. has_key key term) goes.more env goes.has goes.part term (all_of_its (λ key. has_key key term) term (λ key has. has)) ∙ valued in
+      let same : (n == n) ≡ true = grind (arith, nat_tests) in
+      let stored : is_stored form width (value_of term (names_sight facts goes.more)) n ≡ true =
+      ap (λ (r : Result ℤ EvalFault). is_stored form width r n) now ∙ ap (λ (b : Bool). b && (n == n)) fits ∙ same in
+      record {
+        names = goes.more;
+        is = ap (option_and_then (λ n. option_and_then (λ more.
+            if is_stored form width (value_of term (names_sight facts more)) n then Some (record { value = None; after = at + w; names = more }) else None)
+            (solve_all (λ key seen. solved_count w key (names_sight facts seen) term n) term names))) found
+            ∙ ap (option_and_then (λ more. if is_stored form width (value_of term (names_sight facts more)) n then Some (record { value = None; after = at + w; names = more }) else None)) goes.is
+            ∙ ap (λ (b : Bool). if b then Some (record { value = None; after = at + w; names = goes.more }) else None) stored
+            ∙ sym (λ i. Some (record { value = is i; after = at + long i; names = goes.more }));
+        covers = told_covers term passed names goes.more covers goes.kept goes.has;
+        part = goes.part;
+      }

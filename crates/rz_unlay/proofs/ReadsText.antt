@@ -1,0 +1,288 @@
+-- A text that is spelled plainly is read.
+use Rattle.std.proofs.Common.{◌≡◌, ℕ, zero, suc, ◌+◌, ◌-◌, ◌*◌, ◌/◌, ◌%◌, ◌^◌, ◌<◌, ◌≤◌, pos, Bool, true, false, ◌&&◌, List, [], ◌∷◌, ◌++◌, length, map, take, drop, Option, Some, None, Result, Ok, refl, sym, ap, ◌∙◌, subst, arith}
+use Rattle.std.specs.Prelude.{if◌then◌else◌, int_le, min, nat_lt, option_and_then, option_map, replicate, slice_index}
+use Rattle.std.specs.Option.{is_some}
+use Rattle.std.specs.Result.{result_ok}
+use Rattle.std.proofs.lemmas.Bool.Decides.{nat_tests}
+use Rattle.std.proofs.lemmas.List.{append_assoc, length-append, length-map, length-replicate, length-take}
+use Rattle.rz_core.specs.declared.facts.Facts.{Facts}
+use Rattle.rz_core.specs.declared.fault.Fault.{Fault}
+use Rattle.rz_expr.specs.Environment.{Environment, IsPartOf}
+use Rattle.rz_expr.specs.Term.{Term}
+use Rattle.rz_expr.specs.Value.{value_of}
+use Rattle.rz_bits.specs.Bits.{bits_of, bytes_of, number_bits, number_of}
+use Rattle.rz_fields.specs.declared.field.TextForm.{TextForm}
+use Rattle.rz_fields.specs.declared.field.TextForm.TheVariants as texts
+use Rattle.rz_fields.specs.declared.tree.Tree.{Tree}
+use Rattle.rz_fields.specs.declared.tree.Tree.TheVariants as trees
+use Rattle.rz_types.specs.Field.{PlainBody, PlainText}
+use Rattle.rz_types.specs.Range.{may_be_size}
+use Rattle.rz_types.specs.Readable.{all_known, is_text_read}
+use Rattle.rz_types.specs.Spells.{is_known, IsPlainText, IsSize, IsText, Passed}
+use Rattle.rz_types.specs.Spells as spells
+use Rattle.rz_types.specs.Stored.{before_zero, in_size, is_too_long, sized, stored_text, to_size}
+use Rattle.rz_types.specs.Text.{PlainPart}
+use Rattle.rz_types.specs.Value.{names_sight}
+use Rattle.rz_types.specs.Width.{fixed_widths, sized_bytes}
+use Rattle.rz_unlay.specs.Cursor.{bytes_at, bytes_left, fixed_read, same_bytes, size_found, size_read, stored_size, text_read, text_size, text_step, up_to_zero}
+use Rattle.rz_unlay.proofs.ReadsBits.{all_append, bits_there, each_small, front_there, length_bits, length_number, number_append, number_found, reduced_are, reduced_bits, take_are, zero_there, zeros_are, AreBytes}
+use Rattle.rz_unlay.proofs.ReadsNames.{folded, known_lower, lower, seen, Knows}
+use Rattle.rz_unlay.proofs.ReadsTests.{itself, not_below, some_is, there_is}
+use Rattle.rz_unlay.proofs.Sees.{both_true, value_same}
+use Rattle.rz_unlay.proofs.PlainText.{plain_text_is}
+
+-- Lengths.
+
+length_sized : (size : ℕ) (bytes : List ℕ) → length (sized size bytes) ≡ size
+length_sized size bytes =
+    length-append (take size bytes) (replicate (size - length bytes) 0)
+    ∙ (let one = length-take size bytes in let zero : ℕ = 0 in let more = length-replicate (size - length bytes) zero in omega (arith, one, more))
+
+pub length_with_size : (form : TextForm) (size : ℕ) (bytes : List ℕ) → length (stored_text form (Some size) bytes) ≡ sized_bytes form size
+length_with_size texts.Open size bytes = length_sized size bytes
+length_with_size texts.Pascal size bytes = (let it = length_sized size bytes in omega (arith, it))
+length_with_size texts.WordLong size bytes = (let it = length_sized size bytes in omega (arith, it))
+length_with_size texts.Zero size bytes = length-append (sized (size - 1) bytes) (0 ∷ []) ∙ ap (λ (n : ℕ). n + 1) (length_sized (size - 1) bytes)
+
+-- Stored bytes are bytes.
+
+to_size_are : (size : Option ℕ) (bytes : List ℕ) → AreBytes bytes → AreBytes (to_size size bytes)
+to_size_are None bytes are = are
+to_size_are (Some size) bytes are = all_append (λ byte. byte < 256) (take size bytes) (replicate (size - length bytes) 0) (take_are size bytes are) (zeros_are (size - length bytes))
+
+-- what bounds a length
+abbrev MayBe : TextForm → Option ℕ → Type 0
+MayBe form None = Unit {0}
+MayBe form (Some size) = may_be_size form (pos size) ≡ true
+
+take_length : (size : ℕ) (bytes : List ℕ) → length (take size bytes) ≤ size
+take_length size bytes = let it = length-take size bytes in omega (arith, it)
+
+size_most : (most size : ℕ) → (int_le (pos 0) (pos size) && int_le (pos size) (pos most)) ≡ true → size ≤ most
+size_most most size is = grind (arith, nat_tests, is)
+
+not_over : (most count : ℕ) → nat_lt most count ≡ false → count ≤ most
+not_over most count is = grind (arith, nat_tests)
+
+pascal_short : (size : Option ℕ) (bytes : List ℕ) → MayBe texts.Pascal size → is_too_long texts.Pascal size (length bytes) ≡ false → length (in_size size bytes) < 256
+pascal_short None bytes may short = let it = not_over 255 (length bytes) short in omega (arith, it)
+pascal_short (Some size) bytes may short = let it = size_most 255 size may in let less = take_length size bytes in omega (arith, it, less)
+
+word_short : (size : Option ℕ) (bytes : List ℕ) → MayBe texts.WordLong size → is_too_long texts.WordLong size (length bytes) ≡ false → length (in_size size bytes) < 65536
+word_short None bytes may short = let it = not_over 65535 (length bytes) short in omega (arith, it)
+word_short (Some size) bytes may short = let it = size_most 65535 size may in let less = take_length size bytes in omega (arith, it, less)
+
+stored_are : (form : TextForm) (size : Option ℕ) (bytes : List ℕ) → AreBytes bytes → MayBe form size → is_too_long form size (length bytes) ≡ false → AreBytes (stored_text form size bytes)
+stored_are texts.Open size bytes are may short = to_size_are size bytes are
+stored_are texts.Pascal size bytes are may short = (pascal_short size bytes may short, to_size_are size bytes are)
+stored_are texts.WordLong size bytes are may short =
+    let it = word_short size bytes may short in (omega (arith, it), (omega (arith), to_size_are size bytes are))
+stored_are texts.Zero size bytes are may short =
+    all_append (λ byte. byte < 256) (to_size (before_zero size) bytes) (0 ∷ []) (to_size_are (before_zero size) bytes are) (omega (arith), tt)
+
+-- Eight bits of each byte.
+
+append_bits : (one other : List ℕ) → bits_of (one ++ other) ≡ bits_of one ++ bits_of other
+append_bits [] other = refl
+append_bits (byte ∷ one) other = ap (λ bs. number_bits 8 byte ++ bs) (append_bits one other) ∙ sym (append_assoc (number_bits 8 byte) (bits_of one) (bits_of other))
+
+map_take : (f : ℕ → ℕ) (count : ℕ) (bytes : List ℕ) → take count (map f bytes) ≡ map f (take count bytes)
+map_take f zero bytes = refl
+map_take f (suc count) [] = refl
+map_take f (suc count) (byte ∷ bytes) = ap (λ (bs : List ℕ). f byte ∷ bs) (map_take f count bytes)
+
+module _ (read : (width number : ℕ) → number_of (number_bits width number) ≡ number % 2 ^ width) (written : (bits : List Bool) → number_bits (length bits) (number_of bits) ≡ bits)
+    (bytes : List ℕ) where
+  abbrev reduced : List ℕ
+  reduced = map (λ byte. byte % 256) bytes
+
+  same_length : length bytes ≡ length reduced
+  same_length = sym (length-map bytes (λ byte. byte % 256))
+
+  in_size_length : (size : Option ℕ) → length (in_size size bytes) ≡ length (in_size size reduced)
+  in_size_length None = same_length
+  in_size_length (Some size) = length-take size bytes ∙ ap (λ (n : ℕ). min size n) same_length ∙ sym (length-take size reduced)
+
+  to_size_bits : (size : Option ℕ) → bits_of (to_size size bytes) ≡ bits_of (to_size size reduced)
+  to_size_bits None = reduced_bits read written bytes
+  to_size_bits (Some size) =
+      append_bits (take size bytes) (replicate (size - length bytes) 0)
+      ∙ (λ i. (reduced_bits read written (take size bytes) ∙ ap bits_of (sym (map_take (λ byte. byte % 256) size bytes))) i ++ bits_of (replicate (size - same_length i) 0))
+      ∙ sym (append_bits (take size reduced) (replicate (size - length reduced) 0))
+
+  pub stored_bits : (form : TextForm) (size : Option ℕ) → bits_of (stored_text form size bytes) ≡ bits_of (stored_text form size reduced)
+  stored_bits texts.Open size = to_size_bits size
+  stored_bits texts.Pascal size = λ i. number_bits 8 (in_size_length size i) ++ to_size_bits size i
+  stored_bits texts.WordLong size = λ i. number_bits 8 (in_size_length size i / 256) ++ (number_bits 8 (in_size_length size i % 256) ++ to_size_bits size i)
+  stored_bits texts.Zero size =
+      append_bits (to_size (before_zero size) bytes) (0 ∷ [])
+      ∙ (λ i. to_size_bits (before_zero size) i ++ bits_of (0 ∷ []))
+      ∙ sym (append_bits (to_size (before_zero size) reduced) (0 ∷ []))
+
+-- Sizes.
+
+same_again : (bytes : List ℕ) → same_bytes bytes bytes ≡ true
+same_again [] = refl
+same_again (byte ∷ bytes) = rw (itself byte, same_again bytes) refl
+
+size_may : (form : TextForm) (facts : Facts) (env : Environment) (term : Option Term) (size : Option ℕ) → IsSize form (names_sight facts env) term size → MayBe form size
+size_may form facts env None size is = subst (λ (o : Option ℕ). MayBe form o) (sym is) tt
+size_may form facts env (Some term) size (n, valued, may, is) = subst (λ (o : Option ℕ). MayBe form o) (sym is) may
+
+module _ (facts : Facts) (all : List Bool) (env : Environment) (passed : Passed) (names : Environment) (knows : Knows passed names) (part : IsPartOf names (folded env)) where
+  size_is_read : (form : TextForm) (term : Option Term) (size : Option ℕ) (at : ℕ) → ((t : Term) → term ≡ Some t → all_known (is_known passed) t ≡ true)
+      → IsSize form (names_sight facts env) term size → size_read facts all form term names at ≡ Some size
+  size_is_read form None size at known is = ap (λ (o : Option ℕ). Some o) (sym is)
+  size_is_read form (Some term) size at known (n, valued, may, is) =
+      let now : value_of term (names_sight facts names) ≡ Ok (pos n) =
+      value_same facts (lower (is_known passed)) names (folded env) knows part term (known_lower (is_known passed) term ∙ known term refl) ∙ seen facts env term ∙ valued in
+      ap (size_found form) now
+      ∙ ap (λ (b : Bool). if b then Some (Some n) else None) may
+      ∙ ap (λ (o : Option ℕ). Some o) (sym is)
+
+-- where a field ends at the end of the resource
+abbrev pub EndsAt : (outermost : Bool) → List Bool → PlainBody → ℕ → Type 0
+EndsAt outermost all rest after = (width : ℕ) → outermost ≡ true → fixed_widths rest ≡ Some width → (after + width ≤ length all) × (length all < after + width + 8)
+
+count_left : (len width at count : ℕ) → at + 8 * count + width ≤ len → len < at + 8 * count + width + 8 → bytes_left len (Some width) at ≡ Some count
+count_left len width at count within over =
+    let test : nat_lt len (at + width) ≡ false = not_below len (at + width) (omega (arith, within)) in
+    let number : (len - width - at) / 8 ≡ count = omega (arith, within, over) in
+    ap (λ (b : Bool). if b then None else Some ((len - width - at) / 8)) test ∙ ap (λ (n : ℕ). Some n) number
+
+module _ (back : (width number : ℕ) → number < 2 ^ width → number_of (number_bits width number) ≡ number) (all : List Bool) (rest : PlainBody) (outermost : Bool) (at : ℕ) (bytes : List ℕ) where
+  -- a free text without a size says its own length
+  size_stored : (form : TextForm) (passed : Passed) (bits : List Bool) → is_text_read outermost rest passed form None ≡ true → IsPlainText form None bytes
+      → is_too_long form None (length bytes) ≡ false → bits ≡ bits_of (stored_text form None bytes)
+      → EndsAt outermost all rest (at + length bits) → at + length bits ≤ length all → take (length bits) (drop at all) ≡ bits
+      → stored_size all rest form None at ≡ Some (length (stored_text form None bytes))
+  size_stored texts.Open passed bits reads plain short are ends within there =
+      let test = both_true outermost (is_some (fixed_widths rest)) reads in
+      let width = there_is (fixed_widths rest) test.1 in
+      let end = ends width.0 test.0 width.1 in
+      let long : length bits ≡ 8 * length bytes = ap length are ∙ length_bits bytes in
+      ap (λ (o : Option ℕ). bytes_left (length all) o at) width.1
+      ∙ count_left (length all) width.0 at (length bytes) (let a = end.0 in omega (arith, long, a)) (let b = end.1 in omega (arith, long, b))
+  size_stored texts.Pascal passed bits reads plain short are ends within there =
+      let size = not_over 255 (length bytes) short in
+      let first = number_bits 8 (length bytes) in
+      let front : take (length first) (drop at all) ≡ first =
+      front_there (drop at all) first (bits_of bytes) (subst (λ (bs : List Bool). take (length bs) (drop at all) ≡ bs) are there) in
+      let long : length bits ≡ length first + length (bits_of bytes) = ap length are ∙ length-append first (bits_of bytes) in
+      ap (option_map (λ n. 1 + n)) (number_found all at 8 first (length_number 8 (length bytes)) (omega (arith, long, within)) front ∙ ap (λ (n : ℕ). Some n) (back 8 (length bytes) (omega (arith, size))))
+      ∙ ap (λ (n : ℕ). Some n) (omega (arith))
+  size_stored texts.WordLong passed bits reads plain short are ends within there =
+      let size = not_over 65535 (length bytes) short in
+      let high = number_bits 8 (length bytes / 256) in
+      let low = number_bits 8 (length bytes % 256) in
+      let joined : bits ≡ (high ++ low) ++ bits_of bytes = are ∙ sym (append_assoc high low (bits_of bytes)) in
+      let front : take (length (high ++ low)) (drop at all) ≡ high ++ low =
+      front_there (drop at all) (high ++ low) (bits_of bytes) (subst (λ (bs : List Bool). take (length bs) (drop at all) ≡ bs) joined there) in
+      let long : length bits ≡ length (high ++ low) + length (bits_of bytes) = ap length joined ∙ length-append (high ++ low) (bits_of bytes) in
+      let sixteen : length (high ++ low) ≡ 16 =
+      length-append high low ∙ (let a = length_number 8 (length bytes / 256) in let b = length_number 8 (length bytes % 256) in omega (arith, a, b)) in
+      let number : number_of (high ++ low) ≡ length bytes =
+      number_append high low
+      ∙ (λ i. back 8 (length bytes / 256) (omega (arith, size)) i * 2 ^ length_number 8 (length bytes % 256) i + back 8 (length bytes % 256) (omega (arith)) i)
+      ∙ whole (length bytes) in
+      ap (option_map (λ n. 2 + n)) (number_found all at 16 (high ++ low) sixteen (omega (arith, long, within)) front ∙ ap (λ (n : ℕ). Some n) number)
+      ∙ ap (λ (n : ℕ). Some n) (omega (arith))
+    where
+      whole : (n : ℕ) → n / 256 * 2 ^ 8 + n % 256 ≡ n
+      whole n = omega (arith)
+  size_stored texts.Zero passed bits reads plain short are ends within there =
+      let long : length bits ≡ 8 * (length bytes + 1) = ap length are ∙ length_bits (bytes ++ 0 ∷ []) ∙ ap (λ (n : ℕ). 8 * n) (length-append bytes (0 ∷ [])) in
+      let found = zero_there back all at bytes plain.0 plain.1 (omega (arith, long, within)) (ap (λ (n : ℕ). take n (drop at all)) (sym long) ∙ there ∙ are) in
+      ap (option_and_then (λ bytes. option_map (λ front. length front + 1) (up_to_zero bytes))) found.1
+      ∙ ap (option_map (λ front. length front + 1)) found.2
+      ∙ ap (λ (n : ℕ). Some n) (sym (length-append bytes (0 ∷ [])))
+
+-- Reading it.
+
+-- the bytes that are stored there, and those that tell them
+record TextTold (facts : Facts) (all : List Bool) (rest : PlainBody) (form : TextForm) (size : Option ℕ) (fixed : Option (List PlainPart)) (value : Option Tree) (at : ℕ) (bits : List Bool) : Type 0 where
+  found : List ℕ
+  has_size : text_size facts all rest form size fixed at ≡ Some (length (stored_text form size found))
+  has_value : text_read facts form size fixed (stored_text form size found) ≡ Some (value, found)
+  are_bytes : AreBytes (stored_text form size found)
+  are_bits : bits ≡ bits_of (stored_text form size found)
+
+bytes_found : ((bytes : List ℕ) → ((k : ℕ) → slice_index bytes k < 256) → bytes_of (bits_of bytes) ≡ bytes) → (all : List Bool) (at : ℕ) (bytes : List ℕ) (bits : List Bool)
+    → AreBytes bytes → bits ≡ bits_of bytes → at + length bits ≤ length all → take (length bits) (drop at all) ≡ bits → bytes_at all at (length bytes) ≡ Some bytes
+bytes_found again all at bytes bits small are within there =
+    let long : length bits ≡ 8 * length bytes = ap length are ∙ length_bits bytes in
+    ap (option_map bytes_of) (bits_there all at (8 * length bytes) (omega (arith, long, within)))
+    ∙ ap (λ (bs : List Bool). Some (bytes_of bs)) (ap (λ (n : ℕ). take n (drop at all)) (sym long) ∙ there ∙ are)
+    ∙ ap (λ (bs : List ℕ). Some bs) (again bytes (each_small bytes small))
+
+is_read_with : (outermost : Bool) (rest : PlainBody) (passed : Passed) (form : TextForm) (size : Option Term) → is_text_read outermost rest passed form size ≡ true
+    → (t : Term) → size ≡ Some t → all_known (is_known passed) t ≡ true
+is_read_with outermost rest passed form None reads t is = absurd cc
+is_read_with outermost rest passed texts.Open (Some size) reads t is = subst (λ (t : Term). all_known (is_known passed) t ≡ true) (some_is size t is) reads
+is_read_with outermost rest passed texts.Pascal (Some size) reads t is = subst (λ (t : Term). all_known (is_known passed) t ≡ true) (some_is size t is) reads
+is_read_with outermost rest passed texts.WordLong (Some size) reads t is = subst (λ (t : Term). all_known (is_known passed) t ≡ true) (some_is size t is) reads
+is_read_with outermost rest passed texts.Zero (Some size) reads t is = subst (λ (t : Term). all_known (is_known passed) t ≡ true) (some_is size t is) reads
+
+module _ (read : (width number : ℕ) → number_of (number_bits width number) ≡ number % 2 ^ width) (written : (bits : List Bool) → number_bits (length bits) (number_of bits) ≡ bits)
+    (again : (bytes : List ℕ) → ((k : ℕ) → slice_index bytes k < 256) → bytes_of (bits_of bytes) ≡ bytes)
+    (back : (width number : ℕ) → number < 2 ^ width → number_of (number_bits width number) ≡ number) (facts : Facts) (rest : PlainBody) (all : List Bool) (env : Environment) (outermost : Bool) where
+  -- by whether the text is fixed, and whether it has a size
+  text_told : (passed : Passed) (form : TextForm) (term : Option Term) (size : Option ℕ) (fixed : Option (List PlainPart)) (value : Option Tree) (bytes : List ℕ) (at : ℕ) (bits : List Bool)
+      → is_text_read outermost rest passed form term ≡ true → IsSize form (names_sight facts env) term size → spells.AreBytes true form facts fixed size value bytes
+      → is_too_long form size (length bytes) ≡ false → bits ≡ bits_of (stored_text form size bytes)
+      → EndsAt outermost all rest (at + length bits) → at + length bits ≤ length all → take (length bits) (drop at all) ≡ bits
+      → TextTold facts all rest form size fixed value at bits
+  text_told passed form term (Some size) None value bytes at bits reads sized (is, plain) short are ends within there = record {
+    found = bytes;
+    has_size = ap (λ (n : ℕ). Some n) (sym (length_with_size form size bytes));
+    has_value = (λ i. Some (Some (trees.Text (plain_text_is form (Some size) bytes plain i)), plain_text_is form (Some size) bytes plain i)) ∙ (λ i. Some (sym is i, bytes));
+    are_bytes = stored_are form (Some size) bytes plain.0 (size_may form facts env term (Some size) sized) short;
+    are_bits = are;
+  }
+  text_told passed form None None None value bytes at bits reads sized (is, plain) short are ends within there = record {
+    found = bytes;
+    has_size = size_stored back all rest outermost at bytes form passed bits reads plain short are ends within there;
+    has_value = (λ i. Some (Some (trees.Text (plain_text_is form None bytes plain i)), plain_text_is form None bytes plain i)) ∙ (λ i. Some (sym is i, bytes));
+    are_bytes = stored_are form None bytes plain.0 tt short;
+    are_bits = are;
+  }
+  text_told passed form (Some term) None None value bytes at bits reads (n, valued, may, is) plain short are ends within there = absurd (let wrong = is in cc)
+  text_told passed form term size (Some parts) value bytes at bits reads sized (is, fixed) short are ends within there =
+      let reduced = map (λ byte. byte % 256) bytes in
+      let short_too : is_too_long form size (length reduced) ≡ false = ap (is_too_long form size) (length-map bytes (λ byte. byte % 256)) ∙ short in
+      let same = stored_bits read written bytes form size in
+      let long : length (stored_text form size bytes) ≡ length (stored_text form size reduced) =
+      (let a = length_bits (stored_text form size bytes) in let b = length_bits (stored_text form size reduced) in let c : length (bits_of (stored_text form size bytes)) ≡ length (bits_of (stored_text form size reduced)) = ap length same in omega (arith, a, b, c)) in
+      record {
+        found = reduced;
+        has_size = ap (λ (r : Result (List ℕ) Fault). option_map (λ bytes. length (stored_text form size bytes)) (result_ok r)) fixed ∙ ap (λ (n : ℕ). Some n) long;
+        has_value = ap fixed_read fixed ∙ (λ i. Some (sym is i, reduced));
+        are_bytes = stored_are form size reduced (reduced_are bytes) (size_may form facts env term size sized) short_too;
+        are_bits = are ∙ same;
+      }
+
+  pub text_steps : (text : PlainText) (passed : Passed) (names : Environment) → Knows passed names → IsPartOf names (folded env) → (value : Option Tree) (bits : List Bool) (at : ℕ)
+      → is_text_read outermost rest passed text.form text.size ≡ true → IsText true text facts (names_sight facts env) value bits
+      → EndsAt outermost all rest (at + length bits) → at + length bits ≤ length all → take (length bits) (drop at all) ≡ bits
+      → text_step facts all rest text names at ≡ Some (record { value = value; after = at + length bits; names = names })
+  text_steps text passed names knows part value bits at reads it ends within there =
+      let told = text_told passed text.form text.size it.size text.fixed value it.bytes at bits reads it.has_size it.are_bytes it.short it.are_bits ends within there in
+      let raw = stored_text text.form it.size told.found in
+      let long : length bits ≡ 8 * length raw = ap length told.are_bits ∙ length_bits raw in
+      ap (option_and_then (λ size. option_and_then (λ count. option_and_then (λ raw. option_and_then (λ found.
+      if same_bytes (stored_text text.form size found.1) raw then Some (record { value = found.0; after = at + 8 * count; names = names }) else None)
+      (text_read facts text.form size text.fixed raw))
+      (bytes_at all at count))
+      (text_size facts all rest text.form size text.fixed at)))
+      (size_is_read facts all env passed names knows part text.form text.size it.size at (is_read_with outermost rest passed text.form text.size reads) it.has_size)
+      ∙ ap (option_and_then (λ count. option_and_then (λ raw. option_and_then (λ found.
+      if same_bytes (stored_text text.form it.size found.1) raw then Some (record { value = found.0; after = at + 8 * count; names = names }) else None)
+      (text_read facts text.form it.size text.fixed raw))
+      (bytes_at all at count))) told.has_size
+      ∙ ap (option_and_then (λ raw. option_and_then (λ found.
+      if same_bytes (stored_text text.form it.size found.1) raw then Some (record { value = found.0; after = at + 8 * length (stored_text text.form it.size told.found); names = names }) else None)
+      (text_read facts text.form it.size text.fixed raw))) (bytes_found again all at raw bits told.are_bytes told.are_bits within there)
+      ∙ ap (option_and_then (λ found.
+      if same_bytes (stored_text text.form it.size found.1) raw then Some (record { value = found.0; after = at + 8 * length raw; names = names }) else None)) told.has_value
+      ∙ ap (λ (b : Bool). if b then Some (record { value = value; after = at + 8 * length raw; names = names }) else None) (same_again raw)
+      ∙ ap (λ (n : ℕ). Some (record { value = value; after = at + n; names = names })) (sym long)

@@ -1,0 +1,316 @@
+-- A text that is read is spelled plainly, and so are zero bits.
+use Rattle.std.proofs.Common.{◌≡◌, ◌≢◌, ℕ, zero, suc, ◌+◌, ◌-◌, ◌*◌, ◌/◌, ◌%◌, ◌<◌, ◌≤◌, ◌^◌, ◌==◌, ℤ, pos, negsuc, Bool, true, false, List, [], ◌∷◌, ◌++◌, length, map, take, drop, Option, Some, None, Result, Ok, Err, refl, sym, ap, ◌∙◌, subst, arith}
+use Rattle.std.specs.Prelude.{if◌then◌else◌, option_map}
+use Rattle.std.specs.List.{AllByRecursion}
+use Rattle.std.proofs.lemmas.Bool.{le-ltb}
+use Rattle.std.proofs.lemmas.Bool.Decides.{nat_tests}
+use Rattle.std.proofs.lemmas.List.{length-drop, length-map, length-take}
+use Rattle.std.proofs.lemmas.Nat.{pow_pos}
+use Rattle.std.proofs.Math.Pow.{pow_mono}
+use Rattle.rz_core.specs.declared.facts.Facts.{Facts}
+use Rattle.rz_expr.specs.Environment.{Environment}
+use Rattle.rz_expr.specs.Term.{Term}
+use Rattle.rz_expr.specs.Value.{value_of}
+use Rattle.rz_expr.specs.declared.value.EvalFault.{EvalFault}
+use Rattle.rz_bits.specs.Bits.{bits_of, bytes_of, front_bytes, number_bits, number_of}
+use Rattle.rz_bits.specs.BitBuf.{zeros}
+use Rattle.rz_unlay.specs.Cursor.{before_zeros, bits_at, bytes_at, fixed_read, number_at, one_byte_size, or_none, plain_text, same_bytes, size_found, size_read, stored_size, text_read, text_size, text_step, trimmed, two_byte_size, up_to_zero, zeros_step, Step}
+use Rattle.rz_fields.specs.declared.field.TextForm.{TextForm}
+use Rattle.rz_fields.specs.declared.field.TextForm.TheVariants as texts
+use Rattle.rz_fields.specs.declared.tree.Tree.{Tree}
+use Rattle.rz_fields.specs.declared.tree.Tree.TheVariants as trees
+use Rattle.rz_types.specs.Field.{PlainBody, PlainText}
+use Rattle.rz_types.specs.Range.{may_be_size}
+use Rattle.rz_types.specs.Spells.{declares, is_known, nowhere, AreBytes, IsPlainText, IsSize, IsText, Passed}
+use Rattle.rz_types.specs.Stored.{is_too_long, stored_text}
+use Rattle.rz_types.specs.Text.{bytes_of as text_bytes_of, PlainPart}
+use Rattle.rz_types.specs.Value.{names_sight}
+use Rattle.rz_types.specs.Width.{sized_bytes}
+use Rattle.rz_unlay.proofs.SpelledNames.{and_then, if_false, if_some, mapped, none_is, part_same, some_same, value_grows, Knows, Part}
+use Rattle.rz_unlay.proofs.SpelledNumber.{bits_stand, number_stands, PieceRead}
+use Rattle.rz_unlay.proofs.ReadsText.{stored_bits}
+use Rattle.rz_unlay.proofs.Sees.{both_true}
+
+-- Zero bits.
+
+zeros_are : (bits : List Bool) → number_of bits ≡ 0 → bits ≡ zeros (length bits)
+zeros_are [] is = refl
+zeros_are (true ∷ bits) is = absurd (let high = pow_pos (length bits) in omega (arith, is, high))
+zeros_are (false ∷ bits) is = ap (λ (bs : List Bool). false ∷ bs) (zeros_are bits (omega (arith, is)))
+
+number_zero : (n : ℕ) → (n == 0) ≡ true → n ≡ 0
+number_zero n is = grind (arith, nat_tests, is)
+
+pub zero_bits : (bits : List Bool) → (number_of bits == 0) ≡ true → bits ≡ zeros (length bits)
+zero_bits bits is = zeros_are bits (number_zero (number_of bits) is)
+
+pub zeros_came : (all : List Bool) (rest : PlainBody) (passed : Passed) (count : ℕ) (names : Environment) (at : ℕ) (step : Step) → Knows (is_known passed) names → zeros_step all count names at ≡ Some step
+    → PieceRead (declares rest) passed names all at (λ env value bits. (value ≡ None) × (bits ≡ zeros count)) step
+zeros_came all rest passed count names at step knows is =
+    let one = and_then _ (number_at all at count) step is in
+    let two = if_some (one.0 == 0) (record { value = None; after = at + count; names = names }) step one.2 in
+    let number = number_stands all at count one.0 one.1 in
+    let none : (number_of number.bits == 0) ≡ true = ap (λ n. n == 0) number.is ∙ two.0 in
+    subst (PieceRead (declares rest) passed names all at (λ env value bits. (value ≡ None) × (bits ≡ zeros count))) two.1 (record {
+      count = count;
+      bits = number.bits;
+      stand = number.stand;
+      ends = refl;
+      grows = record { kept = part_same names; same = λ key none. refl };
+      knows = knows;
+      stored = λ env part. (refl, zero_bits number.bits none ∙ ap zeros number.stand.long);
+    })
+
+-- Bytes.
+
+same_bytes_are : (ones others : List ℕ) → same_bytes ones others ≡ true → ones ≡ others
+same_bytes_are [] [] is = refl
+same_bytes_are [] (other ∷ others) is = absurd cc
+same_bytes_are (one ∷ ones) [] is = absurd cc
+same_bytes_are (one ∷ ones) (other ∷ others) is =
+    let each = both_true (one == other) (same_bytes ones others) is in
+    let first : one ≡ other = grind (arith, nat_tests, each) in
+    λ i. first i ∷ same_bytes_are ones others each.1 i
+
+abbrev AreSmall : List ℕ → Type 0
+AreSmall bytes = AllByRecursion (λ byte. byte < 256) bytes
+
+length_fronts : (count : ℕ) (bits : List Bool) → length (front_bytes count bits) ≡ count
+length_fronts zero bits = refl
+length_fronts (suc count) bits = ap suc (length_fronts count (drop 8 bits))
+
+small_take : (count : ℕ) (bytes : List ℕ) → AreSmall bytes → AreSmall (take count bytes)
+small_take zero [] small = tt
+small_take zero (byte ∷ bytes) small = tt
+small_take (suc count) [] small = tt
+small_take (suc count) (byte ∷ bytes) small = (small.0, small_take count bytes small.1)
+
+small_drop : (count : ℕ) (bytes : List ℕ) → AreSmall bytes → AreSmall (drop count bytes)
+small_drop zero [] small = tt
+small_drop zero (byte ∷ bytes) small = small
+small_drop (suc count) [] small = tt
+small_drop (suc count) (byte ∷ bytes) small = small_drop count bytes small.1
+
+-- Without zero bytes at the end.
+
+small_before : (byte : ℕ) (bytes : List ℕ) → byte < 256 → AreSmall bytes → AreSmall (before_zeros byte bytes)
+small_before byte [] small are = by (byte == 0)
+  where
+    by : (test : Bool) → AreSmall (if test then [] else byte ∷ [])
+    by true = tt
+    by false = (small, tt)
+small_before byte (next ∷ bytes) small are = (small, are)
+
+small_trimmed : (raw : List ℕ) → AreSmall raw → AreSmall (trimmed raw)
+small_trimmed [] small = tt
+small_trimmed (byte ∷ raw) small = small_before byte (trimmed raw) small.0 (small_trimmed raw small.1)
+
+short_before : (byte : ℕ) (bytes : List ℕ) → length (before_zeros byte bytes) ≤ suc (length bytes)
+short_before byte [] = by (byte == 0)
+  where
+    by : (test : Bool) → length (if test then [] else byte ∷ []) ≤ 1
+    by true = omega (arith)
+    by false = omega (arith)
+short_before byte (next ∷ bytes) = omega (arith)
+
+short_trimmed : (raw : List ℕ) → length (trimmed raw) ≤ length raw
+short_trimmed [] = omega (arith)
+short_trimmed (byte ∷ raw) = let one = short_before byte (trimmed raw) in let more = short_trimmed raw in omega (arith, one, more)
+
+abbrev first_byte : List ℕ → ℕ
+first_byte [] = 1
+first_byte (byte ∷ bytes) = byte
+
+abbrev later_bytes : List ℕ → List ℕ
+later_bytes [] = []
+later_bytes (byte ∷ bytes) = bytes
+
+not_empty : (front : List ℕ) → [] ≡ front ++ 0 ∷ [] → ⊥
+not_empty [] is = (let long = ap length is in omega (arith, long))
+not_empty (byte ∷ front) is = (let long = ap length is in omega (arith, long))
+
+one_byte : (byte : ℕ) (front : List ℕ) → suc byte ∷ [] ≡ front ++ 0 ∷ [] → ⊥
+one_byte byte [] is = let first = ap first_byte is in omega (arith, first)
+one_byte byte (other ∷ front) is = not_empty front (ap later_bytes is)
+
+before_ends : (byte : ℕ) (bytes : List ℕ) → ((front : List ℕ) → bytes ≡ front ++ 0 ∷ [] → ⊥) → (front : List ℕ) → before_zeros byte bytes ≡ front ++ 0 ∷ [] → ⊥
+before_ends zero [] none front is = not_empty front is
+before_ends (suc byte) [] none front is =
+    let test : (suc byte == 0) ≡ false = grind (arith, nat_tests) in
+    one_byte byte front (sym (if_false (suc byte == 0) [] (suc byte ∷ []) test) ∙ is)
+before_ends byte (next ∷ bytes) none [] is = let long = ap length is in omega (arith, long)
+before_ends byte (next ∷ bytes) none (other ∷ front) is = none front (ap later_bytes is)
+
+trimmed_ends : (raw front : List ℕ) → trimmed raw ≡ front ++ 0 ∷ [] → ⊥
+trimmed_ends [] front is = not_empty front is
+trimmed_ends (byte ∷ raw) front is = before_ends byte (trimmed raw) (trimmed_ends raw) front is
+
+-- Up to the first zero byte.
+
+record Cut (raw front : List ℕ) : Type 0 where
+  small : AreSmall front
+  none : AllByRecursion (λ byte. byte ≢ 0) front
+  shorter : suc (length front) ≤ length raw
+
+cut_by : (byte : ℕ) (bytes : List ℕ) → byte < 256 → ((front : List ℕ) → up_to_zero bytes ≡ Some front → Cut bytes front) → (front : List ℕ) (test : Bool) → (byte == 0) ≡ test
+    → (if test then Some [] else option_map (λ front. byte ∷ front) (up_to_zero bytes)) ≡ Some front → Cut (byte ∷ bytes) front
+cut_by byte bytes small cuts front true zero_byte is = subst (Cut (byte ∷ bytes)) (some_same [] front is) (record { small = tt; none = tt; shorter = omega (arith) })
+cut_by byte bytes small cuts front false other is =
+    let it = mapped (λ front. byte ∷ front) (up_to_zero bytes) front is in
+    let inner = cuts it.0 it.1 in
+    let not_zero : byte ≢ 0 = grind (arith, nat_tests, other) in
+    let long = inner.shorter in
+    subst (Cut (byte ∷ bytes)) it.2 (record { small = (small, inner.small); none = (not_zero, inner.none); shorter = omega (arith, long) })
+
+cut : (raw : List ℕ) → AreSmall raw → (front : List ℕ) → up_to_zero raw ≡ Some front → Cut raw front
+cut [] small front is = absurd (none_is front is)
+cut (byte ∷ raw) small front is = cut_by byte raw small.0 (cut raw small.1) front (byte == 0) refl is
+
+record ZeroCut (raw bytes : List ℕ) : Type 0 where
+  small : AreSmall bytes
+  none : AllByRecursion (λ byte. byte ≢ 0) bytes
+  shorter : length bytes ≤ length raw - 1
+
+zero_cut : (raw : List ℕ) → AreSmall raw → ZeroCut raw (or_none (up_to_zero raw))
+zero_cut raw small = by (up_to_zero raw) refl
+  where
+    by : (found : Option (List ℕ)) → up_to_zero raw ≡ found → ZeroCut raw (or_none found)
+    by None is = record { small = tt; none = tt; shorter = omega (arith) }
+    by (Some front) is = let it = cut raw small front is in let long = it.shorter in record { small = it.small; none = it.none; shorter = omega (arith, long) }
+
+-- What is read is plain.
+
+abbrev IsSized : TextForm → Option ℕ → List ℕ → Type 0
+IsSized form None raw = Unit {0}
+IsSized form (Some size) raw = length raw ≡ sized_bytes form size
+
+short_part : (count skip size : ℕ) (raw : List ℕ) → length raw ≡ size + skip → length (take count (drop skip raw)) ≤ size
+short_part count skip size raw long = let one = length-take count (drop skip raw) in let more = length-drop skip raw in omega (arith, one, more, long)
+
+plain_is : (form : TextForm) (size : Option ℕ) (raw : List ℕ) → AreSmall raw → IsSized form size raw → IsPlainText form size (plain_text form size raw)
+plain_is texts.Open None raw small sized = (small, tt, tt, tt)
+plain_is texts.Open (Some size) raw small sized = (small_trimmed raw small, tt, (let short = short_trimmed raw in omega (arith, short, sized)), trimmed_ends raw)
+plain_is texts.Pascal None raw small sized = (small_take (one_byte_size raw) (drop 1 raw) (small_drop 1 raw small), tt, tt, tt)
+plain_is texts.Pascal (Some size) raw small sized = (small_take (one_byte_size raw) (drop 1 raw) (small_drop 1 raw small), tt, short_part (one_byte_size raw) 1 size raw sized, tt)
+plain_is texts.WordLong None raw small sized = (small_take (two_byte_size raw) (drop 2 raw) (small_drop 2 raw small), tt, tt, tt)
+plain_is texts.WordLong (Some size) raw small sized = (small_take (two_byte_size raw) (drop 2 raw) (small_drop 2 raw small), tt, short_part (two_byte_size raw) 2 size raw sized, tt)
+plain_is texts.Zero None raw small sized = let it = zero_cut raw small in (it.small, it.none, tt, tt)
+plain_is texts.Zero (Some size) raw small sized = let it = zero_cut raw small in let short = it.shorter in (it.small, it.none, omega (arith, short, sized), tt)
+
+not_long : (form : TextForm) (size : Option ℕ) (raw bytes : List ℕ) → AreSmall raw → stored_text form size bytes ≡ raw → is_too_long form size (length bytes) ≡ false
+not_long texts.Open None raw bytes small is = refl
+not_long texts.Open (Some size) raw bytes small is = refl
+not_long texts.Pascal None raw bytes small is = let are = subst AreSmall (sym is) small in let first = are.0 in le-ltb 255 (length bytes) (omega (arith, first))
+not_long texts.Pascal (Some size) raw bytes small is = refl
+not_long texts.WordLong None raw bytes small is = let are = subst AreSmall (sym is) small in let first = are.0 in le-ltb 65535 (length bytes) (omega (arith, first))
+not_long texts.WordLong (Some size) raw bytes small is = refl
+not_long texts.Zero None raw bytes small is = refl
+not_long texts.Zero (Some size) raw bytes small is = refl
+
+-- Its size.
+
+negative_size : (form : TextForm) (n : ℕ) → may_be_size form (negsuc n) ≡ true → ⊥
+negative_size texts.Open n is = cc
+negative_size texts.Pascal n is = cc
+negative_size texts.WordLong n is = cc
+negative_size texts.Zero n is = cc
+
+size_is : (form : TextForm) (found : Result ℤ EvalFault) (size : Option ℕ) → size_found form found ≡ Some size → (n : ℕ) × (found ≡ Ok (pos n)) × (may_be_size form (pos n) ≡ true) × (size ≡ Some n)
+size_is form (Err fault) size is = absurd (none_is size is)
+size_is form (Ok (pos n)) size is = let it = if_some (may_be_size form (pos n)) (Some n) size is in (n, refl, it.0, sym it.1)
+size_is form (Ok (negsuc n)) size is = let it = if_some (may_be_size form (negsuc n)) _ size is in absurd (negative_size form n it.0)
+
+size_came : (facts : Facts) (all : List Bool) (names env : Environment) (at : ℕ) → Part names env → (form : TextForm) (term : Option Term) (size : Option ℕ)
+    → size_read facts all form term names at ≡ Some size → IsSize form (names_sight facts env) term size
+size_came facts all names env at part form None size is = sym (some_same None size is)
+size_came facts all names env at part form (Some term) size is =
+    let it = size_is form (value_of term (names_sight facts names)) size is in
+    (it.0, value_grows facts names env part term (pos it.0) it.1, it.2, it.3)
+
+sized_is : (all : List Bool) (rest : PlainBody) (form : TextForm) (size : Option ℕ) (at count : ℕ) (raw : List ℕ) → stored_size all rest form size at ≡ Some count → length raw ≡ count → IsSized form size raw
+sized_is all rest form None at count raw is long = tt
+sized_is all rest form (Some size) at count raw is long = long ∙ sym (some_same (sized_bytes form size) count is)
+
+-- Its bytes.
+
+-- those of a fixed text are stored by eight bits of each
+fixed_is : {E : Type 0} (given : Result (List ℕ) E) (found : Option Tree × List ℕ) → fixed_read given ≡ Some found
+    → (bytes : List ℕ) × (found.0 ≡ None) × (given ≡ Ok bytes) × (found.1 ≡ map (λ byte. byte % 256) bytes)
+fixed_is (Err fault) found is = absurd (none_is found is)
+fixed_is (Ok bytes) found is =
+    let same = some_same (None, map (λ byte. byte % 256) bytes) found is in
+    (bytes, sym (ap (λ (f : Option Tree × List ℕ). f.0) same), refl, sym (ap (λ (f : Option Tree × List ℕ). f.1) same))
+
+record BytesCame (form : TextForm) (facts : Facts) (fixed : Option (List PlainPart)) (size : Option ℕ) (found : Option Tree × List ℕ) : Type 0 where
+  bytes : List ℕ
+  are : AreBytes true form facts fixed size found.0 bytes
+  long : length bytes ≡ length found.1
+  same : bits_of (stored_text form size bytes) ≡ bits_of (stored_text form size found.1)
+
+bytes_came : ((width number : ℕ) → number_of (number_bits width number) ≡ number % 2 ^ width) → ((bits : List Bool) → number_bits (length bits) (number_of bits) ≡ bits)
+    → (facts : Facts) (all : List Bool) (rest : PlainBody) (form : TextForm) (size : Option ℕ) (fixed : Option (List PlainPart)) (at count : ℕ) (raw : List ℕ) (found : Option Tree × List ℕ) → AreSmall raw
+    → text_size facts all rest form size fixed at ≡ Some count → length raw ≡ count → text_read facts form size fixed raw ≡ Some found → BytesCame form facts fixed size found
+bytes_came read numbers facts all rest form size None at count raw found small so long is =
+    subst (BytesCame form facts None size) (some_same (Some (trees.Text (plain_text form size raw)), plain_text form size raw) found is)
+    (record { bytes = plain_text form size raw; are = (refl, plain_is form size raw small (sized_is all rest form size at count raw so long)); long = refl; same = refl })
+bytes_came read numbers facts all rest form size (Some parts) at count raw found small so long is =
+    let it = fixed_is (text_bytes_of nowhere facts parts) found is in
+    record {
+      bytes = it.0;
+      are = (it.1, it.2);
+      long = sym (length-map it.0 (λ byte. byte % 256)) ∙ sym (ap length it.3);
+      same = stored_bits read numbers it.0 form size ∙ ap (λ (bs : List ℕ). bits_of (stored_text form size bs)) (sym it.3);
+    }
+
+module _ (below : (bits : List Bool) → number_of bits < 2 ^ length bits) (written : (bits : List Bool) → length bits % 8 ≡ 0 → bits_of (bytes_of bits) ≡ bits) where
+  byte_small : (bits : List Bool) → number_of (take 8 bits) < 256
+  byte_small bits =
+      let least : length (take 8 bits) ≤ 8 = (let long = length-take 8 bits in omega (arith, long)) in
+      let most : 2 ^ length (take 8 bits) ≤ 256 = pow_mono least in
+      let low = below (take 8 bits) in
+      omega (arith, most, low)
+
+  fronts_small : (count : ℕ) (bits : List Bool) → AreSmall (front_bytes count bits)
+  fronts_small zero bits = tt
+  fronts_small (suc count) bits = (byte_small bits, fronts_small count (drop 8 bits))
+
+  pub text_came : ((width number : ℕ) → number_of (number_bits width number) ≡ number % 2 ^ width) → ((bits : List Bool) → number_bits (length bits) (number_of bits) ≡ bits)
+      → (facts : Facts) (all : List Bool) (rest : PlainBody) (passed : Passed) (text : PlainText) (names : Environment) (at : ℕ) (step : Step) → Knows (is_known passed) names
+      → text_step facts all rest text names at ≡ Some step
+      → PieceRead (declares rest) passed names all at (λ env value bits. IsText true text facts (names_sight facts env) value bits) step
+  text_came read numbers facts all rest passed text names at step knows is =
+      let one = and_then _ (size_read facts all text.form text.size names at) step is in
+      let size : Option ℕ = one.0 in
+      let two = and_then _ (text_size facts all rest text.form size text.fixed at) step one.2 in
+      let count : ℕ = two.0 in
+      let three = and_then _ (bytes_at all at count) step two.2 in
+      let raw : List ℕ = three.0 in
+      let four = and_then _ (text_read facts text.form size text.fixed raw) step three.2 in
+      let found : Option Tree × List ℕ = four.0 in
+      let five = if_some (same_bytes (stored_text text.form size found.1) raw) (record { value = found.0; after = at + 8 * count; names = names }) step four.2 in
+      let there = mapped bytes_of (bits_at all at (8 * count)) raw three.1 in
+      let bits : List Bool = there.0 in
+      let stand = bits_stand all at (8 * count) bits there.1 in
+      let long : length bits ≡ 8 * count = stand.long in
+      let stored : stored_text text.form size found.1 ≡ raw = same_bytes_are (stored_text text.form size found.1) raw five.0 in
+      let small : AreSmall raw = subst AreSmall there.2 (fronts_small (length bits / 8) bits) in
+      let eighth : length bits / 8 ≡ count = omega (arith, long) in
+      let raw_long : length raw ≡ count = sym (ap length there.2) ∙ length_fronts (length bits / 8) bits ∙ eighth in
+      let whole : length bits % 8 ≡ 0 = omega (arith, long) in
+      let came = bytes_came read numbers facts all rest text.form size text.fixed at count raw found small two.1 raw_long four.1 in
+      subst (PieceRead (declares rest) passed names all at (λ env value bits. IsText true text facts (names_sight facts env) value bits)) five.1 (record {
+        count = 8 * count;
+        bits = bits;
+        stand = stand;
+        ends = refl;
+        grows = record { kept = part_same names; same = λ key none. refl };
+        knows = knows;
+        stored = λ env part. record {
+          size = size;
+          has_size = size_came facts all names env at part text.form text.size size one.1;
+          bytes = came.bytes;
+          are_bytes = came.are;
+          short = ap (is_too_long text.form size) came.long ∙ not_long text.form size raw found.1 small stored;
+          are_bits = sym (written bits whole) ∙ ap bits_of (there.2 ∙ sym stored) ∙ sym came.same;
+        };
+      })

@@ -1,0 +1,163 @@
+-- The names of an expression are solved to the values that they have.
+use Rattle.std.proofs.Common.{◌≡◌, ◌⊎◌, inl, inr, ℕ, ◌==◌, ℤ, Bool, true, false, ◌||◌, List, [], ◌∷◌, Option, Some, None, refl, sym, ap, ◌∙◌, subst, arith}
+use Rattle.std.specs.Prelude.{if◌then◌else◌, option_and_then}
+use Rattle.std.proofs.lemmas.Bool.Decides.{nat_tests}
+use Rattle.rz_expr.specs.Environment.{count_key, count_of, place_key, place_of, Environment, IsPartOf, Key}
+use Rattle.rz_expr.specs.Term.{BitsAt, Constant, FactOf, Named, OfOne, OfTwo, RowsOf, Term}
+use Rattle.rz_unlay.specs.Cursor.{also, solve_all, solve_key}
+use Rattle.rz_types.specs.Solve.{has_key, is_same_key, is_same_name}
+use Rattle.rz_types.specs.Spells.{Names}
+use Rattle.rz_unlay.proofs.Sees.{both_true, Covers}
+
+-- Keys.
+
+name_is : (name other : List ℕ) → is_same_name name other ≡ true → name ≡ other
+name_is [] [] is = refl
+name_is [] (other ∷ others) is = absurd cc
+name_is (byte ∷ bytes) [] is = absurd cc
+name_is (byte ∷ bytes) (other ∷ others) is =
+    let each = both_true (byte == other) (is_same_name bytes others) is in
+    let first : byte ≡ other = grind (arith, nat_tests, each) in
+    λ i. first i ∷ name_is bytes others each.1 i
+
+own_name : (name : List ℕ) → is_same_name name name ≡ true
+own_name [] = refl
+own_name (byte ∷ bytes) = let first : (byte == byte) ≡ true = grind (arith, nat_tests) in rw (first, own_name bytes) refl
+
+pub key_is : (key other : Key) → is_same_key key other ≡ true → key ≡ other
+key_is (place_of name) (place_of other) is = ap place_of (name_is name other is)
+key_is (place_of name) (count_of other) is = absurd cc
+key_is (count_of name) (place_of other) is = absurd cc
+key_is (count_of name) (count_of other) is = ap count_of (name_is name other is)
+
+pub own_key : (key : Key) → is_same_key key key ≡ true
+own_key (place_of name) = own_name name
+own_key (count_of name) = own_name name
+
+-- One more name.
+
+pub same_part : (names : Environment) → IsPartOf names names
+same_part names = record { give = λ key value is. is }
+
+pub part_of_part : (a b c : Environment) → IsPartOf a b → IsPartOf b c → IsPartOf a c
+part_of_part a b c one other = record { give = λ key value is. other.give key value (one.give key value is) }
+
+by_key : (test : Bool) (value : ℤ) (other : Option ℤ) (P : ℤ → Type 0) → (test ≡ true → P value) → ((x : ℤ) → other ≡ Some x → P x) → (x : ℤ)
+    → (if test then Some value else other) ≡ Some x → P x
+by_key true value other P here there x is = subst P (some_same value x is) (here refl)
+  where
+    some_same : (a b : ℤ) → Some a ≡ Some b → a ≡ b
+    some_same a b same = cc
+by_key false value other P here there x is = there x is
+
+also_keeps : (key : Key) (value : ℤ) (names : Environment) → names.give key ≡ None → IsPartOf names (also key value names)
+also_keeps key value names none = record { give = λ other x is. go other x is (is_same_key key other) refl }
+  where
+    go : (other : Key) (x : ℤ) → names.give other ≡ Some x → (test : Bool) → is_same_key key other ≡ test → (if test then Some value else names.give other) ≡ Some x
+    go other x is true same = let absent = sym (ap names.give (key_is key other same)) ∙ none in absurd (let wrong = sym is ∙ absent in cc)
+    go other x is false same = is
+
+also_part : (key : Key) (value : ℤ) (names env : Environment) → IsPartOf names env → env.give key ≡ Some value → IsPartOf (also key value names) env
+also_part key value names env part is = record {
+  give = λ other x found. by_key (is_same_key key other) value (names.give other) (λ x. env.give other ≡ Some x)
+      (λ same. sym (ap env.give (key_is key other same)) ∙ is) (λ x there. part.give other x there) x found;
+}
+
+also_has : (key : Key) (value : ℤ) (names : Environment) → (also key value names).give key ≡ Some value
+also_has key value names = ap (λ (test : Bool). if test then Some value else names.give key) (own_key key)
+
+-- All names of an expression.
+
+module _ (known : Names) (env : Environment) (solved : Key → Environment → Option ℤ) where
+  -- a name that is known, or that has a value and is solved to it by whatever is known
+  abbrev pub IsTold : Key → Type 0
+  IsTold key =
+      (known key ≡ true)
+      ⊎ ((value : ℤ) × (env.give key ≡ Some value) × ((names : Environment) → Covers known names → IsPartOf names env → solved key names ≡ Some value))
+
+  abbrev pub AreTold : Term → Type 0
+  AreTold (Constant number) = Unit {0}
+  AreTold (Named name) = IsTold (place_key name)
+  AreTold (RowsOf name) = IsTold (count_key name)
+  AreTold (BitsAt name start width) = IsTold (place_key name) × AreTold start × AreTold width
+  AreTold (FactOf which) = Unit {0}
+  AreTold (OfOne op operand) = AreTold operand
+  AreTold (OfTwo op left right) = AreTold left × AreTold right
+
+  -- what is known then: as before, a part of the finished names, with a value for each of these names
+  pub record Tells (Has : Key → Type 0) (names : Environment) (found : Option Environment) : Type 0 where
+    pub more : Environment
+    pub is : found ≡ Some more
+    pub kept : IsPartOf names more
+    pub part : IsPartOf more env
+    pub has : (key : Key) → Has key → (value : ℤ) × (more.give key ≡ Some value)
+
+  covers_more : (names more : Environment) → Covers known names → IsPartOf names more → Covers known more
+  covers_more names more covers kept key is = let it = covers key is in (it.0, kept.give key it.0 it.1)
+
+  key_told : (key : Key) (names : Environment) → Covers known names → IsPartOf names env → IsTold key
+      → Tells (λ other. is_same_key other key ≡ true) names (solve_key solved key (names.give key) names)
+  key_told key names covers part told = by (names.give key) refl told
+    where
+      at_key : (more : Environment) (value : ℤ) → more.give key ≡ Some value → (other : Key) → is_same_key other key ≡ true → (v : ℤ) × (more.give other ≡ Some v)
+      at_key more value has other same = (value, ap more.give (key_is other key same) ∙ has)
+
+      by : (o : Option ℤ) → names.give key ≡ o → IsTold key → Tells (λ other. is_same_key other key ≡ true) names (solve_key solved key o names)
+      by (Some value) is told = record { more = names; is = refl; kept = same_part names; part = part; has = at_key names value is }
+      by None is (inl known_key) = let it = covers key known_key in absurd (let wrong = sym it.1 ∙ is in cc)
+      by None is (inr (value, has, solves)) = record {
+        more = also key value names;
+        is = ap (option_and_then (λ value. Some (also key value names))) (solves names covers part);
+        kept = also_keeps key value names is;
+        part = also_part key value names env part has;
+        has = at_key (also key value names) value (also_has key value names);
+      }
+
+  or_true : (a b : Bool) → (a || b) ≡ true → (a ≡ true) ⊎ (b ≡ true)
+  or_true true b is = inl refl
+  or_true false b is = inr is
+
+  -- one set of names, and another behind it
+  then_told : (Has Others : Key → Type 0) (names : Environment) (found : Option Environment) (next : Environment → Option Environment)
+      → (one : Tells Has names found) → Tells Others one.more (next one.more) → Tells (λ key. Has key ⊎ Others key) names (option_and_then next found)
+  then_told Has Others names found next one other = record {
+    more = other.more;
+    is = ap (option_and_then next) one.is ∙ other.is;
+    kept = part_of_part names one.more other.more one.kept other.kept;
+    part = other.part;
+    has = λ key has. both key has;
+  }
+    where
+      both : (key : Key) → Has key ⊎ Others key → (value : ℤ) × (other.more.give key ≡ Some value)
+      both key (inl has) = let it = one.has key has in (it.0, other.kept.give key it.0 it.1)
+      both key (inr has) = other.has key has
+
+  other_names : (Has Others : Key → Type 0) (names : Environment) (found : Option Environment) → ((key : Key) → Others key → Has key) → Tells Has names found → Tells Others names found
+  other_names Has Others names found leads it = record { more = it.more; is = it.is; kept = it.kept; part = it.part; has = λ key has. it.has key (leads key has) }
+
+  pub all_told : (term : Term) (names : Environment) → Covers known names → IsPartOf names env → AreTold term
+      → Tells (λ key. has_key key term ≡ true) names (solve_all solved term names)
+  all_told (Constant number) names covers part told = record { more = names; is = refl; kept = same_part names; part = part; has = λ key has. absurd cc }
+  all_told (Named name) names covers part told = key_told (place_key name) names covers part told
+  all_told (RowsOf name) names covers part told = key_told (count_key name) names covers part told
+  all_told (BitsAt name start width) names covers part told =
+      let one = key_told (place_key name) names covers part told.0 in
+      let two = all_told start one.more (covers_more names one.more covers one.kept) one.part told.1 in
+      let both = then_told _ _ names _ (solve_all solved start) one two in
+      let three = all_told width both.more (covers_more names both.more covers both.kept) both.part told.2 in
+      other_names _ _ names _ (λ key has. by_parts key has) (then_told _ _ names _ (solve_all solved width) both three)
+    where
+      by_parts : (key : Key) → has_key key (BitsAt name start width) ≡ true
+          → ((is_same_key key (place_key name) ≡ true) ⊎ (has_key key start ≡ true)) ⊎ (has_key key width ≡ true)
+      by_parts key has = outer (or_true (is_same_key key (place_key name) || has_key key start) (has_key key width) has)
+        where
+          outer : ((is_same_key key (place_key name) || has_key key start) ≡ true) ⊎ (has_key key width ≡ true)
+              → ((is_same_key key (place_key name) ≡ true) ⊎ (has_key key start ≡ true)) ⊎ (has_key key width ≡ true)
+          outer (inl it) = inl (or_true (is_same_key key (place_key name)) (has_key key start) it)
+          outer (inr it) = inr it
+  all_told (FactOf which) names covers part told = record { more = names; is = refl; kept = same_part names; part = part; has = λ key has. absurd cc }
+  all_told (OfOne op operand) names covers part told = all_told operand names covers part told
+  all_told (OfTwo op left right) names covers part told =
+      let one = all_told left names covers part told.0 in
+      let two = all_told right one.more (covers_more names one.more covers one.kept) one.part told.1 in
+      other_names _ _ names _ (λ key has. or_true (has_key key left) (has_key key right) has) (then_told _ _ names _ (solve_all solved right) one two)

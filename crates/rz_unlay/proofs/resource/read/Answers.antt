@@ -1,0 +1,33 @@
+use Rattle.std.proofs.Common.{◌≡◌, true, List, Option, Some, sym, ap, ◌∙◌}
+use Rattle.rz_fields.specs.declared.tree.Tree.{Tree}
+use Rattle.rz_types.specs.Spells.{Spells}
+use Rattle.rz_types.specs.Template.{template_of}
+use Rattle.rz_unlay.specs.Cursor.{reading}
+use Rattle.rz_unlay.proofs.Tells.{every_told, none_told}
+use Rattle.rz_unlay.proofs.resource.read.Goals as goal
+
+pub returns-in-Some-clause-every : goal.returns-in-Some-clause-every
+returns-in-Some-clause-every c =
+    let reads = sym c.is_readable.ensures ∙ c.if-not-is_readable.false in
+    every_told c.args.facts.now (template_of c.args.template.now) c.args.bytes.now
+    (λ row spells. c.plain_rows_are_read.ensures c.args.facts.now (template_of c.args.template.now) row c.args.bytes.now c.body.ensures.shaped c.body.ensures.kept reads spells)
+    (Some c.in-Some.row) (sym c.in-Some.is ∙ c.in_ok-row.ensures ∙ ap (λ body. reading c.args.facts.now body c.args.bytes.now) c.body.ensures.body)
+
+pub returns-in-Some-clause-row : goal.returns-in-Some-clause-row
+returns-in-Some-clause-row c =
+    let reads = sym c.is_readable.ensures ∙ c.if-not-is_readable.false in
+    c.spelled_rows_are_rows.ensures true c.args.facts.now (template_of c.args.template.now) c.in-Some.row c.args.bytes.now
+    (c.read_rows_are_plain.ensures c.args.facts.now (template_of c.args.template.now) c.in-Some.row c.args.bytes.now c.body.ensures.shaped c.body.ensures.kept reads c.requires
+    (λ k. (c.type_inv.bytes k).fits)
+    (sym (ap (λ body. reading c.args.facts.now body c.args.bytes.now) c.body.ensures.body) ∙ sym c.in_ok-row.ensures ∙ c.in-Some.is))
+
+pub returns-in-None-clause-told : goal.returns-in-None-clause-told
+returns-in-None-clause-told c =
+    let reads = sym c.is_readable.ensures ∙ c.if-not-is_readable.false in
+    none_told c.args.facts.now (template_of c.args.template.now) c.args.bytes.now
+    (λ row spells. c.plain_rows_are_read.ensures c.args.facts.now (template_of c.args.template.now) row c.args.bytes.now c.body.ensures.shaped c.body.ensures.kept reads spells)
+    (sym c.in-None.is ∙ c.in_ok-row.ensures ∙ ap (λ body. reading c.args.facts.now body c.args.bytes.now) c.body.ensures.body)
+
+pub returns-in-None-clause-every : goal.returns-in-None-clause-every
+returns-in-None-clause-every c = λ row told.
+    absurd (returns-in-None-clause-told c row told)

@@ -1,0 +1,45 @@
+-- What the calls of the reader give, as the definitions see it.
+use Rattle.std.specs.Prelude.{ℕ, Bool, List, Option, Some, option_map}
+use Rattle.rz_core.specs.declared.facts.Facts.{Facts}
+use Rattle.rz_core.specs.declared.resource.Word.{Word}
+use Rattle.rz_expr.specs.Environment.{Environment}
+use Rattle.rz_types.specs.Field.{PlainBody}
+use Rattle.rz_fields.specs.declared.tree.Tree.TheVariants as trees
+use Rattle.rz_unlay.specs.Cursor.{body_found, line_of, names_inside, Found, Line, Lines, Step}
+use Rattle.rz_unlay.specs.Names.{known}
+use Rattle.rz_unlay.specs.declared.came.Came.{Came}
+use Rattle.rz_unlay.specs.declared.came.Met.{Met}
+use Rattle.rz_unlay.specs.declared.came.RowCame.{RowCame}
+use Rattle.rz_unlay.specs.declared.came.RowsCame.{RowsCame}
+use Rattle.rz_unlay.specs.declared.names.Note.{Note}
+
+-- a value or none that stands at a piece or at a field, where so much is known behind it
+abbrev pub step_in : Environment → Came → Step
+step_in names came = record { value = came.value; after = came.after; names = names }
+
+abbrev pub step_of : List Note → Came → Step
+step_of notes came = step_in (known notes) came
+
+abbrev pub met_in : Environment → Met → Step
+met_in names met = record { value = met.value; after = met.after; names = names }
+
+abbrev pub met_of : List Note → Met → Step
+met_of notes met = met_in (known notes) met
+
+-- the row of a body, where so much is known behind it
+abbrev pub found_of : List Note → RowCame → Found
+found_of notes came = record { row = came.row; after = came.after; names = known notes }
+
+abbrev pub line_in : RowCame → Line
+line_in came = (came.row, came.after)
+
+abbrev pub lines_in : RowsCame → Lines
+lines_in came = (came.rows, came.after)
+
+-- a row of a body within, from a place on, where so much is known outside of it
+abbrev pub row_at : Facts → List Bool → PlainBody → Environment → ℕ → Option Line
+row_at known all body names place = line_of (body_found known all body (names_inside body names) place)
+
+-- a row as the value of a switch
+abbrev pub chosen : Word → Environment → Option Line → Option Step
+chosen name names line = option_map (λ l. record { value = Some (trees.Choice name l.0); after = l.1; names = names }) line

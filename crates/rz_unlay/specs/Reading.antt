@@ -1,0 +1,19 @@
+-- What the bytes of a resource tell under the declaration of its type. (Inside Macintosh: More Macintosh Toolbox, Resource
+-- Manager; MPW Rez.)
+use Rattle.std.specs.Prelude.{◌≡◌, ℕ, true, List, Option, Some, None}
+use Rattle.rz_core.specs.declared.facts.Facts.{Facts}
+use Rattle.rz_fields.specs.declared.tree.Tree.{Tree}
+use Rattle.rz_types.specs.Field.{PlainBody}
+use Rattle.rz_types.specs.Readable.{is_readable}
+use Rattle.rz_types.specs.Spells.{Spells}
+use Rattle.rz_unlay.specs.declared.resource.Reading.{Reading}
+use Rattle.rz_unlay.specs.declared.resource.Reading.TheVariants as readings
+
+-- bytes tell a row: the declaration can be read, and the row spells them plainly
+abbrev pub IsTold : Facts → PlainBody → List ℕ → List Tree → Type 0
+IsTold known body bytes row = (is_readable body ≡ true) × Spells true known body row bytes
+
+-- the row of an answer, where it has one
+abbrev pub row_in : Reading → Option (List Tree)
+row_in (readings.Tree row) = Some row
+row_in readings.NoTree = None

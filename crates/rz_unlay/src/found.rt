@@ -1,0 +1,34 @@
+ghost use Rattle.std.specs.Prelude.{◌≡◌, true, ℕ, List, Some};
+ghost use Rattle.rz_core.specs.declared.facts.Facts.{Facts};
+ghost use Rattle.rz_fields.specs.declared.tree.Tree.{Tree};
+ghost use Rattle.rz_types.specs.Field.{PlainBody};
+ghost use Rattle.rz_types.specs.Readable.{is_readable};
+ghost use Rattle.rz_types.specs.Rules.{keeps_rules};
+ghost use Rattle.rz_types.specs.Shape.{is_well_shaped};
+ghost use Rattle.rz_types.specs.Spells.{Spells};
+ghost use Rattle.rz_unlay.specs.Cursor.{reading};
+
+use rz_bits::{
+    bytes_are_read_back, filled_to_a_multiple, numbers_are_read_back, numbers_are_written_back,
+};
+use rz_types::keys_stand_apart;
+
+/// A law, with nothing to run: under a declaration that can be read, a row that spells bytes plainly is read of them.
+pub fn plain_rows_are_read()
+    ensures { (known : Facts) (body : PlainBody) (row : List Tree) (bytes : List ℕ) → is_well_shaped body ≡ true → keeps_rules body ≡ true
+        → is_readable body ≡ true → Spells true known body row bytes → reading known body bytes ≡ Some row }
+{
+    numbers_are_read_back();
+    numbers_are_written_back();
+    bytes_are_read_back();
+    filled_to_a_multiple();
+    keys_stand_apart();
+}
+
+/// A law, with nothing to run: under a declaration that can be read, two rows that spell the same bytes plainly are equal.
+pub fn one_plain_row()
+    ensures { (known : Facts) (body : PlainBody) (row other : List Tree) (bytes : List ℕ) → is_well_shaped body ≡ true → keeps_rules body ≡ true
+        → is_readable body ≡ true → Spells true known body row bytes → Spells true known body other bytes → row ≡ other }
+{
+    plain_rows_are_read();
+}

@@ -1,0 +1,59 @@
+ghost use Rattle.std.specs.Prelude.{◌≡◌, ◌≤◌, false, length, IfOk, IfSome, List, Some};
+ghost use Rattle.rz_core.specs.Decided.{Decided};
+ghost use Rattle.rz_fields.specs.declared.tree.Tree.{Tree};
+ghost use Rattle.rz_types.specs.Row.{IsRow};
+ghost use Rattle.rz_types.specs.Spells.{Spells};
+ghost use Rattle.rz_types.specs.Template.{template_of};
+ghost use Rattle.rz_unlay.specs.Reading.{row_in, IsTold};
+
+use crate::found::plain_rows_are_read;
+use crate::row::read_row;
+use crate::spelled::{plain_rows_are_spelled, read_rows_are_plain, spelled_rows_are_rows};
+use rz_core::{Facts, NoMemory};
+use rz_types::{Row, Template, is_readable};
+use std::alloc::Global;
+
+/// What the bytes of a resource tell.
+#[derive(Debug, Drop)]
+pub enum Reading {
+    /// The one row that spells them plainly.
+    Tree(Row),
+    /// There is no such row, or the declaration can't be read.
+    NoTree,
+}
+
+/// The row that the bytes of a resource tell, of which so much is known, under the fields of a template that can be read
+/// ([`is_readable`]): the one that spells them plainly. `NoTree` comes exactly where there is no such row, or the template
+/// can't be read.
+///
+/// A row is plain where its bytes tell it again: each number with a fixed value solves to the counts of arrays that it
+/// tells, a `cstring` has no zero byte, a text with a size is no longer than the size leaves, a `string` with a size doesn't
+/// end in a zero byte, filler and the fewer than eight bits behind the last field are zero, and it has at most 1,048,576
+/// numbers, texts and rows of arrays, where a point counts as two numbers and a rectangle as four.
+///
+/// The bytes are at most 16,777,212. Time and memory are in proportion to what is read of them, for each row the fields of
+/// its array, with their expressions, and to the cases of each switch. (MPW Rez.)
+pub fn read(
+    alloc: Global,
+    template: &Template,
+    bytes: &[u8],
+    facts: &Facts,
+) -> Result<Reading, NoMemory>
+    requires { length bytes.now ≤ 16777212 }
+    ensures told { IfOk result (λ reading. Decided (IsTold facts.now (template_of template.now) bytes.now) (row_in reading)) }
+    ensures every { (row : List Tree) → IsTold facts.now (template_of template.now) bytes.now row → IfOk result (λ reading. row_in reading ≡ Some row) }
+    ensures row { IfOk result (λ reading. IfSome (row_in reading) (IsRow (template_of template.now))) }
+    ensures spelled { IfOk result (λ reading. IfSome (row_in reading) (λ row. Spells false facts.now (template_of template.now) row bytes.now)) }
+{
+    plain_rows_are_read();
+    read_rows_are_plain();
+    plain_rows_are_spelled();
+    spelled_rows_are_rows();
+    if !is_readable(template) {
+        return Ok(Reading::NoTree);
+    }
+    match read_row(alloc, template.body(), bytes, facts)? {
+        Some(row) => Ok(Reading::Tree(row)),
+        None => Ok(Reading::NoTree),
+    }
+}

@@ -1,0 +1,35 @@
+ghost use Rattle.std.specs.Prelude.{◌≡◌, ◌≤◌, ◌<◌, Bool, false, true, ℕ, length, List, slice_index, Some};
+ghost use Rattle.rz_core.specs.declared.facts.Facts.{Facts};
+ghost use Rattle.rz_fields.specs.declared.tree.Tree.{Tree};
+ghost use Rattle.rz_types.specs.Field.{PlainBody};
+ghost use Rattle.rz_types.specs.Readable.{is_readable};
+ghost use Rattle.rz_types.specs.Row.{IsRow};
+ghost use Rattle.rz_types.specs.Rules.{keeps_rules};
+ghost use Rattle.rz_types.specs.Shape.{is_well_shaped};
+ghost use Rattle.rz_types.specs.Spells.{Spells};
+ghost use Rattle.rz_unlay.specs.Cursor.{reading};
+
+use rz_bits::{bits_are_written_back, numbers_are_read_back, numbers_are_written_back};
+use rz_types::rules_hold_within;
+
+/// A law, with nothing to run: under a declaration that can be read, a row that is read of bytes spells them plainly.
+pub fn read_rows_are_plain()
+    ensures { (known : Facts) (body : PlainBody) (row : List Tree) (bytes : List ℕ) → is_well_shaped body ≡ true → keeps_rules body ≡ true
+        → is_readable body ≡ true → length bytes ≤ 16777212 → ((k : ℕ) → slice_index bytes k < 256)
+        → reading known body bytes ≡ Some row → Spells true known body row bytes }
+{
+    bits_are_written_back();
+    numbers_are_read_back();
+    numbers_are_written_back();
+    rules_hold_within();
+}
+
+/// A law, with nothing to run: what spells bytes under the fields of a type, plainly or not, is a row of it.
+pub fn spelled_rows_are_rows()
+    ensures { (plain : Bool) (known : Facts) (body : PlainBody) (row : List Tree) (bytes : List ℕ) → Spells plain known body row bytes → IsRow body row }
+{}
+
+/// A law, with nothing to run: a row that spells bytes plainly spells them.
+pub fn plain_rows_are_spelled()
+    ensures { (known : Facts) (body : PlainBody) (row : List Tree) (bytes : List ℕ) → Spells true known body row bytes → Spells false known body row bytes }
+{}
