@@ -49,12 +49,7 @@ impl<'a> BitView<'a> {
 
     /// A copy of so many bytes from a place on, in bits. `Ok(None)` exactly where so many bytes are not there.
     #[tactic(auto, using(crate::proofs::Windows::bits_length))]
-    pub fn bytes(
-        &self,
-        alloc: Global,
-        place: u32,
-        count: u32,
-    ) -> Result<Option<Bytes>, NoMemory>
+    pub fn bytes(&self, alloc: Global, place: u32, count: u32) -> Result<Option<Bytes>, NoMemory>
         ensures bytes { IfOk result (λ bytes. bytes ≡ bytes_at (seen self.now) place count) }
         ensures within { IfOk result (λ bytes. IfSome bytes (λ b. place + 8 * count ≤ length (seen self.now))) }
     {
@@ -109,7 +104,10 @@ fn whole_bytes(alloc: Global, bytes: &[u8], first: u32, count: u32) -> Result<By
     requires { first + count ≤ length bytes.now }
     ensures { IfOk result (λ copy. copy ≡ front_bytes count (drop (8 * first) (bits_of bytes.now))) }
 {
-    Bytes::of(alloc, &bytes[first as usize..first as usize + count as usize])
+    Bytes::of(
+        alloc,
+        &bytes[first as usize..first as usize + count as usize],
+    )
 }
 
 /// Bytes that are there, from any place on.

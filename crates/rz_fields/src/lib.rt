@@ -20,9 +20,7 @@ pub use field::{
     ArrayField, Body, Case, Cases, Exprs, Field, NumField, NumForm, PointField, Radix, Symbol,
     Symbols, TextField, TextForm,
 };
-pub use keys::{
-    CaseKey, case_keys, fixed_width, fixed_widths, key_bits, sized_bytes, text_width,
-};
+pub use keys::{CaseKey, case_keys, fixed_width, fixed_widths, key_bits, sized_bytes, text_width};
 pub use range::{fits_number, may_be_size, own_width};
 pub use stored::{is_too_long, stored_number};
 pub use text::{TextPart, Texts, part_in, text_in, text_of};

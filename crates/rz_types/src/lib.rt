@@ -1,9 +1,10 @@
-//! Type declarations: templates that keep the rules, and the table in which they are found. `check` walks over the
-//! fields of a body and gives its template, or exactly the first rule that it breaks; the table gives exactly the
-//! declaration that counts for an id. What it rests on of fields and rows is handed on.
+//! Type declarations: templates that keep the rules, which of them can be read, and the table in which they are found.
+//! `check` walks over the fields of a body and gives its template, or exactly the first rule that it breaks; a template
+//! can be read exactly where its bytes say where each field ends; the table gives exactly the declaration that counts for
+//! an id. What it rests on of fields and rows is handed on.
 //! It rests on `rz_core`, `rz_expr` and `rz_fields`.
-//! A new rule changes the walk and the rules, and `specs/Kept`; a new kind of field, `copies` and each rule that speaks
-//! of it, beside what `rz_fields` says.
+//! A new rule changes the walk and the rules, and `specs/Kept`; a new kind of field, `copies`, `least`, `readable` and
+//! each rule that speaks of it, beside what `rz_fields` says.
 #![tactic(auto)]
 
 mod copies;

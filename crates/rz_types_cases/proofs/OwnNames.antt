@@ -5,14 +5,14 @@ use Rattle.rz_core.proofs.Tests.{and_so, both}
 use Rattle.rz_core.specs.declared.resource.Word.{Word}
 use Rattle.rz_expr.specs.Attribute.{attribute_word}
 use Rattle.rz_expr.specs.Keyword.{keyword_of}
-use Rattle.rz_types.specs.Field.{array_step, case_step, field_step, plain_body, plain_case, plain_cases, plain_field, Array, PlainCase, PlainField, Switch}
-use Rattle.rz_types.specs.Shape.{are_cases_shaped, are_shaped, is_own_name, is_shaped}
-use Rattle.rz_types.specs.declared.field.Case.{Case}
-use Rattle.rz_types.specs.declared.field.Field.{Field}
-use Rattle.rz_types.specs.declared.field.Field.TheFolds.{fold-roll-ArrayField, fold-roll-Field}
-use Rattle.rz_types.specs.declared.field.Field.TheOpen.{Field-F}
-use Rattle.rz_types.specs.declared.field.Field.TheVariants as fields
-use Rattle.rz_types.specs.declared.field.Field.TheViews.{roll-ArrayField}
+use Rattle.rz_fields.specs.Field.{array_step, case_step, field_step, plain_body, plain_case, plain_cases, plain_field, Array, PlainCase, PlainField, Switch}
+use Rattle.rz_fields.specs.Shape.{are_cases_shaped, are_shaped, is_own_name, is_shaped}
+use Rattle.rz_fields.specs.declared.field.Case.{Case}
+use Rattle.rz_fields.specs.declared.field.Field.{Field}
+use Rattle.rz_fields.specs.declared.field.Field.TheFolds.{fold-roll-ArrayField, fold-roll-Field}
+use Rattle.rz_fields.specs.declared.field.Field.TheOpen.{Field-F}
+use Rattle.rz_fields.specs.declared.field.Field.TheVariants as fields
+use Rattle.rz_fields.specs.declared.field.Field.TheViews.{roll-ArrayField}
 
 -- Names.
 

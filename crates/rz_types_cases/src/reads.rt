@@ -1,8 +1,8 @@
 ghost use Rattle.std.specs.Prelude.{◌≡◌, ◌&&◌, true, false, option_map, IfOk};
 ghost use Rattle.rz_expr.specs.Term.{term_of};
-ghost use Rattle.rz_types.specs.Field.{plain_body, plain_case, plain_field, PlainCase};
-ghost use Rattle.rz_types.specs.Shape.{are_shaped, is_none_or, is_own_name, is_own_width, is_shaped, is_well_shaped};
-ghost use Rattle.rz_types.specs.Value.{is_fixed_expression};
+ghost use Rattle.rz_fields.specs.Field.{plain_body, plain_case, plain_field, PlainCase};
+ghost use Rattle.rz_fields.specs.Shape.{are_shaped, is_none_or, is_own_name, is_own_width, is_shaped, is_well_shaped};
+ghost use Rattle.rz_fields.specs.Value.{is_fixed_expression};
 
 use rz_core::{Bytes, Listing, NoMemory, OsType, Word};
 use rz_expr::{BinaryOp, Expr};

@@ -4,7 +4,6 @@ use Rattle.std.specs.Prelude.{nat_abs}
 use Rattle.rz_core.specs.declared.facts.Facts.{Facts}
 use Rattle.rz_bits.specs.BitBuf.{missing}
 use Rattle.rz_expr.specs.Environment.{Environment}
-use Rattle.rz_types.specs.Field.{array_step, case_step, field_step, plain_array, plain_cases, plain_field, plain_number, plain_points, plain_text, Align, Fill, Number, PlainBody, PlainCase, PlainField, Points, Switch, Text}
 use Rattle.rz_fields.specs.declared.field.ArrayField.{ArrayField}
 use Rattle.rz_fields.specs.declared.field.Case.{Case}
 use Rattle.rz_fields.specs.declared.field.Field.{Field}
@@ -15,6 +14,7 @@ use Rattle.rz_fields.specs.declared.field.Field.TheVariants.{rolls-Align, rolls-
 use Rattle.rz_fields.specs.declared.field.NumField.{NumField}
 use Rattle.rz_fields.specs.declared.field.PointField.{PointField}
 use Rattle.rz_fields.specs.declared.field.TextField.{TextField}
+use Rattle.rz_types.specs.Field.{array_step, case_step, field_step, plain_array, plain_cases, plain_field, plain_number, plain_points, plain_text, Align, Fill, Number, PlainBody, PlainCase, PlainField, Points, Switch, Text}
 use Rattle.rz_unlay.specs.Cursor.{field_of_pieces, number_step, text_step, zeros_step, Step}
 use Rattle.rz_unlay.proofs.PieceSteps.{align_alone, fill_alone, number_alone, text_alone}
 

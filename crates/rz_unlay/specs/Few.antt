@@ -1,8 +1,8 @@
 -- What is read with at most so many values.
 use Rattle.std.specs.Prelude.{ℕ, ◌+◌, nat_le, if◌then◌else◌, List, length, Option, Some, None}
 use Rattle.std.specs.List.{sum_by}
-use Rattle.rz_types.specs.Spells.{count_in, values_in}
 use Rattle.rz_fields.specs.declared.tree.Tree.{Tree}
+use Rattle.rz_types.specs.Spells.{count_in, values_in}
 use Rattle.rz_unlay.specs.Cursor.{Found, Line, Lines, Step}
 
 -- what is found, where it counts no more than that

@@ -2,10 +2,10 @@
 use Rattle.std.specs.Prelude.{ℕ, ◌+◌, ◌*◌, Bool, if◌then◌else◌, List, Option, Some, None, option_and_then}
 use Rattle.rz_core.specs.declared.facts.Facts.{Facts}
 use Rattle.rz_expr.specs.Environment.{Environment}
-use Rattle.rz_types.specs.Field.{PlainText}
-use Rattle.rz_types.specs.Stored.{before_zero, stored_text}
 use Rattle.rz_fields.specs.declared.field.TextForm.{TextForm}
 use Rattle.rz_fields.specs.declared.field.TextForm.TheVariants as texts
+use Rattle.rz_types.specs.Field.{PlainText}
+use Rattle.rz_types.specs.Stored.{before_zero, stored_text}
 use Rattle.rz_unlay.specs.Cursor.{bytes_at, same_bytes, text_read, Step}
 
 -- a text that is stored as these bytes, which end at this place

@@ -1,6 +1,6 @@
 ghost use Rattle.std.specs.Prelude.{◌≡◌, ◌-◌, ◌%◌, ◌<◌, ◌^◌, length, map, replicate};
-ghost use Rattle.rz_types.specs.Stored.{before_zero, in_size, sized, stored_text, to_size};
 ghost use Rattle.rz_fields.specs.declared.field.TextForm.TheVariants.{Pascal, WordLong, Zero};
+ghost use Rattle.rz_types.specs.Stored.{before_zero, in_size, sized, stored_text, to_size};
 ghost use Rattle.rz_unlay.specs.Cursor.{same_bytes};
 ghost use Rattle.rz_unlay.specs.Texts.{sized_count, stored_count};
 

@@ -1,5 +1,5 @@
 use Rattle.std.proofs.Common.{List, [], ◌∷◌, ◌++◌, ap, ◌∙◌}
-use Rattle.rz_types.specs.declared.field.Case.{Case}
+use Rattle.rz_fields.specs.declared.field.Case.{Case}
 use Rattle.rz_types_cases.proofs.OwnNames.{switch_shaped}
 use Rattle.rz_types_cases.proofs.reads.switch.Goals as goal
 

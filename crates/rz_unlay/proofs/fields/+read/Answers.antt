@@ -3,12 +3,12 @@ use Rattle.std.specs.Prelude.{nat_lt, option_and_then, option_map}
 use Rattle.std.proofs.lemmas.Bool.Decides.{nat_tests}
 use Rattle.rz_bits.specs.View.{seen}
 use Rattle.rz_expr.specs.Environment.{Environment}
-use Rattle.rz_types.specs.Field.{plain_body, plain_field, PlainCase, PlainField}
-use Rattle.rz_types.specs.Spells.{values_in}
 use Rattle.rz_fields.specs.declared.field.Field.{Field}
 use Rattle.rz_fields.specs.declared.field.Field.TheViews.{out-ArrayField}
 use Rattle.rz_fields.specs.declared.tree.Tree.{Tree}
 use Rattle.rz_fields.proofs.Bodies.{array_is, case_is}
+use Rattle.rz_types.specs.Field.{plain_body, plain_field, PlainCase, PlainField}
+use Rattle.rz_types.specs.Spells.{values_in}
 use Rattle.rz_unlay.specs.Came.{chosen, line_in, lines_in, met_of, row_at}
 use Rattle.rz_unlay.specs.Cursor.{body_found, claim_count, count_known, field_found, has_keys, names_inside, rows_at, rows_by, rows_while, Lines, Step}
 use Rattle.rz_unlay.specs.Few.{few, found_count, line_count, lines_count, rows_count, step_count, value_count}

@@ -1,9 +1,9 @@
 use Rattle.std.proofs.Common.{◌≤◌, Bool, List, IfSome, length, sym, ap, ◌∙◌, subst}
 use Rattle.std.specs.Prelude.{option_map}
 use Rattle.rz_bits.specs.View.{seen}
+use Rattle.rz_fields.specs.declared.field.Field.{Field}
 use Rattle.rz_types.specs.Field.{plain_body}
 use Rattle.rz_types.specs.Spells.{outside}
-use Rattle.rz_fields.specs.declared.field.Field.{Field}
 use Rattle.rz_unlay.specs.Came.{line_in, row_at}
 use Rattle.rz_unlay.specs.Cursor.{body_found, ended, names_inside}
 use Rattle.rz_unlay.specs.Few.{few, line_count}

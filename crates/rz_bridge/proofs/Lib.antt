@@ -1,0 +1,9 @@
+pub mod HeaderFile
+pub mod Holds
+pub mod Image
+pub mod Loops
+pub mod Padding
+pub mod Parts
+pub mod Remainder
+pub mod Sizes
+pub mod Standing

@@ -1,0 +1,74 @@
+ghost use Rattle.std.specs.Prelude.{◌≡◌, ◌≤◌, ◌<◌, ◌^◌, length, IfOk};
+ghost use Rattle.rz_core.specs.Stop.{Gives, OnFault};
+ghost use Rattle.rz_bridge.specs.Faults.{IsSayable};
+ghost use Rattle.rz_bridge.specs.MacBinary.{macbin_finder, macbin_fields, macbin_content};
+
+use crate::fault::BridgeFault;
+use crate::file::{Finder, MacFile};
+use crate::macbin_rules::{data_length, data_place, macbin_torn, resource_length, resource_place};
+use crate::number::{piece_at, u8_at, u16_at, u32_at};
+use rz_core::{Bytes, NoMemory, OsType, Stop};
+use std::alloc::Global;
+
+/// The file of a MacBinary II: name, type, creator, flags, position, folder, lock, dates and both forks. A secondary
+/// header is skipped and a comment passes unread; the 16 bytes of the Finder's fields that the form doesn't have are
+/// zeros. Filler that is missing behind the last fork is no fault, nor is an empty fork that lies behind the file.
+/// There are fewer than 2^32 bytes.
+///
+/// Refused with the first broken rule, in the order 421, 422, 427, 424, 425, 426 (see [`BridgeFault`]). (MacBinary
+/// II.)
+pub fn macbin_read(alloc: Global, bytes: &[u8]) -> Result<MacFile, Stop<BridgeFault>>
+    requires { length bytes.now < 2 ^ 32 }
+    ensures file { Gives (macbin_content bytes.now) result }
+    ensures data_fork { IfOk result (λ file. length file.data_fork < 2 ^ 32) }
+    ensures res_fork { IfOk result (λ file. length file.res_fork < 2 ^ 32) }
+    ensures sayable { OnFault result IsSayable }
+{
+    if let Some(fault) = macbin_torn(bytes) {
+        return Err(Stop::Refused(fault));
+    }
+    Ok(read_fields(alloc, bytes)?)
+}
+
+/// The file that the fields make.
+#[tactic(auto, unfolding(crate::specs::MacBinary::macbin_fields))]
+fn read_fields(alloc: Global, bytes: &[u8]) -> Result<MacFile, NoMemory>
+    requires { 128 ≤ length bytes.now }
+    ensures file { IfOk result (λ file. file ≡ macbin_fields bytes.now) }
+    ensures data_fork { IfOk result (λ file. length file.data_fork ≤ length bytes.now) }
+    ensures res_fork { IfOk result (λ file. length file.res_fork ≤ length bytes.now) }
+{
+    let name = piece_at(bytes, 2, u8_at(bytes, 1) as usize);
+    let data_fork = piece_at(bytes, data_place(bytes), data_length(bytes));
+    let res_fork = piece_at(bytes, resource_place(bytes), resource_length(bytes));
+    Ok(MacFile {
+        name: Bytes::of(alloc, name)?,
+        finder: read_finder(bytes),
+        locked: u8_at(bytes, 81) % 2 == 1,
+        created: u32_at(bytes, 91),
+        modified: u32_at(bytes, 95),
+        data_fork: Bytes::of(alloc, data_fork)?,
+        res_fork: Bytes::of(alloc, res_fork)?,
+    })
+}
+
+/// The Finder's fields of a header.
+#[tactic(auto, unfolding(crate::specs::MacBinary::macbin_finder))]
+fn read_finder(bytes: &[u8]) -> Finder
+    requires { 128 ≤ length bytes.now }
+    ensures { result ≡ macbin_finder bytes.now }
+{
+    Finder {
+        kind: OsType {
+            code: u32_at(bytes, 65),
+        },
+        creator: OsType {
+            code: u32_at(bytes, 69),
+        },
+        flags: 256 * u16::from(u8_at(bytes, 73)) + u16::from(u8_at(bytes, 101)),
+        vertical: u16_at(bytes, 75).cast_signed(),
+        horizontal: u16_at(bytes, 77).cast_signed(),
+        folder: u16_at(bytes, 79).cast_signed(),
+        extra: [0; 16],
+    }
+}

@@ -1,0 +1,12 @@
+pub mod Examples
+pub mod Inside
+pub mod Octal
+pub mod Lines
+pub mod Pages
+pub mod Held
+pub mod Symbols
+pub mod Bytes
+pub mod Steps
+pub mod Trees
+pub mod Widths
+pub mod Good

@@ -1,0 +1,54 @@
+ghost use Rattle.std.specs.Prelude.{◌≡◌, ◌≤◌, ℕ, List, length, IfOk};
+ghost use Rattle.std.specs.Str.{str_to_ascii_lowercase};
+ghost use Rattle.rz_print.specs.Hidden.{hides};
+ghost use Rattle.rz_types.specs.Walk.{is_among};
+
+use rz_core::{NoMemory, Word};
+use std::alloc::Global;
+use std::collections::HashSet;
+
+/// The most bytes of a name that is looked up without memory: words of the language have no more.
+const SHORT: usize = 255;
+
+/// The names of the live macros, which are shown in no row. Case doesn't matter. (MPW Rez.)
+#[derive(Drop)]
+pub struct Hidden {
+    held: HashSet<Vec<u8>>,
+}
+
+/// A short name in lower case, written at the front of a buffer.
+fn lower_short<'a>(front: &'a mut [u8; SHORT], name: &[u8]) -> &'a [u8]
+    requires { length name.now ≤ 255 }
+    ensures { result.now ≡ str_to_ascii_lowercase name.now }
+{
+    let lower = &mut front[..name.len()];
+    lower.copy_from_slice(name);
+    lower.make_ascii_lowercase();
+    lower
+}
+
+impl Hidden {
+    /// The macros of these names, in whatever case.
+    pub fn of(alloc: Global, names: &[Word]) -> Result<Hidden, NoMemory>
+        ensures { IfOk result (λ hidden. (name : List ℕ) → hides hidden name ≡ is_among name names.now) }
+    {
+        let mut held = HashSet::new(alloc);
+        for name in names {
+            let lower = name.bytes.as_slice().to_ascii_lowercase(alloc)?;
+            held.insert(lower)?;
+        }
+        Ok(Hidden { held })
+    }
+
+    /// Whether a name is one of them. It takes memory only for a name of more than 255 bytes.
+    pub fn has(&self, alloc: Global, name: &[u8]) -> Result<bool, NoMemory>
+        ensures { IfOk result (λ has. has ≡ hides self.now name.now) }
+    {
+        if name.len() <= SHORT {
+            let mut front = [0; SHORT];
+            return Ok(self.held.contains(lower_short(&mut front, name)));
+        }
+        let lower = name.to_ascii_lowercase(alloc)?;
+        Ok(self.held.contains(lower.as_slice()))
+    }
+}

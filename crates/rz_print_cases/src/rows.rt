@@ -1,0 +1,147 @@
+ghost use Rattle.std.specs.Prelude.{◌≡◌, false, true};
+ghost use Rattle.rz_types.specs.Field.{plain_body, plain_field};
+ghost use Rattle.rz_types.specs.Shape.{are_shaped, is_own_width, is_shaped, is_well_shaped};
+
+use rz_core::{Bytes, Listing, NoMemory, Word, Words};
+use rz_print::{Hidden, uses_hidden, write_row};
+use rz_types::{
+    Body, Field, NumField, NumForm, PointField, Radix, Row, Template, TextField, TextForm, Tree,
+    check,
+};
+use std::alloc::Global;
+use std::test::Fail;
+
+/// A number field without symbols.
+fn number(alloc: Global, form: NumForm, width: i32, unsigned: bool, radix: Radix) -> Field
+    requires { is_own_width form width ≡ true }
+    ensures { is_shaped false (plain_field result) ≡ true }
+{
+    Field::Num(NumField {
+        form,
+        width,
+        unsigned,
+        radix,
+        symbols: Listing::new(alloc),
+        fixed: None,
+        key: false,
+    })
+}
+
+/// A text field.
+fn text(hex: bool) -> Field
+    ensures { is_shaped false (plain_field result) ≡ true }
+{
+    Field::Text(TextField {
+        form: TextForm::Open,
+        hex,
+        size: None,
+        fixed: None,
+    })
+}
+
+/// A point field.
+fn point() -> Field
+    ensures { is_shaped false (plain_field result) ≡ true }
+{
+    Field::Points(PointField {
+        rect: false,
+        fixed: None,
+    })
+}
+
+/// Numbers in each way, texts and a point.
+fn template(alloc: Global) -> Result<Template, Fail> {
+    let mut body = Body::new(alloc);
+    body.push(number(alloc, NumForm::Byte, 8, false, Radix::Plain))?;
+    body.push(number(alloc, NumForm::Byte, 8, true, Radix::Decimal))?;
+    body.push(number(alloc, NumForm::Bits, 5, true, Radix::Hex))?;
+    body.push(number(alloc, NumForm::Longint, 32, false, Radix::Octal))?;
+    body.push(number(alloc, NumForm::Bits, 5, false, Radix::Binary))?;
+    body.push(number(alloc, NumForm::Integer, 16, false, Radix::Literal))?;
+    body.push(number(alloc, NumForm::Longint, 32, false, Radix::Plain))?;
+    body.push(number(alloc, NumForm::Boolean, 1, false, Radix::Plain))?;
+    body.push(number(alloc, NumForm::Char, 8, false, Radix::Plain))?;
+    body.push(text(false))?;
+    body.push(text(true))?;
+    body.push(text(true))?;
+    body.push(point())?;
+    match check(alloc, body) {
+        Ok(template) => Ok(template),
+        Err(_) => Err(Fail::from("a rule is broken")),
+    }
+}
+
+/// A row of it.
+fn row(alloc: Global) -> Result<Row, Fail> {
+    let mut row = Row::new(alloc);
+    for number in [255, 255, 30, 0xFFFF_FFFF, 6, 0x4127, 0x8000_0000, 1, 0x22] {
+        row.push(Tree::Number(number))?;
+    }
+    row.push(Tree::Text(Bytes::of(alloc, &[b'a'; 65])?))?;
+    row.push(Tree::Text(Bytes::of(alloc, &[0xAB; 17])?))?;
+    row.push(Tree::Text(Bytes::new(alloc)))?;
+    row.push(Tree::Group(Listing::from_vec(vec![in alloc; 1, 0xFFFF]?)))?;
+    Ok(row)
+}
+
+/// The text of a row, as it stands in a statement.
+fn shown(
+    alloc: Global,
+    template: &Template,
+    row: &Row,
+    hidden: &Hidden,
+) -> Result<Bytes, NoMemory> {
+    let mut text = Bytes::new(alloc);
+    write_row(
+        template.body().as_slice(),
+        row.as_slice(),
+        1,
+        hidden,
+        &mut text,
+    )?;
+    Ok(text)
+}
+
+/// What is shown of the row.
+const SHOWN: &[u8] = b"    -1,
+    255,
+    0x1E,
+    037777777777,
+    0B00110,
+    'A\\'',
+    -2147483648,
+    true,
+    \"\\\"\",
+    \"aaaaaaaaaaaaaaaaaaaaaaaaaaaaaaaaaaaaaaaaaaaaaaaaaaaaaaaaaaaaaaaa\"
+    \"a\",
+    $\"ABAB ABAB ABAB ABAB ABAB ABAB ABAB ABAB\"
+    $\"AB\",
+    $\"\",
+    {1, -1}
+";
+
+#[test]
+fn values_are_shown_as_the_fields_say(rt: HostRuntime) -> Result<(), Fail> {
+    let alloc = rt.alloc();
+    let template = template(alloc)?;
+    let row = row(alloc)?;
+    let hidden = Hidden::of(alloc, &[])?;
+    let text = shown(alloc, &template, &row, &hidden)?;
+    assert!(rt; text.as_slice() == SHOWN);
+    assert!(rt; !uses_hidden(alloc, template.body().as_slice(), row.as_slice(), &hidden)?);
+    Ok(())
+}
+
+#[test]
+fn names_are_hidden_in_any_case(rt: HostRuntime) -> Result<(), Fail> {
+    let alloc = rt.alloc();
+    let mut names = Words::new(alloc);
+    names.push(Word {
+        bytes: Bytes::of(alloc, b"Button")?,
+    })?;
+    let hidden = Hidden::of(alloc, names.as_slice())?;
+    assert!(rt; hidden.has(alloc, b"bUTTON")?);
+    assert!(rt; !hidden.has(alloc, b"button1")?);
+    assert!(rt; !hidden.has(alloc, &[b'b'; 300])?);
+    Ok(())
+}
