@@ -89,7 +89,7 @@ pub fn outcome_of(alloc: Global, fields: &str, bytes: &[u8]) -> Result<Bytes, Fa
                 return Err(Fail::from("other bytes"));
             }
             let mut text = Bytes::new(alloc);
-            show_row(row.as_slice(), &mut text)?;
+            show_row(alloc, row.as_slice(), &mut text)?;
             Ok(text)
         }
         Ok(Reading::NoTree) => {
