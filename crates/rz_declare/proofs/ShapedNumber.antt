@@ -37,11 +37,7 @@ value_field form tokens term is = value_by (one_byte form tokens) tokens term is
 -- Names of symbols.
 
 name_shaped : (bytes : List ℕ) → is_lexed_word bytes ≡ true → is_name (role_of bytes) ≡ true → is_symbol_name bytes ≡ true
-name_shaped [] lexed name = cc
-name_shaped (b ∷ bytes) lexed name =
-    let some : nat_le 1 (length (b ∷ bytes)) ≡ true = le-leb 1 (length (b ∷ bytes)) (omega arith) in
-    let parts = both (is_word (b ∷ bytes)) (nat_le (length (b ∷ bytes)) 255) lexed in
-    λ i. some i && parts.1 i && name i
+name_shaped bytes lexed name = λ i. lexed i && name i
 
 pub name_of : (shape : Shape) (word : Word) → is_lexed shape ≡ true → name_in shape ≡ Some word → is_symbol_name word.bytes ≡ true
 name_of (shapes.Word own) word lexed is = by (is_name (role_of own.bytes)) refl is

@@ -6,6 +6,7 @@ use Rattle.std.specs.Ordering.{int_eq}
 use Rattle.rz_expr.specs.Constant.{constant_of}
 use Rattle.rz_expr.specs.Term.{Term}
 use Rattle.rz_expr.specs.Words.{is_name, role_of}
+use Rattle.rz_lex.specs.Lexeme.{is_lexed_word}
 use Rattle.rz_core.specs.declared.resource.Word.{Word}
 use Rattle.rz_fields.specs.Field.{case_and, field_and, no_cases, no_fields, Align, Array, Fill, Number, PlainBody, PlainCases, PlainField, PlainNumber, PlainPoints, PlainText, Points, Switch, Text}
 use Rattle.rz_fields.specs.Range.{fits_number, own_width}
@@ -30,9 +31,9 @@ is_none_or test (Some x) = test x
 abbrev pub is_own_width : NumForm → ℤ → Bool
 is_own_width form width = is_none_or (int_eq width) (own_width form)
 
--- a symbol has a name of 1 to 255 bytes that names what is no label, and a value in the range
+-- a symbol has a name, a word of at most 255 bytes that names what isn't necessarily a label, and a value in the range
 abbrev pub is_symbol_name : List ℕ → Bool
-is_symbol_name name = nat_le 1 (length name) && nat_le (length name) 255 && is_name (role_of name)
+is_symbol_name name = is_lexed_word name && is_name (role_of name)
 
 abbrev pub is_symbol_of : NumForm → ℤ → Symbol → Bool
 is_symbol_of form width symbol = is_symbol_name symbol.name.bytes && fits_number form width symbol.value

@@ -15,6 +15,7 @@ mod stored;
 mod text;
 mod tree;
 mod value;
+pub mod values;
 
 pub use field::{
     ArrayField, Body, Case, Cases, Exprs, Field, NumField, NumForm, PointField, Radix, Symbol,

@@ -4,3 +4,4 @@ pub mod Items
 pub mod Places
 pub mod Compile
 pub mod Steps
+pub mod Fits

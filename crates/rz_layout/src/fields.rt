@@ -18,12 +18,12 @@ use crate::names::{Counted, NamesEnv, enter};
 use crate::number::lay_number;
 use crate::points::lay_points;
 use crate::text::lay_text;
-use crate::values::{choice_in, line_in, next_value, rows_in};
 use rz_bits::{
     bits_are_written_back, bytes_are_read_back, filled_to_a_multiple, numbers_are_read_back,
     numbers_are_written_back,
 };
 use rz_core::{Bytes, Facts, Stop};
+use rz_fields::values::{choice_in, line_in, next_value, rows_in};
 use rz_types::{
     Case, Field, Row, Template, Tree, field_expressions_have_values, rules_hold_within, takes_value,
 };

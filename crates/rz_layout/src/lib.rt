@@ -18,7 +18,6 @@ mod points;
 mod push;
 mod store;
 mod text;
-mod values;
 
 pub use fault::LayFault;
 pub use fields::compile;

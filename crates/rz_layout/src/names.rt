@@ -7,9 +7,9 @@ ghost use Rattle.rz_types.specs.Field.{plain_body, plain_field};
 ghost use Rattle.rz_types.specs.Laid.{counted, rows_in, with_count, with_field};
 ghost use Rattle.rz_types.specs.Value.{names_sight};
 
-use crate::values::{next_value, rows_in};
 use rz_core::{Facts, NoMemory, Word};
 use rz_expr::{Env, FactWord, predefined, signed};
+use rz_fields::values::{next_value, rows_in};
 use rz_types::{Field, Tree, fact_of, takes_value};
 
 /// The number of rows of an array of a body that is open.

@@ -11,9 +11,9 @@ use crate::LayFault;
 use crate::fault::value_fault;
 use crate::laid::Laid;
 use crate::names::NamesEnv;
-use crate::values::number_in;
 use rz_core::Stop;
 use rz_expr::{Expr, value_in};
+use rz_fields::values::number_in;
 use rz_types::{NumField, NumForm, Tree, fits_number, stored_number};
 
 /// Lays a number: that of the row, or the value of its expression.

@@ -13,9 +13,9 @@ use crate::LayFault;
 use crate::laid::Laid;
 use crate::names::NamesEnv;
 use crate::number::fixed_number;
-use crate::values::group_in;
 use rz_core::Stop;
 use rz_expr::Expr;
+use rz_fields::values::group_in;
 use rz_types::{NumForm, PointField, Tree};
 
 /// Lays the numbers of a point or a rectangle: those of the row, or the values of its expressions.

@@ -15,9 +15,9 @@ use crate::laid::{Laid, one_more};
 use crate::names::NamesEnv;
 use crate::number::expression_value;
 use crate::push::push_text;
-use crate::values::text_in;
 use rz_core::{Bytes, Facts, Kept, Mark, Stop};
 use rz_expr::Expr;
+use rz_fields::values::text_in;
 use rz_types::{TextField, TextForm, Texts, Tree, is_too_long, may_be_size, text_of};
 use std::alloc::Global;
 

@@ -1,4 +1,4 @@
-pub mod Fits
+pub use Rattle.rz_items.specs.Fits
 pub mod Unfit
 pub mod Match
 pub mod Matched

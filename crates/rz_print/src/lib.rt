@@ -13,7 +13,6 @@ mod number;
 mod rows;
 mod text;
 mod uses;
-mod values;
 
 pub use hidden::Hidden;
 pub use laws::{printed_lines, printed_page, printed_rows};

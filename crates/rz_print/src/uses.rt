@@ -5,8 +5,8 @@ ghost use Rattle.rz_print.specs.Shown.{case_uses, field_uses, row_uses};
 ghost use Rattle.rz_types.specs.Field.{plain_body, plain_cases, plain_field};
 
 use crate::Hidden;
-use crate::values::{choice_in, line_in, next_value, rows_in};
 use rz_core::NoMemory;
+use rz_fields::values::{choice_in, line_in, next_value, rows_in};
 use rz_types::{Case, Field, Row, Tree, takes_value};
 use std::alloc::Global;
 

@@ -1,8 +1,8 @@
 ghost use Rattle.std.specs.Prelude.{◌≡◌, option_map};
-ghost use Rattle.rz_types.specs.Laid.{first_value, line_in, number_in, other_values, rows_in, text_in};
-ghost use Rattle.rz_types.specs.Spells.{choice_in, group_in};
+ghost use Rattle.rz_fields.specs.Laid.{first_value, line_in, number_in, other_values, rows_in, text_in};
+ghost use Rattle.rz_fields.specs.Spells.{choice_in, group_in};
 
-use rz_types::{Row, Tree};
+use crate::tree::{Row, Tree};
 
 /// A value of a row, where one is taken, and the values behind it.
 #[derive(Drop)]
