@@ -4,8 +4,10 @@ use Rattle.std.specs.Prelude.{nat_le, nat_lt, if◌then◌else◌}
 use Rattle.std.proofs.lemmas.Bool.Decides.{leb_tells}
 use Rattle.rz_bits.specs.Bits.{number_of}
 use Rattle.rz_types.specs.Spells.{values_in}
-use Rattle.rz_unlay.specs.Cursor.{ended, line_of, Found, Line}
-use Rattle.rz_unlay.specs.Few.{few, line_count}
+use Rattle.rz_unlay.specs.Cursor.{ended, line_of, Line}
+use Rattle.rz_pieces.specs.Pieces.{Found}
+use Rattle.rz_pieces.specs.Few.{few}
+use Rattle.rz_unlay.specs.Few.{line_count}
 use Rattle.rz_unlay.specs.Rows.{is_end}
 use Rattle.rz_unlay.proofs.FewValues.{first_within, is_over, some_same}
 

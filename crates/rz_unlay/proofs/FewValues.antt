@@ -10,22 +10,15 @@ use Rattle.rz_fields.specs.declared.tree.Tree.{Tree}
 use Rattle.rz_fields.specs.declared.tree.Tree.TheFolds.{fold-roll-Tree}
 use Rattle.rz_fields.specs.declared.tree.Tree.TheOpen.{Tree-F}
 use Rattle.rz_fields.specs.declared.tree.Tree.TheVariants as trees
-use Rattle.rz_fields.specs.declared.tree.Tree.TheVariants.{rolls-Choice, rolls-Group, rolls-Number, rolls-Rows, rolls-Text}
+use Rattle.rz_fields.specs.declared.tree.Tree.TheVariants.{rolls-Choice, rolls-Rows}
 use Rattle.rz_types.specs.Spells.{count_in, count_step, put, values_in}
-use Rattle.rz_unlay.specs.Cursor.{with_value, Found, Line, Lines}
+use Rattle.rz_pieces.specs.Pieces.{with_value, Found}
+use Rattle.rz_unlay.specs.Cursor.{Line, Lines}
 use Rattle.rz_unlay.specs.Rows.{pushed}
-use Rattle.rz_unlay.specs.Few.{few, found_count, line_count, lines_count, rows_count, value_count}
+use Rattle.rz_pieces.specs.Few.{few, value_count}
+use Rattle.rz_unlay.specs.Few.{found_count, line_count, lines_count, rows_count}
 
 -- How many values there are.
-
-pub count_number : (n : ℕ) → count_in (trees.Number n) ≡ 1
-count_number n = ap count_in (sym (rolls-Number n)) ∙ fold-roll-Tree ℕ count_step (Tree-F.Number n)
-
-pub count_text : (bytes : List ℕ) → count_in (trees.Text bytes) ≡ 1
-count_text bytes = ap count_in (sym (rolls-Text bytes)) ∙ fold-roll-Tree ℕ count_step (Tree-F.Text bytes)
-
-pub count_group : (numbers : List ℕ) → count_in (trees.Group numbers) ≡ length numbers
-count_group numbers = ap count_in (sym (rolls-Group numbers)) ∙ fold-roll-Tree ℕ count_step (Tree-F.Group numbers)
 
 sums : (rows : List (List Tree)) → sum_by (λ counts. sum_by (λ count. count) counts) (map (map count_in) rows) ≡ sum_by values_in rows
 sums [] = refl

@@ -17,7 +17,7 @@ use Rattle.rz_types.specs.Rules.{bad_width, may_be_width, unless}
 use Rattle.rz_types.specs.Shape.{are_cases_shaped, are_fixed_points, are_shaped, is_empty, is_fixed_number, is_key_shaped, is_none_or, is_number_shaped, is_own_name, is_own_width, is_shaped, is_symbol_of, is_unit, is_well_shaped, numbers_of}
 use Rattle.rz_types.specs.Value.{is_fixed_expression}
 use Rattle.rz_types.specs.Walk.{names_of}
-use Rattle.rz_unlay.specs.Fits.{AreFit, CasesFit, Fits, FixedFits, PointsFit}
+use Rattle.rz_pieces.specs.Fits.{AreFit, CasesFit, Fits, FixedFits, PointsFit}
 
 -- Widths and units.
 

@@ -20,14 +20,9 @@ pub mod SpelledFields
 pub mod SpelledShape
 pub mod Loose
 pub mod FewValues
-pub mod Noting
 pub mod FieldSteps
-pub mod Undone
 pub mod Fitting
-pub mod TextSteps
-pub mod PieceSteps
 pub mod KeySteps
 pub mod EndSteps
-pub mod LeafSteps
 pub mod Tells
 mod Examples

@@ -14,7 +14,8 @@ use Rattle.rz_types.specs.Kept.{AreCasesApart, AreKeysApart, AreKeysApartIn}
 use Rattle.rz_types.specs.Readable.{are_cases_read, are_read, is_read, is_readable, least_widths, rows_end}
 use Rattle.rz_types.specs.Shape.{are_cases_shaped, are_shaped, is_none_or, is_own_name, is_shaped, is_well_shaped}
 use Rattle.rz_types.specs.Spells.{at_front, behind, is_case, nothing_passed, outside, values_in, BodySpells, CaseSpells, FieldSpells, Inside, Passed, Spells}
-use Rattle.rz_unlay.specs.Cursor.{body_found, case_found, claim_count, count_known, ended, field_found, line_of, names_inside, reading, rows_by, with_value, Found, Step}
+use Rattle.rz_unlay.specs.Cursor.{body_found, case_found, count_known, ended, field_found, line_of, reading, rows_by}
+use Rattle.rz_pieces.specs.Pieces.{claim_count, names_inside, with_value, Found, Step}
 use Rattle.rz_unlay.proofs.ReadsBits.{length_zeros, number_zeros}
 use Rattle.rz_unlay.proofs.ReadsPieces.{align_field, fill_field, number_field, points_field, text_field}
 use Rattle.rz_unlay.proofs.ReadsKeys.{case_keys_there, keys_absent, keys_found}

@@ -22,7 +22,8 @@ use Rattle.rz_types.specs.Spells.{at_front, behind, is_case, values_for, BodySpe
 use Rattle.rz_types.specs.Stored.{stored_number}
 use Rattle.rz_types.specs.Value.{names_sight}
 use Rattle.rz_types.specs.Width.{capped, case_keys, field_key, fixed_width, key_bits, keys_from, number_key, plus}
-use Rattle.rz_unlay.specs.Cursor.{has_bits, has_key_at, has_keys, key_at, number_at}
+use Rattle.rz_unlay.specs.Cursor.{has_bits, has_key_at, has_keys, key_at}
+use Rattle.rz_bits.specs.View.{number_at}
 use Rattle.rz_unlay.proofs.ReadsBits.{all_append, length_number, number_found}
 use Rattle.rz_unlay.proofs.ReadsNames.{places_inside, HasPlaces}
 use Rattle.rz_unlay.proofs.ReadsTests.{itself, some_is, there_is}

@@ -12,7 +12,8 @@ use Rattle.rz_expr.specs.Term.{BitsAt, Constant, FactOf, Named, OfOne, OfTwo, Ro
 use Rattle.rz_expr.specs.Value.{known_value, value_of}
 use Rattle.rz_expr.specs.declared.value.EvalFault.{EvalFault}
 use Rattle.rz_bits.specs.Bits.{number_bits, number_of}
-use Rattle.rz_unlay.specs.Cursor.{is_stored, number_at, number_step, solve_all, Step}
+use Rattle.rz_pieces.specs.Pieces.{is_stored, number_step, solve_all, Step}
+use Rattle.rz_bits.specs.View.{number_at}
 use Rattle.rz_fields.specs.declared.field.NumForm.{NumForm}
 use Rattle.rz_fields.specs.declared.tree.Tree.{Tree}
 use Rattle.rz_fields.specs.declared.tree.Tree.TheVariants as trees

@@ -13,7 +13,7 @@ use Rattle.rz_types.specs.Field.{Align, Fill, Number, PlainBody, PlainNumber, Pl
 use Rattle.rz_types.specs.Readable.{are_pieces_read, is_number_read, is_read, is_text_read}
 use Rattle.rz_types.specs.Spells.{behind, behind_piece, behind_pieces, fixed_integer, free_integer, group_in, integers, numbers_of_group, put, values_for, FieldSpells, Filler, InOrder, IsGrouped, OneNumber, OneText, Passed, Piece, PieceSpells, Zeros}
 use Rattle.rz_types.specs.Shape.{numbers_of}
-use Rattle.rz_unlay.specs.Cursor.{field_of_pieces, first_of_row, grouped, number_of_value, numbers_of_values, piece_step, pieces_found, with_value, zeros_step, Found, Step}
+use Rattle.rz_pieces.specs.Pieces.{field_of_pieces, first_of_row, grouped, number_of_value, numbers_of_values, piece_step, pieces_found, with_value, zeros_step, Found, Step}
 use Rattle.rz_unlay.proofs.ReadsBits.{length_zeros, zeros_found}
 use Rattle.rz_unlay.proofs.ReadsNames.{folded, number_steps, Knows, Steps}
 use Rattle.rz_unlay.proofs.ReadsText.{text_steps, EndsAt}

@@ -12,7 +12,8 @@ use Rattle.rz_types.specs.Readable.{ends_at_end, is_count_known, least_widths, r
 use Rattle.rz_types.specs.Row.{IsStated}
 use Rattle.rz_types.specs.Spells.{gives_count, is_known, IsCounted, Passed, RowSpells, RowsSpell}
 use Rattle.rz_types.specs.Width.{fixed_widths}
-use Rattle.rz_unlay.specs.Cursor.{also_count, claim_count, count_claimed, count_known, known_count, rows_at, rows_by, rows_while, up_to_end, Line}
+use Rattle.rz_pieces.specs.Pieces.{also_count, claim_count, count_claimed, known_count}
+use Rattle.rz_unlay.specs.Cursor.{count_known, rows_at, rows_by, rows_while, up_to_end, Line}
 use Rattle.rz_unlay.proofs.ReadsNames.{count_same, counted_at, folded, is_lower, known_same, lower_own, Knows}
 use Rattle.rz_unlay.proofs.ReadsTests.{below, not_below, some_is, there_is}
 use Rattle.rz_unlay.proofs.ReadsText.{EndsAt}

@@ -24,7 +24,8 @@ use Rattle.rz_types.specs.Stored.{before_zero, in_size, is_too_long, sized, stor
 use Rattle.rz_types.specs.Text.{PlainPart}
 use Rattle.rz_types.specs.Value.{names_sight}
 use Rattle.rz_types.specs.Width.{fixed_widths, sized_bytes}
-use Rattle.rz_unlay.specs.Cursor.{bytes_at, bytes_left, fixed_read, same_bytes, size_found, size_read, stored_size, text_read, text_size, text_step, up_to_zero}
+use Rattle.rz_bits.specs.View.{bytes_at}
+use Rattle.rz_pieces.specs.Pieces.{bytes_left, fixed_read, same_bytes, size_found, size_read, stored_size, text_read, text_size, text_step, up_to_zero}
 use Rattle.rz_unlay.proofs.ReadsBits.{all_append, bits_there, each_small, front_there, length_bits, length_number, number_append, number_found, reduced_are, reduced_bits, take_are, zero_there, zeros_are, AreBytes}
 use Rattle.rz_unlay.proofs.ReadsNames.{folded, known_lower, lower, seen, Knows}
 use Rattle.rz_unlay.proofs.ReadsTests.{itself, not_below, some_is, there_is}

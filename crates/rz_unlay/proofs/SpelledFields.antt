@@ -12,7 +12,8 @@ use Rattle.rz_core.specs.declared.resource.Word.{Word}
 use Rattle.rz_expr.specs.Environment.{Environment, Key}
 use Rattle.rz_bits.specs.Bits.{bits_of, number_bits, number_of}
 use Rattle.rz_bits.specs.BitBuf.{filled, missing, zeros}
-use Rattle.rz_unlay.specs.Cursor.{body_found, case_found, claim_count, count_known, ended, field_found, has_keys, line_of, names_inside, reading, rows_by, with_value, Found, Line, Lines, Step}
+use Rattle.rz_unlay.specs.Cursor.{body_found, case_found, count_known, ended, field_found, has_keys, line_of, reading, rows_by, Line, Lines}
+use Rattle.rz_pieces.specs.Pieces.{claim_count, names_inside, with_value, Found, Step}
 use Rattle.rz_fields.specs.declared.tree.Tree.{Tree}
 use Rattle.rz_fields.specs.declared.tree.Tree.TheVariants as trees
 use Rattle.rz_types.specs.Field.{case_and, field_and, no_cases, no_fields, Align, Array, Fill, Number, PlainBody, PlainCases, PlainField, Points, Switch, Text}

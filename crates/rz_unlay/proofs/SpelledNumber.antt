@@ -11,7 +11,8 @@ use Rattle.rz_expr.specs.Term.{BitsAt, Constant, FactOf, Named, OfOne, OfTwo, Ro
 use Rattle.rz_expr.specs.Value.{value_of}
 use Rattle.rz_expr.specs.declared.value.EvalFault.{EvalFault}
 use Rattle.rz_bits.specs.Bits.{number_bits, number_of}
-use Rattle.rz_unlay.specs.Cursor.{also, bits_at, is_stored, number_at, number_step, solve_all, solve_key, Step}
+use Rattle.rz_pieces.specs.Pieces.{also, is_stored, number_step, solve_all, solve_key, Step}
+use Rattle.rz_bits.specs.View.{bits_at, number_at}
 use Rattle.rz_fields.specs.declared.field.NumForm.{NumForm}
 use Rattle.rz_fields.specs.declared.tree.Tree.{Tree}
 use Rattle.rz_fields.specs.declared.tree.Tree.TheVariants as trees

@@ -9,7 +9,8 @@ use Rattle.rz_core.specs.Lists.{or_else}
 use Rattle.rz_core.specs.declared.facts.Facts.{Facts}
 use Rattle.rz_core.specs.declared.resource.Word.{Word}
 use Rattle.rz_expr.specs.Environment.{count_key, count_of, place_of, Environment, Key}
-use Rattle.rz_unlay.specs.Cursor.{also_count, claim_count, count_claimed, count_known, known_count, names_inside, rows_at, rows_by, rows_while, stated_in, stated_value, up_to_end, Line, Lines}
+use Rattle.rz_pieces.specs.Pieces.{also_count, claim_count, count_claimed, known_count, names_inside, stated_in, stated_value}
+use Rattle.rz_unlay.specs.Cursor.{count_known, rows_at, rows_by, rows_while, up_to_end, Line, Lines}
 use Rattle.rz_fields.specs.declared.tree.Tree.{Tree}
 use Rattle.rz_types.specs.Field.{field_and, no_fields, Align, Array, Fill, Number, PlainBody, Points, Switch, Text}
 use Rattle.rz_types.specs.Row.{IsStated}

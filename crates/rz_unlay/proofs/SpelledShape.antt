@@ -16,7 +16,7 @@ use Rattle.rz_types.specs.Row.{takes_value, By, IsChoice, IsFront, IsRow, IsValu
 use Rattle.rz_types.specs.Shape.{numbers_of}
 use Rattle.rz_types.specs.Spells.{at_front, behind, behind_piece, free_integer, group_in, integers, is_case, nothing_passed, numbers_of_group, put, sees, AreBytes, BodySpells, CaseSpells, FieldSpells, Filler, Inside, InOrder, IsGrouped, IsNumber, IsStored, IsText, Late, OneNumber, OneText, Passed, Piece, PieceSpells, RowsSpell, RowSpells, Spells, Zeros}
 use Rattle.rz_types.specs.Text.{PlainPart}
-use Rattle.rz_unlay.specs.Cursor.{number_of_value}
+use Rattle.rz_pieces.specs.Pieces.{number_of_value}
 
 -- a value where one is taken, and else none
 abbrev Takes : Bool → (Tree → Type 0) → Option Tree → Type 0

@@ -5,26 +5,12 @@ use Rattle.rz_core.specs.declared.resource.Word.{Word}
 use Rattle.rz_expr.specs.Environment.{Environment}
 use Rattle.rz_fields.specs.declared.tree.Tree.TheVariants as trees
 use Rattle.rz_types.specs.Field.{PlainBody}
-use Rattle.rz_unlay.specs.Cursor.{body_found, line_of, names_inside, Found, Line, Lines, Step}
-use Rattle.rz_unlay.specs.Names.{known}
-use Rattle.rz_unlay.specs.declared.came.Came.{Came}
-use Rattle.rz_unlay.specs.declared.came.Met.{Met}
+use Rattle.rz_unlay.specs.Cursor.{body_found, line_of, Line, Lines}
+use Rattle.rz_pieces.specs.Pieces.{names_inside, Found, Step}
+use Rattle.rz_pieces.specs.Names.{known}
 use Rattle.rz_unlay.specs.declared.came.RowCame.{RowCame}
 use Rattle.rz_unlay.specs.declared.came.RowsCame.{RowsCame}
-use Rattle.rz_unlay.specs.declared.names.Note.{Note}
-
--- a value or none that stands at a piece or at a field, where so much is known behind it
-abbrev pub step_in : Environment → Came → Step
-step_in names came = record { value = came.value; after = came.after; names = names }
-
-abbrev pub step_of : List Note → Came → Step
-step_of notes came = step_in (known notes) came
-
-abbrev pub met_in : Environment → Met → Step
-met_in names met = record { value = met.value; after = met.after; names = names }
-
-abbrev pub met_of : List Note → Met → Step
-met_of notes met = met_in (known notes) met
+use Rattle.rz_pieces.specs.declared.names.Note.{Note}
 
 -- the row of a body, where so much is known behind it
 abbrev pub found_of : List Note → RowCame → Found

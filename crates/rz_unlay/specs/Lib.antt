@@ -1,10 +1,5 @@
 pub mod Cursor
 pub mod Came
 pub mod Few
-pub mod Fits
-pub mod Names
-pub mod Points
-pub mod Power
 pub mod Rows
-pub mod Texts
 pub mod Reading

@@ -3,7 +3,7 @@ ghost use Rattle.rz_bits.specs.View.{seen};
 ghost use Rattle.rz_types.specs.Field.{plain_body, plain_field, plain_number};
 ghost use Rattle.rz_types.specs.Width.{capped, case_keys, field_key, number_key, plus};
 ghost use Rattle.rz_unlay.specs.Cursor.{has_bits, has_keys, key_at};
-ghost use Rattle.rz_unlay.specs.Fits.{AreFit, Fits};
+ghost use Rattle.rz_pieces.specs.Fits.{AreFit, Fits};
 
 use rz_bits::BitView;
 use rz_fields::{Field, NumField, fixed_width, key_bits};
@@ -54,7 +54,7 @@ fn has_number_key(view: &BitView<'_>, number: &NumField, before: Option<u64>, at
 }
 
 /// The number in the bits of a key behind so many others.
-#[tactic(auto, using(crate::proofs::PieceSteps::seen_length))]
+#[tactic(auto, using(rz_pieces::proofs::PieceSteps::seen_length))]
 fn key_at(view: &BitView<'_>, width: u8, before: Option<u64>, at: u32) -> Option<u32>
     requires width { width ≤ 32 }
     requires at { at ≤ length (seen view.now) }
