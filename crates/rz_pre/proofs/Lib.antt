@@ -23,3 +23,4 @@ pub mod Numbers
 pub mod Lexing
 pub mod LastOne
 pub mod Unclosed
+pub mod Freeing

@@ -1,7 +1,8 @@
 -- What a name stands for behind what was read: the last definition decides. (MPW Rez.)
-use Rattle.std.specs.Prelude.{◌≡◌, ℕ, false, List, [], ◌∷◌, ◌++◌, map, option_map}
+use Rattle.std.specs.Prelude.{◌≡◌, ℕ, true, false, List, [], ◌∷◌, ◌++◌, map, option_map}
 use Rattle.std.specs.List.{AllByRecursion}
 use Rattle.std.specs.Str.{bytes_eq, str_to_ascii_lowercase}
+use Rattle.rz_expr.specs.Words.{is_label, role_of}
 use Rattle.rz_pre.specs.Live.{shapes_of, Row}
 use Rattle.rz_pre.specs.Unfolding.{Entry, Line, Opened}
 use Rattle.rz_pre.specs.declared.act.Act.{Act}
@@ -34,3 +35,17 @@ definitions defs entries = map worded defs ++ defined_in entries
 -- none of them is of this name
 abbrev pub LeavesName : List ℕ → List Row → Type 0
 LeavesName name rows = AllByRecursion (λ (row : Row). bytes_eq name row.0 ≡ false) rows
+
+-- Reserved words are never defined.
+
+-- a word that isn't reserved
+abbrev pub IsFree : List ℕ → Type 0
+IsFree word = is_label (role_of word) ≡ true
+
+-- the definitions of the words are of none that is
+abbrev pub AreFree : List Def → Type 0
+AreFree defs = AllByRecursion (λ def. IsFree def.name.bytes) defs
+
+-- a name that such a word has in lower case
+abbrev pub IsFreeName : List ℕ → Type 0
+IsFreeName name = (word : List ℕ) × (str_to_ascii_lowercase word ≡ name) × IsFree word

@@ -1,8 +1,8 @@
-ghost use Rattle.std.specs.Prelude.{◌≡◌, ◌↔◌, ◌∷◌, ◌++◌, ℕ, true, false, List, Option, None, Result, reverse};
+ghost use Rattle.std.specs.Prelude.{◌≡◌, ◌↔◌, ◌⊎◌, ◌∷◌, ◌++◌, ℕ, true, false, List, Ok, Option, None, Result, reverse};
 ghost use Rattle.rz_core.specs.declared.fault.Fault.{Fault};
 ghost use Rattle.rz_folder.specs.Folder.{Files};
 ghost use Rattle.rz_lex.specs.declared.token.Shape.{Shape};
-ghost use Rattle.rz_pre.specs.Definitions.{definitions, LeavesName};
+ghost use Rattle.rz_pre.specs.Definitions.{definitions, AreFree, IsFreeName, LeavesName};
 ghost use Rattle.rz_pre.specs.Expand.{Expansion};
 ghost use Rattle.rz_pre.specs.Groups.{is_group, lines_of, lines_unclosed, waiting, Choice, Done, Group, GroupGoes, Others};
 ghost use Rattle.rz_pre.specs.Live.{live_in, Live, Row};
@@ -88,6 +88,13 @@ pub fn last_definition()
         → (behind_all entries (start defs)).live ≡ live_in (reverse (definitions defs entries)) }
     ensures expands { (defs : List Def) (entries : List Entry) (shape : Shape)
         → (out : List Shape) × (work : ℕ) × Expansion (behind_all entries (start defs)).live shape out work }
+{}
+
+/// A law, with nothing to run: behind a program no reserved word is live, if the words define none: a name that is live
+/// is, in lower case, a word that isn't reserved.
+pub fn live_names_are_free()
+    ensures { (files : Files) (tool : Tool) (names paths : List (List ℕ)) (defs : List Def) (state : State) → AreFree defs
+        → ProgramGoes files tool names paths defs (Ok state) → (name : List ℕ) → (state.live name ≡ None) ⊎ IsFreeName name }
 {}
 
 /// A law, with nothing to run: a conditional whose `#endif` is missing where the file ends is read as one that

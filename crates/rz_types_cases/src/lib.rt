@@ -6,5 +6,3 @@
 mod checks;
 #[cfg(test)]
 mod finds;
-#[cfg(test)]
-mod reads;
