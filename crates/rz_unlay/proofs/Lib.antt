@@ -26,3 +26,4 @@ pub mod KeySteps
 pub mod EndSteps
 pub mod Tells
 mod Examples
+pub mod SpelledShort

@@ -18,4 +18,6 @@ mod spelled;
 
 pub use found::{one_plain_row, plain_rows_are_read};
 pub use resource::{Reading, read};
-pub use spelled::{plain_rows_are_spelled, read_rows_are_plain, spelled_rows_are_rows};
+pub use spelled::{
+    plain_rows_are_spelled, read_rows_are_plain, spelled_bytes_are_few, spelled_rows_are_rows,
+};

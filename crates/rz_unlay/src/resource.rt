@@ -1,4 +1,4 @@
-ghost use Rattle.std.specs.Prelude.{◌≡◌, ◌≤◌, false, length, IfOk, IfSome, List, Some};
+ghost use Rattle.std.specs.Prelude.{◌≡◌, false, IfOk, IfSome, List, Some};
 ghost use Rattle.rz_core.specs.Decided.{Decided};
 ghost use Rattle.rz_fields.specs.declared.tree.Tree.{Tree};
 ghost use Rattle.rz_types.specs.Row.{IsRow};
@@ -8,10 +8,15 @@ ghost use Rattle.rz_unlay.specs.Reading.{row_in, IsTold};
 
 use crate::found::plain_rows_are_read;
 use crate::row::read_row;
-use crate::spelled::{plain_rows_are_spelled, read_rows_are_plain, spelled_rows_are_rows};
+use crate::spelled::{
+    plain_rows_are_spelled, read_rows_are_plain, spelled_bytes_are_few, spelled_rows_are_rows,
+};
 use rz_core::{Facts, NoMemory};
 use rz_types::{Row, Template, is_readable};
 use std::alloc::Global;
+
+/// The most bytes of a resource.
+const MOST_BYTES: usize = 16_777_212;
 
 /// What the bytes of a resource tell.
 #[derive(Debug, Drop)]
@@ -31,15 +36,14 @@ pub enum Reading {
 /// end in a zero byte, filler and the fewer than eight bits behind the last field are zero, and it has at most 1,048,576
 /// numbers, texts and rows of arrays, where a point counts as two numbers and a rectangle as four.
 ///
-/// The bytes are at most 16,777,212. Time and memory are in proportion to what is read of them, for each row the fields of
-/// its array, with their expressions, and to the cases of each switch. (MPW Rez.)
+/// A row spells at most 16,777,212 bytes, so of more `NoTree` comes at once. Time and memory are in proportion to what is
+/// read of them, for each row the fields of its array, with their expressions, and to the cases of each switch. (MPW Rez.)
 pub fn read(
     alloc: Global,
     template: &Template,
     bytes: &[u8],
     facts: &Facts,
 ) -> Result<Reading, NoMemory>
-    requires { length bytes.now ≤ 16777212 }
     ensures told { IfOk result (λ reading. Decided (IsTold facts.now (template_of template.now) bytes.now) (row_in reading)) }
     ensures every { (row : List Tree) → IsTold facts.now (template_of template.now) bytes.now row → IfOk result (λ reading. row_in reading ≡ Some row) }
     ensures row { IfOk result (λ reading. IfSome (row_in reading) (IsRow (template_of template.now))) }
@@ -49,6 +53,10 @@ pub fn read(
     read_rows_are_plain();
     plain_rows_are_spelled();
     spelled_rows_are_rows();
+    spelled_bytes_are_few();
+    if bytes.len() > MOST_BYTES {
+        return Ok(Reading::NoTree);
+    }
     if !is_readable(template) {
         return Ok(Reading::NoTree);
     }

@@ -9,7 +9,9 @@ ghost use Rattle.rz_types.specs.Shape.{is_well_shaped};
 ghost use Rattle.rz_types.specs.Spells.{Spells};
 ghost use Rattle.rz_unlay.specs.Cursor.{reading};
 
-use rz_bits::{bits_are_written_back, numbers_are_read_back, numbers_are_written_back};
+use rz_bits::{
+    bits_are_written_back, filled_to_a_multiple, numbers_are_read_back, numbers_are_written_back,
+};
 use rz_types::rules_hold_within;
 
 /// A law, with nothing to run: under a declaration that can be read, a row that is read of bytes spells them plainly.
@@ -33,3 +35,10 @@ pub fn spelled_rows_are_rows()
 pub fn plain_rows_are_spelled()
     ensures { (known : Facts) (body : PlainBody) (row : List Tree) (bytes : List ℕ) → Spells true known body row bytes → Spells false known body row bytes }
 {}
+
+/// A law, with nothing to run: a row spells at most 16,777,212 bytes, plainly or not.
+pub fn spelled_bytes_are_few()
+    ensures { (plain : Bool) (known : Facts) (body : PlainBody) (row : List Tree) (bytes : List ℕ) → Spells plain known body row bytes → length bytes ≤ 16777212 }
+{
+    filled_to_a_multiple();
+}
