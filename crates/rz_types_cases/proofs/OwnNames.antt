@@ -1,12 +1,12 @@
 -- The names `a` and `b` are names of arrays and cases, and arrays and switches with them have the shape of a field.
-use Rattle.std.proofs.Common.{◌≡◌, ◌&&◌, ℕ, ℤ, true, false, List, [], ◌∷◌, Option, Some, None, refl, sym, ap, subst, ◌∙◌}
-use Rattle.std.specs.Prelude.{codes}
+use Rattle.std.proofs.Common.{◌≡◌, ◌&&◌, ℕ, suc, ℤ, true, false, List, [], ◌∷◌, Option, Some, None, refl, sym, ap, subst, ◌∙◌}
+use Rattle.std.specs.Prelude.{codes, max}
 use Rattle.rz_core.proofs.Tests.{and_so, both}
 use Rattle.rz_core.specs.declared.resource.Word.{Word}
 use Rattle.rz_expr.specs.Attribute.{attribute_word}
 use Rattle.rz_expr.specs.Keyword.{keyword_of}
 use Rattle.rz_fields.specs.Field.{array_step, case_step, field_step, plain_body, plain_case, plain_cases, plain_field, Array, PlainCase, PlainField, Switch}
-use Rattle.rz_fields.specs.Shape.{are_cases_shaped, are_shaped, is_own_name, is_shaped}
+use Rattle.rz_fields.specs.Shape.{are_cases_shaped, are_shaped, body_depth, cases_depth, field_depth, is_own_name, is_shaped}
 use Rattle.rz_fields.specs.declared.field.Case.{Case}
 use Rattle.rz_fields.specs.declared.field.Field.{Field}
 use Rattle.rz_fields.specs.declared.field.Field.TheFolds.{fold-roll-ArrayField, fold-roll-Field}
@@ -44,6 +44,10 @@ pub array_shaped : (name : Word) (row : List Field) → is_own_name name ≡ tru
 array_shaped name row own shaped =
     ap (is_shaped false) (array_is (Some name) None row) ∙ and_so (is_own_name name) (are_shaped false (plain_body row)) own shaped
 
+pub array_depth : (name : Word) (row : List Field)
+    → field_depth (plain_field (fields.Array (roll-ArrayField (record { name = Some name; count = None; row = row })))) ≡ suc (body_depth (plain_body row))
+array_depth name row = ap field_depth (array_is (Some name) None row)
+
 switch_is : (cases : List Case) → plain_field (fields.Switch cases) ≡ Switch (plain_cases cases)
 switch_is cases =
     ap plain_field (sym (fields.rolls-Switch cases)) ∙ fold-roll-Field PlainField PlainField PlainCase field_step array_step case_step (Field-F.Switch cases)
@@ -61,3 +65,10 @@ switch_shaped cases one other is first second =
     ∙ ap (λ (all : List Case). are_cases_shaped (plain_cases all)) is
     ∙ and_so (is_own_name (plain_case one).name) _ own.0 (and_so (are_shaped true (plain_case one).row) _ own.1
     (and_so (is_own_name (plain_case other).name) _ next.0 (and_so (are_shaped true (plain_case other).row) true next.1 refl)))
+
+pub switch_depth : (cases : List Case) (one other : Case) → cases ≡ one ∷ other ∷ [] → body_depth (plain_case one).row ≡ 0 → body_depth (plain_case other).row ≡ 0
+    → field_depth (plain_field (fields.Switch cases)) ≡ 1
+switch_depth cases one other is first second =
+    ap field_depth (switch_is cases)
+    ∙ ap (λ (all : List Case). suc (cases_depth (plain_cases all))) is
+    ∙ (λ i. suc (max (first i) (max (second i) 0)))

@@ -1,7 +1,7 @@
-ghost use Rattle.std.specs.Prelude.{◌≡◌, ◌&&◌, true, false, option_map, IfOk};
+ghost use Rattle.std.specs.Prelude.{◌≡◌, ◌≤◌, ◌&&◌, suc, true, false, option_map, IfOk};
 ghost use Rattle.rz_expr.specs.Term.{term_of};
 ghost use Rattle.rz_fields.specs.Field.{plain_body, plain_case, plain_field, PlainCase};
-ghost use Rattle.rz_fields.specs.Shape.{are_shaped, is_none_or, is_own_name, is_own_width, is_shaped, is_well_shaped};
+ghost use Rattle.rz_fields.specs.Shape.{are_shaped, body_depth, field_depth, is_none_or, is_own_name, is_own_width, is_shaped};
 ghost use Rattle.rz_fields.specs.Value.{is_fixed_expression};
 
 use rz_core::{Bytes, Listing, NoMemory, OsType, Word};
@@ -39,7 +39,8 @@ fn name(alloc: Global, other: bool) -> Result<Word, NoMemory>
 fn number(alloc: Global, form: NumForm, width: i32, fixed: Option<Expr>) -> Field
     requires own { is_own_width form width ≡ true }
     requires fixed { is_none_or is_fixed_expression (option_map term_of fixed) ≡ true }
-    ensures { is_shaped false (plain_field result) ≡ true }
+    ensures shaped { is_shaped false (plain_field result) ≡ true }
+    ensures flat { field_depth (plain_field result) ≡ 0 }
 {
     Field::Num(NumField {
         form,
@@ -54,7 +55,8 @@ fn number(alloc: Global, form: NumForm, width: i32, fixed: Option<Expr>) -> Fiel
 
 /// `bitstring` of so many bits.
 fn bits(alloc: Global, width: i32) -> Field
-    ensures { is_shaped false (plain_field result) ≡ true }
+    ensures shaped { is_shaped false (plain_field result) ≡ true }
+    ensures flat { field_depth (plain_field result) ≡ 0 }
 {
     number(alloc, NumForm::Bits, width, None)
 }
@@ -62,7 +64,8 @@ fn bits(alloc: Global, width: i32) -> Field
 /// `integer = ..`
 fn fixed(alloc: Global, value: Expr) -> Field
     requires { is_fixed_expression (term_of value) ≡ true }
-    ensures { is_shaped false (plain_field result) ≡ true }
+    ensures shaped { is_shaped false (plain_field result) ≡ true }
+    ensures flat { field_depth (plain_field result) ≡ 0 }
 {
     number(alloc, NumForm::Integer, 16, Some(value))
 }
@@ -89,6 +92,7 @@ fn count_and(alloc: Global, op: BinaryOp, right: Expr) -> Result<Expr, NoMemory>
 fn text(form: TextForm) -> Field
     ensures outside { is_shaped false (plain_field result) ≡ true }
     ensures inside { is_shaped true (plain_field result) ≡ true }
+    ensures flat { field_depth (plain_field result) ≡ 0 }
 {
     Field::Text(TextField {
         form,
@@ -100,7 +104,8 @@ fn text(form: TextForm) -> Field
 
 /// `string` of so many bytes.
 fn sized(size: i32) -> Field
-    ensures { is_shaped false (plain_field result) ≡ true }
+    ensures shaped { is_shaped false (plain_field result) ≡ true }
+    ensures flat { field_depth (plain_field result) ≡ 0 }
 {
     Field::Text(TextField {
         form: TextForm::Open,
@@ -113,7 +118,8 @@ fn sized(size: i32) -> Field
 /// An array without a name.
 fn array(count: Option<i32>, row: Body) -> Field
     requires { are_shaped false (plain_body row) ≡ true }
-    ensures { is_shaped false (plain_field result) ≡ true }
+    ensures shaped { is_shaped false (plain_field result) ≡ true }
+    ensures deep { field_depth (plain_field result) ≡ suc (body_depth (plain_body row)) }
 {
     Field::Array(ArrayField {
         name: None,
@@ -125,7 +131,8 @@ fn array(count: Option<i32>, row: Body) -> Field
 /// An array with the name `a`, or `b`.
 fn named(alloc: Global, other: bool, row: Body) -> Result<Field, NoMemory>
     requires { are_shaped false (plain_body row) ≡ true }
-    ensures { IfOk result (λ field. is_shaped false (plain_field field) ≡ true) }
+    ensures shaped { IfOk result (λ field. is_shaped false (plain_field field) ≡ true) }
+    ensures deep { IfOk result (λ field. field_depth (plain_field field) ≡ suc (body_depth (plain_body row))) }
 {
     let name = name(alloc, other)?;
     Ok(Field::Array(ArrayField {
@@ -137,7 +144,8 @@ fn named(alloc: Global, other: bool, row: Body) -> Result<Field, NoMemory>
 
 /// Whether the declaration can be read, and a copy of it.
 fn reads(alloc: Global, body: Body) -> Result<bool, Fail>
-    requires { is_well_shaped (plain_body body) ≡ true }
+    requires shaped { are_shaped false (plain_body body) ≡ true }
+    requires shallow { body_depth (plain_body body) ≤ 2 }
 {
     let Ok(template) = check(alloc, body) else {
         return Err(Fail::from("no template"));
@@ -281,7 +289,8 @@ fn counts_are_told_in_rows(rt: HostRuntime) -> Result<(), Fail> {
 
 /// A case with the key of so much and a text.
 fn case(alloc: Global, other: bool, key: i32, form: TextForm) -> Result<Case, NoMemory>
-    ensures { IfOk result (λ one. (λ (plain : PlainCase). is_own_name plain.name && are_shaped true plain.row) (plain_case one) ≡ true) }
+    ensures shaped { IfOk result (λ one. (λ (plain : PlainCase). is_own_name plain.name && are_shaped true plain.row) (plain_case one) ≡ true) }
+    ensures flat { IfOk result (λ one. (λ (plain : PlainCase). body_depth plain.row) (plain_case one) ≡ 0) }
 {
     let name = name(alloc, other)?;
     let mut row = Body::new(alloc);
@@ -300,7 +309,8 @@ fn case(alloc: Global, other: bool, key: i32, form: TextForm) -> Result<Case, No
 
 /// A switch of two cases.
 fn switch(alloc: Global, form: TextForm) -> Result<Field, NoMemory>
-    ensures { IfOk result (λ field. is_shaped false (plain_field field) ≡ true) }
+    ensures shaped { IfOk result (λ field. is_shaped false (plain_field field) ≡ true) }
+    ensures deep { IfOk result (λ field. field_depth (plain_field field) ≡ 1) }
 {
     let mut cases = Cases::new(alloc);
     cases.push(case(alloc, false, 1, TextForm::Pascal)?)?;

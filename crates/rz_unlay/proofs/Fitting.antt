@@ -87,4 +87,4 @@ mutual
       (field_fits scope in_case field each.0 kept.0 kept.2, body_fits scope in_case fields each.1 kept.3)
 
 pub template_fits : (body : PlainBody) → is_well_shaped body ≡ true → IsKept body → AreFit body
-template_fits body shaped kept = body_fits (names_of body) false body shaped kept.1
+template_fits body shaped kept = body_fits (names_of body) false body (both _ _ shaped).0 kept.1

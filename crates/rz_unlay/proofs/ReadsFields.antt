@@ -164,7 +164,7 @@ pub plain_row_read : ((width number : ℕ) → number_of (number_bits width numb
     → (known : Facts) (body : PlainBody) (row : List Tree) (bytes : List ℕ) → is_well_shaped body ≡ true → AreKeysApart body → is_readable body ≡ true → Spells true known body row bytes
     → reading known body bytes ≡ Some row
 plain_row_read read written again fewer known body row bytes shaped apart reads it =
-    let goes = reaches read written again known (bits_of bytes) true false body it.names (at_front body nothing_passed) (names_inside body outside) row 0 [] it.end it.late shaped apart reads
+    let goes = reaches read written again known (bits_of bytes) true false body it.names (at_front body nothing_passed) (names_inside body outside) row 0 [] it.end it.late (both_true _ _ shaped).0 apart reads
     (places_inside body None outside it.names it.own places_outside) (knows_inside body nothing_passed outside knows_outside)
     (part_inside known (bits_of bytes) body None outside outside it.names (at_front body nothing_passed) row 0 [] it.end it.late part_outside it.own it.fields) it.fields it.within
     (λ outer. left_few fewer (bits_of bytes) it.end it.within it.filled) in
