@@ -26,4 +26,7 @@ pub mod ShapedNumber
 pub mod ShapedValue
 pub mod ShapedField
 pub mod ShapedBody
+pub mod Level
+pub mod LevelField
+pub mod Depth
 pub mod Shaped

@@ -1,8 +1,11 @@
 -- What `type` statements make is well shaped.
-use Rattle.std.proofs.Common.{◌≡◌, false, List, Ok, sym, subst}
+use Rattle.std.proofs.Common.{◌≡◌, ℕ, ◌≤◌, nat_le, true, false, List, Ok, sym, subst, arith}
+use Rattle.std.proofs.lemmas.Bool.Decides.{nat_tests}
+use Rattle.rz_core.proofs.Tests.{and_so}
 use Rattle.rz_core.specs.declared.fault.Mark.{Mark}
 use Rattle.rz_lex.specs.Lexeme.{AreLexed}
 use Rattle.rz_lex.specs.declared.token.Token.{Token}
+use Rattle.rz_brackets.specs.Limit.{deepest_type, is_within_limits}
 use Rattle.rz_brackets.specs.declared.bracket.Bracket.TheVariants.{Curly, Round}
 use Rattle.rz_declare.specs.Constants.{body_value, declared, given_value, made_value, scope_value, CopyOf, Declare, Fields, PlainMade}
 use Rattle.rz_declare.specs.Declare.{copied, copied_of, for_any, for_ids, in_braces, IsDeclare, IsMade, IsScoped}
@@ -10,9 +13,11 @@ use Rattle.rz_declare.specs.Form as form
 use Rattle.rz_declare.specs.Form.{DeclareForm, MadeForm, ScopeForm}
 use Rattle.rz_declare.specs.Shaped.{IsShapedMade}
 use Rattle.rz_declare.proofs.Answering.{same_ok, then_ok}
+use Rattle.rz_declare.proofs.Depth.{declare_fits, IsMadeWithin}
 use Rattle.rz_declare.proofs.Pieces.{after_lexed, within_lexed}
 use Rattle.rz_declare.proofs.ShapedBody.{body_formed, body_shaped}
 use Rattle.rz_declare.proofs.ShapedField.{IsBodyFormed}
+use Rattle.rz_fields.specs.Shape.{are_shaped, body_depth, deepest_body}
 
 -- Statements as they are written.
 
@@ -32,19 +37,36 @@ scoped_formed tokens scope made (for_ids parted is scoped made_so) are = made_fo
 
 -- Statements with their values.
 
-made_shaped : (mark : Mark) (own : MadeForm) → IsMadeFormed own → (made : PlainMade) → made_value mark own ≡ Ok made → IsShapedMade made
+-- whatever their depth
+abbrev AreShapedFields : PlainMade → Type 0
+AreShapedFields (Fields body) = are_shaped false body ≡ true
+AreShapedFields (CopyOf kind id) = Unit {0}
+
+made_shaped : (mark : Mark) (own : MadeForm) → IsMadeFormed own → (made : PlainMade) → made_value mark own ≡ Ok made → AreShapedFields made
 made_shaped mark (form.Fields body) formed made is =
     let fields = then_ok (body_value mark body) _ made is in
-    subst IsShapedMade (same_ok (Fields fields.0) made fields.2) (body_shaped mark false body formed fields.0 fields.1)
+    subst AreShapedFields (same_ok (Fields fields.0) made fields.2) (body_shaped mark false body formed fields.0 fields.1)
 made_shaped mark (form.CopyOf kind id) formed made is =
     let value = then_ok (given_value mark id) _ made is in
-    subst IsShapedMade (same_ok (CopyOf kind value.0) made value.2) tt
+    subst AreShapedFields (same_ok (CopyOf kind value.0) made value.2) tt
 
-pub declare_shaped : (tokens : List Token) (stmt : DeclareForm) (mark : Mark) (declare : Declare) → AreLexed tokens → IsDeclare tokens stmt → declared mark stmt ≡ Ok declare
-    → IsShapedMade declare.made
-declare_shaped tokens stmt mark declare are is has =
+within : (depth most : ℕ) → depth ≤ most → nat_le depth most ≡ true
+within depth most is = grind (arith, nat_tests, is)
+
+shaped_within : (made : PlainMade) → AreShapedFields made → IsMadeWithin deepest_type made → IsShapedMade made
+shaped_within (Fields body) shaped low = and_so (are_shaped false body) (nat_le (body_depth body) deepest_body) shaped (within (body_depth body) deepest_body low)
+shaped_within (CopyOf kind id) shaped low = tt
+
+fields_shaped : (tokens : List Token) (stmt : DeclareForm) (mark : Mark) (declare : Declare) → AreLexed tokens → IsDeclare tokens stmt → declared mark stmt ≡ Ok declare
+    → AreShapedFields declare.made
+fields_shaped tokens stmt mark declare are is has =
     let bounds = then_ok (scope_value mark stmt.scope) _ declare has in
     let made = then_ok (made_value mark stmt.made) _ declare bounds.2 in
     let formed = scoped_formed is.behind stmt.scope stmt.made is.scoped (subst AreLexed is.are are).1.1 in
-    subst (λ (d : Declare). IsShapedMade d.made) (same_ok (record { kind = stmt.kind; bounds = bounds.0; made = made.0 }) declare made.2)
+    subst (λ (d : Declare). AreShapedFields d.made) (same_ok (record { kind = stmt.kind; bounds = bounds.0; made = made.0 }) declare made.2)
     (made_shaped mark stmt.made formed made.0 made.1)
+
+pub declare_shaped : (tokens : List Token) (stmt : DeclareForm) (mark : Mark) (declare : Declare) → AreLexed tokens → is_within_limits tokens ≡ true → IsDeclare tokens stmt
+    → declared mark stmt ≡ Ok declare → IsShapedMade declare.made
+declare_shaped tokens stmt mark declare are limits is has =
+    shaped_within declare.made (fields_shaped tokens stmt mark declare are is has) (declare_fits tokens stmt mark declare limits is has)

@@ -1,8 +1,9 @@
-ghost use Rattle.std.specs.Prelude.{◌≡◌, ◌↔◌, false, None, Bool, ℤ, List, Err, Ok, Some};
+ghost use Rattle.std.specs.Prelude.{◌≡◌, ◌↔◌, true, false, None, Bool, ℤ, List, Err, Ok, Some};
 ghost use Rattle.rz_core.specs.declared.fault.Fault.{Fault};
 ghost use Rattle.rz_core.specs.declared.fault.Mark.{Mark};
 ghost use Rattle.rz_lex.specs.Lexeme.{AreLexed};
 ghost use Rattle.rz_lex.specs.declared.token.Token.{Token};
+ghost use Rattle.rz_brackets.specs.Limit.{is_within_limits};
 ghost use Rattle.rz_fields.specs.declared.field.Symbol.{Symbol};
 ghost use Rattle.rz_declare.specs.Constants.{declared, Declare};
 ghost use Rattle.rz_declare.specs.Declare.{IsDeclare};
@@ -42,13 +43,15 @@ pub fn symbols_have_values()
         → (values_of fits mark first names ≡ Err fault) ↔ GoWrong fits mark first names fault }
 {}
 
-/// A law, with nothing to run: what a `type` statement makes of tokens that lines can be cut into is well shaped,
-/// with all that is in its arrays and switches. Each symbol has a value in the range and a name, which is a word of
-/// at most 255 bytes; a type has the width that is its own; fixed values are fixed expressions, and sizes field
+/// A law, with nothing to run: what a `type` statement within its limits makes of tokens that lines can be cut into is
+/// well shaped, with all that is in its arrays and switches. Each symbol has a value in the range and a name, which is a
+/// word of at most 255 bytes; a type has the width that is its own; fixed values are fixed expressions, and sizes field
 /// expressions; a fixed text has one part or more, a point two numbers and a rectangle four; units are 1, 4, 8, 16 or
 /// 32 bits, and of `align` not 1; the names of arrays and cases are such words; a key stands directly in a case, and
-/// its value is a constant that has one. A copy of another type has no fields of its own. (MPW Rez.)
+/// its value is a constant that has one; arrays and switches stand at most 60 deep in one another. A copy of another
+/// type has no fields of its own. (MPW Rez.)
 pub fn declarations_are_shaped()
     ensures { (tokens : List Token) (form : DeclareForm) (mark : Mark) (declare : Declare)
-        → AreLexed tokens → IsDeclare tokens form → declared mark form ≡ Ok declare → IsShapedMade declare.made }
+        → AreLexed tokens → is_within_limits tokens ≡ true → IsDeclare tokens form → declared mark form ≡ Ok declare
+        → IsShapedMade declare.made }
 {}

@@ -250,4 +250,4 @@ module _ (sizes : (known : Facts) (names : Environment) (term : Term) → GivesP
   pub row_known : (body : PlainBody) (row : List Tree) → is_well_shaped body ≡ true → IsKept body → Known (laid known body row)
   row_known body row shaped kept =
       then_known (body_laid known (counted body row outside) nothing_laid body row) (λ draft. Ok (bytes_of (filled 8 draft.bits)))
-      (inside_known [] body (body_known (names_of body) false body shaped kept.1) outside outside_gives outside_counts nothing_laid row) (λ draft. tt)
+      (inside_known [] body (body_known (names_of body) false body (both _ _ shaped).0 kept.1) outside outside_gives outside_counts nothing_laid row) (λ draft. tt)

@@ -125,4 +125,4 @@ mutual
       )
 
 pub sound_row : (body : PlainBody) (row : List Tree) → is_well_shaped body ≡ true → IsKept body → IsRow body row → AreSound body row
-sound_row body row shaped kept are = body_sound (names_of body) false body shaped kept.1 row are
+sound_row body row shaped kept are = body_sound (names_of body) false body (both _ _ shaped).0 kept.1 row are

@@ -266,4 +266,4 @@ module _ (hidden : List ℕ → Bool) (spares : SparesTruth hidden) where
 pub row_good : (hidden : List ℕ → Bool) (body : PlainBody) (row : List Tree) (more : Prints) → SparesTruth hidden → is_well_shaped body ≡ true → IsKept body → HasNames body → IsRow body row → AreOfBytes body row
     → row_uses hidden body row ≡ false → AreGood hidden more → AreGood hidden (row_prints hidden body row more)
 row_good hidden body row more spares shaped kept names is bytes uses good =
-    body_good hidden spares (names_of body) false body shaped kept.1 names row more (record { is = is; bytes = bytes; uses = uses }) good
+    body_good hidden spares (names_of body) false body (both _ _ shaped).0 kept.1 names row more (record { is = is; bytes = bytes; uses = uses }) good

@@ -62,4 +62,4 @@ mutual
       (field_width scope in_case field each.0 kept.0 kept.2, body_widths scope in_case fields each.1 kept.3)
 
 pub kept_widths : (body : PlainBody) → is_well_shaped body ≡ true → IsKept body → HasWidths body
-kept_widths body shaped kept = body_widths (names_of body) false body shaped kept.1
+kept_widths body shaped kept = body_widths (names_of body) false body (both _ _ shaped).0 kept.1

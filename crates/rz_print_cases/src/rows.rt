@@ -1,6 +1,6 @@
 ghost use Rattle.std.specs.Prelude.{◌≡◌, false, true};
 ghost use Rattle.rz_types.specs.Field.{plain_body, plain_field};
-ghost use Rattle.rz_types.specs.Shape.{are_shaped, is_own_width, is_shaped, is_well_shaped};
+ghost use Rattle.rz_types.specs.Shape.{are_shaped, body_depth, field_depth, is_own_width, is_shaped, is_well_shaped};
 
 use rz_core::{Bytes, Listing, NoMemory, Word, Words};
 use rz_print::{Hidden, uses_hidden, write_row};
@@ -14,7 +14,8 @@ use std::test::Fail;
 /// A number field without symbols.
 fn number(alloc: Global, form: NumForm, width: i32, unsigned: bool, radix: Radix) -> Field
     requires { is_own_width form width ≡ true }
-    ensures { is_shaped false (plain_field result) ≡ true }
+    ensures shaped { is_shaped false (plain_field result) ≡ true }
+    ensures flat { field_depth (plain_field result) ≡ 0 }
 {
     Field::Num(NumField {
         form,
@@ -29,7 +30,8 @@ fn number(alloc: Global, form: NumForm, width: i32, unsigned: bool, radix: Radix
 
 /// A text field.
 fn text(hex: bool) -> Field
-    ensures { is_shaped false (plain_field result) ≡ true }
+    ensures shaped { is_shaped false (plain_field result) ≡ true }
+    ensures flat { field_depth (plain_field result) ≡ 0 }
 {
     Field::Text(TextField {
         form: TextForm::Open,
@@ -41,7 +43,8 @@ fn text(hex: bool) -> Field
 
 /// A point field.
 fn point() -> Field
-    ensures { is_shaped false (plain_field result) ≡ true }
+    ensures shaped { is_shaped false (plain_field result) ≡ true }
+    ensures flat { field_depth (plain_field result) ≡ 0 }
 {
     Field::Points(PointField {
         rect: false,

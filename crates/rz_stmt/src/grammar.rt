@@ -1,8 +1,9 @@
-ghost use Rattle.std.specs.Prelude.{◌≡◌, ◌<◌, ◌≤◌, ◌-◌, ℕ, IfOk, Some, drop, length, take};
+ghost use Rattle.std.specs.Prelude.{◌≡◌, ◌<◌, ◌≤◌, ◌-◌, ℕ, true, IfOk, Some, drop, length, take};
 ghost use Rattle.rz_lex.specs.Within.{AreWithin};
 ghost use Rattle.rz_core.specs.Message.{IsNameable};
 ghost use Rattle.rz_core.specs.Stop.{OnFault};
 ghost use Rattle.rz_lex.specs.Lexeme.{AreLexed};
+ghost use Rattle.rz_brackets.specs.Limit.{is_within_limits};
 ghost use Rattle.rz_stmt.specs.Grammar.{Compiled, Declared, Gave, IsPlacedStatement, IsShapedStatement, Parses, statement_of};
 ghost use Rattle.rz_core.specs.declared.fault.Kept.TheVariants.{Nothing};
 
@@ -73,7 +74,7 @@ fn parse_all(alloc: Global, tokens: &[Token]) -> Result<Stmt, Stop<Fault>>
 fn parse_compile(alloc: Global, mark: Mark, tokens: &[Token]) -> Result<Stmt, Stop<Fault>>
     ensures parsed { Gave result (Compiled mark tokens.now) }
     ensures nameable { (files : ℕ) → mark.file < files → OnFault result (IsNameable files) }
-    ensures shaped { AreLexed tokens.now → IfOk result (λ stmt. IsShapedStatement (statement_of stmt)) }
+    ensures shaped { AreLexed tokens.now → is_within_limits tokens.now ≡ true → IfOk result (λ stmt. IsShapedStatement (statement_of stmt)) }
     ensures placed { (files : ℕ) → AreWithin files tokens.now → IfOk result (λ stmt. IsPlacedStatement files (statement_of stmt)) }
 {
     items_are_within();
@@ -87,7 +88,7 @@ fn parse_compile(alloc: Global, mark: Mark, tokens: &[Token]) -> Result<Stmt, St
 fn parse_declare(alloc: Global, mark: Mark, tokens: &[Token]) -> Result<Stmt, Stop<Fault>>
     ensures parsed { Gave result (Declared mark tokens.now) }
     ensures nameable { (files : ℕ) → mark.file < files → OnFault result (IsNameable files) }
-    ensures shaped { AreLexed tokens.now → IfOk result (λ stmt. IsShapedStatement (statement_of stmt)) }
+    ensures shaped { AreLexed tokens.now → is_within_limits tokens.now ≡ true → IfOk result (λ stmt. IsShapedStatement (statement_of stmt)) }
     ensures placed { (files : ℕ) → IfOk result (λ stmt. IsPlacedStatement files (statement_of stmt)) }
 {
     declarations_are_shaped();

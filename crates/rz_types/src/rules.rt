@@ -49,8 +49,8 @@ pub struct TypeFault {
 /// `pstring` from 0 to 255, a `wstring` from 0 to 65,535, a `cstring` from 1 on; a size that is no constant, or a constant
 /// without a value, breaks no rule. Behind the walk 212: the first array that an expression names and that is none of its
 /// own body and of those around (kept: the name). Names are the same in whatever case. The body has the shape of a
-/// declaration: the width of a type that has its own, two or four fixed numbers of points, units that there are, and so
-/// on. The walk goes as deep as arrays and switches stand in one another. (MPW Rez.)
+/// declaration: the width of a type that has its own, two or four fixed numbers of points, units that there are, arrays
+/// and switches at most 60 deep in one another, and so on. The walk goes as deep as these stand in one another. (MPW Rez.)
 pub fn check(alloc: Global, body: Body) -> Result<Template, Stop<TypeFault>>
     requires { is_well_shaped (plain_body body) ≡ true }
     ensures { Gives (checked (plain_body body)) (plain_templates result) }

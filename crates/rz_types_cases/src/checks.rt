@@ -1,7 +1,7 @@
-ghost use Rattle.std.specs.Prelude.{◌≡◌, true, false, IfOk};
+ghost use Rattle.std.specs.Prelude.{◌≡◌, ◌≤◌, suc, true, false, IfOk};
 ghost use Rattle.rz_expr.specs.Term.{term_of};
 ghost use Rattle.rz_fields.specs.Field.{plain_body, plain_field};
-ghost use Rattle.rz_fields.specs.Shape.{are_shaped, is_own_width, is_shaped, is_well_shaped};
+ghost use Rattle.rz_fields.specs.Shape.{are_shaped, body_depth, field_depth, is_own_width, is_shaped};
 ghost use Rattle.rz_fields.specs.Value.{is_field_expression};
 
 use rz_core::{Bytes, Kept, Listing, NoMemory, Stop, Word};
@@ -16,7 +16,8 @@ use std::test::Fail;
 /// A number field.
 fn number(alloc: Global, form: NumForm, width: i32) -> Field
     requires { is_own_width form width ≡ true }
-    ensures { is_shaped false (plain_field result) ≡ true }
+    ensures shaped { is_shaped false (plain_field result) ≡ true }
+    ensures flat { field_depth (plain_field result) ≡ 0 }
 {
     Field::Num(NumField {
         form,
@@ -32,7 +33,8 @@ fn number(alloc: Global, form: NumForm, width: i32) -> Field
 /// A text field with a size.
 fn sized(form: TextForm, size: Expr) -> Field
     requires { is_field_expression (term_of size) ≡ true }
-    ensures { is_shaped false (plain_field result) ≡ true }
+    ensures shaped { is_shaped false (plain_field result) ≡ true }
+    ensures flat { field_depth (plain_field result) ≡ 0 }
 {
     Field::Text(TextField {
         form,
@@ -44,7 +46,8 @@ fn sized(form: TextForm, size: Expr) -> Field
 
 /// The field and the value of 238, or nothing for a template.
 fn told(alloc: Global, body: Body) -> Result<Option<(u64, i64)>, Fail>
-    requires { is_well_shaped (plain_body body) ≡ true }
+    requires shaped { are_shaped false (plain_body body) ≡ true }
+    requires shallow { body_depth (plain_body body) ≤ 2 }
 {
     match check(alloc, body) {
         Ok(_) => Ok(None),
@@ -63,7 +66,8 @@ fn told(alloc: Global, body: Body) -> Result<Option<(u64, i64)>, Fail>
 
 /// What is told of a body of one field.
 fn told_of(alloc: Global, field: Field) -> Result<Option<i64>, Fail>
-    requires { is_shaped false (plain_field field) ≡ true }
+    requires shaped { is_shaped false (plain_field field) ≡ true }
+    requires shallow { field_depth (plain_field field) ≤ 2 }
 {
     let mut body = Body::new(alloc);
     body.push(field)?;
@@ -210,7 +214,8 @@ fn a_body_without_fields_is_a_template(rt: HostRuntime) -> Result<(), Fail> {
 /// An array without a name.
 fn array(count: Option<i32>, row: Body) -> Field
     requires { are_shaped false (plain_body row) ≡ true }
-    ensures { is_shaped false (plain_field result) ≡ true }
+    ensures shaped { is_shaped false (plain_field result) ≡ true }
+    ensures deep { field_depth (plain_field result) ≡ suc (body_depth (plain_body row)) }
 {
     Field::Array(ArrayField {
         name: None,
@@ -222,7 +227,8 @@ fn array(count: Option<i32>, row: Body) -> Field
 /// A body of one field.
 fn only(alloc: Global, field: Field) -> Result<Body, NoMemory>
     requires { is_shaped false (plain_field field) ≡ true }
-    ensures { IfOk result (λ body. are_shaped false (plain_body body) ≡ true) }
+    ensures shaped { IfOk result (λ body. are_shaped false (plain_body body) ≡ true) }
+    ensures deep { IfOk result (λ body. body_depth (plain_body body) ≤ field_depth (plain_field field)) }
 {
     let mut body = Body::new(alloc);
     body.push(field)?;

@@ -1,6 +1,6 @@
 ghost use Rattle.std.specs.Prelude.{◌≡◌, true, false, IfOk};
 ghost use Rattle.rz_fields.specs.Field.{plain_field};
-ghost use Rattle.rz_fields.specs.Shape.{is_shaped};
+ghost use Rattle.rz_fields.specs.Shape.{field_depth, is_shaped};
 
 use rz_core::{Bytes, Kept, OsType, Stop, Word};
 use rz_expr::{Expr, FactWord, UnaryOp};
@@ -121,7 +121,8 @@ fn copies_are_of_what_is_found(rt: HostRuntime) -> Result<(), Fail> {
 
 /// A number with a symbol.
 fn symbol_number(alloc: Global) -> Result<Field, Fail>
-    ensures { IfOk result (λ field. is_shaped false (plain_field field) ≡ true) }
+    ensures shaped { IfOk result (λ field. is_shaped false (plain_field field) ≡ true) }
+    ensures flat { IfOk result (λ field. field_depth (plain_field field) ≡ 0) }
 {
     let mut symbols = Symbols::new(alloc);
     let name = Word {
@@ -141,7 +142,8 @@ fn symbol_number(alloc: Global) -> Result<Field, Fail>
 
 /// A number with a fixed value.
 fn fixed_number(alloc: Global) -> Result<Field, Fail>
-    ensures { IfOk result (λ field. is_shaped false (plain_field field) ≡ true) }
+    ensures shaped { IfOk result (λ field. is_shaped false (plain_field field) ≡ true) }
+    ensures flat { IfOk result (λ field. field_depth (plain_field field) ≡ 0) }
 {
     let operand = Box::new(alloc, Expr::Fact(FactWord::Id))?;
     Ok(Field::Num(NumField {
@@ -157,7 +159,8 @@ fn fixed_number(alloc: Global) -> Result<Field, Fail>
 
 /// A text with a size and fixed bytes.
 fn fixed_text(alloc: Global) -> Result<Field, Fail>
-    ensures { IfOk result (λ field. is_shaped false (plain_field field) ≡ true) }
+    ensures shaped { IfOk result (λ field. is_shaped false (plain_field field) ≡ true) }
+    ensures flat { IfOk result (λ field. field_depth (plain_field field) ≡ 0) }
 {
     let mut texts = Texts::new(alloc);
     texts.push(TextPart::Plain(Bytes::of(alloc, b"ab")?))?;
@@ -171,7 +174,8 @@ fn fixed_text(alloc: Global) -> Result<Field, Fail>
 
 /// A point with fixed numbers.
 fn fixed_point(alloc: Global) -> Result<Field, Fail>
-    ensures { IfOk result (λ field. is_shaped false (plain_field field) ≡ true) }
+    ensures shaped { IfOk result (λ field. is_shaped false (plain_field field) ≡ true) }
+    ensures flat { IfOk result (λ field. field_depth (plain_field field) ≡ 0) }
 {
     let mut exprs = Exprs::new(alloc);
     exprs.push(Expr::Number(1))?;

@@ -1,6 +1,6 @@
 -- The fields of a template fit what the code asks of them.
 use Rattle.std.proofs.Common.{◌≡◌, ℕ, zero, suc, ◌<◌, ◌≤◌, ℤ, pos, Bool, true, false, ◌&&◌, ◌==◌, List, [], ◌∷◌, ◌++◌, length, Option, Some, None, sym, subst, arith}
-use Rattle.std.specs.Prelude.{if◌then◌else◌, nat_abs, nat_le, not}
+use Rattle.std.specs.Prelude.{if◌then◌else◌, nat_abs, not}
 use Rattle.std.specs.Ordering.{int_eq}
 use Rattle.std.proofs.lemmas.Bool.Decides.{nat_tests, Decides-int_eq}
 use Rattle.std.specs.List.{list_all, AllByRecursion}
@@ -14,7 +14,7 @@ use Rattle.rz_types.specs.Field.{case_and, field_and, no_cases, no_fields, Align
 use Rattle.rz_types.specs.Kept.{AreCasesKept, AreKept, IsKept, IsKeptWithin}
 use Rattle.rz_types.specs.Range.{is_between}
 use Rattle.rz_types.specs.Rules.{bad_width, may_be_width, unless}
-use Rattle.rz_types.specs.Shape.{are_cases_shaped, are_fixed_points, are_shaped, body_depth, deepest_body, is_empty, is_fixed_number, is_key_shaped, is_none_or, is_number_shaped, is_own_name, is_own_width, is_shaped, is_symbol_of, is_unit, is_well_shaped, numbers_of}
+use Rattle.rz_types.specs.Shape.{are_cases_shaped, are_fixed_points, are_shaped, is_empty, is_fixed_number, is_key_shaped, is_none_or, is_number_shaped, is_own_name, is_own_width, is_shaped, is_symbol_of, is_unit, is_well_shaped, numbers_of}
 use Rattle.rz_types.specs.Value.{is_fixed_expression}
 use Rattle.rz_types.specs.Walk.{names_of}
 use Rattle.rz_pieces.specs.Fits.{AreFit, CasesFit, Fits, FixedFits, PointsFit}
@@ -87,4 +87,4 @@ mutual
       (field_fits scope in_case field each.0 kept.0 kept.2, body_fits scope in_case fields each.1 kept.3)
 
 pub template_fits : (body : PlainBody) → is_well_shaped body ≡ true → IsKept body → AreFit body
-template_fits body shaped kept = body_fits (names_of body) false body (both (are_shaped false body) (nat_le (body_depth body) deepest_body) shaped).0 kept.1
+template_fits body shaped kept = body_fits (names_of body) false body (both _ _ shaped).0 kept.1

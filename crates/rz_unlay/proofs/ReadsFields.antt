@@ -12,7 +12,7 @@ use Rattle.rz_fields.specs.declared.tree.Tree.TheVariants as trees
 use Rattle.rz_types.specs.Field.{case_and, field_and, no_cases, no_fields, Align, Array, Fill, Number, PlainBody, PlainCases, PlainField, Points, Switch, Text}
 use Rattle.rz_types.specs.Kept.{AreCasesApart, AreKeysApart, AreKeysApartIn}
 use Rattle.rz_types.specs.Readable.{are_cases_read, are_read, is_read, is_readable, least_widths, rows_end}
-use Rattle.rz_types.specs.Shape.{are_cases_shaped, are_shaped, body_depth, deepest_body, is_none_or, is_own_name, is_shaped, is_well_shaped}
+use Rattle.rz_types.specs.Shape.{are_cases_shaped, are_shaped, is_none_or, is_own_name, is_shaped, is_well_shaped}
 use Rattle.rz_types.specs.Spells.{at_front, behind, is_case, nothing_passed, outside, values_in, BodySpells, CaseSpells, FieldSpells, Inside, Passed, Spells}
 use Rattle.rz_unlay.specs.Cursor.{body_found, case_found, count_known, ended, field_found, line_of, reading, rows_by}
 use Rattle.rz_pieces.specs.Pieces.{claim_count, names_inside, with_value, Found, Step}
@@ -24,7 +24,6 @@ use Rattle.rz_unlay.proofs.ReadsRows.{count_claims, rows_go}
 use Rattle.rz_unlay.proofs.ReadsTests.{at_most, below}
 use Rattle.rz_unlay.proofs.ReadsText.{EndsAt}
 use Rattle.rz_unlay.proofs.ReadsWidths.{body_wide, by_choice}
-use Rattle.rz_core.proofs.Tests.{both}
 use Rattle.rz_unlay.proofs.Sees.{both_true}
 
 -- the reader is behind a body, with its row
@@ -165,8 +164,7 @@ pub plain_row_read : ((width number : ℕ) → number_of (number_bits width numb
     → (known : Facts) (body : PlainBody) (row : List Tree) (bytes : List ℕ) → is_well_shaped body ≡ true → AreKeysApart body → is_readable body ≡ true → Spells true known body row bytes
     → reading known body bytes ≡ Some row
 plain_row_read read written again fewer known body row bytes shaped apart reads it =
-    let goes = reaches read written again known (bits_of bytes) true false body it.names (at_front body nothing_passed) (names_inside body outside) row 0 [] it.end it.late
-    (both (are_shaped false body) (nat_le (body_depth body) deepest_body) shaped).0 apart reads
+    let goes = reaches read written again known (bits_of bytes) true false body it.names (at_front body nothing_passed) (names_inside body outside) row 0 [] it.end it.late (both_true _ _ shaped).0 apart reads
     (places_inside body None outside it.names it.own places_outside) (knows_inside body nothing_passed outside knows_outside)
     (part_inside known (bits_of bytes) body None outside outside it.names (at_front body nothing_passed) row 0 [] it.end it.late part_outside it.own it.fields) it.fields it.within
     (λ outer. left_few fewer (bits_of bytes) it.end it.within it.filled) in

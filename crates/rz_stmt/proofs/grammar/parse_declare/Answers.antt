@@ -12,5 +12,5 @@ returns-in-Err-clause-parsed c =
     faulty c.args.mark c.args.tokens.now (declare_form c.in-Some.stmt) (rw c.in-Some.is at c.in_ok-stmt.ensures) c.in-Err.stop c.in-Err.ensures.value
 
 pub returns-in-Ok-clause-shaped : goal.returns-in-Ok-clause-shaped
-returns-in-Ok-clause-shaped c = λ lexed.
-    c.declarations_are_shaped.ensures c.args.tokens.now (declare_form c.in-Some.stmt) c.args.mark (declare_of c.in-Ok.stmt) lexed (rw c.in-Some.is at c.in_ok-stmt.ensures) c.in-Ok.ensures.value
+returns-in-Ok-clause-shaped c = λ lexed limits.
+    c.declarations_are_shaped.ensures c.args.tokens.now (declare_form c.in-Some.stmt) c.args.mark (declare_of c.in-Ok.stmt) lexed limits (rw c.in-Some.is at c.in_ok-stmt.ensures) c.in-Ok.ensures.value
