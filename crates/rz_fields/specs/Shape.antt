@@ -1,5 +1,5 @@
 -- The shapes that fields have, whatever their numbers are: what the grammar of declarations makes. (MPW Rez.)
-use Rattle.std.specs.Prelude.{ℕ, ℤ, nat_le, Bool, true, false, not, ◌&&◌, ◌||◌, ◌==◌, if◌then◌else◌, List, [], ◌∷◌, length, Option, Some, None}
+use Rattle.std.specs.Prelude.{ℕ, suc, max, ℤ, nat_le, Bool, true, false, not, ◌&&◌, ◌||◌, ◌==◌, if◌then◌else◌, List, [], ◌∷◌, length, Option, Some, None}
 use Rattle.std.specs.List.{list_all}
 use Rattle.std.specs.Option.{is_some}
 use Rattle.std.specs.Ordering.{int_eq}
@@ -120,6 +120,31 @@ abbrev mutual
   are_cases_shaped no_cases = true
   are_cases_shaped (case_and name row others) = is_own_name name && (are_shaped true row && are_cases_shaped others)
 
+-- Depth.
+
+abbrev mutual
+  -- how many arrays and switches stand in one another
+  pub field_depth : PlainField → ℕ
+  field_depth (Number number) = 0
+  field_depth (Text text) = 0
+  field_depth (Points points) = 0
+  field_depth (Fill unit count) = 0
+  field_depth (Align unit) = 0
+  field_depth (Array name count row) = suc (body_depth row)
+  field_depth (Switch cases) = suc (cases_depth cases)
+
+  pub body_depth : PlainBody → ℕ
+  body_depth no_fields = 0
+  body_depth (field_and field fields) = max (field_depth field) (body_depth fields)
+
+  pub cases_depth : PlainCases → ℕ
+  cases_depth no_cases = 0
+  cases_depth (case_and name row others) = max (body_depth row) (cases_depth others)
+
+-- arrays and switches stand at most so deep in one another
+abbrev pub deepest_body : ℕ
+deepest_body = 60
+
 -- the fields of a declaration, which stand in no case
 abbrev pub is_well_shaped : PlainBody → Bool
-is_well_shaped body = are_shaped false body
+is_well_shaped body = are_shaped false body && nat_le (body_depth body) deepest_body
