@@ -3,6 +3,7 @@ use Rattle.std.proofs.Common.{◌≡◌, refl, ℕ, pos, negsuc, Bool, List, [],
 use Rattle.std.specs.Prelude.{codes, ℤ}
 use Rattle.rz_core.specs.Decimal.{decimal_of}
 use Rattle.std.specs.Fmt.{digits}
+use Rattle.std.specs.Int.{int_wrap}
 use Rattle.rz_core.specs.Numbers.{be}
 use Rattle.rz_fields.specs.declared.field.NumForm.{NumForm}
 use Rattle.rz_fields.specs.declared.field.NumForm.TheVariants as forms
@@ -64,12 +65,15 @@ binary_word : line_text (single_written (in_binary 5 6)) ≡ codes "0B00110"
 binary_word = refl
 
 first_symbol : number_shown none (field forms.Byte (pos 8) false radixes.Hex (symbol (codes "on") (pos 1) ∷ symbol (codes "ON") (pos 2) ∷ symbol (codes "full") (negsuc 0) ∷ [])) 255 ≡ by_name (codes "full")
+unfolding int_wrap
 first_symbol = refl
 
 later_symbol_of_a_name : number_shown none (field forms.Byte (pos 8) false radixes.Hex (symbol (codes "on") (pos 1) ∷ symbol (codes "ON") (pos 2) ∷ [])) 2 ≡ in_hex 2 2
+unfolding int_wrap
 later_symbol_of_a_name = refl
 
 hidden_symbol : number_shown all (field forms.Byte (pos 8) false radixes.Hex (symbol (codes "on") (pos 1) ∷ [])) 1 ≡ in_hex 2 1
+unfolding int_wrap
 hidden_symbol = refl
 
 hex_piece : written_text (a_hex_text (1 ∷ 2 ∷ 3 ∷ [])) ≡ codes "$\"0102 03\""

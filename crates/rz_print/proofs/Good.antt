@@ -30,12 +30,13 @@ use Rattle.rz_types.specs.Value.{symbol_value}
 use Rattle.rz_types.specs.Walk.{names_of}
 use Rattle.rz_print.specs.Number.{by_decimal, by_form, by_hex, by_literal, by_radix, by_truth, by_value, is_literal_width, is_stored, named_or, number_shown, signed_number, symbol_for, truth}
 use Rattle.rz_print.specs.Print.{group_rest, group_written, no_prints, signed_written, single_written, Print, Prints}
-use Rattle.rz_print.specs.Printable.{AreGood, AreOfBytes, HasName, HasNames, HaveNames, IsCaseOfBytes, IsGood, IsName, IsOfBytes, IsWidth, SparesTruth}
+use Rattle.rz_print.specs.Printable.{AreGood, AreOfBytes, IsCaseOfBytes, IsGood, IsName, IsOfBytes, IsWidth, SparesTruth}
 use Rattle.rz_print.specs.Shown.{case_print, case_uses, field_print, field_uses, in_pieces, print_if, row_prints, row_uses, rows_prints, text_print}
 use Rattle.rz_print.specs.Written.{a_literal, IsPut, IsWritten}
 use Rattle.rz_print.proofs.Lines.{all_both}
+use Rattle.rz_print.proofs.Names.{shaped_names, HasName, HasNames, HaveNames}
 use Rattle.rz_print.proofs.Trees.{choice_chosen, choice_differs, fronted, group_is, line_is, number_is, rows_are, Takes}
-use Rattle.rz_print.proofs.Widths.{number_width}
+use Rattle.rz_print.proofs.Widths.{fields_shaped, number_width}
 
 -- Numbers.
 
@@ -263,7 +264,7 @@ module _ (hidden : List ℕ → Bool) (spares : SparesTruth hidden) where
         (λ takes. field_good scope in_case field each.0 kept.0 kept.2 names.0 first front.one showable.bytes.0 neither.0 takes)
         (body_good scope in_case fields each.1 kept.3 names.1 others more (record { is = subst (IsRow fields) front.others showable.is.2; bytes = showable.bytes.1; uses = neither.1 }) good)
 
-pub row_good : (hidden : List ℕ → Bool) (body : PlainBody) (row : List Tree) (more : Prints) → SparesTruth hidden → is_well_shaped body ≡ true → IsKept body → HasNames body → IsRow body row → AreOfBytes body row
+pub row_good : (hidden : List ℕ → Bool) (body : PlainBody) (row : List Tree) (more : Prints) → SparesTruth hidden → is_well_shaped body ≡ true → IsKept body → IsRow body row → AreOfBytes body row
     → row_uses hidden body row ≡ false → AreGood hidden more → AreGood hidden (row_prints hidden body row more)
-row_good hidden body row more spares shaped kept names is bytes uses good =
-    body_good hidden spares (names_of body) false body (both _ _ shaped).0 kept.1 names row more (record { is = is; bytes = bytes; uses = uses }) good
+row_good hidden body row more spares shaped kept is bytes uses good =
+    body_good hidden spares (names_of body) false body (fields_shaped body shaped) kept.1 (shaped_names body shaped) row more (record { is = is; bytes = bytes; uses = uses }) good

@@ -9,4 +9,5 @@ pub mod Bytes
 pub mod Steps
 pub mod Trees
 pub mod Widths
+pub mod Names
 pub mod Good

@@ -46,7 +46,7 @@ fronted true IsOne row rest (v, one, is) = record {
 }
 fronted false IsOne row rest is = record { one = refl; others = sym is }
 
-same_name : (name : List ℕ) → str_eq_ignore_ascii_case name name ≡ true
+pub same_name : (name : List ℕ) → str_eq_ignore_ascii_case name name ≡ true
 same_name name = (same_lower name name).1 refl
 
 -- the case that is chosen is none with a name that differs from all

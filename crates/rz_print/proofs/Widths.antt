@@ -1,6 +1,6 @@
 -- Fields that keep the rules have widths that they may have.
 use Rattle.std.proofs.Common.{◌≡◌, ℤ, pos, Bool, true, false, ◌&&◌, List, ◌++◌, None, sym, subst, arith}
-use Rattle.std.specs.Prelude.{if◌then◌else◌}
+use Rattle.std.specs.Prelude.{if◌then◌else◌, nat_le}
 use Rattle.std.specs.List.{list_all}
 use Rattle.std.specs.Ordering.{int_eq}
 use Rattle.std.proofs.lemmas.Bool.Decides.{nat_tests, Decides-int_eq}
@@ -12,7 +12,7 @@ use Rattle.rz_types.specs.Field.{case_and, field_and, no_cases, no_fields, Align
 use Rattle.rz_types.specs.Kept.{AreCasesKept, AreKept, IsKept, IsKeptWithin}
 use Rattle.rz_types.specs.Range.{is_between}
 use Rattle.rz_types.specs.Rules.{bad_width, may_be_width, unless}
-use Rattle.rz_types.specs.Shape.{are_cases_shaped, are_shaped, is_fixed_number, is_key_shaped, is_none_or, is_number_shaped, is_own_name, is_own_width, is_shaped, is_symbol_of, is_well_shaped}
+use Rattle.rz_types.specs.Shape.{are_cases_shaped, are_shaped, body_depth, deepest_body, is_fixed_number, is_key_shaped, is_none_or, is_number_shaped, is_own_name, is_own_width, is_shaped, is_symbol_of, is_well_shaped}
 use Rattle.rz_types.specs.Walk.{names_of}
 use Rattle.rz_print.specs.Printable.{HasWidth, HasWidths, HaveWidths, IsWidth}
 
@@ -61,5 +61,9 @@ mutual
       let each = both (is_shaped in_case field) (are_shaped in_case fields) is in
       (field_width scope in_case field each.0 kept.0 kept.2, body_widths scope in_case fields each.1 kept.3)
 
+-- its fields are shaped, whatever stands in them
+pub fields_shaped : (body : PlainBody) → is_well_shaped body ≡ true → are_shaped false body ≡ true
+fields_shaped body is = (both (are_shaped false body) (nat_le (body_depth body) deepest_body) is).0
+
 pub kept_widths : (body : PlainBody) → is_well_shaped body ≡ true → IsKept body → HasWidths body
-kept_widths body shaped kept = body_widths (names_of body) false body (both _ _ shaped).0 kept.1
+kept_widths body shaped kept = body_widths (names_of body) false body (fields_shaped body shaped) kept.1

@@ -2,6 +2,7 @@
 use Rattle.std.specs.Prelude.{ℕ, ◌+◌, ◌-◌, ◌/◌, ◌%◌, ◌^◌, nat_lt, ◌==◌, ◌||◌, ℤ, pos, negsuc, nat_abs, Bool, true, false, if◌then◌else◌, codes, List, [], ◌∷◌, Option, Some, None}
 use Rattle.rz_core.specs.Numbers.{be}
 use Rattle.rz_core.specs.declared.resource.Word.{Word}
+use Rattle.rz_expr.specs.Value.{reduced}
 use Rattle.rz_fields.specs.declared.field.NumForm.{NumForm}
 use Rattle.rz_fields.specs.declared.field.NumForm.TheVariants.{Boolean, Char}
 use Rattle.rz_fields.specs.declared.field.Radix.{Radix}
@@ -61,10 +62,10 @@ by_value field number = by_form field.form field number
 
 -- By a symbol.
 
--- a value of a symbol is stored as the number
+-- a value of a symbol, reduced to 32 bits as that of an expression is, is stored as the number
 abbrev pub is_stored : (width number : ℕ) → Option ℤ → Bool
 is_stored width number None = false
-is_stored width number (Some value) = stored_number width value == number
+is_stored width number (Some value) = stored_number width (reduced value) == number
 
 -- the first of these symbols that, looked up among all by its name, gives the number
 abbrev pub symbol_for : (all : List Symbol) → (width number : ℕ) → List Symbol → Option Word

@@ -2,7 +2,7 @@ ghost use Rattle.std.specs.Prelude.{◌≡◌, ◌++◌, true, false, ℕ, List,
 ghost use Rattle.rz_lex.specs.declared.token.Shape.{Shape};
 ghost use Rattle.rz_print.specs.Page.{AreCutBack, ArePrinted, IsPage};
 ghost use Rattle.rz_print.specs.Print.{list_lines, Prints};
-ghost use Rattle.rz_print.specs.Printable.{AreGood, AreOfBytes, HasNames, SparesTruth};
+ghost use Rattle.rz_print.specs.Printable.{AreGood, AreOfBytes, SparesTruth};
 ghost use Rattle.rz_print.specs.Shown.{row_prints, row_uses};
 ghost use Rattle.rz_print.specs.Written.{line_shapes, lines_text, Written};
 ghost use Rattle.rz_fields.specs.declared.tree.Tree.{Tree};
@@ -15,11 +15,11 @@ use rz_lex::cut_back;
 use rz_types::rules_hold_within;
 
 /// A law, with nothing to run: the items that are shown of a row, in front of others, may be written, and no word of
-/// them is a live macro. The row is one of fields that keep the rules and whose names are words; its texts are bytes;
+/// them is a live macro. The row is one of fields that are well shaped and keep the rules; its texts are bytes;
 /// no case that it chooses has the name of a live macro, and `true` and `false` are none.
 pub fn printed_rows()
     ensures { (hidden : List ℕ → Bool) (body : PlainBody) (row : List Tree) (more : Prints) → SparesTruth hidden
-        → is_well_shaped body ≡ true → keeps_rules body ≡ true → HasNames body → IsRow body row → AreOfBytes body row
+        → is_well_shaped body ≡ true → keeps_rules body ≡ true → IsRow body row → AreOfBytes body row
         → row_uses hidden body row ≡ false → AreGood hidden more → AreGood hidden (row_prints hidden body row more) }
 {
     rules_hold_within();

@@ -2,8 +2,9 @@ ghost use Rattle.std.specs.Prelude.{◌≡◌, false, true};
 ghost use Rattle.rz_types.specs.Field.{plain_body, plain_field};
 ghost use Rattle.rz_types.specs.Shape.{are_shaped, body_depth, field_depth, is_own_width, is_shaped, is_well_shaped};
 
-use rz_core::{Bytes, Listing, NoMemory, Word, Words};
+use rz_core::{Attr, Bytes, Listing, NoMemory, OsType, Resource, Word, Words};
 use rz_print::{Hidden, uses_hidden, write_row};
+use rz_show::show_row;
 use rz_types::{
     Body, Field, NumField, NumForm, PointField, Radix, Row, Template, TextField, TextForm, Tree,
     check,
@@ -68,6 +69,13 @@ fn template(alloc: Global) -> Result<Template, Fail> {
     body.push(text(true))?;
     body.push(text(true))?;
     body.push(point())?;
+    checked(alloc, body)
+}
+
+/// The template of a body that keeps the rules.
+fn checked(alloc: Global, body: Body) -> Result<Template, Fail>
+    requires { is_well_shaped (plain_body body) ≡ true }
+{
     match check(alloc, body) {
         Ok(template) => Ok(template),
         Err(_) => Err(Fail::from("a rule is broken")),
@@ -146,5 +154,42 @@ fn names_are_hidden_in_any_case(rt: HostRuntime) -> Result<(), Fail> {
     assert!(rt; hidden.has(alloc, b"bUTTON")?);
     assert!(rt; !hidden.has(alloc, b"button1")?);
     assert!(rt; !hidden.has(alloc, &[b'b'; 300])?);
+    Ok(())
+}
+
+#[test]
+fn resource_is_shown_by_its_row(rt: HostRuntime) -> Result<(), Fail> {
+    let alloc = rt.alloc();
+    let mut body = Body::new(alloc);
+    body.push(number(alloc, NumForm::Byte, 8, false, Radix::Plain))?;
+    body.push(text(false))?;
+    let template = checked(alloc, body)?;
+    let mut row = Row::new(alloc);
+    row.push(Tree::Number(255))?;
+    row.push(Tree::Text(Bytes::of(alloc, b"gorf")?))?;
+    let resource = Resource {
+        kind: OsType { code: 0x676F_7266 },
+        id: -5,
+        name: Bytes::of(alloc, b"N")?,
+        attr: Attr::of(0x50),
+        bytes: Bytes::new(alloc),
+    };
+    let hidden = Hidden::of(alloc, &[])?;
+    let mut text = Bytes::of(alloc, b"first\n")?;
+    show_row(
+        &resource,
+        template.body().as_slice(),
+        row.as_slice(),
+        &hidden,
+        &mut text,
+    )?;
+    let wanted = b"first
+resource 'gorf' (-5, \"N\", sysheap, locked) {
+    -1,
+    \"gorf\"
+};
+
+";
+    assert_eq!(rt; text.as_slice(), wanted.as_slice());
     Ok(())
 }

@@ -22,7 +22,8 @@ use Rattle.rz_brackets.specs.declared.pieces.Divider.TheVariants.{CloseParen, Co
 use Rattle.rz_expr.specs.Constant.{IsConstant}
 use Rattle.rz_data.specs.Head.{are_quoted, if_quoted, name_in, AreAttributes, Attribute, IsAttribute, IsRest, Set}
 use Rattle.rz_fields.specs.Text.{part_in, parts_in, with_part, PlainPart}
-use Rattle.rz_show.specs.Statement.{attribute_part, attributes_of, behind_commas, id_shapes, id_term, name_part, name_pieces, text_parts, text_shapes}
+use Rattle.rz_show.specs.Statement.{attribute_part, attributes_of, id_term, name_part, text_parts}
+use Rattle.rz_show.proofs.Shapes.{behind_commas, id_shapes, name_pieces, text_shapes}
 use Rattle.rz_show.proofs.Split.{front_and_back, none_left, one_and_more, shapes_in}
 use Rattle.rz_core.proofs.Tests.{by_test}
 

@@ -24,7 +24,8 @@ use Rattle.rz_lex.specs.declared.sign.Sign.TheVariants as signs
 use Rattle.rz_lex.specs.declared.token.Shape.{Shape}
 use Rattle.rz_lex.specs.declared.token.Shape.TheVariants as shapes
 use Rattle.rz_show.specs.Head.{attr_text, name_byte, name_text, word_text}
-use Rattle.rz_show.specs.Statement.{attribute_part, attributes_of, behind_commas, id_shapes, name_pieces, text_shapes}
+use Rattle.rz_show.specs.Statement.{attribute_part, attributes_of}
+use Rattle.rz_show.proofs.Shapes.{behind_commas, id_shapes, name_pieces, text_shapes}
 use Rattle.rz_expr.specs.Term.{Constant}
 use Rattle.rz_data.specs.Head.{Attribute, Value}
 use Rattle.rz_show.proofs.Lines.{are_in_line, blank, dollar, inside, inside_both, line_end, literal, number, quote, sign, whole, word, CutBack, InLine}
@@ -222,16 +223,17 @@ module _ (law : CutBack) where
   unfolding be
   four_bytes code = (omega arith, (omega arith, (omega arith, (omega arith, tt))))
 
-  pub record IsHeadLine (text name : List ℕ) (attr code : ℕ) (id : ℤ) (tokens : List Shape) : Type 0 where
+  pub record IsHeadLine (said text name : List ℕ) (attr code : ℕ) (id : ℤ) (tokens : List Shape) : Type 0 where
     pub pieces : List (List ℕ)
     pub are : flat_map (λ piece. piece) pieces ≡ name
     pub none : name ≡ [] → pieces ≡ []
-    pub line : InLine text (word_of (codes "data") ∷ shapes.Literal (be 4 code) ∷ shapes.Sign signs.OpenParen
+    pub line : InLine text (word_of said ∷ shapes.Literal (be 4 code) ∷ shapes.Sign signs.OpenParen
         ∷ (id_shapes id ++ (behind_commas (name_pieces pieces) ++ (attribute_tokens (attributes_of attr) ++ shapes.Sign signs.CloseParen ∷ shapes.Sign signs.OpenBrace ∷ tokens))))
 
-  pub head_line : (text : List ℕ) (tokens : List Shape) → InLine text tokens → (code : ℕ) (id : ℤ) → FitsSigned w16 id → (name : List ℕ) → AreBytes name → (attr : ℕ) → attr < 256
-      → IsHeadLine (codes "data " ++ (literal_text code ++ (codes " (" ++ (signed_of id ++ (name_text name ++ (attr_text attr ++ (codes ") {" ++ text))))))) name attr code id tokens
-  head_line text tokens p code id fits name small attr byte =
+  pub head_line : (said : List ℕ) → is_word said ≡ true → length said ≤ 255 → AreInLine said → (text : List ℕ) (tokens : List Shape) → InLine text tokens
+      → (code : ℕ) (id : ℤ) → FitsSigned w16 id → (name : List ℕ) → AreBytes name → (attr : ℕ) → attr < 256
+      → IsHeadLine said (said ++ 32 ∷ (literal_text code ++ (codes " (" ++ (signed_of id ++ (name_text name ++ (attr_text attr ++ (codes ") {" ++ text))))))) name attr code id tokens
+  head_line said spelled short at text tokens p code id fits name small attr byte =
       let brace = sign law text tokens p signs.OpenBrace refl (inside (123 ∷ []) refl) (alone 123 refl refl refl refl refl refl text) in
       let space = blank law (123 ∷ text) (shapes.Sign signs.OpenBrace ∷ tokens) brace in
       let close = sign law (32 ∷ 123 ∷ text) (shapes.Sign signs.OpenBrace ∷ tokens) space signs.CloseParen refl (inside (41 ∷ []) refl) (alone 41 refl refl refl refl refl refl (32 ∷ 123 ∷ text)) in
@@ -248,5 +250,5 @@ module _ (law : CutBack) where
         pieces = named.pieces;
         are = named.are;
         none = named.none;
-        line = word law (32 ∷ (literal_text code ++ (codes " (" ++ rest))) _ (blank law (literal_text code ++ (codes " (" ++ rest)) _ kind) (codes "data") refl (omega arith) (inside (codes "data") refl) refl;
+        line = word law (32 ∷ (literal_text code ++ (codes " (" ++ rest))) _ (blank law (literal_text code ++ (codes " (" ++ rest)) _ kind) said spelled short at refl;
       }

@@ -21,8 +21,9 @@ use Rattle.rz_lex.specs.declared.sign.Sign.{Sign}
 use Rattle.rz_lex.specs.declared.token.Shape.{Shape}
 use Rattle.rz_lex.specs.declared.token.Shape.TheVariants as shapes
 use Rattle.rz_lex.specs.declared.token.Token.{Token}
-use Rattle.rz_show.specs.Page.{AreCut, IsPage}
-use Rattle.rz_show.specs.Statement.{HasTokens}
+use Rattle.rz_print.specs.Page.{IsPage}
+use Rattle.rz_show.specs.Page.{AreCut}
+use Rattle.rz_show.specs.Page.{HasTokens}
 
 -- tokens that are written are cut back
 pub record CutBack : Type 0 where

@@ -5,7 +5,7 @@ use Rattle.rz_core.specs.Lists.{with_front}
 use Rattle.rz_lex.specs.Printed.{AreBytes}
 use Rattle.rz_lex.specs.declared.token.Shape.{Shape}
 use Rattle.rz_lex.specs.declared.token.Shape.TheVariants as shapes
-use Rattle.rz_show.specs.Statement.{text_shapes}
+use Rattle.rz_show.proofs.Shapes.{text_shapes}
 use Rattle.rz_show.proofs.Lines.{blank, line_end, whole, CutBack, InLine}
 
 -- the text goes on, inside a line, with texts of these bytes in pieces, and then with these tokens

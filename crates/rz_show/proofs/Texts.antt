@@ -17,7 +17,7 @@ use Rattle.rz_lex.specs.declared.token.Shape.{Shape}
 use Rattle.rz_lex.specs.declared.token.Shape.TheVariants as shapes
 use Rattle.rz_show.specs.Data.{byte_gap, data_byte, lines_text}
 use Rattle.rz_show.specs.Head.{name_byte, name_gap}
-use Rattle.rz_show.specs.Statement.{text_shapes}
+use Rattle.rz_show.proofs.Shapes.{text_shapes}
 use Rattle.rz_show.proofs.Lines.{are_in_line, blank, hex, inside, inside_both, line_end, quote, CutBack, InLine, Page}
 use Rattle.rz_show.proofs.Pieces.{in_pieces, Gaps, InPieces}
 use Rattle.rz_core.proofs.Tests.{by_test}

@@ -1,7 +1,7 @@
 -- The tokens of a shown resource are its statement.
 use Rattle.std.proofs.Common.{◌≡◌, ℕ, suc, ◌+◌, ◌<◌, ◌≤◌, ◌^◌, ℤ, pos, negsuc, true, false, List, [], ◌∷◌, ◌++◌, map, length, Some, refl, sym, ap, subst, ◌∙◌, arith, append_assoc, length-append}
 use Rattle.std.specs.Prelude.{◌*◌, ◌==◌, ◌||◌, ◌/◌, ◌%◌, nat_le, codes, if◌then◌else◌}
-use Rattle.std.specs.List.{AllByRecursion}
+use Rattle.std.specs.List.{flat_map, AllByRecursion}
 use Rattle.std.proofs.lemmas.Bool.{le-leb}
 use Rattle.std.proofs.lemmas.List.Concat.{flat_map-cons}
 use Rattle.std.proofs.lemmas.Grind.{flat_map-append}
@@ -21,14 +21,16 @@ use Rattle.rz_brackets.specs.Limit.{counted, depth_limit, is_text, keeps_limits,
 use Rattle.rz_brackets.specs.Kind.{kind_in}
 use Rattle.rz_data.specs.Raw.{texts_in, IsRaw}
 use Rattle.rz_brackets.specs.Statements.{has_end, is_end, is_semicolon, open_behind, open_behind_all}
-use Rattle.rz_show.specs.Statement.{attribute_part, attributes_of, behind_commas, head_pieces, id_shapes, name_pieces, shown_raw, statement_shapes, text_parts, text_shapes, AreShown, AreWhole, IsStored, IsWhole}
+use Rattle.rz_show.specs.Statement.{attribute_part, attributes_of, shown_raw, text_parts, IsWhole, IsWholeData}
+use Rattle.rz_show.specs.Showing.{IsStored}
+use Rattle.rz_show.proofs.Shapes.{behind_commas, data_shapes, head_pieces, id_shapes, name_pieces, text_shapes}
 use Rattle.rz_show.proofs.HeadTokens.{all_both, all_of, head_of, id_is, id_is_inner, inner_is_flat, is_flat, is_inner, no_paren, none_open, rest_is, shown_attributes, texts_are_inner, AreFlat, AreInner, ArePieces, IsShownAttribute}
 use Rattle.rz_show.proofs.Split.{front_and_back, none_left, one_and_more, shapes_in}
 use Rattle.rz_core.proofs.Tests.{by_test}
 
 -- Flat tokens open and end nothing.
 
-flat_open : (shape : Shape) (count : ℕ) → is_flat shape ≡ true → open_behind shape count ≡ count
+pub flat_open : (shape : Shape) (count : ℕ) → is_flat shape ≡ true → open_behind shape count ≡ count
 flat_open (shapes.Sign signs.Minus) count is = refl
 flat_open (shapes.Sign signs.Comma) count is = refl
 flat_open (shapes.Sign sign) count is = absurd cc
@@ -48,7 +50,7 @@ no_end (t ∷ tokens) rest count flat = rw (flat_goes_on t.shape flat.0, flat_op
 
 -- Limits.
 
-row_slow : (shape : Shape) (row : ℕ) → is_flat shape ≡ true → row_behind shape row ≤ (if is_text shape then row else suc row)
+pub row_slow : (shape : Shape) (row : ℕ) → is_flat shape ≡ true → row_behind shape row ≤ (if is_text shape then row else suc row)
 row_slow (shapes.Sign signs.Minus) row is = omega arith
 row_slow (shapes.Sign signs.Comma) row is = omega arith
 row_slow (shapes.Sign sign) row is = absurd cc
@@ -68,7 +70,7 @@ within most depth row bound (t ∷ tokens) rest flat shallow low few behind =
 
 -- How many tokens of a head are no texts.
 
-abbrev weight : List Shape → ℕ
+abbrev pub weight : List Shape → ℕ
 weight [] = 0
 weight (shape ∷ shapes) = if is_text shape then weight shapes else suc (weight shapes)
 
@@ -110,27 +112,29 @@ attributes_few attr = by_test (length (attributes_of attr) ≤ 6) (attr == 0)
     (λ k. rw (h, k) (both_few _ _ 5 1 (both_few _ _ 4 1 (both_few _ _ 3 1 (both_few _ _ 2 1 (both_few _ _ 1 1 (word_few attr SystemHeap) (word_few attr Purgeable))
     (word_few attr Locked)) (word_few attr Protected)) (word_few attr Preload)) (word_few attr Changed))))
 
-head_few : (r : Resource) (name : List (List ℕ)) (named : List Token) → shapes_in named ≡ behind_commas (head_pieces r name) → counted named ≤ 13
-head_few r name named is =
+pub weight_head : (r : Resource) (name : List (List ℕ)) → weight (behind_commas (head_pieces r name)) ≤ 13
+weight_head r name =
     let attributes = attributes_of r.attr in
     let parts = flat_map-append (λ (piece : List Shape). shapes.Sign signs.Comma ∷ piece) (name_pieces name) (map (λ (a : Shape × Attribute). a.0 ∷ []) attributes) in
     omega (
       arith,
-      counted_is named,
-      ap weight (is ∙ parts),
+      ap weight parts,
       weight_both (behind_commas (name_pieces name)) (behind_commas (map (λ a. a.0 ∷ []) attributes)),
       weight_name name,
       weight_attributes attributes,
       attributes_few r.attr,
     )
 
+head_few : (r : Resource) (name : List (List ℕ)) (named : List Token) → shapes_in named ≡ behind_commas (head_pieces r name) → counted named ≤ 13
+head_few r name named is = omega (arith, counted_is named, ap weight is, weight_head r name)
+
 -- The statement.
 
-kind_back : (code : ℕ) → code < 2 ^ 32 → kind_in (shapes.Literal (be 4 code)) ≡ Some code
+pub kind_back : (code : ℕ) → code < 2 ^ 32 → kind_in (shapes.Literal (be 4 code)) ≡ Some code
 unfolding be
 kind_back code fits = ap (λ (x : ℕ). Some x) (from_be_bytes-to_be_bytes_4 code fits)
 
-pieces_are_inner : (r : Resource) (name : List (List ℕ)) → r.attr < 256 → ArePieces (head_pieces r name)
+pub pieces_are_inner : (r : Resource) (name : List (List ℕ)) → r.attr < 256 → ArePieces (head_pieces r name)
 pieces_are_inner r name small = all_both (AllByRecursion (λ shape. is_inner shape ≡ true)) (name_pieces name) (map (λ a. a.0 ∷ []) (attributes_of r.attr)) (of_name name) (of_attributes (attributes_of r.attr) (shown_attributes r.attr small).each)
   where
     of_name : (name : List (List ℕ)) → ArePieces (name_pieces name)
@@ -141,7 +145,7 @@ pieces_are_inner r name small = all_both (AllByRecursion (λ shape. is_inner sha
     of_attributes [] shown = tt
     of_attributes (a ∷ attributes) shown = ((shown.0.inner, tt), of_attributes attributes shown.1)
 
-pieces_are_flat : (pieces : List (List Shape)) → ArePieces pieces → AllByRecursion (λ shape. is_flat shape ≡ true) (behind_commas pieces)
+pub pieces_are_flat : (pieces : List (List Shape)) → ArePieces pieces → AllByRecursion (λ shape. is_flat shape ≡ true) (behind_commas pieces)
 pieces_are_flat [] inner = tt
 pieces_are_flat (piece ∷ pieces) inner =
     subst (AllByRecursion (λ shape. is_flat shape ≡ true)) (sym (flat_map-cons (λ (piece : List Shape). shapes.Sign signs.Comma ∷ piece) piece pieces))
@@ -273,7 +277,7 @@ module _ (r : Resource) (name bytes : List (List ℕ)) (stored : IsStored r)
   }
 
 whole : (r : Resource) (name bytes : List (List ℕ)) (tokens : List Token) → IsStored r
-    → shapes_in tokens ≡ statement_shapes r name bytes → IsWhole tokens (shown_raw r name bytes)
+    → shapes_in tokens ≡ data_shapes r name bytes → IsWhole tokens (shown_raw r name bytes)
 whole r name bytes tokens stored is =
     let word = one_and_more tokens (word_of (codes "data")) _ is in
     let kind = one_and_more word.more (shapes.Literal (be 4 r.kind.code)) _ word.more_are in
@@ -295,21 +299,12 @@ whole r name bytes tokens stored is =
     (is_whole r name bytes stored word.one kind.one paren.one id.front named.front close.one brace.one texts.front end.one semicolon.one
     word.one_is kind.one_is paren.one_is id.front_is named.front_is close.one_is brace.one_is texts.front_is end.one_is semicolon.one_is)
 
-pub all_whole : (list : List Resource) (tokens : List Token) → AllByRecursion IsStored list
-    → AreShown list (shapes_in tokens) → AreWhole tokens list
-all_whole [] tokens stored shown = none_left tokens shown
-all_whole (r ∷ rs) tokens stored shown =
-    let one = shown.3 in
-    let parts = front_and_back tokens shown.0 shown.1 shown.2 in (
-      parts.front,
-      parts.back,
-      parts.are,
-      record {
-        name = one.name;
-        bytes = one.bytes;
-        whole_name = one.whole_name;
-        whole_bytes = one.whole_bytes;
-        is = whole r one.name one.bytes parts.front stored.0 (parts.front_is ∙ one.are);
-      },
-      all_whole rs parts.back stored.1 (subst (AreShown rs) (sym parts.back_is) shown.4),
-    )
+pub whole_data : (r : Resource) (name bytes : List (List ℕ)) → flat_map (λ piece. piece) name ≡ r.name → flat_map (λ piece. piece) bytes ≡ r.bytes → IsStored r
+    → (tokens : List Token) → shapes_in tokens ≡ data_shapes r name bytes → IsWholeData tokens r
+whole_data r name bytes whole_name whole_bytes stored tokens is = record {
+  name = name;
+  bytes = bytes;
+  whole_name = whole_name;
+  whole_bytes = whole_bytes;
+  is = whole r name bytes tokens stored is;
+}

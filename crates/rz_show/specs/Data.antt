@@ -4,7 +4,7 @@ use Rattle.rz_core.specs.Lists.{each_with_front}
 use Rattle.rz_core.specs.Quoted.{hex_byte}
 use Rattle.rz_core.specs.declared.facts.Facts.{Facts}
 use Rattle.rz_core.specs.declared.resource.Resource.{Resource}
-use Rattle.rz_show.specs.Head.{data_head}
+use Rattle.rz_show.specs.Head.{head_text}
 
 -- what stands before the byte at this position: a line has 16 bytes, in groups of two
 unfoldable pub byte_gap : ℕ → List ℕ
@@ -24,7 +24,7 @@ lines_text bytes = codes "    $\"" ++ each_with_front data_byte bytes ++ codes "
 
 -- the statement of a type, an id, a name, attributes and bytes, and an empty line
 unfoldable pub statement_text : ℕ → ℤ → List ℕ → ℕ → List ℕ → List ℕ
-statement_text code id name attr bytes = data_head code id name attr ++ lines_text bytes ++ codes "};\n\n"
+statement_text code id name attr bytes = head_text (codes "data") code id name attr ++ lines_text bytes ++ codes "};\n\n"
 
 -- the statement of a resource of which these facts are known
 abbrev pub data_text : Facts → List ℕ → List ℕ

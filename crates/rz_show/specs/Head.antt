@@ -1,4 +1,4 @@
--- The line that begins a `data` statement. (As MPW DeRez shows it.)
+-- The line that begins a statement. (As MPW DeRez shows it.)
 use Rattle.std.specs.Prelude.{ℕ, ℤ, ◌/◌, ◌%◌, nat_le, ◌==◌, ◌||◌, if◌then◌else◌, List, [], ◌++◌, codes, length}
 use Rattle.rz_core.specs.Decimal.{signed_of}
 use Rattle.rz_core.specs.Lists.{each_with_front}
@@ -34,7 +34,7 @@ attr_text attr =
     else word_text attr SystemHeap ++ word_text attr Purgeable ++ word_text attr Locked
     ++ word_text attr Protected ++ word_text attr Preload ++ word_text attr Changed
 
--- the line of a type, an id, a name and attributes
-unfoldable pub data_head : ℕ → ℤ → List ℕ → ℕ → List ℕ
-data_head code id name attr =
-    codes "data " ++ literal_text code ++ codes " (" ++ signed_of id ++ name_text name ++ attr_text attr ++ codes ") {\n"
+-- the line with this word, a type, an id, a name and attributes
+unfoldable pub head_text : (word : List ℕ) → ℕ → ℤ → List ℕ → ℕ → List ℕ
+head_text word code id name attr =
+    word ++ codes " " ++ literal_text code ++ codes " (" ++ signed_of id ++ name_text name ++ attr_text attr ++ codes ") {\n"

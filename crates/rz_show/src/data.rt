@@ -60,7 +60,7 @@ fn append_statement(
 ) -> Result<(), NoMemory>
     ensures { OnOk result (into.new ≡ into.old ++ statement_text kind.code id name.now attr bytes.now) }
 {
-    append_head(kind, id, name, attr, into)?;
+    append_head(b"data", kind, id, name, attr, into)?;
     append_lines(bytes, into)?;
     into.append(b"};\n\n")?;
     Ok(())

@@ -1,6 +1,6 @@
 ghost use Rattle.std.specs.Prelude.{◌≡◌, ◌==◌, ◌<◌, ◌++◌, ◌/◌, ◌%◌, OnOk};
 ghost use Rattle.rz_core.specs.Lists.{each_with_front};
-ghost use Rattle.rz_show.specs.Head.{attr_text, data_head, name_byte, name_gap, name_text, word_text};
+ghost use Rattle.rz_show.specs.Head.{attr_text, head_text, name_byte, name_gap, name_text, word_text};
 
 use rz_core::{
     Attr, Bytes, NoMemory, OsType, write_hex, write_quoted, write_shown, write_signed, write_type,
@@ -10,20 +10,22 @@ use rz_expr::{Attribute, bit_of, setting_word};
 /// The bytes of a name that stand on one line.
 const PIECE: usize = 64;
 
-/// Appends the line that begins a `data` statement: the word `data`, the type as a literal, and in
+/// Appends the line that begins a statement: its word, the type as a literal, and in
 /// parentheses the id in decimal, the name where there is one, and the attributes where there are any;
 /// behind them a brace and a line end. Where memory is refused a part of it may have been appended.
-#[tactic(auto, unfolding(crate::specs::Head::data_head))]
+#[tactic(auto, unfolding(crate::specs::Head::head_text))]
 pub fn append_head(
+    word: &[u8],
     kind: OsType,
     id: i16,
     name: &[u8],
     attr: Attr,
     into: &mut Bytes,
 ) -> Result<(), NoMemory>
-    ensures { OnOk result (into.new ≡ into.old ++ data_head kind.code id name.now attr) }
+    ensures { OnOk result (into.new ≡ into.old ++ head_text word.now kind.code id name.now attr) }
 {
-    into.append(b"data ")?;
+    into.append(word)?;
+    into.append(b" ")?;
     write_type(kind, into)?;
     into.append(b" (")?;
     write_signed(i64::from(id), into)?;

@@ -1,25 +1,40 @@
-ghost use Rattle.std.specs.Prelude.{List, map};
+ghost use Rattle.std.specs.Prelude.{ℕ, Bool, true, List};
 ghost use Rattle.std.specs.List.{AllByRecursion};
-ghost use Rattle.rz_core.specs.declared.resource.Resource.{Resource};
-ghost use Rattle.rz_lex.specs.declared.token.Token.{Token};
-ghost use Rattle.rz_show.specs.Data.{list_text};
-ghost use Rattle.rz_show.specs.Statement.{AreShown, AreWhole, IsPrintedAs, IsStored};
+ghost use Rattle.rz_core.specs.declared.facts.Facts.{Facts};
+ghost use Rattle.rz_fields.specs.declared.tree.Tree.{Tree};
+ghost use Rattle.rz_print.specs.Printable.{AreOfBytes, SparesTruth};
+ghost use Rattle.rz_show.specs.Short.{AreShortTexts};
+ghost use Rattle.rz_show.specs.Showing.{showings_text, CanBeShown, Showing};
+ghost use Rattle.rz_show.specs.Statement.{IsPrintedAs};
+ghost use Rattle.rz_types.specs.Field.{PlainBody};
+ghost use Rattle.rz_types.specs.Spells.{Spells};
 
 use rz_lex::{cut_back, lines_of_page};
+use rz_print::{printed_lines, printed_page, printed_rows};
+use rz_types::rules_hold_within;
 
-/// A law, with nothing to run: the text of resources is lines that are cut into the tokens of their
-/// statements, wherever it stands.
+/// A law, with nothing to run: the text of resources, each shown by its bytes or by a row of its type's fields, is lines
+/// that are cut into tokens, wherever it stands. Their words are those of statements and attributes, and names that are
+/// no live macros. Tokens like these, whatever lines they stand on, are statements, one for each resource, within the
+/// limits of statements: the `data` statement with its type, id, name, attributes and bytes, or the `resource` statement
+/// with its type, id, name, attributes and items that fit the row. `true` and `false` are no live macros.
 pub fn shown_text()
-    ensures { (list : List Resource) → AllByRecursion IsStored list → IsPrintedAs (list_text list) list }
+    ensures { (hidden : List ℕ → Bool) (list : List Showing) → SparesTruth hidden → AllByRecursion (CanBeShown hidden) list
+        → IsPrintedAs hidden (showings_text hidden list) list }
 {
     cut_back();
     lines_of_page();
+    rules_hold_within();
+    printed_rows();
+    printed_lines();
+    printed_page();
 }
 
-/// A law, with nothing to run: the tokens that are shown of resources are statements, one for each, within the
-/// limits of statements, and each is the `data` statement with the resource's type, id, name, attributes and
-/// bytes, whatever pieces its texts have.
-pub fn shown_statements()
-    ensures { (list : List Resource) (tokens : List Token) → AllByRecursion IsStored list
-        → AreShown list (map (λ token. token.shape) tokens) → AreWhole tokens list }
+/// A law, with nothing to run: of a row that spells bytes no text without a size is longer than its length can say; and
+/// of one that spells them plainly the texts are bytes.
+pub fn spelled_texts()
+    ensures short { (plain : Bool) (known : Facts) (body : PlainBody) (row : List Tree) (bytes : List ℕ) → Spells plain known body row bytes
+        → AreShortTexts body row }
+    ensures bytes { (known : Facts) (body : PlainBody) (row : List Tree) (bytes : List ℕ) → Spells true known body row bytes
+        → AreOfBytes body row }
 {}
