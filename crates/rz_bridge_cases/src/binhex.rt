@@ -88,7 +88,10 @@ fn lines_may_have_any_end(rt: HostRuntime) -> Result<(), Fail> {
         let file = read(alloc, text)?;
         assert_eq!(rt;
             file.data_fork.as_slice(),
-            [0, 1, 2, 3, 4, 5, 6, 7, 8, 9, 10, 11, 12, 13, 14, 15, 16, 17, 18, 19, 20].as_slice()
+            [
+                0, 1, 2, 3, 4, 5, 6, 7, 8, 9, 10, 11, 12, 13, 14, 15, 16, 17, 18, 19, 20
+            ]
+            .as_slice()
         );
     }
     Ok(())

@@ -18,7 +18,7 @@ pub fn runs_read(alloc: Global, coded: &[u8]) -> Result<Bytes, Stop<BridgeFault>
     ensures bytes { Gives (unpacked coded.now) result }
     ensures sayable { OnFault result IsSayable }
 {
-    let mut out = Bytes::new(alloc);
+    let mut out = Bytes::with_capacity(alloc, coded.len())?;
     let mut place = 0;
     let mut marked = false;
     for code in coded {

@@ -105,7 +105,7 @@ pub fn eights(alloc: Global, numbers: &[u8]) -> Result<Bytes, NoMemory>
     requires { AllByRecursion (λ n. n < 64) numbers.now }
     ensures { IfOk result (λ bytes. bytes ≡ eights numbers.now) }
 {
-    let mut out = Bytes::new(alloc);
+    let mut out = Bytes::with_capacity(alloc, numbers.len() / 4 * 3 + 3)?;
     let mut rest = numbers;
     while let [p, q, r, s, after @ ..] = rest {
         out.push(*p * 4 + *q / 16)?;

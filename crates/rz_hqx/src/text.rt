@@ -89,7 +89,7 @@ pub fn numbers_in(alloc: Global, place: usize, body: &[u8]) -> Result<Bytes, Sto
     ensures few { IfOk result (λ numbers. length numbers ≤ length body.now) }
     ensures sayable { OnFault result IsSayable }
 {
-    let mut out = Bytes::new(alloc);
+    let mut out = Bytes::with_capacity(alloc, body.len())?;
     let mut at = place;
     for byte in body {
         if *byte == COLON {
