@@ -20,9 +20,9 @@ use rz_core::Kept;
 /// | 428 | ForkTooLong | a fork to be written has more than 33,554,432 bytes | 0 | its length |
 #[derive(Debug, Drop)]
 pub struct BridgeFault {
-    /// 421 to 428.
+    /// 421 to 428, or 441 to 447 of BinHex, whose reader lists its rules.
     pub number: u16,
-    /// In bytes from the start of the file; 0 where a writer refuses.
+    /// In bytes from the start of the file, or as the reader of BinHex says; 0 where a writer refuses.
     pub offset: u64,
     /// What the rule found. A length above 2^63 - 1 is kept as 2^63 - 1.
     pub kept: Kept,

@@ -1,0 +1,12 @@
+//! The forms in which a file of the Macintosh is kept: which form bytes have, and one reader and one writer over all
+//! of them. The form is exactly what the first bytes say; what is read and written is exactly what the form's own
+//! reader and writer promise.
+//! It rests on `rz_core`, `rz_bridge` and `rz_hqx`.
+//! What the forms are stands in `specs`; a new form is a variant of `Form`, and a line in each of its functions.
+#![tactic(auto)]
+
+mod content;
+mod form;
+
+pub use content::{read_form, write_form};
+pub use form::{Form, form_of};

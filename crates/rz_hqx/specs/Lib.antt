@@ -1,0 +1,4 @@
+pub mod Runs
+pub mod Letters
+pub mod Text
+pub mod BinHex

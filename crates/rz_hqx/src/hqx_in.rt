@@ -1,0 +1,101 @@
+ghost use Rattle.std.specs.Prelude.{◌≡◌, ◌≤◌, ◌<◌, ◌+◌, ◌^◌, length, IfOk};
+ghost use Rattle.rz_core.specs.Stop.{Gives, OnFault};
+ghost use Rattle.rz_bridge.specs.Faults.{IsSayable};
+ghost use Rattle.rz_hqx.specs.BinHex.{kind_place, hqx_finder, hqx_fields, decoded_content, hqx_content};
+
+use crate::decoded::runs_read;
+use crate::fields::{
+    data_length, data_place, fields_torn, kind_place, name_length, resource_length, resource_place,
+};
+use crate::letters::eights;
+use crate::text::{behind_colon, behind_head, numbers_in};
+use rz_bridge::{BridgeFault, Finder, MacFile, fault_at, piece_at, u16_at, u32_at};
+use rz_core::{Bytes, NoMemory, OsType, Stop};
+use std::alloc::Global;
+
+/// The file of a BinHex 4.0 text: name, type, creator, flags and both forks; all other fields are zero. Text before the
+/// line that says what it is, blanks, tabs and line ends between letters, what stands behind the last colon and bytes
+/// behind the last check pass unread. There are fewer than 2^32 bytes. The memory taken is that of the decoded bytes,
+/// of which a byte of the text makes 191 at most.
+///
+/// Refused with the first broken rule: 441 NoStart, there is no such line or no colon behind it (offset 0; 0); 442
+/// BadLetter, a byte before the next colon is no letter (its offset in the text; the byte); 443 NoEnd, there is no such
+/// colon (the length of the text; the same); then, with offsets in the bytes before runs are undone, 446 and 445 as in
+/// [`runs_read`](crate::runs_read); then, field by field and with offsets in the decoded bytes, 447 BadName, the length
+/// of the name isn't 1 to 63 (0; the length), 445 Truncated, the bytes end in or before a field (of the field; how many
+/// bytes are left there), and 444 BadCrc, a check is wrong (of the stored check; 1 for the header, 2 for the data fork
+/// and 3 for the resource fork, the stored check and the computed one). (RFC 1741.)
+pub fn hqx_read(alloc: Global, bytes: &[u8]) -> Result<MacFile, Stop<BridgeFault>>
+    requires { length bytes.now < 2 ^ 32 }
+    ensures file { Gives (hqx_content bytes.now) result }
+    ensures data_fork { IfOk result (λ file. length file.data_fork < 2 ^ 32) }
+    ensures res_fork { IfOk result (λ file. length file.res_fork < 2 ^ 32) }
+    ensures sayable { OnFault result IsSayable }
+{
+    let Some(body) = behind_colon(behind_head(bytes)) else {
+        return Err(Stop::Refused(fault_at(441, 0, 0)));
+    };
+    let numbers = numbers_in(alloc, bytes.len() - body.len(), body)?;
+    let coded = eights(alloc, numbers.as_slice())?;
+    let decoded = runs_read(alloc, coded.as_slice())?;
+    read_decoded(alloc, decoded.as_slice())
+}
+
+/// The file of decoded bytes.
+fn read_decoded(alloc: Global, bytes: &[u8]) -> Result<MacFile, Stop<BridgeFault>>
+    ensures file { Gives (decoded_content bytes.now) result }
+    ensures data_fork { IfOk result (λ file. length file.data_fork < 2 ^ 32) }
+    ensures res_fork { IfOk result (λ file. length file.res_fork < 2 ^ 32) }
+    ensures sayable { OnFault result IsSayable }
+{
+    if let Some(fault) = fields_torn(bytes) {
+        return Err(Stop::Refused(fault));
+    }
+    Ok(read_fields(alloc, bytes)?)
+}
+
+/// The file that the fields make.
+#[tactic(auto, unfolding(crate::specs::BinHex::hqx_fields))]
+fn read_fields(alloc: Global, bytes: &[u8]) -> Result<MacFile, NoMemory>
+    requires some { 1 ≤ length bytes.now }
+    requires header { kind_place bytes.now + 20 ≤ length bytes.now }
+    ensures file { IfOk result (λ file. file ≡ hqx_fields bytes.now) }
+    ensures data_fork { IfOk result (λ file. length file.data_fork < 2 ^ 32) }
+    ensures res_fork { IfOk result (λ file. length file.res_fork < 2 ^ 32) }
+{
+    let name = piece_at(bytes, 1, name_length(bytes));
+    let data_fork = piece_at(bytes, data_place(bytes), data_length(bytes));
+    let res_fork = piece_at(bytes, resource_place(bytes), resource_length(bytes));
+    Ok(MacFile {
+        name: Bytes::of(alloc, name)?,
+        finder: read_finder(bytes),
+        locked: false,
+        created: 0,
+        modified: 0,
+        data_fork: Bytes::of(alloc, data_fork)?,
+        res_fork: Bytes::of(alloc, res_fork)?,
+    })
+}
+
+/// The Finder's fields.
+#[tactic(auto, unfolding(crate::specs::BinHex::hqx_finder))]
+fn read_finder(bytes: &[u8]) -> Finder
+    requires some { 1 ≤ length bytes.now }
+    requires header { kind_place bytes.now + 20 ≤ length bytes.now }
+    ensures { result ≡ hqx_finder bytes.now }
+{
+    let place = kind_place(bytes);
+    Finder {
+        kind: OsType {
+            code: u32_at(bytes, place),
+        },
+        creator: OsType {
+            code: u32_at(bytes, place + 4),
+        },
+        flags: u16_at(bytes, place + 8),
+        vertical: 0,
+        horizontal: 0,
+        folder: 0,
+        extra: [0; 16],
+    }
+}

@@ -1,0 +1,133 @@
+ghost use Rattle.std.specs.Prelude.{◌≡◌, ◌<◌, ◌≤◌, ◌+◌, ◌^◌, ◌++◌, ◌∷◌, [], true, length, map, IfOk, IfSome, OnOk};
+ghost use Rattle.std.specs.List.{AllByRecursion};
+ghost use Rattle.std.specs.Option.{option_copied};
+ghost use Rattle.rz_core.specs.Stop.{Gives, OnFault};
+ghost use Rattle.rz_bridge.specs.Faults.{IsSayable};
+ghost use Rattle.rz_hqx.specs.Text.{is_line_end, is_blank, behind_line, behind_head, behind_colon, numbers_in, gap_at, lines_of};
+
+use crate::letters::{letter, number_of};
+use rz_bridge::{BridgeFault, fault_at};
+use rz_core::{Bytes, NoMemory, Stop};
+use std::alloc::Global;
+
+/// How the line begins behind which the letters stand.
+const HEAD: &[u8] = b"(This file must be converted with BinHex";
+
+/// The line that is written.
+const HEAD_LINE: &[u8] = b"(This file must be converted with BinHex 4.0)\n";
+
+/// The byte before and behind the letters.
+const COLON: u8 = b':';
+
+fn is_line_end(byte: u8) -> bool
+    ensures { result ≡ is_line_end byte }
+{
+    byte == b'\n' || byte == b'\r'
+}
+
+fn is_blank(byte: u8) -> bool
+    ensures { result ≡ is_blank byte }
+{
+    byte == b' ' || byte == b'\t' || is_line_end(byte)
+}
+
+/// The bytes behind the end of the line.
+fn behind_line(bytes: &[u8]) -> &[u8]
+    ensures bytes { result.now ≡ behind_line bytes.now }
+    ensures within { length result.now ≤ length bytes.now }
+{
+    let mut rest = bytes;
+    while let [byte, after @ ..] = rest {
+        rest = after;
+        if is_line_end(*byte) {
+            return rest;
+        }
+    }
+    rest
+}
+
+/// The bytes behind the first line that says what the text is.
+pub fn behind_head(bytes: &[u8]) -> &[u8]
+    ensures bytes { result.now ≡ behind_head true bytes.now }
+    ensures within { length result.now ≤ length bytes.now }
+{
+    let mut rest = bytes;
+    let mut first = true;
+    while let [byte, after @ ..] = rest {
+        if first && rest.starts_with(HEAD) {
+            return behind_line(rest);
+        }
+        first = is_line_end(*byte);
+        rest = after;
+    }
+    rest
+}
+
+/// The bytes behind a colon that stands behind blanks alone.
+pub fn behind_colon(bytes: &[u8]) -> Option<&[u8]>
+    ensures bytes { option_copied result ≡ behind_colon bytes.now }
+    ensures within { IfSome result (λ body. length body.now ≤ length bytes.now) }
+{
+    let mut rest = bytes;
+    while let [byte, after @ ..] = rest {
+        if *byte == COLON {
+            return Some(after);
+        }
+        if !is_blank(*byte) {
+            return None;
+        }
+        rest = after;
+    }
+    None
+}
+
+/// The numbers of the letters up to the next colon, from a place on, in bytes from the start of the text.
+pub fn numbers_in(alloc: Global, place: usize, body: &[u8]) -> Result<Bytes, Stop<BridgeFault>>
+    requires { place + length body.now < 2 ^ 32 }
+    ensures numbers { Gives (numbers_in place body.now) result }
+    ensures small { IfOk result (AllByRecursion (λ n. n < 64)) }
+    ensures few { IfOk result (λ numbers. length numbers ≤ length body.now) }
+    ensures sayable { OnFault result IsSayable }
+{
+    let mut out = Bytes::with_capacity(alloc, body.len())?;
+    let mut at = place;
+    for byte in body {
+        if *byte == COLON {
+            return Ok(out);
+        }
+        if !is_blank(*byte) {
+            let Some(number) = number_of(*byte) else {
+                return Err(Stop::Refused(fault_at(442, at, u64::from(*byte))));
+            };
+            out.push(number)?;
+        }
+        at += 1;
+    }
+    Err(Stop::Refused(fault_at(443, at, at as u64)))
+}
+
+/// Appends a character behind so many others, on a line of its own after each 64.
+fn append_char(out: &mut Bytes, count: usize, char: u8) -> Result<(), NoMemory>
+    ensures { OnOk result (out.new ≡ out.old ++ gap_at count ++ char ∷ []) }
+{
+    if count != 0 && count % 64 == 0 {
+        out.push(b'\n')?;
+    }
+    out.push(char)?;
+    Ok(())
+}
+
+/// The text of numbers.
+pub fn lines_of(alloc: Global, numbers: &[u8]) -> Result<Bytes, NoMemory>
+    requires { AllByRecursion (λ n. n < 64) numbers.now }
+    ensures { IfOk result (λ text. text ≡ lines_of numbers.now) }
+{
+    let mut out = Bytes::of(alloc, HEAD_LINE)?;
+    append_char(&mut out, 0, COLON)?;
+    for (position, number) in numbers.iter().enumerate() {
+        append_char(&mut out, position + 1, letter(*number))?;
+    }
+    append_char(&mut out, numbers.len() + 1, COLON)?;
+    out.push(b'\n')?;
+    Ok(out)
+}
