@@ -97,10 +97,11 @@ AreWhole tokens (first ∷ list) = (front : List Token) × (back : List Token) �
 
 -- The text of a list.
 
--- the words of statements and attributes
+-- the words of statements, of attributes and of truth, which are reserved
 abbrev pub shown_words : List (List ℕ)
 shown_words =
-    codes "data" ∷ codes "resource" ∷ codes "sysheap" ∷ codes "purgeable" ∷ codes "locked" ∷ codes "protected" ∷ codes "preload" ∷ codes "changed" ∷ []
+    codes "data" ∷ codes "resource" ∷ codes "sysheap" ∷ codes "purgeable" ∷ codes "locked" ∷ codes "protected" ∷ codes "preload" ∷ codes "changed"
+    ∷ codes "true" ∷ codes "false" ∷ []
 
 -- a word that is one of them, or a name that is no live macro; or no word
 abbrev pub is_shown : (hidden : List ℕ → Bool) → Shape → Bool

@@ -14,10 +14,10 @@ use rz_print::{printed_lines, printed_page, printed_rows};
 use rz_types::rules_hold_within;
 
 /// A law, with nothing to run: the text of resources, each shown by its bytes or by a row of its type's fields, is lines
-/// that are cut into tokens, wherever it stands. Their words are those of statements and attributes, and names that are
-/// no live macros. Tokens like these, whatever lines they stand on, are statements, one for each resource, within the
-/// limits of statements: the `data` statement with its type, id, name, attributes and bytes, or the `resource` statement
-/// with its type, id, name, attributes and items that fit the row. `true` and `false` are no live macros.
+/// that are cut into tokens, wherever it stands. Their words are those of statements, of attributes and of truth, and
+/// names that are no live macros. Tokens like these, whatever lines they stand on, are statements, one for each resource,
+/// within the limits of statements: the `data` statement with its type, id, name, attributes and bytes, or the `resource`
+/// statement with its type, id, name, attributes and items that fit the row. `true` and `false` are no live macros.
 pub fn shown_text()
     ensures { (hidden : List ℕ → Bool) (list : List Showing) → SparesTruth hidden → AllByRecursion (CanBeShown hidden) list
         → IsPrintedAs hidden (showings_text hidden list) list }
