@@ -7,6 +7,8 @@
 
 mod content;
 mod form;
+mod laws;
 
 pub use content::{read_form, write_form};
 pub use form::{Form, form_of};
+pub use laws::written_forms_are_found;

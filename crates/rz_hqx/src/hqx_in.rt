@@ -15,8 +15,8 @@ use std::alloc::Global;
 
 /// The file of a BinHex 4.0 text: name, type, creator, flags and both forks; all other fields are zero. Text before the
 /// line that says what it is, blanks, tabs and line ends between letters, what stands behind the last colon and bytes
-/// behind the last check pass unread. There are fewer than 2^32 bytes. The memory taken is that of the decoded bytes,
-/// of which a byte of the text makes 191 at most.
+/// behind the last check pass unread. There are fewer than 2^32 bytes. Time and memory are linear in the text and in the
+/// decoded bytes, of which a byte of the text makes fewer than 96.
 ///
 /// Refused with the first broken rule: 441 NoStart, there is no such line or no colon behind it (offset 0; 0); 442
 /// BadLetter, a byte before the next colon is no letter (its offset in the text; the byte); 443 NoEnd, there is no such
