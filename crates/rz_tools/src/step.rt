@@ -65,8 +65,9 @@ impl Work {
 /// to the end. A type that is declared again goes to the end of the table, and is warned of unless the
 /// setting allows it. One statement is held at a time. Work and memory are in proportion to the tokens of `data`
 /// statements, and of `resource` statements also to the fields of their types; a name in an item is looked for among
-/// the symbols of its field. Each declaration of a type and each `resource` statement goes over the table of types
-/// once, and a declaration that copies takes the memory of what it copies.
+/// the symbols of its field. Each declaration of a type and each `resource` statement goes once over the declarations
+/// of its type, and a type that is declared again over the whole table; a declaration that copies takes the memory of
+/// what it copies.
 pub fn compile_statements(
     alloc: Global,
     tokens: &TokenStore,

@@ -120,7 +120,7 @@ any_there test [] k x is passes = cc
 any_there test (y ∷ xs) zero x is passes = ap (λ b. b || list_any test xs) (ap test (same_Some y x is) ∙ passes)
 any_there test (y ∷ xs) (suc k) x is passes = ap (λ b. test y || b) (any_there test xs k x is passes) ∙ or-true (test y)
 
-remove_push : {A B : Type 0} (f : A → B) (xs : List A) (k : ℕ) (y : A) → k < length xs → map f (remove (xs ++ y ∷ []) k) ≡ remove (map f xs) k ++ f y ∷ []
+pub remove_push : {A B : Type 0} (f : A → B) (xs : List A) (k : ℕ) (y : A) → k < length xs → map f (remove (xs ++ y ∷ []) k) ≡ remove (map f xs) k ++ f y ∷ []
 remove_push f [] k y within = absurd (omega (arith, within))
 remove_push f (x ∷ xs) zero y within = map-append f xs (y ∷ [])
 remove_push f (x ∷ xs) (suc k) y within = ap (λ (l : List _). f x ∷ l) (remove_push f xs k y (omega (arith, within)))

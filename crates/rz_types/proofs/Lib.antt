@@ -1,4 +1,5 @@
 pub mod Found
+pub mod Placed
 pub mod Places
 pub mod Arithmetic
 pub mod Firsts

@@ -16,6 +16,8 @@ pub mod Kept
 pub mod Names
 pub mod Template
 pub mod Table
+pub mod Listed
+pub mod Positions
 pub mod TypeTable
 pub mod Scopes
 pub mod Readable

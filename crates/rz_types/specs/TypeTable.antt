@@ -1,18 +1,8 @@
 -- A table as contracts see it: the list of its declarations.
-use Rattle.std.specs.Prelude.{◌≡◌, ℕ, Bool, true, false, List, map, take, slice_get, Option, Some, MatchOption}
-use Rattle.std.specs.List.{list_any}
+use Rattle.std.specs.Prelude.{List, map}
+use Rattle.rz_types.specs.Listed.{declaration_of}
 use Rattle.rz_types.specs.Table.{Declaration}
-use Rattle.rz_types.specs.Template.{template_of}
-use Rattle.rz_types.specs.declared.table.Declared.{Declared}
 use Rattle.rz_types.specs.declared.table.TypeTable.{TypeTable}
-
-abbrev pub declaration_of : Declared → Declaration
-declaration_of declared = record { kind = declared.kind; scope = declared.scope; template = template_of declared.template }
 
 abbrev pub table_of : TypeTable → List Declaration
 table_of table = map declaration_of table.declared.items
-
--- where the first that passes stands, or that none does
-abbrev pub IsFirst : {A : Type 0} → (A → Bool) → List A → Option ℕ → Type 0
-IsFirst test xs found = MatchOption found (list_any test xs ≡ false)
-    (λ k. (x : _) × (slice_get xs k ≡ Some x) × (test x ≡ true) × (list_any test (take k xs) ≡ false))

@@ -8,9 +8,11 @@
 #![tactic(auto)]
 
 mod copies;
+mod find;
 mod laws;
 mod least;
 mod passed;
+mod positions;
 mod readable;
 mod rules;
 mod table;

@@ -1,8 +1,8 @@
 use Rattle.std.proofs.Common.{rules, map, sym, ap, ◌∙◌, ℤ, Option, w16, SFits}
 use Rattle.std.proofs.lemmas.Int.{to_z-of_z}
 use Rattle.rz_types.specs.Table.{asked, found}
-use Rattle.rz_types.specs.TypeTable.{declaration_of}
-use Rattle.rz_types.proofs.table.asked_in.Goals as goal
+use Rattle.rz_types.specs.Listed.{declaration_of}
+use Rattle.rz_types.proofs.find.asked_in.Goals as goal
 
 pub returns-in-Some : goal.returns-in-Some
 returns-in-Some c =
