@@ -17,3 +17,6 @@ refusal-requires-clause-fault c = rw c.in-Err-Refused.fault-is (rw c.in-Err-Refu
 
 pub refusal-requires-clause-warnings : goal.refusal-requires-clause-warnings
 refusal-requires-clause-warnings c = c.compile_statements.ensures.warned (length c.args.program.files) c.requires.within
+
+pub returns-in-Ok-clause-nameable : goal.returns-in-Ok-clause-nameable
+returns-in-Ok-clause-nameable c = c.compile_statements.ensures.warned (length c.args.program.files) c.requires.within
