@@ -33,11 +33,12 @@ use Rattle.rz_stmt.specs.Raw.{Raw}
 use Rattle.rz_stmt.specs.Statements.{AreStatements}
 use Rattle.rz_tools.specs.Again.{AreShort, MeanResources, MeansAgain, NoneIsLive}
 use Rattle.rz_tools.specs.Data.{resource_of}
-use Rattle.rz_tools.specs.Step.{put_unless_protected, with_list, Means, Steps, Work}
+use Rattle.rz_tools.specs.Step.{list_behind, put_unless_protected, Means, Steps, Work}
 use Rattle.rz_set.specs.ResSet.{found}
 use Rattle.rz_types.specs.Table.{Declaration}
 use Rattle.rz_tools.specs.ToolWords.{number_in, numbered, tool_in}
 use Rattle.rz_tools.proofs.PutOut.{lines_go, tokens_of, AreBare}
+use Rattle.rz_tools.proofs.Stepping.{changes}
 use Rattle.rz_core.proofs.Tests.{by_test}
 use Rattle.rz_tools.proofs.Values.{resource_again}
 use Rattle.rz_tools.specs.declared.setting.Setting.{Setting}
@@ -159,23 +160,32 @@ work types warnings list = record { types = types; list = list; warnings = warni
 record HasStatements (list : List Resource) (tokens : List Token) : Type 0 where
   statements : List (List Token)
   are : AreStatements tokens statements
-  mean : (setting : Setting) (types : List Declaration) (warnings : List Fault) (front : List Resource) → KeysDiffer front list
+  mean : (setting : Setting) (types : List Declaration) (warnings : List Fault) (front : List Resource) → setting.tool ≡ tools.Rez → KeysDiffer front list
       → Means setting (work types warnings front) statements (Ok (work types warnings (front ++ list)))
 
 -- the step of one statement
 one_step : (setting : Setting) (types : List Declaration) (warnings : List Fault) (front : List Resource) (tokens : List Token) (raw : Raw) (r : Resource)
-    → IsWhole tokens raw → resource_of setting (mark_of tokens) raw ≡ Ok r → list_any (λ b. same_key b r) front ≡ false
+    → setting.tool ≡ tools.Rez → IsWhole tokens raw → resource_of setting (mark_of tokens) raw ≡ Ok r → list_any (λ b. same_key b r) front ≡ false
     → Steps setting (work types warnings front) tokens (Ok (work types warnings (front ++ r ∷ [])))
 unfolding work
-one_step setting types warnings front tokens raw r whole value new =
+one_step setting types warnings front tokens raw r rez whole value new =
     let behind : put_unless_protected (mark_of tokens) front r ≡ Ok (front ++ r ∷ []) = rw (new_name front r new, put_new front r new) refl in
-    inl (Data raw, Parses.statement whole.within (IsStatement.data_statement raw whole.is refl), sym (ap (with_list (work types warnings front)) (ap (λ o. o >>= put_unless_protected (mark_of tokens) front) value ∙ behind)))
+    inl (
+      Data raw,
+      Parses.statement whole.within (IsStatement.data_statement raw whole.is refl),
+      (
+        Ok (front ++ r ∷ []),
+        changes setting.tool front (λ list. list ≡ list_behind setting (mark_of tokens) front raw) (Ok (front ++ r ∷ [])) rez
+            (sym (ap (λ o. o >>= put_unless_protected (mark_of tokens) front) value ∙ behind)),
+        refl,
+      ),
+    )
 
 has_statements : (list : List Resource) (tokens : List Token) → AreWhole tokens list → AllByRecursion (λ shape. is_shown shape ≡ true) (shapes_in tokens) → AllByRecursion IsStored list → AllByRecursion FitsFork list → AreShort list → HasStatements list tokens
 has_statements [] tokens whole words stored fits short = record {
   statements = [];
   are = whole;
-  mean = λ setting types warnings front differ. ap (λ (l : List Resource). Ok (work types warnings l)) (append-nil front);
+  mean = λ setting types warnings front rez differ. ap (λ (l : List Resource). Ok (work types warnings l)) (append-nil front);
 }
 has_statements (r ∷ rs) tokens whole words stored fits short =
     let one = whole.3 in
@@ -186,12 +196,12 @@ has_statements (r ∷ rs) tokens whole words stored fits short =
     record {
       statements = whole.0 ∷ behind.statements;
       are = (whole.1, whole.2, inl (one.is.statement, behind.are));
-      mean = λ setting types warnings front differ. inl (
+      mean = λ setting types warnings front rez differ. inl (
         work types warnings (front ++ r ∷ []),
         subst (λ (ts : List Token). Steps setting (work types warnings front) ts (Ok (work types warnings (front ++ r ∷ [])))) (sym (numbered_same setting.tool whole.0 parts.0))
-            (one_step setting types warnings front whole.0 raw r one.is (resource_again (mark_of whole.0) setting r one.name one.bytes stored.0 one.whole_name one.whole_bytes fits.0.name short.0) differ.0),
+            (one_step setting types warnings front whole.0 raw r rez one.is (resource_again (mark_of whole.0) setting r one.name one.bytes stored.0 one.whole_name one.whole_bytes fits.0.name short.0) differ.0),
         subst (λ (l : List Resource). Means setting (work types warnings (front ++ r ∷ [])) behind.statements (Ok (work types warnings l))) (append_assoc front (r ∷ []) rs)
-            (behind.mean setting types warnings (front ++ r ∷ []) differ.1),
+            (behind.mean setting types warnings (front ++ r ∷ []) rez differ.1),
       );
     }
 
@@ -200,7 +210,7 @@ mean_resources : (list : List Resource) (tokens : List Token) → AreWhole token
 unfolding work
 mean_resources list tokens whole words stored fits short differ =
     let all = has_statements list tokens whole words stored fits short in
-    (all.statements, all.are, λ setting types warnings. all.mean setting types warnings [] differ)
+    (all.statements, all.are, λ setting types warnings rez. all.mean setting types warnings [] rez differ)
 
 -- The text.
 

@@ -4,7 +4,8 @@ pub mod TypeFaults
 pub mod Said
 pub mod Warnings
 pub mod OneAnswer
-pub mod Forks
+pub mod Numbered
+pub mod Sourced
 pub mod Stepping
 pub mod Resources
 pub mod PutOut
@@ -12,6 +13,8 @@ pub mod Values
 pub mod Again
 pub mod Carried
 pub mod Planned
+pub mod Lists
+pub mod Showing
 pub mod ShownAgain
 pub mod Running
 pub mod Reserved

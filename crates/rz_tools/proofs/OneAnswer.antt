@@ -1,22 +1,32 @@
 -- Words have one answer at most.
-use Rattle.std.proofs.Common.{◌≡◌, ℕ, List, [], ◌∷◌, map, Ok, Err, sym, ap, subst, ◌∙◌}
+use Rattle.std.proofs.Common.{◌≡◌, ℕ, List, [], ◌∷◌, ◌++◌, map, Option, Some, None, Ok, Err, sym, ap, subst, ◌∙◌}
+use Rattle.std.specs.FinMap as finite
 use Rattle.std.specs.declared.result.Result.{Result}
 use Rattle.rz_core.specs.declared.facts.Facts.{Facts}
 use Rattle.rz_core.specs.declared.fault.Fault.{Fault}
 use Rattle.rz_core.specs.declared.fault.Mark.{Mark}
 use Rattle.rz_core.specs.declared.moment.Moment.{Moment}
+use Rattle.rz_core.specs.declared.resource.Resource.{Resource}
 use Rattle.rz_folder.specs.Folder.{Files}
 use Rattle.rz_lex.specs.declared.token.Token.{Token}
-use Rattle.rz_pre.specs.Program.{Failure, ProgramGoes, State}
+use Rattle.rz_pre.specs.Program.{missing_file, Failure, ProgramGoes, State}
 use Rattle.rz_pre.specs.declared.condition.Tool.{Tool}
+use Rattle.rz_pre.specs.declared.condition.Tool.TheVariants as tools
 use Rattle.rz_pre.specs.declared.program.Def.{Def}
 use Rattle.rz_stmt.specs.Statements.{AreStatements}
-use Rattle.rz_words.specs.Command.{Asked, Rez, DeRez, Help, Version, IsCommand, IsMisplaced, RezAsked}
+use Rattle.rz_words.specs.Command.{Asked, DeRezAsked, Rez, DeRez, Help, Version, IsCommand, IsMisplaced, RezAsked}
 use Rattle.rz_tools.specs.Answer.{misused, or_refused, shown, written, Answer}
 use Rattle.rz_tools.specs.Program.{Answers, AnswersTo, command, misplaced}
-use Rattle.rz_tools.specs.Rez.{fork_of_work, setting_of, Compiles, Forked, HasFork, Said, Unsaid}
+use Rattle.rz_fork.specs.Admit.{admitted}
+use Rattle.rz_fork.specs.Contents.{Fork}
+use Rattle.rz_fork.specs.declared.fault.ForkFault.{ForkFault}
+use Rattle.rz_tools.specs.Chosen.{chosen}
+use Rattle.rz_tools.specs.DeRez.{derez_setting, known_by, HasFileText, HasForkText, HasText, Shows, ShowsEach, TypesAre}
+use Rattle.rz_tools.specs.Rez.{list_fork, setting_of, Compiles, HasFork}
+use Rattle.rz_tools.specs.Shown.{Known, Shown}
+use Rattle.rz_tools.specs.Sources.{compiled, said_beside, AreCompiled, Compiled, HasWork, InProgram, SaidBeside, Unsaid}
 use Rattle.rz_tools.specs.Warning.{warning_lines}
-use Rattle.rz_tools.specs.Step.{declared, list_behind, nothing_made, with_list, IsBehind, Means, Steps, WarnedFault, WithWarnings, Work}
+use Rattle.rz_tools.specs.Step.{declared, list_behind, nothing_made, with_list, Changes, IsBehind, IsListBehind, Means, Steps, WarnedFault, WithWarnings, Work}
 use Rattle.rz_stmt.specs.Grammar.{mark_of, Compiles as compiled_statement, Data, Declares, Empty, Parses, Statement}
 use Rattle.rz_core.specs.Answers.{Then}
 use Rattle.rz_tools.specs.ToolWords.{numbered}
@@ -58,15 +68,40 @@ once_with {X} warnings answers once (Err a) (Err b) is also =
     let fault : a.fault ≡ b.fault = same_err {X = X} a.fault b.fault (once (Err a.fault) (Err b.fault) is.0 also.0) in
     λ i. Err (record { fault = fault i; warnings = (is.1 ∙ sym also.1) i })
 
-once_said : (files : List (List ℕ)) (answers : Result Forked WarnedFault → Type 0) → Once answers → Once (Said files answers)
-once_said files answers once (Ok a) (Ok b) is also =
-    let same : is.0 ≡ also.0 = same_ok {F = WarnedFault} is.0 also.0 (once (Ok is.0) (Ok also.0) is.1 also.1) in
-    ap ok (is.2 ∙ ap (λ (f : Forked). record { bytes = f.bytes; said = warning_lines files f.warnings }) same ∙ sym also.2)
-once_said files answers once (Ok a) (Err b) is also = absurd (ok_or_err is.0 also.0 (once (Ok is.0) (Err also.0) is.1 also.1))
-once_said files answers once (Err a) (Ok b) is also = absurd (ok_or_err also.0 is.0 (once (Ok also.0) (Err is.0) also.1 is.1))
-once_said files answers once (Err a) (Err b) is also =
-    let same : is.0 ≡ also.0 = same_err {X = Forked} is.0 also.0 (once (Err is.0) (Err also.0) is.1 also.1) in
-    ap err (is.2 ∙ ap (λ (s : WarnedFault). record { fault = s.fault; files = files; said = warning_lines files s.warnings }) same ∙ sym also.2)
+once_in : (program : State) (answers : Result Work WarnedFault → Type 0) → Once answers → Once (InProgram program answers)
+once_in program answers once (Ok a) (Ok b) is also =
+    ap ok (is.2 ∙ ap (compiled program) (same_ok {F = WarnedFault} is.0 also.0 (once (Ok is.0) (Ok also.0) is.1 also.1)) ∙ sym also.2)
+once_in program answers once (Ok a) (Err b) is also = absurd (ok_or_err is.0 also.0 (once (Ok is.0) (Err also.0) is.1 also.1))
+once_in program answers once (Err a) (Ok b) is also = absurd (ok_or_err also.0 is.0 (once (Ok also.0) (Err is.0) also.1 is.1))
+once_in program answers once (Err a) (Err b) is also =
+    let same : is.0 ≡ also.0 = same_err {X = Work} is.0 also.0 (once (Err is.0) (Err also.0) is.1 also.1) in
+    ap err (is.2 ∙ ap (λ (s : WarnedFault). record { fault = s.fault; files = program.files; said = warning_lines program.files s.warnings }) same ∙ sym also.2)
+
+once_beside : (made : Compiled) (answers : Result (List ℕ) Fault → Type 0) → Once answers → Once (SaidBeside made answers)
+once_beside made answers once a b is also = is.2 ∙ ap (said_beside made.files made.work.warnings) (once is.0 also.0 is.1 also.1) ∙ sym also.2
+
+once_changes : (tool : Tool) (list : List Resource) (answers : Result (List Resource) Fault → Type 0) → Once answers → Once (Changes tool list answers)
+once_changes tools.Rez list answers once = once
+once_changes tools.DeRez list answers once = once_is (Ok list)
+
+-- The text of a fork.
+
+one_shown : (known : Known) (r : Resource) (text others : List ℕ) → Shown known r text → Shown known r others → text ≡ others
+one_shown known r text others is also = is ∙ sym also
+
+one_text : (known : Known) (list : List Resource) (text others : List ℕ) → ShowsEach known list text → ShowsEach known list others → text ≡ others
+one_text known [] text others is also = is ∙ sym also
+one_text known (r ∷ rs) text others (f, b, eq, shown, shows) (g, c, eq_too, shown_too, shows_too) =
+    eq ∙ (λ i. one_shown known r f g shown shown_too i ++ one_text known rs b c shows shows_too i) ∙ sym eq_too
+
+once_fork_text : (known : Known) (asked : DeRezAsked) (fork : Result Fork ForkFault) → Once (HasForkText known asked fork)
+once_fork_text known asked (Ok fork) a b is also =
+    is.2 ∙ ap ok (one_text known (chosen asked.only asked.skip fork.list) is.0 also.0 is.1 also.1) ∙ sym also.2
+once_fork_text known asked (Err fault) a b is also = is ∙ sym also
+
+once_file_text : (known : Known) (asked : DeRezAsked) (entry : Option (List ℕ)) → Once (HasFileText known asked entry)
+once_file_text known asked None = once_is (Err (missing_file None asked.file))
+once_file_text known asked (Some bytes) = once_fork_text known asked (admitted bytes)
 
 once_unsaid : {X : Type 0} (answers : Result X Failure → Type 0) → Once answers → Once (Unsaid answers)
 once_unsaid answers once (Ok a) (Ok b) is also = ap ok (same_ok {F = Failure} a b (once (Ok a) (Ok b) is also))
@@ -90,9 +125,15 @@ OneSpelling = (known : Facts) (body : PlainBody) (row : List Tree) (answer anoth
 module _ (cutting : OneCutting) (statement_law : OneStatement) (matching : OneMatch) (spelling : OneSpelling) where
   once_behind : (setting : Setting) (mark : Mark) (work : Work) (statement : Statement) → Once (IsBehind setting mark work statement)
   once_behind setting mark work Empty = once_is (Ok work)
-  once_behind setting mark work (Data raw) = once_is (with_list work (list_behind setting mark work.list raw))
+  once_behind setting mark work (Data raw) = λ a b is also.
+      is.2
+      ∙ ap (with_list work) (once_changes setting.tool work.list (λ list. list ≡ list_behind setting mark work.list raw) (once_is (list_behind setting mark work.list raw)) is.0 also.0 is.1 also.1)
+      ∙ sym also.2
   once_behind setting mark work (compiled_statement one) = λ a b is also.
-      is.2 ∙ ap (with_list work) (once_list matching spelling setting mark work.types work.list one is.0 also.0 is.1 also.1) ∙ sym also.2
+      is.2
+      ∙ ap (with_list work) (once_changes setting.tool work.list (IsListBehind setting mark work.types work.list one)
+      (once_list matching spelling setting mark work.types work.list one) is.0 also.0 is.1 also.1)
+      ∙ sym also.2
   once_behind setting mark work (Declares one) = once_is (declared setting mark work one)
 
   one_step : (setting : Setting) (work : Work) (tokens : List Token) → Once (Steps setting work tokens)
@@ -106,22 +147,33 @@ module _ (cutting : OneCutting) (statement_law : OneStatement) (matching : OneMa
       once_then (Steps setting work (map (numbered setting.tool) tokens)) (λ next. Means setting next statements)
       (one_step setting work (map (numbered setting.tool) tokens)) (λ next. one_meaning setting next statements)
 
-  one_fork : (setting : Setting) (tokens : List Token) → Once (HasFork setting tokens)
-  one_fork setting tokens a b is also =
-      once_then (Means setting nothing_made is.0) (λ work answer. answer ≡ fork_of_work work) (one_meaning setting nothing_made is.0) (λ work. once_is (fork_of_work work)) a b is.2
-      (subst (λ (ss : List (List Token)). Then (Means setting nothing_made ss) (λ work answer. answer ≡ fork_of_work work) b) (sym (cutting tokens is.0 also.0 is.1 also.1)) also.2)
+  once_work : (setting : Setting) (program : State) → Once (HasWork setting program)
+  once_work setting program a b is also =
+      once_in program (Means setting nothing_made is.0) (one_meaning setting nothing_made is.0) a b is.2
+      (subst (λ (ss : List (List Token)). InProgram program (Means setting nothing_made ss) b) (sym (cutting program.tokens is.0 also.0 is.1 also.1)) also.2)
 
   module _ (program : OneProgram) where
-    pub one_compiled : (setting : Setting) (asked : RezAsked) (files : Files) → Once (Compiles setting asked files)
-    one_compiled setting asked files =
-        once_then (Unsaid (ProgramGoes files setting.tool asked.files asked.paths asked.defs)) (λ s. Said s.files (HasFork setting s.tokens))
-        (once_unsaid (ProgramGoes files setting.tool asked.files asked.paths asked.defs) (program files setting.tool asked.files asked.paths asked.defs))
-        (λ s. once_said s.files (HasFork setting s.tokens) (one_fork setting s.tokens))
+    once_compiled : (setting : Setting) (names paths : List (List ℕ)) (defs : List Def) (files : Files) → Once (AreCompiled setting names paths defs files)
+    once_compiled setting names paths defs files =
+        once_then (Unsaid (ProgramGoes files setting.tool names paths defs)) (HasWork setting)
+        (once_unsaid (ProgramGoes files setting.tool names paths defs) (program files setting.tool names paths defs)) (once_work setting)
+
+    once_fork : (setting : Setting) (asked : RezAsked) (files : Files) → Once (Compiles setting asked files)
+    once_fork setting asked files =
+        once_then (AreCompiled setting asked.files asked.paths asked.defs files) HasFork (once_compiled setting asked.files asked.paths asked.defs files)
+        (λ made. once_beside made (λ fork. fork ≡ list_fork made.work.list) (once_is (list_fork made.work.list)))
+
+    once_shows : (moment : Moment) (asked : DeRezAsked) (files : Files) → Once (Shows moment asked files)
+    once_shows moment asked files =
+        once_then (TypesAre moment asked files) (HasText moment asked files) (once_compiled (derez_setting moment asked) asked.files asked.paths asked.defs files)
+        (λ made. once_beside made (HasFileText (known_by moment made) asked (finite.get files asked.file))
+        (once_file_text (known_by moment made) asked (finite.get files asked.file)))
 
     one_to : (asked : Asked) (files : Files) (moment : Moment) (a b : Answer) → AnswersTo asked files moment a → AnswersTo asked files moment b → a ≡ b
     one_to (Rez asked) files moment a b is also =
-        is.2 ∙ ap (or_refused (written asked.output)) (one_compiled (setting_of moment asked) asked files is.0 also.0 is.1 also.1) ∙ sym also.2
-    one_to (DeRez file) files moment a b is also = is.2 ∙ ap (or_refused shown) (is.1 ∙ sym also.1) ∙ sym also.2
+        is.2 ∙ ap (or_refused (written asked.output)) (once_fork (setting_of moment asked) asked files is.0 also.0 is.1 also.1) ∙ sym also.2
+    one_to (DeRez asked) files moment a b is also =
+        is.2 ∙ ap (or_refused shown) (once_shows moment asked files is.0 also.0 is.1 also.1) ∙ sym also.2
     one_to Help files moment a b is also = is ∙ sym also
     one_to Version files moment a b is also = is ∙ sym also
 

@@ -1,15 +1,18 @@
 -- The answer of a command, from what it makes or is stopped by.
-use Rattle.std.proofs.Common.{◌≡◌, ℕ, List, Ok, Err, Some, None}
+use Rattle.std.proofs.Common.{◌≡◌, ℕ, List, Ok, Err, Some, None, subst}
 use Rattle.std.specs.Prelude.{IfOk, IfSome}
+use Rattle.std.specs.FinMap as finite
 use Rattle.std.specs.declared.option.Option.{Option}
 use Rattle.std.specs.declared.result.Result.{Result}
 use Rattle.rz_core.specs.declared.moment.Moment.{Moment}
 use Rattle.rz_folder.specs.Folder.{Files}
-use Rattle.rz_words.specs.Command.{Asked, IsCommand, IsMisplaced}
+use Rattle.rz_words.specs.Command.{Asked, DeRez, DeRezAsked, IsCommand, IsMisplaced}
+use Rattle.rz_tools.specs.Again.{IsFile}
 use Rattle.rz_tools.specs.Program.{command, misplaced, Answers, AnswersTo}
 use Rattle.rz_tools.specs.Answer.{misused, Answer, Answered, Failing, Making}
 use Rattle.rz_tools.specs.Made.{MadeSo}
 use Rattle.rz_tools.specs.Plan.{answer_of, EndsIn}
+use Rattle.rz_tools.specs.declared.outcome.Outcome.TheVariants.{Done}
 use Rattle.rz_tools.specs.declared.plan.Plan.{Plan}
 use Rattle.rz_tools.specs.declared.made.Unanswered.{Unanswered}
 use Rattle.rz_tools.specs.declared.made.Stopped.{Stopped}
@@ -56,3 +59,15 @@ module _ (words : List (List ℕ)) (moment : Moment) (asked : Asked) (is : IsCom
 pub as_misused : (words : List (List ℕ)) (moment : Moment) (position : ℕ) → IsMisplaced words position → (plan : Plan) (before : Option Files) → answer_of plan ≡ misused position
     → IfSome before (λ files. Answers words files moment (answer_of plan))
 as_misused words moment position is plan before says = always before (λ files. Answers words files moment (answer_of plan)) (λ files. misplaced position is says)
+
+-- A fork's file is as short as one, where the words have one meaning.
+
+same_asked : (one other : DeRezAsked) → DeRez one ≡ DeRez other → one ≡ other
+same_asked one other is = cc
+
+pub held_asked : (one other : DeRezAsked) → DeRez one ≡ DeRez other → (before : Option Files) (result : Result Plan Unanswered)
+    → IfSome before (λ files. IfSome (finite.get files one.file) (λ bytes. IfOk result (λ plan. plan.outcome ≡ Done → IsFile bytes)))
+    → IfSome before (λ files. IfSome (finite.get files other.file) (λ bytes. IfOk result (λ plan. plan.outcome ≡ Done → IsFile bytes)))
+held_asked one other same before result held =
+    subst (λ (a : DeRezAsked). IfSome before (λ files. IfSome (finite.get files a.file) (λ bytes. IfOk result (λ plan. plan.outcome ≡ Done → IsFile bytes))))
+    (same_asked one other same) held

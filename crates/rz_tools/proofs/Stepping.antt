@@ -11,6 +11,8 @@ use Rattle.rz_lex.specs.declared.token.Token.{Token}
 use Rattle.rz_core.specs.Stop.{Gives, OnFault, ◌>>=◌}
 use Rattle.rz_core.specs.declared.stop.Stop.{Stop}
 use Rattle.rz_core.specs.declared.stop.Stop.TheVariants.{Refused, NoMemory}
+use Rattle.rz_pre.specs.declared.condition.Tool.{Tool}
+use Rattle.rz_pre.specs.declared.condition.Tool.TheVariants as tools
 use Rattle.rz_stmt.specs.Constants as declare
 use Rattle.rz_stmt.specs.Grammar.{mark_of, Compiles, Data, Declares, Empty, Gave, Parses}
 use Rattle.rz_items.specs.Compile.{Compile}
@@ -24,7 +26,7 @@ use Rattle.rz_brackets.specs.declared.span.Span.{Span}
 use Rattle.rz_tools.specs.Held.{work_of}
 use Rattle.rz_tools.specs.Warning.{AreWarnings}
 use Rattle.rz_tools.specs.declared.step.Work as held
-use Rattle.rz_tools.specs.Step.{declared, list_behind, nothing_made, put_unless_protected, tokens_at, with_list, IsListBehind, IsSpan, Means, Stepped, Steps, WarnedFault, Work, Worked}
+use Rattle.rz_tools.specs.Step.{declared, list_behind, nothing_made, put_unless_protected, tokens_at, Changes, IsListBehind, IsSpan, Means, Stepped, Steps, WarnedFault, Work, Worked}
 use Rattle.rz_tools.specs.declared.setting.Setting.{Setting}
 
 -- whatever the rest of the statements means after this, all mean so
@@ -118,6 +120,23 @@ module _ (tokens : List Token) where
 
 -- One statement.
 
+-- What changes the list for Rez, and leaves it for DeRez.
+
+pub changes : (tool : Tool) (list : List Resource) (answers : Result (List Resource) Fault → Type 0) (answer : Result (List Resource) Fault) → tool ≡ tools.Rez → answers answer
+    → Changes tool list answers answer
+changes tools.Rez list answers answer is so = so
+changes tools.DeRez list answers answer is so = absurd (cc is)
+
+pub rez_changes : (tool : Tool) (list : List Resource) (answers : Result (List Resource) Fault → Type 0) (result : Result (Unit {0}) (Stop Fault)) (after : List Resource)
+    → tool ≡ tools.Rez → Stepped answers result after → Stepped (Changes tool list answers) result after
+rez_changes tool list answers (Ok nothing) after is so = changes tool list answers (Ok after) is so
+rez_changes tool list answers (Err (Refused fault)) after is so = changes tool list answers (Err fault) is so
+rez_changes tool list answers (Err NoMemory) after is so = tt
+
+pub derez_changes : (tool : Tool) (list : List Resource) (answers : Result (List Resource) Fault → Type 0) → tool ≡ tools.DeRez → Changes tool list answers (Ok list)
+derez_changes tools.Rez list answers is = absurd (cc is)
+derez_changes tools.DeRez list answers is = refl
+
 module _ (setting : Setting) (work : Work) (ts : List Token) where
   pub stopped : (stop : Stop Fault) → Gave (Err stop) (Parses ts) → Worked (Steps setting work ts) (Err stop) work
   stopped (Refused fault) parsed = (inr (fault, parsed, refl), refl)
@@ -127,19 +146,21 @@ module _ (setting : Setting) (work : Work) (ts : List Token) where
   nothing_done parsed = inl (Empty, parsed, refl)
 
   pub raw_done : (raw : Raw) (mark : Mark) (result : Result (Unit {0}) (Stop Fault)) (after : List Resource) → Parses ts (Ok (Data raw)) → mark_of ts ≡ mark
-      → Stepped (λ answer. answer ≡ list_behind setting mark work.list raw) result after → Worked (Steps setting work ts) result (record work { list = after })
+      → Stepped (Changes setting.tool work.list (λ answer. answer ≡ list_behind setting mark work.list raw)) result after
+      → Worked (Steps setting work ts) result (record work { list = after })
   raw_done raw mark (Ok nothing) after parsed same done =
-      inl (Data raw, parsed, ap (with_list work) (done ∙ ap (λ m. list_behind setting m work.list raw) (sym same)))
+      inl (Data raw, parsed, (Ok after, subst (λ (m : Mark). Changes setting.tool work.list (λ answer. answer ≡ list_behind setting m work.list raw) (Ok after)) (sym same) done, refl))
   raw_done raw mark (Err (Refused fault)) after parsed same done =
-      (inl (Data raw, parsed, ap (with_list work) (done ∙ ap (λ m. list_behind setting m work.list raw) (sym same))), refl)
+      (inl (Data raw, parsed, (Err fault, subst (λ (m : Mark). Changes setting.tool work.list (λ answer. answer ≡ list_behind setting m work.list raw) (Err fault)) (sym same) done, refl)), refl)
   raw_done raw mark (Err NoMemory) after parsed same done = tt
 
   pub compiled_done : (one : Compile) (mark : Mark) (result : Result (Unit {0}) (Stop Fault)) (after : List Resource) → Parses ts (Ok (Compiles one)) → mark_of ts ≡ mark
-      → Stepped (IsListBehind setting mark work.types work.list one) result after → Worked (Steps setting work ts) result (record work { list = after })
+      → Stepped (Changes setting.tool work.list (IsListBehind setting mark work.types work.list one)) result after
+      → Worked (Steps setting work ts) result (record work { list = after })
   compiled_done one mark (Ok nothing) after parsed same done =
-      inl (Compiles one, parsed, (Ok after, subst (λ (m : Mark). IsListBehind setting m work.types work.list one (Ok after)) (sym same) done, refl))
+      inl (Compiles one, parsed, (Ok after, subst (λ (m : Mark). Changes setting.tool work.list (IsListBehind setting m work.types work.list one) (Ok after)) (sym same) done, refl))
   compiled_done one mark (Err (Refused fault)) after parsed same done =
-      (inl (Compiles one, parsed, (Err fault, subst (λ (m : Mark). IsListBehind setting m work.types work.list one (Err fault)) (sym same) done, refl)), refl)
+      (inl (Compiles one, parsed, (Err fault, subst (λ (m : Mark). Changes setting.tool work.list (IsListBehind setting m work.types work.list one) (Err fault)) (sym same) done, refl)), refl)
   compiled_done one mark (Err NoMemory) after parsed same done = tt
 
   pub declare_done : (one : declare.Declare) (mark : Mark) (result : Result (Unit {0}) (Stop Fault)) (after : Work) → Parses ts (Ok (Declares one)) → mark_of ts ≡ mark

@@ -1,5 +1,5 @@
 -- The text that DeRez writes, read by Rez.
-use Rattle.std.specs.Prelude.{◌≡◌, ◌<◌, ◌≤◌, ◌^◌, ℕ, List, [], ◌∷◌, ◌++◌, length, Option, Some, None, Ok, Err}
+use Rattle.std.specs.Prelude.{◌≡◌, ◌<◌, ◌≤◌, ◌^◌, ℕ, List, [], ◌∷◌, ◌++◌, length, Option, Some, None, Ok}
 use Rattle.std.specs.FinMap as finite
 use Rattle.std.specs.List.{AllByRecursion}
 use Rattle.rz_core.specs.declared.fault.Fault.{Fault}
@@ -16,24 +16,25 @@ use Rattle.rz_stmt.specs.Statements.{AreStatements}
 use Rattle.rz_tools.specs.Data.{most_bytes}
 use Rattle.rz_tools.specs.Step.{Means}
 use Rattle.rz_tools.specs.declared.setting.Setting.{Setting}
-use Rattle.rz_tools.specs.Answer.{or_refused, written, Failing, Making}
+use Rattle.rz_tools.specs.Answer.{or_refused, written}
 use Rattle.rz_tools.specs.Program.{Answers}
 use Rattle.rz_tools.specs.Rez.{list_fork}
+use Rattle.rz_tools.specs.Sources.{said_beside}
 use Rattle.rz_types.specs.Table.{Declaration}
-use Rattle.rz_words.specs.Command.{IsCommand, Rez, RezAsked}
+use Rattle.rz_tools.specs.Chosen.{chosen}
+use Rattle.rz_words.specs.Command.{DeRezAsked, IsCommand, Rez, RezAsked}
 use Rattle.rz_core.specs.declared.moment.Moment.{Moment}
-use Rattle.std.specs.declared.result.Result.{Result}
 
 -- none of the words of such a text is a live macro
 abbrev pub NoneIsLive : Live → Type 0
 NoneIsLive live = AllByRecursion (λ word. live word ≡ None) shown_words
 
--- the tokens mean these resources: whatever types are declared, as statements they make this list of nothing, declare
--- nothing and are warned of nowhere
+-- the tokens mean these resources to Rez: whatever types are declared, as statements they make this list of nothing,
+-- declare nothing and are warned of nowhere
 abbrev pub MeanResources : List Token → List Resource → Type 0
 MeanResources tokens list =
     (statements : List (List Token)) × AreStatements tokens statements
-    × ((setting : Setting) (types : List Declaration) (warnings : List Fault)
+    × ((setting : Setting) (types : List Declaration) (warnings : List Fault) → setting.tool ≡ tools.Rez
     → Means setting (record { types = types; list = []; warnings = warnings }) statements (Ok (record { types = types; list = list; warnings = warnings })))
 
 -- a text means these resources to Rez: as a file of whatever name, behind whatever was read before, where none of its
@@ -48,25 +49,22 @@ pub record MeansAgain (text : List ℕ) (list : List Resource) : Type 0 where
 abbrev pub AreShort : List Resource → Type 0
 AreShort list = AllByRecursion (λ r. length r.bytes ≤ most_bytes) list
 
--- what the text that is shown of a fork is compiled to as the one source, a file of this name: the fork of the same
--- resources, or the first limit that such a fork passes
-abbrev pub compiled_alone : List ℕ → Result (List ℕ) Fault → Result Making Failing
-compiled_alone name (Ok fork) = Ok (record { bytes = fork; said = [] })
-compiled_alone name (Err fault) = Err (record { fault = fault; files = name ∷ []; said = [] })
-
--- the answer to words that are `rez` with such a file as the one source, whatever else they ask for
+-- the answer to words that are `rez` with a file of this text as the one source, whatever else they ask for: the fork of
+-- the same resources, or the first limit that such a fork passes
 abbrev pub CompilesAlone : List ℕ → List Resource → Type 0
 CompilesAlone text list =
     (words : List (List ℕ)) (asked : RezAsked) (files : Files) (moment : Moment) (name : List ℕ)
     → IsCommand words (Rez asked) → asked.files ≡ name ∷ [] → finite.get files name ≡ Some text
-    → Answers words files moment (or_refused (written asked.output) (compiled_alone name (list_fork list)))
+    → Answers words files moment (or_refused (written asked.output) (said_beside (name ∷ []) [] (list_fork list)))
 
 -- bytes, as few as a file has
 abbrev pub IsFile : List ℕ → Type 0
 IsFile bytes = AllByRecursion (λ b. b < 256) bytes × (length bytes < 2 ^ 32)
 
--- where a file is such a fork, behind what the output had stands a text that means its resources again
-abbrev pub ShowsAgain : List ℕ → Files → List ℕ → Option (List ℕ) → Type 0
-ShowsAgain file files before after =
-    (bytes : List ℕ) → finite.get files file ≡ Some bytes → (fork : Fork) → admitted bytes ≡ Ok fork → AreShort fork.list
-    → (text : List ℕ) × (after ≡ Some (before ++ text)) × MeansAgain text fork.list
+-- where the fork's file is such a fork, behind what the output had stands a text that means again the resources that are
+-- shown
+abbrev pub ShowsAgain : DeRezAsked → Files → List ℕ → Option (List ℕ) → Type 0
+ShowsAgain asked files before after =
+    (bytes : List ℕ) → finite.get files asked.file ≡ Some bytes → (fork : Fork) → admitted bytes ≡ Ok fork
+    → AreShort (chosen asked.only asked.skip fork.list)
+    → (text : List ℕ) × (after ≡ Some (before ++ text)) × MeansAgain text (chosen asked.only asked.skip fork.list)

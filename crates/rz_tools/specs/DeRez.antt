@@ -1,42 +1,63 @@
--- What `derez FILE` means: the text of the fork's resources. (MPW DeRez.)
-use Rattle.std.specs.Prelude.{◌≡◌, ℕ, pos, List, [], Ok, Err, Option, Some, None}
+-- What `derez` means: under the types that the type files declare, the text of the fork's resources. (MPW DeRez.)
+use Rattle.std.specs.Prelude.{◌≡◌, ℕ, pos, List, [], ◌∷◌, ◌++◌, Ok, Err, Option, Some, None}
 use Rattle.std.specs.declared.result.Result.{Result}
 use Rattle.std.specs.FinMap as map
+use Rattle.rz_core.specs.Answers.{Then}
 use Rattle.rz_core.specs.declared.fault.Fault.{Fault}
 use Rattle.rz_core.specs.declared.fault.Kept.TheVariants as kept
+use Rattle.rz_core.specs.declared.moment.Moment.{Moment}
+use Rattle.rz_core.specs.declared.resource.Resource.{Resource}
 use Rattle.rz_folder.specs.Folder.{Files}
 use Rattle.rz_fork.specs.Admit.{admitted}
 use Rattle.rz_fork.specs.declared.fault.ForkFault.{ForkFault}
 use Rattle.rz_fork.specs.Contents.{Fork}
 use Rattle.rz_pre.specs.Program.{missing_file}
-use Rattle.rz_show.specs.Data.{list_text}
+use Rattle.rz_pre.specs.declared.condition.Tool.TheVariants as tools
 use Rattle.rz_tools.specs.Answer.{Answer, Answered, Failing, Making, shown}
+use Rattle.rz_tools.specs.Chosen.{chosen}
+use Rattle.rz_tools.specs.Shown.{Known, Shown}
+use Rattle.rz_tools.specs.Sources.{AreCompiled, Compiled, SaidBeside}
+use Rattle.rz_tools.specs.declared.setting.Setting.{Setting}
+use Rattle.rz_words.specs.Command.{DeRezAsked}
+
+-- the text shows each of these resources, one behind the other
+abbrev pub ShowsEach : Known → List Resource → List ℕ → Type 0
+ShowsEach known [] text = text ≡ []
+ShowsEach known (r ∷ rs) text = (front behind : List ℕ) × (text ≡ front ++ behind) × Shown known r front × ShowsEach known rs behind
 
 -- a broken rule of a fork, with its offset and its value
 abbrev pub broken_rule : ForkFault → Fault
 broken_rule fault = record { number = fault.number; mark = None; kept = kept.Pair (pos fault.offset) (pos fault.value) }
 
-abbrev pub text_or_fault : Result Fork ForkFault → Result (List ℕ) Fault
-text_or_fault (Ok fork) = Ok (list_text fork.list)
-text_or_fault (Err fault) = Err (broken_rule fault)
+-- the text of the resources of a fork that the words choose, or the first rule that the fork breaks
+abbrev pub HasForkText : Known → DeRezAsked → Result Fork ForkFault → Result (List ℕ) Fault → Type 0
+HasForkText known asked (Ok fork) answer = (text : List ℕ) × ShowsEach known (chosen asked.only asked.skip fork.list) text × (answer ≡ Ok text)
+HasForkText known asked (Err fault) answer = answer ≡ Err (broken_rule fault)
 
--- the text of the resources of a fork, or the first rule that the fork breaks
-unfoldable pub fork_text : List ℕ → Result (List ℕ) Fault
-fork_text bytes = text_or_fault (admitted bytes)
+-- the text of the fork that its name holds, or 101 where it holds none
+abbrev pub HasFileText : Known → DeRezAsked → Option (List ℕ) → Result (List ℕ) Fault → Type 0
+HasFileText known asked None answer = answer ≡ Err (missing_file None asked.file)
+HasFileText known asked (Some bytes) answer = HasForkText known asked (admitted bytes) answer
 
--- the text of the fork that a name holds, or 101 where it holds none
-abbrev pub file_text : List ℕ → Option (List ℕ) → Result (List ℕ) Fault
-file_text file None = Err (missing_file None file)
-file_text file (Some bytes) = fork_text bytes
+-- what is known behind the type files
+abbrev pub known_by : Moment → Compiled → Known
+known_by moment compiled = record { types = compiled.work.types; is_macro = compiled.is_macro; moment = moment }
 
--- no mark counts files here, and nothing is said beside the text
-abbrev pub without_files : Result (List ℕ) Fault → Result Making Failing
-without_files (Ok text) = Ok (record { bytes = text; said = [] })
-without_files (Err fault) = Err (record { fault = fault; files = []; said = [] })
+-- what holds for all statements: what the words ask for, and the moment
+abbrev pub derez_setting : Moment → DeRezAsked → Setting
+derez_setting moment asked = record { tool = tools.DeRez; redeclare = asked.redeclare; moment = moment }
 
-abbrev pub derez_text : List ℕ → Files → Result Making Failing
-derez_text file files = without_files (file_text file (map.get files file))
+-- what the type files mean
+abbrev pub TypesAre : Moment → DeRezAsked → Files → Result Compiled Failing → Type 0
+TypesAre moment asked files = AreCompiled (derez_setting moment asked) asked.files asked.paths asked.defs files
+
+-- and then the text of the fork, with the lines of the warnings
+abbrev pub HasText : Moment → DeRezAsked → Files → Compiled → Result Making Failing → Type 0
+HasText moment asked files compiled = SaidBeside compiled (HasFileText (known_by moment compiled) asked (map.get files asked.file))
+
+abbrev pub Shows : Moment → DeRezAsked → Files → Result Making Failing → Type 0
+Shows moment asked files = Then (TypesAre moment asked files) (HasText moment asked files)
 
 -- the text is written to the output, or the fault ends the run
-abbrev pub AnswersDeRez : List ℕ → Files → Answer → Type 0
-AnswersDeRez file files = Answered shown (λ text. text ≡ derez_text file files)
+abbrev pub AnswersDeRez : DeRezAsked → Files → Moment → Answer → Type 0
+AnswersDeRez asked files moment = Answered shown (Shows moment asked files)

@@ -1,7 +1,34 @@
--- What the code holds of the work so far.
+-- What the code holds of the work so far, of what sources mean, and of what is known where resources are shown.
+use Rattle.std.specs.Prelude.{length, Ok, Err}
+use Rattle.std.specs.declared.result.Result.{Result}
+use Rattle.rz_pre.specs.Reading.{is_among}
+use Rattle.rz_tools.specs.Answer.{Failing}
+use Rattle.rz_tools.specs.Made.{NamesFault, SaysBefore, StopsSo}
+use Rattle.rz_tools.specs.Shown as shown
+use Rattle.rz_tools.specs.Sources as sources
 use Rattle.rz_tools.specs.Step as step
+use Rattle.rz_tools.specs.Warning.{AreWarnings}
+use Rattle.rz_tools.specs.declared.made.Stopped.{Stopped}
+use Rattle.rz_tools.specs.declared.shown.Known.{Known}
+use Rattle.rz_tools.specs.declared.sources.Compiled.{Compiled}
 use Rattle.rz_tools.specs.declared.step.Work.{Work}
 use Rattle.rz_types.specs.TypeTable.{table_of}
 
 abbrev pub work_of : Work → step.Work
 work_of work = record { types = table_of work.types; list = work.resources; warnings = work.warnings }
+
+abbrev pub compiled_of : Compiled → sources.Compiled
+compiled_of compiled = record { work = work_of compiled.work; is_macro = λ name. is_among name compiled.macros; files = compiled.files }
+
+abbrev pub known_of : Known → shown.Known
+known_of known = record { types = table_of known.types; is_macro = λ name. is_among name known.macros; moment = known.moment }
+
+-- what is answered holds of what the call gave
+abbrev pub CompiledSo : Result Compiled Stopped → (Result sources.Compiled Failing → Type 0) → Type 0
+CompiledSo (Ok compiled) answers = answers (Ok (compiled_of compiled))
+CompiledSo (Err stop) answers = StopsSo stop (λ failing. answers (Err failing))
+
+-- the files can name what is warned of, or the fault of the refusal, and what is said before it is the lines of warnings
+abbrev pub AreNameable : Result Compiled Stopped → Type 0
+AreNameable (Ok compiled) = AreWarnings (length compiled.files) compiled.work.warnings
+AreNameable (Err stop) = NamesFault stop × SaysBefore stop

@@ -2,7 +2,6 @@ pub mod Outcome
 pub mod Message
 pub mod ToolWords
 pub mod Warning
-pub mod Made
 pub mod Answer
 pub mod WellFormed
 pub mod Head
@@ -10,6 +9,10 @@ pub mod Data
 pub mod Resource
 pub mod Declare
 pub mod Step
+pub mod Sources
+pub mod Made
+pub mod Shown
+pub mod Chosen
 pub mod Held
 pub mod Rez
 pub mod DeRez

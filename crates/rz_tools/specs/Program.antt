@@ -19,7 +19,7 @@ use Rattle.rz_tools.specs.declared.outcome.Outcome.TheVariants.{Done, Usage, Ref
 -- the answer to a command, where each name holds this, at this moment; each command is one case
 abbrev pub AnswersTo : Asked → Files → Moment → Answer → Type 0
 AnswersTo (Rez asked) files moment answer = AnswersRez asked files moment answer
-AnswersTo (DeRez file) files moment answer = AnswersDeRez file files answer
+AnswersTo (DeRez asked) files moment answer = AnswersDeRez asked files moment answer
 AnswersTo Help files moment answer = answer ≡ shown (record { bytes = help_text; said = [] })
 AnswersTo Version files moment answer = answer ≡ shown (record { bytes = version_text; said = [] })
 

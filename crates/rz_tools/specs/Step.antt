@@ -12,6 +12,8 @@ use Rattle.rz_core.specs.declared.stop.Stop.{Stop}
 use Rattle.rz_core.specs.declared.stop.Stop.TheVariants.{Refused, NoMemory}
 use Rattle.rz_lex.specs.declared.token.Token.{Token}
 use Rattle.rz_core.specs.Answers.{Then}
+use Rattle.rz_pre.specs.declared.condition.Tool.{Tool}
+use Rattle.rz_pre.specs.declared.condition.Tool.TheVariants as tools
 use Rattle.rz_core.specs.declared.resource.OsType.{OsType}
 use Rattle.rz_stmt.specs.Constants as declare
 use Rattle.rz_stmt.specs.Grammar.{mark_of, Compiles, Data, Declares, Empty, Parses, Statement}
@@ -47,6 +49,11 @@ put_unless_protected mark list r = if protects (found r.kind r.id list) then Err
 -- the list behind a `data` statement on this line
 abbrev pub list_behind : Setting → Mark → List Resource → Raw → Result (List Resource) Fault
 list_behind setting mark list raw = resource_of setting mark raw >>= put_unless_protected mark list
+
+-- what a statement other than `type` does to the list: DeRez leaves it as it is
+abbrev pub Changes : Tool → List Resource → (Result (List Resource) Fault → Type 0) → Result (List Resource) Fault → Type 0
+Changes tools.Rez list answers answer = answers answer
+Changes tools.DeRez list answers answer = answer ≡ Ok list
 
 -- What was made so far: the declarations of types, the resources, and what is to be warned of.
 pub record Work : Type 0 where
@@ -88,9 +95,12 @@ IsListBehind setting mark types list one = Then (IsResource setting mark types o
 -- what is made behind a statement on this line
 abbrev pub IsBehind : Setting → Mark → Work → Statement → Result Work Fault → Type 0
 IsBehind setting mark work Empty answer = answer ≡ Ok work
-IsBehind setting mark work (Data raw) answer = answer ≡ with_list work (list_behind setting mark work.list raw)
+IsBehind setting mark work (Data raw) answer =
+    (list : Result (List Resource) Fault) × Changes setting.tool work.list (λ list. list ≡ list_behind setting mark work.list raw) list
+    × (answer ≡ with_list work list)
 IsBehind setting mark work (Compiles one) answer =
-    (list : Result (List Resource) Fault) × IsListBehind setting mark work.types work.list one list × (answer ≡ with_list work list)
+    (list : Result (List Resource) Fault) × Changes setting.tool work.list (IsListBehind setting mark work.types work.list one) list
+    × (answer ≡ with_list work list)
 IsBehind setting mark work (Declares one) answer = answer ≡ declared setting mark work one
 
 -- a fault, and what was warned of before it

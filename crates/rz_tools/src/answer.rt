@@ -2,7 +2,7 @@ ghost use Rattle.std.specs.Prelude.{◌≡◌, ◌⊎◌, ℕ, List, map, IfOk, 
 ghost use Rattle.std.specs.String.{string_bytes};
 ghost use Rattle.std.specs.FinMap as finite;
 ghost use Rattle.rz_folder.specs.OnlyReads.{OnlyReads};
-ghost use Rattle.rz_words.specs.Command.{DeRez, IsCommand, IsMisplaced};
+ghost use Rattle.rz_words.specs.Command.{DeRez, DeRezAsked, IsCommand, IsMisplaced};
 ghost use Rattle.rz_tools.specs.Again.{IsFile};
 ghost use Rattle.rz_tools.specs.Plan.{answer_of};
 ghost use Rattle.rz_tools.specs.Program.{Answers};
@@ -33,8 +33,8 @@ pub fn answer<F: Folder>(
     ensures usage { IfOk result (λ plan. (position : ℕ) → plan.outcome ≡ Outcome.Usage (record { position = position }) → IsMisplaced (map string_bytes words.now) position) }
     ensures every_usage { (position : ℕ) → IsMisplaced (map string_bytes words.now) position
         → (result ≡ Err no_memory) ⊎ IsOkAnd result (λ plan. plan.outcome ≡ Outcome.Usage (record { position = position })) }
-    ensures held { (file : List ℕ) → IsCommand (map string_bytes words.now) (DeRez file)
-        → IfSome (F.files folder.old) (λ files. IfSome (finite.get files file) (λ bytes. IfOk result (λ plan. plan.outcome ≡ Outcome.Done → IsFile bytes))) }
+    ensures held { (asked : DeRezAsked) → IsCommand (map string_bytes words.now) (DeRez asked)
+        → IfSome (F.files folder.old) (λ files. IfSome (finite.get files asked.file) (λ bytes. IfOk result (λ plan. plan.outcome ≡ Outcome.Done → IsFile bytes))) }
     ensures reads { OnlyReads F.files F.read_faults F.write_faults folder.old folder.new (result ≡ Err ReadFault) }
 {
     one_command();
@@ -43,7 +43,10 @@ pub fn answer<F: Folder>(
             definitions_are_lexed();
             plan_rez(alloc, folder, &asked, moment)
         }
-        Ok(Command::DeRez(asked)) => plan_derez(alloc, folder, asked),
+        Ok(Command::DeRez(asked)) => {
+            definitions_are_lexed();
+            plan_derez(alloc, folder, &asked, moment)
+        }
         Ok(Command::Help) => Ok(Plan::text(alloc, help_text())?),
         Ok(Command::Version) => Ok(Plan::text(alloc, version_text())?),
         Err(Stop::Refused(fault)) => Ok(Plan::misused(alloc, fault)?),

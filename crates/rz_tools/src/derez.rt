@@ -1,133 +1,210 @@
-ghost use Rattle.std.specs.Prelude.{◌≡◌, ◌≤◌, ◌<◌, ◌^◌, Err, ℕ, length, IfOk, IfSome};
+ghost use Rattle.std.specs.Prelude.{◌≡◌, ◌++◌, ◌∷◌, [], ◌<◌, ◌^◌, Err, ℕ, List, length, None, IfOk, IfSome, OnOk};
 ghost use Rattle.std.specs.FinMap as map;
+ghost use Rattle.std.specs.String.{string_bytes};
+ghost use Rattle.rz_core.specs.Answers.{Meets};
 ghost use Rattle.rz_core.specs.Message.{IsNameable};
-ghost use Rattle.rz_core.specs.Stop.{Gives, OnFault};
+ghost use Rattle.rz_core.specs.Stop.{OnFault};
 ghost use Rattle.rz_folder.specs.OnlyReads.{OnlyReads};
-ghost use Rattle.rz_fork.specs.Admit.{IsSayable};
-ghost use Rattle.rz_tools.specs.declared.made.Stopped.TheVariants.{ReadFault};
+ghost use Rattle.rz_fork.specs.Admit.{admitted, IsSayable};
+ghost use Rattle.rz_pre.specs.Lexed.{HaveLexedTexts};
 ghost use Rattle.rz_pre.specs.Program.{missing_file};
-ghost use Rattle.rz_show.specs.Data.{list_text};
 ghost use Rattle.rz_tools.specs.Again.{IsFile};
-ghost use Rattle.rz_tools.specs.DeRez.{broken_rule, derez_text, fork_text, without_files, AnswersDeRez};
+ghost use Rattle.rz_tools.specs.Chosen.{chosen};
+ghost use Rattle.rz_tools.specs.DeRez.{broken_rule, AnswersDeRez, HasForkText, HasText, Shows, ShowsEach};
+ghost use Rattle.rz_tools.specs.Held.{compiled_of, known_of};
 ghost use Rattle.rz_tools.specs.Made.{IsNamed, MadeSo, SaysWarnings};
 ghost use Rattle.rz_tools.specs.Plan.{answer_of, IsNoUsage};
+ghost use Rattle.rz_tools.specs.Warning.{AreWarnings};
 ghost use Rattle.rz_tools.specs.WellFormed.{AreWritable, IsWellFormed};
+ghost use Rattle.rz_tools.specs.declared.made.Stopped.TheVariants.{ReadFault};
 ghost use Rattle.rz_tools.specs.declared.made.Unanswered.TheVariants.{ReadFault as unread};
+ghost use Rattle.rz_words.specs.Item.{derez};
 
+use crate::chosen::is_chosen;
 use crate::made::{Made, Stopped, Unanswered};
 use crate::outcome::Outcome;
 use crate::plan::Plan;
-use rz_core::{Bytes, Fault, FileNames, Kept, NoMemory, Resources, Stop};
+use crate::setting::Setting;
+use crate::shown::{Known, show};
+use crate::sources::{Compiled, compile_sources};
+use crate::step::Work;
+use crate::warning::say_beside;
+use rz_core::{Bytes, Fault, Kept, Moment, NoMemory, Resource, Resources, Stop};
 use rz_folder::{Folder, Read};
 use rz_fork::{ForkFault, read_fork};
-use rz_show::show_resource;
+use rz_pre::Tool;
 use rz_words::DeRezWords;
 use std::alloc::Global;
 
-/// The answer to the words of `derez`: the fork that they name, as `data` statements on the output.
+/// The answer to the words of `derez`: under what the type files declare, the text of the resources of the fork whose
+/// types the words choose, which is to be put out. The type files are read first, then their statements, of which
+/// `type` alone takes effect, and then the fork.
 pub fn plan_derez<F: Folder>(
     alloc: Global,
     folder: &mut F,
-    words: DeRezWords<'_>,
+    words: &DeRezWords,
+    moment: Moment,
 ) -> Result<Plan, Unanswered>
-    ensures answered { IfSome (F.files folder.old) (λ files. IfOk result (λ plan. AnswersDeRez words.entry.file.now files (answer_of plan))) }
+    requires { HaveLexedTexts words.now.defs }
+    ensures answered { IfSome (F.files folder.old) (λ files. IfOk result (λ plan. AnswersDeRez (derez words.now) files moment (answer_of plan))) }
     ensures well_formed { IfOk result (λ plan. IsWellFormed (answer_of plan)) }
     ensures writable { IfOk result (λ plan. AreWritable (answer_of plan).writes) }
     ensures no_usage { IfOk result (λ plan. IsNoUsage plan.outcome) }
-    ensures held { IfSome (F.files folder.old) (λ files. IfSome (map.get files words.entry.file.now) (λ bytes.
+    ensures held { IfSome (F.files folder.old) (λ files. IfSome (map.get files (string_bytes words.now.file)) (λ bytes.
         IfOk result (λ plan. plan.outcome ≡ Outcome.Done → IsFile bytes))) }
     ensures reads { OnlyReads F.files F.read_faults F.write_faults folder.old folder.new (result ≡ Err unread) }
 {
-    match read_text(alloc, folder, words.file) {
+    match read_and_show(alloc, folder, words, moment) {
         Ok(text) => Ok(Plan::shown(alloc, text)),
         Err(stop) => Plan::stopped(alloc, stop),
     }
 }
 
-/// The text of the fork that a name holds, or what stopped the command.
-fn read_text<F: Folder>(alloc: Global, folder: &mut F, file: &str) -> Result<Made, Stopped>
-    ensures text { IfSome (F.files folder.old) (λ files. MadeSo result (λ answer. answer ≡ derez_text file.now files)) }
-    ensures held { IfSome (F.files folder.old) (λ files. IfSome (map.get files file.now) (λ bytes. IfOk result (λ _. IsFile bytes))) }
+/// The text of the fork, or what stopped the command.
+fn read_and_show<F: Folder>(
+    alloc: Global,
+    folder: &mut F,
+    words: &DeRezWords,
+    moment: Moment,
+) -> Result<Made, Stopped>
+    requires { HaveLexedTexts words.now.defs }
+    ensures text { IfSome (F.files folder.old) (λ files. MadeSo result (Shows moment (derez words.now) files)) }
+    ensures held { IfSome (F.files folder.old) (λ files. IfSome (map.get files (string_bytes words.now.file)) (λ bytes. IfOk result (λ _. IsFile bytes))) }
     ensures nameable { IsNamed result }
     ensures warned { SaysWarnings result }
     ensures reads { OnlyReads F.files F.read_faults F.write_faults folder.old folder.new (result ≡ Err ReadFault) }
 {
-    match folder.read(alloc, file) {
-        Read::Bytes(bytes) => text_of(alloc, bytes.as_slice()),
-        Read::Missing => {
-            let fault = missing_file(alloc, file)?;
-            Err(Stopped::Refused(fault, FileNames::new(alloc), Bytes::new(alloc)))
-        }
+    let setting = Setting {
+        tool: Tool::DeRez,
+        redeclare: words.redeclare,
+        moment,
+    };
+    match compile_sources(
+        alloc,
+        folder,
+        &words.files,
+        &words.paths,
+        &words.defs,
+        setting,
+    ) {
+        Ok(compiled) => show_under(alloc, folder, words, compiled, moment),
+        Err(stop) => Err(stop),
+    }
+}
+
+/// The text of the fork under what the type files made.
+fn show_under<F: Folder>(
+    alloc: Global,
+    folder: &mut F,
+    words: &DeRezWords,
+    compiled: Compiled,
+    moment: Moment,
+) -> Result<Made, Stopped>
+    requires { AreWarnings (length compiled.files) compiled.work.warnings }
+    ensures text { IfSome (F.files folder.old) (λ files. MadeSo result (HasText moment (derez words.now) files (compiled_of compiled))) }
+    ensures held { IfSome (F.files folder.old) (λ files. IfSome (map.get files (string_bytes words.now.file)) (λ bytes. IfOk result (λ _. IsFile bytes))) }
+    ensures nameable { IsNamed result }
+    ensures warned { SaysWarnings result }
+    ensures reads { OnlyReads F.files F.read_faults F.write_faults folder.old folder.new (result ≡ Err ReadFault) }
+{
+    let Compiled {
+        work,
+        macros,
+        files,
+    } = compiled;
+    let Work {
+        types,
+        warnings,
+        ..
+    } = work;
+    let known = Known {
+        types,
+        macros,
+        moment,
+    };
+    let name = words.file.as_str();
+    match folder.read(alloc, name) {
+        Read::Bytes(bytes) => say_beside(
+            alloc,
+            text_of(alloc, bytes.as_slice(), words, &known),
+            &warnings,
+            files,
+        ),
+        Read::Missing => say_beside(alloc, no_file(alloc, name), &warnings, files),
         Read::Failed => Err(Stopped::ReadFault),
         Read::NoMemory => Err(Stopped::NoMemory),
     }
 }
 
-/// The fault of a file that is not there.
-fn missing_file(alloc: Global, name: &str) -> Result<Fault, NoMemory>
-    ensures { IfOk result (λ fault. fault ≡ missing_file None name.now) }
+/// The refusal of a file that is not there.
+fn no_file(alloc: Global, name: &str) -> Result<Bytes, Stop<Fault>>
+    ensures missing { Meets result (λ answer. answer ≡ Err (missing_file None name.now)) }
+    ensures nameable { (files : ℕ) → OnFault result (IsNameable files) }
 {
-    Ok(Fault {
+    Err(Stop::Refused(Fault {
         number: 101,
         mark: None,
         kept: Kept::Name(Bytes::of(alloc, name.as_bytes())?),
-    })
+    }))
 }
 
-/// The text of a fork, or what stopped the command.
-fn text_of(alloc: Global, bytes: &[u8]) -> Result<Made, Stopped>
+/// The text of the resources of a fork that the words choose, or the first rule that the fork breaks.
+fn text_of(
+    alloc: Global,
+    bytes: &[u8],
+    words: &DeRezWords,
+    known: &Known,
+) -> Result<Bytes, Stop<Fault>>
     requires { length bytes.now < 2 ^ 32 }
-    ensures text { MadeSo result (λ answer. answer ≡ without_files (fork_text bytes.now)) }
+    ensures text { Meets result (HasForkText (known_of known.now) (derez words.now) (admitted bytes.now)) }
     ensures held { IsFile bytes.now }
-    ensures nameable { IsNamed result }
-    ensures warned { SaysWarnings result }
-    ensures quiet { result ≡ Err ReadFault → ⊥ }
-{
-    match show(alloc, bytes) {
-        Ok(bytes) => Ok(Made {
-            bytes,
-            said: Bytes::new(alloc),
-        }),
-        Err(Stop::Refused(fault)) => Err(Stopped::Refused(
-            fault,
-            FileNames::new(alloc),
-            Bytes::new(alloc),
-        )),
-        Err(Stop::NoMemory) => Err(Stopped::NoMemory),
-    }
-}
-
-/// The text of a fork, or the first rule that the fork breaks.
-#[tactic(auto, unfolding(crate::specs::DeRez::fork_text))]
-fn show(alloc: Global, bytes: &[u8]) -> Result<Bytes, Stop<Fault>>
-    requires { length bytes.now < 2 ^ 32 }
-    ensures text { Gives (fork_text bytes.now) result }
-    ensures nameable { OnFault result (IsNameable 0) }
+    ensures nameable { (files : ℕ) → OnFault result (IsNameable files) }
 {
     match read_fork(alloc, bytes) {
-        Ok(fork) => Ok(show_list(alloc, &fork.list)?),
+        Ok(fork) => Ok(show_list(alloc, &fork.list, words, known)?),
         Err(Stop::Refused(fault)) => Err(Stop::Refused(broken_rule(fault))),
         Err(Stop::NoMemory) => Err(Stop::NoMemory),
     }
 }
 
-/// The statements of the resources, in order.
-fn show_list(alloc: Global, list: &Resources) -> Result<Bytes, NoMemory>
-    ensures { IfOk result (λ text. text ≡ list_text list.now) }
+/// The text of the resources of a list that the words choose, in order.
+fn show_list(
+    alloc: Global,
+    list: &Resources,
+    words: &DeRezWords,
+    known: &Known,
+) -> Result<Bytes, NoMemory>
+    ensures { IfOk result (ShowsEach (known_of known.now) (chosen words.now.only words.now.skip list.now)) }
 {
     let mut text = Bytes::new(alloc);
-    let resources = list.as_slice();
-    for resource in resources {
-        show_resource(resource, &mut text)?;
+    for resource in list.as_slice() {
+        show_chosen(resource, words, known, &mut text)?;
     }
     Ok(text)
+}
+
+/// Appends the text of a resource, where the words choose it.
+fn show_chosen(
+    resource: &Resource,
+    words: &DeRezWords,
+    known: &Known,
+    into: &mut Bytes,
+) -> Result<(), NoMemory>
+    ensures { OnOk result ((text : List ℕ) × (into.new ≡ into.old ++ text)
+        × ShowsEach (known_of known.now) (chosen words.now.only words.now.skip (resource.now ∷ [])) text) }
+{
+    if is_chosen(&words.only, &words.skip, resource.kind) {
+        show(resource, known, into)
+    } else {
+        Ok(())
+    }
 }
 
 /// The fault of a rule that a fork breaks.
 fn broken_rule(fault: ForkFault) -> Fault
     requires { IsSayable fault }
     ensures fault { result ≡ broken_rule fault }
-    ensures nameable { IsNameable 0 result }
+    ensures nameable { (files : ℕ) → IsNameable files result }
 {
     Fault {
         number: fault.number,

@@ -3,9 +3,12 @@ ghost use Rattle.rz_core.specs.declared.moment.Moment.{Moment};
 ghost use Rattle.rz_folder.specs.Folder.{Files};
 ghost use Rattle.rz_fork.specs.Admit.{admitted};
 ghost use Rattle.rz_fork.specs.Contents.{Fork};
-ghost use Rattle.rz_show.specs.Data.{list_text};
+ghost use Rattle.rz_core.specs.declared.resource.OsType.{OsType};
 ghost use Rattle.rz_tools.specs.Again.{AreShort, CompilesAlone, IsFile, MeansAgain};
 ghost use Rattle.rz_tools.specs.Answer.{Answer};
+ghost use Rattle.rz_tools.specs.Chosen.{chosen};
+ghost use Rattle.rz_tools.specs.DeRez.{ShowsEach};
+ghost use Rattle.rz_tools.specs.Shown.{Known};
 ghost use Rattle.rz_tools.specs.Program.{Answers, CarriesOut};
 ghost use Rattle.rz_tools.specs.World.{ReadFailed, World, WriteFailed};
 ghost use Rattle.rz_tools.specs.declared.outcome.Outcome.{Outcome};
@@ -41,21 +44,23 @@ pub fn answers_are_carried_out()
         → (result ≡ answer.outcome) ⊎ (result ≡ NoMemory) ⊎ ReadFailed before after ⊎ ((answer.outcome ≡ Done) × WriteFailed before after) }
 {}
 
-/// A law, with nothing to run: the text that is shown of a fork means the fork's resources again, where each has at most
-/// 16,777,212 bytes.
+/// A law, with nothing to run: the text that is shown of a fork, whatever types are declared and whichever are chosen,
+/// means again the resources that are shown, where each has at most 16,777,212 bytes.
 pub fn shown_forks_are_read_again()
-    ensures { (bytes : List ℕ) → IsFile bytes → (fork : Fork) → admitted bytes ≡ Ok fork → AreShort fork.list → MeansAgain (list_text fork.list) fork.list }
+    ensures { (bytes : List ℕ) → IsFile bytes → (fork : Fork) → admitted bytes ≡ Ok fork → (only skip : List OsType) → AreShort (chosen only skip fork.list)
+        → (known : Known) (text : List ℕ) → ShowsEach known (chosen only skip fork.list) text → MeansAgain text (chosen only skip fork.list) }
 {
     admitted_forks_fit();
     shown_text();
     shown_statements();
 }
 
-/// A law, with nothing to run: as the one source of `rez` the text that is shown of a fork, where each resource has at
-/// most 16,777,212 bytes, is compiled to the fork of the same resources, whatever else the words ask for: no definition
-/// of theirs makes a reserved word a macro.
+/// A law, with nothing to run: as the one source of `rez` the text that is shown of a fork, where each resource that is
+/// shown has at most 16,777,212 bytes, is compiled to the fork of the same resources, whatever else the words ask for:
+/// no definition of theirs makes a reserved word a macro.
 pub fn shown_forks_are_compiled_again()
-    ensures { (bytes : List ℕ) → IsFile bytes → (fork : Fork) → admitted bytes ≡ Ok fork → AreShort fork.list → CompilesAlone (list_text fork.list) fork.list }
+    ensures { (bytes : List ℕ) → IsFile bytes → (fork : Fork) → admitted bytes ≡ Ok fork → (only skip : List OsType) → AreShort (chosen only skip fork.list)
+        → (known : Known) (text : List ℕ) → ShowsEach known (chosen only skip fork.list) text → CompilesAlone text (chosen only skip fork.list) }
 {
     shown_forks_are_read_again();
     definitions_are_free();

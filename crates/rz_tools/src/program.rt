@@ -5,7 +5,7 @@ ghost use Rattle.rz_tools.specs.Answer.{Answer};
 ghost use Rattle.rz_tools.specs.Program.{Answers, CarriesOut, IsAnswered};
 ghost use Rattle.rz_tools.specs.World.{world};
 ghost use Rattle.rz_tools.specs.WellFormed.{IsWellFormed};
-ghost use Rattle.rz_words.specs.Command.{DeRez, IsCommand, IsMisplaced};
+ghost use Rattle.rz_words.specs.Command.{DeRez, DeRezAsked, IsCommand, IsMisplaced};
 
 use crate::Outcome;
 use crate::answer::answer;
@@ -25,8 +25,8 @@ use std::alloc::Global;
 /// Refused only with the first fault. ReadFault and WriteFault come only where a read, or a write of the folder or of
 /// `out`, failed in this call. After Usage, Refused, ReadFault and NoMemory the folder is as before and `out` has got
 /// nothing; after WriteFault the writes before the one that failed are done, and all else is as before. After `derez`
-/// of a fork whose resources have at most 16,777,212 bytes each, the text on `out` means the fork's resources again to
-/// `rez`. What `err` does changes no outcome. NoMemory may come in place of any other answer.
+/// of a fork, where the resources that are shown have at most 16,777,212 bytes each, the text on `out` means these
+/// resources again to `rez`. What `err` does changes no outcome. NoMemory may come in place of any other answer.
 pub fn run<F: Folder, O: Sink, E: Sink>(
     alloc: Global,
     words: &[String],
@@ -49,9 +49,9 @@ pub fn run<F: Folder, O: Sink, E: Sink>(
     ensures every_usage { (position : ℕ) → IsMisplaced (map string_bytes words.now) position
         → (result ≡ Outcome.Usage (record { position = position })) ⊎ (result ≡ Outcome.NoMemory) }
 
-    // What is shown of a fork is its resources again, when rez reads it.
-    ensures again { result ≡ Outcome.Done → (file : List ℕ) → IsCommand (map string_bytes words.now) (DeRez file)
-        → IfSome (F.files folder.old) (λ files. IfSome (O.written out.old) (λ before. ShowsAgain file files before (O.written out.new))) }
+    // What is shown of a fork means the resources again that are shown, when rez reads it.
+    ensures again { result ≡ Outcome.Done → (asked : DeRezAsked) → IsCommand (map string_bytes words.now) (DeRez asked)
+        → IfSome (F.files folder.old) (λ files. IfSome (O.written out.old) (λ before. ShowsAgain asked files before (O.written out.new))) }
 {
     one_answer();
     one_command();

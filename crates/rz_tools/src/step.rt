@@ -14,7 +14,7 @@ ghost use Rattle.rz_tools.specs.Warning.{AreWarnings};
 ghost use Rattle.rz_set.specs.ResSet.{found};
 ghost use Rattle.rz_types.specs.TypeTable.{table_of};
 ghost use Rattle.rz_tools.specs.ToolWords.{numbered};
-ghost use Rattle.rz_tools.specs.Step.{is_protected, list_behind, nothing_made, protected_fault, protects, put_unless_protected, tokens_at, IsListBehind, IsSpan, Means, Stepped, Steps, Worked};
+ghost use Rattle.rz_tools.specs.Step.{is_protected, list_behind, nothing_made, protected_fault, protects, put_unless_protected, tokens_at, Changes, IsListBehind, IsSpan, Means, Stepped, Steps, Worked};
 
 use crate::data::resource_of;
 use crate::declare::declare_type;
@@ -23,6 +23,7 @@ use crate::setting::Setting;
 use crate::tool_words::number_tool_words;
 use rz_core::{Fault, Kept, Listing, Mark, NoMemory, Resource, Stop};
 use rz_lex::Tokens;
+use rz_pre::Tool;
 use rz_set::ResSet;
 use rz_statements::next_statement;
 use rz_stmt::{CompileStmt, RawStmt, Span, Stmt, parse};
@@ -60,7 +61,8 @@ impl Work {
     }
 }
 
-/// Does what the statements of a program say, one after the other, up to the first fault. A resource with the
+/// Does what the statements of a program say, one after the other, up to the first fault. For DeRez each one is read,
+/// and `type` alone does anything. A resource with the
 /// type and id of an earlier one takes its place, unless that one is protected (219), and every other one goes
 /// to the end. A type that is declared again goes to the end of the table, and is warned of unless the
 /// setting allows it. One statement is held at a time. Work and memory are in proportion to the tokens of `data`
@@ -143,8 +145,25 @@ fn step_at(
     }
 }
 
-/// What a `data` statement on this line does.
+/// What a `data` statement on this line does. For DeRez it does nothing.
 fn put_raw(
+    alloc: Global,
+    raw: &RawStmt,
+    mark: Mark,
+    setting: Setting,
+    resources: &mut ResSet,
+) -> Result<(), Stop<Fault>>
+    ensures put { Stepped (Changes setting.tool resources.old (λ answer. answer ≡ list_behind setting mark resources.old (raw_of raw.now))) result resources.new }
+    ensures nameable { (files : ℕ) → mark.file < files → OnFault result (IsNameable files) }
+{
+    match setting.tool {
+        Tool::Rez => put_data(alloc, raw, mark, setting, resources),
+        Tool::DeRez => Ok(()),
+    }
+}
+
+/// What a `data` statement on this line does for Rez.
+fn put_data(
     alloc: Global,
     raw: &RawStmt,
     mark: Mark,
@@ -160,8 +179,26 @@ fn put_raw(
     }
 }
 
-/// What a `resource` statement on this line does.
+/// What a `resource` statement on this line does. For DeRez it does nothing.
 fn put_compiled(
+    alloc: Global,
+    stmt: &CompileStmt,
+    mark: Mark,
+    setting: Setting,
+    types: &TypeTable,
+    resources: &mut ResSet,
+) -> Result<(), Stop<Fault>>
+    ensures put { Stepped (Changes setting.tool resources.old (IsListBehind setting mark (table_of types.now) resources.old (compile_of stmt.now))) result resources.new }
+    ensures nameable { (files : ℕ) → mark.file < files → AreItemsWithin files (plain_items stmt.now.items) → OnFault result (IsNameable files) }
+{
+    match setting.tool {
+        Tool::Rez => put_items(alloc, stmt, mark, setting, types, resources),
+        Tool::DeRez => Ok(()),
+    }
+}
+
+/// What a `resource` statement on this line does for Rez.
+fn put_items(
     alloc: Global,
     stmt: &CompileStmt,
     mark: Mark,

@@ -1,12 +1,12 @@
--- Commands of few words.
-use Rattle.std.proofs.Common.{◌≡◌, ℕ, true, false, List, [], ◌∷◌, refl, sym, ap, subst, ◌∙◌, arith, Err}
+-- Commands by their first words, and those of few words.
+use Rattle.std.proofs.Common.{◌≡◌, ℕ, false, List, [], ◌∷◌, refl, sym, subst, ◌∙◌, arith, Err}
 use Rattle.std.specs.Prelude.{codes}
 use Rattle.std.specs.Str.{bytes_eq}
 use Rattle.std.specs.declared.result.Result.{Result}
 use Rattle.rz_core.specs.Stop.{OnFault}
 use Rattle.rz_core.specs.declared.stop.Stop.{Stop}
 use Rattle.rz_core.specs.declared.stop.Stop.TheVariants.{Refused}
-use Rattle.rz_words.specs.Command.{is_file, Asked, DeRez, Help, IsCommand, IsMisplaced, Rez, Version}
+use Rattle.rz_words.specs.Command.{Asked, DeRez, Help, IsCommand, IsMisplaced, Rez, Version}
 use Rattle.rz_words.specs.declared.read.UsageFault.{UsageFault}
 use Rattle.rz_words.proofs.Found.{differ}
 use Rattle.rz_words.proofs.Words.{head, tail, Words}
@@ -14,13 +14,13 @@ use Rattle.rz_words.proofs.Words.{head, tail, Words}
 -- the commands by their first words
 data Kind (word : List ℕ) (words : Words) : Type 0 where
   compiles : word ≡ codes "rez" → Kind word words
-  shows : word ≡ codes "derez" → (file : List ℕ) → words ≡ file ∷ [] → is_file file ≡ true → Kind word words
+  shows : word ≡ codes "derez" → Kind word words
   helps : word ≡ codes "--help" → words ≡ [] → Kind word words
   tells : word ≡ codes "--version" → words ≡ [] → Kind word words
 
 kind_of : (word : List ℕ) (words : Words) (asked : Asked) → IsCommand (word ∷ words) asked → Kind word words
-kind_of word words (Rez asked) (rest, items, eq, are, is, filled) = compiles (head word (codes "rez") words rest eq)
-kind_of word words (DeRez file) (eq, holds) = shows (head word (codes "derez") words (file ∷ []) eq) file (tail word (codes "derez") words (file ∷ []) eq) holds
+kind_of word words (Rez asked) (wanted, wants, same) = compiles (head word (codes "rez") words wants.rest wants.is)
+kind_of word words (DeRez asked) (wanted, wants, same) = shows (head word (codes "derez") words wants.rest wants.is)
 kind_of word words Help eq = helps (head word (codes "--help") words [] eq) (tail word (codes "--help") words [] eq)
 kind_of word words Version eq = tells (head word (codes "--version") words [] eq) (tail word (codes "--version") words [] eq)
 
@@ -45,7 +45,7 @@ help_more x words = alone_more (codes "--help") x Help refl none words
   where
     none : (after : Words) → Kind (codes "--help") (x ∷ after) → ⊥
     none after (compiles is) = differ (codes "--help") (codes "rez") refl is
-    none after (shows is file eq holds) = differ (codes "--help") (codes "derez") refl is
+    none after (shows is) = differ (codes "--help") (codes "derez") refl is
     none after (helps is eq) = more x after eq
     none after (tells is eq) = more x after eq
 
@@ -54,56 +54,9 @@ version_more x words = alone_more (codes "--version") x Version refl none words
   where
     none : (after : Words) → Kind (codes "--version") (x ∷ after) → ⊥
     none after (compiles is) = differ (codes "--version") (codes "rez") refl is
-    none after (shows is file eq holds) = differ (codes "--version") (codes "derez") refl is
+    none after (shows is) = differ (codes "--version") (codes "derez") refl is
     none after (helps is eq) = more x after eq
     none after (tells is eq) = more x after eq
-
--- Words behind `derez`.
-
-shown : (words : Words) → Kind (codes "derez") words → (file : List ℕ) × (words ≡ file ∷ []) × (is_file file ≡ true)
-shown words (compiles is) = absurd (differ (codes "derez") (codes "rez") refl is)
-shown words (shows is file eq holds) = (file, eq, holds)
-shown words (helps is eq) = absurd (differ (codes "derez") (codes "--help") refl is)
-shown words (tells is eq) = absurd (differ (codes "derez") (codes "--version") refl is)
-
-pub derez_none : IsMisplaced (codes "derez" ∷ []) 2
-derez_none = record {
-  none = λ any is. none (shown [] (kind_of (codes "derez") [] any is));
-  front = 1;
-  next = refl;
-  within = omega arith;
-  begins = record { more = [] ∷ []; asked = DeRez []; is = (refl, refl) };
-  longest = λ within begins. absurd (omega (arith, within));
-}
-  where
-    none : (file : List ℕ) × ([] ≡ file ∷ []) × (is_file file ≡ true) → ⊥
-    none (file, eq, holds) = more file [] (sym eq)
-
-pub derez_no_file : (x : List ℕ) (words : Words) → is_file x ≡ false → IsMisplaced (codes "derez" ∷ x ∷ words) 2
-derez_no_file x words fails = record {
-  none = λ any is. none words (shown (x ∷ words) (kind_of (codes "derez") (x ∷ words) any is));
-  front = 1;
-  next = refl;
-  within = omega arith;
-  begins = record { more = [] ∷ []; asked = DeRez []; is = (refl, refl) };
-  longest = λ within begins. none begins.more (shown (x ∷ begins.more) (kind_of (codes "derez") (x ∷ begins.more) begins.asked begins.is));
-}
-  where
-    none : (after : Words) → (file : List ℕ) × (x ∷ after ≡ file ∷ []) × (is_file file ≡ true) → ⊥
-    none after (file, eq, holds) = let also : is_file x ≡ true = ap is_file (head x file after [] eq) ∙ holds in cc
-
-pub derez_more : (x y : List ℕ) (words : Words) → is_file x ≡ true → IsMisplaced (codes "derez" ∷ x ∷ y ∷ words) 3
-derez_more x y words holds = record {
-  none = λ any is. none words (shown (x ∷ y ∷ words) (kind_of (codes "derez") (x ∷ y ∷ words) any is));
-  front = 2;
-  next = refl;
-  within = omega arith;
-  begins = record { more = []; asked = DeRez x; is = (refl, holds) };
-  longest = λ within begins. none begins.more (shown (x ∷ y ∷ begins.more) (kind_of (codes "derez") (x ∷ y ∷ begins.more) begins.asked begins.is));
-}
-  where
-    none : (after : Words) → (file : List ℕ) × (x ∷ y ∷ after ≡ file ∷ []) × (is_file file ≡ true) → ⊥
-    none after (file, eq, holds_too) = more y after (tail x file (y ∷ after) [] eq)
 
 -- Other words.
 
@@ -118,8 +71,8 @@ no_words = record {
 }
   where
     none : (any : Asked) → IsCommand [] any → ⊥
-    none (Rez asked) (rest, items, eq, are, is, filled) = more (codes "rez") rest (sym eq)
-    none (DeRez file) (eq, holds) = more (codes "derez") (file ∷ []) (sym eq)
+    none (Rez asked) (wanted, wants, same) = more (codes "rez") wants.rest (sym wants.is)
+    none (DeRez asked) (wanted, wants, same) = more (codes "derez") wants.rest (sym wants.is)
     none Help eq = more (codes "--help") [] (sym eq)
     none Version eq = more (codes "--version") [] (sym eq)
 
@@ -136,7 +89,7 @@ other_word word words no_rez no_derez no_help no_version = record {
   where
     none : (after : Words) → Kind word after → ⊥
     none after (compiles is) = differ word (codes "rez") no_rez is
-    none after (shows is file eq holds) = differ word (codes "derez") no_derez is
+    none after (shows is) = differ word (codes "derez") no_derez is
     none after (helps is eq) = differ word (codes "--help") no_help is
     none after (tells is eq) = differ word (codes "--version") no_version is
 
@@ -149,10 +102,6 @@ help_filled (x ∷ words) filled = help_more x words
 pub version_filled : (words : Words) → (words ≡ [] → ⊥) → IsMisplaced (codes "--version" ∷ words) 2
 version_filled [] filled = absurd (filled refl)
 version_filled (x ∷ words) filled = version_more x words
-
-pub derez_filled : (x : List ℕ) (words : Words) → is_file x ≡ true → (words ≡ [] → ⊥) → IsMisplaced (codes "derez" ∷ x ∷ words) 3
-derez_filled x [] holds filled = absurd (filled refl)
-derez_filled x (y ∷ words) holds filled = derez_more x y words holds
 
 pub at_position : {X : Type 0} (P : ℕ → Type 0) (result : Result X (Stop UsageFault)) (position : ℕ)
     → result ≡ Err (Refused (record { position = position })) → P position → OnFault result (λ fault. P fault.position)

@@ -1,6 +1,6 @@
 -- What is found of one kind is found of another.
 use Rattle.std.proofs.Common.{List, ℕ, true, false, ◌≡◌, Some, None, Ok, Err, subst, IfOk}
-use Rattle.std.specs.Prelude.{Option}
+use Rattle.std.specs.Prelude.{option_map, Option}
 use Rattle.std.specs.declared.result.Result.{Result}
 use Rattle.std.specs.Str.{bytes_eq}
 use Rattle.std.proofs.lemmas.Slice.Eq.{bytes_eq-Decides}
@@ -41,6 +41,13 @@ found_so P found x decided is = subst (λ f. Decided P f) is decided
 
 pub none_so : {X : Type 0} (P : X → Type 0) (found : Option X) → Decided P found → found ≡ None → (x : X) → P x → ⊥
 none_so P found decided is = subst (λ f. Decided P f) is decided
+
+-- the same of what the found one stands for
+pub decided_some : {X Y : Type 0} (P : Y → Type 0) (f : X → Y) (found : Option X) (x : X) → Decided P (option_map f found) → found ≡ Some x → P (f x)
+decided_some P f found x decided is = subst (λ o. Decided P (option_map f o)) is decided
+
+pub decided_none : {X Y : Type 0} (P : Y → Type 0) (f : X → Y) (found : Option X) → Decided P (option_map f found) → found ≡ None → (y : Y) → P y → ⊥
+decided_none P f found decided is = subst (λ o. Decided P (option_map f o)) is decided
 
 -- what holds of a fault
 abbrev pub OnStop : {F : Type 0} → Stop F → (F → Type 0) → Type 0

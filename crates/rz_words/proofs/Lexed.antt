@@ -1,5 +1,5 @@
 -- What holds of each definition of the words holds of all that a command asks for.
-use Rattle.std.proofs.Common.{◌≡◌, ℕ, true, List, [], ◌∷◌, ◌++◌, Some, inl, inr, refl, sym, ap, subst, ◌∙◌}
+use Rattle.std.proofs.Common.{◌≡◌, ℕ, true, List, [], ◌∷◌, ◌++◌, sym, ap, subst, ◌∙◌}
 use Rattle.std.specs.Prelude.{IfSome}
 use Rattle.std.specs.List.{AllByRecursion}
 use Rattle.std.specs.declared.option.Option.{Option}
@@ -11,7 +11,11 @@ use Rattle.rz_lex.specs.Lexeme.{AreLexed}
 use Rattle.rz_lex.specs.declared.token.Token.{Token}
 use Rattle.rz_pre.specs.Lexed.{HaveLexedTexts}
 use Rattle.rz_pre.specs.declared.program.Def.{Def}
-use Rattle.rz_words.specs.Command.{and_item, and_items, nothing_asked, AreItems, Define, IsCommand, IsItem, Item, Output, Path, Redeclare, Rez, RezAsked, Source}
+use Rattle.rz_pre.specs.declared.condition.Tool.{Tool}
+use Rattle.rz_pre.specs.declared.condition.Tool.TheVariants as tools
+use Rattle.rz_words.specs.Command.{again_item, and_item, and_items, file_item, nothing_wanted, value_item, AreItems, DeRez, DeRezAsked, IsCommand, IsItem, IsValue, Item, Rez, RezAsked, Wanted, Wants}
+use Rattle.rz_words.specs.declared.flag.Flag.{Flag}
+use Rattle.rz_words.specs.declared.flag.Flag.TheVariants as flags
 use Rattle.rz_words.specs.Definition.{nowhere, AreFree, Defines, IsFree, IsName, Undefines}
 
 module _ (P : Def → Type 0) (defined : (value : List ℕ) (def : Def) → Defines value def → P def) (undefined : (value : List ℕ) (def : Def) → Undefines value def → P def) where
@@ -19,19 +23,35 @@ module _ (P : Def → Type 0) (defined : (value : List ℕ) (def : Def) → Defi
   one_more [] def have has = (has, tt)
   one_more (first ∷ defs) def have has = (have.0, one_more defs def have.1 has)
 
-  item_all : (words : List (List ℕ)) (asked : RezAsked) (item : Item) → IsItem words item → AllByRecursion P asked.defs → AllByRecursion P (and_item asked item).defs
-  item_all words asked (Source file) is have = have
-  item_all words asked (Output name) is have = have
-  item_all words asked (Path path) is have = have
-  item_all words asked (Define def) is have = one_more asked.defs def have (elim is.3 [ inl defines ↦ defined is.1 def defines.1 | inr undefines ↦ undefined is.1 def undefines.1 ])
-  item_all words asked Redeclare is have = have
+  value_all : (flag : Flag) (value : List ℕ) (wanted : Wanted) (item : Item) → IsValue flag value item → AllByRecursion P wanted.defs → AllByRecursion P (and_item wanted item).defs
+  value_all flags.Output value wanted item is have = subst (λ (o : Item). AllByRecursion P (and_item wanted o).defs) (sym is) have
+  value_all flags.Path value wanted item is have = subst (λ (o : Item). AllByRecursion P (and_item wanted o).defs) (sym is) have
+  value_all flags.Define value wanted item (def, is, it) have =
+      subst (λ (o : Item). AllByRecursion P (and_item wanted o).defs) (sym is) (one_more wanted.defs def have (defined value def it))
+  value_all flags.Undefine value wanted item (def, is, it) have =
+      subst (λ (o : Item). AllByRecursion P (and_item wanted o).defs) (sym is) (one_more wanted.defs def have (undefined value def it))
+  value_all flags.Only value wanted item (kind, is, it) have = subst (λ (o : Item). AllByRecursion P (and_item wanted o).defs) (sym is) have
+  value_all flags.Skip value wanted item (kind, is, it) have = subst (λ (o : Item). AllByRecursion P (and_item wanted o).defs) (sym is) have
 
-  items_all : (words : List (List ℕ)) (asked : RezAsked) (items : List Item) → AreItems words items → AllByRecursion P asked.defs → AllByRecursion P (and_items asked items).defs
-  items_all words asked [] are have = have
-  items_all words asked (item ∷ items) are have = items_all are.1 (and_item asked item) items are.4 (item_all are.0 asked item are.3 have)
+  item_all : (tool : Tool) (words : List (List ℕ)) (wanted : Wanted) (item : Item) → IsItem tool words item → AllByRecursion P wanted.defs → AllByRecursion P (and_item wanted item).defs
+  item_all tool words wanted item (file_item name is holds same) have = subst (λ (o : Item). AllByRecursion P (and_item wanted o).defs) (sym same) have
+  item_all tool words wanted item (again_item is same) have = subst (λ (o : Item). AllByRecursion P (and_item wanted o).defs) (sym same) have
+  item_all tool words wanted item (value_item word value flag is named says) have = value_all flag value wanted item says have
 
-  pub command_all : (words : List (List ℕ)) (asked : RezAsked) → IsCommand words (Rez asked) → AllByRecursion P asked.defs
-  command_all words asked is = subst (λ (a : RezAsked). AllByRecursion P a.defs) (sym is.4) (items_all is.0 nothing_asked is.1 is.3 tt)
+  items_all : (tool : Tool) (words : List (List ℕ)) (wanted : Wanted) (items : List Item) → AreItems tool words items → AllByRecursion P wanted.defs
+      → AllByRecursion P (and_items wanted items).defs
+  items_all tool words wanted [] are have = have
+  items_all tool words wanted (item ∷ items) are have = items_all tool are.1 (and_item wanted item) items are.4 (item_all tool are.0 wanted item are.3 have)
+
+  wanted_all : (tool : Tool) (words : List (List ℕ)) (wanted : Wanted) → Wants tool words wanted → AllByRecursion P wanted.defs
+  wanted_all tool words wanted wants =
+      subst (λ (w : Wanted). AllByRecursion P w.defs) (sym wants.want) (items_all tool wants.rest nothing_wanted wants.items wants.are tt)
+
+  pub rez_all : (words : List (List ℕ)) (asked : RezAsked) → IsCommand words (Rez asked) → AllByRecursion P asked.defs
+  rez_all words asked is = subst (λ (a : RezAsked). AllByRecursion P a.defs) (sym is.2) (wanted_all tools.Rez words is.0 is.1)
+
+  pub derez_all : (words : List (List ℕ)) (asked : DeRezAsked) → IsCommand words (DeRez asked) → AllByRecursion P asked.defs
+  derez_all words asked is = subst (λ (a : DeRezAsked). AllByRecursion P a.defs) (sym is.2) (wanted_all tools.DeRez words is.0 is.1)
 
 -- a text is lexed, where there is one
 abbrev HasLexed : Option (List Token) → Type 0
@@ -45,8 +65,11 @@ module _ (law : (mark : Mark) (line : List ℕ) (tokens : List Token) → Cuts m
   undefined_lexed : (value : List ℕ) (def : Def) → Undefines value def → HasLexed def.text
   undefined_lexed value def is = subst HasLexed (sym is.1) tt
 
-  pub command_lexed : (words : List (List ℕ)) (asked : RezAsked) → IsCommand words (Rez asked) → HaveLexedTexts asked.defs
-  command_lexed = command_all (λ def. HasLexed def.text) defined_lexed undefined_lexed
+  pub rez_lexed : (words : List (List ℕ)) (asked : RezAsked) → IsCommand words (Rez asked) → HaveLexedTexts asked.defs
+  rez_lexed = rez_all (λ def. HasLexed def.text) defined_lexed undefined_lexed
+
+  pub derez_lexed : (words : List (List ℕ)) (asked : DeRezAsked) → IsCommand words (DeRez asked) → HaveLexedTexts asked.defs
+  derez_lexed = derez_all (λ def. HasLexed def.text) defined_lexed undefined_lexed
 
 -- A name that is defined isn't reserved.
 
@@ -60,5 +83,8 @@ defined_free value def (Defines.with_text name text none split with) = named nam
 undefined_free : (value : List ℕ) (def : Def) → Undefines value def → IsFree def
 undefined_free value def is = named value def.name is.0
 
-pub command_free : (words : List (List ℕ)) (asked : RezAsked) → IsCommand words (Rez asked) → AreFree asked.defs
-command_free = command_all IsFree defined_free undefined_free
+pub rez_free : (words : List (List ℕ)) (asked : RezAsked) → IsCommand words (Rez asked) → AreFree asked.defs
+rez_free = rez_all IsFree defined_free undefined_free
+
+pub derez_free : (words : List (List ℕ)) (asked : DeRezAsked) → IsCommand words (DeRez asked) → AreFree asked.defs
+derez_free = derez_all IsFree defined_free undefined_free

@@ -1,8 +1,9 @@
 pub mod Found
 pub mod Names
 pub mod Splits
-pub mod Items
+pub mod KindFound
 pub mod Words
+pub mod Items
 pub mod Alone
 pub mod Once
 pub mod Lexed

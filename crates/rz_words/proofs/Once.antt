@@ -1,6 +1,6 @@
 -- Words are one command at most.
-use Rattle.std.proofs.Common.{◌≡◌, ℕ, zero, suc, ◌<◌, ◌≤◌, inl, inr, List, [], ◌∷◌, ◌++◌, take, drop, Some, refl, sym, ap, subst, ◌∙◌, arith, append_assoc, Ok, Err, IfOk}
-use Rattle.std.specs.Prelude.{codes, true}
+use Rattle.std.proofs.Common.{◌≡◌, ℕ, zero, suc, ◌<◌, ◌≤◌, List, [], ◌∷◌, ◌++◌, take, drop, Some, refl, sym, ap, subst, ◌∙◌, arith, append_assoc, Ok, Err, IfOk}
+use Rattle.std.specs.Prelude.{codes, false, true}
 use Rattle.std.specs.declared.result.Result.{Result}
 use Rattle.rz_core.specs.Stop.{OnFault}
 use Rattle.rz_core.specs.declared.stop.Stop.{Stop}
@@ -11,8 +11,16 @@ use Rattle.rz_lex.specs.Cutting.{Cuts}
 use Rattle.rz_lex.specs.declared.token.Token.{Token}
 use Rattle.rz_pre.specs.declared.program.Def.{Def}
 use Rattle.rz_source.specs.Source.{mark, IsTextOf}
-use Rattle.rz_words.specs.Command.{asked_of, AreItems, Asked, Begins, Define, DeRez, Help, IsCommand, IsDefinition, is_file, IsItem, IsMisplaced, Item, Output, Path, Redeclare, Rez, RezAsked, Source, Version}
-use Rattle.rz_words.specs.Definition.{nowhere, Defines, HasNoSign, IsName, IsText}
+use Rattle.std.specs.Str.{bytes_eq}
+use Rattle.std.specs.declared.option.Option.{Option}
+use Rattle.rz_core.specs.declared.resource.OsType.{OsType}
+use Rattle.rz_pre.specs.declared.condition.Tool.{Tool}
+use Rattle.rz_pre.specs.declared.condition.Tool.TheVariants as tools
+use Rattle.rz_words.specs.Command.{again_item, derez_asked, file_item, flag_of, is_file, name_of, rez_asked, value_item, wanted_by, AreItems, Asked, Begins, Define, DeRez, DeRezAsked, File, Help, IsCommand, IsItem, IsMisplaced, IsValue, Item, Only, Rez, RezAsked, Skip, Version, Wanted, Wants}
+use Rattle.rz_words.specs.Definition.{nowhere, Defines, HasNoSign, IsName, IsText, Undefines}
+use Rattle.rz_words.specs.Kind.{kind_of, IsKind}
+use Rattle.rz_words.specs.declared.flag.Flag.{Flag}
+use Rattle.rz_words.specs.declared.flag.Flag.TheVariants as flags
 use Rattle.rz_words.specs.Definition.Defines.{alone, with_text}
 use Rattle.rz_words.specs.Item.{asked, Answers}
 use Rattle.rz_words.specs.declared.command.Command.{Command}
@@ -59,20 +67,23 @@ module _ (one_text : (source text others : List ℕ) → IsTextOf source text �
         text = (text_is ∙ ap (λ (ts : List Token). Some ts) tokens_same ∙ sym text_is_too) i;
       }
 
-  same_definition : (flag value : List ℕ) (def also : Def) → IsDefinition flag value def → IsDefinition flag value also → def ≡ also
-  same_definition flag value def also (inl (is, it)) (inl (is_too, it_too)) = same_define value def also it it_too
-  same_definition flag value def also (inl (is, it)) (inr (is_too, it_too)) = absurd (differ (codes "-d") (codes "-u") refl (sym is ∙ is_too))
-  same_definition flag value def also (inr (is, it)) (inl (is_too, it_too)) = absurd (differ (codes "-u") (codes "-d") refl (sym is ∙ is_too))
-  same_definition flag value def also (inr (is, it)) (inr (is_too, it_too)) =
+  same_undefine : (value : List ℕ) (def also : Def) → Undefines value def → Undefines value also → def ≡ also
+  same_undefine value def also it it_too =
       λ i. record { name = same_name value def.name also.name it.0 it_too.0 i; text = (it.1 ∙ sym it_too.1) i }
 
-  not_output : (flag value : List ℕ) (def : Def) → IsDefinition flag value def → flag ≡ codes "-o" → ⊥
-  not_output flag value def (inl (is, it)) too = differ (codes "-d") (codes "-o") refl (sym is ∙ too)
-  not_output flag value def (inr (is, it)) too = differ (codes "-u") (codes "-o") refl (sym is ∙ too)
+  same_kind : (word : List ℕ) (kind also : OsType) → IsKind word kind → IsKind word also → kind ≡ also
+  same_kind word kind also is too = found (sym is.is ∙ ap kind_of (one_text (mark ++ word) is.bytes too.bytes is.roman too.roman) ∙ too.is)
+    where
+      found : ◌≡◌ {A = Option OsType} (Some kind) (Some also) → kind ≡ also
+      found same = cc same
 
-  not_path : (flag value : List ℕ) (def : Def) → IsDefinition flag value def → flag ≡ codes "-i" → ⊥
-  not_path flag value def (inl (is, it)) too = differ (codes "-d") (codes "-i") refl (sym is ∙ too)
-  not_path flag value def (inr (is, it)) too = differ (codes "-u") (codes "-i") refl (sym is ∙ too)
+  one_value : (flag : Flag) (value : List ℕ) (one other : Item) → IsValue flag value one → IsValue flag value other → one ≡ other
+  one_value flags.Output value one other is too = is ∙ sym too
+  one_value flags.Path value one other is too = is ∙ sym too
+  one_value flags.Define value one other (a, is, it) (b, too, it_too) = is ∙ ap (λ (d : Def). Define d) (same_define value a b it it_too) ∙ sym too
+  one_value flags.Undefine value one other (a, is, it) (b, too, it_too) = is ∙ ap (λ (d : Def). Define d) (same_undefine value a b it it_too) ∙ sym too
+  one_value flags.Only value one other (a, is, it) (b, too, it_too) = is ∙ ap (λ (k : OsType). Only k) (same_kind value a b it it_too) ∙ sym too
+  one_value flags.Skip value one other (a, is, it) (b, too, it_too) = is ∙ ap (λ (k : OsType). Skip k) (same_kind value a b it it_too) ∙ sym too
 
   single_double : (a f v : List ℕ) (front : Words) → front ≡ a ∷ [] → front ≡ f ∷ v ∷ [] → ⊥
   single_double a f v front is too = let eq : a ∷ [] ≡ f ∷ v ∷ [] = sym is ∙ too in cc
@@ -80,73 +91,78 @@ module _ (one_text : (source text others : List ℕ) → IsTextOf source text �
   no_redeclare : (file : List ℕ) → is_file file ≡ true → file ≡ codes "-rd" → ⊥
   no_redeclare file holds is = let also : is_file (codes "-rd") ≡ true = ap is_file (sym is) ∙ holds in cc
 
-  flags : (f v g w : List ℕ) (front : Words) → front ≡ f ∷ v ∷ [] → front ≡ g ∷ w ∷ [] → f ≡ g
-  flags f v g w front is too = head f g (v ∷ []) (w ∷ []) (sym is ∙ too)
+  same_flag : (flag also : Flag) → ◌≡◌ {A = Option Flag} (Some flag) (Some also) → flag ≡ also
+  same_flag flag also is = cc is
 
-  values : (f v g w : List ℕ) (front : Words) → front ≡ f ∷ v ∷ [] → front ≡ g ∷ w ∷ [] → v ≡ w
-  values f v g w front is too = head v w [] [] (tail f g (v ∷ []) (w ∷ []) (sym is ∙ too))
+  one_item : (tool : Tool) (front : Words) (one other : Item) → IsItem tool front one → IsItem tool front other → one ≡ other
+  one_item tool front one other (file_item a is holds same) (file_item b too holds_too same_too) =
+      same ∙ ap (λ (f : List ℕ). File f) (head a b [] [] (sym is ∙ too)) ∙ sym same_too
+  one_item tool front one other (file_item a is holds same) (again_item too same_too) = absurd (no_redeclare a holds (head a (codes "-rd") [] [] (sym is ∙ too)))
+  one_item tool front one other (file_item a is holds same) (value_item w v flag too named says) = absurd (single_double a w v front is too)
+  one_item tool front one other (again_item is same) (file_item b too holds_too same_too) = absurd (no_redeclare b holds_too (head b (codes "-rd") [] [] (sym too ∙ is)))
+  one_item tool front one other (again_item is same) (again_item too same_too) = same ∙ sym same_too
+  one_item tool front one other (again_item is same) (value_item w v flag too named says) = absurd (single_double (codes "-rd") w v front is too)
+  one_item tool front one other (value_item w v flag is named says) (file_item b too holds_too same_too) = absurd (single_double b w v front too is)
+  one_item tool front one other (value_item w v flag is named says) (again_item too same_too) = absurd (single_double (codes "-rd") w v front too is)
+  one_item tool front one other (value_item w v flag is named says) (value_item x y also too named_too says_too) =
+      let words_same : w ≡ x = head w x (v ∷ []) (y ∷ []) (sym is ∙ too) in
+      let values_same : v ≡ y = head v y [] [] (tail w x (v ∷ []) (y ∷ []) (sym is ∙ too)) in
+      one_value also y one other
+      (subst (λ (f : Flag). IsValue f y one) (same_flag flag also (sym named ∙ ap (flag_of tool) words_same ∙ named_too))
+      (subst (λ (u : List ℕ). IsValue flag u one) values_same says)) says_too
 
-  one_item : (front : Words) (one other : Item) → IsItem front one → IsItem front other → one ≡ other
-  one_item front (Source a) (Source b) (is, holds) (too, holds_too) = ap (λ (f : List ℕ). Source f) (head a b [] [] (sym is ∙ too))
-  one_item front (Source a) (Output b) (is, holds) too = absurd (single_double a (codes "-o") b front is too)
-  one_item front (Source a) (Path b) (is, holds) too = absurd (single_double a (codes "-i") b front is too)
-  one_item front (Source a) (Define b) (is, holds) (flag, value, too, it) = absurd (single_double a flag value front is too)
-  one_item front (Output a) (Source b) is (too, holds) = absurd (single_double b (codes "-o") a front too is)
-  one_item front (Output a) (Output b) is too = ap (λ (f : List ℕ). Output f) (values (codes "-o") a (codes "-o") b front is too)
-  one_item front (Output a) (Path b) is too = absurd (differ (codes "-o") (codes "-i") refl (flags (codes "-o") a (codes "-i") b front is too))
-  one_item front (Output a) (Define b) is (flag, value, too, it) = absurd (not_output flag value b it (flags flag value (codes "-o") a front too is))
-  one_item front (Path a) (Source b) is (too, holds) = absurd (single_double b (codes "-i") a front too is)
-  one_item front (Path a) (Output b) is too = absurd (differ (codes "-i") (codes "-o") refl (flags (codes "-i") a (codes "-o") b front is too))
-  one_item front (Path a) (Path b) is too = ap (λ (f : List ℕ). Path f) (values (codes "-i") a (codes "-i") b front is too)
-  one_item front (Path a) (Define b) is (flag, value, too, it) = absurd (not_path flag value b it (flags flag value (codes "-i") a front too is))
-  one_item front (Define a) (Source b) (flag, value, is, it) (too, holds) = absurd (single_double b flag value front too is)
-  one_item front (Define a) (Output b) (flag, value, is, it) too = absurd (not_output flag value a it (flags flag value (codes "-o") b front is too))
-  one_item front (Define a) (Path b) (flag, value, is, it) too = absurd (not_path flag value a it (flags flag value (codes "-i") b front is too))
-  one_item front (Source a) Redeclare (is, holds) too = absurd (no_redeclare a holds (head a (codes "-rd") [] [] (sym is ∙ too)))
-  one_item front (Output a) Redeclare is too = absurd (single_double (codes "-rd") (codes "-o") a front too is)
-  one_item front (Path a) Redeclare is too = absurd (single_double (codes "-rd") (codes "-i") a front too is)
-  one_item front (Define a) Redeclare (flag, value, is, it) too = absurd (single_double (codes "-rd") flag value front too is)
-  one_item front Redeclare (Source b) is (too, holds) = absurd (no_redeclare b holds (head b (codes "-rd") [] [] (sym too ∙ is)))
-  one_item front Redeclare (Output b) is too = absurd (single_double (codes "-rd") (codes "-o") b front is too)
-  one_item front Redeclare (Path b) is too = absurd (single_double (codes "-rd") (codes "-i") b front is too)
-  one_item front Redeclare (Define b) is (flag, value, too, it) = absurd (single_double (codes "-rd") flag value front is too)
-  one_item front Redeclare Redeclare is too = refl
-  one_item front (Define a) (Define b) (flag, value, is, it) (flag_too, value_too, too, it_too) =
-      ap (λ (d : Def). Define d) (same_definition flag_too value_too a b
-      (subst (λ (f : List ℕ). IsDefinition f value_too a) (flags flag value flag_too value_too front is too)
-      (subst (λ (v : List ℕ). IsDefinition flag v a) (values flag value flag_too value_too front is too) it)) it_too)
-
-  one_list : (words : Words) (items others : List Item) → AreItems words items → AreItems words others → items ≡ others
-  one_list words [] [] are too = refl
-  one_list words [] (other ∷ others) none (g, c, eq, is, are) = absurd (some g other (shape_of g other is) c (sym eq ∙ none))
-  one_list words (one ∷ items) [] (f, b, eq, is, are) none = absurd (some f one (shape_of f one is) b (sym eq ∙ none))
-  one_list words (one ∷ items) (other ∷ others) (f, b, eq, is, are) (g, c, eq_too, is_too, are_too) =
-      let same = same_front f g b c one other (shape_of f one is) (shape_of g other is_too) (sym eq ∙ eq_too) in
-      let first = one_item g one other (subst (λ (ws : Words). IsItem ws one) same.0 is) is_too in
-      let rest = one_list b items others are (subst (λ (ws : Words). AreItems ws others) (sym same.1) are_too) in
+  one_list : (tool : Tool) (words : Words) (items others : List Item) → AreItems tool words items → AreItems tool words others → items ≡ others
+  one_list tool words [] [] are too = refl
+  one_list tool words [] (other ∷ others) none (g, c, eq, is, are) = absurd (some g other (shape_of tool g other is) c (sym eq ∙ none))
+  one_list tool words (one ∷ items) [] (f, b, eq, is, are) none = absurd (some f one (shape_of tool f one is) b (sym eq ∙ none))
+  one_list tool words (one ∷ items) (other ∷ others) (f, b, eq, is, are) (g, c, eq_too, is_too, are_too) =
+      let same = same_front f g b c one other (shape_of tool f one is) (shape_of tool g other is_too) (sym eq ∙ eq_too) in
+      let first = one_item tool g one other (subst (λ (ws : Words). IsItem tool ws one) same.0 is) is_too in
+      let rest = one_list tool b items others are (subst (λ (ws : Words). AreItems tool ws others) (sym same.1) are_too) in
       λ i. first i ∷ rest i
 
-  clash : (a b : List ℕ) (words xs ys : Words) → (a ≡ b → ⊥) → words ≡ a ∷ xs → words ≡ b ∷ ys → ⊥
-  clash a b words xs ys no_same is too = no_same (head a b xs ys (sym is ∙ too))
+  one_wanted : (tool : Tool) (words : Words) (wanted also : Wanted) → Wants tool words wanted → Wants tool words also → wanted ≡ also
+  one_wanted tool words wanted also is too =
+      let rest : is.rest ≡ too.rest = tail (name_of tool) (name_of tool) is.rest too.rest (sym is.is ∙ too.is) in
+      is.want ∙ ap wanted_by (one_list tool too.rest is.items too.items (subst (λ (ws : Words). AreItems tool ws is.items) rest is.are) too.are) ∙ sym too.want
+
+  -- commands with other first words
+  abbrev first_of : Asked → List ℕ
+  first_of (Rez asked) = codes "rez"
+  first_of (DeRez asked) = codes "derez"
+  first_of Help = codes "--help"
+  first_of Version = codes "--version"
+
+  begins_so : (words : Words) (asked : Asked) → IsCommand words asked → (rest : Words) × (words ≡ first_of asked ∷ rest)
+  begins_so words (Rez asked) (wanted, wants, same) = (wants.rest, wants.is)
+  begins_so words (DeRez asked) (wanted, wants, same) = (wants.rest, wants.is)
+  begins_so words Help is = ([], is)
+  begins_so words Version is = ([], is)
+
+  apart : (words : Words) (asked others : Asked) → bytes_eq (first_of asked) (first_of others) ≡ false → IsCommand words asked → IsCommand words others → ⊥
+  apart words asked others differs is too =
+      let a = begins_so words asked is in
+      let b = begins_so words others too in
+      differ (first_of asked) (first_of others) differs (head (first_of asked) (first_of others) a.0 b.0 (sym a.1 ∙ b.1))
 
   pub one_asked : (words : Words) (asked others : Asked) → IsCommand words asked → IsCommand words others → asked ≡ others
-  one_asked words (Rez a) (Rez b) (rest, items, eq, are, is, filled) (rest_too, others, eq_too, are_too, is_too, filled_too) =
-      let same = one_list rest_too items others (subst (λ (ws : Words). AreItems ws items) (tail (codes "rez") (codes "rez") rest rest_too (sym eq ∙ eq_too)) are) are_too in
-      ap (λ (r : RezAsked). Rez r) (is ∙ ap asked_of same ∙ sym is_too)
-  one_asked words (Rez a) (DeRez b) (rest, items, eq, are, is, filled) (too, holds) = absurd (clash (codes "rez") (codes "derez") words rest (b ∷ []) (differ (codes "rez") (codes "derez") refl) eq too)
-  one_asked words (Rez a) Help (rest, items, eq, are, is, filled) too = absurd (clash (codes "rez") (codes "--help") words rest [] (differ (codes "rez") (codes "--help") refl) eq too)
-  one_asked words (Rez a) Version (rest, items, eq, are, is, filled) too = absurd (clash (codes "rez") (codes "--version") words rest [] (differ (codes "rez") (codes "--version") refl) eq too)
-  one_asked words (DeRez a) (Rez b) (is, holds) (rest, items, eq, are, it, filled) = absurd (clash (codes "derez") (codes "rez") words (a ∷ []) rest (differ (codes "derez") (codes "rez") refl) is eq)
-  one_asked words (DeRez a) (DeRez b) (is, holds) (too, holds_too) = ap (λ (f : List ℕ). DeRez f) (values (codes "derez") a (codes "derez") b words is too)
-  one_asked words (DeRez a) Help (is, holds) too = absurd (clash (codes "derez") (codes "--help") words (a ∷ []) [] (differ (codes "derez") (codes "--help") refl) is too)
-  one_asked words (DeRez a) Version (is, holds) too = absurd (clash (codes "derez") (codes "--version") words (a ∷ []) [] (differ (codes "derez") (codes "--version") refl) is too)
-  one_asked words Help (Rez b) is (rest, items, eq, are, it, filled) = absurd (clash (codes "--help") (codes "rez") words [] rest (differ (codes "--help") (codes "rez") refl) is eq)
-  one_asked words Help (DeRez b) is (too, holds) = absurd (clash (codes "--help") (codes "derez") words [] (b ∷ []) (differ (codes "--help") (codes "derez") refl) is too)
+  one_asked words (Rez a) (Rez b) (wanted, wants, same) (also, wants_too, same_too) =
+      ap (λ (r : RezAsked). Rez r) (same ∙ ap rez_asked (one_wanted tools.Rez words wanted also wants wants_too) ∙ sym same_too)
+  one_asked words (Rez a) (DeRez b) is too = absurd (apart words (Rez a) (DeRez b) refl is too)
+  one_asked words (Rez a) Help is too = absurd (apart words (Rez a) Help refl is too)
+  one_asked words (Rez a) Version is too = absurd (apart words (Rez a) Version refl is too)
+  one_asked words (DeRez a) (Rez b) is too = absurd (apart words (DeRez a) (Rez b) refl is too)
+  one_asked words (DeRez a) (DeRez b) (wanted, wants, same) (also, wants_too, same_too) =
+      ap (λ (d : DeRezAsked). DeRez d) (same ∙ ap derez_asked (one_wanted tools.DeRez words wanted also wants wants_too) ∙ sym same_too)
+  one_asked words (DeRez a) Help is too = absurd (apart words (DeRez a) Help refl is too)
+  one_asked words (DeRez a) Version is too = absurd (apart words (DeRez a) Version refl is too)
+  one_asked words Help (Rez b) is too = absurd (apart words Help (Rez b) refl is too)
+  one_asked words Help (DeRez b) is too = absurd (apart words Help (DeRez b) refl is too)
   one_asked words Help Help is too = refl
-  one_asked words Help Version is too = absurd (clash (codes "--help") (codes "--version") words [] [] (differ (codes "--help") (codes "--version") refl) is too)
-  one_asked words Version (Rez b) is (rest, items, eq, are, it, filled) = absurd (clash (codes "--version") (codes "rez") words [] rest (differ (codes "--version") (codes "rez") refl) is eq)
-  one_asked words Version (DeRez b) is (too, holds) = absurd (clash (codes "--version") (codes "derez") words [] (b ∷ []) (differ (codes "--version") (codes "derez") refl) is too)
-  one_asked words Version Help is too = absurd (clash (codes "--version") (codes "--help") words [] [] (differ (codes "--version") (codes "--help") refl) is too)
+  one_asked words Help Version is too = absurd (apart words Help Version refl is too)
+  one_asked words Version (Rez b) is too = absurd (apart words Version (Rez b) refl is too)
+  one_asked words Version (DeRez b) is too = absurd (apart words Version (DeRez b) refl is too)
+  one_asked words Version Help is too = absurd (apart words Version Help refl is too)
   one_asked words Version Version is too = refl
 
 -- One position.

@@ -1,11 +1,8 @@
-ghost use Rattle.std.specs.Prelude.{◌≡◌, OnOk};
-ghost use Rattle.rz_words.specs.Command.{and_item, nothing_asked};
-ghost use Rattle.rz_words.specs.Item.{item, rez};
-
-use crate::item::Item;
-use rz_core::{FileNames, NoMemory};
+use rz_core::{FileNames, Listing, OsType};
 use rz_pre::Defs;
-use std::alloc::Global;
+
+/// A list of resource types.
+pub type Kinds = Listing<OsType>;
 
 /// The words of `rez`.
 #[derive(Drop)]
@@ -22,40 +19,23 @@ pub struct RezWords<'a> {
     pub redeclare: bool,
 }
 
-impl<'a> RezWords<'a> {
-    /// What no item asks for: the file `Rez.Out`, and nothing more.
-    pub(crate) fn new(alloc: Global) -> RezWords<'a>
-        ensures { rez result ≡ nothing_asked }
-    {
-        RezWords {
-            files: FileNames::new(alloc),
-            output: "Rez.Out",
-            paths: FileNames::new(alloc),
-            defs: Defs::new(alloc),
-            redeclare: false,
-        }
-    }
-
-    /// And an item more.
-    pub(crate) fn add(&mut self, one: Item<'a>) -> Result<(), NoMemory>
-        ensures { OnOk result (rez self.new ≡ and_item (rez self.old) (item one.entry)) }
-    {
-        match one {
-            Item::Source(file) => self.files.push(file)?,
-            Item::Output(name) => self.output = name,
-            Item::Path(path) => self.paths.push(path)?,
-            Item::Define(def) => self.defs.push(def)?,
-            Item::Redeclare => self.redeclare = true,
-        }
-        Ok(())
-    }
-}
-
-/// The words of `derez FILE`.
-#[derive(Clone, Copy, Drop)]
-pub struct DeRezWords<'a> {
+/// The words of `derez`.
+#[derive(Drop)]
+pub struct DeRezWords {
     /// The name of the fork.
-    pub file: &'a str,
+    pub file: String,
+    /// The names of the type files.
+    pub files: FileNames,
+    /// The paths for included files.
+    pub paths: FileNames,
+    /// The definitions.
+    pub defs: Defs,
+    /// Types may be declared again without a warning.
+    pub redeclare: bool,
+    /// The types that alone are shown, where there are any.
+    pub only: Kinds,
+    /// The types that aren't shown.
+    pub skip: Kinds,
 }
 
 /// What the words ask for.
@@ -64,7 +44,7 @@ pub enum Command<'a> {
     /// Compile sources.
     Rez(RezWords<'a>),
     /// Show a fork.
-    DeRez(DeRezWords<'a>),
+    DeRez(DeRezWords),
     /// Tell the commands.
     Help,
     /// Tell the version.

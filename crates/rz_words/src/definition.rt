@@ -5,15 +5,13 @@ ghost use Rattle.rz_core.specs.Decided.{Decided};
 ghost use Rattle.rz_words.specs.Line.{is_one_word};
 
 use crate::line::{is_one_word, tokens_in};
-use rz_core::{Bytes, NoMemory, Stop, Word};
+use crate::roman::roman_of;
+use rz_core::{Bytes, NoMemory, Word};
 use rz_expr::role_of;
 use rz_lex::{Token, Tokens, one_cut};
 use rz_pre::Def;
-use rz_source::to_mac_roman;
+use rz_source::one_text;
 use std::alloc::Global;
-
-/// The bytes at the front of a source in UTF-8.
-const UTF8_MARK: [u8; 3] = [0xEF, 0xBB, 0xBF];
 
 /// The definition of `-d`, by its value: a name, or a name, `=` and its text. `None` where the name isn't one
 /// or is reserved, or where the text has a character without a byte in Mac Roman or can't be cut.
@@ -94,11 +92,9 @@ fn is_free_word(tokens: &[Token], word: &Word) -> bool
 fn text_in(alloc: Global, text: &str) -> Result<Option<Tokens>, NoMemory>
     ensures { IfOk result (Decided (IsText text.now)) }
 {
-    let mut source = Bytes::of(alloc, &UTF8_MARK)?;
-    source.append(text.as_bytes())?;
-    match to_mac_roman(alloc, source) {
-        Ok(bytes) => tokens_in(alloc, bytes),
-        Err(Stop::Refused(_)) => Ok(None),
-        Err(Stop::NoMemory) => Err(NoMemory),
+    one_text();
+    match roman_of(alloc, text)? {
+        Some(bytes) => tokens_in(alloc, bytes),
+        None => Ok(None),
     }
 }

@@ -1,7 +1,7 @@
 ghost use Rattle.std.specs.Prelude.{◌≡◌, ℕ, List};
 ghost use Rattle.rz_pre.specs.Lexed.{HaveLexedTexts};
 ghost use Rattle.rz_words.specs.Definition.{AreFree};
-ghost use Rattle.rz_words.specs.Command.{Asked, IsCommand, IsMisplaced, Rez, RezAsked};
+ghost use Rattle.rz_words.specs.Command.{Asked, DeRez, DeRezAsked, IsCommand, IsMisplaced, Rez, RezAsked};
 
 use rz_lex::{one_cut, tokens_are_lexed};
 use rz_source::one_text;
@@ -19,12 +19,14 @@ pub fn one_command()
 
 /// A law, with nothing to run: what the words of a command define as texts are tokens that lines can be cut into.
 pub fn definitions_are_lexed()
-    ensures { (words : List (List ℕ)) (asked : RezAsked) → IsCommand words (Rez asked) → HaveLexedTexts asked.defs }
+    ensures rez { (words : List (List ℕ)) (asked : RezAsked) → IsCommand words (Rez asked) → HaveLexedTexts asked.defs }
+    ensures derez { (words : List (List ℕ)) (asked : DeRezAsked) → IsCommand words (DeRez asked) → HaveLexedTexts asked.defs }
 {
     tokens_are_lexed();
 }
 
 /// A law, with nothing to run: what the words of a command define or undefine is no reserved word.
 pub fn definitions_are_free()
-    ensures { (words : List (List ℕ)) (asked : RezAsked) → IsCommand words (Rez asked) → AreFree asked.defs }
+    ensures rez { (words : List (List ℕ)) (asked : RezAsked) → IsCommand words (Rez asked) → AreFree asked.defs }
+    ensures derez { (words : List (List ℕ)) (asked : DeRezAsked) → IsCommand words (DeRez asked) → AreFree asked.defs }
 {}

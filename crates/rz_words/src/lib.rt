@@ -1,16 +1,21 @@
 //! The words of a command line as a command. `read_words` gives exactly the command that they are, or the
 //! position of the first word that can't stand where it stands; they are one command at most.
 //! It rests on `rz_core`, `rz_lex`, `rz_expr`, `rz_source` and `rz_pre`.
-//! A new option changes `item`, `read` and `command`, each with its definitions, and the help text in `rz_tools`.
+//! A new option changes `flag`, `item`, `wanted` and `command`, each with its definitions, and the help text in
+//! `rz_tools`.
 #![tactic(auto)]
 
 mod command;
 mod definition;
+mod flag;
 mod item;
+mod kind;
 mod laws;
 mod line;
 mod read;
+mod roman;
+mod wanted;
 
-pub use command::{Command, DeRezWords, RezWords};
+pub use command::{Command, DeRezWords, Kinds, RezWords};
 pub use laws::{definitions_are_free, definitions_are_lexed, one_command};
 pub use read::{UsageFault, read_words};

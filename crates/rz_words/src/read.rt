@@ -2,13 +2,15 @@ ghost use Rattle.std.specs.Prelude.{◌≡◌, ℕ, ◌∷◌, Ok, Err, IfOk, co
 ghost use Rattle.std.specs.String.{string_bytes};
 ghost use Rattle.rz_core.specs.Stop.{OnFault};
 ghost use Rattle.rz_core.specs.declared.stop.Stop.TheVariants.{Refused};
-ghost use Rattle.rz_words.specs.Command.{Asked, IsCommand, IsMisplaced};
-ghost use Rattle.rz_words.specs.Item.{asked, rez, Answers, IsRead};
+ghost use Rattle.rz_words.specs.Command.{name_of, Asked, IsCommand, IsMisplaced, Wants};
+ghost use Rattle.rz_words.specs.Item.{asked, wanted, Answers, AreRead};
 
-use crate::command::{Command, DeRezWords, RezWords};
-use crate::item::{is_file, read_item};
+use crate::command::Command;
+use crate::item::read_item;
 use crate::laws::one_command;
+use crate::wanted::Wanted;
 use rz_core::Stop;
+use rz_pre::Tool;
 use std::alloc::Global;
 
 /// The words are no command.
@@ -23,7 +25,9 @@ pub struct UsageFault {
 /// - `rez` with sources, at least one, and in whatever order `-o name`, `-i path`, `-d name[=text]`, `-u name`
 ///   and `-rd`, each as often as may be; of several `-o` the last counts, several `-rd` are as one, and the
 ///   others add up;
-/// - `derez` with a fork;
+/// - `derez` with files, of which the first is the fork and the others are type files, and in whatever order `-i`,
+///   `-d`, `-u` and `-rd` as above and `-only type`, `-skip type` or `-s type`, which add up; a type is four
+///   characters that have bytes in Mac Roman;
 /// - `--help` or `--version` alone.
 pub fn read_words<'a>(alloc: Global, words: &'a [String]) -> Result<Command<'a>, Stop<UsageFault>>
     ensures command { IfOk result (λ command. IsCommand (map string_bytes words.now) (asked command)) }
@@ -47,7 +51,7 @@ fn read_command<'a>(alloc: Global, words: &'a [String]) -> Result<Command<'a>, S
     if command == "rez" {
         read_rez(alloc, behind)
     } else if command == "derez" {
-        read_derez(behind)
+        read_derez(alloc, behind)
     } else if command == "--help" {
         read_help(behind)
     } else if command == "--version" {
@@ -62,25 +66,53 @@ fn read_rez<'a>(alloc: Global, words: &'a [String]) -> Result<Command<'a>, Stop<
     ensures command { IfOk result (λ command. IsCommand (codes "rez" ∷ map string_bytes words.now) (asked command)) }
     ensures misplaced { OnFault result (λ fault. IsMisplaced (codes "rez" ∷ map string_bytes words.now) fault.position) }
 {
-    let asked = read_items(alloc, words)?;
-    if asked.files.len() == 0 {
-        return misplaced(words.len() as u64 + 2);
-    }
-    Ok(Command::Rez(asked))
+    let wanted = read_wanted(alloc, Tool::Rez, words)?;
+    Ok(Command::Rez(wanted.into_rez()))
 }
 
-/// The items behind `rez`.
-fn read_items<'a>(alloc: Global, words: &'a [String]) -> Result<RezWords<'a>, Stop<UsageFault>>
-    ensures items { IfOk result (λ asked. IsRead (map string_bytes words.now) (rez asked)) }
-    ensures misplaced { OnFault result (λ fault. IsMisplaced (codes "rez" ∷ map string_bytes words.now) fault.position) }
+/// The words behind `derez`.
+fn read_derez<'a>(alloc: Global, words: &'a [String]) -> Result<Command<'a>, Stop<UsageFault>>
+    ensures command { IfOk result (λ command. IsCommand (codes "derez" ∷ map string_bytes words.now) (asked command)) }
+    ensures misplaced { OnFault result (λ fault. IsMisplaced (codes "derez" ∷ map string_bytes words.now) fault.position) }
 {
-    let mut asked = RezWords::new(alloc);
+    let wanted = read_wanted(alloc, Tool::DeRez, words)?;
+    Ok(Command::DeRez(wanted.into_derez(alloc)?))
+}
+
+/// The words behind the name of a command: items, a file among them.
+fn read_wanted<'a>(
+    alloc: Global,
+    tool: Tool,
+    words: &'a [String],
+) -> Result<Wanted<'a>, Stop<UsageFault>>
+    ensures wants { IfOk result (λ items. Wants tool (name_of tool ∷ map string_bytes words.now) (wanted items)) }
+    ensures misplaced { OnFault result (λ fault. IsMisplaced (name_of tool ∷ map string_bytes words.now) fault.position) }
+{
+    let wanted = read_items(alloc, tool, words)?;
+    if wanted.files.len() == 0 {
+        return Err(Stop::Refused(UsageFault {
+            position: words.len() as u64 + 2,
+        }));
+    }
+    Ok(wanted)
+}
+
+/// The items behind the name of a command.
+fn read_items<'a>(
+    alloc: Global,
+    tool: Tool,
+    words: &'a [String],
+) -> Result<Wanted<'a>, Stop<UsageFault>>
+    ensures items { IfOk result (λ items. AreRead tool (map string_bytes words.now) (wanted items)) }
+    ensures misplaced { OnFault result (λ fault. IsMisplaced (name_of tool ∷ map string_bytes words.now) fault.position) }
+{
+    let mut wanted = Wanted::new(alloc);
     let mut rest = words;
     while let Some((first, behind)) = rest.split_first() {
-        match read_item(alloc, first.as_str(), behind) {
+        match read_item(alloc, tool, first.as_str(), behind) {
             Ok(item) => {
                 let size = item.size();
-                asked.add(item)?;
+                wanted.add(item)?;
                 rest = rest.split_at(size).1;
             }
             Err(Stop::Refused(misfit)) => {
@@ -92,25 +124,7 @@ fn read_items<'a>(alloc: Global, words: &'a [String]) -> Result<RezWords<'a>, St
             Err(Stop::NoMemory) => return Err(Stop::NoMemory),
         }
     }
-    Ok(asked)
-}
-
-/// The words behind `derez`.
-fn read_derez<'a>(words: &'a [String]) -> Result<Command<'a>, Stop<UsageFault>>
-    ensures command { IfOk result (λ command. IsCommand (codes "derez" ∷ map string_bytes words.now) (asked command)) }
-    ensures misplaced { OnFault result (λ fault. IsMisplaced (codes "derez" ∷ map string_bytes words.now) fault.position) }
-{
-    let Some((file, behind)) = words.split_first() else {
-        return misplaced(2);
-    };
-    let file = file.as_str();
-    if !is_file(file) {
-        return misplaced(2);
-    }
-    if !behind.is_empty() {
-        return misplaced(3);
-    }
-    Ok(Command::DeRez(DeRezWords { file }))
+    Ok(wanted)
 }
 
 /// The words behind `--help`.

@@ -1,13 +1,14 @@
 use rz_cases::{add_if_wrong, cases_of};
 use rz_core::{Bytes, Stop, write_decimal};
 use rz_pre::Def;
-use rz_words::{Command, RezWords, read_words};
+use rz_words::{Command, DeRezWords, Kinds, RezWords, read_words};
 use std::alloc::Global;
 use std::test::Fail;
 
 /// Words with a blank between them, and what they ask for; `~` is the empty word. `rez` shows its sources, the
-/// file to write, its paths, its definitions, each text by the number of its tokens, and `-rd`. `word` shows the
-/// position of the first word that can't stand where it stands.
+/// file to write, its paths, its definitions, each text by the number of its tokens, and `-rd`. `derez` shows its fork,
+/// its type files, and the same; and then its types, each by its number. `word` shows the position of the first word
+/// that can't stand where it stands.
 const CASES: &str = r#"
 // no command
  => word 1
@@ -55,7 +56,6 @@ rez -o -rd a => rez a -o -rd
 rez -rd => word 3
 rez a -RD => word 3
 rez -r d a => word 2
-derez f -rd => word 3
 // a word after an option is its value, whatever it begins with
 rez -o -o a => rez a -o -o
 rez -o -d a => rez a -o -d
@@ -111,10 +111,67 @@ rez -d type => word 3
 derez => word 2
 derez f => derez f
 derez ~ => derez 
+derez é => derez é
 derez -f => word 2
-derez f g => word 3
 derez f -p => word 3
-derez f -d n => word 3
+// type files behind it
+derez f g => derez f g
+derez f g h => derez f g h
+derez f f => derez f f
+derez rez derez => derez rez derez
+derez f ~ => derez f 
+// options in whatever order
+derez -rd f => derez f -rd
+derez f -rd -rd => derez f -rd
+derez f -i p g -i q => derez f g -i p -i q
+derez -d n f -u n g -d m=1+2 => derez f g -d n 0 -u n -d m 3
+derez -i p -rd f -d n=x => derez f -i p -d n 1 -rd
+// types
+derez f -only Test => derez f -only 1415934836
+derez -only Test f => derez f -only 1415934836
+derez f -only Test g -only snd! -only Test => derez f g -only 1415934836 -only 1936614433 -only 1415934836
+derez f -skip Test => derez f -skip 1415934836
+derez f -s Test => derez f -skip 1415934836
+derez -s Test f -skip Kind -s Test => derez f -skip 1415934836 -skip 1265200740 -skip 1415934836
+derez f -skip Test -only Test => derez f -only 1415934836 -skip 1415934836
+derez f -only éééé => derez f -only 2391707278
+derez f -only 'ab' => derez f -only 660693543
+derez f -only -abc => derez f -only 761356899
+derez f -only -rd -rd => word 4
+derez f -only -rd! => derez f -only 762471457
+derez f -s -s-s => derez f -skip 762522995
+// values that are no types
+derez f -only ~ => word 4
+derez f -only abc => word 4
+derez f -only abcde => word 4
+derez f -only éé => word 4
+derez f -only 語abc => word 4
+derez f -skip abc => word 4
+derez f -s abcde => word 4
+derez -only abc => word 3
+derez f -only Test -skip abc => word 6
+// a word is missing at the end
+derez -rd => word 3
+derez -only => word 3
+derez -only Test => word 4
+derez -d n -i p => word 6
+derez f -only => word 4
+derez f -skip => word 4
+derez f -s => word 4
+derez f g -d => word 5
+// an option that derez doesn't take, and one that rez doesn't
+derez f -o x => word 3
+derez -o x f => word 2
+derez f -ro => word 3
+derez f -from raw => word 3
+derez f -Only Test => word 3
+derez f -only=Test => word 3
+derez f -d type => word 4
+derez f -u 1 => word 4
+derez f --help => word 3
+rez a -only Test => word 3
+rez -skip Test a => word 2
+rez a -s Test => word 3
 derez --help => word 2
 // help and version stand alone
 --help => help
@@ -171,15 +228,43 @@ fn show_rez(asked: &RezWords<'_>, text: &mut Bytes) -> Result<(), Fail> {
     Ok(())
 }
 
+/// Types behind a word, as text.
+fn show_kinds(word: &[u8], kinds: &Kinds, text: &mut Bytes) -> Result<(), Fail> {
+    for kind in kinds.as_slice() {
+        text.append(word)?;
+        write_decimal(u64::from(kind.code), text)?;
+    }
+    Ok(())
+}
+
+/// What `derez` is asked for, as text.
+fn show_derez(asked: &DeRezWords, text: &mut Bytes) -> Result<(), Fail> {
+    text.append(b"derez ")?;
+    text.append(asked.file.as_bytes())?;
+    for k in 0..asked.files.len() {
+        text.push(b' ')?;
+        text.append(asked.files.at(k).as_bytes())?;
+    }
+    for k in 0..asked.paths.len() {
+        text.append(b" -i ")?;
+        text.append(asked.paths.at(k).as_bytes())?;
+    }
+    for def in asked.defs.as_slice() {
+        show_definition(def, text)?;
+    }
+    if asked.redeclare {
+        text.append(b" -rd")?;
+    }
+    show_kinds(b" -only ", &asked.only, text)?;
+    show_kinds(b" -skip ", &asked.skip, text)
+}
+
 /// What words ask for, as text.
 fn outcome_of(alloc: Global, words: &[String]) -> Result<Bytes, Fail> {
     let mut text = Bytes::new(alloc);
     match read_words(alloc, words) {
         Ok(Command::Rez(asked)) => show_rez(&asked, &mut text)?,
-        Ok(Command::DeRez(asked)) => {
-            text.append(b"derez ")?;
-            text.append(asked.file.as_bytes())?;
-        }
+        Ok(Command::DeRez(asked)) => show_derez(&asked, &mut text)?,
         Ok(Command::Help) => text.append(b"help")?,
         Ok(Command::Version) => text.append(b"version")?,
         Err(Stop::Refused(fault)) => {

@@ -4,23 +4,27 @@ use Rattle.rz_tools.specs.Answer.{shown, Answer}
 use Rattle.rz_tools.specs.WellFormed.{IsWellFormed}
 use Rattle.rz_tools.specs.declared.outcome.Outcome.TheVariants.{Usage}
 use Rattle.rz_words.specs.Command.{Rez, DeRez, Help, Version}
-use Rattle.rz_words.specs.Item.{rez}
-use Rattle.rz_tools.proofs.Planned.{as_command, as_misused, as_told}
+use Rattle.rz_words.specs.Item.{derez, rez}
+use Rattle.rz_tools.proofs.Planned.{as_command, as_misused, as_told, held_asked}
 use Rattle.rz_tools.proofs.Warnings.{no_lines}
 use Rattle.rz_tools.proofs.answer.answer.Goals as goal
 
 pub plan_rez-requires : goal.plan_rez-requires
 plan_rez-requires g c =
-    c.definitions_are_lexed.ensures (map string_bytes c.args.words.now) (rez c.in-Ok-Rez.asked) (rw c.in-Ok-Rez.field-0-is at c.in-Ok-Rez.ensures.command)
+    c.definitions_are_lexed.ensures.rez (map string_bytes c.args.words.now) (rez c.in-Ok-Rez.asked) (rw c.in-Ok-Rez.field-0-is at c.in-Ok-Rez.ensures.command)
 
 pub returns-in-Ok-Rez-clause-answered : goal.returns-in-Ok-Rez-clause-answered
 returns-in-Ok-Rez-clause-answered g c =
     as_command (map string_bytes c.args.words.now) c.args.moment (Rez (rez c.in-Ok-Rez.asked)) (rw c.in-Ok-Rez.field-0-is at c.in-Ok-Rez.ensures.command)
     c.plan_rez.result (g.F.Folder.files c.args.folder.now) c.plan_rez.ensures.answered
 
+pub plan_derez-requires : goal.plan_derez-requires
+plan_derez-requires g c =
+    c.definitions_are_lexed-in-Ok-DeRez.ensures.derez (map string_bytes c.args.words.now) (derez c.in-Ok-DeRez.asked) (rw c.in-Ok-DeRez.field-0-is at c.in-Ok-DeRez.ensures.command)
+
 pub returns-in-Ok-DeRez-clause-answered : goal.returns-in-Ok-DeRez-clause-answered
 returns-in-Ok-DeRez-clause-answered g c =
-    as_command (map string_bytes c.args.words.now) c.args.moment (DeRez c.in-Ok-DeRez.asked.file.now) (rw c.in-Ok-DeRez.field-0-is at c.in-Ok-DeRez.ensures.command)
+    as_command (map string_bytes c.args.words.now) c.args.moment (DeRez (derez c.in-Ok-DeRez.asked)) (rw c.in-Ok-DeRez.field-0-is at c.in-Ok-DeRez.ensures.command)
     c.plan_derez.result (g.F.Folder.files c.args.folder.now) c.plan_derez.ensures.answered
 
 pub returns-in_ok-text-in-Ok-Help-clause-answered : goal.returns-in_ok-text-in-Ok-Help-clause-answered
@@ -48,3 +52,9 @@ pub returns-in_ok-misused-in-Err-Refused-clause-every_usage : goal.returns-in_ok
 returns-in_ok-misused-in-Err-Refused-clause-every_usage g c position is =
     inr (ap (λ (a : Answer). a.outcome) (rw c.in-Err-Refused.fault-is at c.in_ok-misused-in-Err-Refused.ensures) ∙ ap (λ n. Usage (record { position = n }))
     (c.one_command.ensures.position (map string_bytes c.args.words.now) c.in-Err-Refused.fault.position position (rw c.in-Err-Refused.field-0-is at c.in-Err-Refused.ensures.misplaced) is))
+
+pub returns-in-Ok-DeRez-clause-held : goal.returns-in-Ok-DeRez-clause-held
+returns-in-Ok-DeRez-clause-held g c asked is =
+    held_asked (derez c.in-Ok-DeRez.asked) asked
+    (c.one_command.ensures.command (map string_bytes c.args.words.now) (DeRez (derez c.in-Ok-DeRez.asked)) (DeRez asked) (rw c.in-Ok-DeRez.field-0-is at c.in-Ok-DeRez.ensures.command) is)
+    (g.F.Folder.files c.args.folder.now) c.plan_derez.result c.plan_derez.ensures.held

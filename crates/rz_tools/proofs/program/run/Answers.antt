@@ -32,10 +32,10 @@ returns-in-Ok-clause-every_usage g c position is =
     (record { position = position }) so c.carry_out.ensures.ended)
 
 pub returns-in-Ok-clause-again : goal.returns-in-Ok-clause-again
-returns-in-Ok-clause-again g c is file asked =
+returns-in-Ok-clause-again g c is asked as_asked =
     shows_again c.one_command.ensures.command c.shown_forks_are_read_again.ensures (map string_bytes c.args.words.now) c.args.moment _ _ (answer_of c.in-Ok.plan) c.carry_out.result is
     (carried_from (answer_of c.in-Ok.plan) _ c.carry_out.result _ _ _ _ _ _ _ _ _ _ c.in-Ok.ensures.reads.unchanged c.in-Ok.ensures.reads.counted c.in-Ok.ensures.reads.other_count c.carry_out.ensures.carried)
-    file asked c.in-Ok.ensures.answered (c.in-Ok.ensures.held file asked)
+    asked as_asked c.in-Ok.ensures.answered (c.in-Ok.ensures.held asked as_asked)
 
 pub returns-in-Err-ReadFault-clause-carried : goal.returns-in-Err-ReadFault-clause-carried
 returns-in-Err-ReadFault-clause-carried g c = (

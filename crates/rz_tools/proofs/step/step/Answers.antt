@@ -2,7 +2,7 @@ use Rattle.std.proofs.Common.{List, subst, ◌∙◌}
 use Rattle.rz_lex.specs.declared.token.Token.{Token}
 use Rattle.rz_tools.specs.Held.{work_of}
 use Rattle.rz_tools.specs.Step.{Steps, Worked}
-use Rattle.rz_tools.proofs.Forks.{still_lexed, still_within}
+use Rattle.rz_tools.proofs.Numbered.{still_lexed, still_within}
 use Rattle.rz_tools.proofs.Stepping.{whole_span}
 use Rattle.rz_tools.proofs.step.step.Goals as goal
 

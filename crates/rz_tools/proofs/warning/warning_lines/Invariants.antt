@@ -1,6 +1,6 @@
 use Rattle.std.proofs.Common.{◌≡◌, ◌++◌, length, drop}
 use Rattle.rz_tools.specs.Warning.{warning_lines, AreWarnings}
-use Rattle.rz_tools.proofs.rez.warning_lines.Given as goal
+use Rattle.rz_tools.proofs.warning.warning_lines.Given as goal
 
 abbrev pub invariant-loop-warning : goal.invariant-loop-warning
 invariant-loop-warning l = record {

@@ -1,0 +1,14 @@
+use Rattle.rz_items.specs.Compile.{compile_of}
+use Rattle.rz_tools.specs.Step.{IsListBehind}
+use Rattle.rz_types.specs.TypeTable.{table_of}
+use Rattle.rz_tools.proofs.Stepping.{derez_changes, rez_changes}
+use Rattle.rz_tools.proofs.step.put_compiled.Goals as goal
+
+pub returns-in-Rez-clause-put : goal.returns-in-Rez-clause-put
+returns-in-Rez-clause-put c =
+    rez_changes c.args.setting.tool c.args.resources.now (IsListBehind c.args.setting c.args.mark (table_of c.args.types.now) c.args.resources.now (compile_of c.args.stmt.now))
+    c.put_items.result c.put_items.new.resources c.in-Rez.is c.put_items.ensures.put
+
+pub returns-in-DeRez-clause-put : goal.returns-in-DeRez-clause-put
+returns-in-DeRez-clause-put c =
+    derez_changes c.args.setting.tool c.args.resources.now (IsListBehind c.args.setting c.args.mark (table_of c.args.types.now) c.args.resources.now (compile_of c.args.stmt.now)) c.in-DeRez.is

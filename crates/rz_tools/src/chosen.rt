@@ -1,0 +1,25 @@
+ghost use Rattle.std.specs.Prelude.{◌≡◌};
+ghost use Rattle.rz_tools.specs.Chosen.{is_chosen, is_in};
+
+use rz_core::OsType;
+use rz_words::Kinds;
+
+/// Whether resources of a type are shown: it is one of the types of `-only`, where there are any, and none of those of
+/// `-skip`.
+pub fn is_chosen(only: &Kinds, skip: &Kinds, kind: OsType) -> bool
+    ensures { result ≡ is_chosen only.now skip.now kind }
+{
+    (only.len() == 0 || is_in(only, kind)) && !is_in(skip, kind)
+}
+
+/// Whether a type is one of these.
+fn is_in(kinds: &Kinds, kind: OsType) -> bool
+    ensures { result ≡ is_in kinds.now kind }
+{
+    for one in kinds.as_slice() {
+        if one.code == kind.code {
+            return true;
+        }
+    }
+    false
+}
