@@ -1,9 +1,9 @@
 -- Tokens behind which as many brackets are open as before them: expressions, and what stands in brackets.
-use Rattle.std.proofs.Common.{◌≡◌, ℕ, ◌+◌, ◌-◌, ◌&&◌, Bool, true, false, if◌then◌else◌, List, [], ◌∷◌, ◌++◌, Option, Some, None, refl, sym, ap, subst, ◌∙◌, append_assoc, arith}
+use Rattle.std.proofs.Common.{◌≡◌, ℕ, ◌+◌, ◌-◌, ◌&&◌, Bool, true, false, if◌then◌else◌, List, [], ◌∷◌, ◌++◌, Some, None, refl, sym, ap, subst, ◌∙◌, append_assoc, arith}
 use Rattle.std.specs.List.{AllByRecursion}
 use Rattle.rz_core.proofs.Tests.{both}
 use Rattle.rz_core.specs.declared.resource.Word.{Word}
-use Rattle.rz_expr.specs.Grammar.{after_of, argument, closes, ends_name, is_bracket, named_by, separates, start_of, word_start, Bracket, Calls, Closes, Derives, Operand, Operates, Prefix, Separates}
+use Rattle.rz_expr.specs.Grammar.{after_of, argument, closes, ends_name, is_bracket, named_by, separates, start_of, word_start, Calls, Derives, Operand, Operates, Prefix}
 use Rattle.rz_expr.specs.Grammar.{binary, bits_at, counted, data_at, grouped, operand, prefixed, tighter}
 use Rattle.rz_expr.specs.Term.{Term}
 use Rattle.rz_expr.specs.Words.{role_of}

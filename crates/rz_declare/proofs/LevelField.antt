@@ -10,8 +10,8 @@ use Rattle.rz_expr.specs.Term.{Term}
 use Rattle.rz_expr.specs.declared.keyword.Keyword.{Keyword}
 use Rattle.rz_lex.specs.declared.token.Shape.{Shape}
 use Rattle.rz_lex.specs.declared.token.Token.{Token}
-use Rattle.rz_brackets.specs.Bracket.{begins, IsBracketed}
-use Rattle.rz_brackets.specs.Pieces.{AreCut, Parted}
+use Rattle.rz_brackets.specs.Bracket.{begins}
+use Rattle.rz_brackets.specs.Pieces.{AreCut}
 use Rattle.rz_brackets.specs.declared.bracket.Bracket.TheVariants.{Curly, Square}
 use Rattle.rz_brackets.specs.declared.pieces.Divider.TheVariants.{Comma}
 use Rattle.rz_declare.specs.Each.{AreEach}
@@ -21,7 +21,7 @@ use Rattle.rz_declare.specs.FieldValue.{byte_in, is_equals, one_byte, IsFixedExp
 use Rattle.rz_declare.specs.FieldWord.{align_unit, field_word_in, modifier_in, unit_in, FieldFront}
 use Rattle.rz_declare.specs.Form.{FieldForm, NamedTerm, NumberForm}
 use Rattle.rz_declare.specs.Key.{IsKey, IsKeyOf}
-use Rattle.rz_declare.specs.NumberField.{IsNumber, IsNumberBy, IsTail, IsTailBy, NumberTail}
+use Rattle.rz_declare.specs.NumberField.{IsNumberBy, IsTail, IsTailBy, NumberTail}
 use Rattle.rz_declare.specs.Symbols.{name_in, IsGiven, IsSymbol}
 use Rattle.rz_declare.specs.declared.field_word.FieldWord.{FieldWord}
 use Rattle.rz_declare.specs.declared.field_word.FieldWord.TheVariants as words

@@ -4,17 +4,12 @@ use Rattle.std.specs.Prelude.{◌||◌, not}
 use Rattle.std.specs.Bool.{MatchBool}
 use Rattle.std.specs.List.{list_any}
 use Rattle.std.specs.List.Sorted.{IsPermutation}
-use Rattle.std.specs.Str.{bytes_eq, str_eq_ignore_ascii_case, str_to_ascii_lowercase}
-use Rattle.std.proofs.lemmas.Bool.Decides.{same_from_decides, Decides-like}
+use Rattle.std.specs.Str.{bytes_eq, str_to_ascii_lowercase}
 use Rattle.std.proofs.lemmas.List.Folds.{list_any_more}
 use Rattle.std.proofs.lemmas.List.Sorted.{list_any-IsPermutation}
 use Rattle.std.proofs.lemmas.Slice.Eq.{bytes_eq-Decides}
 use Rattle.rz_core.proofs.Tests.{by_test}
 use Rattle.rz_core.specs.declared.resource.Word.{Word}
-use Rattle.rz_types.specs.Walk.{is_among}
-
-swap : (a b : List ℕ) → bytes_eq a b ≡ bytes_eq b a
-swap a b = same_from_decides (bytes_eq a b) (bytes_eq b a) (bytes_eq-Decides a b) (Decides-like (bytes_eq b a) (λ (e : b ≡ a). sym e) (λ (e : a ≡ b). sym e) (bytes_eq-Decides b a))
 
 either_way : (a b : Bool) → (a || b) ≡ (b || a)
 either_way true true = refl
@@ -40,12 +35,15 @@ module _ {K : Type 0} (bytes : K → List ℕ) where
   held_more key old new true name is puts = sym (list_any-IsPermutation (λ (key : K). bytes_eq name (bytes key)) (key ∷ old) new puts)
   held_more key old new false name is puts = ap (has name) puts ∙ again key old name (held (has (bytes key) old) is)
 
-pub among_more : (names : List Word) (i : ℕ) (d : Word) (name : List ℕ) (lower : List ℕ) (before after : Bool) → i < length names → d ≡ get_or names i d → lower ≡ str_to_ascii_lowercase d.bytes
-    → after ≡ (bytes_eq (str_to_ascii_lowercase name) lower || before) → before ≡ is_among name (take i names) → after ≡ is_among name (take (i + 1) names)
-among_more names i d name lower before after within d-is lower-is after-is before-is =
+-- a name, in whatever case, is one of these in lower case
+abbrev is_one : List ℕ → List Word → Bool
+is_one name names = list_any (λ (one : Word). bytes_eq (str_to_ascii_lowercase name) one.bytes) names
+
+pub among_more : (names : List Word) (i : ℕ) (d : Word) (name : List ℕ) (held : List ℕ) (before after : Bool) → i < length names → d ≡ get_or names i d → held ≡ d.bytes
+    → after ≡ (bytes_eq (str_to_ascii_lowercase name) held || before) → before ≡ is_one name (take i names) → after ≡ is_one name (take (i + 1) names)
+among_more names i d name held before after within d-is held-is after-is before-is =
     after-is
-    ∙ (λ j. swap (str_to_ascii_lowercase name) lower j || before-is j)
-    ∙ ap (λ (x : List ℕ). bytes_eq x (str_to_ascii_lowercase name) || is_among name (take i names)) lower-is
-    ∙ ap (λ (w : Word). str_eq_ignore_ascii_case w.bytes name || is_among name (take i names)) d-is
-    ∙ either_way (str_eq_ignore_ascii_case (get_or names i d).bytes name) (is_among name (take i names))
-    ∙ sym (list_any_more (λ (one : Word). str_eq_ignore_ascii_case one.bytes name) names i d within)
+    ∙ (λ j. bytes_eq (str_to_ascii_lowercase name) (held-is j) || before-is j)
+    ∙ ap (λ (w : Word). bytes_eq (str_to_ascii_lowercase name) w.bytes || is_one name (take i names)) d-is
+    ∙ either_way (bytes_eq (str_to_ascii_lowercase name) (get_or names i d).bytes) (is_one name (take i names))
+    ∙ sym (list_any_more (λ (one : Word). bytes_eq (str_to_ascii_lowercase name) one.bytes) names i d within)

@@ -1,7 +1,7 @@
 ghost use Rattle.std.specs.Prelude.{◌≡◌, ◌≤◌, ℕ, List, length, IfOk};
-ghost use Rattle.std.specs.Str.{str_to_ascii_lowercase};
+ghost use Rattle.std.specs.List.{list_any};
+ghost use Rattle.std.specs.Str.{bytes_eq, str_to_ascii_lowercase};
 ghost use Rattle.rz_print.specs.Hidden.{hides};
-ghost use Rattle.rz_types.specs.Walk.{is_among};
 
 use rz_core::{NoMemory, Word};
 use std::alloc::Global;
@@ -27,15 +27,22 @@ fn lower_short<'a>(front: &'a mut [u8; SHORT], name: &[u8]) -> &'a [u8]
     lower
 }
 
+/// A copy of a name.
+fn copy_of(alloc: Global, name: &[u8]) -> Result<Vec<u8>, NoMemory>
+    ensures { IfOk result (λ copy. copy.items ≡ name.now) }
+{
+    Ok(name.to_vec(alloc)?)
+}
+
 impl Hidden {
-    /// The macros of these names, in whatever case.
+    /// The macros of these names, which are in lower case.
     pub fn of(alloc: Global, names: &[Word]) -> Result<Hidden, NoMemory>
-        ensures { IfOk result (λ hidden. (name : List ℕ) → hides hidden name ≡ is_among name names.now) }
+        ensures { IfOk result (λ hidden. (name : List ℕ) → hides hidden name ≡ list_any (λ one. bytes_eq (str_to_ascii_lowercase name) one.bytes) names.now) }
     {
         let mut held = HashSet::new(alloc);
         for name in names {
-            let lower = name.bytes.as_slice().to_ascii_lowercase(alloc)?;
-            held.insert(lower)?;
+            let name = copy_of(alloc, name.bytes.as_slice())?;
+            held.insert(name)?;
         }
         Ok(Hidden { held })
     }

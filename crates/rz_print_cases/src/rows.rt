@@ -1,13 +1,13 @@
-ghost use Rattle.std.specs.Prelude.{◌≡◌, false, true};
+ghost use Rattle.std.specs.Prelude.{◌≡◌, ◌≤◌, false, suc, true};
 ghost use Rattle.rz_types.specs.Field.{plain_body, plain_field};
-ghost use Rattle.rz_types.specs.Shape.{are_shaped, body_depth, field_depth, is_own_width, is_shaped, is_well_shaped};
+ghost use Rattle.rz_types.specs.Shape.{are_shaped, body_depth, field_depth, is_own_width, is_shaped};
 
 use rz_core::{Attr, Bytes, Listing, NoMemory, OsType, Resource, Word, Words};
 use rz_print::{Hidden, uses_hidden, write_row};
 use rz_show::show_row;
 use rz_types::{
-    Body, Field, NumField, NumForm, PointField, Radix, Row, Template, TextField, TextForm, Tree,
-    check,
+    ArrayField, Body, Field, NumField, NumForm, PointField, Radix, Row, RowList, Template,
+    TextField, TextForm, Tree, check,
 };
 use std::alloc::Global;
 use std::test::Fail;
@@ -53,6 +53,19 @@ fn point() -> Field
     })
 }
 
+/// An array without a name or a count.
+fn array(row: Body) -> Field
+    requires { are_shaped false (plain_body row) ≡ true }
+    ensures shaped { is_shaped false (plain_field result) ≡ true }
+    ensures deep { field_depth (plain_field result) ≡ suc (body_depth (plain_body row)) }
+{
+    Field::Array(ArrayField {
+        name: None,
+        count: None,
+        row,
+    })
+}
+
 /// Numbers in each way, texts and a point.
 fn template(alloc: Global) -> Result<Template, Fail> {
     let mut body = Body::new(alloc);
@@ -74,7 +87,8 @@ fn template(alloc: Global) -> Result<Template, Fail> {
 
 /// The template of a body that keeps the rules.
 fn checked(alloc: Global, body: Body) -> Result<Template, Fail>
-    requires { is_well_shaped (plain_body body) ≡ true }
+    requires shaped { are_shaped false (plain_body body) ≡ true }
+    requires shallow { body_depth (plain_body body) ≤ 2 }
 {
     match check(alloc, body) {
         Ok(template) => Ok(template),
@@ -148,7 +162,7 @@ fn names_are_hidden_in_any_case(rt: HostRuntime) -> Result<(), Fail> {
     let alloc = rt.alloc();
     let mut names = Words::new(alloc);
     names.push(Word {
-        bytes: Bytes::of(alloc, b"Button")?,
+        bytes: Bytes::of(alloc, b"button")?,
     })?;
     let hidden = Hidden::of(alloc, names.as_slice())?;
     assert!(rt; hidden.has(alloc, b"bUTTON")?);
@@ -187,6 +201,54 @@ fn resource_is_shown_by_its_row(rt: HostRuntime) -> Result<(), Fail> {
 resource 'gorf' (-5, \"N\", sysheap, locked) {
     -1,
     \"gorf\"
+};
+
+";
+    assert_eq!(rt; text.as_slice(), wanted.as_slice());
+    Ok(())
+}
+
+/// A row of one text.
+fn text_row(alloc: Global, text: &[u8]) -> Result<Row, NoMemory> {
+    let mut row = Row::new(alloc);
+    row.push(Tree::Text(Bytes::of(alloc, text)?))?;
+    Ok(row)
+}
+
+#[test]
+fn rows_of_an_array_stand_one_level_deeper(rt: HostRuntime) -> Result<(), Fail> {
+    let alloc = rt.alloc();
+    let mut inner = Body::new(alloc);
+    inner.push(text(false))?;
+    let mut body = Body::new(alloc);
+    body.push(array(inner))?;
+    let template = checked(alloc, body)?;
+    let mut rows = RowList::new(alloc);
+    rows.push(text_row(alloc, b"A")?)?;
+    rows.push(text_row(alloc, b"BC")?)?;
+    let mut row = Row::new(alloc);
+    row.push(Tree::Rows(rows))?;
+    let resource = Resource {
+        kind: OsType { code: 0x5354_5223 },
+        id: 128,
+        name: Bytes::new(alloc),
+        attr: Attr::of(0),
+        bytes: Bytes::new(alloc),
+    };
+    let hidden = Hidden::of(alloc, &[])?;
+    let mut text = Bytes::new(alloc);
+    show_row(
+        &resource,
+        template.body().as_slice(),
+        row.as_slice(),
+        &hidden,
+        &mut text,
+    )?;
+    let wanted = b"resource 'STR#' (128) {
+    {
+        \"A\",
+        \"BC\"
+    }
 };
 
 ";

@@ -1,7 +1,8 @@
 -- The text that is shown of a list means the list again.
-use Rattle.std.proofs.Common.{◌≡◌, ◌≢◌, ℕ, Bool, true, false, List, [], ◌∷◌, ◌++◌, map, length, Some, None, Ok, inl, refl, sym, ap, subst, ◌∙◌, append_assoc, arith}
-use Rattle.std.specs.Prelude.{◌==◌, ◌&&◌}
+use Rattle.std.proofs.Common.{◌≡◌, ◌≢◌, ◌≤◌, ℕ, Bool, true, false, List, [], ◌∷◌, ◌++◌, map, length, Option, Some, None, Ok, inl, refl, sym, ap, subst, ◌∙◌, append_assoc, arith}
+use Rattle.std.specs.Prelude.{◌==◌, ◌&&◌, ◌||◌, not, is_some}
 use Rattle.std.specs.List.{flat_map, list_any, AllByRecursion}
+use Rattle.std.specs.Option.{ok_or}
 use Rattle.std.specs.Str.{bytes_eq, str_to_ascii_lowercase}
 use Rattle.std.proofs.lemmas.Bool.{or_parts, false≢true}
 use Rattle.std.proofs.lemmas.Bool.Decides.{nat_tests}
@@ -11,9 +12,15 @@ use Rattle.std.proofs.lemmas.Slice.Eq.{bytes_eq-Decides}
 use Rattle.rz_show.proofs.Split.{shapes_in}
 use Rattle.rz_core.specs.Resources.{id_bits, put, same_key, KeysDiffer}
 use Rattle.rz_core.specs.Stop.{◌>>=◌}
+use Rattle.rz_core.specs.declared.facts.Facts.{Facts}
 use Rattle.rz_core.specs.declared.fault.Fault.{Fault}
+use Rattle.rz_core.specs.declared.fault.Mark.{Mark}
+use Rattle.rz_core.specs.declared.moment.Moment.{Moment}
 use Rattle.rz_core.specs.declared.resource.Resource.{Resource}
+use Rattle.rz_expr.specs.Words.{is_name, role_of}
+use Rattle.rz_fields.specs.declared.tree.Tree.{Tree}
 use Rattle.rz_fork.specs.Contents.{FitsFork}
+use Rattle.rz_items.specs.Item.{PlainItem}
 use Rattle.rz_lex.specs.Printed.{token_of, word_of}
 use Rattle.rz_lex.specs.declared.raw_line.RawLine.{RawLine}
 use Rattle.rz_lex.specs.declared.token.Shape.{Shape}
@@ -23,24 +30,34 @@ use Rattle.rz_pre.specs.Live.{body_of, Live}
 use Rattle.rz_pre.specs.declared.condition.Tool.{Tool}
 use Rattle.rz_pre.specs.declared.condition.Tool.TheVariants as tools
 use Rattle.rz_pre.specs.Program.{file_of, levels_below, IncludedGoes, State}
-use Rattle.rz_show.specs.Data.{list_text, resource_text, statement_text}
-use Rattle.rz_show.specs.Head.{data_head}
+use Rattle.rz_print.specs.Printable.{AreOfBytes, SparesTruth}
+use Rattle.rz_show.specs.Data.{statement_text}
+use Rattle.rz_show.specs.Head.{head_text}
 use Rattle.rz_show.specs.Page.{AreCut}
-use Rattle.rz_show.specs.Statement.{is_shown, shown_raw, shown_words, AreShown, AreWhole, IsPrintedAs, IsStored, IsWhole}
+use Rattle.rz_show.specs.Row.{row_statement}
+use Rattle.rz_show.specs.Short.{AreShortTexts}
+use Rattle.rz_show.specs.Showing.{by_bytes, by_row, showing_text, showings_text, CanBeShown, IsStored, Showing}
+use Rattle.rz_show.specs.Statement.{is_shown, shown_compile, shown_raw, shown_words, AreWhole, IsPrintedAs, IsWholeData, IsWholeOf, IsWholeRow}
 use Rattle.rz_source.specs.Source.{mark, IsTextOf, IsUnmarked}
-use Rattle.rz_stmt.specs.Grammar.{mark_of, Data, IsStatement, Parses}
+use Rattle.rz_stmt.specs.Grammar.{mark_of, Compiles, Data, IsStatement, Parses}
 use Rattle.rz_stmt.specs.Raw.{Raw}
 use Rattle.rz_stmt.specs.Statements.{AreStatements}
-use Rattle.rz_tools.specs.Again.{AreShort, MeanResources, MeansAgain, NoneIsLive}
-use Rattle.rz_tools.specs.Data.{resource_of}
-use Rattle.rz_tools.specs.Step.{list_behind, put_unless_protected, Means, Steps, Work}
+use Rattle.rz_tools.specs.Again.{AreShort, HasMacros, MeanResources, MeansAgain, SparesWords}
+use Rattle.rz_tools.specs.DeRez.{ShowsEach}
+use Rattle.rz_tools.specs.Resource.{no_type, IsMade, IsResource}
+use Rattle.rz_tools.specs.Shown.{facts_of, its_bytes, its_row, IsShownBy, Known, TellsRow}
+use Rattle.rz_tools.specs.Step.{list_behind, put_unless_protected, IsListBehind, Means, Steps, Work}
 use Rattle.rz_set.specs.ResSet.{found}
+use Rattle.rz_types.specs.Field.{PlainBody}
+use Rattle.rz_types.specs.Row.{IsRow}
+use Rattle.rz_types.specs.Spells.{Spells}
 use Rattle.rz_types.specs.Table.{Declaration}
 use Rattle.rz_tools.specs.ToolWords.{number_in, numbered, tool_in}
+use Rattle.rz_tools.proofs.Named.{names_no_tool}
 use Rattle.rz_tools.proofs.PutOut.{lines_go, tokens_of, AreBare}
 use Rattle.rz_tools.proofs.Stepping.{changes}
-use Rattle.rz_core.proofs.Tests.{by_test}
-use Rattle.rz_tools.proofs.Values.{resource_again}
+use Rattle.rz_core.proofs.Tests.{both, by_test}
+use Rattle.rz_tools.proofs.Values.{facts_again, resource_again}
 use Rattle.rz_tools.specs.declared.setting.Setting.{Setting}
 
 -- The shapes of the lines, one behind the other.
@@ -61,7 +78,7 @@ shapes_of_lines (line ∷ lines) (shapes ∷ more) cut =
     shapes_both (map (token_of line.mark) shapes) (tokens_of lines more) ∙ (λ i. line_shapes line shapes i ++ shapes_of_lines lines more cut.1 i)
     ∙ sym (flat_map-cons (λ line. line) shapes more)
 
--- Words that are shown are no live macros, and name no tool.
+-- Words that are shown are no macros, and name no tool.
 
 among : (P : List ℕ → Type 0) (word : List ℕ) (words : List (List ℕ)) → AllByRecursion P words → list_any (λ shown. bytes_eq shown word) words ≡ true → P word
 among P word [] all is = absurd (false≢true is)
@@ -69,67 +86,65 @@ among P word (shown ∷ words) all is = by_test (P word) (bytes_eq shown word)
     (λ h. subst P ((bytes_eq-Decides shown word).0 h) all.0)
     (λ h. among P word words all.1 (rw h at is))
 
--- what is said of such a word
-record IsPlainWord (live : Live) (word : List ℕ) : Type 0 where
-  bare : live (str_to_ascii_lowercase word) ≡ None
-  no_tool : tool_in (word_of word) ≡ None
+not_true : (b : Bool) → not b ≡ true → b ≡ false
+not_true true is = sym is
+not_true false is = refl
 
-plain_words : (live : Live) → NoneIsLive live → AllByRecursion (IsPlainWord live) shown_words
-plain_words live none = (
-  record { bare = none.0; no_tool = refl },
-  (
-    record { bare = none.1.0; no_tool = refl },
-    (
-      record { bare = none.1.1.0; no_tool = refl },
-      (
-        record { bare = none.1.1.1.0; no_tool = refl },
-        (
-          record { bare = none.1.1.1.1.0; no_tool = refl },
-          (
-            record { bare = none.1.1.1.1.1.0; no_tool = refl },
-            (record { bare = none.1.1.1.1.1.1.0; no_tool = refl }, tt),
-          ),
-        ),
-      ),
-    ),
-  ),
-)
+shown_tools : AllByRecursion (λ word. tool_in (word_of word) ≡ None) shown_words
+shown_tools = (refl, (refl, (refl, (refl, (refl, (refl, (refl, (refl, (refl, (refl, tt))))))))))
 
-plain_word : (live : Live) (tool : Tool) → NoneIsLive live → (shape : Shape) → is_shown shape ≡ true → (body_of live shape ≡ None) × (number_in tool shape ≡ None)
-plain_word live tool none (shapes.Word word) is =
-    let plain = among (IsPlainWord live) word.bytes shown_words (plain_words live none) is in
-    (plain.bare, rw plain.no_tool refl)
-plain_word live tool none _ is = (refl, refl)
+module _ (is_macro : List ℕ → Bool) where
+  -- what is shown, by one test
+  abbrev Passes : Shape → Type 0
+  Passes shape = is_shown is_macro shape ≡ true
 
-bare_all : (live : Live) → NoneIsLive live → (shapes : List Shape) → AllByRecursion (λ shape. is_shown shape ≡ true) shapes → AreBare live shapes
-bare_all live none [] are = tt
-bare_all live none (shape ∷ shapes) are = ((plain_word live tools.Rez none shape are.0).0, bare_all live none shapes are.1)
+  module _ (P : List ℕ → Type 0) (word : List ℕ) where
+    -- a word that is shown is one of those of statements and attributes, or a name that is no macro
+    word_shown : AllByRecursion P shown_words → (is_name (role_of word) ≡ true → is_macro word ≡ false → P word) → Passes (word_of word) → P word
+    word_shown all named is = by (list_any (λ shown. bytes_eq shown word) shown_words) refl is
+      where
+        by : (test : Bool) → list_any (λ shown. bytes_eq shown word) shown_words ≡ test → (test || (is_name (role_of word) && not (is_macro word))) ≡ true → P word
+        by true found is = among P word shown_words all found
+        by false none is = let each = both (is_name (role_of word)) (not (is_macro word)) is in named each.0 (not_true (is_macro word) each.1)
 
-all_apart : (front back : List Shape) → AllByRecursion (λ shape. is_shown shape ≡ true) (front ++ back)
-    → AllByRecursion (λ shape. is_shown shape ≡ true) front × AllByRecursion (λ shape. is_shown shape ≡ true) back
-all_apart [] back are = (tt, are)
-all_apart (shape ∷ front) back are = let rest = all_apart front back are.1 in ((are.0, rest.0), rest.1)
+  none_live : (o : Option (List Shape)) → is_some o ≡ false → o ≡ None
+  none_live None is = refl
+  none_live (Some body) is = absurd (false≢true (sym is))
 
--- each of the lines
-pub bare_lines : (live : Live) → NoneIsLive live → (lines : List (List Shape)) → AllByRecursion (λ shape. is_shown shape ≡ true) (flat_map (λ line. line) lines) → AllByRecursion (AreBare live) lines
-bare_lines live none [] are = tt
-bare_lines live none (line ∷ lines) are =
-    let parts = all_apart line (flat_map (λ line. line) lines) (subst (AllByRecursion (λ shape. is_shown shape ≡ true)) (flat_map-cons (λ line. line) line lines) are) in
-    (bare_all live none line parts.0, bare_lines live none lines parts.1)
+  bare_shape : SparesWords is_macro → (live : Live) → HasMacros is_macro live → (shape : Shape) → Passes shape → body_of live shape ≡ None
+  bare_shape spares live has (shapes.Word word) is =
+      none_live (live (str_to_ascii_lowercase word.bytes))
+      (has word.bytes ∙ word_shown (λ word. is_macro word ≡ false) word.bytes spares (λ named none. none) is)
+  bare_shape spares live has _ is = refl
 
-none_live : Live
-none_live name = None
+  untold : (tool : Tool) (shape : Shape) → Passes shape → number_in tool shape ≡ None
+  untold tool (shapes.Word word) is =
+      let none = word_shown (λ word. tool_in (word_of word) ≡ None) word.bytes shown_tools (λ named bare. names_no_tool word.bytes named) is in
+      rw none refl
+  untold tool _ is = refl
 
-none_is_live : NoneIsLive none_live
-unfolding none_live
-none_is_live = (refl, (refl, (refl, (refl, (refl, (refl, (refl, tt)))))))
+  all_apart : (front back : List Shape) → AllByRecursion Passes (front ++ back) → AllByRecursion Passes front × AllByRecursion Passes back
+  all_apart [] back are = (tt, are)
+  all_apart (shape ∷ front) back are = let rest = all_apart front back are.1 in ((are.0, rest.0), rest.1)
 
-pub numbered_same : (tool : Tool) (tokens : List Token) → AllByRecursion (λ shape. is_shown shape ≡ true) (shapes_in tokens) → map (numbered tool) tokens ≡ tokens
-numbered_same tool [] are = refl
-numbered_same tool (t ∷ tokens) are = λ i. same t are.0 i ∷ numbered_same tool tokens are.1 i
-  where
-    same : (t : Token) → is_shown t.shape ≡ true → numbered tool t ≡ t
-    same t is = rw (plain_word none_live tool none_is_live t.shape is).1 refl
+  module _ (spares : SparesWords is_macro) (live : Live) (has : HasMacros is_macro live) where
+    bare_all : (shapes : List Shape) → AllByRecursion Passes shapes → AreBare live shapes
+    bare_all [] are = tt
+    bare_all (shape ∷ shapes) are = (bare_shape spares live has shape are.0, bare_all shapes are.1)
+
+    -- each of the lines
+    bare_lines : (lines : List (List Shape)) → AllByRecursion Passes (flat_map (λ line. line) lines) → AllByRecursion (AreBare live) lines
+    bare_lines [] are = tt
+    bare_lines (line ∷ lines) are =
+        let parts = all_apart line (flat_map (λ line. line) lines) (subst (AllByRecursion Passes) (flat_map-cons (λ line. line) line lines) are) in
+        (bare_all line parts.0, bare_lines lines parts.1)
+
+  numbered_same : (tool : Tool) (tokens : List Token) → AllByRecursion Passes (shapes_in tokens) → map (numbered tool) tokens ≡ tokens
+  numbered_same tool [] are = refl
+  numbered_same tool (t ∷ tokens) are = λ i. same t are.0 i ∷ numbered_same tool tokens are.1 i
+    where
+      same : (t : Token) → Passes t.shape → numbered tool t ≡ t
+      same t is = rw (untold tool t.shape is) refl
 
 -- Putting resources whose keys differ.
 
@@ -151,68 +166,192 @@ put_new (x ∷ front) r new =
     let parts = or_parts (same_key x r) (list_any (λ b. same_key b r) front) new in
     rw (key_sym r x ∙ parts.0) (ap (λ (l : List Resource). x ∷ l) (put_new front r parts.1))
 
+put_behind : (mark : Mark) (front : List Resource) (r : Resource) → list_any (λ b. same_key b r) front ≡ false → put_unless_protected mark front r ≡ Ok (front ++ r ∷ [])
+put_behind mark front r new = rw (new_name front r new, put_new front r new) refl
+
+-- The laws of the crates below.
+
+abbrev pub RowsAreRows : Type 0
+RowsAreRows = (plain : Bool) (known : Facts) (body : PlainBody) (row : List Tree) (bytes : List ℕ) → Spells plain known body row bytes → IsRow body row
+
+abbrev pub PlainIsSpelled : Type 0
+PlainIsSpelled = (known : Facts) (body : PlainBody) (row : List Tree) (bytes : List ℕ) → Spells true known body row bytes → Spells false known body row bytes
+
+abbrev pub TextsAreShort : Type 0
+TextsAreShort = (plain : Bool) (known : Facts) (body : PlainBody) (row : List Tree) (bytes : List ℕ) → Spells plain known body row bytes → AreShortTexts body row
+
+abbrev pub TextsAreBytes : Type 0
+TextsAreBytes = (known : Facts) (body : PlainBody) (row : List Tree) (bytes : List ℕ) → Spells true known body row bytes → AreOfBytes body row
+
+abbrev pub ArePrintedAs : Type 0
+ArePrintedAs = (hidden : List ℕ → Bool) (list : List Showing) → SparesTruth hidden → AllByRecursion (CanBeShown hidden) list → IsPrintedAs hidden (showings_text hidden list) list
+
+pub record Laws : Type 0 where
+  pub rows : RowsAreRows
+  pub plain : PlainIsSpelled
+  pub short : TextsAreShort
+  pub bytes : TextsAreBytes
+  pub printed : ArePrintedAs
+
+-- How each resource is shown.
+
+abbrev pub AreShownBy : Known → List Resource → List Showing → Type 0
+AreShownBy known [] [] = Unit {0}
+AreShownBy known (r ∷ rs) (showing ∷ showings) = IsShownBy known r showing × AreShownBy known rs showings
+AreShownBy known rs showings = ⊥
+
+pub shown_each : (known : Known) (list : List Resource) (text : List ℕ) → ShowsEach known list text
+    → (showings : List Showing) × AreShownBy known list showings × (text ≡ showings_text known.is_macro showings)
+shown_each known [] text shows = ([], tt, shows)
+shown_each known (r ∷ rs) text (front, behind, eq, (showing, by, is), shows) =
+    let more = shown_each known rs behind shows in
+    (showing ∷ more.0, (by, more.1), eq ∙ (λ i. is i ++ more.2 i) ∙ sym (flat_map-cons (showing_text known.is_macro) showing more.0))
+
+module _ (laws : Laws) (known : Known) where
+  one_can_be_shown : (r : Resource) (showing : Showing) → IsStored r → IsShownBy known r showing → CanBeShown known.is_macro showing
+  one_can_be_shown r showing stored (its_row body row tells is) =
+      let spelled = tells.told.1 in
+      subst (CanBeShown known.is_macro) (sym is) (
+        stored,
+        record {
+          shaped = tells.shaped;
+          kept = tells.kept;
+          is = laws.rows true (facts_of known r) body row r.bytes spelled;
+          bytes = laws.bytes (facts_of known r) body row r.bytes spelled;
+          short = laws.short true (facts_of known r) body row r.bytes spelled;
+          uses = tells.bare;
+        },
+      )
+  one_can_be_shown r showing stored (its_bytes none is) = subst (CanBeShown known.is_macro) (sym is) stored
+
+  can_be_shown : (list : List Resource) (showings : List Showing) → AllByRecursion IsStored list → AreShownBy known list showings → AllByRecursion (CanBeShown known.is_macro) showings
+  can_be_shown [] [] stored by = tt
+  can_be_shown [] (showing ∷ showings) stored by = absurd by
+  can_be_shown (r ∷ rs) [] stored by = absurd by
+  can_be_shown (r ∷ rs) (showing ∷ showings) stored by = (one_can_be_shown r showing stored.0 by.0, can_be_shown rs showings stored.1 by.1)
+
 -- The statements of a list.
 
 -- the work with these resources
 work : List Declaration → List Fault → List Resource → Work
 work types warnings list = record { types = types; list = list; warnings = warnings }
 
-record HasStatements (list : List Resource) (tokens : List Token) : Type 0 where
+module _ (laws : Laws) (known : Known) (setting : Setting) (warnings : List Fault) (rez : setting.tool ≡ tools.Rez) (at : setting.moment ≡ known.moment) where
+  abbrev OneStep : List Resource → List Token → Resource → Type 0
+  OneStep front tokens r = Steps setting (work known.types warnings front) tokens (Ok (work known.types warnings (front ++ r ∷ [])))
+
+  -- the step of a `data` statement
+  data_step : (front : List Resource) (tokens : List Token) (r : Resource) → IsWholeData tokens r → IsStored r → FitsFork r → length r.bytes ≤ 16777212
+      → list_any (λ b. same_key b r) front ≡ false → OneStep front tokens r
+  unfolding work
+  data_step front tokens r whole stored fits short new =
+      let raw : Raw = shown_raw r whole.name whole.bytes in
+      let value = resource_again (mark_of tokens) setting r whole.name whole.bytes stored whole.whole_name whole.whole_bytes fits.name short in
+      inl (
+        Data raw,
+        Parses.statement whole.is.within (IsStatement.data_statement raw whole.is.is refl),
+        (
+          Ok (front ++ r ∷ []),
+          changes setting.tool front (λ list. list ≡ list_behind setting (mark_of tokens) front raw) (Ok (front ++ r ∷ [])) rez
+              (sym (ap (λ o. o >>= put_unless_protected (mark_of tokens) front) value ∙ put_behind (mark_of tokens) front r new)),
+          refl,
+        ),
+      )
+
+  -- what is known of the resource where its statement is read
+  known_there : Resource → Facts
+  known_there r = record { kind = r.kind; id = r.id; name = r.name; attr = r.attr; moment = setting.moment }
+
+  row_made : (mark : Mark) (r : Resource) (body : PlainBody) (row : List Tree) (items : List PlainItem) → TellsRow known r body row
+      → ((facts : Facts) → Rattle.rz_items.specs.Fits.Fits facts body items row) → IsMade mark known.types items (record { kind = r.kind; id = r.id; name = r.name; attr = r.attr; moment = setting.moment }) (Ok r)
+  row_made mark r body row items tells fits =
+      let there : Facts = record { kind = r.kind; id = r.id; name = r.name; attr = r.attr; moment = setting.moment } in
+      let spelled : Spells false there body row r.bytes =
+      subst (λ (m : Moment). Spells false (record { kind = r.kind; id = r.id; name = r.name; attr = r.attr; moment = m }) body row r.bytes) (sym at)
+      (laws.plain (facts_of known r) body row r.bytes tells.told.1) in
+      inl (r.bytes, inl (body, sym (ap (λ (o : Option PlainBody). ok_or o (no_type mark there)) tells.declared), inl (row, fits there, spelled)), refl)
+
+  -- and that of a `resource` statement
+  row_step : (front : List Resource) (tokens : List Token) (r : Resource) (body : PlainBody) (row : List Tree) → IsWholeRow tokens r body row → TellsRow known r body row
+      → IsStored r → FitsFork r → list_any (λ b. same_key b r) front ≡ false → OneStep front tokens r
+  unfolding work
+  row_step front tokens r body row whole tells stored fits new =
+      let one = shown_compile r whole.name whole.items in
+      let facts = facts_again (mark_of tokens) setting r whole.name stored whole.whole_name fits.name in
+      let is : IsResource setting (mark_of tokens) known.types one (Ok r) = inl (_, sym facts, row_made (mark_of tokens) r body row whole.items tells whole.fits) in
+      inl (
+        Compiles one,
+        Parses.statement whole.within (IsStatement.resource_statement one whole.is refl),
+        (
+          Ok (front ++ r ∷ []),
+          changes setting.tool front (IsListBehind setting (mark_of tokens) known.types front one) (Ok (front ++ r ∷ [])) rez
+              (inl (r, is, sym (put_behind (mark_of tokens) front r new))),
+          refl,
+        ),
+      )
+
+  one_step : (front : List Resource) (tokens : List Token) (r : Resource) (showing : Showing) → IsShownBy known r showing → IsWholeOf tokens showing
+      → IsStored r → FitsFork r → length r.bytes ≤ 16777212 → list_any (λ b. same_key b r) front ≡ false → OneStep front tokens r
+  one_step front tokens r showing (its_row body row tells is) whole stored fits short new =
+      row_step front tokens r body row (subst (IsWholeOf tokens) is whole) tells stored fits new
+  one_step front tokens r showing (its_bytes none is) whole stored fits short new =
+      data_step front tokens r (subst (IsWholeOf tokens) is whole) stored fits short new
+
+record HasStatements (known : Known) (list : List Resource) (tokens : List Token) : Type 0 where
   statements : List (List Token)
   are : AreStatements tokens statements
-  mean : (setting : Setting) (types : List Declaration) (warnings : List Fault) (front : List Resource) → setting.tool ≡ tools.Rez → KeysDiffer front list
-      → Means setting (work types warnings front) statements (Ok (work types warnings (front ++ list)))
+  mean : (setting : Setting) (warnings : List Fault) (front : List Resource) → setting.tool ≡ tools.Rez → setting.moment ≡ known.moment → KeysDiffer front list
+      → Means setting (work known.types warnings front) statements (Ok (work known.types warnings (front ++ list)))
 
--- the step of one statement
-one_step : (setting : Setting) (types : List Declaration) (warnings : List Fault) (front : List Resource) (tokens : List Token) (raw : Raw) (r : Resource)
-    → setting.tool ≡ tools.Rez → IsWhole tokens raw → resource_of setting (mark_of tokens) raw ≡ Ok r → list_any (λ b. same_key b r) front ≡ false
-    → Steps setting (work types warnings front) tokens (Ok (work types warnings (front ++ r ∷ [])))
-unfolding work
-one_step setting types warnings front tokens raw r rez whole value new =
-    let behind : put_unless_protected (mark_of tokens) front r ≡ Ok (front ++ r ∷ []) = rw (new_name front r new, put_new front r new) refl in
-    inl (
-      Data raw,
-      Parses.statement whole.within (IsStatement.data_statement raw whole.is refl),
-      (
-        Ok (front ++ r ∷ []),
-        changes setting.tool front (λ list. list ≡ list_behind setting (mark_of tokens) front raw) (Ok (front ++ r ∷ [])) rez
-            (sym (ap (λ o. o >>= put_unless_protected (mark_of tokens) front) value ∙ behind)),
-        refl,
-      ),
-    )
+module _ (laws : Laws) (known : Known) where
+  -- each resource is one that a fork holds and rez takes
+  record IsFit (list : List Resource) : Type 0 where
+    stored : AllByRecursion IsStored list
+    fits : AllByRecursion FitsFork list
+    short : AreShort list
 
-has_statements : (list : List Resource) (tokens : List Token) → AreWhole tokens list → AllByRecursion (λ shape. is_shown shape ≡ true) (shapes_in tokens) → AllByRecursion IsStored list → AllByRecursion FitsFork list → AreShort list → HasStatements list tokens
-has_statements [] tokens whole words stored fits short = record {
-  statements = [];
-  are = whole;
-  mean = λ setting types warnings front rez differ. ap (λ (l : List Resource). Ok (work types warnings l)) (append-nil front);
-}
-has_statements (r ∷ rs) tokens whole words stored fits short =
-    let one = whole.3 in
-    let raw = shown_raw r one.name one.bytes in
-    let parts = all_apart (shapes_in whole.0) (shapes_in whole.1)
-    (subst (AllByRecursion (λ shape. is_shown shape ≡ true)) (ap shapes_in whole.2 ∙ shapes_both whole.0 whole.1) words) in
-    let behind = has_statements rs whole.1 whole.4 parts.1 stored.1 fits.1 short.1 in
-    record {
-      statements = whole.0 ∷ behind.statements;
-      are = (whole.1, whole.2, inl (one.is.statement, behind.are));
-      mean = λ setting types warnings front rez differ. inl (
-        work types warnings (front ++ r ∷ []),
-        subst (λ (ts : List Token). Steps setting (work types warnings front) ts (Ok (work types warnings (front ++ r ∷ [])))) (sym (numbered_same setting.tool whole.0 parts.0))
-            (one_step setting types warnings front whole.0 raw r rez one.is (resource_again (mark_of whole.0) setting r one.name one.bytes stored.0 one.whole_name one.whole_bytes fits.0.name short.0) differ.0),
-        subst (λ (l : List Resource). Means setting (work types warnings (front ++ r ∷ [])) behind.statements (Ok (work types warnings l))) (append_assoc front (r ∷ []) rs)
-            (behind.mean setting types warnings (front ++ r ∷ []) rez differ.1),
-      );
-    }
+  has_statements : (list : List Resource) (showings : List Showing) (tokens : List Token) → AreShownBy known list showings → AreWhole tokens showings
+      → AllByRecursion (Passes known.is_macro) (shapes_in tokens) → IsFit list → HasStatements known list tokens
+  has_statements [] [] tokens by whole words fit = record {
+    statements = [];
+    are = whole;
+    mean = λ setting warnings front rez at differ. ap (λ (l : List Resource). Ok (work known.types warnings l)) (append-nil front);
+  }
+  has_statements [] (showing ∷ showings) tokens by whole words fit = absurd by
+  has_statements (r ∷ rs) [] tokens by whole words fit = absurd by
+  has_statements (r ∷ rs) (showing ∷ showings) tokens by whole words fit =
+      let front_tokens : List Token = whole.0 in
+      let parts = all_apart known.is_macro (shapes_in whole.0) (shapes_in whole.1)
+      (subst (AllByRecursion (Passes known.is_macro)) (ap shapes_in whole.2 ∙ shapes_both whole.0 whole.1) words) in
+      let behind = has_statements rs showings whole.1 by.1 whole.4 parts.1 (record { stored = fit.stored.1; fits = fit.fits.1; short = fit.short.1 }) in
+      record {
+        statements = whole.0 ∷ behind.statements;
+        are = (whole.1, whole.2, inl (statement_of showing whole.0 whole.3, behind.are));
+        mean = λ setting warnings front rez at differ. inl (
+          work known.types warnings (front ++ r ∷ []),
+          subst (λ (ts : List Token). Steps setting (work known.types warnings front) ts (Ok (work known.types warnings (front ++ r ∷ []))))
+              (sym (numbered_same known.is_macro setting.tool whole.0 parts.0))
+              (one_step laws known setting warnings rez at front whole.0 r showing by.0 whole.3 fit.stored.0 fit.fits.0 fit.short.0 differ.0),
+          subst (λ (l : List Resource). Means setting (work known.types warnings (front ++ r ∷ [])) behind.statements (Ok (work known.types warnings l))) (append_assoc front (r ∷ []) rs)
+              (behind.mean setting warnings (front ++ r ∷ []) rez at differ.1),
+        );
+      }
+    where
+      statement_of : (showing : Showing) (tokens : List Token) → IsWholeOf tokens showing → Rattle.rz_brackets.specs.Statements.IsStatement tokens
+      statement_of (by_bytes resource) tokens whole = whole.is.statement
+      statement_of (by_row resource body row) tokens whole = whole.statement
 
-mean_resources : (list : List Resource) (tokens : List Token) → AreWhole tokens list → AllByRecursion (λ shape. is_shown shape ≡ true) (shapes_in tokens)
-    → AllByRecursion IsStored list → AllByRecursion FitsFork list → AreShort list → KeysDiffer [] list → MeanResources tokens list
-unfolding work
-mean_resources list tokens whole words stored fits short differ =
-    let all = has_statements list tokens whole words stored fits short in
-    (all.statements, all.are, λ setting types warnings rez. all.mean setting types warnings [] rez differ)
+  mean_resources : (list : List Resource) (showings : List Showing) (tokens : List Token) → AreShownBy known list showings → AreWhole tokens showings
+      → AllByRecursion (Passes known.is_macro) (shapes_in tokens) → IsFit list → KeysDiffer [] list → MeanResources known tokens list
+  unfolding work
+  mean_resources list showings tokens by whole words fit differ =
+      let all = has_statements list showings tokens by whole words fit in
+      (all.statements, all.are, λ setting warnings rez at. all.mean setting warnings [] rez at differ)
 
 -- The text.
+
+truth_spared : (is_macro : List ℕ → Bool) → SparesWords is_macro → SparesTruth is_macro
+truth_spared is_macro spares = record { of_true = spares.1.1.1.1.1.1.1.1.0; of_false = spares.1.1.1.1.1.1.1.1.1.0 }
 
 -- what a fork can hold is what a resource has
 stored_all : (list : List Resource) → AllByRecursion FitsFork list → AllByRecursion IsStored list
@@ -224,35 +363,37 @@ begins_mark : List ℕ → Bool
 begins_mark [] = false
 begins_mark (b ∷ bytes) = b == 239
 
-not_marked : (r : Resource) (rest utf8 : List ℕ) → resource_text r ++ rest ≢ mark ++ utf8
-unfolding statement_text data_head begins_mark
-not_marked r rest utf8 e = false≢true (ap begins_mark e)
+not_marked : (is_macro : List ℕ → Bool) (showing : Showing) (rest utf8 : List ℕ) → showing_text is_macro showing ++ rest ≢ mark ++ utf8
+unfolding statement_text row_statement head_text begins_mark
+not_marked is_macro (by_bytes resource) rest utf8 e = false≢true (ap begins_mark e)
+not_marked is_macro (by_row resource body row) rest utf8 e = false≢true (ap begins_mark e)
 
-unmarked : (list : List Resource) → IsUnmarked (list_text list)
-unmarked [] utf8 e = cc
-unmarked (r ∷ rs) utf8 e = not_marked r (list_text rs) utf8 e
+unmarked : (is_macro : List ℕ → Bool) (showings : List Showing) → IsUnmarked (showings_text is_macro showings)
+unmarked is_macro [] utf8 e = cc
+unmarked is_macro (showing ∷ showings) utf8 e = not_marked is_macro showing (showings_text is_macro showings) utf8 e
 
-pub means_again : ((list : List Resource) → AllByRecursion IsStored list → IsPrintedAs (list_text list) list)
-    → ((list : List Resource) (tokens : List Token) → AllByRecursion IsStored list → AreShown list (shapes_in tokens) → AreWhole tokens list)
-    → (list : List Resource) → AllByRecursion FitsFork list → AreShort list → KeysDiffer [] list → MeansAgain (list_text list) list
-means_again text_law statements_law list fits short differ = record {
-  read = λ files name paths before holds none.
+pub means_again : Laws → (known : Known) → SparesWords known.is_macro → (list : List Resource) (text : List ℕ) → ShowsEach known list text
+    → AllByRecursion FitsFork list → AreShort list → KeysDiffer [] list → MeansAgain known text list
+means_again laws known spares list text shows fits short differ = record {
+  read = λ files name paths before holds has.
+      let each = shown_each known list text shows in
+      let showings = each.0 in
       let stored = stored_all list fits in
-      let printed = text_law list stored in
+      let printed = laws.printed known.is_macro showings (truth_spared known.is_macro spares) (can_be_shown laws known list showings stored each.1) in
       let file = length before.files in
       let lines = printed.has.read file 1 in
       let tokens = tokens_of lines.0 printed.has.lines in
       let shapes_are : shapes_in tokens ≡ printed.tokens = shapes_of_lines lines.0 printed.has.lines lines.2 ∙ sym printed.has.are in
       let opened : State = record { live = before.live; tokens = before.tokens; files = before.files ++ name ∷ [] } in
-      let bare = bare_lines before.live none printed.has.lines (subst (AllByRecursion (λ shape. is_shown shape ≡ true)) printed.has.are printed.words) in
-      let found : file_of files (name ∷ []) ≡ Some (name, list_text list) = rw holds refl in (
+      let bare = bare_lines known.is_macro spares before.live has printed.has.lines (subst (AllByRecursion (Passes known.is_macro)) printed.has.are printed.words) in
+      let found_there : file_of files (name ∷ []) ≡ Some (name, showings_text known.is_macro showings) = rw (holds ∙ ap (λ (t : List ℕ). Some t) each.2) refl in (
         tokens,
         inl (
-          (list_text list, opened),
-          rw found (inl (list_text list, IsTextOf.unmarked (unmarked list) refl, refl)),
+          (showings_text known.is_macro showings, opened),
+          rw found_there (inl (showings_text known.is_macro showings, IsTextOf.unmarked (unmarked known.is_macro showings) refl, refl)),
           (lines.0, None, lines.1, lines_go (IncludedGoes tools.Rez files paths levels_below) tools.Rez lines.0 printed.has.lines opened lines.2 bare),
         ),
-        mean_resources list tokens (statements_law list tokens stored (subst (AreShown list) (sym shapes_are) printed.shown))
-            (subst (AllByRecursion (λ shape. is_shown shape ≡ true)) (sym shapes_are) printed.words) stored fits short differ,
+        mean_resources laws known list showings tokens each.1 (printed.statements tokens shapes_are)
+            (subst (AllByRecursion (Passes known.is_macro)) (sym shapes_are) printed.words) (record { stored = stored; fits = fits; short = short }) differ,
       );
 }

@@ -1,5 +1,7 @@
 -- The text that is shown of resources, as the one source of rez.
-use Rattle.std.proofs.Common.{◌≡◌, inl, ℕ, List, [], ◌∷◌, Some, Ok, refl, sym, subst}
+use Rattle.std.proofs.Common.{◌≡◌, inl, ℕ, List, [], ◌∷◌, Option, Some, None, Ok, refl, sym, ap, subst, ◌∙◌}
+use Rattle.std.specs.Prelude.{is_some, option_map}
+use Rattle.std.specs.Str.{str_to_ascii_lowercase}
 use Rattle.std.specs.FinMap as finite
 use Rattle.rz_core.specs.declared.moment.Moment.{Moment}
 use Rattle.rz_core.specs.declared.resource.Resource.{Resource}
@@ -7,35 +9,65 @@ use Rattle.rz_folder.specs.Folder.{Files}
 use Rattle.rz_pre.specs.Program.{NamesGo, State, start}
 use Rattle.rz_pre.specs.declared.condition.Tool.TheVariants as tools
 use Rattle.rz_words.specs.Command.{IsCommand, Rez, RezAsked}
-use Rattle.rz_tools.specs.Again.{MeansAgain, NoneIsLive}
+use Rattle.rz_tools.specs.Again.{MeansAgain}
+use Rattle.rz_tools.specs.DeRez.{ShowsEach}
+use Rattle.rz_tools.specs.Shown.{its_bytes, its_row, Known, TellsRow}
+use Rattle.rz_show.specs.Showing.{by_bytes, showing_text}
+use Rattle.rz_pre.specs.Live.{Live}
+use Rattle.rz_fields.specs.declared.tree.Tree.{Tree}
+use Rattle.rz_types.specs.Field.{PlainBody}
+use Rattle.rz_types.specs.Table.{found, Declaration}
 use Rattle.rz_tools.specs.Answer.{or_refused, written}
 use Rattle.rz_tools.specs.Program.{command, Answers}
 use Rattle.rz_tools.specs.Rez.{list_fork, setting_of, Compiles}
 use Rattle.rz_tools.specs.Sources.{compiled, said_beside}
 use Rattle.rz_tools.specs.Step.{Work}
 
-module _ (text : List ℕ) (list : List Resource) (again : MeansAgain text list) (asked : RezAsked) (files : Files) (moment : Moment) (name : List ℕ)
-    (none : NoneIsLive (start asked.defs).live) (held : finite.get files name ≡ Some text) where
+-- what is known where no types are declared and these are the macros
+abbrev pub bare_known : Live → Moment → Known
+bare_known live moment = record { types = []; is_macro = λ name. is_some (live (str_to_ascii_lowercase name)); moment = moment }
+
+-- where no types are declared no row is told, whatever the macros and the moment are
+no_row : (known : Known) (r : Resource) (body : PlainBody) (row : List Tree) → known.types ≡ [] → TellsRow known r body row → ⊥
+no_row known r body row none tells =
+    nothing_is body (sym (ap (λ (types : List Declaration). option_map (λ one. one.template) (found r.kind r.id types)) none) ∙ tells.declared)
+  where
+    nothing_is : (body : PlainBody) → ◌≡◌ {A = Option PlainBody} None (Some body) → ⊥
+    nothing_is body is = cc
+
+pub none_declared : (known other : Known) → known.types ≡ [] → other.types ≡ [] → (list : List Resource) (text : List ℕ) → ShowsEach known list text → ShowsEach other list text
+none_declared known other none too [] text shows = shows
+none_declared known other none too (r ∷ rs) text (front, behind, eq, (showing, its_row body row tells is, so), shows) = absurd (no_row known r body row none tells)
+none_declared known other none too (r ∷ rs) text (front, behind, eq, (showing, its_bytes none_tells is, so), shows) = (
+  front,
+  behind,
+  eq,
+  (by_bytes r, its_bytes (λ body row tells. no_row other r body row too tells) refl, so ∙ ap (showing_text known.is_macro) is),
+  none_declared known other none too rs behind shows,
+)
+
+module _ (text : List ℕ) (list : List Resource) (asked : RezAsked) (files : Files) (moment : Moment) (name : List ℕ)
+    (again : MeansAgain (bare_known (start asked.defs).live moment) text list) (held : finite.get files name ≡ Some text) where
   after : State
-  after = record { live = (start asked.defs).live; tokens = (again.read files name asked.paths (start asked.defs) held none).0; files = name ∷ [] }
+  after = record { live = (start asked.defs).live; tokens = (again.read files name asked.paths (start asked.defs) held (λ word. refl)).0; files = name ∷ [] }
 
   work : Work
   work = record { types = []; list = list; warnings = [] }
 
   goes : NamesGo tools.Rez files asked.paths (name ∷ []) (start asked.defs)
-      (Ok (record { live = (start asked.defs).live; tokens = (again.read files name asked.paths (start asked.defs) held none).0; files = name ∷ [] }))
-  goes = inl (_, (again.read files name asked.paths (start asked.defs) held none).1, refl)
+      (Ok (record { live = (start asked.defs).live; tokens = (again.read files name asked.paths (start asked.defs) held (λ word. refl)).0; files = name ∷ [] }))
+  goes = inl (_, (again.read files name asked.paths (start asked.defs) held (λ word. refl)).1, refl)
 
   compiles : asked.files ≡ name ∷ [] → Compiles (setting_of moment asked) asked files (said_beside (name ∷ []) [] (list_fork list))
   unfolding after work
   compiles sole =
-      let read = again.read files name asked.paths (start asked.defs) held none in
+      let read = again.read files name asked.paths (start asked.defs) held (λ word. refl) in
       inl (
         compiled after work,
         inl (
           after,
           subst (λ (names : List (List ℕ)). NamesGo tools.Rez files asked.paths names (start asked.defs) (Ok after)) (sym sole) goes,
-          (read.2.0, read.2.1, (work, read.2.2 (setting_of moment asked) [] [] refl, refl)),
+          (read.2.0, read.2.1, (work, read.2.2 (setting_of moment asked) [] refl refl, refl)),
         ),
         (list_fork list, refl, refl),
       )

@@ -20,3 +20,6 @@ pub mod Running
 pub mod Reserved
 pub mod CompiledAgain
 pub mod Complete
+pub mod Named
+pub mod Spared
+pub mod Rows

@@ -5,12 +5,10 @@ use Rattle.std.specs.List.{list_any, AllByRecursion}
 use Rattle.std.specs.declared.result.Result.{Result}
 use Rattle.std.proofs.lemmas.Bool.{or_parts}
 use Rattle.std.proofs.lemmas.List.{drop_more}
-use Rattle.std.proofs.lemmas.List.Concat.{flat_map-cons}
 use Rattle.rz_core.specs.Resources.{same_key, KeysDiffer}
 use Rattle.rz_core.specs.declared.resource.OsType.{OsType}
 use Rattle.rz_core.specs.declared.resource.Resource.{Resource}
 use Rattle.rz_core.specs.declared.stop.NoMemory.{NoMemory}
-use Rattle.rz_show.specs.Data.{list_text, resource_text}
 use Rattle.rz_tools.specs.Chosen.{chosen, is_chosen}
 use Rattle.rz_tools.specs.DeRez.{ShowsEach}
 use Rattle.rz_tools.specs.Shown.{Known, Shown}
@@ -62,12 +60,6 @@ drop_past [] zero past = refl
 drop_past [] (suc i) past = refl
 drop_past (r ∷ items) zero past = absurd (omega (arith, past))
 drop_past (r ∷ items) (suc i) past = drop_past items i (omega (arith, past))
-
--- a text of resources is that of their `data` statements
-pub text_of_each : (known : Known) (list : List Resource) (text : List ℕ) → ShowsEach known list text → text ≡ list_text list
-text_of_each known [] text shows = shows
-text_of_each known (r ∷ rs) text (front, behind, eq, shown, shows) =
-    eq ∙ (λ i. shown i ++ text_of_each known rs behind shows i) ∙ sym (flat_map-cons resource_text r rs)
 
 module _ (known : Known) (only skip : List OsType) where
   -- nothing is shown before the first

@@ -1,5 +1,5 @@
 -- Words have one answer at most.
-use Rattle.std.proofs.Common.{◌≡◌, ℕ, List, [], ◌∷◌, ◌++◌, map, Option, Some, None, Ok, Err, sym, ap, subst, ◌∙◌}
+use Rattle.std.proofs.Common.{◌≡◌, ℕ, true, List, [], ◌∷◌, ◌++◌, map, Option, Some, None, Ok, Err, sym, ap, subst, ◌∙◌}
 use Rattle.std.specs.FinMap as finite
 use Rattle.std.specs.declared.result.Result.{Result}
 use Rattle.rz_core.specs.declared.facts.Facts.{Facts}
@@ -23,7 +23,8 @@ use Rattle.rz_fork.specs.declared.fault.ForkFault.{ForkFault}
 use Rattle.rz_tools.specs.Chosen.{chosen}
 use Rattle.rz_tools.specs.DeRez.{derez_setting, known_by, HasFileText, HasForkText, HasText, Shows, ShowsEach, TypesAre}
 use Rattle.rz_tools.specs.Rez.{list_fork, setting_of, Compiles, HasFork}
-use Rattle.rz_tools.specs.Shown.{Known, Shown}
+use Rattle.rz_tools.specs.Shown.{facts_of, its_bytes, its_row, IsShownBy, Known, Shown, TellsRow}
+use Rattle.rz_show.specs.Showing.{by_row, showing_text, Showing}
 use Rattle.rz_tools.specs.Sources.{compiled, said_beside, AreCompiled, Compiled, HasWork, InProgram, SaidBeside, Unsaid}
 use Rattle.rz_tools.specs.Warning.{warning_lines}
 use Rattle.rz_tools.specs.Step.{declared, list_behind, nothing_made, with_list, Changes, IsBehind, IsListBehind, Means, Steps, WarnedFault, WithWarnings, Work}
@@ -37,6 +38,10 @@ use Rattle.rz_match.specs.Match.{IsMatch}
 use Rattle.rz_fields.specs.declared.tree.Tree.{Tree}
 use Rattle.rz_types.specs.Field.{PlainBody}
 use Rattle.rz_types.specs.Laid.{Refusal}
+use Rattle.rz_types.specs.Readable.{is_readable}
+use Rattle.rz_types.specs.Rules.{keeps_rules}
+use Rattle.rz_types.specs.Shape.{is_well_shaped}
+use Rattle.rz_types.specs.Spells.{Spells}
 use Rattle.rz_tools.proofs.Resources.{once_list}
 use Rattle.rz_core.proofs.Once.{err, ok, ok_or_err, once_is, once_then, same_err, same_ok, Once}
 
@@ -86,22 +91,46 @@ once_changes tools.DeRez list answers once = once_is (Ok list)
 
 -- The text of a fork.
 
-one_shown : (known : Known) (r : Resource) (text others : List ℕ) → Shown known r text → Shown known r others → text ≡ others
-one_shown known r text others is also = is ∙ sym also
+abbrev pub OnePlainRow : Type 0
+OnePlainRow =
+    (known : Facts) (body : PlainBody) (row other : List Tree) (bytes : List ℕ) → is_well_shaped body ≡ true → keeps_rules body ≡ true
+    → is_readable body ≡ true → Spells true known body row bytes → Spells true known body other bytes → row ≡ other
 
-one_text : (known : Known) (list : List Resource) (text others : List ℕ) → ShowsEach known list text → ShowsEach known list others → text ≡ others
-one_text known [] text others is also = is ∙ sym also
-one_text known (r ∷ rs) text others (f, b, eq, shown, shows) (g, c, eq_too, shown_too, shows_too) =
-    eq ∙ (λ i. one_shown known r f g shown shown_too i ++ one_text known rs b c shows shows_too i) ∙ sym eq_too
+same_body : (body other : PlainBody) → ◌≡◌ {A = Option PlainBody} (Some body) (Some other) → body ≡ other
+same_body body other is = cc
 
-once_fork_text : (known : Known) (asked : DeRezAsked) (fork : Result Fork ForkFault) → Once (HasForkText known asked fork)
-once_fork_text known asked (Ok fork) a b is also =
-    is.2 ∙ ap ok (one_text known (chosen asked.only asked.skip fork.list) is.0 also.0 is.1 also.1) ∙ sym also.2
-once_fork_text known asked (Err fault) a b is also = is ∙ sym also
+-- one row is told, of one body of fields
+one_row : OnePlainRow → (known : Known) (r : Resource) (body other : PlainBody) (row others : List Tree) → body ≡ other → TellsRow known r body row → TellsRow known r other others
+    → by_row r body row ≡ by_row r other others
+one_row rows known r body other row others same tells also =
+    let there = subst (λ (b : PlainBody). TellsRow known r b others) (sym same) also in
+    (λ i. by_row r body (rows (facts_of known r) body row others r.bytes tells.shaped tells.kept tells.told.0 tells.told.1 there.told.1 i))
+    ∙ (λ i. by_row r (same i) others)
 
-once_file_text : (known : Known) (asked : DeRezAsked) (entry : Option (List ℕ)) → Once (HasFileText known asked entry)
-once_file_text known asked None = once_is (Err (missing_file None asked.file))
-once_file_text known asked (Some bytes) = once_fork_text known asked (admitted bytes)
+one_showing : OnePlainRow → (known : Known) (r : Resource) (showing other : Showing) → IsShownBy known r showing → IsShownBy known r other → showing ≡ other
+one_showing rows known r showing other (its_row body row tells is) (its_row another others also so) =
+    is ∙ one_row rows known r body another row others (same_body body another (sym tells.declared ∙ also.declared)) tells also ∙ sym so
+one_showing rows known r showing other (its_row body row tells is) (its_bytes none so) = absurd (none body row tells)
+one_showing rows known r showing other (its_bytes none is) (its_row body row tells so) = absurd (none body row tells)
+one_showing rows known r showing other (its_bytes none is) (its_bytes nothing so) = is ∙ sym so
+
+one_shown : OnePlainRow → (known : Known) (r : Resource) (text others : List ℕ) → Shown known r text → Shown known r others → text ≡ others
+one_shown rows known r text others (showing, by, is) (other, also, so) =
+    is ∙ ap (showing_text known.is_macro) (one_showing rows known r showing other by also) ∙ sym so
+
+one_text : OnePlainRow → (known : Known) (list : List Resource) (text others : List ℕ) → ShowsEach known list text → ShowsEach known list others → text ≡ others
+one_text rows known [] text others is also = is ∙ sym also
+one_text rows known (r ∷ rs) text others (f, b, eq, shown, shows) (g, c, eq_too, shown_too, shows_too) =
+    eq ∙ (λ i. one_shown rows known r f g shown shown_too i ++ one_text rows known rs b c shows shows_too i) ∙ sym eq_too
+
+once_fork_text : OnePlainRow → (known : Known) (asked : DeRezAsked) (fork : Result Fork ForkFault) → Once (HasForkText known asked fork)
+once_fork_text rows known asked (Ok fork) a b is also =
+    is.2 ∙ ap ok (one_text rows known (chosen asked.only asked.skip fork.list) is.0 also.0 is.1 also.1) ∙ sym also.2
+once_fork_text rows known asked (Err fault) a b is also = is ∙ sym also
+
+once_file_text : OnePlainRow → (known : Known) (asked : DeRezAsked) (entry : Option (List ℕ)) → Once (HasFileText known asked entry)
+once_file_text rows known asked None = once_is (Err (missing_file None asked.file))
+once_file_text rows known asked (Some bytes) = once_fork_text rows known asked (admitted bytes)
 
 once_unsaid : {X : Type 0} (answers : Result X Failure → Type 0) → Once answers → Once (Unsaid answers)
 once_unsaid answers once (Ok a) (Ok b) is also = ap ok (same_ok {F = Failure} a b (once (Ok a) (Ok b) is also))
@@ -122,7 +151,7 @@ abbrev pub OneSpelling : Type 0
 OneSpelling = (known : Facts) (body : PlainBody) (row : List Tree) (answer another : Result (List ℕ) Refusal)
     → IsCompiled known body row answer → IsCompiled known body row another → answer ≡ another
 
-module _ (cutting : OneCutting) (statement_law : OneStatement) (matching : OneMatch) (spelling : OneSpelling) where
+module _ (cutting : OneCutting) (statement_law : OneStatement) (matching : OneMatch) (spelling : OneSpelling) (rows : OnePlainRow) where
   once_behind : (setting : Setting) (mark : Mark) (work : Work) (statement : Statement) → Once (IsBehind setting mark work statement)
   once_behind setting mark work Empty = once_is (Ok work)
   once_behind setting mark work (Data raw) = λ a b is also.
@@ -167,7 +196,7 @@ module _ (cutting : OneCutting) (statement_law : OneStatement) (matching : OneMa
     once_shows moment asked files =
         once_then (TypesAre moment asked files) (HasText moment asked files) (once_compiled (derez_setting moment asked) asked.files asked.paths asked.defs files)
         (λ made. once_beside made (HasFileText (known_by moment made) asked (finite.get files asked.file))
-        (once_file_text (known_by moment made) asked (finite.get files asked.file)))
+        (once_file_text rows (known_by moment made) asked (finite.get files asked.file)))
 
     one_to : (asked : Asked) (files : Files) (moment : Moment) (a b : Answer) → AnswersTo asked files moment a → AnswersTo asked files moment b → a ≡ b
     one_to (Rez asked) files moment a b is also =

@@ -1,11 +1,10 @@
--- Words that are shown are reserved, so no definition of the words of a command makes one of them a macro.
-use Rattle.std.proofs.Common.{◌≡◌, ◌↔◌, ℕ, Bool, true, false, if◌then◌else◌, List, [], ◌∷◌, Option, Some, None, refl, sym, ap, subst, ◌∙◌}
-use Rattle.std.specs.Prelude.{◌==◌, codes, option_map}
+-- Words that are shown are reserved, so none of them is live behind a program.
+use Rattle.std.proofs.Common.{◌≡◌, ◌↔◌, ◌⊎◌, inl, inr, ℕ, Bool, true, false, if◌then◌else◌, List, [], ◌∷◌, Option, Some, None, refl, sym, ap, subst, ◌∙◌}
+use Rattle.std.specs.Prelude.{◌==◌, ◌||◌, codes, is_some}
 use Rattle.std.specs.Char.{to_ascii_lowercase}
 use Rattle.std.specs.List.{AllByRecursion}
 use Rattle.std.specs.Str.{bytes_eq, str_eq_ignore_ascii_case, str_to_ascii_lowercase}
 use Rattle.std.proofs.lemmas.Bool.{eqb-true, false≢true}
-use Rattle.std.proofs.lemmas.Slice.Eq.{bytes_eq-Decides}
 use Rattle.rz_expr.specs.Attribute.{attribute_word, bit_of, said_by, IsSaid}
 use Rattle.rz_expr.specs.Keyword.{keyword_of, spelling}
 use Rattle.rz_expr.specs.Words.{dollar_role, is_label, is_other_name, keyword_role, plain_role, role_of}
@@ -15,13 +14,10 @@ use Rattle.rz_expr.specs.declared.attribute.AttributeWord.{AttributeWord}
 use Rattle.rz_expr.specs.declared.keyword.Keyword.{Keyword}
 use Rattle.rz_expr.specs.declared.keyword.Keyword.TheVariants as keywords
 use Rattle.rz_expr.specs.declared.words.Role.TheVariants.{OtherName}
-use Rattle.rz_lex.specs.declared.token.Shape.{Shape}
-use Rattle.rz_pre.specs.Live.{put, shapes_of, Live}
-use Rattle.rz_pre.specs.Program.{live_after, nothing_live}
-use Rattle.rz_pre.specs.declared.program.Def.{Def}
+use Rattle.rz_pre.specs.Definitions.{IsFree, IsFreeName}
+use Rattle.rz_pre.specs.Live.{Live}
 use Rattle.rz_show.specs.Statement.{shown_words}
-use Rattle.rz_tools.specs.Again.{NoneIsLive}
-use Rattle.rz_words.specs.Definition.{AreFree}
+use Rattle.rz_tools.specs.Again.{SparesWords}
 
 -- The laws of the tables of words.
 
@@ -61,6 +57,11 @@ module _ (keywords_law : KeywordsAreSpelled) (attributes_law : AttributesAreSpel
       no_keyword word keywords.Data ((keywords_law word keywords.Data).1 (ap (λ (x : List ℕ). bytes_eq x (codes "data")) is))
       (plain_label word 100 _ is (λ e. cc) label)
 
+  not_resource : str_to_ascii_lowercase word ≡ codes "resource" → ⊥
+  not_resource is =
+      no_keyword word keywords.Resource ((keywords_law word keywords.Resource).1 (ap (λ (x : List ℕ). bytes_eq x (codes "resource")) is))
+      (plain_label word 114 _ is (λ e. cc) label)
+
   not_said : (attribute : Attribute) (first : ℕ) (rest : List ℕ) → said_by attribute true ≡ first ∷ rest → (36 ≡ first → ⊥)
       → bytes_eq (first ∷ rest) (str_to_ascii_lowercase (said_by attribute true)) ≡ true → str_to_ascii_lowercase word ≡ first ∷ rest → ⊥
   not_said attribute first rest spelled other same is =
@@ -69,55 +70,67 @@ module _ (keywords_law : KeywordsAreSpelled) (attributes_law : AttributesAreSpel
       (attribute, true, ap (λ (x : List ℕ). bytes_eq x (str_to_ascii_lowercase (said_by attribute true))) is ∙ same, refl))
       (plain_label word first rest is other label)
 
+  -- `true` and `false` aren't free either
+  not_truth : (truth : List ℕ) (first : ℕ) (rest : List ℕ) → truth ≡ first ∷ rest → (36 ≡ first → ⊥) → is_other_name word ≡ true → str_to_ascii_lowercase word ≡ truth → ⊥
+  not_truth truth first rest spelled other named is =
+      false≢true (sym (ap (λ (test : Bool). is_label (if test then OtherName else keyword_role (keyword_of word))) named) ∙ plain_label word first rest (is ∙ spelled) other label)
+
+  other_or : (first second third : Bool) → (second ≡ true) ⊎ (third ≡ true) → (first || second || third) ≡ true
+  other_or true second third is = refl
+  other_or false true third is = refl
+  other_or false false third (inl is) = absurd (false≢true is)
+  other_or false false third (inr is) = is
+
+  not_true : str_to_ascii_lowercase word ≡ codes "true" → ⊥
+  not_true is =
+      not_truth (codes "true") 116 _ refl (λ e. cc) (other_or (is_some (attribute_word word)) _ _ (inl (ap (λ (x : List ℕ). bytes_eq x (codes "true")) is))) is
+
+  not_false : str_to_ascii_lowercase word ≡ codes "false" → ⊥
+  not_false is =
+      not_truth (codes "false") 102 _ refl (λ e. cc) (other_or (is_some (attribute_word word)) _ _ (inr (ap (λ (x : List ℕ). bytes_eq x (codes "false")) is))) is
+
   pub not_shown : AllByRecursion (λ shown. str_to_ascii_lowercase word ≡ shown → ⊥) shown_words
   not_shown = (
     not_data,
     (
-      not_said SystemHeap 115 _ refl (λ e. cc) refl,
+      not_resource,
       (
-        not_said Purgeable 112 _ refl (λ e. cc) refl,
+        not_said SystemHeap 115 _ refl (λ e. cc) refl,
         (
-          not_said Locked 108 _ refl (λ e. cc) refl,
+          not_said Purgeable 112 _ refl (λ e. cc) refl,
           (
-            not_said Protected 112 _ refl (λ e. cc) refl,
-            (not_said Preload 112 _ refl (λ e. cc) refl, (not_said Changed 99 _ refl (λ e. cc) refl, tt)),
+            not_said Locked 108 _ refl (λ e. cc) refl,
+            (
+              not_said Protected 112 _ refl (λ e. cc) refl,
+              (not_said Preload 112 _ refl (λ e. cc) refl, (not_said Changed 99 _ refl (λ e. cc) refl, (not_true, (not_false, tt)))),
+            ),
           ),
         ),
       ),
     ),
   )
 
--- What definitions make live.
+-- What is live.
 
-module _ (shown : List ℕ) where
-  put_other : (word : List ℕ) (live : Live) → (str_to_ascii_lowercase word ≡ shown → ⊥) → (body : Option (List Shape)) → live shown ≡ None
-      → put (str_to_ascii_lowercase word) body live shown ≡ None
-  put_other word live other body none = by (bytes_eq shown (str_to_ascii_lowercase word)) refl
+module _ (live : Live) (free : (name : List ℕ) → (live name ≡ None) ⊎ IsFreeName name) where
+  spared : (name : List ℕ) → ((word : List ℕ) → IsFree word → str_to_ascii_lowercase word ≡ name → ⊥) → is_some (live name) ≡ false
+  spared name not = by (free name)
     where
-      by : (test : Bool) → bytes_eq shown (str_to_ascii_lowercase word) ≡ test → (if test then body else live shown) ≡ None
-      by true is = absurd (other (sym ((bytes_eq-Decides shown (str_to_ascii_lowercase word)).0 is)))
-      by false is = none
+      by : (live name ≡ None) ⊎ IsFreeName name → is_some (live name) ≡ false
+      by (inl none) = ap is_some none
+      by (inr (word, same, label)) = absurd (not word label same)
 
-  none_after : (defs : List Def) → AllByRecursion (λ (def : Def). str_to_ascii_lowercase def.name.bytes ≡ shown → ⊥) defs → (live : Live) → live shown ≡ None
-      → live_after defs live shown ≡ None
-  none_after [] others live none = none
-  none_after (def ∷ defs) others live none =
-      none_after defs others.1 (put (str_to_ascii_lowercase def.name.bytes) (option_map shapes_of def.text) live)
-      (put_other def.name.bytes live others.0 (option_map shapes_of def.text) none)
-
-module _ (keywords_law : KeywordsAreSpelled) (attributes_law : AttributesAreSpelled) where
-  others : (words : List (List ℕ)) → ((def : Def) → is_label (role_of def.name.bytes) ≡ true → AllByRecursion (λ shown. str_to_ascii_lowercase def.name.bytes ≡ shown → ⊥) words)
-      → (defs : List Def) → AreFree defs → AllByRecursion (λ shown. live_after defs nothing_live shown ≡ None) words
-  others [] not defs free = tt
-  others (shown ∷ words) not defs free = (
-    none_after shown defs (each shown (λ def label. (not def label).0) defs free) nothing_live refl,
-    others words (λ def label. (not def label).1) defs free,
+  -- each of these words, which are in lower case
+  spared_each : (words : List (List ℕ)) → AllByRecursion (λ name. str_to_ascii_lowercase name ≡ name) words
+      → ((word : List ℕ) → IsFree word → AllByRecursion (λ name. str_to_ascii_lowercase word ≡ name → ⊥) words)
+      → AllByRecursion (λ name. is_some (live (str_to_ascii_lowercase name)) ≡ false) words
+  spared_each [] lower not = tt
+  spared_each (name ∷ names) lower not = (
+    ap (λ (n : List ℕ). is_some (live n)) lower.0 ∙ spared name (λ word label. (not word label).0),
+    spared_each names lower.1 (λ word label. (not word label).1),
   )
-    where
-      each : (shown : List ℕ) → ((def : Def) → is_label (role_of def.name.bytes) ≡ true → str_to_ascii_lowercase def.name.bytes ≡ shown → ⊥)
-          → (defs : List Def) → AreFree defs → AllByRecursion (λ (def : Def). str_to_ascii_lowercase def.name.bytes ≡ shown → ⊥) defs
-      each shown not [] free = tt
-      each shown not (def ∷ defs) free = (not def free.0, each shown not defs free.1)
 
-  pub none_is_live : (defs : List Def) → AreFree defs → NoneIsLive (live_after defs nothing_live)
-  none_is_live defs free = others shown_words (λ def label. not_shown keywords_law attributes_law def.name.bytes label) defs free
+  pub words_spared : KeywordsAreSpelled → AttributesAreSpelled → SparesWords (λ name. is_some (live (str_to_ascii_lowercase name)))
+  words_spared keywords_law attributes_law =
+      spared_each shown_words (refl, (refl, (refl, (refl, (refl, (refl, (refl, (refl, (refl, (refl, tt))))))))))
+      (λ word label. not_shown keywords_law attributes_law word label)

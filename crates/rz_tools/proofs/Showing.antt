@@ -53,6 +53,14 @@ module _ (moment : Moment) (asked : DeRezAsked) (compiled : Compiled) (name : Li
       (meets_so (λ answer. answer ≡ Err (missing_file None name)) (HasFileText (known_by moment compiled) asked None)
       (λ answer is. is ∙ ap (λ (n : List ℕ). Err (missing_file None n)) named) output meets)
 
+-- the files and the warnings of what was compiled
+pub said_so : (compiled : Compiled) (files : List (List ℕ)) (warnings : List Fault) → compiled.files ≡ files → compiled.work.warnings ≡ warnings
+    → (output : Result (List ℕ) (Stop Fault)) (result : Result Made Stopped) → SaysBeside files warnings output result
+    → SaysBeside compiled.files compiled.work.warnings output result
+said_so compiled files warnings same_files same_warnings output result says =
+    subst (λ (fs : List (List ℕ)). SaysBeside fs compiled.work.warnings output result) (sym same_files)
+    (subst (λ (ws : List Fault). SaysBeside files ws output result) (sym same_warnings) says)
+
 -- The text of a fork.
 
 module _ (known : Known) (asked : DeRezAsked) (answer : Result Fork ForkFault) where

@@ -1,5 +1,5 @@
 -- What derez answers for a fork means again the resources that are shown.
-use Rattle.std.proofs.Common.{◌≡◌, ◌++◌, inl, inr, ℕ, List, [], Option, Some, None, Ok, Err, sym, ap, subst, ◌∙◌}
+use Rattle.std.proofs.Common.{◌≡◌, ◌++◌, inl, inr, ℕ, List, Option, Some, None, Ok, Err, sym, ap, subst, ◌∙◌}
 use Rattle.std.specs.Prelude.{IfSome}
 use Rattle.std.specs.FinMap as finite
 use Rattle.std.specs.declared.result.Result.{Result}
@@ -11,10 +11,14 @@ use Rattle.rz_fork.specs.Admit.{admitted}
 use Rattle.rz_fork.specs.Contents.{Fork}
 use Rattle.rz_fork.specs.declared.fault.ForkFault.{ForkFault}
 use Rattle.rz_words.specs.Command.{Asked, DeRez, DeRezAsked, IsCommand}
-use Rattle.rz_tools.specs.Again.{AreShort, IsFile, MeansAgain, ShowsAgain}
+use Rattle.rz_tools.specs.Again.{AreShort, IsFile, MeansAgain, ShowsAgain, SparesWords}
 use Rattle.rz_tools.specs.Answer.{Answer, Failing, Making}
 use Rattle.rz_tools.specs.Chosen.{chosen}
-use Rattle.rz_tools.specs.DeRez.{known_by, AnswersDeRez, HasFileText, HasForkText, ShowsEach}
+use Rattle.rz_tools.specs.DeRez.{derez_setting, known_by, AnswersDeRez, HasFileText, HasForkText, ShowsEach, TypesAre}
+use Rattle.rz_tools.specs.Sources.{AreCompiled, Compiled}
+use Rattle.rz_tools.specs.declared.setting.Setting.{Setting}
+use Rattle.rz_pre.specs.Definitions.{AreFree}
+use Rattle.rz_pre.specs.declared.program.Def.{Def}
 use Rattle.rz_tools.specs.Program.{command, misplaced, Answers, AnswersTo, CarriesOut}
 use Rattle.rz_tools.specs.Shown.{Known}
 use Rattle.rz_tools.specs.World.{World}
@@ -26,7 +30,13 @@ use Rattle.rz_tools.proofs.OneAnswer.{OneCommand}
 abbrev pub ForksAreReadAgain : Type 0
 ForksAreReadAgain =
     (bytes : List ℕ) → IsFile bytes → (fork : Fork) → admitted bytes ≡ Ok fork → (only skip : List OsType) → AreShort (chosen only skip fork.list)
-    → (known : Known) (text : List ℕ) → ShowsEach known (chosen only skip fork.list) text → MeansAgain text (chosen only skip fork.list)
+    → (known : Known) → SparesWords known.is_macro → (text : List ℕ) → ShowsEach known (chosen only skip fork.list) text → MeansAgain known text (chosen only skip fork.list)
+
+-- the law of the macros behind type files
+abbrev pub WordsAreSpared : Type 0
+WordsAreSpared =
+    (setting : Setting) (names paths : List (List ℕ)) (defs : List Def) (files : Files) (compiled : Compiled) → AreFree defs
+    → AreCompiled setting names paths defs files (Ok compiled) → SparesWords compiled.is_macro
 
 of_asked : (commands : OneCommand) (words : List (List ℕ)) (asked : Asked) → IsCommand words asked → (files : Files) (moment : Moment) (wanted : Answer)
     → Answers words files moment wanted → AnswersTo asked files moment wanted
@@ -57,13 +67,14 @@ text_in_file known asked entry bytes fork text held admits has =
     subst (λ (t : List ℕ). ShowsEach known (chosen asked.only asked.skip fork.list) t) (sym (same_text text so.0 so.2)) so.1
 
 text_of_answer : (moment : Moment) (asked : DeRezAsked) (files : Files) (bytes : List ℕ) (fork : Fork) (wanted : Answer) → AnswersDeRez asked files moment wanted → wanted.outcome ≡ Done
-    → finite.get files asked.file ≡ Some bytes → admitted bytes ≡ Ok fork → (known : Known) × ShowsEach known (chosen asked.only asked.skip fork.list) wanted.out
+    → finite.get files asked.file ≡ Some bytes → admitted bytes ≡ Ok fork → (compiled : Compiled) × TypesAre moment asked files (Ok compiled) × ShowsEach (known_by moment compiled) (chosen asked.only asked.skip fork.list) wanted.out
 text_of_answer moment asked files bytes fork wanted (Err failing, makes, is) done held admits =
     absurd (not_refused failing.fault (sym (ap (λ (a : Answer). a.outcome) is) ∙ done))
 text_of_answer moment asked files bytes fork wanted (Ok making, inr (failing, first, same), is) done held admits = absurd (made_or_not making failing same)
 text_of_answer moment asked files bytes fork wanted (Ok making, inl (compiled, types, (Err fault, has, same)), is) done held admits = absurd (made_or_not making _ same)
 text_of_answer moment asked files bytes fork wanted (Ok making, inl (compiled, types, (Ok text, has, same)), is) done held admits = (
-  known_by moment compiled,
+  compiled,
+  types,
   subst (λ (t : List ℕ). ShowsEach (known_by moment compiled) (chosen asked.only asked.skip fork.list) t)
       (sym (ap (λ (a : Answer). a.out) is ∙ ap (λ (m : Making). m.bytes) (same_making making _ same)))
       (text_in_file (known_by moment compiled) asked (finite.get files asked.file) bytes fork text held admits has),
@@ -73,23 +84,25 @@ at_some : (P : List ℕ → Type 0) (o : Option (List ℕ)) (x : List ℕ) → o
 at_some P o x is holds = subst (λ (o : Option (List ℕ)). IfSome o P) is holds
 
 -- a run that is done
-module _ (commands : OneCommand) (law : ForksAreReadAgain) (words : List (List ℕ)) (moment : Moment) (before after : World) (done : Answer) where
-  pub shows_again : (result : Outcome) → result ≡ Done → CarriesOut done before after result → (asked : DeRezAsked) → IsCommand words (DeRez asked)
+module _ (commands : OneCommand) (law : ForksAreReadAgain) (spared : WordsAreSpared) (words : List (List ℕ)) (moment : Moment) (before after : World) (done : Answer) where
+  pub shows_again : (result : Outcome) → result ≡ Done → CarriesOut done before after result → (asked : DeRezAsked) → IsCommand words (DeRez asked) → AreFree asked.defs
       → IfSome before.files (λ files. Answers words files moment done)
       → IfSome before.files (λ files. IfSome (finite.get files asked.file) (λ bytes. done.outcome ≡ Done → IsFile bytes))
-      → IfSome before.files (λ files. IfSome before.out (λ out. ShowsAgain asked files out after.out))
-  shows_again result is carried asked as_asked answers held =
+      → IfSome before.files (λ files. IfSome before.out (λ out. ShowsAgain moment asked files out after.out))
+  shows_again result is carried asked as_asked free answers held =
       let ends = (subst (λ r. CarriesOut done before after r) is carried).ends in
       by before.files before.out ends.0 ends.1.out answers held
     where
       by : (b : Option Files) (o : Option (List ℕ)) → done.outcome ≡ Done → IfSome o (λ out. after.out ≡ Some (out ++ done.out)) → IfSome b (λ files. Answers words files moment done)
-          → IfSome b (λ files. IfSome (finite.get files asked.file) (λ bytes. done.outcome ≡ Done → IsFile bytes)) → IfSome b (λ files. IfSome o (λ out. ShowsAgain asked files out after.out))
+          → IfSome b (λ files. IfSome (finite.get files asked.file) (λ bytes. done.outcome ≡ Done → IsFile bytes)) → IfSome b (λ files. IfSome o (λ out. ShowsAgain moment asked files out after.out))
       by None o ended written answers held = tt
       by (Some files) None ended written answers held = tt
       by (Some files) (Some out) ended written answers held = λ bytes there fork admits short.
           let shows = text_of_answer moment asked files bytes fork done (of_asked commands words (DeRez asked) as_asked files moment done answers) ended there admits in (
+            shows.0,
             done.out,
+            shows.1,
             written,
             law bytes (at_some (λ bytes. done.outcome ≡ Done → IsFile bytes) (finite.get files asked.file) bytes there held ended) fork admits asked.only asked.skip short
-                shows.0 done.out shows.1,
+                (known_by moment shows.0) (spared (derez_setting moment asked) asked.files asked.paths asked.defs files shows.0 free shows.1) done.out shows.2,
           )

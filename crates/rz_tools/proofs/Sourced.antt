@@ -1,6 +1,7 @@
 -- What sources make, and what is made of it.
 use Rattle.std.proofs.Common.{◌≡◌, inl, inr, ℕ, List, [], Ok, Err, Some, None, refl, sym, ap, subst, ◌∙◌}
 use Rattle.std.specs.Prelude.{IfSome}
+use Rattle.std.specs.Str.{str_to_ascii_lowercase}
 use Rattle.std.specs.declared.option.Option.{Option}
 use Rattle.std.specs.declared.result.Result.{Result}
 use Rattle.rz_core.specs.Answers.{Meets, Then}
@@ -11,12 +12,12 @@ use Rattle.rz_core.specs.declared.stop.Stop.TheVariants.{Refused, NoMemory}
 use Rattle.rz_folder.specs.Folder.{Files}
 use Rattle.rz_lex.specs.declared.token.Token.{Token}
 use Rattle.rz_pre.specs.Program.{ProgramGoes, State}
-use Rattle.rz_pre.specs.Reading.{is_among, Gave, IsProgram}
+use Rattle.rz_pre.specs.Reading.{Gave, IsProgram}
 use Rattle.rz_pre.specs.declared.program.Def.{Def}
 use Rattle.rz_pre.specs.declared.program.Program.{Program}
 use Rattle.rz_stmt.specs.Statements.{AreStatements}
 use Rattle.rz_tools.specs.Answer.{Failing, Making}
-use Rattle.rz_tools.specs.Held.{CompiledSo}
+use Rattle.rz_tools.specs.Held.{macros_held, CompiledSo}
 use Rattle.rz_tools.specs.Made.{MadeSo, Refuses, SaysBeside, StopsSo}
 use Rattle.rz_tools.specs.Sources as sources
 use Rattle.rz_tools.specs.Sources.{said_beside, AreCompiled, InProgram, SaidBeside}
@@ -48,8 +49,8 @@ compiled_so A B so (Err stop) is = stops_so (λ f. A (Err f)) (λ f. B (Err f)) 
 
 module _ (setting : Setting) (statements : List (List Token)) (program : Program) (s : State) (is : IsProgram program s) where
   pub made_of_work : (work : Work) → Means setting nothing_made statements (Ok work)
-      → InProgram s (Means setting nothing_made statements) (Ok (record { work = work; is_macro = λ name. is_among name program.macros; files = program.files }))
-  made_of_work work means = (work, means, λ i. record { work = work; is_macro = λ name. is.macros name i; files = is.files i })
+      → InProgram s (Means setting nothing_made statements) (Ok (record { work = work; is_macro = macros_held program.macros; files = program.files }))
+  made_of_work work means = (work, means, λ i. record { work = work; is_macro = λ name. is.macros (str_to_ascii_lowercase name) i; files = is.files i })
 
   pub refused_so : (fault : Fault) (warnings : List Fault) → Means setting nothing_made statements (Err (record { fault = fault; warnings = warnings }))
       → (stop : Stopped) → Refuses fault program.files (warning_lines program.files warnings) stop

@@ -12,11 +12,12 @@ use Rattle.rz_core.specs.declared.facts.Facts.{Facts}
 use Rattle.rz_core.specs.declared.fault.Fault.{Fault}
 use Rattle.rz_core.specs.declared.fault.Mark.{Mark}
 use Rattle.rz_core.specs.declared.resource.Resource.{Resource}
-use Rattle.rz_show.specs.Statement.{attributes_of, id_term, name_part, shown_raw, text_parts, IsStored}
+use Rattle.rz_show.specs.Showing.{IsStored}
+use Rattle.rz_show.specs.Statement.{attributes_of, id_term, name_part, shown_head, shown_raw, text_parts}
 use Rattle.rz_types.specs.Text.{bytes_in, bytes_of, Plain}
 use Rattle.rz_types.specs.Value.{number_of}
 use Rattle.rz_tools.specs.Data.{contents_of, most_bytes, resource_of, short_bytes}
-use Rattle.rz_tools.specs.Head.{bits_behind_all, head_facts, id_of, name_of, short_name}
+use Rattle.rz_tools.specs.Head.{bits_behind_all, facts_of, head_facts, id_of, name_of, short_name}
 use Rattle.rz_tools.specs.declared.setting.Setting.{Setting}
 
 module _ (mark : Mark) where
@@ -52,6 +53,12 @@ module _ (mark : Mark) where
   unfolding is_byte
   attributes_value known attr small = same_byte (bits_behind_all mark known 0 (map (λ a. a.1) (attributes_of attr))) attr
       (agree_below_at (λ x. is_byte (bits_behind_all mark known 0 (map (λ a. a.1) (attributes_of x))) x) (λ x. true) 256 attr refl small)
+
+  pub facts_again : (setting : Setting) (r : Resource) (name : List (List ℕ)) → IsStored r → flat_map (λ piece. piece) name ≡ r.name → length r.name < 256
+      → facts_of setting mark r.kind.code (shown_head r name) ≡ Ok (record { kind = r.kind; id = r.id; name = r.name; attr = r.attr; moment = setting.moment })
+  facts_again setting r name stored name_is named =
+      let known : Facts = head_facts setting r.kind.code in
+      rw (id_value known r.id stored.id, id_inside r.id stored.id, name_value known name r.name name_is named, attributes_value known r.attr stored.attr) refl
 
   pub resource_again : (setting : Setting) (r : Resource) (name bytes : List (List ℕ)) → IsStored r → flat_map (λ piece. piece) name ≡ r.name → flat_map (λ piece. piece) bytes ≡ r.bytes
       → length r.name < 256 → length r.bytes ≤ most_bytes → resource_of setting mark (shown_raw r name bytes) ≡ Ok r

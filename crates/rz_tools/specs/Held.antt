@@ -1,7 +1,10 @@
 -- What the code holds of the work so far, of what sources mean, and of what is known where resources are shown.
-use Rattle.std.specs.Prelude.{length, Ok, Err}
+use Rattle.std.specs.Prelude.{ℕ, Bool, List, length, Ok, Err}
+use Rattle.std.specs.Str.{str_to_ascii_lowercase}
 use Rattle.std.specs.declared.result.Result.{Result}
+use Rattle.rz_core.specs.declared.resource.Word.{Word}
 use Rattle.rz_pre.specs.Reading.{is_among}
+use Rattle.rz_print.specs.Hidden.{hides}
 use Rattle.rz_tools.specs.Answer.{Failing}
 use Rattle.rz_tools.specs.Made.{NamesFault, SaysBefore, StopsSo}
 use Rattle.rz_tools.specs.Shown as shown
@@ -17,11 +20,15 @@ use Rattle.rz_types.specs.TypeTable.{table_of}
 abbrev pub work_of : Work → step.Work
 work_of work = record { types = table_of work.types; list = work.resources; warnings = work.warnings }
 
+-- a name, in whatever case, is one of these in lower case
+abbrev pub macros_held : List Word → List ℕ → Bool
+macros_held macros name = is_among (str_to_ascii_lowercase name) macros
+
 abbrev pub compiled_of : Compiled → sources.Compiled
-compiled_of compiled = record { work = work_of compiled.work; is_macro = λ name. is_among name compiled.macros; files = compiled.files }
+compiled_of compiled = record { work = work_of compiled.work; is_macro = macros_held compiled.macros; files = compiled.files }
 
 abbrev pub known_of : Known → shown.Known
-known_of known = record { types = table_of known.types; is_macro = λ name. is_among name known.macros; moment = known.moment }
+known_of known = record { types = table_of known.types; is_macro = hides known.macros; moment = known.moment }
 
 -- what is answered holds of what the call gave
 abbrev pub CompiledSo : Result Compiled Stopped → (Result sources.Compiled Failing → Type 0) → Type 0

@@ -1,5 +1,6 @@
 -- What sources mean: their program, and what its statements make, one after the other. (MPW Rez.)
 use Rattle.std.specs.Prelude.{◌≡◌, ℕ, Bool, is_some, List, [], Ok, Err}
+use Rattle.std.specs.Str.{str_to_ascii_lowercase}
 use Rattle.std.specs.declared.result.Result.{Result}
 use Rattle.rz_core.specs.Answers.{Then}
 use Rattle.rz_core.specs.declared.fault.Fault.{Fault}
@@ -13,14 +14,14 @@ use Rattle.rz_tools.specs.Step.{nothing_made, Means, WarnedFault, Work}
 use Rattle.rz_tools.specs.Warning.{warning_lines}
 use Rattle.rz_tools.specs.declared.setting.Setting.{Setting}
 
--- what the statements of sources made, which names, in lower case, are macros behind them, and the files that were opened
+-- what the statements of sources made, which names, in whatever case, are macros behind them, and the files that were opened
 pub record Compiled : Type 0 where
   pub work : Work
   pub is_macro : List ℕ → Bool
   pub files : List (List ℕ)
 
 abbrev pub compiled : State → Work → Compiled
-compiled program work = record { work = work; is_macro = λ name. is_some (program.live name); files = program.files }
+compiled program work = record { work = work; is_macro = λ name. is_some (program.live (str_to_ascii_lowercase name)); files = program.files }
 
 -- an answer before which nothing was said
 abbrev pub Unsaid : {X : Type 0} → (Result X Failure → Type 0) → Result X Failing → Type 0

@@ -10,7 +10,9 @@ ghost use Rattle.rz_pre.specs.Lexed.{HaveLexedTexts};
 ghost use Rattle.rz_pre.specs.Program.{missing_file};
 ghost use Rattle.rz_tools.specs.Again.{IsFile};
 ghost use Rattle.rz_tools.specs.Chosen.{chosen};
-ghost use Rattle.rz_tools.specs.DeRez.{broken_rule, AnswersDeRez, HasForkText, HasText, Shows, ShowsEach};
+ghost use Rattle.rz_core.specs.declared.moment.Moment.{Moment as MomentOf};
+ghost use Rattle.rz_tools.specs.Sources.{Compiled as CompiledOf};
+ghost use Rattle.rz_tools.specs.DeRez.{broken_rule, known_by, AnswersDeRez, HasForkText, HasText, Shows, ShowsEach};
 ghost use Rattle.rz_tools.specs.Held.{compiled_of, known_of};
 ghost use Rattle.rz_tools.specs.Made.{IsNamed, MadeSo, SaysWarnings};
 ghost use Rattle.rz_tools.specs.Plan.{answer_of, IsNoUsage};
@@ -27,9 +29,9 @@ use crate::plan::Plan;
 use crate::setting::Setting;
 use crate::shown::{Known, show};
 use crate::sources::{Compiled, compile_sources};
-use crate::step::Work;
+use crate::step::{Faults, Work};
 use crate::warning::say_beside;
-use rz_core::{Bytes, Fault, Kept, Moment, NoMemory, Resource, Resources, Stop};
+use rz_core::{Bytes, Fault, FileNames, Kept, Moment, NoMemory, Resource, Resources, Stop};
 use rz_folder::{Folder, Read};
 use rz_fork::{ForkFault, read_fork};
 use rz_pre::Tool;
@@ -117,20 +119,38 @@ fn show_under<F: Folder>(
         warnings,
         ..
     } = work;
-    let known = Known {
-        types,
-        macros,
-        moment,
-    };
+    match Known::of(alloc, types, &macros, moment) {
+        Ok(known) => show_file(alloc, folder, words, &known, &warnings, files),
+        Err(NoMemory) => Err(Stopped::NoMemory),
+    }
+}
+
+/// The text of the fork, where so much is known, with the lines of these warnings before it.
+fn show_file<F: Folder>(
+    alloc: Global,
+    folder: &mut F,
+    words: &DeRezWords,
+    known: &Known,
+    warnings: &Faults,
+    files: FileNames,
+) -> Result<Made, Stopped>
+    requires { AreWarnings (length files) warnings.now }
+    ensures text { (moment : MomentOf) (compiled : CompiledOf) → compiled.files ≡ files → compiled.work.warnings ≡ warnings.now → known_of known.now ≡ known_by moment compiled
+        → IfSome (F.files folder.old) (λ held. MadeSo result (HasText moment (derez words.now) held compiled)) }
+    ensures held { IfSome (F.files folder.old) (λ files. IfSome (map.get files (string_bytes words.now.file)) (λ bytes. IfOk result (λ _. IsFile bytes))) }
+    ensures nameable { IsNamed result }
+    ensures warned { SaysWarnings result }
+    ensures reads { OnlyReads F.files F.read_faults F.write_faults folder.old folder.new (result ≡ Err ReadFault) }
+{
     let name = words.file.as_str();
     match folder.read(alloc, name) {
         Read::Bytes(bytes) => say_beside(
             alloc,
-            text_of(alloc, bytes.as_slice(), words, &known),
-            &warnings,
+            text_of(alloc, bytes.as_slice(), words, known),
+            warnings,
             files,
         ),
-        Read::Missing => say_beside(alloc, no_file(alloc, name), &warnings, files),
+        Read::Missing => say_beside(alloc, no_file(alloc, name), warnings, files),
         Read::Failed => Err(Stopped::ReadFault),
         Read::NoMemory => Err(Stopped::NoMemory),
     }
@@ -178,13 +198,14 @@ fn show_list(
 {
     let mut text = Bytes::new(alloc);
     for resource in list.as_slice() {
-        show_chosen(resource, words, known, &mut text)?;
+        show_chosen(alloc, resource, words, known, &mut text)?;
     }
     Ok(text)
 }
 
 /// Appends the text of a resource, where the words choose it.
 fn show_chosen(
+    alloc: Global,
     resource: &Resource,
     words: &DeRezWords,
     known: &Known,
@@ -194,7 +215,7 @@ fn show_chosen(
         × ShowsEach (known_of known.now) (chosen words.now.only words.now.skip (resource.now ∷ [])) text) }
 {
     if is_chosen(&words.only, &words.skip, resource.kind) {
-        show(resource, known, into)
+        show(alloc, resource, known, into)
     } else {
         Ok(())
     }

@@ -1,14 +1,18 @@
-ghost use Rattle.std.specs.Prelude.{◌≡◌, ◌⊎◌, List, ℕ, Ok};
+ghost use Rattle.std.specs.Prelude.{◌≡◌, ◌⊎◌, List, [], ℕ, Ok};
 ghost use Rattle.rz_core.specs.declared.moment.Moment.{Moment};
 ghost use Rattle.rz_folder.specs.Folder.{Files};
 ghost use Rattle.rz_fork.specs.Admit.{admitted};
 ghost use Rattle.rz_fork.specs.Contents.{Fork};
 ghost use Rattle.rz_core.specs.declared.resource.OsType.{OsType};
-ghost use Rattle.rz_tools.specs.Again.{AreShort, CompilesAlone, IsFile, MeansAgain};
+ghost use Rattle.rz_tools.specs.Again.{AreShort, CompilesAlone, IsFile, MeansAgain, SparesWords};
 ghost use Rattle.rz_tools.specs.Answer.{Answer};
 ghost use Rattle.rz_tools.specs.Chosen.{chosen};
 ghost use Rattle.rz_tools.specs.DeRez.{ShowsEach};
 ghost use Rattle.rz_tools.specs.Shown.{Known};
+ghost use Rattle.rz_tools.specs.Sources.{AreCompiled, Compiled};
+ghost use Rattle.rz_tools.specs.declared.setting.Setting.{Setting};
+ghost use Rattle.rz_pre.specs.Definitions.{AreFree};
+ghost use Rattle.rz_pre.specs.declared.program.Def.{Def};
 ghost use Rattle.rz_tools.specs.Program.{Answers, CarriesOut};
 ghost use Rattle.rz_tools.specs.World.{ReadFailed, World, WriteFailed};
 ghost use Rattle.rz_tools.specs.declared.outcome.Outcome.{Outcome};
@@ -18,9 +22,10 @@ use rz_expr::{attribute_words_are_spelled, keywords_are_spelled};
 use rz_fork::admitted_forks_fit;
 use rz_layout::one_spelling;
 use rz_match::one_match;
-use rz_pre::one_program;
-use rz_show::{shown_statements, shown_text};
+use rz_pre::{live_names_are_free, one_program};
+use rz_show::{shown_text, spelled_texts};
 use rz_stmt::{one_cutting, one_statement};
+use rz_unlay::{one_plain_row, plain_rows_are_spelled, spelled_rows_are_rows};
 use rz_words::{definitions_are_free, one_command};
 
 /// A law, with nothing to run: words have one answer at most, where each name holds the same and at the same
@@ -34,6 +39,7 @@ pub fn one_answer()
     one_statement();
     one_match();
     one_spelling();
+    one_plain_row();
     one_command();
 }
 
@@ -44,26 +50,43 @@ pub fn answers_are_carried_out()
         → (result ≡ answer.outcome) ⊎ (result ≡ NoMemory) ⊎ ReadFailed before after ⊎ ((answer.outcome ≡ Done) × WriteFailed before after) }
 {}
 
-/// A law, with nothing to run: the text that is shown of a fork, whatever types are declared and whichever are chosen,
-/// means again the resources that are shown, where each has at most 16,777,212 bytes.
-pub fn shown_forks_are_read_again()
-    ensures { (bytes : List ℕ) → IsFile bytes → (fork : Fork) → admitted bytes ≡ Ok fork → (only skip : List OsType) → AreShort (chosen only skip fork.list)
-        → (known : Known) (text : List ℕ) → ShowsEach known (chosen only skip fork.list) text → MeansAgain text (chosen only skip fork.list) }
+/// A law, with nothing to run: no reserved word is a macro behind sources, if the definitions before them are of none: so
+/// no word of statements and attributes is.
+pub fn reserved_words_are_spared()
+    ensures { (setting : Setting) (names paths : List (List ℕ)) (defs : List Def) (files : Files) (compiled : Compiled) → AreFree defs
+        → AreCompiled setting names paths defs files (Ok compiled) → SparesWords compiled.is_macro }
 {
-    admitted_forks_fit();
-    shown_text();
-    shown_statements();
+    live_names_are_free();
+    keywords_are_spelled();
+    attribute_words_are_spelled();
 }
 
-/// A law, with nothing to run: as the one source of `rez` the text that is shown of a fork, where each resource that is
-/// shown has at most 16,777,212 bytes, is compiled to the fork of the same resources, whatever else the words ask for:
-/// no definition of theirs makes a reserved word a macro.
+/// A law, with nothing to run: the text that is shown of a fork means again the resources that are shown, where each has
+/// at most 16,777,212 bytes: where the same types are declared, the same names are macros, none of which is reserved, and
+/// the moment is the same.
+pub fn shown_forks_are_read_again()
+    ensures { (bytes : List ℕ) → IsFile bytes → (fork : Fork) → admitted bytes ≡ Ok fork → (only skip : List OsType) → AreShort (chosen only skip fork.list)
+        → (known : Known) → SparesWords known.is_macro → (text : List ℕ) → ShowsEach known (chosen only skip fork.list) text
+        → MeansAgain known text (chosen only skip fork.list) }
+{
+    admitted_forks_fit();
+    spelled_rows_are_rows();
+    plain_rows_are_spelled();
+    spelled_texts();
+    shown_text();
+}
+
+/// A law, with nothing to run: as the one source of `rez` the text that is shown of a fork where no types are declared,
+/// and each resource that is shown has at most 16,777,212 bytes, is compiled to the fork of the same resources, whatever
+/// else the words ask for: no definition of theirs makes a reserved word a macro.
 pub fn shown_forks_are_compiled_again()
     ensures { (bytes : List ℕ) → IsFile bytes → (fork : Fork) → admitted bytes ≡ Ok fork → (only skip : List OsType) → AreShort (chosen only skip fork.list)
-        → (known : Known) (text : List ℕ) → ShowsEach known (chosen only skip fork.list) text → CompilesAlone text (chosen only skip fork.list) }
+        → (known : Known) → known.types ≡ [] → (text : List ℕ) → ShowsEach known (chosen only skip fork.list) text
+        → CompilesAlone text (chosen only skip fork.list) }
 {
     shown_forks_are_read_again();
     definitions_are_free();
+    live_names_are_free();
     keywords_are_spelled();
     attribute_words_are_spelled();
 }

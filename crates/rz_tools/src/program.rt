@@ -10,12 +10,12 @@ ghost use Rattle.rz_words.specs.Command.{DeRez, DeRezAsked, IsCommand, IsMisplac
 use crate::Outcome;
 use crate::answer::answer;
 use crate::carry::{carry_out, put_line};
-use crate::laws::{one_answer, shown_forks_are_read_again};
+use crate::laws::{one_answer, reserved_words_are_spared, shown_forks_are_read_again};
 use crate::made::Unanswered;
 use crate::message::{NO_MEMORY, READ_FAULT};
 use rz_core::Moment;
 use rz_folder::{Folder, Sink};
-use rz_words::one_command;
+use rz_words::{definitions_are_free, one_command};
 use std::alloc::Global;
 
 /// Does all that the program does. `words` are the words after the program's name.
@@ -49,13 +49,15 @@ pub fn run<F: Folder, O: Sink, E: Sink>(
     ensures every_usage { (position : ℕ) → IsMisplaced (map string_bytes words.now) position
         → (result ≡ Outcome.Usage (record { position = position })) ⊎ (result ≡ Outcome.NoMemory) }
 
-    // What is shown of a fork means the resources again that are shown, when rez reads it.
+    // What is shown of a fork means the resources again that are shown, when rez reads it behind the same declarations.
     ensures again { result ≡ Outcome.Done → (asked : DeRezAsked) → IsCommand (map string_bytes words.now) (DeRez asked)
-        → IfSome (F.files folder.old) (λ files. IfSome (O.written out.old) (λ before. ShowsAgain asked files before (O.written out.new))) }
+        → IfSome (F.files folder.old) (λ files. IfSome (O.written out.old) (λ before. ShowsAgain moment asked files before (O.written out.new))) }
 {
     one_answer();
     one_command();
     shown_forks_are_read_again();
+    reserved_words_are_spared();
+    definitions_are_free();
     match answer(alloc, words, folder, moment) {
         Ok(plan) => carry_out(plan, folder, out, err),
         Err(Unanswered::ReadFault) => {

@@ -1,25 +1,145 @@
-ghost use Rattle.std.specs.Prelude.{◌≡◌, ◌++◌, ℕ, List, OnOk};
-ghost use Rattle.rz_tools.specs.Held.{known_of};
-ghost use Rattle.rz_tools.specs.Shown.{Shown};
+ghost use Rattle.std.specs.Prelude.{◌≡◌, ◌++◌, ℕ, if◌then◌else◌, List, Some, None, option_map, IfOk, OnOk};
+ghost use Rattle.rz_core.specs.Decided.{Decided};
+ghost use Rattle.rz_print.specs.Hidden.{hides};
+ghost use Rattle.rz_print.specs.Shown.{row_uses};
+ghost use Rattle.rz_tools.specs.Held.{known_of, macros_held};
+ghost use Rattle.rz_tools.specs.Shown.{facts_of, Known as KnownOf, Shown, TellsRow};
+ghost use Rattle.rz_types.specs.Field.{plain_body};
+ghost use Rattle.rz_types.specs.Table.{found};
+ghost use Rattle.rz_types.specs.Template.{template_of};
+ghost use Rattle.rz_types.specs.TypeTable.{table_of};
 
-use rz_core::{Bytes, Moment, NoMemory, Resource, Words};
-use rz_show::show_resource;
-use rz_types::TypeTable;
+use rz_core::{Bytes, Facts, Moment, NoMemory, Resource, Words};
+use rz_print::{Hidden, uses_hidden};
+use rz_show::{show_resource, show_row};
+use rz_types::{Body, Row, Template, TypeTable};
+use rz_unlay::{Reading, read};
+use std::alloc::Global;
 
 /// What is known where resources are shown.
 #[derive(Drop)]
 pub struct Known {
     /// The declarations of types.
     pub types: TypeTable,
-    /// The names, in lower case, that are macros.
-    pub macros: Words,
+    /// The names that are macros.
+    pub macros: Hidden,
     /// The moment of the run.
     pub moment: Moment,
 }
 
-/// Appends the text of a resource: its `data` statement.
-pub fn show(resource: &Resource, _known: &Known, into: &mut Bytes) -> Result<(), NoMemory>
-    ensures { OnOk result ((text : List ℕ) × (into.new ≡ into.old ++ text) × Shown (known_of _known.now) resource.now text) }
+impl Known {
+    /// What is known behind type files: their declarations, and their macros by their names in lower case.
+    pub fn of(
+        alloc: Global,
+        types: TypeTable,
+        macros: &Words,
+        moment: Moment,
+    ) -> Result<Known, NoMemory>
+        ensures { IfOk result (λ known. known_of known ≡ record { types = table_of types; is_macro = macros_held macros.now; moment = moment }) }
+    {
+        let macros = Hidden::of(alloc, macros.as_slice())?;
+        Ok(Known {
+            types,
+            macros,
+            moment,
+        })
+    }
+}
+
+/// Appends the text of a resource: the `resource` statement with the row that its bytes tell under the type that is
+/// declared for it, unless the row chooses a case whose name is a macro; and where there is no such row its `data`
+/// statement. (MPW DeRez.)
+pub fn show(
+    alloc: Global,
+    resource: &Resource,
+    known: &Known,
+    into: &mut Bytes,
+) -> Result<(), NoMemory>
+    ensures { OnOk result ((text : List ℕ) × (into.new ≡ into.old ++ text) × Shown (known_of known.now) resource.now text) }
 {
-    show_resource(resource, into)
+    match template_for(&known.types, resource) {
+        Some(template) => show_under(alloc, resource, template, known, into),
+        None => show_resource(resource, into),
+    }
+}
+
+/// The template that is declared for a resource.
+fn template_for<'a>(types: &'a TypeTable, resource: &Resource) -> Option<&'a Template>
+    ensures { option_map (λ template. template_of template.now) result
+        ≡ option_map (λ one. one.template) (found resource.now.kind resource.now.id (table_of types.now)) }
+{
+    types.find(resource.kind, resource.id)
+}
+
+/// Appends the text of a resource under the template that is declared for it.
+fn show_under(
+    alloc: Global,
+    resource: &Resource,
+    template: &Template,
+    known: &Known,
+    into: &mut Bytes,
+) -> Result<(), NoMemory>
+    requires { option_map (λ one. one.template) (found resource.now.kind resource.now.id (table_of known.now.types)) ≡ Some (template_of template.now) }
+    ensures { OnOk result ((text : List ℕ) × (into.new ≡ into.old ++ text) × Shown (known_of known.now) resource.now text) }
+{
+    let row = row_told(alloc, resource, template, known)?;
+    let fields = template.body();
+    match row {
+        Some(row) => show_row(
+            resource,
+            fields.as_slice(),
+            row.as_slice(),
+            &known.macros,
+            into,
+        ),
+        None => show_resource(resource, into),
+    }
+}
+
+/// The row that the bytes of a resource tell under the template that is declared for it, unless it chooses a case whose
+/// name is a macro.
+fn row_told(
+    alloc: Global,
+    resource: &Resource,
+    template: &Template,
+    known: &Known,
+) -> Result<Option<Row>, NoMemory>
+    requires { option_map (λ one. one.template) (found resource.now.kind resource.now.id (table_of known.now.types)) ≡ Some (template_of template.now) }
+    ensures { IfOk result (Decided (TellsRow (known_of known.now) resource.now (template_of template.now))) }
+{
+    let facts = facts_of(alloc, resource, known.moment)?;
+    let fields = template.body();
+    match read(alloc, template, resource.bytes.as_slice(), &facts)? {
+        Reading::Tree(row) => unless_hidden(alloc, fields, row, known),
+        Reading::NoTree => Ok(None),
+    }
+}
+
+/// A row of these fields, unless it chooses a case whose name is a macro.
+fn unless_hidden(
+    alloc: Global,
+    fields: &Body,
+    row: Row,
+    known: &Known,
+) -> Result<Option<Row>, NoMemory>
+    ensures { IfOk result (λ found. found ≡ (if row_uses (hides known.now.macros) (plain_body fields.now) row then None else Some row)) }
+{
+    if uses_hidden(alloc, fields.as_slice(), row.as_slice(), &known.macros)? {
+        Ok(None)
+    } else {
+        Ok(Some(row))
+    }
+}
+
+/// What is known of a resource.
+fn facts_of(alloc: Global, resource: &Resource, moment: Moment) -> Result<Facts, NoMemory>
+    ensures { (known : KnownOf) → known.moment ≡ moment → IfOk result (λ facts. facts ≡ facts_of known resource.now) }
+{
+    Ok(Facts {
+        kind: resource.kind,
+        id: resource.id,
+        name: Bytes::of(alloc, resource.name.as_slice())?,
+        attr: resource.attr,
+        moment,
+    })
 }

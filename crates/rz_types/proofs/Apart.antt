@@ -1,19 +1,18 @@
 -- The keys of cases stand apart, where no rule is broken.
-use Rattle.std.proofs.Common.{◌≡◌, ◌≢◌, ℕ, ◌+◌, ◌==◌, Bool, true, false, ◌||◌, List, [], ◌∷◌, ◌++◌, length, Option, Some, None, refl, sym, ap, ◌∙◌, subst, arith}
-use Rattle.std.specs.Prelude.{not, option_map}
+use Rattle.std.proofs.Common.{◌≡◌, ◌≢◌, ℕ, ◌+◌, ◌==◌, Bool, true, false, ◌||◌, List, [], ◌∷◌, ◌++◌, length, Option, Some, None, refl, sym, ap, subst, arith}
+use Rattle.std.specs.Prelude.{not}
 use Rattle.std.specs.List.{flat_map, list_any, AllByRecursion}
 use Rattle.std.specs.Option.{is_none, is_some, option_to_list}
 use Rattle.std.proofs.lemmas.Bool.Decides.{nat_tests}
 use Rattle.rz_core.proofs.Lists.{or_else_none}
 use Rattle.rz_core.proofs.Tests.{or_false}
-use Rattle.rz_core.specs.Lists.{first_of}
 use Rattle.rz_core.specs.declared.resource.Word.{Word}
 use Rattle.rz_fields.specs.Field.{case_and, field_and, no_cases, no_fields, Align, Array, Fill, Number, PlainBody, PlainCases, PlainField, Points, Switch, Text}
 use Rattle.rz_fields.specs.Width.{case_keys}
 use Rattle.rz_fields.specs.declared.keys.CaseKey.{CaseKey}
-use Rattle.rz_types.specs.Kept.{AreCasesApart, AreKeysApart, AreKeysApartIn, HasKey, IsApartFrom, StandApart}
+use Rattle.rz_types.specs.Kept.{AreCasesApart, AreKeysApart, AreKeysApartIn, IsApartFrom, StandApart}
 use Rattle.rz_types.specs.Rules.{broken, broken_at, differ, found_if, has_other_place, has_other_width, has_same_bits, key_rule, keeps_rules, name_fault, KeepAll}
-use Rattle.rz_types.specs.Walk.{all_fields, behind_case, case_steps, names_of, own_names, steps, steps_within, walk, within, Step}
+use Rattle.rz_types.specs.Walk.{all_fields, behind_case, case_steps, names_of, own_names, steps, steps_within, within}
 use Rattle.rz_types.proofs.Broken.{broken_none}
 use Rattle.rz_types.proofs.Differing.{found_none, kept_append, map_none}
 

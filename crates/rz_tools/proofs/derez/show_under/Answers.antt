@@ -1,21 +1,6 @@
-use Rattle.std.proofs.Common.{ℕ, List, subst}
-use Rattle.rz_core.specs.Answers.{Meets}
-use Rattle.rz_fork.specs.Admit.{admitted}
-use Rattle.rz_words.specs.Item.{derez}
-use Rattle.rz_tools.specs.DeRez.{known_by, HasForkText}
+use Rattle.std.proofs.Common.{refl}
 use Rattle.rz_tools.specs.Held.{compiled_of}
-use Rattle.rz_tools.proofs.Showing.{file_shown, no_file_shown}
 use Rattle.rz_tools.proofs.derez.show_under.Goals as goal
 
-pub returns-in-Bytes-clause-text : goal.returns-in-Bytes-clause-text
-returns-in-Bytes-clause-text g c =
-    let asked = derez c.args.words.now in
-    file_shown c.args.moment asked (compiled_of c.args.compiled) c.as_str-name.result.now c.as_str-name.ensures.value c.text_of.result c.say_beside.result c.say_beside.ensures.said
-    (g.F.Folder.files c.args.folder.now) c.in-Bytes.bytes c.in-Bytes.ensures.told
-    (subst (λ (b : List ℕ). Meets c.text_of.result (HasForkText (known_by c.args.moment (compiled_of c.args.compiled)) asked (admitted b))) c.as_slice.ensures c.text_of.ensures.text)
-
-pub returns-in-Missing-clause-text : goal.returns-in-Missing-clause-text
-returns-in-Missing-clause-text g c =
-    let asked = derez c.args.words.now in
-    no_file_shown c.args.moment asked (compiled_of c.args.compiled) c.as_str-name.result.now c.as_str-name.ensures.value c.no_file.result c.say_beside-in-Missing.result
-    c.say_beside-in-Missing.ensures.said (g.F.Folder.files c.args.folder.now) c.in-Missing.ensures.told c.no_file.ensures.missing
+pub returns-in-Ok-clause-text : goal.returns-in-Ok-clause-text
+returns-in-Ok-clause-text g c = c.show_file.ensures.text c.args.moment (compiled_of c.args.compiled) refl refl c.in-Ok.ensures

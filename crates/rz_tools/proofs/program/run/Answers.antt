@@ -33,9 +33,9 @@ returns-in-Ok-clause-every_usage g c position is =
 
 pub returns-in-Ok-clause-again : goal.returns-in-Ok-clause-again
 returns-in-Ok-clause-again g c is asked as_asked =
-    shows_again c.one_command.ensures.command c.shown_forks_are_read_again.ensures (map string_bytes c.args.words.now) c.args.moment _ _ (answer_of c.in-Ok.plan) c.carry_out.result is
+    shows_again c.one_command.ensures.command c.shown_forks_are_read_again.ensures c.reserved_words_are_spared.ensures (map string_bytes c.args.words.now) c.args.moment _ _ (answer_of c.in-Ok.plan) c.carry_out.result is
     (carried_from (answer_of c.in-Ok.plan) _ c.carry_out.result _ _ _ _ _ _ _ _ _ _ c.in-Ok.ensures.reads.unchanged c.in-Ok.ensures.reads.counted c.in-Ok.ensures.reads.other_count c.carry_out.ensures.carried)
-    asked as_asked c.in-Ok.ensures.answered (c.in-Ok.ensures.held asked as_asked)
+    asked as_asked (c.definitions_are_free.ensures.derez (map string_bytes c.args.words.now) asked as_asked) c.in-Ok.ensures.answered (c.in-Ok.ensures.held asked as_asked)
 
 pub returns-in-Err-ReadFault-clause-carried : goal.returns-in-Err-ReadFault-clause-carried
 returns-in-Err-ReadFault-clause-carried g c = (

@@ -1,4 +1,4 @@
-use Rattle.std.proofs.Common.{◌≡◌, List, Option, ap}
+use Rattle.std.proofs.Common.{◌≡◌, Option, ap}
 use Rattle.std.specs.Option.{ok_or}
 use Rattle.rz_items.specs.Item.{plain_items}
 use Rattle.rz_tools.specs.Resource.{fields_for, no_type, AreItemBytes}

@@ -1,4 +1,3 @@
-use Rattle.std.proofs.Common.{Err, ap, ◌∙◌}
 use Rattle.rz_tools.proofs.Sourced.{beside_bytes, beside_fault}
 use Rattle.rz_tools.proofs.warning.say_beside.Goals as goal
 

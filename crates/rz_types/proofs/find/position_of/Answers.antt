@@ -1,4 +1,4 @@
-use Rattle.std.proofs.Common.{rules, ◌<◌, length, get_or, map, sym}
+use Rattle.std.proofs.Common.{rules, ◌<◌, length, get_or, sym}
 use Rattle.rz_types.specs.Listed.{declaration_of}
 use Rattle.rz_types.specs.Table.{stands_at}
 use Rattle.rz_types.proofs.Found.{at_map}

@@ -1,4 +1,3 @@
-use Rattle.std.proofs.Common.{length, take}
 use Rattle.rz_types.specs.Positions.{held}
 use Rattle.rz_types.proofs.Placed.{placed_next}
 use Rattle.rz_types.proofs.positions.add_all.Goals as goal

@@ -1,6 +1,4 @@
-use Rattle.std.proofs.Common.{◌≡◌, ◌≤◌, ℕ, true, List, length, Option, Some, sym, ap, ◌∙◌, arith}
-use Rattle.rz_fields.specs.declared.tree.Tree.{Tree}
-use Rattle.rz_types.specs.Spells.{Spells}
+use Rattle.std.proofs.Common.{◌≤◌, true, length, Some, sym, ap, ◌∙◌, arith}
 use Rattle.rz_types.specs.Template.{template_of}
 use Rattle.rz_unlay.specs.Cursor.{reading}
 use Rattle.rz_unlay.proofs.Tells.{every_told, none_told}

@@ -1,0 +1,25 @@
+use Rattle.std.proofs.Common.{ℕ, List, subst}
+use Rattle.rz_core.specs.Answers.{Meets}
+use Rattle.rz_fork.specs.Admit.{admitted}
+use Rattle.rz_words.specs.Item.{derez}
+use Rattle.rz_tools.specs.DeRez.{HasForkText}
+use Rattle.rz_tools.specs.Held.{known_of}
+use Rattle.rz_tools.specs.Shown.{Known}
+use Rattle.rz_tools.proofs.Showing.{file_shown, no_file_shown, said_so}
+use Rattle.rz_tools.proofs.derez.show_file.Goals as goal
+
+pub returns-in-Bytes-clause-text : goal.returns-in-Bytes-clause-text
+returns-in-Bytes-clause-text g c moment compiled same_files same_warnings same_known =
+    let asked = derez c.args.words.now in
+    file_shown moment asked compiled c.as_str-name.result.now c.as_str-name.ensures.value c.text_of.result c.say_beside.result
+    (said_so compiled c.args.files c.args.warnings.now same_files same_warnings c.text_of.result c.say_beside.result c.say_beside.ensures.said)
+    (g.F.Folder.files c.args.folder.now) c.in-Bytes.bytes c.in-Bytes.ensures.told
+    (subst (λ (known : Known). Meets c.text_of.result (HasForkText known asked (admitted c.in-Bytes.bytes))) same_known
+    (subst (λ (b : List ℕ). Meets c.text_of.result (HasForkText (known_of c.args.known.now) asked (admitted b))) c.as_slice.ensures c.text_of.ensures.text))
+
+pub returns-in-Missing-clause-text : goal.returns-in-Missing-clause-text
+returns-in-Missing-clause-text g c moment compiled same_files same_warnings same_known =
+    let asked = derez c.args.words.now in
+    no_file_shown moment asked compiled c.as_str-name.result.now c.as_str-name.ensures.value c.no_file.result c.say_beside-in-Missing.result
+    (said_so compiled c.args.files c.args.warnings.now same_files same_warnings c.no_file.result c.say_beside-in-Missing.result c.say_beside-in-Missing.ensures.said)
+    (g.F.Folder.files c.args.folder.now) c.in-Missing.ensures.told c.no_file.ensures.missing
