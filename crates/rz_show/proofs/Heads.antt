@@ -1,10 +1,9 @@
 -- The line that begins a statement, as it is printed.
-use Rattle.std.proofs.Common.{◌≡◌, ℕ, suc, ◌+◌, ◌/◌, ◌%◌, ◌<◌, ◌≤◌, ◌^◌, ℤ, pos, negsuc, Bool, true, false, List, [], ◌∷◌, ◌++◌, map, length, Option, Some, None, refl, sym, ap, subst, ◌∙◌, arith, append_assoc}
+use Rattle.std.proofs.Common.{◌≡◌, ℕ, suc, ◌/◌, ◌%◌, ◌<◌, ◌≤◌, ◌^◌, ℤ, pos, negsuc, Bool, true, false, List, [], ◌∷◌, ◌++◌, map, length, Option, Some, None, refl, sym, ap, subst, ◌∙◌, arith, append_assoc}
 use Rattle.std.specs.Prelude.{◌==◌, ◌||◌, nat_le, codes, decimal, FitsSigned}
 use Rattle.std.specs.Int.{w16}
 use Rattle.std.specs.List.{flat_map}
 use Rattle.std.proofs.lemmas.Bool.{agree_below_at, eqb-true, ne_eqb}
-use Rattle.std.proofs.lemmas.Fmt.{decimal_by_steps}
 use Rattle.std.proofs.lemmas.Grind.{flat_map-append}
 use Rattle.std.proofs.lemmas.List.{append-nil, map-append}
 use Rattle.rz_core.specs.Decimal.{decimal_of, signed_of}
@@ -23,14 +22,15 @@ use Rattle.rz_lex.specs.Sign.{is_sign}
 use Rattle.rz_lex.specs.declared.sign.Sign.TheVariants as signs
 use Rattle.rz_lex.specs.declared.token.Shape.{Shape}
 use Rattle.rz_lex.specs.declared.token.Shape.TheVariants as shapes
+use Rattle.rz_print.proofs.Inside.{are_in_line, decimal_inside, inside, literal_inside, text_inside}
 use Rattle.rz_show.specs.Head.{attr_text, name_byte, name_text, word_text}
 use Rattle.rz_show.specs.Statement.{attribute_part, attributes_of}
 use Rattle.rz_show.proofs.Shapes.{behind_commas, id_shapes, name_pieces, text_shapes}
 use Rattle.rz_expr.specs.Term.{Constant}
 use Rattle.rz_data.specs.Head.{Attribute, Value}
-use Rattle.rz_show.proofs.Lines.{are_in_line, blank, dollar, inside, inside_both, line_end, literal, number, quote, sign, whole, word, CutBack, InLine}
+use Rattle.rz_show.proofs.Lines.{blank, dollar, line_end, literal, number, quote, sign, whole, word, CutBack, InLine}
 use Rattle.rz_show.proofs.Pieces.{InPieces}
-use Rattle.rz_show.proofs.Texts.{literal_inside, name_lines, text_inside}
+use Rattle.rz_show.proofs.Texts.{name_lines}
 use Rattle.rz_core.proofs.Tests.{by_test}
 
 -- a byte with which no sign of two bytes begins
@@ -62,16 +62,9 @@ module _ (law : CutBack) where
 
   -- Numbers.
 
-  digits_inside : (n : ℕ) → n < 2 ^ 64 → AreInLine (decimal n)
-  digits_inside n below = decimal_by_steps (λ n digits. AreInLine digits) (λ n small. digit n small)
-      (λ n digits some so_far. inside_both digits ((48 + n % 10) ∷ []) so_far (digit (n % 10) (omega arith))) n below
-    where
-      digit : (n : ℕ) → n < 10 → AreInLine ((48 + n) ∷ [])
-      digit n small = inside ((48 + n) ∷ []) (agree_below_at (λ x. are_in_line ((48 + x) ∷ [])) (λ x. true) 10 n refl small)
-
   decimal_number : (text : List ℕ) (tokens : List Shape) → InLine text tokens → begins_word text ≡ false → (n : ℕ) → n < 2 ^ 32 → InLine (decimal n ++ text) (shapes.Number n ∷ tokens)
   unfolding decimal_of
-  decimal_number text tokens p clear n below = number law text tokens p n below (digits_inside n (omega arith)) clear
+  decimal_number text tokens p clear n below = number law text tokens p n below (decimal_inside n below) clear
 
   pub id_line : (text : List ℕ) (tokens : List Shape) → InLine text tokens → begins_word text ≡ false → (id : ℤ) → FitsSigned w16 id → InLine (signed_of id ++ text) (id_shapes id ++ tokens)
   unfolding signed_of

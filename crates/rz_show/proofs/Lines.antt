@@ -1,8 +1,6 @@
 -- Text as it is printed, token by token from its end.
-use Rattle.std.proofs.Common.{◌≡◌, ◌≢◌, ℕ, ◌+◌, ◌<◌, ◌≤◌, ◌^◌, Bool, true, false, List, [], ◌∷◌, ◌++◌, map, length, None, Some, refl, sym, ap, subst, ◌∙◌, append_assoc}
-use Rattle.std.specs.Prelude.{◌==◌, ◌&&◌, not}
+use Rattle.std.proofs.Common.{◌≡◌, ℕ, ◌+◌, ◌<◌, ◌≤◌, ◌^◌, true, false, List, [], ◌∷◌, ◌++◌, map, length, None, Some, refl, sym, ap, subst, ◌∙◌, append_assoc}
 use Rattle.std.specs.List.{flat_map, AllByRecursion}
-use Rattle.std.proofs.lemmas.Bool.{and_parts, eq-eqb, false≢true}
 use Rattle.std.proofs.lemmas.List.Concat.{flat_map-cons}
 use Rattle.rz_core.specs.Decimal.{decimal_of}
 use Rattle.rz_core.specs.Quoted.{quoted}
@@ -21,6 +19,7 @@ use Rattle.rz_lex.specs.declared.sign.Sign.{Sign}
 use Rattle.rz_lex.specs.declared.token.Shape.{Shape}
 use Rattle.rz_lex.specs.declared.token.Shape.TheVariants as shapes
 use Rattle.rz_lex.specs.declared.token.Token.{Token}
+use Rattle.rz_print.proofs.Inside.{inside_both}
 use Rattle.rz_print.specs.Page.{IsPage}
 use Rattle.rz_show.specs.Page.{AreCut}
 use Rattle.rz_show.specs.Page.{HasTokens}
@@ -45,29 +44,6 @@ pub record CutBack : Type 0 where
   pub empty : (mark : Mark) → Cuts mark [] []
   pub token : (mark : Mark) (line after : List ℕ) (token : Token) (tokens : List Token) → Next mark line token after → Cuts mark after tokens → Cuts mark line (token ∷ tokens)
   pub blank : (mark : Mark) (blank : ℕ) (line : List ℕ) (tokens : List Token) → is_blank blank ≡ true → Cuts mark line tokens → Cuts mark (blank ∷ line) tokens
-
--- Bytes inside a line.
-
-abbrev in_line : ℕ → Bool
-in_line byte = not (byte == 10) && not (byte == 13)
-
-abbrev pub are_in_line : List ℕ → Bool
-are_in_line [] = true
-are_in_line (b ∷ bytes) = in_line b && are_in_line bytes
-
-is_not : (byte other : ℕ) → not (byte == other) ≡ true → byte ≢ other
-is_not byte other h e = false≢true (ap not (sym (eq-eqb byte other e)) ∙ h)
-
-pub inside : (bytes : List ℕ) → are_in_line bytes ≡ true → AreInLine bytes
-inside [] h = tt
-inside (b ∷ bytes) h =
-    let parts = and_parts (not (b == 10) && not (b == 13)) (are_in_line bytes) h in
-    let both = and_parts (not (b == 10)) (not (b == 13)) parts.0 in
-    ((is_not b 10 both.0, is_not b 13 both.1), inside bytes parts.1)
-
-pub inside_both : (front back : List ℕ) → AreInLine front → AreInLine back → AreInLine (front ++ back)
-inside_both [] back first second = second
-inside_both (b ∷ front) back first second = (first.0, inside_both front back first.1 second)
 
 -- A text of lines, and a text that begins inside a line; with the shapes of all its tokens.
 

@@ -31,6 +31,7 @@ use Rattle.rz_types.specs.Kept.{IsKept}
 use Rattle.rz_types.specs.Row.{IsRow}
 use Rattle.rz_types.specs.Rules.{keeps_rules}
 use Rattle.rz_types.specs.Shape.{are_shaped, body_depth, deepest_body, is_well_shaped}
+use Rattle.rz_print.proofs.Inside.{inside}
 use Rattle.rz_show.specs.Data.{lines_text, resource_text, statement_text}
 use Rattle.rz_show.specs.Head.{attr_text, head_text, name_text}
 use Rattle.rz_show.specs.Row.{resource_row, row_statement}
@@ -40,7 +41,7 @@ use Rattle.rz_show.proofs.Fitting.{fitting}
 use Rattle.rz_show.proofs.Heads.{alone, attribute_tokens, head_line, shape_alone}
 use Rattle.rz_show.proofs.Height.{heights}
 use Rattle.rz_show.proofs.Items.{list_shapes}
-use Rattle.rz_show.proofs.Lines.{has_tokens, inside, line_end, no_lines, sign, whole, CutBack, InLine, Page}
+use Rattle.rz_show.proofs.Lines.{has_tokens, line_end, no_lines, sign, whole, CutBack, InLine, Page}
 use Rattle.rz_show.proofs.Naming.{row_naming}
 use Rattle.rz_show.proofs.RowHeight.{row_low}
 use Rattle.rz_show.proofs.Rowed.{whole_row}

@@ -6,7 +6,7 @@ use Rattle.std.proofs.lemmas.Bool.{agree_below_at, eqb-true}
 use Rattle.std.proofs.lemmas.Grind.{flat_map-append}
 use Rattle.std.proofs.lemmas.List.{append-nil}
 use Rattle.rz_core.specs.Lists.{with_front}
-use Rattle.rz_core.specs.Quoted.{hex_byte, quoted, shown_byte}
+use Rattle.rz_core.specs.Quoted.{hex_byte, shown_byte}
 use Rattle.rz_lex.specs.Classes.{is_blank}
 use Rattle.rz_lex.specs.Digits.{digit_value}
 use Rattle.rz_lex.specs.Escape.{before}
@@ -15,10 +15,11 @@ use Rattle.rz_lex.specs.Page.{AreInLine}
 use Rattle.rz_lex.specs.Printed.{AreBytes}
 use Rattle.rz_lex.specs.declared.token.Shape.{Shape}
 use Rattle.rz_lex.specs.declared.token.Shape.TheVariants as shapes
+use Rattle.rz_print.proofs.Inside.{are_in_line, inside, inside_both, text_inside}
 use Rattle.rz_show.specs.Data.{byte_gap, data_byte, lines_text}
 use Rattle.rz_show.specs.Head.{name_byte, name_gap}
 use Rattle.rz_show.proofs.Shapes.{text_shapes}
-use Rattle.rz_show.proofs.Lines.{are_in_line, blank, hex, inside, inside_both, line_end, quote, CutBack, InLine, Page}
+use Rattle.rz_show.proofs.Lines.{blank, hex, line_end, quote, CutBack, InLine, Page}
 use Rattle.rz_show.proofs.Pieces.{in_pieces, Gaps, InPieces}
 use Rattle.rz_core.proofs.Tests.{by_test}
 
@@ -125,31 +126,6 @@ bytes_lines law text tokens p bytes small =
         (hex law text tokens p digits value is.value (inside_both (36 ∷ 34 ∷ []) (digits ++ 34 ∷ []) (inside (36 ∷ 34 ∷ []) refl) (inside_both digits (34 ∷ []) is.in_line (inside (34 ∷ []) refl))))
 
 -- Quoted bytes.
-
-quoted_inside : (mark : ℕ) → are_in_line (mark ∷ []) ≡ true → ((byte : ℕ) → byte < 256 → are_in_line (shown_byte mark byte) ≡ true)
-    → (bytes : List ℕ) → AreBytes bytes → AreInLine (quoted mark bytes)
-quoted_inside mark at each bytes small = (outer.0, all bytes small)
-  where
-    outer : AreInLine (mark ∷ [])
-    outer = inside (mark ∷ []) at
-
-    all : (bytes : List ℕ) → AreBytes bytes → AreInLine (flat_map (shown_byte mark) bytes ++ mark ∷ [])
-    all [] small = outer
-    all (b ∷ bytes) small =
-        subst AreInLine (sym (append_assoc (shown_byte mark b) (flat_map (shown_byte mark) bytes) (mark ∷ [])))
-        (inside_both (shown_byte mark b) (flat_map (shown_byte mark) bytes ++ mark ∷ []) (inside (shown_byte mark b) (each b small.0)) (all bytes small.1))
-
-shown_in_text : (byte : ℕ) → byte < 256 → are_in_line (shown_byte 34 byte) ≡ true
-shown_in_text byte small = agree_below_at (λ x. are_in_line (shown_byte 34 x)) (λ x. true) 256 byte refl small
-
-shown_in_literal : (byte : ℕ) → byte < 256 → are_in_line (shown_byte 39 byte) ≡ true
-shown_in_literal byte small = agree_below_at (λ x. are_in_line (shown_byte 39 x)) (λ x. true) 256 byte refl small
-
-pub text_inside : (bytes : List ℕ) → AreBytes bytes → AreInLine (quoted 34 bytes)
-text_inside bytes small = quoted_inside 34 refl shown_in_text bytes small
-
-pub literal_inside : (bytes : List ℕ) → AreBytes bytes → AreInLine (quoted 39 bytes)
-literal_inside bytes small = quoted_inside 39 refl shown_in_literal bytes small
 
 -- these bytes as they are shown
 record IsShownText (text bytes : List ℕ) : Type 0 where

@@ -1,5 +1,6 @@
 pub mod Sees
 pub mod Told
+pub mod Teller
 pub mod ReadsNumber
 pub mod PlainText
 pub mod ReadsTests

@@ -1,5 +1,5 @@
 -- A number that is spelled plainly is read.
-use Rattle.std.proofs.Common.{◌≡◌, ◌⊎◌, inl, inr, ℕ, zero, suc, ◌+◌, ◌<◌, ◌≤◌, ◌^◌, ◌%◌, ◌==◌, ℤ, pos, Bool, true, false, ◌&&◌, ◌||◌, List, length, take, drop, Option, Some, None, Result, Ok, Err, refl, sym, ap, ◌∙◌, subst, arith}
+use Rattle.std.proofs.Common.{◌≡◌, inl, inr, ℕ, zero, suc, ◌+◌, ◌<◌, ◌≤◌, ◌^◌, ◌%◌, ◌==◌, ℤ, pos, Bool, true, false, ◌&&◌, ◌||◌, List, length, take, drop, Option, Some, None, Result, Ok, Err, refl, sym, ap, ◌∙◌, subst, arith}
 use Rattle.std.specs.Prelude.{if◌then◌else◌, nat_abs, nat_le, option_and_then, option_map}
 use Rattle.std.specs.Int.{cast_unsigned, w64}
 use Rattle.std.proofs.lemmas.Bool.Decides.{nat_tests}
@@ -18,29 +18,15 @@ use Rattle.rz_fields.specs.declared.field.NumForm.{NumForm}
 use Rattle.rz_fields.specs.declared.tree.Tree.{Tree}
 use Rattle.rz_fields.specs.declared.tree.Tree.TheVariants as trees
 use Rattle.rz_types.specs.Field.{PlainBody}
-use Rattle.rz_types.specs.Readable.{all_known, is_number_read, tells, tells_one}
+use Rattle.rz_types.specs.Readable.{all_known, is_number_read, tells_one}
 use Rattle.rz_types.specs.Solve.{can_solve, has_key, is_same_key, solved_count, undoes_one, undoes_right, AreSolved, IsSolvedTo, SolvesBack}
 use Rattle.rz_types.specs.Spells.{declares, is_known, told_by, IsNumber, Names, Passed}
 use Rattle.rz_types.specs.Stored.{stored_number}
 use Rattle.rz_types.specs.Value.{names_sight}
 use Rattle.rz_unlay.proofs.Sees.{both_true, by_test, solve_same, value_same, Covers}
+use Rattle.rz_unlay.proofs.SpelledNames.{either_of, left_true, right_true}
+use Rattle.rz_unlay.proofs.Teller.{teller}
 use Rattle.rz_unlay.proofs.Told.{all_told, key_is, own_key, AreTold, IsTold}
-
-or_true : (a b : Bool) → (a || b) ≡ true → (a ≡ true) ⊎ (b ≡ true)
-or_true true b is = inl refl
-or_true false b is = inr is
-
-either_of : {P : Type 0} (a b : Bool) → (a ≡ true → P) → (b ≡ true → P) → (a || b) ≡ true → P
-either_of true b one other is = one refl
-either_of false b one other is = other is
-
-left_true : (a b : Bool) → a ≡ true → (a || b) ≡ true
-left_true true b is = refl
-left_true false b is = absurd cc
-
-right_true : (a b : Bool) → b ≡ true → (a || b) ≡ true
-right_true true b is = refl
-right_true false b is = is
 
 -- Names of an expression.
 
@@ -163,24 +149,6 @@ module _ (known : Names) (env : Environment) (solved : Key → Environment → O
   all_are_known (FactOf which) is = tt
   all_are_known (OfOne op operand) is = all_are_known operand is
   all_are_known (OfTwo op left right) is = let each = both_true (all_known known left) _ is in (all_are_known left each.0, all_are_known right each.1)
-
--- the name that is told
-record Teller (rest : PlainBody) (known : Names) (whole : Term) : Type 0 where
-  key : Key
-  is : tells rest known whole key ≡ true
-
-teller : (rest : PlainBody) (known : Names) (whole term : Term) → tells_one rest known whole term ≡ true → Teller rest known whole
-teller rest known whole (Constant number) is = absurd cc
-teller rest known whole (Named name) is = record { key = place_key name; is = is }
-teller rest known whole (RowsOf name) is = record { key = count_key name; is = is }
-teller rest known whole (BitsAt name start width) is =
-    either_of (tells rest known whole (place_key name) || tells_one rest known whole start) (tells_one rest known whole width)
-    (either_of (tells rest known whole (place_key name)) (tells_one rest known whole start) (λ one. record { key = place_key name; is = one }) (teller rest known whole start))
-    (teller rest known whole width) is
-teller rest known whole (FactOf which) is = absurd cc
-teller rest known whole (OfOne op operand) is = teller rest known whole operand is
-teller rest known whole (OfTwo op left right) is =
-    either_of (tells_one rest known whole left) (tells_one rest known whole right) (teller rest known whole left) (teller rest known whole right) is
 
 module _ (facts : Facts) (rest : PlainBody) (known : Names) (env : Environment) (width : ℕ) (term : Term) (stored : ℕ) (value : ℤ)
     (is_value : value_of term (names_sight facts env) ≡ Ok value) (back : SolvesBack known width (names_sight facts env) term stored) where

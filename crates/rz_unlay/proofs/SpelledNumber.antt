@@ -18,13 +18,14 @@ use Rattle.rz_fields.specs.declared.tree.Tree.{Tree}
 use Rattle.rz_fields.specs.declared.tree.Tree.TheVariants as trees
 use Rattle.rz_types.specs.Field.{PlainBody}
 use Rattle.rz_types.specs.Range.{fits_number}
-use Rattle.rz_types.specs.Readable.{all_known, is_number_read, tells, tells_one}
+use Rattle.rz_types.specs.Readable.{all_known, is_number_read, tells_one}
 use Rattle.rz_types.specs.Solve.{can_solve, has_key, is_same_key, solved_count, AreSolved, IsSolvedTo, SolvesBack}
 use Rattle.rz_types.specs.Spells.{declares, is_known, told_by, IsNumber, Names, Passed}
 use Rattle.rz_types.specs.Stored.{stored_number}
 use Rattle.rz_types.specs.Value.{names_sight}
 use Rattle.rz_unlay.proofs.SpelledNames.{and_then, by_case, either_of, if_some, left_true, lower_in, mapped, neither, none_is, not_both, part_of, part_then, right_true, solved_grows, some_same, value_grows, Grows, IsLower, Knows, Part}
 use Rattle.rz_unlay.proofs.Sees.{both_true}
+use Rattle.rz_unlay.proofs.Teller.{teller}
 use Rattle.rz_unlay.proofs.Told.{key_is, own_key, part_of_part, same_part}
 
 -- Bits at a place.
@@ -177,24 +178,6 @@ one_of known key (OfOne op operand) are has = one_of known key operand are has
 one_of known key (OfTwo op left right) are has =
     let each = both_true (all_known known left) (all_known known right) are in
     either_of (has_key key left) (has_key key right) (one_of known key left each.0) (one_of known key right each.1) has
-
--- the name that is told
-record Teller (rest : PlainBody) (known : Names) (whole : Term) : Type 0 where
-  key : Key
-  is : tells rest known whole key ≡ true
-
-teller : (rest : PlainBody) (known : Names) (whole term : Term) → tells_one rest known whole term ≡ true → Teller rest known whole
-teller rest known whole (Constant number) is = absurd cc
-teller rest known whole (Named name) is = record { key = place_key name; is = is }
-teller rest known whole (RowsOf name) is = record { key = count_key name; is = is }
-teller rest known whole (BitsAt name start width) is =
-    either_of (tells rest known whole (place_key name) || tells_one rest known whole start) (tells_one rest known whole width)
-    (either_of (tells rest known whole (place_key name)) (tells_one rest known whole start) (λ one. record { key = place_key name; is = one }) (teller rest known whole start))
-    (teller rest known whole width) is
-teller rest known whole (FactOf which) is = absurd cc
-teller rest known whole (OfOne op operand) is = teller rest known whole operand is
-teller rest known whole (OfTwo op left right) is =
-    either_of (tells_one rest known whole left) (tells_one rest known whole right) (teller rest known whole left) (teller rest known whole right) is
 
 -- each of its names is known, or the fields behind it give it
 known_or_given : (rest : PlainBody) (known : Names) (term : Term) → (all_known known term || tells_one rest known term term) ≡ true → (key : Key) → has_key key term ≡ true
