@@ -26,6 +26,7 @@ pub fn double_write(alloc: Global, file: &MacFile) -> Result<Bytes, Stop<BridgeF
     ensures again { IfOk result (λ bytes.
         double_content bytes file.now.data_fork ≡ Ok (double_carried file.now)) }
     ensures short { IfOk result (λ bytes. length bytes < 2 ^ 32) }
+    ensures data_fork { IfOk result (λ _. length file.now.data_fork ≤ 33554432) }
     ensures sayable { OnFault result IsSayable }
 {
     if let Some(fault) = forks_refused(file) {

@@ -1,350 +1,99 @@
-use crate::made::{Told, changed, file_of, is_finder, run_of, told_of};
-use rz_bridge::{MacFile, crc, macbin_read, macbin_write};
-use rz_core::Bytes;
-use std::alloc::Global;
-use std::test::Fail;
+/// A file, and its bytes.
+pub const WRITTEN: &str = r#"
+Read Me\A5|«\07×129»|«\09×127» => \00\08\52\65\61\64\20\4D\65\A5«\00×55»\54\45\58\54\74\74\78\74\21\00\FF\FE\01\2C\FF\FF\01\00\00\00\00\81\00\00\00\7F\80\00\00\01\FF\FF\FF\FE\00\00\80«\00×20»\81\81\CB\1A\00\00«\07×129»«\00×127»«\09×127»\00
+"#;
 
-/// The header of a file `Read Me` and the byte A5, with forks of 129 and 127 bytes.
-#[rattlefmt::skip]
-const HEADER: [u8; 128] = [
-    0x00, 0x08, 0x52, 0x65, 0x61, 0x64, 0x20, 0x4D, 0x65, 0xA5, 0x00, 0x00, 0x00, 0x00, 0x00, 0x00,
-    0x00, 0x00, 0x00, 0x00, 0x00, 0x00, 0x00, 0x00, 0x00, 0x00, 0x00, 0x00, 0x00, 0x00, 0x00, 0x00,
-    0x00, 0x00, 0x00, 0x00, 0x00, 0x00, 0x00, 0x00, 0x00, 0x00, 0x00, 0x00, 0x00, 0x00, 0x00, 0x00,
-    0x00, 0x00, 0x00, 0x00, 0x00, 0x00, 0x00, 0x00, 0x00, 0x00, 0x00, 0x00, 0x00, 0x00, 0x00, 0x00,
-    0x00, 0x54, 0x45, 0x58, 0x54, 0x74, 0x74, 0x78, 0x74, 0x21, 0x00, 0xFF, 0xFE, 0x01, 0x2C, 0xFF,
-    0xFF, 0x01, 0x00, 0x00, 0x00, 0x00, 0x81, 0x00, 0x00, 0x00, 0x7F, 0x80, 0x00, 0x00, 0x01, 0xFF,
-    0xFF, 0xFF, 0xFE, 0x00, 0x00, 0x80, 0x00, 0x00, 0x00, 0x00, 0x00, 0x00, 0x00, 0x00, 0x00, 0x00,
-    0x00, 0x00, 0x00, 0x00, 0x00, 0x00, 0x00, 0x00, 0x00, 0x00, 0x81, 0x81, 0xCB, 0x1A, 0x00, 0x00,
-];
+/// Forks of any length that come back, names of 1 to 63 bytes, and what is refused.
+pub const AGAIN: &str = r#"
+a|| => MacBinary 128 a||
+a||\09 => MacBinary 256 a||\09
+a|\07| => MacBinary 256 a|\07|
+a|«\07×127»|«\09×128» => MacBinary 384 a|«\07×127»|«\09×128»
+a|«\07×128»|«\09×129» => MacBinary 512 a|«\07×128»|«\09×129»
+a|«\07×129»|«\09×127» => MacBinary 512 a|«\07×129»|«\09×127»
+a|«\07×128»| => MacBinary 256 a|«\07×128»|
+a||«\09×129» => MacBinary 384 a||«\09×129»
+a|«\07×129»|«\09×129» => MacBinary 640 a|«\07×129»|«\09×129»
+«n×63»||«\09×128» => MacBinary 256 «n×63»||«\09×128»
+a|\07\07\07|«\09×5» => MacBinary 384 a|\07\07\07|«\09×5»
+|«\07×3»|«\09×4» => 425 0 0 0 0
+\FF|«\07×3»|«\09×4» => MacBinary 384 \FF|«\07×3»|«\09×4»
+«\FF×62»|«\07×3»|«\09×4» => MacBinary 384 «\FF×62»|«\07×3»|«\09×4»
+«\FF×63»|«\07×3»|«\09×4» => MacBinary 384 «\FF×63»|«\07×3»|«\09×4»
+«\FF×64»|«\07×3»|«\09×4» => 425 0 64 0 0
+«\FF×255»|«\07×3»|«\09×4» => 425 0 255 0 0
+// a name is looked at before the forks
+|«xxxxxxxxxxxxxxxxxxxxxxxxxxxxxxxxxxxxxxxxxxxxxxxxxxxxxxxxxxxxxxxx×524288»x| => 425 0 0 0 0
+a|«xxxxxxxxxxxxxxxxxxxxxxxxxxxxxxxxxxxxxxxxxxxxxxxxxxxxxxxxxxxxxxxx×524288»x| => 428 0 33554433 0 0
+a||«xxxxxxxxxxxxxxxxxxxxxxxxxxxxxxxxxxxxxxxxxxxxxxxxxxxxxxxxxxxxxxxx×524288»xx => 428 0 33554434 0 0
+"#;
 
-/// Reads bytes of a test.
-fn read(alloc: Global, bytes: &[u8]) -> Result<MacFile, Fail> {
-    if bytes.len() >= 1_000_000 {
-        return Err(Fail::from("too long for a test"));
-    }
-    match macbin_read(alloc, bytes) {
-        Ok(file) => Ok(file),
-        Err(_) => Err(Fail::from("the file is refused")),
-    }
-}
+/// Files with edits, and the first broken rule.
+pub const TOLD: &str = r#"
+// two changes under a mended check
+ab|«\07×129»|\09 0=0 74=0 mended => none
+ab|«\07×129»|\09 0=1 74=0 mended => 422 0 1 0 0
+ab|«\07×129»|\09 0=255 1=0 mended => 422 0 255 0 0
+ab|«\07×129»|\09 0=2 74=3 mended => 422 0 2 0 0
+ab|«\07×129»|\09 74=1 82=1 mended => 422 74 1 0 0
+ab|«\07×129»|\09 74=255 122=0 mended => 422 74 255 0 0
+ab|«\07×129»|\09 82=1 122=128 mended => 422 82 1 0 0
+ab|«\07×129»|\09 82=128 123=130 mended => 422 82 128 0 0
+ab|«\07×129»|\09 122=128 123=0 mended => 422 122 128 0 0
+ab|«\07×129»|\09 122=0 123=130 mended => 422 122 0 0 0
+ab|«\07×129»|\09 123=128 1=0 mended => 422 123 128 0 0
+ab|«\07×129»|\09 122=130 123=129 mended => none
+ab|«\07×129»|\09 122=255 123=130 mended => 427 123 130 0 0
+ab|«\07×129»|\09 123=255 1=64 mended => 427 123 255 0 0
+ab|«\07×129»|\09 1=0 83=255 mended => 425 1 0 0 0
+ab|«\07×129»|\09 1=64 82=0 mended => 425 1 64 0 0
+ab|«\07×129»|\09 1=255 82=0 mended => 425 1 255 0 0
+ab|«\07×129»|\09 1=63 82=0 mended => none
+ab|«\07×129»|\09 85=1 86=128 mended => 426 512 1 0 0
+ab|«\07×129»|\09 85=1 86=129 mended => 426 128 385 0 0
+ab|«\07×129»|\09 83=255 87=255 mended => 426 128 4278190209 0 0
+ab|«\07×129»|\09 90=128 82=0 mended => none
+ab|«\07×129»|\09 90=129 82=0 mended => 426 384 129 0 0
+ab|«\07×129»|\09 120=255 121=255 mended => 426 65664 129 0 0
+// one change under the old check
+ab|«\07×129»|\09 2=98 => 424 124 0 58509 8562
+ab|«\07×129»|\09 102=1 => 424 124 0 58509 35157
+ab|«\07×129»|\09 121=1 => 424 124 0 58509 54205
+ab|«\07×129»|\09 124=229 => 424 124 0 58765 58509
+ab|«\07×129»|\09 125=13 => 424 124 0 58381 58509
+// what is told before the check, and what the check doesn't cover
+ab|«\07×129»|\09 65=0 123=130 => 427 123 130 0 0
+ab|«\07×129»|\09 126=1 511=1 => none
+// how many bytes are left: missing filler is no fault
+ab|«\07×129»|\09 ..0 => 421 0 0 0 0
+ab|«\07×129»|\09 ..127 => 421 0 127 0 0
+ab|«\07×129»|\09 ..128 => 426 128 129 0 0
+ab|«\07×129»|\09 ..256 => 426 128 129 0 0
+ab|«\07×129»|\09 ..257 => 426 384 1 0 0
+ab|«\07×129»|\09 ..384 => 426 384 1 0 0
+ab|«\07×129»|\09 ..385 => none
+ab|«\07×129»|\09 ..511 => none
+ab|«\07×129»|\09 ..512 => none
+// a turned bit keeps both checks, in a file with type and creator `????` and all other fields zero
+«n×63»||«\09×128» 65=63 66=63 67=63 68=63 69=63 70=63 71=63 72=63 73=0 75=0 76=0 77=0 78=0 79=0 80=0 81=0 91=0 92=0 93=0 94=0 95=0 96=0 97=0 98=0 101=0 mended 65=62 => 424 124 0 31170 56476
+«n×63»||«\09×128» 65=63 66=63 67=63 68=63 69=63 70=63 71=63 72=63 73=0 75=0 76=0 77=0 78=0 79=0 80=0 81=0 91=0 92=0 93=0 94=0 95=0 96=0 97=0 98=0 101=0 mended 0=1 => 422 0 1 0 0
+«n×63»||«\09×128» 65=63 66=63 67=63 68=63 69=63 70=63 71=63 72=63 73=0 75=0 76=0 77=0 78=0 79=0 80=0 81=0 91=0 92=0 93=0 94=0 95=0 96=0 97=0 98=0 101=0 mended 123=130 => 427 123 130 0 0
+«n×63»||«\09×128» 65=63 66=63 67=63 68=63 69=63 70=63 71=63 72=63 73=0 75=0 76=0 77=0 78=0 79=0 80=0 81=0 91=0 92=0 93=0 94=0 95=0 96=0 97=0 98=0 101=0 mended ..127 => 421 0 127 0 0
+«n×63»||«\09×128» 65=63 66=63 67=63 68=63 69=63 70=63 71=63 72=63 73=0 75=0 76=0 77=0 78=0 79=0 80=0 81=0 91=0 92=0 93=0 94=0 95=0 96=0 97=0 98=0 101=0 mended ..255 => 426 128 128 0 0
+"#;
 
-/// The fault of bytes of a test.
-fn fault_of(alloc: Global, bytes: &[u8]) -> Result<Told, Fail> {
-    if bytes.len() >= 1_000_000 {
-        return Err(Fail::from("too long for a test"));
-    }
-    told_of(macbin_read(alloc, bytes))
-}
-
-/// The file as it is written.
-fn written(alloc: Global, file: &MacFile) -> Result<Bytes, Fail> {
-    match macbin_write(alloc, file) {
-        Ok(bytes) => Ok(bytes),
-        Err(_) => Err(Fail::from("the file isn't written")),
-    }
-}
-
-#[test]
-fn a_file_is_written_byte_by_byte(rt: HostRuntime) -> Result<(), Fail> {
-    let alloc = rt.alloc();
-    let bytes = written(alloc, &file_of(alloc, b"Read Me\xA5", 129, 127)?)?;
-    let mut wanted = HEADER.to_vec(alloc)?;
-    wanted.extend_from_slice(&[7; 129])?;
-    wanted.extend_from_slice(&[0; 127])?;
-    wanted.extend_from_slice(&[9; 127])?;
-    wanted.push(0)?;
-    assert_eq!(rt; bytes.as_slice(), wanted.as_slice());
-    Ok(())
-}
-
-/// Lengths of both forks, and of the file.
-const SIZES: [(usize, usize, u64); 9] = [
-    (0, 0, 128),
-    (0, 1, 256),
-    (1, 0, 256),
-    (127, 128, 384),
-    (128, 129, 512),
-    (129, 127, 512),
-    (128, 0, 256),
-    (0, 129, 384),
-    (129, 129, 640),
-];
-
-#[test]
-fn forks_of_any_length_come_back(rt: HostRuntime) -> Result<(), Fail> {
-    let alloc = rt.alloc();
-    for (data, resources, length) in SIZES {
-        let bytes = written(alloc, &file_of(alloc, b"a", data, resources)?)?;
-        assert_eq!(rt; bytes.len(), length);
-        let file = read(alloc, bytes.as_slice())?;
-        assert_eq!(rt; file.name.as_slice(), b"a".as_slice());
-        assert_eq!(rt;
-            file.data_fork.as_slice(),
-            run_of(alloc, 7, data)?.as_slice()
-        );
-        assert_eq!(rt;
-            file.res_fork.as_slice(),
-            run_of(alloc, 9, resources)?.as_slice()
-        );
-        assert!(rt; is_finder(&file.finder));
-        assert_eq!(rt; file.finder.extra, [0; 16]);
-        assert!(rt; file.locked);
-        assert_eq!(rt; (file.created, file.modified), (0x8000_0001, 0xFFFF_FFFE));
-    }
-    Ok(())
-}
-
-/// Lengths of names, and what is told of them.
-const NAMES: [(usize, Told); 6] = [
-    (0, Some((425, 0, [0, 0, 0]))),
-    (1, None),
-    (62, None),
-    (63, None),
-    (64, Some((425, 0, [64, 0, 0]))),
-    (255, Some((425, 0, [255, 0, 0]))),
-];
-
-#[test]
-fn names_have_1_to_63_bytes(rt: HostRuntime) -> Result<(), Fail> {
-    let alloc = rt.alloc();
-    for (length, wanted) in NAMES {
-        let name = run_of(alloc, 0xFF, length)?;
-        let file = file_of(alloc, name.as_slice(), 3, 4)?;
-        assert_eq!(rt; told_of(macbin_write(alloc, &file))?, wanted);
-        if wanted.is_none() {
-            let bytes = written(alloc, &file)?;
-            assert_eq!(rt;
-                read(alloc, bytes.as_slice())?.name.as_slice(),
-                name.as_slice()
-            );
-        }
-    }
-    Ok(())
-}
-
-#[test]
-fn a_name_is_looked_at_before_the_forks(rt: HostRuntime) -> Result<(), Fail> {
-    let alloc = rt.alloc();
-    let long = file_of(alloc, b"", 33_554_433, 0)?;
-    assert_eq!(rt;
-        told_of(macbin_write(alloc, &long))?,
-        Some((425, 0, [0, 0, 0]))
-    );
-    let data = file_of(alloc, b"a", 33_554_433, 0)?;
-    assert_eq!(rt;
-        told_of(macbin_write(alloc, &data))?,
-        Some((428, 0, [33_554_433, 0, 0]))
-    );
-    let resources = file_of(alloc, b"a", 0, 33_554_434)?;
-    assert_eq!(rt;
-        told_of(macbin_write(alloc, &resources))?,
-        Some((428, 0, [33_554_434, 0, 0]))
-    );
-    Ok(())
-}
-
-/// A file of 512 bytes: its name is `ab`, its data fork has 129 bytes and its resource fork has one.
-fn sound(alloc: Global) -> Result<Bytes, Fail> {
-    written(alloc, &file_of(alloc, b"ab", 129, 1)?)
-}
-
-/// Changed bytes, with the check mended.
-fn mended(alloc: Global, edits: &[(usize, u8)]) -> Result<Bytes, Fail> {
-    let bytes = changed(alloc, sound(alloc)?.as_slice(), edits, 512)?;
-    let check = check_of(bytes.as_slice())?;
-    let high = (check >> 8) as u8;
-    let low = (check & 255) as u8;
-    changed(alloc, bytes.as_slice(), &[(124, high), (125, low)], 512)
-}
-
-/// The check of a header.
-fn check_of(bytes: &[u8]) -> Result<u16, Fail> {
-    if bytes.len() < 124 {
-        return Err(Fail::from("a header is too short"));
-    }
-    Ok(crc(0, bytes.split_at(124).0))
-}
-
-/// What is told of two changes under a mended check.
-fn told_mended(alloc: Global, edits: [(usize, u8); 2]) -> Result<Told, Fail> {
-    let bytes = mended(alloc, edits.as_slice())?;
-    fault_of(alloc, bytes.as_slice())
-}
-
-/// Two changes under a mended check, and what is told.
-const MENDED: [([(usize, u8); 2], Told); 24] = [
-    ([(0, 0), (74, 0)], None),
-    ([(0, 1), (74, 0)], Some((422, 0, [1, 0, 0]))),
-    ([(0, 255), (1, 0)], Some((422, 0, [255, 0, 0]))),
-    ([(0, 2), (74, 3)], Some((422, 0, [2, 0, 0]))),
-    ([(74, 1), (82, 1)], Some((422, 74, [1, 0, 0]))),
-    ([(74, 255), (122, 0)], Some((422, 74, [255, 0, 0]))),
-    ([(82, 1), (122, 128)], Some((422, 82, [1, 0, 0]))),
-    ([(82, 128), (123, 130)], Some((422, 82, [128, 0, 0]))),
-    ([(122, 128), (123, 0)], Some((422, 122, [128, 0, 0]))),
-    ([(122, 0), (123, 130)], Some((422, 122, [0, 0, 0]))),
-    ([(123, 128), (1, 0)], Some((422, 123, [128, 0, 0]))),
-    ([(122, 130), (123, 129)], None),
-    ([(122, 255), (123, 130)], Some((427, 123, [130, 0, 0]))),
-    ([(123, 255), (1, 64)], Some((427, 123, [255, 0, 0]))),
-    ([(1, 0), (83, 255)], Some((425, 1, [0, 0, 0]))),
-    ([(1, 64), (82, 0)], Some((425, 1, [64, 0, 0]))),
-    ([(1, 255), (82, 0)], Some((425, 1, [255, 0, 0]))),
-    ([(1, 63), (82, 0)], None),
-    ([(85, 1), (86, 128)], Some((426, 512, [1, 0, 0]))),
-    ([(85, 1), (86, 129)], Some((426, 128, [385, 0, 0]))),
-    (
-        [(83, 255), (87, 255)],
-        Some((426, 128, [4_278_190_209, 0, 0])),
-    ),
-    ([(90, 128), (82, 0)], None),
-    ([(90, 129), (82, 0)], Some((426, 384, [129, 0, 0]))),
-    ([(120, 255), (121, 255)], Some((426, 65_664, [129, 0, 0]))),
-];
-
-#[test]
-fn the_first_broken_rule_is_told(rt: HostRuntime) -> Result<(), Fail> {
-    let alloc = rt.alloc();
-    for (edits, wanted) in MENDED {
-        assert_eq!(rt; told_mended(alloc, edits)?, wanted, "{edits:?}");
-    }
-    Ok(())
-}
-
-/// One change under the old check, and the check that it makes.
-const UNMENDED: [(usize, u8, [i64; 3]); 5] = [
-    (2, 98, [0, 58509, 8562]),
-    (102, 1, [0, 58509, 35157]),
-    (121, 1, [0, 58509, 54205]),
-    (124, 229, [0, 58765, 58509]),
-    (125, 13, [0, 58381, 58509]),
-];
-
-#[test]
-fn a_wrong_check_is_told(rt: HostRuntime) -> Result<(), Fail> {
-    let alloc = rt.alloc();
-    for (place, byte, kept) in UNMENDED {
-        let bytes = changed(alloc, sound(alloc)?.as_slice(), &[(place, byte)], 512)?;
-        assert_eq!(rt;
-            fault_of(alloc, bytes.as_slice())?,
-            Some((424, 124, kept)),
-            "{place}"
-        );
-    }
-    let early = changed(alloc, sound(alloc)?.as_slice(), &[(65, 0), (123, 130)], 512)?;
-    assert_eq!(rt;
-        fault_of(alloc, early.as_slice())?,
-        Some((427, 123, [130, 0, 0]))
-    );
-    let behind = changed(alloc, sound(alloc)?.as_slice(), &[(126, 1), (511, 1)], 512)?;
-    assert_eq!(rt; fault_of(alloc, behind.as_slice())?, None);
-    Ok(())
-}
-
-/// How many bytes are left, and what is told.
-const CUTS: [(usize, Told); 9] = [
-    (0, Some((421, 0, [0, 0, 0]))),
-    (127, Some((421, 0, [127, 0, 0]))),
-    (128, Some((426, 128, [129, 0, 0]))),
-    (256, Some((426, 128, [129, 0, 0]))),
-    (257, Some((426, 384, [1, 0, 0]))),
-    (384, Some((426, 384, [1, 0, 0]))),
-    (385, None),
-    (511, None),
-    (512, None),
-];
-
-#[test]
-fn missing_filler_is_no_fault(rt: HostRuntime) -> Result<(), Fail> {
-    let alloc = rt.alloc();
-    for (length, wanted) in CUTS {
-        let bytes = changed(alloc, sound(alloc)?.as_slice(), &[], length)?;
-        assert_eq!(rt; fault_of(alloc, bytes.as_slice())?, wanted, "{length}");
-    }
-    Ok(())
-}
-
-#[test]
-fn empty_forks_may_lie_behind_the_file(rt: HostRuntime) -> Result<(), Fail> {
-    let alloc = rt.alloc();
-    let bytes = changed(
-        alloc,
-        mended(alloc, &[(86, 0), (90, 0), (121, 1)])?.as_slice(),
-        &[],
-        128,
-    )?;
-    let file = read(alloc, bytes.as_slice())?;
-    assert_eq!(rt; (file.data_fork.len(), file.res_fork.len()), (0, 0));
-    Ok(())
-}
-
-#[test]
-fn a_secondary_header_is_skipped(rt: HostRuntime) -> Result<(), Fail> {
-    let alloc = rt.alloc();
-    for length in [1, 127, 128] {
-        let header = changed(alloc, mended(alloc, &[(121, length)])?.as_slice(), &[], 128)?;
-        let mut bytes = header.into_vec();
-        bytes.extend_from_slice(&[0xAA; 128])?;
-        bytes.extend_from_slice(&[7; 129])?;
-        bytes.extend_from_slice(&[0xBB; 127])?;
-        bytes.push(9)?;
-        let file = read(alloc, &bytes)?;
-        assert_eq!(rt; file.data_fork.as_slice(), [7; 129].as_slice());
-        assert_eq!(rt; file.res_fork.as_slice(), [9].as_slice());
-    }
-    Ok(())
-}
-
-#[test]
-fn the_lowest_bit_alone_locks(rt: HostRuntime) -> Result<(), Fail> {
-    let alloc = rt.alloc();
-    for (byte, locked) in [(0, false), (1, true), (2, false), (254, false), (255, true)] {
-        let bytes = mended(alloc, &[(81, byte)])?;
-        assert_eq!(rt; read(alloc, bytes.as_slice())?.locked, locked, "{byte}");
-    }
-    Ok(())
-}
-
-#[test]
-fn a_turned_bit_keeps_both_checks(rt: HostRuntime) -> Result<(), Fail> {
-    let alloc = rt.alloc();
-    let name = run_of(alloc, b'n', 63)?;
-    let mut file = file_of(alloc, name.as_slice(), 0, 128)?;
-    file.finder.kind.code = 0x3F3F_3F3F;
-    file.finder.creator.code = 0x3F3F_3F3F;
-    file.finder.flags = 0;
-    file.finder.vertical = 0;
-    file.finder.horizontal = 0;
-    file.finder.folder = 0;
-    file.locked = false;
-    file.created = 0;
-    file.modified = 0;
-    let bytes = written(alloc, &file)?;
-    assert_eq!(rt; bytes.len(), 256);
-    let turned = changed(alloc, bytes.as_slice(), &[(65, 0x3E)], 256)?;
-    assert_eq!(rt;
-        fault_of(alloc, turned.as_slice())?,
-        Some((424, 124, [0, 31_170, 56_476]))
-    );
-    let first = changed(alloc, bytes.as_slice(), &[(0, 1)], 256)?;
-    assert_eq!(rt;
-        fault_of(alloc, first.as_slice())?,
-        Some((422, 0, [1, 0, 0]))
-    );
-    let newer = changed(alloc, bytes.as_slice(), &[(123, 0x82)], 256)?;
-    assert_eq!(rt;
-        fault_of(alloc, newer.as_slice())?,
-        Some((427, 123, [130, 0, 0]))
-    );
-    let short = changed(alloc, bytes.as_slice(), &[], 127)?;
-    assert_eq!(rt;
-        fault_of(alloc, short.as_slice())?,
-        Some((421, 0, [127, 0, 0]))
-    );
-    let cut = changed(alloc, bytes.as_slice(), &[], 255)?;
-    assert_eq!(rt;
-        fault_of(alloc, cut.as_slice())?,
-        Some((426, 128, [128, 0, 0]))
-    );
-    Ok(())
-}
+/// Files with edits, and the files that are read.
+pub const READ: &str = r#"
+// empty forks may lie behind the file
+ab|«\07×129»|\09 86=0 90=0 121=1 ..128 mended => ab||
+// a secondary header is skipped
+ab|«\07×129»|\09 121=1 ..128 mended +«\AA×128»«\07×129»«\BB×127»\09 => ab|«\07×129»|\09
+ab|«\07×129»|\09 121=127 ..128 mended +«\AA×128»«\07×129»«\BB×127»\09 => ab|«\07×129»|\09
+ab|«\07×129»|\09 121=128 ..128 mended +«\AA×128»«\07×129»«\BB×127»\09 => ab|«\07×129»|\09
+// the lowest bit alone locks
+ab|«\07×129»|\09 81=0 mended => ab|«\07×129»|\09|false 2147483649 4294967294 Finder { kind: OsType { code: 1413830740 }, creator: OsType { code: 1953790068 }, flags: 8576, vertical: -2, horizontal: 300, folder: -1, extra: [0, 0, 0, 0, 0, 0, 0, 0, 0, 0, 0, 0, 0, 0, 0, 0] }
+ab|«\07×129»|\09 81=1 mended => ab|«\07×129»|\09
+ab|«\07×129»|\09 81=2 mended => ab|«\07×129»|\09|false 2147483649 4294967294 Finder { kind: OsType { code: 1413830740 }, creator: OsType { code: 1953790068 }, flags: 8576, vertical: -2, horizontal: 300, folder: -1, extra: [0, 0, 0, 0, 0, 0, 0, 0, 0, 0, 0, 0, 0, 0, 0, 0] }
+ab|«\07×129»|\09 81=254 mended => ab|«\07×129»|\09|false 2147483649 4294967294 Finder { kind: OsType { code: 1413830740 }, creator: OsType { code: 1953790068 }, flags: 8576, vertical: -2, horizontal: 300, folder: -1, extra: [0, 0, 0, 0, 0, 0, 0, 0, 0, 0, 0, 0, 0, 0, 0, 0] }
+ab|«\07×129»|\09 81=255 mended => ab|«\07×129»|\09
+"#;

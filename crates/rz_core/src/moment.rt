@@ -1,4 +1,4 @@
-ghost use Rattle.std.specs.Prelude.{◌≡◌, ◌↔◌, IsSome, IfSome};
+ghost use Rattle.std.specs.Prelude.{◌≡◌, ◌↔◌, ◌+ℤ◌, pos, IsSome, IfSome};
 ghost use Rattle.rz_core.specs.Moment.{IsInRange};
 
 /// A moment in the years 1904 to 2039, the range of the Macintosh's clock and of the tools' dates.
@@ -26,5 +26,12 @@ impl Moment {
             return None;
         }
         Some(Moment { unix: seconds })
+    }
+
+    /// The seconds since the first second of 1904, as the Macintosh's clock counts them.
+    pub fn mac_time(&self) -> u32
+        ensures { pos result ≡ self.now.unix +ℤ pos 2082844800 }
+    {
+        (self.unix - Self::FIRST) as u32
     }
 }

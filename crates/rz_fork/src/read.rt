@@ -39,6 +39,7 @@ pub fn read_fork(alloc: Global, bytes: &[u8]) -> Result<ForkList, Stop<ForkFault
     ensures fork { GivesFork (admitted bytes.now) result }
     ensures keys { IfOk result (λ fork. KeysDiffer [] fork.list) }
     ensures bytes { IfOk result (λ fork. AllByRecursion FitsFork fork.list) }
+    ensures room { IfOk result (λ fork. length fork.reserved ≤ 240) }
     ensures sayable { OnFault result IsSayable }
 {
     if bytes.is_empty() {
@@ -152,7 +153,8 @@ fn copy_resources(alloc: Global, bytes: &[u8], outline: Outline) -> Result<Resou
 #[tactic(auto, unfolding(crate::specs::Contents::reserved_of))]
 fn reserved_of(bytes: &[u8], header: Header) -> &[u8]
     requires { 16 ≤ length bytes.now }
-    ensures { result.now ≡ reserved_of bytes.now header }
+    ensures bytes { result.now ≡ reserved_of bytes.now header }
+    ensures room { length result.now ≤ 240 }
 {
     let end = header.data_at.min(header.map_at).min(256).min(bytes.len());
     piece_at(bytes, 16, end.saturating_sub(16))

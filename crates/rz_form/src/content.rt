@@ -1,4 +1,4 @@
-ghost use Rattle.std.specs.Prelude.{◌≡◌, ◌<◌, ◌^◌, length, IfOk, Ok};
+ghost use Rattle.std.specs.Prelude.{◌≡◌, ◌≤◌, ◌<◌, ◌^◌, length, IfOk, Ok};
 ghost use Rattle.rz_core.specs.Stop.{Gives, OnFault};
 ghost use Rattle.rz_bridge.specs.Faults.{IsSayable};
 ghost use Rattle.rz_form.specs.Forms.{raw_file, content_of, written_of, carried_of};
@@ -70,6 +70,7 @@ pub fn write_form(alloc: Global, form: Form, file: &MacFile) -> Result<Bytes, St
     ensures again { IfOk result (λ bytes.
         content_of form bytes file.now.data_fork ≡ Ok (carried_of form file.now)) }
     ensures short { length file.now.res_fork < 2 ^ 32 → IfOk result (λ bytes. length bytes < 2 ^ 32) }
+    ensures data_fork { form ≡ Form.AppleDouble → IfOk result (λ _. length file.now.data_fork ≤ 33554432) }
     ensures sayable { OnFault result IsSayable }
 {
     match form {

@@ -4,6 +4,8 @@ ghost use Rattle.rz_bridge.specs.AppleDouble.{double_image};
 ghost use Rattle.rz_bridge.specs.MacBinary.{macbin_content};
 ghost use Rattle.rz_bridge.specs.declared.file.MacFile.{MacFile};
 ghost use Rattle.rz_hqx.specs.Text.{text_of};
+ghost use Rattle.rz_folder.specs.Temporary.{IsParted};
+ghost use Rattle.rz_form.specs.DataFile.{IsDataFile};
 ghost use Rattle.rz_form.specs.Forms.{double_magic, form_of};
 ghost use Rattle.rz_form.specs.declared.form.Form.TheVariants.{AppleDouble, MacBinary, BinHex};
 
@@ -15,4 +17,14 @@ pub fn written_forms_are_found()
     ensures macbin { (bytes : List ℕ) (file : MacFile) → macbin_content bytes ≡ Ok file
         → starts_with nat_eq bytes double_magic ≡ false → form_of bytes ≡ MacBinary }
     ensures hqx { (bytes : List ℕ) → form_of (text_of bytes) ≡ BinHex }
+{}
+
+/// A law, with nothing to run: a header file of AppleDouble has one data file.
+pub fn one_data_file()
+    ensures { (header name also : List ℕ) → IsDataFile header name → IsDataFile header also → name ≡ also }
+{}
+
+/// A law, with nothing to run: a path parts in one way into its folder part and its last name.
+pub fn one_parting()
+    ensures { (path folder last twin behind : List ℕ) → IsParted path folder last → IsParted path twin behind → (folder ≡ twin) × (last ≡ behind) }
 {}

@@ -3,7 +3,7 @@
 //! trusted.
 //! It rests on `rz_core`, `rz_folder` and `rz_tools`. The programs `rezkit` and `rezkit_refusal` are `start`
 //! alone.
-//! A status of its own, as 5, stands in the help text of `rz_tools` and in README.md too.
+//! A status of its own, as 5, stands in the help text of `rz_answer` and in README.md too.
 #![tactic(auto)]
 
 ghost use Rattle.rz_host.specs.Clock.{IsMomentAt};

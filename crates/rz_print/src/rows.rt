@@ -21,8 +21,8 @@ use rz_types::{Case, Field, Row, Tree, rules_hold_within, takes_value};
 /// last of its list is followed by a comma. A level is four blanks, and at most eight show. A number is shown by the
 /// first of its symbols that gives it, unless that is a live macro, and else by its value. Fields that take no value
 /// show nothing. Where memory is refused a part may have been appended. Its time is in proportion to the fields of each
-/// row that is walked, the symbols of each number, the cases of each switch and the text; a macro is looked up only where
-/// a symbol is about to be shown. (The text is that of MPW DeRez.)
+/// row that is walked, the cases of each switch and the text, and grows with the square of the symbols of one name in a
+/// field; a macro is looked up only where a symbol is about to be shown. (The text is that of MPW DeRez.)
 pub fn write_row(
     fields: &[Field],
     row: &[Tree],

@@ -36,8 +36,9 @@ pub enum Reading {
 /// end in a zero byte, filler and the fewer than eight bits behind the last field are zero, and it has at most 1,048,576
 /// numbers, texts and rows of arrays, where a point counts as two numbers and a rectangle as four.
 ///
-/// A row spells at most 16,777,212 bytes, so of more `NoTree` comes at once. Time and memory are in proportion to what is
-/// read of them, for each row the fields of its array, with their expressions, and to the cases of each switch. (MPW Rez.)
+/// A row spells at most 16,777,212 bytes, so of more `NoTree` comes at once. Time and memory grow with what
+/// is read of them: for each row with the fields of its array and the cases of each switch, with the square of the
+/// operators in an expression that tells a count, and with the square of the arrays that are named in one row. (MPW Rez.)
 pub fn read(
     alloc: Global,
     template: &Template,
