@@ -9,41 +9,47 @@ use Rattle.rz_brackets.specs.Pieces.{AreCut, Parted}
 use Rattle.rz_brackets.specs.declared.bracket.Bracket.{Bracket}
 use Rattle.rz_brackets.specs.declared.pieces.Divider.{Divider}
 use Rattle.rz_brackets.specs.declared.pieces.Divider.TheVariants.{Comma}
-use Rattle.rz_data.specs.Head.{name_in, word_attribute, AreAttributes, Attribute, Head, IsAttribute, IsAttributeBy, IsHead, IsRest, IsRestBy, Value}
+use Rattle.rz_data.specs.Head.{name_for, word_attribute, AreAttributesFor, Attribute, Head, IsAttributeBy, IsAttributeFor, IsHead, IsHeadFor, IsRestBy, IsRestFor, Value}
+use Rattle.rz_data.specs.declared.head.Subject.{Subject}
+use Rattle.rz_data.specs.declared.head.Subject.TheVariants.{New}
 use Rattle.rz_data.specs.Raw.{texts_in, IsRaw, Raw}
 use Rattle.rz_fields.specs.Text.{PlainPart}
 use Rattle.rz_data.proofs.Shaped.{in_brackets, same_kind}
 
 module _ (one : OneExpression) where
-  by_word : (found : Option Attribute) (piece : List Token) (a b : Attribute) → IsAttributeBy found piece a → IsAttributeBy found piece b → a ≡ b
-  by_word (Some found) piece a b is also = is ∙ sym also
-  by_word None piece a b is also = is.2 ∙ ap Value (one piece is.0 also.0 is.1.0 also.1.0) ∙ sym also.2
+  module _ (subject : Subject) where
+    by_word : (found : Option Attribute) (piece : List Token) (a b : Attribute) → IsAttributeBy subject found piece a → IsAttributeBy subject found piece b → a ≡ b
+    by_word (Some found) piece a b is also = is ∙ sym also
+    by_word None piece a b is also = is.2 ∙ ap Value (one piece is.0 also.0 is.1.0 also.1.0) ∙ sym also.2
 
-  pub one_attribute : (piece : List Token) (a b : Attribute) → IsAttribute piece a → IsAttribute piece b → a ≡ b
-  one_attribute piece a b is also = by_word (word_attribute piece) piece a b is also
+    pub one_attribute : (piece : List Token) (a b : Attribute) → IsAttributeFor subject piece a → IsAttributeFor subject piece b → a ≡ b
+    one_attribute piece a b is also = by_word (word_attribute piece) piece a b is also
 
-  one_attributes : (pieces : List (List Token)) (a b : List Attribute) → AreAttributes pieces a → AreAttributes pieces b → a ≡ b
-  one_attributes [] a b is also = is ∙ sym also
-  one_attributes (piece ∷ pieces) a b is also =
-      is.4
-      ∙ (λ i. one_attribute piece is.0 also.0 is.2 also.2 i ∷ one_attributes pieces is.1 also.1 is.3 also.3 i)
-      ∙ sym also.4
+    one_attributes : (pieces : List (List Token)) (a b : List Attribute) → AreAttributesFor subject pieces a → AreAttributesFor subject pieces b → a ≡ b
+    one_attributes [] a b is also = is ∙ sym also
+    one_attributes (piece ∷ pieces) a b is also =
+        is.4
+        ∙ (λ i. one_attribute piece is.0 also.0 is.2 also.2 i ∷ one_attributes pieces is.1 also.1 is.3 also.3 i)
+        ∙ sym also.4
 
-  rest_by : (found : Option (List PlainPart)) (piece : List Token) (pieces : List (List Token)) (name other : Option (List PlainPart)) (a b : List Attribute)
-      → IsRestBy found piece pieces name a → IsRestBy found piece pieces other b → (name ≡ other) × (a ≡ b)
-  rest_by (Some parts) piece pieces name other a b is also = (is.0 ∙ sym also.0, one_attributes pieces a b is.1 also.1)
-  rest_by None piece pieces name other a b is also = (is.0 ∙ sym also.0, one_attributes (piece ∷ pieces) a b is.1 also.1)
+    rest_by : (found : Option (List PlainPart)) (piece : List Token) (pieces : List (List Token)) (name other : Option (List PlainPart)) (a b : List Attribute)
+        → IsRestBy subject found piece pieces name a → IsRestBy subject found piece pieces other b → (name ≡ other) × (a ≡ b)
+    rest_by (Some parts) piece pieces name other a b is also = (is.0 ∙ sym also.0, one_attributes pieces a b is.1 also.1)
+    rest_by None piece pieces name other a b is also = (is.0 ∙ sym also.0, one_attributes (piece ∷ pieces) a b is.1 also.1)
 
-  one_rest : (pieces : List (List Token)) (name other : Option (List PlainPart)) (a b : List Attribute)
-      → IsRest pieces name a → IsRest pieces other b → (name ≡ other) × (a ≡ b)
-  one_rest [] name other a b is also = (is.0 ∙ sym also.0, is.1 ∙ sym also.1)
-  one_rest (piece ∷ pieces) name other a b is also = rest_by (name_in piece) piece pieces name other a b is also
+    one_rest : (pieces : List (List Token)) (name other : Option (List PlainPart)) (a b : List Attribute)
+        → IsRestFor subject pieces name a → IsRestFor subject pieces other b → (name ≡ other) × (a ≡ b)
+    one_rest [] name other a b is also = (is.0 ∙ sym also.0, is.1 ∙ sym also.1)
+    one_rest (piece ∷ pieces) name other a b is also = rest_by (name_for subject piece) piece pieces name other a b is also
+
+    pub one_head_for : (pieces : List (List Token)) (a b : Head) → IsHeadFor subject pieces a → IsHeadFor subject pieces b → a ≡ b
+    one_head_for [] a b is also = absurd is
+    one_head_for (first ∷ others) a b is also =
+        let rest = one_rest others a.name b.name a.attributes b.attributes is.1 also.1 in
+        λ i. record { id = one first a.id b.id is.0.0 also.0.0 i; name = rest.0 i; attributes = rest.1 i }
 
   pub one_head : (pieces : List (List Token)) (a b : Head) → IsHead pieces a → IsHead pieces b → a ≡ b
-  one_head [] a b is also = absurd is
-  one_head (first ∷ others) a b is also =
-      let rest = one_rest others a.name b.name a.attributes b.attributes is.1 also.1 in
-      λ i. record { id = one first a.id b.id is.0.0 also.0.0 i; name = rest.0 i; attributes = rest.1 i }
+  one_head = one_head_for New
 
   module _ (cut : (divider : Divider) (tokens : List Token) (pieces others : List (List Token)) → AreCut divider tokens pieces → AreCut divider tokens others → pieces ≡ others)
       (within : (bracket : Bracket) (tokens : List Token) (parted other : Parted) → IsBracketed bracket tokens parted → IsBracketed bracket tokens other → parted ≡ other) where

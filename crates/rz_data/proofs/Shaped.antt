@@ -2,7 +2,8 @@
 use Rattle.std.proofs.Common.{◌≡◌, ◌≤◌, true, List, [], ◌∷◌, get_or, length, Option, Some, None, sym, ap, subst, ◌∙◌, arith}
 use Rattle.rz_brackets.proofs.Slices.{behind_of, all_behind, two}
 use Rattle.rz_lex.specs.declared.token.Token.{Token}
-use Rattle.rz_data.specs.Head.{name_in, AreAttributes, Attribute, Head, IsHead, IsRestBy, IsRestOf}
+use Rattle.rz_data.specs.Head.{name_for, AreAttributesFor, Attribute, Head, IsHead, IsHeadFor, IsRestBy, IsRestOf}
+use Rattle.rz_data.specs.declared.head.Subject.{Subject}
 use Rattle.rz_expr.specs.Keyword.{is_keyword}
 use Rattle.rz_expr.specs.declared.keyword.Keyword.TheVariants as keywords
 use Rattle.rz_brackets.specs.Bracket.{IsBracketed}
@@ -15,17 +16,17 @@ use Rattle.rz_fields.specs.Text.{PlainPart}
 
 -- What can't be.
 
-pub no_rest : (pieces others : List (List Token)) (first : List Token) → pieces ≡ first ∷ others → name_in first ≡ None
-    → ((attributes : List Attribute) → AreAttributes pieces attributes → ⊥) → (rest : Option (List PlainPart) × List Attribute) → IsRestOf pieces rest → ⊥
-no_rest pieces others first are no_text never rest is =
-    let by : IsRestBy (name_in first) first others rest.0 rest.1 = subst (λ (ps : List (List Token)). IsRestOf ps rest) are is in
-    let split : IsRestBy None first others rest.0 rest.1 = subst (λ (o : Option (List PlainPart)). IsRestBy o first others rest.0 rest.1) no_text by in
-    never rest.1 (subst (λ (ps : List (List Token)). AreAttributes ps rest.1) (sym are) split.1)
+pub no_rest : (subject : Subject) (pieces others : List (List Token)) (first : List Token) → pieces ≡ first ∷ others → name_for subject first ≡ None
+    → ((attributes : List Attribute) → AreAttributesFor subject pieces attributes → ⊥) → (rest : Option (List PlainPart) × List Attribute) → IsRestOf subject pieces rest → ⊥
+no_rest subject pieces others first are no_text never rest is =
+    let by : IsRestBy subject (name_for subject first) first others rest.0 rest.1 = subst (λ (ps : List (List Token)). IsRestOf subject ps rest) are is in
+    let split : IsRestBy subject None first others rest.0 rest.1 = subst (λ (o : Option (List PlainPart)). IsRestBy subject o first others rest.0 rest.1) no_text by in
+    never rest.1 (subst (λ (ps : List (List Token)). AreAttributesFor subject ps rest.1) (sym are) split.1)
 
-pub no_head : (pieces others : List (List Token)) (first : List Token) → pieces ≡ first ∷ others
-    → ((rest : Option (List PlainPart) × List Attribute) → IsRestOf others rest → ⊥) → (head : Head) → IsHead pieces head → ⊥
-no_head pieces others first are never head is =
-    let split = subst (λ (ps : List (List Token)). IsHead ps head) are is in
+pub no_head : (subject : Subject) (pieces others : List (List Token)) (first : List Token) → pieces ≡ first ∷ others
+    → ((rest : Option (List PlainPart) × List Attribute) → IsRestOf subject others rest → ⊥) → (head : Head) → IsHeadFor subject pieces head → ⊥
+no_head subject pieces others first are never head is =
+    let split = subst (λ (ps : List (List Token)). IsHeadFor subject ps head) are is in
     never (head.name, head.attributes) split.1
 
 -- what is told of the rest of a statement, where its head is cut out

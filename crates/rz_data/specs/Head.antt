@@ -1,16 +1,21 @@
--- The head of a statement: an id, and then maybe a name and attributes. Its expressions are constants, so far. (MPW Rez.)
+-- The head of a statement: an id, and then maybe a name and attributes. A head of a new resource has constants alone, so
+-- far; one of a resource that is chosen may speak of that too. (MPW Rez.)
 use Rattle.std.specs.Prelude.{◌≡◌, ℕ, Bool, true, false, ◌&&◌, if◌then◌else◌, List, [], ◌∷◌, map, Option, Some, None, option_map}
 use Rattle.rz_expr.specs.Attribute.{attribute_word}
 use Rattle.rz_expr.specs.declared.attribute.AttributeWord.{AttributeWord}
-use Rattle.rz_expr.specs.Constant.{IsConstant}
+use Rattle.rz_expr.specs.Constant.{is_constant}
+use Rattle.rz_expr.specs.Grammar.{IsExpression}
 use Rattle.rz_expr.specs.Term.{term_of, Term}
 use Rattle.rz_lex.specs.declared.token.Shape.{Shape}
 use Rattle.rz_lex.specs.declared.token.Shape.TheVariants as shapes
 use Rattle.rz_lex.specs.declared.token.Token.{Token}
 use Rattle.rz_fields.specs.Text.{plain_parts, text_in, NameFact, Plain, PlainPart}
+use Rattle.rz_fields.specs.Value.{is_field_expression}
 use Rattle.rz_data.specs.declared.head.AttrPart.{AttrPart}
 use Rattle.rz_data.specs.declared.head.AttrPart.TheVariants as parts
 use Rattle.rz_data.specs.declared.head.HeadExpr.{HeadExpr}
+use Rattle.rz_data.specs.declared.head.Subject.{Subject}
+use Rattle.rz_data.specs.declared.head.Subject.TheVariants.{Chosen, New}
 
 -- a word that sets or clears a bit, or an expression whose value sets all eight
 pub data Attribute : Type 0 where
@@ -44,20 +49,29 @@ word_attribute (token ∷ []) = by_word token.shape
     by_word shape = None
 word_attribute tokens = None
 
+-- of a new resource nothing is known where its head is read; of one that is chosen its id, type and attributes are
+abbrev pub may_say : Subject → Term → Bool
+may_say New term = is_constant term
+may_say Chosen term = is_field_expression term
+
+-- the tokens are this expression, and it may stand in a head of the subject
+abbrev pub IsSaidFor : Subject → List Token → Term → Type 0
+IsSaidFor subject tokens term = IsExpression tokens term × (may_say subject term ≡ true)
+
 -- a piece that is an attribute: such a word, or else an expression
-abbrev pub IsAttributeBy : Option Attribute → List Token → Attribute → Type 0
-IsAttributeBy (Some found) piece attribute = attribute ≡ found
-IsAttributeBy None piece attribute = (term : Term) × IsConstant piece term × (attribute ≡ Value term)
+abbrev pub IsAttributeBy : Subject → Option Attribute → List Token → Attribute → Type 0
+IsAttributeBy subject (Some found) piece attribute = attribute ≡ found
+IsAttributeBy subject None piece attribute = (term : Term) × IsSaidFor subject piece term × (attribute ≡ Value term)
 
-abbrev pub IsAttribute : List Token → Attribute → Type 0
-IsAttribute piece = IsAttributeBy (word_attribute piece) piece
+abbrev pub IsAttributeFor : Subject → List Token → Attribute → Type 0
+IsAttributeFor subject piece = IsAttributeBy subject (word_attribute piece) piece
 
-abbrev pub AreAttributes : List (List Token) → List Attribute → Type 0
-AreAttributes [] attributes = attributes ≡ []
-AreAttributes (piece ∷ pieces) attributes =
-    (first : Attribute) × (rest : List Attribute) × IsAttribute piece first × AreAttributes pieces rest × (attributes ≡ first ∷ rest)
+abbrev pub AreAttributesFor : Subject → List (List Token) → List Attribute → Type 0
+AreAttributesFor subject [] attributes = attributes ≡ []
+AreAttributesFor subject (piece ∷ pieces) attributes =
+    (first : Attribute) × (rest : List Attribute) × IsAttributeFor subject piece first × AreAttributesFor subject pieces rest × (attributes ≡ first ∷ rest)
 
--- a part that stood between quote marks: `$$Name` stands in no head
+-- a part that stood between quote marks, and is no `$$Name`
 abbrev pub is_quoted : PlainPart → Bool
 is_quoted (Plain bytes) = true
 is_quoted NameFact = false
@@ -70,23 +84,42 @@ abbrev pub if_quoted : Option (List PlainPart) → Option (List PlainPart)
 if_quoted None = None
 if_quoted (Some parts) = if are_quoted parts then Some parts else None
 
--- the name that a piece is: a text whose parts are all quoted
+-- the name that a piece is in the head of a new resource: a text whose parts are all quoted
 abbrev pub name_in : List Token → Option (List PlainPart)
 name_in piece = if_quoted (text_in piece)
 
+-- in the head of one that is chosen `$$Name` may stand too
+abbrev pub name_for : Subject → List Token → Option (List PlainPart)
+name_for New piece = name_in piece
+name_for Chosen piece = text_in piece
+
 -- what stands behind the id: a text is the name, and all other pieces are attributes
-abbrev pub IsRestBy : Option (List PlainPart) → List Token → List (List Token) → Option (List PlainPart) → List Attribute → Type 0
-IsRestBy (Some parts) piece pieces name attributes = (name ≡ Some parts) × AreAttributes pieces attributes
-IsRestBy None piece pieces name attributes = (name ≡ None) × AreAttributes (piece ∷ pieces) attributes
+abbrev pub IsRestBy : Subject → Option (List PlainPart) → List Token → List (List Token) → Option (List PlainPart) → List Attribute → Type 0
+IsRestBy subject (Some parts) piece pieces name attributes = (name ≡ Some parts) × AreAttributesFor subject pieces attributes
+IsRestBy subject None piece pieces name attributes = (name ≡ None) × AreAttributesFor subject (piece ∷ pieces) attributes
+
+abbrev pub IsRestFor : Subject → List (List Token) → Option (List PlainPart) → List Attribute → Type 0
+IsRestFor subject [] name attributes = (name ≡ None) × (attributes ≡ [])
+IsRestFor subject (piece ∷ pieces) name attributes = IsRestBy subject (name_for subject piece) piece pieces name attributes
+
+abbrev pub IsRestOf : Subject → List (List Token) → Option (List PlainPart) × List Attribute → Type 0
+IsRestOf subject pieces rest = IsRestFor subject pieces rest.0 rest.1
+
+-- the pieces of a head of the subject: the id, and what stands behind it
+abbrev pub IsHeadFor : Subject → List (List Token) → Head → Type 0
+IsHeadFor subject [] head = ⊥
+IsHeadFor subject (first ∷ others) head = IsSaidFor subject first head.id × IsRestFor subject others head.name head.attributes
+
+-- The head of a new resource.
+
+abbrev pub IsAttribute : List Token → Attribute → Type 0
+IsAttribute = IsAttributeFor New
+
+abbrev pub AreAttributes : List (List Token) → List Attribute → Type 0
+AreAttributes = AreAttributesFor New
 
 abbrev pub IsRest : List (List Token) → Option (List PlainPart) → List Attribute → Type 0
-IsRest [] name attributes = (name ≡ None) × (attributes ≡ [])
-IsRest (piece ∷ pieces) name attributes = IsRestBy (name_in piece) piece pieces name attributes
+IsRest = IsRestFor New
 
-abbrev pub IsRestOf : List (List Token) → Option (List PlainPart) × List Attribute → Type 0
-IsRestOf pieces rest = IsRest pieces rest.0 rest.1
-
--- the pieces of a head: the id, and what stands behind it
 abbrev pub IsHead : List (List Token) → Head → Type 0
-IsHead [] head = ⊥
-IsHead (first ∷ others) head = IsConstant first head.id × IsRest others head.name head.attributes
+IsHead = IsHeadFor New

@@ -3,13 +3,23 @@ ghost use Rattle.rz_expr.specs.Term.{term_of, Term};
 ghost use Rattle.rz_expr.specs.Attribute.{attribute_word};
 ghost use Rattle.rz_fields.specs.Text.{plain_parts};
 ghost use Rattle.rz_core.specs.Decided.{Decided};
-ghost use Rattle.rz_data.specs.Head.{are_quoted, attribute_of, head_of, name_in, said, word_attribute, AreAttributes, Attribute, Head, IsAttribute, IsHead, IsRestOf};
+ghost use Rattle.rz_data.specs.Head.{are_quoted, attribute_of, head_of, may_say, name_for, name_in, said, word_attribute, AreAttributesFor, Attribute, Head, IsAttributeFor, IsHead, IsHeadFor, IsRestOf, IsSaidFor};
+ghost use Rattle.rz_data.specs.declared.head.Subject.TheVariants.{New};
 
 use rz_core::{Listing, NoMemory, Word};
-use rz_expr::{AttributeWord, Expr, attribute_word, one_expression, read_constant};
-use rz_fields::{TextPart, Texts, text_in};
+use rz_expr::{AttributeWord, Expr, attribute_word, is_constant, one_expression, read_whole};
+use rz_fields::{TextPart, Texts, is_field_expression, text_in};
 use rz_lex::{Shape, Token};
 use std::alloc::Global;
+
+/// Whose head it is, and so what may stand in it. (MPW Rez.)
+#[derive(Clone, Copy, Debug, PartialEq, Eq)]
+pub enum Subject {
+    /// A new resource, of which nothing is known before.
+    New,
+    /// A resource that is chosen: `$$ID`, `$$Type`, `$$Attributes` and `$$Name` speak of it.
+    Chosen,
+}
 
 /// An attribute of a head. (MPW Rez.)
 #[derive(Debug, Drop)]
@@ -30,25 +40,37 @@ pub type AttrParts = Listing<AttrPart>;
 pub struct HeadExpr {
     /// The id.
     pub id: Expr,
-    /// The name, where one is given. `$$Name` stands in none.
+    /// The name, where one is given. `$$Name` stands in none of a new resource.
     pub name: Option<Texts>,
     /// The attributes, none where they are left out.
     pub attributes: AttrParts,
 }
 
-/// The head that the pieces of its brackets are: an id, then maybe a name, each part of which stood between quote
-/// marks, then maybe attributes. `None` exactly where they are none. (MPW Rez.)
+/// The head of a new resource that the pieces of its brackets are: an id, then maybe a name, each part of which stood
+/// between quote marks, then maybe attributes. `None` exactly where they are none. (MPW Rez.)
 pub fn read_head(alloc: Global, pieces: &[&[Token]]) -> Result<Option<HeadExpr>, NoMemory>
     ensures { IfOk result (λ head. Decided (IsHead (map (λ piece. piece.now) pieces.now)) (option_map head_of head)) }
+{
+    read_head_for(alloc, Subject::New, pieces)
+}
+
+/// The head of such a resource that the pieces of its brackets are: an id, then maybe a name, then maybe attributes.
+/// `None` exactly where they are none. (MPW Rez.)
+pub fn read_head_for(
+    alloc: Global,
+    subject: Subject,
+    pieces: &[&[Token]],
+) -> Result<Option<HeadExpr>, NoMemory>
+    ensures { IfOk result (λ head. Decided (IsHeadFor subject (map (λ piece. piece.now) pieces.now)) (option_map head_of head)) }
 {
     one_expression();
     let Some((first, others)) = pieces.split_first() else {
         return Ok(None);
     };
-    let Some(id) = read_constant(alloc, first)? else {
+    let Some(id) = read_said(alloc, subject, first)? else {
         return Ok(None);
     };
-    let Some((name, attributes)) = read_rest(alloc, others)? else {
+    let Some((name, attributes)) = read_rest(alloc, subject, others)? else {
         return Ok(None);
     };
     Ok(Some(HeadExpr {
@@ -61,28 +83,39 @@ pub fn read_head(alloc: Global, pieces: &[&[Token]]) -> Result<Option<HeadExpr>,
 /// The name and the attributes that the pieces behind an id are.
 fn read_rest(
     alloc: Global,
+    subject: Subject,
     pieces: &[&[Token]],
 ) -> Result<Option<(Option<Texts>, AttrParts)>, NoMemory>
-    ensures { IfOk result (λ rest. Decided (IsRestOf (map (λ piece. piece.now) pieces.now))
+    ensures { IfOk result (λ rest. Decided (IsRestOf subject (map (λ piece. piece.now) pieces.now))
         (option_map (λ rest. (option_map plain_parts rest.0, map attribute_of rest.1)) rest)) }
 {
     let Some((first, others)) = pieces.split_first() else {
         return Ok(Some((None, AttrParts::new(alloc))));
     };
-    match name_in(alloc, first)? {
-        Some(name) => match read_attributes(alloc, others)? {
+    match name_for(alloc, subject, first)? {
+        Some(name) => match read_attributes(alloc, subject, others)? {
             Some(attributes) => Ok(Some((Some(name), attributes))),
             None => Ok(None),
         },
-        None => match read_attributes(alloc, pieces)? {
+        None => match read_attributes(alloc, subject, pieces)? {
             Some(attributes) => Ok(Some((None, attributes))),
             None => Ok(None),
         },
     }
 }
 
-/// The name that a piece is: a text whose parts are all quoted.
-fn name_in(alloc: Global, piece: &[Token]) -> Result<Option<Texts>, NoMemory>
+/// The name that a piece is.
+fn name_for(alloc: Global, subject: Subject, piece: &[Token]) -> Result<Option<Texts>, NoMemory>
+    ensures { IfOk result (λ name. option_map plain_parts name ≡ name_for subject piece.now) }
+{
+    match subject {
+        Subject::New => name_in(alloc, piece),
+        Subject::Chosen => text_in(alloc, piece),
+    }
+}
+
+/// The name of a new resource, or of one that is picked, that a piece is: a text whose parts are all quoted. (MPW Rez.)
+pub fn name_in(alloc: Global, piece: &[Token]) -> Result<Option<Texts>, NoMemory>
     ensures { IfOk result (λ name. option_map plain_parts name ≡ name_in piece.now) }
 {
     match text_in(alloc, piece)? {
@@ -110,13 +143,17 @@ fn are_quoted(parts: &Texts) -> bool
 }
 
 /// The attributes that the pieces are.
-fn read_attributes(alloc: Global, pieces: &[&[Token]]) -> Result<Option<AttrParts>, NoMemory>
-    ensures { IfOk result (λ parts. Decided (AreAttributes (map (λ piece. piece.now) pieces.now)) (option_map (map attribute_of) parts)) }
+fn read_attributes(
+    alloc: Global,
+    subject: Subject,
+    pieces: &[&[Token]],
+) -> Result<Option<AttrParts>, NoMemory>
+    ensures { IfOk result (λ parts. Decided (AreAttributesFor subject (map (λ piece. piece.now) pieces.now)) (option_map (map attribute_of) parts)) }
 {
     one_expression();
     let mut attributes = AttrParts::new(alloc);
     for piece in pieces {
-        let Some(attribute) = read_attribute(alloc, piece)? else {
+        let Some(attribute) = read_attribute(alloc, subject, piece)? else {
             return Ok(None);
         };
         attributes.push(attribute)?;
@@ -125,15 +162,51 @@ fn read_attributes(alloc: Global, pieces: &[&[Token]]) -> Result<Option<AttrPart
 }
 
 /// The attribute that a piece is.
-fn read_attribute(alloc: Global, piece: &[Token]) -> Result<Option<AttrPart>, NoMemory>
-    ensures { IfOk result (λ part. Decided (IsAttribute piece.now) (option_map attribute_of part)) }
+fn read_attribute(
+    alloc: Global,
+    subject: Subject,
+    piece: &[Token],
+) -> Result<Option<AttrPart>, NoMemory>
+    ensures { IfOk result (λ part. Decided (IsAttributeFor subject piece.now) (option_map attribute_of part)) }
 {
     if let Some(part) = word_attribute(piece) {
         return Ok(Some(part));
     }
-    match read_constant(alloc, piece)? {
+    match read_said(alloc, subject, piece)? {
         Some(value) => Ok(Some(AttrPart::Value(value))),
         None => Ok(None),
+    }
+}
+
+/// The expression that the tokens are, where it may stand in a head of the subject. `None` exactly where they are none.
+/// In a pick stands what may stand in a head of a new resource. (MPW Rez.)
+pub fn read_said(
+    alloc: Global,
+    subject: Subject,
+    tokens: &[Token],
+) -> Result<Option<Expr>, NoMemory>
+    ensures { IfOk result (λ expr. Decided (IsSaidFor subject tokens.now) (option_map term_of expr)) }
+{
+    one_expression();
+    match read_whole(alloc, tokens)? {
+        Some(expr) => {
+            if may_say(subject, &expr) {
+                Ok(Some(expr))
+            } else {
+                Ok(None)
+            }
+        }
+        None => Ok(None),
+    }
+}
+
+/// Whether an expression may stand in a head of the subject.
+fn may_say(subject: Subject, expr: &Expr) -> bool
+    ensures { result ≡ may_say subject (term_of expr.now) }
+{
+    match subject {
+        Subject::New => is_constant(expr),
+        Subject::Chosen => is_field_expression(expr),
     }
 }
 

@@ -1,107 +1,106 @@
--- Tokens are one statement at most.
-use Rattle.std.proofs.Common.{◌≡◌, ℕ, true, false, arith, List, [], ◌∷◌, Ok, sym, ap, ◌∙◌}
+-- Tokens are one statement at most, by their first words.
+use Rattle.std.proofs.Common.{◌≡◌, ◌↔◌, ◌⊎◌, ℕ, true, false, inl, inr, List, [], ◌∷◌, Some, Ok, refl, sym, ap, subst, ◌∙◌}
 use Rattle.std.specs.declared.result.Result.{Result}
-use Rattle.std.specs.Char.{eq_ignore_ascii_case, to_ascii_lowercase}
-use Rattle.std.specs.Prelude.{codes}
 use Rattle.std.specs.Str.{str_eq_ignore_ascii_case}
-use Rattle.std.proofs.lemmas.Bool.{eqb-true}
-use Rattle.rz_core.proofs.Tests.{both}
+use Rattle.rz_core.proofs.Tests.{true_false}
 use Rattle.rz_core.specs.Stop.{◌>>=◌}
 use Rattle.rz_core.specs.declared.fault.Fault.{Fault}
 use Rattle.rz_lex.specs.declared.token.Shape.{Shape}
 use Rattle.rz_lex.specs.declared.token.Shape.TheVariants as shapes
 use Rattle.rz_lex.specs.declared.token.Token.{Token}
-use Rattle.rz_brackets.specs.Statements.{is_empty}
+use Rattle.rz_brackets.specs.Statements.{is_empty, is_semicolon}
 use Rattle.rz_data.specs.Raw.{IsRaw, Raw}
 use Rattle.rz_items.specs.Compile.{Compile, IsCompile}
+use Rattle.rz_lists.proofs.Listed.{one_beginning}
+use Rattle.rz_lists.specs.Lists.{word_of, BeginsWith, Changes, Deletes, Includes, IsListed, ListForm, Reads}
 use Rattle.rz_declare.specs.Constants.{declared}
 use Rattle.rz_declare.specs.Declare.{IsDeclare}
 use Rattle.rz_declare.specs.Form.{DeclareForm}
-use Rattle.rz_expr.specs.Keyword.{is_keyword, spelling}
+use Rattle.rz_expr.specs.Keyword.{is_keyword, keyword_of, spelling}
 use Rattle.rz_expr.specs.declared.keyword.Keyword.{Keyword}
 use Rattle.rz_expr.specs.declared.keyword.Keyword.TheVariants as keywords
-use Rattle.rz_stmt.specs.Grammar.{alone, beyond, data_statement, mark_of, none, resource_statement, statement, type_statement, Compiles, Data, Declares, IsStatement, Parses, Statement}
+use Rattle.rz_stmt.specs.Grammar.{alone, beyond, data_statement, list_statement, mark_of, none, resource_statement, statement, type_statement, Compiles, Data, Declares, Empty, IsStatement, Lists, Parses, Statement}
 
--- Statements that are something else.
+-- The kind of a statement, by its first word.
 
-pub no_raw : (tokens : List Token) (raw : Raw) → is_empty tokens ≡ true → IsRaw tokens raw → ⊥
-no_raw tokens raw empty is = let never : true ≡ false = sym empty ∙ ap is_empty is.are in cc
+data Kind : Type 0 where
+  OfData : Kind
+  OfList : Kind
+  OfResource : Kind
+  OfType : Kind
 
-pub no_declare : (tokens : List Token) (form : DeclareForm) → is_empty tokens ≡ true → IsDeclare tokens form → ⊥
-no_declare tokens form empty is = let never : true ≡ false = sym empty ∙ ap is_empty is.are in cc
+abbrev kind_by : Keyword → Kind
+kind_by keywords.Data = OfData
+kind_by keywords.Resource = OfResource
+kind_by keywords.Kind = OfType
+kind_by keyword = OfList
 
-pub no_compile : (tokens : List Token) (one : Compile) → is_empty tokens ≡ true → IsCompile tokens one → ⊥
-no_compile tokens one empty is = let never : true ≡ false = sym empty ∙ ap is_empty is.are in cc
+kind_of_list : (one : ListForm) → kind_by (word_of one) ≡ OfList
+kind_of_list (Includes include) = refl
+kind_of_list (Reads read) = refl
+kind_of_list (Changes change) = refl
+kind_of_list (Deletes delete) = refl
 
--- a word begins with one letter
-not_words : (word more others : List ℕ) (a b : ℕ) → (to_ascii_lowercase a ≡ to_ascii_lowercase b → ⊥)
-    → str_eq_ignore_ascii_case word (a ∷ more) ≡ true → str_eq_ignore_ascii_case word (b ∷ others) ≡ true → ⊥
-not_words [] more others a b differ is also = cc
-not_words (n ∷ word) more others a b differ is also =
-    let first : to_ascii_lowercase n ≡ to_ascii_lowercase a = eqb-true (to_ascii_lowercase n) (to_ascii_lowercase a) (both (eq_ignore_ascii_case n a) (str_eq_ignore_ascii_case word more) is).0 in
-    let other : to_ascii_lowercase n ≡ to_ascii_lowercase b = eqb-true (to_ascii_lowercase n) (to_ascii_lowercase b) (both (eq_ignore_ascii_case n b) (str_eq_ignore_ascii_case word others) also).0 in
-    differ (sym first ∙ other)
+-- the tokens are a statement of the kind: it, or the first fault of its constants
+abbrev Says : Kind → List Token → Result Statement Fault → Type 0
+Says OfData tokens answer = (one : Raw) × IsRaw tokens one × (answer ≡ Ok (Data one))
+Says OfList tokens answer = (one : ListForm) × IsListed tokens one × (answer ≡ Ok (Lists one))
+Says OfResource tokens answer = (one : Compile) × IsCompile tokens one × (answer ≡ Ok (Compiles one))
+Says OfType tokens answer = (form : DeclareForm) × IsDeclare tokens form × (answer ≡ (declared (mark_of tokens) form >>= (λ made. Ok (Declares made))))
 
--- a token that is two keywords would be one word in two spellings
-two_keywords : (one other : Keyword) → ((word : List ℕ) → str_eq_ignore_ascii_case word (spelling one) ≡ true → str_eq_ignore_ascii_case word (spelling other) ≡ true → ⊥)
-    → (shape : Shape) → is_keyword one shape ≡ true → is_keyword other shape ≡ true → ⊥
-two_keywords one other never (shapes.Word word) is also = never word.bytes is also
-two_keywords one other never (shapes.Number n) is also = cc
-two_keywords one other never (shapes.Literal bytes) is also = cc
-two_keywords one other never (shapes.Text bytes) is also = cc
-two_keywords one other never (shapes.Sign sign) is also = cc
+-- they are a `;` alone, or begin with a word and are a statement of its kind
+abbrev IsAlone : List Token → Result Statement Fault → Type 0
+IsAlone tokens answer = (is_empty tokens ≡ true) × (answer ≡ Ok Empty)
 
-data_or_resource : (shape : Shape) → is_keyword keywords.Data shape ≡ true → is_keyword keywords.Resource shape ≡ true → ⊥
-data_or_resource = two_keywords keywords.Data keywords.Resource (λ word. not_words word (codes "ata") (codes "esource") 100 114 (λ e. omega (arith, e)))
+abbrev IsWorded : List Token → Result Statement Fault → Type 0
+IsWorded tokens answer = (keyword : Keyword) × BeginsWith keyword tokens × Says (kind_by keyword) tokens answer
 
-data_or_type : (shape : Shape) → is_keyword keywords.Data shape ≡ true → is_keyword keywords.Kind shape ≡ true → ⊥
-data_or_type = two_keywords keywords.Data keywords.Kind (λ word. not_words word (codes "ata") (codes "ype") 100 116 (λ e. omega (arith, e)))
+-- a word is no `;`
+no_semicolon : (keyword : Keyword) (shape : Shape) → is_keyword keyword shape ≡ true → is_semicolon shape ≡ false
+no_semicolon keyword (shapes.Word word) is = refl
+no_semicolon keyword (shapes.Number number) is = refl
+no_semicolon keyword (shapes.Literal bytes) is = refl
+no_semicolon keyword (shapes.Text bytes) is = refl
+no_semicolon keyword (shapes.Sign sign) is = absurd (true_false (sym is))
 
-resource_or_type : (shape : Shape) → is_keyword keywords.Resource shape ≡ true → is_keyword keywords.Kind shape ≡ true → ⊥
-resource_or_type = two_keywords keywords.Resource keywords.Kind (λ word. not_words word (codes "esource") (codes "ype") 114 116 (λ e. omega (arith, e)))
+behind_word : (keyword : Keyword) (word : Token) (rest : List Token) → is_keyword keyword word.shape ≡ true → is_empty (word ∷ rest) ≡ false
+behind_word keyword word [] is = no_semicolon keyword word.shape is
+behind_word keyword word (next ∷ others) is = refl
 
--- the first word is one word
-first_word : (tokens xs ys : List Token) (word other : Token) (keyword : Keyword) → tokens ≡ word ∷ xs → tokens ≡ other ∷ ys → is_keyword keyword word.shape ≡ true
-    → is_keyword keyword other.shape ≡ true
-first_word tokens xs ys word other keyword are also is = ap (λ (t : Token). is_keyword keyword t.shape) (sym (heads (sym are ∙ also))) ∙ is
-  where
-    heads : word ∷ xs ≡ other ∷ ys → word ≡ other
-    heads e = cc e
+no_empty : (tokens : List Token) (keyword : Keyword) → BeginsWith keyword tokens → is_empty tokens ≡ true → ⊥
+no_empty tokens keyword begins empty = true_false (sym empty ∙ ap is_empty begins.2 ∙ behind_word keyword begins.0 begins.1 begins.3)
 
-pub data_no_resource : (tokens : List Token) (raw : Raw) (one : Compile) → IsRaw tokens raw → IsCompile tokens one → ⊥
-data_no_resource tokens raw one is also =
-    data_or_resource also.word.shape (first_word tokens (is.kind ∷ is.behind) (also.kind ∷ also.behind) is.word also.word keywords.Data is.are also.are is.is_word) also.is_word
-
-pub data_no_type : (tokens : List Token) (raw : Raw) (form : DeclareForm) → IsRaw tokens raw → IsDeclare tokens form → ⊥
-data_no_type tokens raw form is also =
-    data_or_type also.word.shape (first_word tokens (is.kind ∷ is.behind) (also.kind ∷ also.behind) is.word also.word keywords.Data is.are also.are is.is_word) also.is_word
-
-pub resource_no_type : (tokens : List Token) (one : Compile) (form : DeclareForm) → IsCompile tokens one → IsDeclare tokens form → ⊥
-resource_no_type tokens one form is also =
-    resource_or_type also.word.shape (first_word tokens (is.kind ∷ is.behind) (also.kind ∷ also.behind) is.word also.word keywords.Resource is.are also.are is.is_word) also.is_word
-
-module _ (one_raw : (tokens : List Token) (a b : Raw) → IsRaw tokens a → IsRaw tokens b → a ≡ b)
+module _ (spelled : (name : List ℕ) (keyword : Keyword) → (keyword_of name ≡ Some keyword) ↔ (str_eq_ignore_ascii_case name (spelling keyword) ≡ true))
+    (one_raw : (tokens : List Token) (a b : Raw) → IsRaw tokens a → IsRaw tokens b → a ≡ b)
+    (one_list : (tokens : List Token) (a b : ListForm) → IsListed tokens a → IsListed tokens b → a ≡ b)
     (one_compile : (tokens : List Token) (a b : Compile) → IsCompile tokens a → IsCompile tokens b → a ≡ b)
-    (one_declare : (tokens : List Token) (a b : DeclareForm) → IsDeclare tokens a → IsDeclare tokens b → a ≡ b) where
+    (one_declare : (tokens : List Token) (a b : DeclareForm) → IsDeclare tokens a → IsDeclare tokens b → a ≡ b)
+    (list_begins : (tokens : List Token) (one : ListForm) → IsListed tokens one → BeginsWith (word_of one) tokens) where
+  worded : (tokens : List Token) (a : Result Statement Fault) → IsStatement tokens a → IsAlone tokens a ⊎ IsWorded tokens a
+  worded tokens a (alone is says) = inl (is, says)
+  worded tokens a (data_statement one is says) = inr (keywords.Data, (is.word, is.kind ∷ is.behind, is.are, is.is_word), (one, is, says))
+  worded tokens a (list_statement one is says) = inr (word_of one, list_begins tokens one is, subst (λ (kind : Kind). Says kind tokens a) (sym (kind_of_list one)) (one, is, says))
+  worded tokens a (resource_statement one is says) = inr (keywords.Resource, (is.word, is.kind ∷ is.behind, is.are, is.is_word), (one, is, says))
+  worded tokens a (type_statement form is says) = inr (keywords.Kind, (is.word, is.kind ∷ is.behind, is.are, is.is_word), (form, is, says))
+
+  -- two statements of one kind
+  one_said : (kind : Kind) (tokens : List Token) (a b : Result Statement Fault) → Says kind tokens a → Says kind tokens b → a ≡ b
+  one_said OfData tokens a b (one, is, says) (other, also, tells) = says ∙ ap (λ (r : Raw). Ok (Data r)) (one_raw tokens one other is also) ∙ sym tells
+  one_said OfList tokens a b (one, is, says) (other, also, tells) = says ∙ ap (λ (l : ListForm). Ok (Lists l)) (one_list tokens one other is also) ∙ sym tells
+  one_said OfResource tokens a b (one, is, says) (other, also, tells) = says ∙ ap (λ (r : Compile). Ok (Compiles r)) (one_compile tokens one other is also) ∙ sym tells
+  one_said OfType tokens a b (one, is, says) (other, also, tells) =
+      says ∙ ap (λ (f : DeclareForm). declared (mark_of tokens) f >>= (λ made. Ok (Declares made))) (one_declare tokens one other is also) ∙ sym tells
+
+  one_by : (tokens : List Token) (a b : Result Statement Fault) → IsAlone tokens a ⊎ IsWorded tokens a → IsAlone tokens b ⊎ IsWorded tokens b → a ≡ b
+  one_by tokens a b (inl (is, says)) (inl (also, tells)) = says ∙ sym tells
+  one_by tokens a b (inl (is, says)) (inr (keyword, begins, also)) = absurd (no_empty tokens keyword begins is)
+  one_by tokens a b (inr (keyword, begins, is)) (inl (also, tells)) = absurd (no_empty tokens keyword begins also)
+  one_by tokens a b (inr (keyword, begins, is)) (inr (word, starts, also)) =
+      let same : keyword ≡ word = one_beginning spelled tokens keyword word begins starts in
+      one_said (kind_by word) tokens a b (subst (λ (k : Keyword). Says (kind_by k) tokens a) same is) also
+
   one_of : (tokens : List Token) (a b : Result Statement Fault) → IsStatement tokens a → IsStatement tokens b → a ≡ b
-  one_of tokens a b (alone is says) (alone also tells) = says ∙ sym tells
-  one_of tokens a b (alone is says) (data_statement other also tells) = absurd (no_raw tokens other is also)
-  one_of tokens a b (alone is says) (resource_statement other also tells) = absurd (no_compile tokens other is also)
-  one_of tokens a b (alone is says) (type_statement other also tells) = absurd (no_declare tokens other is also)
-  one_of tokens a b (data_statement first is says) (alone also tells) = absurd (no_raw tokens first also is)
-  one_of tokens a b (data_statement first is says) (data_statement other also tells) = says ∙ ap (λ (r : Raw). Ok (Data r)) (one_raw tokens first other is also) ∙ sym tells
-  one_of tokens a b (data_statement first is says) (resource_statement other also tells) = absurd (data_no_resource tokens first other is also)
-  one_of tokens a b (data_statement first is says) (type_statement other also tells) = absurd (data_no_type tokens first other is also)
-  one_of tokens a b (resource_statement first is says) (alone also tells) = absurd (no_compile tokens first also is)
-  one_of tokens a b (resource_statement first is says) (data_statement other also tells) = absurd (data_no_resource tokens other first also is)
-  one_of tokens a b (resource_statement first is says) (resource_statement other also tells) =
-      says ∙ ap (λ (r : Compile). Ok (Compiles r)) (one_compile tokens first other is also) ∙ sym tells
-  one_of tokens a b (resource_statement first is says) (type_statement other also tells) = absurd (resource_no_type tokens first other is also)
-  one_of tokens a b (type_statement first is says) (alone also tells) = absurd (no_declare tokens first also is)
-  one_of tokens a b (type_statement first is says) (data_statement other also tells) = absurd (data_no_type tokens other first also is)
-  one_of tokens a b (type_statement first is says) (resource_statement other also tells) = absurd (resource_no_type tokens other first also is)
-  one_of tokens a b (type_statement first is says) (type_statement other also tells) =
-      says ∙ ap (λ (f : DeclareForm). declared (mark_of tokens) f >>= (λ made. Ok (Declares made))) (one_declare tokens first other is also) ∙ sym tells
+  one_of tokens a b is also = one_by tokens a b (worded tokens a is) (worded tokens b also)
 
   pub one_answer : (tokens : List Token) (a b : Result Statement Fault) → Parses tokens a → Parses tokens b → a ≡ b
   one_answer tokens a b (beyond past says) (beyond also tells) = says ∙ sym tells

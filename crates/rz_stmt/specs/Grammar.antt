@@ -14,6 +14,7 @@ use Rattle.rz_declare.specs.Form.{DeclareForm}
 use Rattle.rz_declare.specs.Shaped.{IsShapedMade}
 use Rattle.rz_items.specs.Compile.{compile_of, Compile, IsCompile}
 use Rattle.rz_items.specs.Places.{AreItemsWithin}
+use Rattle.rz_lists.specs.Lists.{list_of, IsListed, ListForm}
 use Rattle.rz_brackets.specs.Limit.{is_within_limits}
 use Rattle.rz_data.specs.Raw.{raw_of, IsRaw, Raw}
 use Rattle.rz_brackets.specs.Statements.{is_empty}
@@ -23,12 +24,14 @@ use Rattle.rz_stmt.specs.declared.grammar.Stmt.TheVariants as forms
 pub data Statement : Type 0 where
   Empty : Statement
   Data : (raw : Raw) → Statement
+  Lists : (one : ListForm) → Statement
   Compiles : (one : Compile) → Statement
   Declares : (declare : Declare) → Statement
 
 abbrev pub statement_of : Stmt → Statement
 statement_of forms.Empty = Empty
 statement_of (forms.Raw raw) = Data (raw_of raw)
+statement_of (forms.List stmt) = Lists (list_of stmt)
 statement_of (forms.Compile stmt) = Compiles (compile_of stmt)
 statement_of (forms.Declare stmt) = Declares (declare_of stmt)
 
@@ -48,6 +51,7 @@ mark_of (first ∷ rest) = first.mark
 pub data IsStatement (tokens : List Token) (answer : Result Statement Fault) : Type 0 where
   alone : is_empty tokens ≡ true → answer ≡ Ok Empty → IsStatement tokens answer
   data_statement : (one : Raw) → IsRaw tokens one → answer ≡ Ok (Data one) → IsStatement tokens answer
+  list_statement : (one : ListForm) → IsListed tokens one → answer ≡ Ok (Lists one) → IsStatement tokens answer
   resource_statement : (one : Compile) → IsCompile tokens one → answer ≡ Ok (Compiles one) → IsStatement tokens answer
   type_statement : (form : DeclareForm) → IsDeclare tokens form → answer ≡ (declared (mark_of tokens) form >>= (λ made. Ok (Declares made))) → IsStatement tokens answer
 
@@ -69,6 +73,12 @@ Compiled mark tokens answer =
     ((one : Compile) × IsCompile tokens one × (answer ≡ Ok (Compiles one)))
     ⊎ (((one : Compile) → IsCompile tokens one → ⊥) × Declared mark tokens answer)
 
+-- the statement over lists of resources that the tokens are, or else the `resource` or `type` statement, or 201
+abbrev pub Listed : Mark → List Token → Result Statement Fault → Type 0
+Listed mark tokens answer =
+    ((one : ListForm) × IsListed tokens one × (answer ≡ Ok (Lists one)))
+    ⊎ (((one : ListForm) → IsListed tokens one → ⊥) × Compiled mark tokens answer)
+
 -- the call gave what is answered, or memory was refused
 abbrev pub Gave : Result Stmt (Stop Fault) → (Result Statement Fault → Type 0) → Type 0
 Gave (Ok one) answers = answers (Ok (statement_of one))
@@ -79,6 +89,7 @@ Gave (Err NoMemory) answers = Unit {0}
 abbrev pub IsShapedStatement : Statement → Type 0
 IsShapedStatement Empty = Unit {0}
 IsShapedStatement (Data raw) = Unit {0}
+IsShapedStatement (Lists one) = Unit {0}
 IsShapedStatement (Compiles one) = Unit {0}
 IsShapedStatement (Declares declare) = IsShapedMade declare.made
 
@@ -86,5 +97,6 @@ IsShapedStatement (Declares declare) = IsShapedMade declare.made
 abbrev pub IsPlacedStatement : ℕ → Statement → Type 0
 IsPlacedStatement files Empty = Unit {0}
 IsPlacedStatement files (Data raw) = Unit {0}
+IsPlacedStatement files (Lists one) = Unit {0}
 IsPlacedStatement files (Compiles one) = AreItemsWithin files one.items
 IsPlacedStatement files (Declares declare) = Unit {0}

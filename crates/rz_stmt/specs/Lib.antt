@@ -12,6 +12,15 @@ pub use Rattle.rz_items.specs.Simple
 pub use Rattle.rz_items.specs.Items
 pub use Rattle.rz_items.specs.Compile
 pub use Rattle.rz_items.specs.Places
+pub use Rattle.rz_lists.specs.Files
+pub use Rattle.rz_lists.specs.Brackets
+pub use Rattle.rz_lists.specs.Pick
+pub use Rattle.rz_lists.specs.Renaming
+pub use Rattle.rz_lists.specs.Include
+pub use Rattle.rz_lists.specs.Read
+pub use Rattle.rz_lists.specs.Change
+pub use Rattle.rz_lists.specs.Delete
+pub use Rattle.rz_lists.specs.Lists
 pub use Rattle.rz_types.specs.Text
 pub use Rattle.rz_declare.specs.Form
 pub use Rattle.rz_declare.specs.Declare

@@ -4,7 +4,7 @@ ghost use Rattle.rz_core.specs.Message.{IsNameable};
 ghost use Rattle.rz_core.specs.Stop.{OnFault};
 ghost use Rattle.rz_lex.specs.Lexeme.{AreLexed};
 ghost use Rattle.rz_brackets.specs.Limit.{is_within_limits};
-ghost use Rattle.rz_stmt.specs.Grammar.{Compiled, Declared, Gave, IsPlacedStatement, IsShapedStatement, Parses, statement_of};
+ghost use Rattle.rz_stmt.specs.Grammar.{Compiled, Declared, Gave, IsPlacedStatement, IsShapedStatement, Listed, Parses, statement_of};
 ghost use Rattle.rz_core.specs.declared.fault.Kept.TheVariants.{Nothing};
 
 use rz_brackets::{Span, is_empty_statement, is_within_limits};
@@ -13,6 +13,7 @@ use rz_data::{RawStmt, read_raw};
 use rz_declare::{DeclareStmt, declarations_are_shaped, read_declare, value_declare};
 use rz_items::{CompileStmt, items_are_within, read_compile};
 use rz_lex::{Token, Tokens};
+use rz_lists::{ListStmt, read_list};
 use std::alloc::Global;
 
 /// A statement. (MPW Rez.)
@@ -22,6 +23,8 @@ pub enum Stmt {
     Empty,
     /// `data`.
     Raw(RawStmt),
+    /// `include`, `read`, `change` or `delete`.
+    List(ListStmt),
     /// `resource`.
     Compile(CompileStmt),
     /// `type`.
@@ -66,6 +69,19 @@ fn parse_all(alloc: Global, tokens: &[Token]) -> Result<Stmt, Stop<Fault>>
     }
     match read_raw(alloc, tokens)? {
         Some(raw) => Ok(Stmt::Raw(raw)),
+        None => parse_list(alloc, mark, tokens),
+    }
+}
+
+/// The statement over lists of resources that the tokens are, or else the `resource` or `type` statement, or 201.
+fn parse_list(alloc: Global, mark: Mark, tokens: &[Token]) -> Result<Stmt, Stop<Fault>>
+    ensures parsed { Gave result (Listed mark tokens.now) }
+    ensures nameable { (files : ℕ) → mark.file < files → OnFault result (IsNameable files) }
+    ensures shaped { AreLexed tokens.now → is_within_limits tokens.now ≡ true → IfOk result (λ stmt. IsShapedStatement (statement_of stmt)) }
+    ensures placed { (files : ℕ) → AreWithin files tokens.now → IfOk result (λ stmt. IsPlacedStatement files (statement_of stmt)) }
+{
+    match read_list(alloc, tokens)? {
+        Some(stmt) => Ok(Stmt::List(stmt)),
         None => parse_compile(alloc, mark, tokens),
     }
 }

@@ -1,4 +1,5 @@
 use crate::declares::show_declare;
+use crate::lists::show_list;
 use crate::resources::show_compile;
 use rz_cases::{add_if_wrong, cases_of, tokens_of};
 use rz_core::{
@@ -209,6 +210,7 @@ pub fn outcome_of(alloc: Global, tokens: &Tokens) -> Result<Bytes, Fail> {
     match parse(alloc, tokens, Span { start: 0, end }) {
         Ok(Stmt::Empty) => Ok(Bytes::of(alloc, b"empty")?),
         Ok(Stmt::Raw(raw)) => show_raw(alloc, &raw, mark),
+        Ok(Stmt::List(stmt)) => show_list(alloc, &stmt, mark),
         Ok(Stmt::Compile(stmt)) => show_compile(alloc, &stmt, mark),
         Ok(Stmt::Declare(stmt)) => show_declare(alloc, &stmt, mark),
         Err(Stop::Refused(fault)) => text_of_fault(alloc, &fault),

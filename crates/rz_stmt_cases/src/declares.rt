@@ -167,7 +167,7 @@ type 'Byte' { byte a = 300 = 1; }; => 201 on 1
 "#;
 
 /// Appends a type between quote marks.
-fn show_kind(kind: OsType, text: &mut Bytes) -> Result<(), Fail> {
+pub fn show_kind(kind: OsType, text: &mut Bytes) -> Result<(), Fail> {
     text.push(b'\'')?;
     text.append(&kind.code.to_be_bytes())?;
     text.push(b'\'')?;

@@ -1,5 +1,5 @@
-//! Tests of statements: where they are cut, and what `data`, `resource` and `type` statements are. It rests on `rz_stmt`,
-//! crates below it and `rz_cases`, and has no code that ships. It changes with what `rz_stmt` promises.
+//! Tests of statements: where they are cut, and what statements of each kind are. It rests on `rz_stmt`, crates below it
+//! and `rz_cases`, and has no code that ships. It changes with what `rz_stmt` promises.
 #![tactic(auto)]
 
 #[cfg(test)]
@@ -10,5 +10,7 @@ mod data;
 mod declares;
 #[cfg(test)]
 mod limits;
+#[cfg(test)]
+mod lists;
 #[cfg(test)]
 mod resources;

@@ -10,7 +10,7 @@ loop-piece-preserved c =
     let pieces = c.args.pieces.now in
     let i = c.loop-piece.piece-index in
     let d = c.piece-item.result in
-    leads_more (one_attribute c.one_expression.ensures.expression) (map (λ piece. piece.now) pieces) (map (λ piece. piece.now) (drop i pieces))
+    leads_more c.args.subject (one_attribute c.one_expression.ensures.expression c.args.subject) (map (λ piece. piece.now) pieces) (map (λ piece. piece.now) (drop i pieces))
     (map (λ piece. piece.now) (drop (i + 1) pieces)) (map attribute_of c.loop-piece.attributes) d.now c.loop-piece.invariant
     (at_drop_more (map (λ piece. piece.now)) pieces i d c.loop-piece-test.true ∙ ap (λ piece. piece.now ∷ map (λ piece. piece.now) (drop (i + 1) pieces)) (sym c.piece-item.is))
     (attribute_of c.in-Some.attribute) (map attribute_of c.push.new.self) (rw c.in-Some.is at c.in_ok-attribute.ensures)
@@ -19,5 +19,5 @@ loop-piece-preserved c =
 pub returns : goal.returns
 returns c =
     let pieces = c.args.pieces.now in
-    leads_all (map (λ piece. piece.now) pieces) (map (λ piece. piece.now) (drop c.loop-piece.piece-index pieces)) (map attribute_of c.loop-piece.attributes) c.loop-piece.invariant
+    leads_all c.args.subject (map (λ piece. piece.now) pieces) (map (λ piece. piece.now) (drop c.loop-piece.piece-index pieces)) (map attribute_of c.loop-piece.attributes) c.loop-piece.invariant
     (ap (map (λ piece. piece.now)) (drop_all c.loop-piece.piece-index pieces c.loop-piece-test.false))

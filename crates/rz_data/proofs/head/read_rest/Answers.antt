@@ -6,5 +6,5 @@ use Rattle.rz_data.proofs.head.read_rest.Goals as goal
 
 pub returns-in-None-3 : goal.returns-in-None-3
 returns-in-None-3 c =
-    no_rest (map (λ piece. piece.now) c.args.pieces.now) (map (λ piece. piece.now) c.in-Some.others.now) c.in-Some.first.now.now
+    no_rest c.args.subject (map (λ piece. piece.now) c.args.pieces.now) (map (λ piece. piece.now) c.in-Some.others.now) c.in-Some.first.now.now
     (ap (map (λ piece. piece.now)) c.in-Some.ensures.cases.0) (sym c.in_ok-name.ensures ∙ ap (option_map plain_parts) c.in-None.is) (rw c.in-None-3.is at c.in_ok-attributes-in-None.ensures)

@@ -14,4 +14,4 @@ returns-in-Some-clause-parsed c =
 pub returns-in-None-clause-parsed : goal.returns-in-None-clause-parsed
 returns-in-None-clause-parsed c =
     parsed _ c.args.tokens.now (first_mark c.args.tokens.now c.index-tokens-0.result c.requires) (sym c.if-not-is_within_limits.ensures) (sym c.if-is_empty_statement.ensures) (rw c.in-None.is at c.in_ok-raw.ensures)
-    c.parse_compile.result c.parse_compile.ensures.parsed
+    c.parse_list.result c.parse_list.ensures.parsed

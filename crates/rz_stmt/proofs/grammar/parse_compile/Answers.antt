@@ -1,6 +1,7 @@
-use Rattle.std.proofs.Common.{inl, refl}
+use Rattle.std.proofs.Common.{inl, inr, refl}
 use Rattle.rz_items.specs.Compile.{compile_of}
-use Rattle.rz_stmt.proofs.Parsed.{no_resource}
+use Rattle.rz_stmt.proofs.Parsed.{gave_so}
+use Rattle.rz_stmt.specs.Grammar.{Compiled, Declared}
 use Rattle.rz_stmt.proofs.grammar.parse_compile.Goals as goal
 
 pub returns-in-Some-clause-parsed : goal.returns-in-Some-clause-parsed
@@ -12,4 +13,5 @@ returns-in-Some-clause-placed c files stand =
 
 pub returns-in-None-clause-parsed : goal.returns-in-None-clause-parsed
 returns-in-None-clause-parsed c =
-    no_resource c.args.mark c.args.tokens.now (rw c.in-None.is at c.in_ok-stmt.ensures) c.parse_declare.result c.parse_declare.ensures.parsed
+    gave_so (Declared c.args.mark c.args.tokens.now) (Compiled c.args.mark c.args.tokens.now) (λ answer is. inr (rw c.in-None.is at c.in_ok-stmt.ensures, is)) c.parse_declare.result
+    c.parse_declare.ensures.parsed

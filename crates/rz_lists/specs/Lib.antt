@@ -1,0 +1,16 @@
+pub mod Files
+pub mod Brackets
+pub mod Pick
+pub mod Renaming
+pub mod Include
+pub mod Read
+pub mod Change
+pub mod Delete
+pub mod Lists
+pub mod Steps
+pub use Rattle.rz_brackets.specs.Bracket
+pub use Rattle.rz_brackets.specs.Kind
+pub use Rattle.rz_brackets.specs.Pieces
+pub use Rattle.rz_brackets.specs.Statements
+pub use Rattle.rz_data.specs.Head
+pub use Rattle.rz_fields.specs.Text
