@@ -1,2 +1,13 @@
 pub mod Puts
 pub mod Finds
+pub mod Choices
+pub mod Kept
+pub mod Removes
+pub mod Includes
+pub mod Named
+pub mod Fresh
+pub mod Changes
+pub mod Picks
+pub mod Taken
+pub mod Changed
+pub mod Sequence

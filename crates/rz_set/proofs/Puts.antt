@@ -43,7 +43,7 @@ all_put P (x ∷ xs) r all one = by (all_put P xs r all.1 one) (same_key r x)
     by later false = (all.0, later)
 
 -- two resources of one key are alike to every test of keys
-same_to : (r x y : Resource) → same_key r x ≡ true → same_key x y ≡ same_key r y
+pub same_to : (r x y : Resource) → same_key r x ≡ true → same_key x y ≡ same_key r y
 same_to r x y is = λ i. (sym (same_code r x is) i == y.kind.code) && (sym (same_id r x is) i == id_bits y)
 
 exchanged : (before mid xs : List Resource) (r x : Resource) → same_key r x ≡ true → KeysDiffer (before ++ x ∷ mid) xs → KeysDiffer (before ++ r ∷ mid) xs
@@ -57,10 +57,10 @@ exchanged before mid (y ∷ xs) r x is differ =
           (exchanged before (mid ++ y ∷ []) xs r x is (subst (λ (l : List Resource). KeysDiffer l xs) (append_assoc before (x ∷ mid) (y ∷ [])) differ.1)),
     )
 
-eqb-sym : (a b : ℕ) → (a == b) ≡ (b == a)
+pub eqb-sym : (a b : ℕ) → (a == b) ≡ (b == a)
 eqb-sym a b = grind (arith, nat_tests)
 
-flipped : (r x : Resource) → same_key r x ≡ same_key x r
+pub flipped : (r x : Resource) → same_key r x ≡ same_key x r
 flipped r x = λ i. eqb-sym r.kind.code x.kind.code i && eqb-sym (id_bits r) (id_bits x) i
 
 -- a resource put into a list leaves its keys different, where it is like none of those before

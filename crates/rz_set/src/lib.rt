@@ -1,11 +1,23 @@
 //! The resources of a program while its statements are read. Contracts see a `ResSet` as a list of resources: no
 //! two have the same type and id, and each name has at most 255 bytes. Each call gives exactly its definition.
 //! It rests on `rz_core` and `indexmap`. What `put` does to a list is defined in `rz_core`
-//! (`specs/Resources.antt`).
+//! (`specs/Resources.antt`), which resources are chosen in `specs/Choice.antt`, and what the calls leave in
+//! `specs/After.antt` and, for a change, in `specs/Change.antt`.
 #![tactic(auto)]
 
+mod among;
+mod change;
+mod entries;
+mod include;
 mod laws;
+mod pick;
 mod res_set;
+mod wanted;
 
-pub use laws::{found_has_the_key, others_are_found_as_before, others_stay_in_order, put_is_found};
+pub use among::{find_in, find_name_in};
+pub use laws::{
+    a_change_is_one_after_another, a_name_chooses_the_first, found_has_the_key,
+    others_are_found_as_before, others_stay_in_order, put_is_found,
+};
+pub use pick::{Choice, Head, Pick, SetFault};
 pub use res_set::ResSet;
