@@ -18,19 +18,21 @@ use Rattle.rz_lex.specs.declared.raw_line.RawLine.{RawLine}
 use Rattle.rz_core.specs.Stop.{OnFault}
 use Rattle.rz_lex.specs.Lines.{HasOpenComment}
 use Rattle.rz_pre.specs.Line.{Does}
-use Rattle.rz_pre.specs.Program.{ends, fails, innermost, opens_after, state_after, too_deep, file_of, live_after, missing_file, names_of, start, utf8_name, Enters, Failure, Follows, HasText, IncludedGoes, Includes, LineGoes, LinesGo, NamedGoes, NamesGo, Opens, OpensAs, State, TextGoes}
+use Rattle.rz_pre.specs.Program.{ends, fails, innermost, opens_after, state_after, too_deep, live_after, start, Enters, Failure, Follows, HasText, IncludedGoes, Includes, LineGoes, LinesGo, NamedGoes, NamesGo, Opens, OpensAs, State, TextGoes}
 use Rattle.rz_core.specs.Answers.{Meets}
 use Rattle.rz_pre.specs.Live.{live_in, put, shapes_of, Live}
 use Rattle.rz_pre.specs.Macros.{rows_of}
-use Rattle.rz_pre.specs.Reading.{alone, halt_of, included_in, state_of, together, Finishes, Gave, IsReadFault, IsUnrefused, Leaves, Matches, Steps}
+use Rattle.rz_pre.specs.Reading.{alone, included_in, state_of, together, Finishes, Gave, Leaves, Matches, Steps}
 use Rattle.rz_pre.specs.declared.program.Def.{Def}
 use Rattle.rz_pre.specs.declared.program.PreFault.{PreFault}
 use Rattle.rz_pre.specs.declared.program.PreFault.TheVariants as prefaults
 use Rattle.rz_pre.specs.declared.program.Program.{Program}
 use Rattle.rz_pre.specs.declared.reading.Reading.{Reading}
 use Rattle.rz_lex.specs.declared.token.Token.{Token}
-use Rattle.rz_pre.specs.declared.reading.Halt.{Halt}
-use Rattle.rz_pre.specs.declared.reading.Halt.TheVariants as halts
+use Rattle.rz_paths.specs.Halt.{halt_of, IsReadFault, IsUnrefused}
+use Rattle.rz_paths.specs.Names.{file_of, missing_file, names_of, utf8_name}
+use Rattle.rz_paths.specs.declared.halt.Halt.{Halt}
+use Rattle.rz_paths.specs.declared.halt.Halt.TheVariants as halts
 use Rattle.rz_pre.specs.declared.act.Act.TheVariants as acts
 use Rattle.rz_pre.specs.declared.act.Act.{Act}
 use Rattle.rz_pre.specs.declared.condition.Tool.{Tool}

@@ -13,7 +13,6 @@ pub mod Computing
 pub mod Numbering
 pub mod OneCondition
 pub mod Going
-pub mod Opening
 pub mod Names
 pub mod OneProgram
 pub mod Placing

@@ -1,5 +1,5 @@
 -- A program has one answer.
-use Rattle.std.proofs.Common.{◌≡◌, ℕ, zero, suc, Bool, true, false, inl, inr, List, [], ◌∷◌, Option, Some, None, Ok, Err, sym, ap, subst, ◌∙◌}
+use Rattle.std.proofs.Common.{◌≡◌, ℕ, zero, suc, Bool, true, false, List, [], ◌∷◌, Option, Some, None, Ok, Err, sym, ap, subst, ◌∙◌}
 use Rattle.std.specs.declared.result.Result.{Result}
 use Rattle.rz_core.proofs.Once.{Once, ok, err, same_ok, same_err, ok_or_err, once_by, once_is, once_then}
 use Rattle.rz_core.specs.declared.fault.Fault.{Fault}
@@ -11,11 +11,11 @@ use Rattle.rz_lex.specs.Lines.{HasLines}
 use Rattle.rz_lex.specs.declared.joined.Placed.{Placed}
 use Rattle.rz_lex.specs.declared.raw_line.RawLine.{RawLine}
 use Rattle.rz_lex.specs.declared.token.Token.{Token}
-use Rattle.rz_core.specs.Answers.{Then}
 use Rattle.rz_pre.specs.Line.{Acts, Does, Directs, HasCondition, IsComputed, IsCut, IsReplaced, Obeys, PutsOut, Says, Turns, WhereKept, behind_first, is_kept, open_part}
 use Rattle.rz_source.specs.Directive.{behind_hash, directive_in, unblanked}
 use Rattle.rz_pre.specs.Live.{Live}
-use Rattle.rz_pre.specs.Program.{bad_text, innermost, Enters, Follows, HasText, IncludedGoes, Includes, LineGoes, LinesGo, NamedGoes, NamesGo, Opens, OpensAs, State, TextGoes, WithFiles, file_of, levels_below, missing_file, names_of, utf8_name}
+use Rattle.rz_paths.specs.Names.{file_of, missing_file, names_of, utf8_name}
+use Rattle.rz_pre.specs.Program.{bad_text, innermost, Enters, Follows, HasText, IncludedGoes, Includes, LineGoes, LinesGo, NamedGoes, NamesGo, Opens, OpensAs, State, TextGoes, WithFiles, levels_below}
 use Rattle.rz_source.specs.Source.{IsBadAt, IsTextOf}
 use Rattle.rz_pre.specs.declared.act.Act.{Act}
 use Rattle.rz_pre.specs.declared.act.Act.TheVariants as acts

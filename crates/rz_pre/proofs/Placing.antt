@@ -26,9 +26,10 @@ use Rattle.rz_pre.specs.Line.{Acts, Directs, Does, IsComputed, IsReplaced, Obeys
 use Rattle.rz_pre.specs.Live.{Live}
 use Rattle.rz_pre.specs.Placed.{AreOn, AreOpenIn, IsSourceFault, OnRefused, PutsOn}
 use Rattle.rz_pre.specs.Program.{opens_after, state_after, State}
-use Rattle.rz_pre.specs.Reading.{halt_of, IsUnrefused, Steps}
-use Rattle.rz_pre.specs.declared.reading.Halt.{Halt}
-use Rattle.rz_pre.specs.declared.reading.Halt.TheVariants as halts
+use Rattle.rz_paths.specs.Halt.{halt_of, IsUnrefused}
+use Rattle.rz_pre.specs.Reading.{Steps}
+use Rattle.rz_paths.specs.declared.halt.Halt.{Halt}
+use Rattle.rz_paths.specs.declared.halt.Halt.TheVariants as halts
 use Rattle.rz_pre.specs.declared.act.Act.{Act}
 use Rattle.rz_pre.specs.declared.act.Act.TheVariants as acts
 use Rattle.rz_pre.specs.declared.condition.Tool.{Tool}

@@ -1,11 +1,9 @@
 -- What the named files mean as one program, or its first fault. (MPW Rez.)
-use Rattle.std.specs.Prelude.{◌≡◌, ℕ, zero, suc, pos, false, List, [], ◌∷◌, ◌++◌, map, length, Option, Some, None, Ok, Err, option_map}
-use Rattle.std.specs.FinMap as finite
-use Rattle.std.specs.Str.{encode_utf8_all, str_to_ascii_lowercase}
+use Rattle.std.specs.Prelude.{◌≡◌, ℕ, zero, suc, pos, false, List, [], ◌∷◌, ◌++◌, length, Option, Some, None, Ok, Err, option_map}
+use Rattle.std.specs.Str.{str_to_ascii_lowercase}
 use Rattle.std.specs.declared.result.Result.{Result}
-use Rattle.rz_core.specs.Roman.{roman_char}
 use Rattle.rz_core.specs.declared.fault.Fault.{Fault}
-use Rattle.rz_core.specs.declared.fault.Kept.TheVariants.{Name, Nothing as NothingKept, Number}
+use Rattle.rz_core.specs.declared.fault.Kept.TheVariants.{Nothing as NothingKept, Number}
 use Rattle.rz_core.specs.declared.fault.Mark.{Mark}
 use Rattle.rz_folder.specs.Folder.{Files}
 use Rattle.rz_lex.specs.Joined.{joined}
@@ -13,6 +11,7 @@ use Rattle.rz_lex.specs.Lines.{HasLines}
 use Rattle.rz_lex.specs.declared.raw_line.RawLine.{RawLine}
 use Rattle.rz_lex.specs.declared.token.Token.{Token}
 use Rattle.rz_core.specs.Answers.{Then}
+use Rattle.rz_paths.specs.Names.{file_of, missing_file, names_of, utf8_name}
 use Rattle.rz_pre.specs.Line.{Does}
 use Rattle.rz_pre.specs.Live.{put, shapes_of, Live}
 use Rattle.rz_source.specs.Source.{IsBadAt, IsTextOf}
@@ -96,19 +95,6 @@ TextGoes Reads tool file text s answer =
 
 -- Files.
 
--- the first of these names under which a file stands, and its bytes
-abbrev pub first_file : List ℕ → Option (List ℕ) → Option (List ℕ × List ℕ) → Option (List ℕ × List ℕ)
-first_file name None later = later
-first_file name (Some bytes) later = Some (name, bytes)
-
-abbrev pub file_of : Files → List (List ℕ) → Option (List ℕ × List ℕ)
-file_of files [] = None
-file_of files (name ∷ names) = first_file name (finite.get files name) (file_of files names)
-
--- 101
-abbrev pub missing_file : Option Mark → List ℕ → Fault
-missing_file mark name = record { number = 101; mark = mark; kept = Name name }
-
 -- 102, on the first line of the file, with the offset of what can't be turned into Mac Roman
 abbrev pub bad_text : ℕ → ℕ → Fault
 bad_text file offset = record { number = 102; mark = Some (record { file = file; line = 1 }); kept = Number (pos offset) }
@@ -128,13 +114,6 @@ OpensAs missing s (Some found) =
 
 abbrev pub Opens : Files → List (List ℕ) → Fault → State → Result (List ℕ × State) Failure → Type 0
 Opens files names missing s = OpensAs missing s (file_of files names)
-
--- the names of an included file in UTF-8: its own, and then behind each path and `/`
-abbrev pub utf8_name : List ℕ → List ℕ
-utf8_name name = encode_utf8_all (map roman_char name)
-
-abbrev pub names_of : List (List ℕ) → List ℕ → List (List ℕ)
-names_of paths name = name ∷ map (λ path. path ++ 47 ∷ name) paths
 
 -- 103, on the line that includes a file on level 17
 abbrev pub too_deep : Mark → Fault

@@ -7,6 +7,9 @@ use Rattle.rz_core.specs.declared.resource.Word.{Word}
 use Rattle.rz_core.specs.declared.stop.Stop.{Stop}
 use Rattle.rz_core.specs.declared.stop.Stop.TheVariants as stops
 use Rattle.rz_lex.specs.declared.raw_line.RawLine.{RawLine}
+use Rattle.rz_paths.specs.Halt.{IsReadFault}
+use Rattle.rz_paths.specs.declared.halt.Halt.{Halt}
+use Rattle.rz_paths.specs.declared.halt.Halt.TheVariants.{NoMemory, ReadFault, Refused}
 use Rattle.rz_pre.specs.Line.{Does}
 use Rattle.rz_pre.specs.Live.{live_in}
 use Rattle.rz_pre.specs.Macros.{rows_of}
@@ -18,16 +21,10 @@ use Rattle.rz_pre.specs.declared.conditional.Open.{Open}
 use Rattle.rz_pre.specs.declared.program.PreFault.{PreFault}
 use Rattle.rz_pre.specs.declared.program.PreFault.TheVariants as prefaults
 use Rattle.rz_pre.specs.declared.program.Program.{Program}
-use Rattle.rz_pre.specs.declared.reading.Halt.{Halt}
-use Rattle.rz_pre.specs.declared.reading.Halt.TheVariants.{NoMemory, ReadFault, Refused}
 use Rattle.rz_pre.specs.declared.reading.Reading.{Reading}
 
 abbrev pub state_of : Reading → State
 state_of reading = record { live = live_in (rows_of reading.macros); tokens = reading.tokens; files = reading.files }
-
-abbrev pub halt_of : Stop Fault → Halt
-halt_of (stops.Refused fault) = Refused fault
-halt_of stops.NoMemory = NoMemory
 
 -- the call left this state, and what is answered holds of it and of what the call gave; a read fault and want of
 -- memory say nothing
@@ -45,13 +42,6 @@ alone nothing s = s
 abbrev pub together : {X : Type 0} → X → State → X × State
 together value s = (value, s)
 
--- a read failed
-abbrev pub IsReadFault : {X : Type 0} → Result X Halt → Type 0
-IsReadFault (Ok value) = ⊥
-IsReadFault (Err (Refused fault)) = ⊥
-IsReadFault (Err ReadFault) = Unit {0}
-IsReadFault (Err NoMemory) = ⊥
-
 -- the name of the file that a line includes
 abbrev pub included_in : Act → Option (List ℕ)
 included_in (Include name) = Some name
@@ -64,13 +54,6 @@ Steps tool line opens s (Ok name) after t =
     × (name ≡ included_in act) × (after ≡ opens_after line.mark act opens) × (t ≡ state_after act s)
 Steps tool line opens s (Err (stops.Refused fault)) after t = Does s.live tool (innermost opens) line (Err fault) × (t ≡ s)
 Steps tool line opens s (Err stops.NoMemory) after t = Unit {0}
-
--- no rule is broken
-abbrev pub IsUnrefused : {X : Type 0} → Result X Halt → Type 0
-IsUnrefused (Ok value) = Unit {0}
-IsUnrefused (Err (Refused fault)) = ⊥
-IsUnrefused (Err ReadFault) = Unit {0}
-IsUnrefused (Err NoMemory) = Unit {0}
 
 -- there is no read fault
 abbrev pub IsQuiet : {X : Type 0} → Result X Halt → Type 0

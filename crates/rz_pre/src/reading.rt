@@ -4,8 +4,7 @@ ghost use Rattle.rz_pre.specs.Placed.{IsSourceFault};
 ghost use Rattle.rz_core.specs.declared.fault.Mark.{Mark};
 ghost use Rattle.rz_pre.specs.declared.act.Act.TheVariants.{Turn};
 ghost use Rattle.rz_pre.specs.Program.{opens_after, start, state_after};
-ghost use Rattle.rz_pre.specs.Reading.{halt_of, included_in, state_of, Steps};
-ghost use Rattle.rz_pre.specs.declared.reading.Halt.TheVariants.{NoMemory as no_memory};
+ghost use Rattle.rz_pre.specs.Reading.{included_in, state_of, Steps};
 
 use crate::act::Act;
 use crate::condition::Tool;
@@ -16,36 +15,6 @@ use rz_core::{Bytes, Fault, FileNames, Mark, NoMemory, Stop};
 use rz_lex::RawLine;
 use rz_tokens::TokenStore;
 use std::alloc::Global;
-
-/// Why reading stopped.
-#[derive(Debug, Drop)]
-pub enum Halt {
-    /// A rule is broken.
-    Refused(Fault),
-    /// A file could not be read.
-    ReadFault,
-    /// Memory was refused.
-    NoMemory,
-}
-
-impl From<NoMemory> for Halt {
-    ghost from_gives = { λ _ halt. halt ≡ no_memory };
-
-    fn from(_: NoMemory) -> Self {
-        Halt::NoMemory
-    }
-}
-
-impl From<Stop<Fault>> for Halt {
-    ghost from_gives = { λ stop halt. halt ≡ halt_of stop };
-
-    fn from(stop: Stop<Fault>) -> Self {
-        match stop {
-            Stop::Refused(fault) => Halt::Refused(fault),
-            Stop::NoMemory => Halt::NoMemory,
-        }
-    }
-}
 
 /// What was read so far.
 #[derive(Drop)]

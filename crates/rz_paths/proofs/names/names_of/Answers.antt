@@ -1,7 +1,7 @@
 use Rattle.std.proofs.Common.{ℕ, List, string_bytes, arith, ap, ◌∙◌, ◌∷◌, ◌++◌}
 use Rattle.std.proofs.lemmas.Option.{slice_get_within}
-use Rattle.rz_pre.proofs.Opening.{named_more}
-use Rattle.rz_pre.proofs.open.names_of.Goals as goal
+use Rattle.rz_paths.proofs.Named.{named_more}
+use Rattle.rz_paths.proofs.names.names_of.Goals as goal
 
 pub loop-k-preserved : goal.loop-k-preserved
 loop-k-preserved c = record {

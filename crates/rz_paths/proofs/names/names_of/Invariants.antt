@@ -1,5 +1,5 @@
 use Rattle.std.proofs.Common.{◌≡◌, ◌-◌, ◌≤◌, ◌++◌, ◌∷◌, map, take, length, string_bytes}
-use Rattle.rz_pre.proofs.open.names_of.Given as goal
+use Rattle.rz_paths.proofs.names.names_of.Given as goal
 
 abbrev pub invariant-loop-k : goal.invariant-loop-k
 invariant-loop-k l = record {

@@ -1,8 +1,8 @@
 use Rattle.std.proofs.Common.{◌≡◌, ◌-◌, ◌≤◌, drop, length, Some}
 use Rattle.rz_folder.specs.Folder.{Files}
 use Rattle.rz_folder.specs.OnlyReads.{OnlyReads}
-use Rattle.rz_pre.specs.Program.{file_of}
-use Rattle.rz_pre.proofs.open.find.Given as goal
+use Rattle.rz_paths.specs.Names.{file_of}
+use Rattle.rz_paths.proofs.file.find.Given as goal
 
 abbrev pub invariant-loop-k : goal.invariant-loop-k
 invariant-loop-k g l = record {

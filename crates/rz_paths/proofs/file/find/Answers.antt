@@ -1,7 +1,7 @@
 use Rattle.std.proofs.Common.{◌∙◌, arith}
 use Rattle.std.proofs.lemmas.Option.{slice_get_within}
-use Rattle.rz_pre.proofs.Opening.{found_here, found_later, if_some, reads_bytes, reads_missing}
-use Rattle.rz_pre.proofs.open.find.Goals as goal
+use Rattle.rz_paths.proofs.Found.{found_here, found_later, if_some, reads_bytes, reads_missing}
+use Rattle.rz_paths.proofs.file.find.Goals as goal
 
 pub returns-in-Bytes-clause-found : goal.returns-in-Bytes-clause-found
 returns-in-Bytes-clause-found g c = if_some (g.F.Folder.files c.args.folder.now) _ (λ files told.

@@ -1,0 +1,35 @@
+-- Files by their names: the first one that stands under some names, and the names of an included file. (MPW Rez.)
+use Rattle.std.specs.Prelude.{ℕ, List, [], ◌∷◌, ◌++◌, map, Option, Some, None, option_map}
+use Rattle.std.specs.Option.{ok_or}
+use Rattle.std.specs.declared.result.Result.{Result}
+use Rattle.std.specs.FinMap as finite
+use Rattle.std.specs.Str.{encode_utf8_all}
+use Rattle.rz_core.specs.Roman.{roman_char}
+use Rattle.rz_core.specs.declared.fault.Fault.{Fault}
+use Rattle.rz_core.specs.declared.fault.Kept.TheVariants.{Name}
+use Rattle.rz_core.specs.declared.fault.Mark.{Mark}
+use Rattle.rz_folder.specs.Folder.{Files}
+
+-- the first of these names under which a file stands, and its bytes
+abbrev pub first_file : List ℕ → Option (List ℕ) → Option (List ℕ × List ℕ) → Option (List ℕ × List ℕ)
+first_file name None later = later
+first_file name (Some bytes) later = Some (name, bytes)
+
+abbrev pub file_of : Files → List (List ℕ) → Option (List ℕ × List ℕ)
+file_of files [] = None
+file_of files (name ∷ names) = first_file name (finite.get files name) (file_of files names)
+
+-- its bytes alone, or this fault where no file stands under any of the names
+abbrev pub bytes_of : Files → List (List ℕ) → Fault → Result (List ℕ) Fault
+bytes_of files names missing = ok_or (option_map (λ found. found.1) (file_of files names)) missing
+
+-- 101
+abbrev pub missing_file : Option Mark → List ℕ → Fault
+missing_file mark name = record { number = 101; mark = mark; kept = Name name }
+
+-- the names of an included file in UTF-8: its own, and then behind each path and `/`
+abbrev pub utf8_name : List ℕ → List ℕ
+utf8_name name = encode_utf8_all (map roman_char name)
+
+abbrev pub names_of : List (List ℕ) → List ℕ → List (List ℕ)
+names_of paths name = name ∷ map (λ path. path ++ 47 ∷ name) paths
