@@ -1,12 +1,12 @@
 -- Commands by their first words, and those of few words.
-use Rattle.std.proofs.Common.{◌≡◌, ℕ, false, List, [], ◌∷◌, refl, sym, subst, ◌∙◌, arith, Err}
+use Rattle.std.proofs.Common.{◌≡◌, ℕ, false, List, [], ◌∷◌, refl, sym, subst, arith, Err}
 use Rattle.std.specs.Prelude.{codes}
 use Rattle.std.specs.Str.{bytes_eq}
 use Rattle.std.specs.declared.result.Result.{Result}
 use Rattle.rz_core.specs.Stop.{OnFault}
 use Rattle.rz_core.specs.declared.stop.Stop.{Stop}
 use Rattle.rz_core.specs.declared.stop.Stop.TheVariants.{Refused}
-use Rattle.rz_words.specs.Command.{Asked, DeRez, Help, IsCommand, IsMisplaced, Rez, Version}
+use Rattle.rz_words.specs.Command.{Asked, Bridge, DeRez, Help, IsCommand, IsMisplaced, Rez, Version}
 use Rattle.rz_words.specs.declared.read.UsageFault.{UsageFault}
 use Rattle.rz_words.proofs.Found.{differ}
 use Rattle.rz_words.proofs.Words.{head, tail, Words}
@@ -15,12 +15,14 @@ use Rattle.rz_words.proofs.Words.{head, tail, Words}
 data Kind (word : List ℕ) (words : Words) : Type 0 where
   compiles : word ≡ codes "rez" → Kind word words
   shows : word ≡ codes "derez" → Kind word words
+  bridges : word ≡ codes "bridge" → Kind word words
   helps : word ≡ codes "--help" → words ≡ [] → Kind word words
   tells : word ≡ codes "--version" → words ≡ [] → Kind word words
 
 kind_of : (word : List ℕ) (words : Words) (asked : Asked) → IsCommand (word ∷ words) asked → Kind word words
 kind_of word words (Rez asked) (wanted, wants, same) = compiles (head word (codes "rez") words wants.rest wants.is)
 kind_of word words (DeRez asked) (wanted, wants, same) = shows (head word (codes "derez") words wants.rest wants.is)
+kind_of word words (Bridge asked) (wanted, wants, is) = bridges (head word (codes "bridge") words wants.rest wants.is)
 kind_of word words Help eq = helps (head word (codes "--help") words [] eq) (tail word (codes "--help") words [] eq)
 kind_of word words Version eq = tells (head word (codes "--version") words [] eq) (tail word (codes "--version") words [] eq)
 
@@ -46,6 +48,7 @@ help_more x words = alone_more (codes "--help") x Help refl none words
     none : (after : Words) → Kind (codes "--help") (x ∷ after) → ⊥
     none after (compiles is) = differ (codes "--help") (codes "rez") refl is
     none after (shows is) = differ (codes "--help") (codes "derez") refl is
+    none after (bridges is) = differ (codes "--help") (codes "bridge") refl is
     none after (helps is eq) = more x after eq
     none after (tells is eq) = more x after eq
 
@@ -55,6 +58,7 @@ version_more x words = alone_more (codes "--version") x Version refl none words
     none : (after : Words) → Kind (codes "--version") (x ∷ after) → ⊥
     none after (compiles is) = differ (codes "--version") (codes "rez") refl is
     none after (shows is) = differ (codes "--version") (codes "derez") refl is
+    none after (bridges is) = differ (codes "--version") (codes "bridge") refl is
     none after (helps is eq) = more x after eq
     none after (tells is eq) = more x after eq
 
@@ -73,12 +77,13 @@ no_words = record {
     none : (any : Asked) → IsCommand [] any → ⊥
     none (Rez asked) (wanted, wants, same) = more (codes "rez") wants.rest (sym wants.is)
     none (DeRez asked) (wanted, wants, same) = more (codes "derez") wants.rest (sym wants.is)
+    none (Bridge asked) (wanted, wants, is) = more (codes "bridge") wants.rest (sym wants.is)
     none Help eq = more (codes "--help") [] (sym eq)
     none Version eq = more (codes "--version") [] (sym eq)
 
-pub other_word : (word : List ℕ) (words : Words) → bytes_eq word (codes "rez") ≡ false → bytes_eq word (codes "derez") ≡ false
+pub other_word : (word : List ℕ) (words : Words) → bytes_eq word (codes "rez") ≡ false → bytes_eq word (codes "derez") ≡ false → bytes_eq word (codes "bridge") ≡ false
     → bytes_eq word (codes "--help") ≡ false → bytes_eq word (codes "--version") ≡ false → IsMisplaced (word ∷ words) 1
-other_word word words no_rez no_derez no_help no_version = record {
+other_word word words no_rez no_derez no_bridge no_help no_version = record {
   none = λ any is. none words (kind_of word words any is);
   front = 0;
   next = refl;
@@ -90,6 +95,7 @@ other_word word words no_rez no_derez no_help no_version = record {
     none : (after : Words) → Kind word after → ⊥
     none after (compiles is) = differ word (codes "rez") no_rez is
     none after (shows is) = differ word (codes "derez") no_derez is
+    none after (bridges is) = differ word (codes "bridge") no_bridge is
     none after (helps is eq) = differ word (codes "--help") no_help is
     none after (tells is eq) = differ word (codes "--version") no_version is
 

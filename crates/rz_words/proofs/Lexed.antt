@@ -11,11 +11,13 @@ use Rattle.rz_lex.specs.Lexeme.{AreLexed}
 use Rattle.rz_lex.specs.declared.token.Token.{Token}
 use Rattle.rz_pre.specs.Lexed.{HaveLexedTexts}
 use Rattle.rz_pre.specs.declared.program.Def.{Def}
-use Rattle.rz_pre.specs.declared.condition.Tool.{Tool}
-use Rattle.rz_pre.specs.declared.condition.Tool.TheVariants as tools
-use Rattle.rz_words.specs.Command.{again_item, and_item, and_items, file_item, nothing_wanted, value_item, AreItems, DeRez, DeRezAsked, IsCommand, IsItem, IsValue, Item, Rez, RezAsked, Wanted, Wants}
+use Rattle.rz_words.specs.declared.name.CommandName.{CommandName}
+use Rattle.rz_words.specs.declared.name.CommandName.TheVariants as names
+use Rattle.rz_words.specs.Command.{and_item, and_items, and_switch, file_item, nothing_wanted, switch_item, value_item, AreItems, DeRez, DeRezAsked, IsCommand, IsItem, IsValue, Item, Rez, RezAsked, Wanted, Wants}
 use Rattle.rz_words.specs.declared.flag.Flag.{Flag}
 use Rattle.rz_words.specs.declared.flag.Flag.TheVariants as flags
+use Rattle.rz_words.specs.declared.flag.Switch.{Switch}
+use Rattle.rz_words.specs.declared.flag.Switch.TheVariants as switches
 use Rattle.rz_words.specs.Definition.{nowhere, AreFree, Defines, IsFree, IsName, Undefines}
 
 module _ (P : Def → Type 0) (defined : (value : List ℕ) (def : Def) → Defines value def → P def) (undefined : (value : List ℕ) (def : Def) → Undefines value def → P def) where
@@ -26,32 +28,44 @@ module _ (P : Def → Type 0) (defined : (value : List ℕ) (def : Def) → Defi
   value_all : (flag : Flag) (value : List ℕ) (wanted : Wanted) (item : Item) → IsValue flag value item → AllByRecursion P wanted.defs → AllByRecursion P (and_item wanted item).defs
   value_all flags.Output value wanted item is have = subst (λ (o : Item). AllByRecursion P (and_item wanted o).defs) (sym is) have
   value_all flags.Path value wanted item is have = subst (λ (o : Item). AllByRecursion P (and_item wanted o).defs) (sym is) have
+  value_all flags.Search value wanted item is have = subst (λ (o : Item). AllByRecursion P (and_item wanted o).defs) (sym is) have
   value_all flags.Define value wanted item (def, is, it) have =
       subst (λ (o : Item). AllByRecursion P (and_item wanted o).defs) (sym is) (one_more wanted.defs def have (defined value def it))
   value_all flags.Undefine value wanted item (def, is, it) have =
       subst (λ (o : Item). AllByRecursion P (and_item wanted o).defs) (sym is) (one_more wanted.defs def have (undefined value def it))
   value_all flags.Only value wanted item (kind, is, it) have = subst (λ (o : Item). AllByRecursion P (and_item wanted o).defs) (sym is) have
   value_all flags.Skip value wanted item (kind, is, it) have = subst (λ (o : Item). AllByRecursion P (and_item wanted o).defs) (sym is) have
+  value_all flags.Kind value wanted item (kind, is, it) have = subst (λ (o : Item). AllByRecursion P (and_item wanted o).defs) (sym is) have
+  value_all flags.Creator value wanted item (creator, is, it) have = subst (λ (o : Item). AllByRecursion P (and_item wanted o).defs) (sym is) have
+  value_all flags.Into value wanted item (form, is, it) have = subst (λ (o : Item). AllByRecursion P (and_item wanted o).defs) (sym is) have
+  value_all flags.From value wanted item (form, is, it) have = subst (λ (o : Item). AllByRecursion P (and_item wanted o).defs) (sym is) have
 
-  item_all : (tool : Tool) (words : List (List ℕ)) (wanted : Wanted) (item : Item) → IsItem tool words item → AllByRecursion P wanted.defs → AllByRecursion P (and_item wanted item).defs
-  item_all tool words wanted item (file_item name is holds same) have = subst (λ (o : Item). AllByRecursion P (and_item wanted o).defs) (sym same) have
-  item_all tool words wanted item (again_item is same) have = subst (λ (o : Item). AllByRecursion P (and_item wanted o).defs) (sym same) have
-  item_all tool words wanted item (value_item word value flag is named says) have = value_all flag value wanted item says have
+  switch_all : (switch : Switch) (wanted : Wanted) → AllByRecursion P wanted.defs → AllByRecursion P (and_switch wanted switch).defs
+  switch_all switches.Redeclare wanted have = have
+  switch_all switches.Append wanted have = have
+  switch_all switches.Over wanted have = have
+  switch_all switches.ReadOnly wanted have = have
 
-  items_all : (tool : Tool) (words : List (List ℕ)) (wanted : Wanted) (items : List Item) → AreItems tool words items → AllByRecursion P wanted.defs
+  item_all : (command : CommandName) (words : List (List ℕ)) (wanted : Wanted) (item : Item) → IsItem command words item → AllByRecursion P wanted.defs → AllByRecursion P (and_item wanted item).defs
+  item_all command words wanted item (file_item name is holds same) have = subst (λ (o : Item). AllByRecursion P (and_item wanted o).defs) (sym same) have
+  item_all command words wanted item (switch_item word switch is named same) have =
+      subst (λ (o : Item). AllByRecursion P (and_item wanted o).defs) (sym same) (switch_all switch wanted have)
+  item_all command words wanted item (value_item word value flag is named says) have = value_all flag value wanted item says have
+
+  items_all : (command : CommandName) (words : List (List ℕ)) (wanted : Wanted) (items : List Item) → AreItems command words items → AllByRecursion P wanted.defs
       → AllByRecursion P (and_items wanted items).defs
-  items_all tool words wanted [] are have = have
-  items_all tool words wanted (item ∷ items) are have = items_all tool are.1 (and_item wanted item) items are.4 (item_all tool are.0 wanted item are.3 have)
+  items_all command words wanted [] are have = have
+  items_all command words wanted (item ∷ items) are have = items_all command are.1 (and_item wanted item) items are.4 (item_all command are.0 wanted item are.3 have)
 
-  wanted_all : (tool : Tool) (words : List (List ℕ)) (wanted : Wanted) → Wants tool words wanted → AllByRecursion P wanted.defs
-  wanted_all tool words wanted wants =
-      subst (λ (w : Wanted). AllByRecursion P w.defs) (sym wants.want) (items_all tool wants.rest nothing_wanted wants.items wants.are tt)
+  wanted_all : (command : CommandName) (words : List (List ℕ)) (wanted : Wanted) → Wants command words wanted → AllByRecursion P wanted.defs
+  wanted_all command words wanted wants =
+      subst (λ (w : Wanted). AllByRecursion P w.defs) (sym wants.want) (items_all command wants.rest nothing_wanted wants.items wants.are tt)
 
   pub rez_all : (words : List (List ℕ)) (asked : RezAsked) → IsCommand words (Rez asked) → AllByRecursion P asked.defs
-  rez_all words asked is = subst (λ (a : RezAsked). AllByRecursion P a.defs) (sym is.2) (wanted_all tools.Rez words is.0 is.1)
+  rez_all words asked is = subst (λ (a : RezAsked). AllByRecursion P a.defs) (sym is.2) (wanted_all names.Rez words is.0 is.1)
 
   pub derez_all : (words : List (List ℕ)) (asked : DeRezAsked) → IsCommand words (DeRez asked) → AllByRecursion P asked.defs
-  derez_all words asked is = subst (λ (a : DeRezAsked). AllByRecursion P a.defs) (sym is.2) (wanted_all tools.DeRez words is.0 is.1)
+  derez_all words asked is = subst (λ (a : DeRezAsked). AllByRecursion P a.defs) (sym is.2) (wanted_all names.DeRez words is.0 is.1)
 
 -- a text is lexed, where there is one
 abbrev HasLexed : Option (List Token) → Type 0

@@ -14,20 +14,22 @@ use Rattle.rz_source.specs.Source.{mark, IsTextOf}
 use Rattle.std.specs.Str.{bytes_eq}
 use Rattle.std.specs.declared.option.Option.{Option}
 use Rattle.rz_core.specs.declared.resource.OsType.{OsType}
-use Rattle.rz_pre.specs.declared.condition.Tool.{Tool}
-use Rattle.rz_pre.specs.declared.condition.Tool.TheVariants as tools
-use Rattle.rz_words.specs.Command.{again_item, derez_asked, file_item, flag_of, is_file, name_of, rez_asked, value_item, wanted_by, AreItems, Asked, Begins, Define, DeRez, DeRezAsked, File, Help, IsCommand, IsItem, IsMisplaced, IsValue, Item, Only, Rez, RezAsked, Skip, Version, Wanted, Wants}
+use Rattle.rz_words.specs.declared.name.CommandName.{CommandName}
+use Rattle.rz_words.specs.declared.name.CommandName.TheVariants as names
+use Rattle.rz_form.specs.declared.form.Form.{Form}
+use Rattle.rz_words.specs.Command.{derez_asked, file_item, flag_of, is_file, name_of, rez_asked, switch_item, switch_of, value_item, wanted_by, AreItems, Asked, Begins, Bridge, BridgeAsked, Creator, Define, DeRez, DeRezAsked, File, From, Help, Into, IsBridgeAsked, IsCommand, IsItem, IsMisplaced, IsValue, Item, Kind, On, Only, Rez, RezAsked, Skip, Version, Wanted, Wants}
 use Rattle.rz_words.specs.Definition.{nowhere, Defines, HasNoSign, IsName, IsText, Undefines}
 use Rattle.rz_words.specs.Kind.{kind_of, IsKind}
 use Rattle.rz_words.specs.declared.flag.Flag.{Flag}
 use Rattle.rz_words.specs.declared.flag.Flag.TheVariants as flags
+use Rattle.rz_words.specs.declared.flag.Switch.{Switch}
 use Rattle.rz_words.specs.Definition.Defines.{alone, with_text}
-use Rattle.rz_words.specs.Item.{asked, Answers}
+use Rattle.rz_words.specs.Item.{asked, Answers, AreRead}
 use Rattle.rz_words.specs.declared.command.Command.{Command}
 use Rattle.rz_words.specs.declared.read.UsageFault.{UsageFault}
 use Rattle.rz_words.proofs.Splits.{has_sign}
 use Rattle.rz_words.proofs.Found.{differ}
-use Rattle.rz_words.proofs.Words.{head, same_front, shape_of, some, tail, Words}
+use Rattle.rz_words.proofs.Words.{head, same_front, shape_of, some, switch_no_file, tail, Words}
 
 -- texts in Mac Roman and tokens are one
 module _ (one_text : (source text others : List ℕ) → IsTextOf source text → IsTextOf source others → text ≡ others)
@@ -77,65 +79,112 @@ module _ (one_text : (source text others : List ℕ) → IsTextOf source text �
       found : ◌≡◌ {A = Option OsType} (Some kind) (Some also) → kind ≡ also
       found same = cc same
 
+  same_form : (form also : Form) → ◌≡◌ {A = Option Form} (Some form) (Some also) → form ≡ also
+  same_form form also is = cc is
+
   one_value : (flag : Flag) (value : List ℕ) (one other : Item) → IsValue flag value one → IsValue flag value other → one ≡ other
   one_value flags.Output value one other is too = is ∙ sym too
   one_value flags.Path value one other is too = is ∙ sym too
+  one_value flags.Search value one other is too = is ∙ sym too
   one_value flags.Define value one other (a, is, it) (b, too, it_too) = is ∙ ap (λ (d : Def). Define d) (same_define value a b it it_too) ∙ sym too
   one_value flags.Undefine value one other (a, is, it) (b, too, it_too) = is ∙ ap (λ (d : Def). Define d) (same_undefine value a b it it_too) ∙ sym too
   one_value flags.Only value one other (a, is, it) (b, too, it_too) = is ∙ ap (λ (k : OsType). Only k) (same_kind value a b it it_too) ∙ sym too
   one_value flags.Skip value one other (a, is, it) (b, too, it_too) = is ∙ ap (λ (k : OsType). Skip k) (same_kind value a b it it_too) ∙ sym too
+  one_value flags.Kind value one other (a, is, it) (b, too, it_too) = is ∙ ap (λ (k : OsType). Kind k) (same_kind value a b it it_too) ∙ sym too
+  one_value flags.Creator value one other (a, is, it) (b, too, it_too) = is ∙ ap (λ (k : OsType). Creator k) (same_kind value a b it it_too) ∙ sym too
+  one_value flags.Into value one other (a, is, it) (b, too, it_too) = is ∙ ap (λ (f : Form). Into f) (same_form a b (sym it ∙ it_too)) ∙ sym too
+  one_value flags.From value one other (a, is, it) (b, too, it_too) = is ∙ ap (λ (f : Form). From f) (same_form a b (sym it ∙ it_too)) ∙ sym too
 
   single_double : (a f v : List ℕ) (front : Words) → front ≡ a ∷ [] → front ≡ f ∷ v ∷ [] → ⊥
   single_double a f v front is too = let eq : a ∷ [] ≡ f ∷ v ∷ [] = sym is ∙ too in cc
 
-  no_redeclare : (file : List ℕ) → is_file file ≡ true → file ≡ codes "-rd" → ⊥
-  no_redeclare file holds is = let also : is_file (codes "-rd") ≡ true = ap is_file (sym is) ∙ holds in cc
+  no_switch : (command : CommandName) (file word : List ℕ) (switch : Switch) → is_file file ≡ true → switch_of command word ≡ Some switch → file ≡ word → ⊥
+  no_switch command file word switch holds named is =
+      let also : true ≡ false = sym holds ∙ ap is_file is ∙ switch_no_file command word switch named in cc
+
+  same_switch : (switch also : Switch) → ◌≡◌ {A = Option Switch} (Some switch) (Some also) → switch ≡ also
+  same_switch switch also is = cc is
 
   same_flag : (flag also : Flag) → ◌≡◌ {A = Option Flag} (Some flag) (Some also) → flag ≡ also
   same_flag flag also is = cc is
 
-  one_item : (tool : Tool) (front : Words) (one other : Item) → IsItem tool front one → IsItem tool front other → one ≡ other
-  one_item tool front one other (file_item a is holds same) (file_item b too holds_too same_too) =
+  one_item : (command : CommandName) (front : Words) (one other : Item) → IsItem command front one → IsItem command front other → one ≡ other
+  one_item command front one other (file_item a is holds same) (file_item b too holds_too same_too) =
       same ∙ ap (λ (f : List ℕ). File f) (head a b [] [] (sym is ∙ too)) ∙ sym same_too
-  one_item tool front one other (file_item a is holds same) (again_item too same_too) = absurd (no_redeclare a holds (head a (codes "-rd") [] [] (sym is ∙ too)))
-  one_item tool front one other (file_item a is holds same) (value_item w v flag too named says) = absurd (single_double a w v front is too)
-  one_item tool front one other (again_item is same) (file_item b too holds_too same_too) = absurd (no_redeclare b holds_too (head b (codes "-rd") [] [] (sym too ∙ is)))
-  one_item tool front one other (again_item is same) (again_item too same_too) = same ∙ sym same_too
-  one_item tool front one other (again_item is same) (value_item w v flag too named says) = absurd (single_double (codes "-rd") w v front is too)
-  one_item tool front one other (value_item w v flag is named says) (file_item b too holds_too same_too) = absurd (single_double b w v front too is)
-  one_item tool front one other (value_item w v flag is named says) (again_item too same_too) = absurd (single_double (codes "-rd") w v front too is)
-  one_item tool front one other (value_item w v flag is named says) (value_item x y also too named_too says_too) =
+  one_item command front one other (file_item a is holds same) (switch_item w switch too named same_too) =
+      absurd (no_switch command a w switch holds named (head a w [] [] (sym is ∙ too)))
+  one_item command front one other (file_item a is holds same) (value_item w v flag too named says) = absurd (single_double a w v front is too)
+  one_item command front one other (switch_item w switch is named same) (file_item b too holds_too same_too) =
+      absurd (no_switch command b w switch holds_too named (head b w [] [] (sym too ∙ is)))
+  one_item command front one other (switch_item w switch is named same) (switch_item x also too named_too same_too) =
+      same ∙ ap (λ (s : Switch). On s) (same_switch switch also (sym named ∙ ap (switch_of command) (head w x [] [] (sym is ∙ too)) ∙ named_too)) ∙ sym same_too
+  one_item command front one other (switch_item x switch is named same) (value_item w v flag too named_too says) = absurd (single_double x w v front is too)
+  one_item command front one other (value_item w v flag is named says) (file_item b too holds_too same_too) = absurd (single_double b w v front too is)
+  one_item command front one other (value_item w v flag is named says) (switch_item x switch too named_too same_too) = absurd (single_double x w v front too is)
+  one_item command front one other (value_item w v flag is named says) (value_item x y also too named_too says_too) =
       let words_same : w ≡ x = head w x (v ∷ []) (y ∷ []) (sym is ∙ too) in
       let values_same : v ≡ y = head v y [] [] (tail w x (v ∷ []) (y ∷ []) (sym is ∙ too)) in
       one_value also y one other
-      (subst (λ (f : Flag). IsValue f y one) (same_flag flag also (sym named ∙ ap (flag_of tool) words_same ∙ named_too))
+      (subst (λ (f : Flag). IsValue f y one) (same_flag flag also (sym named ∙ ap (flag_of command) words_same ∙ named_too))
       (subst (λ (u : List ℕ). IsValue flag u one) values_same says)) says_too
 
-  one_list : (tool : Tool) (words : Words) (items others : List Item) → AreItems tool words items → AreItems tool words others → items ≡ others
-  one_list tool words [] [] are too = refl
-  one_list tool words [] (other ∷ others) none (g, c, eq, is, are) = absurd (some g other (shape_of tool g other is) c (sym eq ∙ none))
-  one_list tool words (one ∷ items) [] (f, b, eq, is, are) none = absurd (some f one (shape_of tool f one is) b (sym eq ∙ none))
-  one_list tool words (one ∷ items) (other ∷ others) (f, b, eq, is, are) (g, c, eq_too, is_too, are_too) =
-      let same = same_front f g b c one other (shape_of tool f one is) (shape_of tool g other is_too) (sym eq ∙ eq_too) in
-      let first = one_item tool g one other (subst (λ (ws : Words). IsItem tool ws one) same.0 is) is_too in
-      let rest = one_list tool b items others are (subst (λ (ws : Words). AreItems tool ws others) (sym same.1) are_too) in
+  one_list : (command : CommandName) (words : Words) (items others : List Item) → AreItems command words items → AreItems command words others → items ≡ others
+  one_list command words [] [] are too = refl
+  one_list command words [] (other ∷ others) none (g, c, eq, is, are) = absurd (some g other (shape_of command g other is) c (sym eq ∙ none))
+  one_list command words (one ∷ items) [] (f, b, eq, is, are) none = absurd (some f one (shape_of command f one is) b (sym eq ∙ none))
+  one_list command words (one ∷ items) (other ∷ others) (f, b, eq, is, are) (g, c, eq_too, is_too, are_too) =
+      let same = same_front f g b c one other (shape_of command f one is) (shape_of command g other is_too) (sym eq ∙ eq_too) in
+      let first = one_item command g one other (subst (λ (ws : Words). IsItem command ws one) same.0 is) is_too in
+      let rest = one_list command b items others are (subst (λ (ws : Words). AreItems command ws others) (sym same.1) are_too) in
       λ i. first i ∷ rest i
 
-  one_wanted : (tool : Tool) (words : Words) (wanted also : Wanted) → Wants tool words wanted → Wants tool words also → wanted ≡ also
-  one_wanted tool words wanted also is too =
-      let rest : is.rest ≡ too.rest = tail (name_of tool) (name_of tool) is.rest too.rest (sym is.is ∙ too.is) in
-      is.want ∙ ap wanted_by (one_list tool too.rest is.items too.items (subst (λ (ws : Words). AreItems tool ws is.items) rest is.are) too.are) ∙ sym too.want
+  one_wanted : (command : CommandName) (words : Words) (wanted also : Wanted) → Wants command words wanted → Wants command words also → wanted ≡ also
+  one_wanted command words wanted also is too =
+      let rest : is.rest ≡ too.rest = tail (name_of command) (name_of command) is.rest too.rest (sym is.is ∙ too.is) in
+      is.want ∙ ap wanted_by (one_list command too.rest is.items too.items (subst (λ (ws : Words). AreItems command ws is.items) rest is.are) too.are) ∙ sym too.want
+
+  -- what items want of which other items are the same words
+  read_wanted : (command : CommandName) (words : Words) (wanted also : Wanted) → AreRead command words wanted → Wants command (name_of command ∷ words) also
+      → wanted ≡ also
+  read_wanted command words wanted also (items, are, want) too =
+      let rest : words ≡ too.rest = tail (name_of command) (name_of command) words too.rest too.is in
+      want ∙ ap wanted_by (one_list command too.rest items too.items (subst (λ (ws : Words). AreItems command ws items) rest are) too.are) ∙ sym too.want
+
+  -- words of `bridge` that name no file, no file to write or no form of it
+  pub no_bridge : (words : Words) (wanted : Wanted) → AreRead names.Bridge words wanted → ((asked : BridgeAsked) → IsBridgeAsked wanted asked → ⊥)
+      → (any : Asked) → IsCommand (codes "bridge" ∷ words) any → ⊥
+  no_bridge words wanted are none (Rez asked) (also, wants, same) =
+      differ (codes "bridge") (codes "rez") refl (head (codes "bridge") (codes "rez") words wants.rest wants.is)
+  no_bridge words wanted are none (DeRez asked) (also, wants, same) =
+      differ (codes "bridge") (codes "derez") refl (head (codes "bridge") (codes "derez") words wants.rest wants.is)
+  no_bridge words wanted are none (Bridge asked) (also, wants, is) =
+      none asked (subst (λ (w : Wanted). IsBridgeAsked w asked) (sym (read_wanted names.Bridge words wanted also are wants)) is)
+  no_bridge words wanted are none Help is = differ (codes "bridge") (codes "--help") refl (head (codes "bridge") (codes "--help") words [] is)
+  no_bridge words wanted are none Version is = differ (codes "bridge") (codes "--version") refl (head (codes "bridge") (codes "--version") words [] is)
+
+  one_bridge : (wanted : Wanted) (a b : BridgeAsked) → IsBridgeAsked wanted a → IsBridgeAsked wanted b → a ≡ b
+  one_bridge wanted a b is too = λ i. record {
+    file = head a.file b.file [] [] (sym is.file ∙ too.file) i;
+    output = given (sym is.output ∙ too.output) i;
+    to = same_form a.to b.to (sym is.to ∙ too.to) i;
+    from = (sym is.from ∙ too.from) i;
+  }
+    where
+      given : ◌≡◌ {A = Option (List ℕ)} (Some a.output) (Some b.output) → a.output ≡ b.output
+      given same = cc same
 
   -- commands with other first words
   abbrev first_of : Asked → List ℕ
   first_of (Rez asked) = codes "rez"
   first_of (DeRez asked) = codes "derez"
+  first_of (Bridge asked) = codes "bridge"
   first_of Help = codes "--help"
   first_of Version = codes "--version"
 
   begins_so : (words : Words) (asked : Asked) → IsCommand words asked → (rest : Words) × (words ≡ first_of asked ∷ rest)
   begins_so words (Rez asked) (wanted, wants, same) = (wants.rest, wants.is)
   begins_so words (DeRez asked) (wanted, wants, same) = (wants.rest, wants.is)
+  begins_so words (Bridge asked) (wanted, wants, same) = (wants.rest, wants.is)
   begins_so words Help is = ([], is)
   begins_so words Version is = ([], is)
 
@@ -147,21 +196,32 @@ module _ (one_text : (source text others : List ℕ) → IsTextOf source text �
 
   pub one_asked : (words : Words) (asked others : Asked) → IsCommand words asked → IsCommand words others → asked ≡ others
   one_asked words (Rez a) (Rez b) (wanted, wants, same) (also, wants_too, same_too) =
-      ap (λ (r : RezAsked). Rez r) (same ∙ ap rez_asked (one_wanted tools.Rez words wanted also wants wants_too) ∙ sym same_too)
+      ap (λ (r : RezAsked). Rez r) (same ∙ ap rez_asked (one_wanted names.Rez words wanted also wants wants_too) ∙ sym same_too)
   one_asked words (Rez a) (DeRez b) is too = absurd (apart words (Rez a) (DeRez b) refl is too)
+  one_asked words (Rez a) (Bridge b) is too = absurd (apart words (Rez a) (Bridge b) refl is too)
   one_asked words (Rez a) Help is too = absurd (apart words (Rez a) Help refl is too)
   one_asked words (Rez a) Version is too = absurd (apart words (Rez a) Version refl is too)
   one_asked words (DeRez a) (Rez b) is too = absurd (apart words (DeRez a) (Rez b) refl is too)
   one_asked words (DeRez a) (DeRez b) (wanted, wants, same) (also, wants_too, same_too) =
-      ap (λ (d : DeRezAsked). DeRez d) (same ∙ ap derez_asked (one_wanted tools.DeRez words wanted also wants wants_too) ∙ sym same_too)
+      ap (λ (d : DeRezAsked). DeRez d) (same ∙ ap derez_asked (one_wanted names.DeRez words wanted also wants wants_too) ∙ sym same_too)
+  one_asked words (DeRez a) (Bridge b) is too = absurd (apart words (DeRez a) (Bridge b) refl is too)
   one_asked words (DeRez a) Help is too = absurd (apart words (DeRez a) Help refl is too)
   one_asked words (DeRez a) Version is too = absurd (apart words (DeRez a) Version refl is too)
+  one_asked words (Bridge a) (Rez b) is too = absurd (apart words (Bridge a) (Rez b) refl is too)
+  one_asked words (Bridge a) (DeRez b) is too = absurd (apart words (Bridge a) (DeRez b) refl is too)
+  one_asked words (Bridge a) (Bridge b) (wanted, wants, is) (also, wants_too, is_too) =
+      ap (λ (x : BridgeAsked). Bridge x)
+      (one_bridge also a b (subst (λ (w : Wanted). IsBridgeAsked w a) (one_wanted names.Bridge words wanted also wants wants_too) is) is_too)
+  one_asked words (Bridge a) Help is too = absurd (apart words (Bridge a) Help refl is too)
+  one_asked words (Bridge a) Version is too = absurd (apart words (Bridge a) Version refl is too)
   one_asked words Help (Rez b) is too = absurd (apart words Help (Rez b) refl is too)
   one_asked words Help (DeRez b) is too = absurd (apart words Help (DeRez b) refl is too)
+  one_asked words Help (Bridge b) is too = absurd (apart words Help (Bridge b) refl is too)
   one_asked words Help Help is too = refl
   one_asked words Help Version is too = absurd (apart words Help Version refl is too)
   one_asked words Version (Rez b) is too = absurd (apart words Version (Rez b) refl is too)
   one_asked words Version (DeRez b) is too = absurd (apart words Version (DeRez b) refl is too)
+  one_asked words Version (Bridge b) is too = absurd (apart words Version (Bridge b) refl is too)
   one_asked words Version Help is too = absurd (apart words Version Help refl is too)
   one_asked words Version Version is too = refl
 

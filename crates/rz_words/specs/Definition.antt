@@ -1,5 +1,5 @@
 -- What `-d` and `-u` define. (MPW Rez.)
-use Rattle.std.specs.Prelude.{◌≡◌, ◌≢◌, ℕ, ◌<◌, true, List, [], ◌∷◌, ◌++◌, length, get_or, Option, Some, None}
+use Rattle.std.specs.Prelude.{◌≡◌, ◌≢◌, ℕ, ◌<◌, true, List, [], ◌∷◌, ◌++◌, length, get_or, Some, None}
 use Rattle.std.specs.List.{AllByRecursion}
 use Rattle.rz_core.specs.declared.fault.Mark.{Mark}
 use Rattle.rz_core.specs.declared.resource.Word.{Word}

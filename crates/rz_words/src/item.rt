@@ -6,11 +6,14 @@ ghost use Rattle.rz_words.specs.Command.{is_file, IsValue};
 ghost use Rattle.rz_words.specs.Item.{item, size_of, BeginsWith, IsStuck};
 
 use crate::definition::{define, undefine};
-use crate::flag::{Flag, flag_of};
+use crate::flag::{Flag, Switch, flag_of, switch_of};
+use crate::form::form_named;
 use crate::kind::kind_in;
+use crate::name::CommandName;
 use rz_core::{NoMemory, OsType, Stop};
+use rz_form::Form;
 use rz_lex::cut_back;
-use rz_pre::{Def, Tool};
+use rz_pre::Def;
 use std::alloc::Global;
 
 /// A file, an option with its value, or an option without one.
@@ -22,14 +25,24 @@ pub enum Item<'a> {
     Output(&'a str),
     /// `-i`: a path for included files.
     Path(&'a str),
+    /// `-s` of `rez`: a path for the files of statements.
+    Search(&'a str),
     /// `-d` or `-u`: a definition.
     Define(Def),
-    /// `-rd`: types may be declared again without a warning.
-    Redeclare,
+    /// `-rd`, `-a`, `-ov` or `-ro`: an option without a value.
+    On(Switch),
     /// `-only`: a type that alone is shown.
     Only(OsType),
-    /// `-skip` or `-s`: a type that isn't shown.
+    /// `-skip`, or `-s` of `derez`: a type that isn't shown.
     Skip(OsType),
+    /// `-t`: the type of the file to write.
+    Kind(OsType),
+    /// `-c`: the creator of the file to write.
+    Creator(OsType),
+    /// `-form` or `-to`: the form of the file to write.
+    Into(Form),
+    /// `-from`: the form of the file that is read.
+    From(Form),
 }
 
 impl Item<'_> {
@@ -38,8 +51,17 @@ impl Item<'_> {
         ensures { result ≡ size_of (item self.now) }
     {
         match self {
-            Item::File(_) | Item::Redeclare => 1,
-            Item::Output(_) | Item::Path(_) | Item::Define(_) | Item::Only(_) | Item::Skip(_) => 2,
+            Item::File(_) | Item::On(_) => 1,
+            Item::Output(_)
+            | Item::Path(_)
+            | Item::Search(_)
+            | Item::Define(_)
+            | Item::Only(_)
+            | Item::Skip(_)
+            | Item::Kind(_)
+            | Item::Creator(_)
+            | Item::Into(_)
+            | Item::From(_) => 2,
         }
     }
 }
@@ -55,21 +77,21 @@ pub struct Misfit {
 /// behind.
 pub fn read_item<'a>(
     alloc: Global,
-    tool: Tool,
+    name: CommandName,
     first: &'a str,
     behind: &'a [String],
 ) -> Result<Item<'a>, Stop<Misfit>>
-    ensures item { IfOk result (λ one. BeginsWith tool (first.now ∷ map string_bytes behind.now) (item one)) }
-    ensures stuck { OnFault result (λ misfit. IsStuck tool (first.now ∷ map string_bytes behind.now) misfit.fitting) }
+    ensures item { IfOk result (λ one. BeginsWith name (first.now ∷ map string_bytes behind.now) (item one)) }
+    ensures stuck { OnFault result (λ misfit. IsStuck name (first.now ∷ map string_bytes behind.now) misfit.fitting) }
 {
     cut_back();
     if is_file(first) {
         return Ok(Item::File(first));
     }
-    if first == "-rd" {
-        return Ok(Item::Redeclare);
+    if let Some(switch) = switch_of(name, first) {
+        return Ok(Item::On(switch));
     }
-    let Some(flag) = flag_of(tool, first) else {
+    let Some(flag) = flag_of(name, first) else {
         return Err(Stop::Refused(Misfit { fitting: 0 }));
     };
     let Some((value, _)) = behind.split_first() else {
@@ -88,6 +110,7 @@ fn read_value<'a>(alloc: Global, flag: Flag, value: &'a str) -> Result<Option<It
     match flag {
         Flag::Output => Ok(Some(Item::Output(value))),
         Flag::Path => Ok(Some(Item::Path(value))),
+        Flag::Search => Ok(Some(Item::Search(value))),
         Flag::Define => match define(alloc, value)? {
             Some(def) => Ok(Some(Item::Define(def))),
             None => Ok(None),
@@ -102,6 +125,22 @@ fn read_value<'a>(alloc: Global, flag: Flag, value: &'a str) -> Result<Option<It
         },
         Flag::Skip => match kind_in(alloc, value)? {
             Some(kind) => Ok(Some(Item::Skip(kind))),
+            None => Ok(None),
+        },
+        Flag::Kind => match kind_in(alloc, value)? {
+            Some(kind) => Ok(Some(Item::Kind(kind))),
+            None => Ok(None),
+        },
+        Flag::Creator => match kind_in(alloc, value)? {
+            Some(kind) => Ok(Some(Item::Creator(kind))),
+            None => Ok(None),
+        },
+        Flag::Into => match form_named(value) {
+            Some(form) => Ok(Some(Item::Into(form))),
+            None => Ok(None),
+        },
+        Flag::From => match form_named(value) {
+            Some(form) => Ok(Some(Item::From(form))),
             None => Ok(None),
         },
     }

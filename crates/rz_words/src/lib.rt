@@ -1,21 +1,23 @@
 //! The words of a command line as a command. `read_words` gives exactly the command that they are, or the
 //! position of the first word that can't stand where it stands; they are one command at most.
-//! It rests on `rz_core`, `rz_lex`, `rz_expr`, `rz_source` and `rz_pre`.
+//! It rests on `rz_core`, `rz_lex`, `rz_expr`, `rz_source`, `rz_pre` and `rz_form`.
 //! A new option changes `flag`, `item`, `wanted` and `command`, each with its definitions, and the help text in
-//! `rz_tools`.
+//! `rz_answer`.
 #![tactic(auto)]
 
 mod command;
 mod definition;
 mod flag;
+mod form;
 mod item;
 mod kind;
 mod laws;
 mod line;
+mod name;
 mod read;
 mod roman;
 mod wanted;
 
-pub use command::{Command, DeRezWords, Kinds, RezWords};
+pub use command::{BridgeWords, Command, DeRezWords, Kinds, RezWords};
 pub use laws::{definitions_are_free, definitions_are_lexed, one_command};
 pub use read::{UsageFault, read_words};

@@ -3,14 +3,16 @@ ghost use Rattle.std.specs.String.{string_bytes};
 ghost use Rattle.rz_core.specs.Stop.{OnFault};
 ghost use Rattle.rz_core.specs.declared.stop.Stop.TheVariants.{Refused};
 ghost use Rattle.rz_words.specs.Command.{name_of, Asked, IsCommand, IsMisplaced, Wants};
-ghost use Rattle.rz_words.specs.Item.{asked, wanted, Answers, AreRead};
+ghost use Rattle.rz_words.specs.Item.{asked, wanted, Answers, AreRead, MayBeFiles};
 
 use crate::command::Command;
 use crate::item::read_item;
 use crate::laws::one_command;
+use crate::name::CommandName;
 use crate::wanted::Wanted;
 use rz_core::Stop;
-use rz_pre::Tool;
+use rz_lex::one_cut;
+use rz_source::one_text;
 use std::alloc::Global;
 
 /// The words are no command.
@@ -22,12 +24,16 @@ pub struct UsageFault {
 
 /// The command that the words behind the program's name are, or the position of the first word that can't
 /// stand where it stands:
-/// - `rez` with sources, at least one, and in whatever order `-o name`, `-i path`, `-d name[=text]`, `-u name`
-///   and `-rd`, each as often as may be; of several `-o` the last counts, several `-rd` are as one, and the
-///   others add up;
+/// - `rez` with sources, at least one, and in whatever order `-o name`, `-t type`, `-c creator`, `-form form`,
+///   `-i path`, `-s path`, `-d name[=text]`, `-u name`, `-rd`, `-a`, `-ov` and `-ro`, each as often as may be; of
+///   several of the first four the last counts, one of the last four counts once however often it stands, and the
+///   others add up; a type or creator is four characters that have bytes in Mac Roman, and a form is `raw`, `double`,
+///   `macbin` or `hqx`;
 /// - `derez` with files, of which the first is the fork and the others are type files, and in whatever order `-i`,
-///   `-d`, `-u` and `-rd` as above and `-only type`, `-skip type` or `-s type`, which add up; a type is four
-///   characters that have bytes in Mac Roman;
+///   `-d`, `-u` and `-rd` as above, `-only type`, `-skip type` or `-s type`, which add up, and `-from form`, of which
+///   the last counts;
+/// - `bridge` with one file, and in whatever order `-to form` and `-o name`, each at least once, and `-from form`; of
+///   several the last counts;
 /// - `--help` or `--version` alone.
 pub fn read_words<'a>(alloc: Global, words: &'a [String]) -> Result<Command<'a>, Stop<UsageFault>>
     ensures command { IfOk result (λ command. IsCommand (map string_bytes words.now) (asked command)) }
@@ -52,6 +58,8 @@ fn read_command<'a>(alloc: Global, words: &'a [String]) -> Result<Command<'a>, S
         read_rez(alloc, behind)
     } else if command == "derez" {
         read_derez(alloc, behind)
+    } else if command == "bridge" {
+        read_bridge(alloc, behind)
     } else if command == "--help" {
         read_help(behind)
     } else if command == "--version" {
@@ -66,7 +74,7 @@ fn read_rez<'a>(alloc: Global, words: &'a [String]) -> Result<Command<'a>, Stop<
     ensures command { IfOk result (λ command. IsCommand (codes "rez" ∷ map string_bytes words.now) (asked command)) }
     ensures misplaced { OnFault result (λ fault. IsMisplaced (codes "rez" ∷ map string_bytes words.now) fault.position) }
 {
-    let wanted = read_wanted(alloc, Tool::Rez, words)?;
+    let wanted = read_wanted(alloc, CommandName::Rez, words)?;
     Ok(Command::Rez(wanted.into_rez()))
 }
 
@@ -75,20 +83,34 @@ fn read_derez<'a>(alloc: Global, words: &'a [String]) -> Result<Command<'a>, Sto
     ensures command { IfOk result (λ command. IsCommand (codes "derez" ∷ map string_bytes words.now) (asked command)) }
     ensures misplaced { OnFault result (λ fault. IsMisplaced (codes "derez" ∷ map string_bytes words.now) fault.position) }
 {
-    let wanted = read_wanted(alloc, Tool::DeRez, words)?;
+    let wanted = read_wanted(alloc, CommandName::DeRez, words)?;
     Ok(Command::DeRez(wanted.into_derez(alloc)?))
+}
+
+/// The words behind `bridge`.
+fn read_bridge<'a>(alloc: Global, words: &'a [String]) -> Result<Command<'a>, Stop<UsageFault>>
+    ensures command { IfOk result (λ command. IsCommand (codes "bridge" ∷ map string_bytes words.now) (asked command)) }
+    ensures misplaced { OnFault result (λ fault. IsMisplaced (codes "bridge" ∷ map string_bytes words.now) fault.position) }
+{
+    one_cut();
+    one_text();
+    let wanted = read_items(alloc, CommandName::Bridge, words)?;
+    match wanted.into_bridge(alloc)? {
+        Some(asked) => Ok(Command::Bridge(asked)),
+        None => misplaced(words.len() as u64 + 2),
+    }
 }
 
 /// The words behind the name of a command: items, a file among them.
 fn read_wanted<'a>(
     alloc: Global,
-    tool: Tool,
+    name: CommandName,
     words: &'a [String],
 ) -> Result<Wanted<'a>, Stop<UsageFault>>
-    ensures wants { IfOk result (λ items. Wants tool (name_of tool ∷ map string_bytes words.now) (wanted items)) }
-    ensures misplaced { OnFault result (λ fault. IsMisplaced (name_of tool ∷ map string_bytes words.now) fault.position) }
+    ensures wants { IfOk result (λ items. Wants name (name_of name ∷ map string_bytes words.now) (wanted items)) }
+    ensures misplaced { OnFault result (λ fault. IsMisplaced (name_of name ∷ map string_bytes words.now) fault.position) }
 {
-    let wanted = read_items(alloc, tool, words)?;
+    let wanted = read_items(alloc, name, words)?;
     if wanted.files.len() == 0 {
         return Err(Stop::Refused(UsageFault {
             position: words.len() as u64 + 2,
@@ -100,23 +122,27 @@ fn read_wanted<'a>(
 /// The items behind the name of a command.
 fn read_items<'a>(
     alloc: Global,
-    tool: Tool,
+    name: CommandName,
     words: &'a [String],
 ) -> Result<Wanted<'a>, Stop<UsageFault>>
-    ensures items { IfOk result (λ items. AreRead tool (map string_bytes words.now) (wanted items)) }
-    ensures misplaced { OnFault result (λ fault. IsMisplaced (name_of tool ∷ map string_bytes words.now) fault.position) }
+    ensures items { IfOk result (λ items. AreRead name (map string_bytes words.now) (wanted items)) }
+    ensures files { IfOk result (λ items. MayBeFiles name (wanted items).files) }
+    ensures misplaced { OnFault result (λ fault. IsMisplaced (name_of name ∷ map string_bytes words.now) fault.position) }
 {
     let mut wanted = Wanted::new(alloc);
     let mut rest = words;
     while let Some((first, behind)) = rest.split_first() {
-        match read_item(alloc, tool, first.as_str(), behind) {
+        let read = (words.len() - rest.len()) as u64;
+        match read_item(alloc, name, first.as_str(), behind) {
             Ok(item) => {
+                if wanted.is_second_file(name, &item) {
+                    return Err(Stop::Refused(UsageFault { position: read + 2 }));
+                }
                 let size = item.size();
                 wanted.add(item)?;
                 rest = rest.split_at(size).1;
             }
             Err(Stop::Refused(misfit)) => {
-                let read = (words.len() - rest.len()) as u64;
                 return Err(Stop::Refused(UsageFault {
                     position: read + 2 + misfit.fitting,
                 }));

@@ -1,10 +1,14 @@
-ghost use Rattle.std.specs.Prelude.{◌≡◌, ◌≢◌, ◌<◌, [], IfOk, OnOk, drop, length};
-ghost use Rattle.rz_words.specs.Command.{and_item, derez_asked, nothing_wanted, rez_asked};
-ghost use Rattle.rz_words.specs.Item.{derez, item, rez, wanted};
+ghost use Rattle.std.specs.Prelude.{◌≡◌, ◌≢◌, ◌<◌, ◌≤◌, [], IfOk, OnOk, drop, length, option_map};
+ghost use Rattle.rz_core.specs.Decided.{Decided};
+ghost use Rattle.rz_words.specs.Command.{and_item, and_switch, derez_asked, nothing_wanted, rez_asked, IsBridgeAsked};
+ghost use Rattle.rz_words.specs.Item.{bridge, derez, is_second_file, item, rez, wanted};
 
-use crate::command::{DeRezWords, Kinds, RezWords};
+use crate::command::{BridgeWords, DeRezWords, Kinds, RezWords};
+use crate::flag::Switch;
 use crate::item::Item;
-use rz_core::{FileNames, NoMemory};
+use crate::name::CommandName;
+use rz_core::{FileNames, NoMemory, OsType};
+use rz_form::Form;
 use rz_pre::Defs;
 use std::alloc::Global;
 
@@ -14,32 +18,78 @@ pub struct Wanted<'a> {
     /// The files.
     pub files: FileNames,
     /// The name of the file to write.
-    pub output: &'a str,
+    pub output: Option<&'a str>,
     /// The paths for included files.
     pub paths: FileNames,
+    /// The paths for the files of statements.
+    pub searches: FileNames,
     /// The definitions.
     pub defs: Defs,
     /// Types may be declared again without a warning.
     pub redeclare: bool,
+    /// The fork starts from the file that has the name of the file to write.
+    pub append: bool,
+    /// Protected resources may be replaced, changed and removed.
+    pub over: bool,
+    /// The map of the fork becomes read-only.
+    pub read_only: bool,
     /// The types that alone are shown, where there are any.
     pub only: Kinds,
     /// The types that aren't shown.
     pub skip: Kinds,
+    /// The type of the file to write.
+    pub kind: Option<OsType>,
+    /// The creator of the file to write.
+    pub creator: Option<OsType>,
+    /// The form of the file to write.
+    pub into: Option<Form>,
+    /// The form of the file that is read.
+    pub from: Option<Form>,
 }
 
 impl<'a> Wanted<'a> {
-    /// What no item wants: the file `Rez.Out`, and nothing more.
+    /// What no item wants.
     pub fn new(alloc: Global) -> Wanted<'a>
         ensures { wanted result ≡ nothing_wanted }
     {
         Wanted {
             files: FileNames::new(alloc),
-            output: "Rez.Out",
+            output: None,
             paths: FileNames::new(alloc),
+            searches: FileNames::new(alloc),
             defs: Defs::new(alloc),
             redeclare: false,
+            append: false,
+            over: false,
+            read_only: false,
             only: Kinds::new(alloc),
             skip: Kinds::new(alloc),
+            kind: None,
+            creator: None,
+            into: None,
+            from: None,
+        }
+    }
+
+    /// Whether the command takes no such item any more: a second file of `bridge`.
+    pub fn is_second_file(&self, name: CommandName, one: &Item<'a>) -> bool
+        ensures { result ≡ is_second_file name (wanted self.now).files (item one.now) }
+    {
+        match (name, one) {
+            (CommandName::Bridge, Item::File(_)) => 0 < self.files.len(),
+            _ => false,
+        }
+    }
+
+    /// And an option without a value.
+    fn turn_on(&mut self, switch: Switch)
+        ensures { wanted self.new ≡ and_switch (wanted self.old) switch }
+    {
+        match switch {
+            Switch::Redeclare => self.redeclare = true,
+            Switch::Append => self.append = true,
+            Switch::Over => self.over = true,
+            Switch::ReadOnly => self.read_only = true,
         }
     }
 
@@ -49,17 +99,22 @@ impl<'a> Wanted<'a> {
     {
         match one {
             Item::File(name) => self.files.push(name)?,
-            Item::Output(name) => self.output = name,
+            Item::Output(name) => self.output = Some(name),
             Item::Path(path) => self.paths.push(path)?,
+            Item::Search(path) => self.searches.push(path)?,
             Item::Define(def) => self.defs.push(def)?,
-            Item::Redeclare => self.redeclare = true,
+            Item::On(switch) => self.turn_on(switch),
             Item::Only(kind) => self.only.push(kind)?,
             Item::Skip(kind) => self.skip.push(kind)?,
+            Item::Kind(kind) => self.kind = Some(kind),
+            Item::Creator(creator) => self.creator = Some(creator),
+            Item::Into(form) => self.into = Some(form),
+            Item::From(form) => self.from = Some(form),
         }
         Ok(())
     }
 
-    /// What `rez` is asked for.
+    /// What `rez` is asked for; the file to write is `Rez.Out` where the items name none.
     pub fn into_rez(self) -> RezWords<'a>
         ensures { rez result ≡ rez_asked (wanted self.entry) }
     {
@@ -67,16 +122,34 @@ impl<'a> Wanted<'a> {
             files,
             output,
             paths,
+            searches,
             defs,
             redeclare,
+            append,
+            over,
+            read_only,
+            kind,
+            creator,
+            into,
             ..
         } = self;
+        let output = match output {
+            Some(name) => name,
+            None => "Rez.Out",
+        };
         RezWords {
             files,
             output,
             paths,
+            searches,
             defs,
             redeclare,
+            append,
+            over,
+            read_only,
+            kind,
+            creator,
+            form: into,
         }
     }
 
@@ -92,6 +165,7 @@ impl<'a> Wanted<'a> {
             redeclare,
             only,
             skip,
+            from,
             ..
         } = self;
         let file = files.at(0).to_string(alloc)?;
@@ -104,7 +178,34 @@ impl<'a> Wanted<'a> {
             redeclare,
             only,
             skip,
+            from,
         })
+    }
+
+    /// What `bridge` is asked for. `None` where the items name no file, no file to write or no form of it.
+    pub fn into_bridge(self, alloc: Global) -> Result<Option<BridgeWords<'a>>, NoMemory>
+        requires { length self.files ≤ 1 }
+        ensures { IfOk result (λ words. Decided (IsBridgeAsked (wanted self.entry)) (option_map bridge words)) }
+    {
+        let Wanted {
+            files,
+            output,
+            into,
+            from,
+            ..
+        } = self;
+        if files.len() == 0 {
+            return Ok(None);
+        }
+        match (output, into) {
+            (Some(output), Some(to)) => Ok(Some(BridgeWords {
+                file: files.at(0).to_string(alloc)?,
+                output,
+                to,
+                from,
+            })),
+            _ => Ok(None),
+        }
     }
 }
 

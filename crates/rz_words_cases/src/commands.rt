@@ -1,14 +1,16 @@
 use rz_cases::{add_if_wrong, cases_of};
-use rz_core::{Bytes, Stop, write_decimal};
+use rz_core::{Bytes, OsType, Stop, write_decimal};
+use rz_form::Form;
 use rz_pre::Def;
-use rz_words::{Command, DeRezWords, Kinds, RezWords, read_words};
+use rz_words::{BridgeWords, Command, DeRezWords, Kinds, RezWords, read_words};
 use std::alloc::Global;
 use std::test::Fail;
 
 /// Words with a blank between them, and what they ask for; `~` is the empty word. `rez` shows its sources, the
-/// file to write, its paths, its definitions, each text by the number of its tokens, and `-rd`. `derez` shows its fork,
-/// its type files, and the same; and then its types, each by its number. `word` shows the position of the first word
-/// that can't stand where it stands.
+/// file to write, its paths for included files and for the files of statements, its definitions, each text by the number
+/// of its tokens, `-rd`, `-a`, `-ov`, `-ro`, its type and its creator, each by its number, and its form. `derez` shows its fork, its type files, and the same; and then its types and its form.
+/// `bridge` shows its file, the file to write and both forms. `word` shows the position of the first word that can't
+/// stand where it stands.
 const CASES: &str = r#"
 // no command
  => word 1
@@ -163,7 +165,6 @@ derez f g -d => word 5
 derez f -o x => word 3
 derez -o x f => word 2
 derez f -ro => word 3
-derez f -from raw => word 3
 derez f -Only Test => word 3
 derez f -only=Test => word 3
 derez f -d type => word 4
@@ -171,8 +172,140 @@ derez f -u 1 => word 4
 derez f --help => word 3
 rez a -only Test => word 3
 rez -skip Test a => word 2
-rez a -s Test => word 3
 derez --help => word 2
+// a form, a type and a creator, of which the last counts
+rez a -form hqx => rez a -o Rez.Out -form hqx
+rez -form raw a -form macbin => rez a -o Rez.Out -form macbin
+rez -form double -form raw a => rez a -o Rez.Out -form raw
+rez a -t Test -c Kind => rez a -o Rez.Out -t 1415934836 -c 1265200740
+rez -t Kind -c Test -t Test a -c Kind => rez a -o Rez.Out -t 1415934836 -c 1265200740
+rez -t -abc a => rez a -o Rez.Out -t 761356899
+rez a -c éééé => rez a -o Rez.Out -c 2391707278
+derez f -from raw => derez f -from raw
+derez -from hqx f -from macbin g -from double => derez f g -from double
+rez a -form => word 4
+rez a -form HQX => word 4
+rez a -form ~ => word 4
+rez a -form raw2 => word 4
+rez a -t => word 4
+rez a -t abc => word 4
+rez a -c abcde => word 4
+rez a -c 語abc => word 4
+rez -t Test => word 4
+rez a -from raw => word 3
+rez a -to raw => word 3
+derez f -from => word 4
+derez f -from bin => word 4
+derez f -form raw => word 3
+derez f -t Test => word 3
+derez f -c Test => word 3
+// a form, a type or a creator that none is
+rez a -form apple => word 4
+rez a -form rawdouble => word 4
+rez a -form raw -form single => word 6
+rez a -form -a => word 4
+rez a -t ~ => word 4
+rez a -t Tes => word 4
+rez a -t Tests => word 4
+rez a -t ééé => word 4
+rez a -c Tes => word 4
+rez a -c Test -c Tes => word 6
+derez f -from apple => word 4
+derez f -from raw -from ~ => word 6
+bridge a -to single -o b => word 4
+bridge a -to raw -o b -from sit => word 8
+// paths for the files of statements add up in their order
+rez -s p a => rez a -o Rez.Out -s p
+rez a -s p => rez a -o Rez.Out -s p
+rez a -s q -s p b -s q => rez a b -o Rez.Out -s q -s p -s q
+rez a -s ~ => rez a -o Rez.Out -s 
+rez a -s p -i q -s r -i t => rez a -o Rez.Out -i q -i t -s p -s r
+rez a -s Test => rez a -o Rez.Out -s Test
+rez a -s abc => rez a -o Rez.Out -s abc
+rez a -s é/è => rez a -o Rez.Out -s é/è
+rez a -s -a => rez a -o Rez.Out -s -a
+rez a -s -s -s -s => rez a -o Rez.Out -s -s -s -s
+rez a -s => word 4
+rez -s => word 3
+rez -s a => word 4
+rez a -s p -s => word 6
+rez a -S p => word 3
+rez a -sp => word 3
+derez f -s Test -s Kind => derez f -skip 1415934836 -skip 1265200740
+derez f -s p => word 4
+derez f -s -rd! -rd => derez f -rd -skip 762471457
+bridge a -s Test -to raw -o b => word 3
+// the file of that name is gone on with: an option without a value
+rez a -a => rez a -o Rez.Out -a
+rez -a a => rez a -o Rez.Out -a
+rez -a a -a -a => rez a -o Rez.Out -a
+rez -a -o x a -o y => rez a -o y -a
+rez -o -a a => rez a -o -a
+rez -a => word 3
+rez a -A => word 3
+rez a -append => word 3
+rez a -a=x => word 3
+rez --a a => word 2
+derez f -a => word 3
+derez -a f => word 2
+bridge a -a -to raw -o b => word 3
+// protected resources may be replaced, changed and removed: an option without a value
+rez a -ov => rez a -o Rez.Out -ov
+rez -ov a -ov => rez a -o Rez.Out -ov
+rez -ov -o -ov a => rez a -o -ov -ov
+rez -ov => word 3
+rez a -OV => word 3
+rez a -o v => rez a -o v
+rez a -ov v => rez a v -o Rez.Out -ov
+derez f -ov => word 3
+bridge a -to raw -o b -ov => word 7
+// the map becomes read-only: an option without a value
+rez a -ro => rez a -o Rez.Out -ro
+rez -ro a -ro -ro => rez a -o Rez.Out -ro
+rez -ro => word 3
+rez a -Ro => word 3
+rez a -r o => word 3
+derez -ro f => word 2
+bridge -ro a -to raw -o b => word 2
+// all of them, in whatever order and number
+rez a -a -ov -ro -rd => rez a -o Rez.Out -rd -a -ov -ro
+rez -rd -ro -ov -a a => rez a -o Rez.Out -rd -a -ov -ro
+rez -a -a a -ov -ov -a => rez a -o Rez.Out -a -ov
+rez -ov -ro a -ov => rez a -o Rez.Out -ov -ro
+rez -a a -ro => rez a -o Rez.Out -a -ro
+rez -c Kind -s p -ro a -form hqx -u n -a -i q -t Test -d m -o x -s r b => rez a b -o x -i q -s p -s r -u n -d m 0 -a -ro -t 1415934836 -c 1265200740 -form hqx
+rez -a -ov -ro -rd => word 6
+rez -a -ov -x -ro a => word 4
+rez -a -ov -s => word 5
+rez -a -ov -t Tes => word 5
+rez -form raw -a -ov -form bin a => word 7
+// a file in another form
+bridge a -to raw -o b => bridge a -o b -to raw
+bridge -o b a -to hqx => bridge a -o b -to hqx
+bridge -to double -o b -from macbin a => bridge a -o b -to double -from macbin
+bridge a -to macbin -o b -from raw -from hqx -o c -to raw => bridge a -o c -to raw -from hqx
+bridge ~ -to raw -o ~ => bridge  -o  -to raw
+bridge bridge -to raw -o -o => bridge bridge -o -o -to raw
+bridge => word 2
+bridge a => word 3
+bridge a -to raw => word 5
+bridge a -o b => word 5
+bridge -to raw -o b => word 6
+bridge -to raw -o b -from hqx => word 8
+bridge a b => word 3
+bridge a -to raw -o b c => word 7
+bridge a -to raw b -x => word 5
+bridge a -x b => word 3
+bridge a -to => word 4
+bridge a -to b -o c => word 4
+bridge a -to Raw -o c => word 4
+bridge a -from => word 4
+bridge a -rd -to raw -o b => word 3
+bridge a -d n -to raw -o b => word 3
+bridge a -form raw -o b => word 3
+bridge a -t Test -to raw -o b => word 3
+bridge --help => word 2
+Bridge a -to raw -o b => word 1
 // help and version stand alone
 --help => help
 --version => version
@@ -219,13 +352,61 @@ fn show_rez(asked: &RezWords<'_>, text: &mut Bytes) -> Result<(), Fail> {
         text.append(b" -i ")?;
         text.append(asked.paths.at(k).as_bytes())?;
     }
+    for k in 0..asked.searches.len() {
+        text.append(b" -s ")?;
+        text.append(asked.searches.at(k).as_bytes())?;
+    }
     for def in asked.defs.as_slice() {
         show_definition(def, text)?;
     }
-    if asked.redeclare {
-        text.append(b" -rd")?;
+    show_switch(b" -rd", asked.redeclare, text)?;
+    show_switch(b" -a", asked.append, text)?;
+    show_switch(b" -ov", asked.over, text)?;
+    show_switch(b" -ro", asked.read_only, text)?;
+    show_kind(b" -t ", asked.kind, text)?;
+    show_kind(b" -c ", asked.creator, text)?;
+    show_form(b" -form ", asked.form, text)
+}
+
+/// An option without a value, where it is asked for, as text.
+fn show_switch(word: &[u8], asked: bool, text: &mut Bytes) -> Result<(), Fail> {
+    if asked {
+        text.append(word)?;
     }
     Ok(())
+}
+
+/// A type behind a word, where there is one, as text.
+fn show_kind(word: &[u8], kind: Option<OsType>, text: &mut Bytes) -> Result<(), Fail> {
+    if let Some(kind) = kind {
+        text.append(word)?;
+        write_decimal(u64::from(kind.code), text)?;
+    }
+    Ok(())
+}
+
+/// A form behind a word, where there is one, as text.
+fn show_form(word: &[u8], form: Option<Form>, text: &mut Bytes) -> Result<(), Fail> {
+    if let Some(form) = form {
+        text.append(word)?;
+        text.append(match form {
+            Form::Raw => b"raw",
+            Form::AppleDouble => b"double",
+            Form::MacBinary => b"macbin",
+            Form::BinHex => b"hqx",
+        })?;
+    }
+    Ok(())
+}
+
+/// What `bridge` is asked for, as text.
+fn show_bridge(asked: &BridgeWords<'_>, text: &mut Bytes) -> Result<(), Fail> {
+    text.append(b"bridge ")?;
+    text.append(asked.file.as_bytes())?;
+    text.append(b" -o ")?;
+    text.append(asked.output.as_bytes())?;
+    show_form(b" -to ", Some(asked.to), text)?;
+    show_form(b" -from ", asked.from, text)
 }
 
 /// Types behind a word, as text.
@@ -252,11 +433,10 @@ fn show_derez(asked: &DeRezWords, text: &mut Bytes) -> Result<(), Fail> {
     for def in asked.defs.as_slice() {
         show_definition(def, text)?;
     }
-    if asked.redeclare {
-        text.append(b" -rd")?;
-    }
+    show_switch(b" -rd", asked.redeclare, text)?;
     show_kinds(b" -only ", &asked.only, text)?;
-    show_kinds(b" -skip ", &asked.skip, text)
+    show_kinds(b" -skip ", &asked.skip, text)?;
+    show_form(b" -from ", asked.from, text)
 }
 
 /// What words ask for, as text.
@@ -265,6 +445,7 @@ fn outcome_of(alloc: Global, words: &[String]) -> Result<Bytes, Fail> {
     match read_words(alloc, words) {
         Ok(Command::Rez(asked)) => show_rez(&asked, &mut text)?,
         Ok(Command::DeRez(asked)) => show_derez(&asked, &mut text)?,
+        Ok(Command::Bridge(asked)) => show_bridge(&asked, &mut text)?,
         Ok(Command::Help) => text.append(b"help")?,
         Ok(Command::Version) => text.append(b"version")?,
         Err(Stop::Refused(fault)) => {

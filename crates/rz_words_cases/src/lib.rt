@@ -1,5 +1,5 @@
 //! Tests of the words of a command line: the command that they are, or the position of the first that can't
-//! stand. It rests on `rz_words`, `rz_pre`, `rz_core` and `rz_cases`, and has no code that ships. It changes with
+//! stand. It rests on `rz_words`, `rz_form`, `rz_pre`, `rz_core` and `rz_cases`, and has no code that ships. It changes with
 //! `read_words`.
 #![tactic(auto)]
 

@@ -1,4 +1,4 @@
-use Rattle.std.proofs.Common.{◌≡◌, ℕ, List, ◌++◌, sym, subst}
+use Rattle.std.proofs.Common.{ℕ, List, ◌++◌, sym, subst}
 use Rattle.rz_lex.specs.Cutting.{Cuts}
 use Rattle.rz_source.specs.Source.{mark, IsTextOf}
 use Rattle.rz_words.specs.Definition.{nowhere, IsText}

@@ -25,3 +25,13 @@ pub returns-in-None-4 : goal.returns-in-None-4
 returns-in-None-4 c item is =
     let says = subst (λ (f : Flag). IsValue f c.args.value.now item) c.in-Skip.is is in
     none_so (IsKind c.args.value.now) c.in_ok-kind-in-Skip.field-0 c.in_ok-kind-in-Skip.ensures c.in-None-4.is says.0 says.2
+
+pub returns-in-None-5 : goal.returns-in-None-5
+returns-in-None-5 c item is =
+    let says = subst (λ (f : Flag). IsValue f c.args.value.now item) c.in-Kind.is is in
+    none_so (IsKind c.args.value.now) c.in_ok-kind-in-Kind.field-0 c.in_ok-kind-in-Kind.ensures c.in-None-5.is says.0 says.2
+
+pub returns-in-None-6 : goal.returns-in-None-6
+returns-in-None-6 c item is =
+    let says = subst (λ (f : Flag). IsValue f c.args.value.now item) c.in-Creator.is is in
+    none_so (IsKind c.args.value.now) c.in_ok-kind-in-Creator.field-0 c.in_ok-kind-in-Creator.ensures c.in-None-6.is says.0 says.2

@@ -5,7 +5,7 @@ use Rattle.rz_words.proofs.Words.{Reading}
 use Rattle.rz_words.proofs.read.read_items.Given as goal
 
 abbrev pub invariant-loop-first : goal.invariant-loop-first
-invariant-loop-first l = Reading l.tool (map string_bytes l.words) (map string_bytes l.rest) (wanted l.wanted)
+invariant-loop-first l = Reading l.name (map string_bytes l.words) (map string_bytes l.rest) (wanted l.wanted)
 
 abbrev pub decreases-loop-first : goal.decreases-loop-first
 decreases-loop-first l = length l.rest

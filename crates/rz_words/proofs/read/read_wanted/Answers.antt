@@ -8,6 +8,6 @@ use Rattle.rz_words.proofs.read.read_wanted.Goals as goal
 
 pub returns-then-len-eq0-clause-misplaced : goal.returns-then-len-eq0-clause-misplaced
 returns-then-len-eq0-clause-misplaced c =
-    subst (λ n. IsMisplaced (name_of c.args.tool ∷ map string_bytes c.args.words.now) (n + 2)) (length-map c.args.words.now string_bytes)
-    (no_file c.args.tool (map string_bytes c.args.words.now) (wanted c.in_ok-wanted.wanted) c.in_ok-wanted.ensures.items
+    subst (λ n. IsMisplaced (name_of c.args.name ∷ map string_bytes c.args.words.now) (n + 2)) (length-map c.args.words.now string_bytes)
+    (no_file c.args.name (map string_bytes c.args.words.now) (wanted c.in_ok-wanted.wanted) c.in_ok-wanted.ensures.items c.in_ok-wanted.ensures.files
     (nil_from_length c.in_ok-wanted.wanted.files (sym c.len.ensures ∙ c.if-len-eq0.true)))

@@ -1,0 +1,10 @@
+/// The name of a command that has items.
+#[derive(Clone, Copy, Debug)]
+pub enum CommandName {
+    /// `rez`.
+    Rez,
+    /// `derez`.
+    DeRez,
+    /// `bridge`.
+    Bridge,
+}
