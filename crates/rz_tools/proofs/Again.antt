@@ -29,7 +29,8 @@ use Rattle.rz_lex.specs.declared.token.Token.{Token}
 use Rattle.rz_pre.specs.Live.{body_of, Live}
 use Rattle.rz_pre.specs.declared.condition.Tool.{Tool}
 use Rattle.rz_pre.specs.declared.condition.Tool.TheVariants as tools
-use Rattle.rz_pre.specs.Program.{file_of, levels_below, IncludedGoes, State}
+use Rattle.rz_paths.specs.Names.{file_of}
+use Rattle.rz_pre.specs.Program.{levels_below, IncludedGoes, State}
 use Rattle.rz_print.specs.Printable.{AreOfBytes, SparesTruth}
 use Rattle.rz_show.specs.Data.{statement_text}
 use Rattle.rz_show.specs.Head.{head_text}
@@ -46,19 +47,22 @@ use Rattle.rz_tools.specs.Again.{AreShort, HasMacros, MeanResources, MeansAgain,
 use Rattle.rz_tools.specs.DeRez.{ShowsEach}
 use Rattle.rz_tools.specs.Resource.{no_type, IsMade, IsResource}
 use Rattle.rz_tools.specs.Shown.{facts_of, its_bytes, its_row, IsShownBy, Known, TellsRow}
-use Rattle.rz_tools.specs.Step.{list_behind, put_unless_protected, IsListBehind, Means, Steps, Work}
+use Rattle.rz_set.specs.After.{forbidden}
+use Rattle.rz_work.specs.Around.{Around}
+use Rattle.rz_work.specs.Put.{list_with}
+use Rattle.rz_work.specs.Work.{list_behind, Work}
+use Rattle.rz_tools.specs.Step.{IsListBehind, Means, Steps}
 use Rattle.rz_set.specs.ResSet.{found}
 use Rattle.rz_types.specs.Field.{PlainBody}
 use Rattle.rz_types.specs.Row.{IsRow}
 use Rattle.rz_types.specs.Spells.{Spells}
 use Rattle.rz_types.specs.Table.{Declaration}
-use Rattle.rz_tools.specs.ToolWords.{number_in, numbered, tool_in}
-use Rattle.rz_tools.proofs.Named.{names_no_tool}
+use Rattle.rz_work.specs.ToolWords.{number_in, numbered, tool_in}
+use Rattle.rz_work.proofs.Named.{names_no_tool}
 use Rattle.rz_tools.proofs.PutOut.{lines_go, tokens_of, AreBare}
 use Rattle.rz_tools.proofs.Stepping.{changes}
 use Rattle.rz_core.proofs.Tests.{both, by_test}
 use Rattle.rz_tools.proofs.Values.{facts_again, resource_again}
-use Rattle.rz_tools.specs.declared.setting.Setting.{Setting}
 
 -- The shapes of the lines, one behind the other.
 
@@ -166,8 +170,13 @@ put_new (x ∷ front) r new =
     let parts = or_parts (same_key x r) (list_any (λ b. same_key b r) front) new in
     rw (key_sym r x ∙ parts.0) (ap (λ (l : List Resource). x ∷ l) (put_new front r parts.1))
 
-put_behind : (mark : Mark) (front : List Resource) (r : Resource) → list_any (λ b. same_key b r) front ≡ false → put_unless_protected mark front r ≡ Ok (front ++ r ∷ [])
-put_behind mark front r new = rw (new_name front r new, put_new front r new) refl
+-- where none is replaced, none is protected
+none_forbidden : (over : Bool) → forbidden over [] ≡ None
+none_forbidden true = refl
+none_forbidden false = refl
+
+put_behind : (mark : Mark) (over : Bool) (front : List Resource) (r : Resource) → list_any (λ b. same_key b r) front ≡ false → list_with mark over front r ≡ Ok (front ++ r ∷ [])
+put_behind mark over front r new = rw (new_name front r new, none_forbidden over, put_new front r new) refl
 
 -- The laws of the crates below.
 
@@ -236,9 +245,9 @@ module _ (laws : Laws) (known : Known) where
 work : List Declaration → List Fault → List Resource → Work
 work types warnings list = record { types = types; list = list; warnings = warnings }
 
-module _ (laws : Laws) (known : Known) (setting : Setting) (warnings : List Fault) (rez : setting.tool ≡ tools.Rez) (at : setting.moment ≡ known.moment) where
+module _ (laws : Laws) (known : Known) (around : Around) (warnings : List Fault) (rez : around.setting.tool ≡ tools.Rez) (at : around.setting.moment ≡ known.moment) where
   abbrev OneStep : List Resource → List Token → Resource → Type 0
-  OneStep front tokens r = Steps setting (work known.types warnings front) tokens (Ok (work known.types warnings (front ++ r ∷ [])))
+  OneStep front tokens r = Steps around (work known.types warnings front) tokens (Ok (work known.types warnings (front ++ r ∷ [])))
 
   -- the step of a `data` statement
   data_step : (front : List Resource) (tokens : List Token) (r : Resource) → IsWholeData tokens r → IsStored r → FitsFork r → length r.bytes ≤ 16777212
@@ -246,26 +255,26 @@ module _ (laws : Laws) (known : Known) (setting : Setting) (warnings : List Faul
   unfolding work
   data_step front tokens r whole stored fits short new =
       let raw : Raw = shown_raw r whole.name whole.bytes in
-      let value = resource_again (mark_of tokens) setting r whole.name whole.bytes stored whole.whole_name whole.whole_bytes fits.name short in
+      let value = resource_again (mark_of tokens) around.setting r whole.name whole.bytes stored whole.whole_name whole.whole_bytes fits.name short in
       inl (
         Data raw,
         Parses.statement whole.is.within (IsStatement.data_statement raw whole.is.is refl),
         (
           Ok (front ++ r ∷ []),
-          changes setting.tool front (λ list. list ≡ list_behind setting (mark_of tokens) front raw) (Ok (front ++ r ∷ [])) rez
-              (sym (ap (λ o. o >>= put_unless_protected (mark_of tokens) front) value ∙ put_behind (mark_of tokens) front r new)),
+          changes around.setting.tool front (λ list. list ≡ list_behind around.setting (mark_of tokens) front raw) (Ok (front ++ r ∷ [])) rez
+              (sym (ap (λ o. o >>= list_with (mark_of tokens) around.setting.over front) value ∙ put_behind (mark_of tokens) around.setting.over front r new)),
           refl,
         ),
       )
 
   -- what is known of the resource where its statement is read
   known_there : Resource → Facts
-  known_there r = record { kind = r.kind; id = r.id; name = r.name; attr = r.attr; moment = setting.moment }
+  known_there r = record { kind = r.kind; id = r.id; name = r.name; attr = r.attr; moment = around.setting.moment }
 
   row_made : (mark : Mark) (r : Resource) (body : PlainBody) (row : List Tree) (items : List PlainItem) → TellsRow known r body row
-      → ((facts : Facts) → Rattle.rz_items.specs.Fits.Fits facts body items row) → IsMade mark known.types items (record { kind = r.kind; id = r.id; name = r.name; attr = r.attr; moment = setting.moment }) (Ok r)
+      → ((facts : Facts) → Rattle.rz_items.specs.Fits.Fits facts body items row) → IsMade mark known.types items (record { kind = r.kind; id = r.id; name = r.name; attr = r.attr; moment = around.setting.moment }) (Ok r)
   row_made mark r body row items tells fits =
-      let there : Facts = record { kind = r.kind; id = r.id; name = r.name; attr = r.attr; moment = setting.moment } in
+      let there : Facts = record { kind = r.kind; id = r.id; name = r.name; attr = r.attr; moment = around.setting.moment } in
       let spelled : Spells false there body row r.bytes =
       subst (λ (m : Moment). Spells false (record { kind = r.kind; id = r.id; name = r.name; attr = r.attr; moment = m }) body row r.bytes) (sym at)
       (laws.plain (facts_of known r) body row r.bytes tells.told.1) in
@@ -277,15 +286,15 @@ module _ (laws : Laws) (known : Known) (setting : Setting) (warnings : List Faul
   unfolding work
   row_step front tokens r body row whole tells stored fits new =
       let one = shown_compile r whole.name whole.items in
-      let facts = facts_again (mark_of tokens) setting r whole.name stored whole.whole_name fits.name in
-      let is : IsResource setting (mark_of tokens) known.types one (Ok r) = inl (_, sym facts, row_made (mark_of tokens) r body row whole.items tells whole.fits) in
+      let facts = facts_again (mark_of tokens) around.setting r whole.name stored whole.whole_name fits.name in
+      let is : IsResource around.setting (mark_of tokens) known.types one (Ok r) = inl (_, sym facts, row_made (mark_of tokens) r body row whole.items tells whole.fits) in
       inl (
         Compiles one,
         Parses.statement whole.within (IsStatement.resource_statement one whole.is refl),
         (
           Ok (front ++ r ∷ []),
-          changes setting.tool front (IsListBehind setting (mark_of tokens) known.types front one) (Ok (front ++ r ∷ [])) rez
-              (inl (r, is, sym (put_behind (mark_of tokens) front r new))),
+          changes around.setting.tool front (IsListBehind around.setting (mark_of tokens) known.types front one) (Ok (front ++ r ∷ [])) rez
+              (inl (r, is, sym (put_behind (mark_of tokens) around.setting.over front r new))),
           refl,
         ),
       )
@@ -300,8 +309,8 @@ module _ (laws : Laws) (known : Known) (setting : Setting) (warnings : List Faul
 record HasStatements (known : Known) (list : List Resource) (tokens : List Token) : Type 0 where
   statements : List (List Token)
   are : AreStatements tokens statements
-  mean : (setting : Setting) (warnings : List Fault) (front : List Resource) → setting.tool ≡ tools.Rez → setting.moment ≡ known.moment → KeysDiffer front list
-      → Means setting (work known.types warnings front) statements (Ok (work known.types warnings (front ++ list)))
+  mean : (around : Around) (warnings : List Fault) (front : List Resource) → around.setting.tool ≡ tools.Rez → around.setting.moment ≡ known.moment → KeysDiffer front list
+      → Means around (work known.types warnings front) statements (Ok (work known.types warnings (front ++ list)))
 
 module _ (laws : Laws) (known : Known) where
   -- each resource is one that a fork holds and rez takes
@@ -315,7 +324,7 @@ module _ (laws : Laws) (known : Known) where
   has_statements [] [] tokens by whole words fit = record {
     statements = [];
     are = whole;
-    mean = λ setting warnings front rez at differ. ap (λ (l : List Resource). Ok (work known.types warnings l)) (append-nil front);
+    mean = λ around warnings front rez at differ. ap (λ (l : List Resource). Ok (work known.types warnings l)) (append-nil front);
   }
   has_statements [] (showing ∷ showings) tokens by whole words fit = absurd by
   has_statements (r ∷ rs) [] tokens by whole words fit = absurd by
@@ -327,13 +336,13 @@ module _ (laws : Laws) (known : Known) where
       record {
         statements = whole.0 ∷ behind.statements;
         are = (whole.1, whole.2, inl (statement_of showing whole.0 whole.3, behind.are));
-        mean = λ setting warnings front rez at differ. inl (
+        mean = λ around warnings front rez at differ. inl (
           work known.types warnings (front ++ r ∷ []),
-          subst (λ (ts : List Token). Steps setting (work known.types warnings front) ts (Ok (work known.types warnings (front ++ r ∷ []))))
-              (sym (numbered_same known.is_macro setting.tool whole.0 parts.0))
-              (one_step laws known setting warnings rez at front whole.0 r showing by.0 whole.3 fit.stored.0 fit.fits.0 fit.short.0 differ.0),
-          subst (λ (l : List Resource). Means setting (work known.types warnings (front ++ r ∷ [])) behind.statements (Ok (work known.types warnings l))) (append_assoc front (r ∷ []) rs)
-              (behind.mean setting warnings (front ++ r ∷ []) rez at differ.1),
+          subst (λ (ts : List Token). Steps around (work known.types warnings front) ts (Ok (work known.types warnings (front ++ r ∷ []))))
+              (sym (numbered_same known.is_macro around.setting.tool whole.0 parts.0))
+              (one_step laws known around warnings rez at front whole.0 r showing by.0 whole.3 fit.stored.0 fit.fits.0 fit.short.0 differ.0),
+          subst (λ (l : List Resource). Means around (work known.types warnings (front ++ r ∷ [])) behind.statements (Ok (work known.types warnings l))) (append_assoc front (r ∷ []) rs)
+              (behind.mean around warnings (front ++ r ∷ []) rez at differ.1),
         );
       }
     where
@@ -346,7 +355,7 @@ module _ (laws : Laws) (known : Known) where
   unfolding work
   mean_resources list showings tokens by whole words fit differ =
       let all = has_statements list showings tokens by whole words fit in
-      (all.statements, all.are, λ setting warnings rez at. all.mean setting warnings [] rez at differ)
+      (all.statements, all.are, λ around warnings rez at. all.mean around warnings [] rez at differ)
 
 -- The text.
 

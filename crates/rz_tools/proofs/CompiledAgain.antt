@@ -1,8 +1,10 @@
 -- The text that is shown of resources, as the one source of rez.
-use Rattle.std.proofs.Common.{◌≡◌, inl, ℕ, List, [], ◌∷◌, Option, Some, None, Ok, refl, sym, ap, subst, ◌∙◌}
+use Rattle.std.proofs.Common.{◌≡◌, inl, ℕ, Bool, false, if◌then◌else◌, List, [], ◌∷◌, Option, Some, None, Ok, refl, sym, ap, subst, ◌∙◌}
 use Rattle.std.specs.Prelude.{is_some, option_map}
 use Rattle.std.specs.Str.{str_to_ascii_lowercase}
 use Rattle.std.specs.FinMap as finite
+use Rattle.std.specs.declared.result.Result.{Result}
+use Rattle.rz_core.specs.declared.fault.Fault.{Fault}
 use Rattle.rz_core.specs.declared.moment.Moment.{Moment}
 use Rattle.rz_core.specs.declared.resource.Resource.{Resource}
 use Rattle.rz_folder.specs.Folder.{Files}
@@ -17,11 +19,14 @@ use Rattle.rz_pre.specs.Live.{Live}
 use Rattle.rz_fields.specs.declared.tree.Tree.{Tree}
 use Rattle.rz_types.specs.Field.{PlainBody}
 use Rattle.rz_types.specs.Table.{found, Declaration}
-use Rattle.rz_tools.specs.Answer.{or_refused, written}
+use Rattle.rz_answer.specs.Answer.{or_refused, written}
 use Rattle.rz_tools.specs.Program.{command, Answers}
-use Rattle.rz_tools.specs.Rez.{list_fork, setting_of, Compiles}
-use Rattle.rz_tools.specs.Sources.{compiled, said_beside}
-use Rattle.rz_tools.specs.Step.{Work}
+use Rattle.rz_tools.specs.Base.{base_in, base_of, new_base, or_empty}
+use Rattle.rz_tools.specs.Output.{IsOutput}
+use Rattle.rz_tools.specs.Rez.{around_of, BeginsWith, Compiles}
+use Rattle.rz_tools.specs.Sources.{compiled}
+use Rattle.rz_answer.specs.Warning.{said_beside}
+use Rattle.rz_work.specs.Work.{Work}
 
 -- what is known where no types are declared and these are the macros
 abbrev pub bare_known : Live → Moment → Known
@@ -46,8 +51,9 @@ none_declared known other none too (r ∷ rs) text (front, behind, eq, (showing,
   none_declared known other none too rs behind shows,
 )
 
-module _ (text : List ℕ) (list : List Resource) (asked : RezAsked) (files : Files) (moment : Moment) (name : List ℕ)
-    (again : MeansAgain (bare_known (start asked.defs).live moment) text list) (held : finite.get files name ≡ Some text) where
+module _ (text : List ℕ) (list : List Resource) (asked : RezAsked) (files : Files) (moment : Moment) (name : List ℕ) (new : asked.append ≡ false)
+    (again : MeansAgain (bare_known (start asked.defs).live moment) text list) (held : finite.get files name ≡ Some text)
+    (output : Result (List ℕ) Fault) (is_output : IsOutput asked moment new_base list output) where
   after : State
   after = record { live = (start asked.defs).live; tokens = (again.read files name asked.paths (start asked.defs) held (λ word. refl)).0; files = name ∷ [] }
 
@@ -58,20 +64,28 @@ module _ (text : List ℕ) (list : List Resource) (asked : RezAsked) (files : Fi
       (Ok (record { live = (start asked.defs).live; tokens = (again.read files name asked.paths (start asked.defs) held (λ word. refl)).0; files = name ∷ [] }))
   goes = inl (_, (again.read files name asked.paths (start asked.defs) held (λ word. refl)).1, refl)
 
-  compiles : asked.files ≡ name ∷ [] → Compiles (setting_of moment asked) asked files (said_beside (name ∷ []) [] (list_fork list))
+  -- the program begins with nothing
+  begins : BeginsWith after (base_of asked files) (Ok new_base)
+  begins = subst (λ (append : Bool). BeginsWith after (if append then base_in (or_empty (finite.get files asked.output)) else Ok new_base) (Ok new_base)) (sym new) refl
+
+  compiles : asked.files ≡ name ∷ [] → Compiles moment asked files (said_beside (name ∷ []) [] output)
   unfolding after work
   compiles sole =
       let read = again.read files name asked.paths (start asked.defs) held (λ word. refl) in
       inl (
-        compiled after work,
+        after,
+        subst (λ (names : List (List ℕ)). NamesGo tools.Rez files asked.paths names (start asked.defs) (Ok after)) (sym sole) goes,
         inl (
-          after,
-          subst (λ (names : List (List ℕ)). NamesGo tools.Rez files asked.paths names (start asked.defs) (Ok after)) (sym sole) goes,
-          (read.2.0, read.2.1, (work, read.2.2 (setting_of moment asked) [] refl refl, refl)),
+          new_base,
+          begins,
+          inl (
+            compiled after work,
+            (read.2.0, read.2.1, (work, read.2.2 (around_of moment asked files) [] refl refl, refl)),
+            (output, is_output, refl),
+          ),
         ),
-        (list_fork list, refl, refl),
       )
 
   pub compiles_alone : (words : List (List ℕ)) → IsCommand words (Rez asked) → asked.files ≡ name ∷ []
-      → Answers words files moment (or_refused (written asked.output) (said_beside (name ∷ []) [] (list_fork list)))
-  compiles_alone words is sole = command (Rez asked) is (said_beside (name ∷ []) [] (list_fork list), compiles sole, refl)
+      → Answers words files moment (or_refused (written asked.output) (said_beside (name ∷ []) [] output))
+  compiles_alone words is sole = command (Rez asked) is (said_beside (name ∷ []) [] output, compiles sole, refl)

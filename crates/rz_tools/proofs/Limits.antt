@@ -8,7 +8,7 @@ use Rattle.rz_core.specs.Numbers.{kept_length}
 use Rattle.rz_core.specs.declared.resource.Resource.{Resource}
 use Rattle.rz_fork.specs.Image.{fork_of, first_limit, image, passed, kinds_of, grouped, data_area, name_list, lists_end}
 use Rattle.rz_fork.specs.declared.fault.LimitFault.{LimitFault}
-use Rattle.rz_tools.specs.Rez.{IsLimit}
+use Rattle.rz_tools.specs.Output.{IsLimit}
 use Rattle.std.specs.Prelude.{IfSome}
 
 one_passed : (number limit length : ℕ) → is_fault number ≡ true → IfSome (passed number limit length) IsLimit

@@ -1,5 +1,5 @@
 -- Words have one answer at most.
-use Rattle.std.proofs.Common.{◌≡◌, ℕ, true, List, [], ◌∷◌, ◌++◌, map, Option, Some, None, Ok, Err, sym, ap, subst, ◌∙◌}
+use Rattle.std.proofs.Common.{◌≡◌, inl, inr, ℕ, true, List, [], ◌∷◌, ◌++◌, map, Option, Some, None, Ok, Err, sym, ap, subst, ◌∙◌}
 use Rattle.std.specs.FinMap as finite
 use Rattle.std.specs.declared.result.Result.{Result}
 use Rattle.rz_core.specs.declared.facts.Facts.{Facts}
@@ -9,29 +9,41 @@ use Rattle.rz_core.specs.declared.moment.Moment.{Moment}
 use Rattle.rz_core.specs.declared.resource.Resource.{Resource}
 use Rattle.rz_folder.specs.Folder.{Files}
 use Rattle.rz_lex.specs.declared.token.Token.{Token}
-use Rattle.rz_pre.specs.Program.{missing_file, Failure, ProgramGoes, State}
+use Rattle.rz_paths.specs.Names.{missing_file}
+use Rattle.rz_pre.specs.Program.{Failure, ProgramGoes, State}
 use Rattle.rz_pre.specs.declared.condition.Tool.{Tool}
 use Rattle.rz_pre.specs.declared.condition.Tool.TheVariants as tools
 use Rattle.rz_pre.specs.declared.program.Def.{Def}
 use Rattle.rz_stmt.specs.Statements.{AreStatements}
-use Rattle.rz_words.specs.Command.{Asked, DeRezAsked, Rez, DeRez, Help, Version, IsCommand, IsMisplaced, RezAsked}
-use Rattle.rz_tools.specs.Answer.{misused, or_refused, shown, written, Answer}
+use Rattle.rz_words.specs.Command.{Asked, BridgeAsked, DeRezAsked, Rez, DeRez, Bridge, Help, Version, IsCommand, IsMisplaced, RezAsked}
+use Rattle.rz_answer.specs.Answer.{misused, or_refused, shown, written, Answer, Write}
 use Rattle.rz_tools.specs.Program.{Answers, AnswersTo, command, misplaced}
-use Rattle.rz_fork.specs.Admit.{admitted}
+use Rattle.rz_bridge.specs.declared.file.MacFile.{MacFile}
+use Rattle.rz_files.specs.Contents.{file_in, fork_in, form_or}
+use Rattle.rz_files.specs.Names.{Named}
+use Rattle.rz_form.specs.DataFile.{IsDataFile}
+use Rattle.rz_files.specs.Written.{written_as}
+use Rattle.rz_form.specs.declared.form.Form.{Form}
+use Rattle.rz_form.specs.declared.form.Form.TheVariants as forms
 use Rattle.rz_fork.specs.Contents.{Fork}
-use Rattle.rz_fork.specs.declared.fault.ForkFault.{ForkFault}
 use Rattle.rz_tools.specs.Chosen.{chosen}
-use Rattle.rz_tools.specs.DeRez.{derez_setting, known_by, HasFileText, HasForkText, HasText, Shows, ShowsEach, TypesAre}
-use Rattle.rz_tools.specs.Rez.{list_fork, setting_of, Compiles, HasFork}
+use Rattle.rz_tools.specs.DeRez.{derez_around, known_by, HasFileText, HasForkText, HasText, Shows, ShowsEach, TypesAre}
+use Rattle.rz_tools.specs.Base.{attributes_asked, base_of, or_empty, Base}
+use Rattle.rz_tools.specs.Bridge.{bridged, one as one_write, two as two_writes, AreWrites, Bridges, HasBeside, IsRead, IsWrittenAs}
+use Rattle.rz_tools.specs.Output.{file_of, form_asked, list_fork, IsFileOf, IsOutput}
+use Rattle.rz_tools.specs.Rez.{around_of, BeginsWith, Compiles, HasOutput, IsMadeBehind, IsMadeOf}
 use Rattle.rz_tools.specs.Shown.{facts_of, its_bytes, its_row, IsShownBy, Known, Shown, TellsRow}
 use Rattle.rz_show.specs.Showing.{by_row, showing_text, Showing}
-use Rattle.rz_tools.specs.Sources.{compiled, said_beside, AreCompiled, Compiled, HasWork, InProgram, SaidBeside, Unsaid}
-use Rattle.rz_tools.specs.Warning.{warning_lines}
-use Rattle.rz_tools.specs.Step.{declared, list_behind, nothing_made, with_list, Changes, IsBehind, IsListBehind, Means, Steps, WarnedFault, WithWarnings, Work}
-use Rattle.rz_stmt.specs.Grammar.{mark_of, Compiles as compiled_statement, Data, Declares, Empty, Parses, Statement}
+use Rattle.rz_tools.specs.Sources.{compiled, AreCompiled, Compiled, HasWork, InProgram, IsProgramOf, SaidBeside, Unsaid}
+use Rattle.rz_answer.specs.Warning.{said_beside, warning_lines}
+use Rattle.rz_work.specs.Around.{Around}
+use Rattle.rz_work.specs.Lists.{list_after}
+use Rattle.rz_work.specs.Work.{begun, declared, list_behind, with_list, Work}
+use Rattle.rz_tools.specs.Step.{Changes, IsBehind, IsListBehind, MakesList, Means, Steps, WarnedFault, WithWarnings}
+use Rattle.rz_stmt.specs.Grammar.{mark_of, Compiles as compiled_statement, Data, Declares, Empty, Lists, Parses, Statement}
 use Rattle.rz_core.specs.Answers.{Then}
-use Rattle.rz_tools.specs.ToolWords.{numbered}
-use Rattle.rz_tools.specs.declared.setting.Setting.{Setting}
+use Rattle.rz_work.specs.ToolWords.{numbered}
+use Rattle.rz_work.specs.declared.setting.Setting.{Setting}
 use Rattle.rz_items.specs.Item.{PlainItem}
 use Rattle.rz_layout.specs.Compiled.{IsCompiled}
 use Rattle.rz_match.specs.Match.{IsMatch}
@@ -123,14 +135,14 @@ one_text rows known [] text others is also = is ∙ sym also
 one_text rows known (r ∷ rs) text others (f, b, eq, shown, shows) (g, c, eq_too, shown_too, shows_too) =
     eq ∙ (λ i. one_shown rows known r f g shown shown_too i ++ one_text rows known rs b c shows shows_too i) ∙ sym eq_too
 
-once_fork_text : OnePlainRow → (known : Known) (asked : DeRezAsked) (fork : Result Fork ForkFault) → Once (HasForkText known asked fork)
+once_fork_text : OnePlainRow → (known : Known) (asked : DeRezAsked) (fork : Result Fork Fault) → Once (HasForkText known asked fork)
 once_fork_text rows known asked (Ok fork) a b is also =
     is.2 ∙ ap ok (one_text rows known (chosen asked.only asked.skip fork.list) is.0 also.0 is.1 also.1) ∙ sym also.2
 once_fork_text rows known asked (Err fault) a b is also = is ∙ sym also
 
 once_file_text : OnePlainRow → (known : Known) (asked : DeRezAsked) (entry : Option (List ℕ)) → Once (HasFileText known asked entry)
 once_file_text rows known asked None = once_is (Err (missing_file None asked.file))
-once_file_text rows known asked (Some bytes) = once_fork_text rows known asked (admitted bytes)
+once_file_text rows known asked (Some bytes) = once_fork_text rows known asked (fork_in None asked.from bytes)
 
 once_unsaid : {X : Type 0} (answers : Result X Failure → Type 0) → Once answers → Once (Unsaid answers)
 once_unsaid answers once (Ok a) (Ok b) is also = ap ok (same_ok {F = Failure} a b (once (Ok a) (Ok b) is also))
@@ -151,58 +163,123 @@ abbrev pub OneSpelling : Type 0
 OneSpelling = (known : Facts) (body : PlainBody) (row : List Tree) (answer another : Result (List ℕ) Refusal)
     → IsCompiled known body row answer → IsCompiled known body row another → answer ≡ another
 
+-- The file that rez writes, and the files of bridge.
+
+abbrev pub OneNamed : Type 0
+OneNamed = (form : Form) (path : List ℕ) (file : MacFile) (one other : Result MacFile Fault) → Named form path file one → Named form path file other → one ≡ other
+
+abbrev pub OneDataFile : Type 0
+OneDataFile = (header name also : List ℕ) → IsDataFile header name → IsDataFile header also → name ≡ also
+
+once_begins : (program : State) (base : Result Base Fault) → Once (BeginsWith program base)
+once_begins program (Ok base) = once_is (Ok base)
+once_begins program (Err fault) = once_is (Err (record { fault = fault; files = program.files; said = [] }))
+
+once_output : OneNamed → (asked : RezAsked) (moment : Moment) (base : Base) (list : List Resource) → Once (IsOutput asked moment base list)
+once_output named asked moment base list =
+    once_then (λ fork. fork ≡ list_fork (attributes_asked asked base) base.fork.reserved list) (IsFileOf asked moment base)
+    (once_is (list_fork (attributes_asked asked base) base.fork.reserved list))
+    (λ fork. once_then (Named (form_asked asked base) asked.output (file_of asked moment base.file fork))
+    (λ file bytes. bytes ≡ written_as (form_asked asked base) file)
+    (named (form_asked asked base) asked.output (file_of asked moment base.file fork))
+    (λ file. once_is (written_as (form_asked asked base) file)))
+
+once_read : OneDataFile → (asked : BridgeAsked) (files : Files) (entry : Option (List ℕ)) → Once (IsRead asked files entry)
+once_read beside asked files None a b is also = is ∙ sym also
+once_read beside asked files (Some bytes) a b is also =
+    is.2 ∙ ap (file_in None asked.from bytes) (one_beside (form_or asked.from bytes) is.0 also.0 is.1 also.1) ∙ sym also.2
+  where
+    one_beside : (form : Form) (x y : List ℕ) → HasBeside form asked.file files x → HasBeside form asked.file files y → x ≡ y
+    one_beside forms.AppleDouble x y (name, is, so) (other, also, too) =
+        so ∙ ap (λ (n : List ℕ). or_empty (finite.get files n)) (beside asked.file name other is also) ∙ sym too
+    one_beside forms.Raw x y so too = so ∙ sym too
+    one_beside forms.MacBinary x y so too = so ∙ sym too
+    one_beside forms.BinHex x y so too = so ∙ sym too
+
+once_writes : OneDataFile → (asked : BridgeAsked) (file : MacFile) (bytes : List ℕ) (x y : List Write) → AreWrites asked file bytes x → AreWrites asked file bytes y → x ≡ y
+once_writes named_file asked file bytes x y (one_write why is) (one_write also so) = is ∙ sym so
+once_writes named_file asked file bytes x y (one_write (inl other) is) (two_writes name to some named so) = absurd (other to)
+once_writes named_file asked file bytes x y (one_write (inr none) is) (two_writes name to some named so) = absurd (some none)
+once_writes named_file asked file bytes x y (two_writes name to some named so) (one_write (inl other) is) = absurd (other to)
+once_writes named_file asked file bytes x y (two_writes name to some named so) (one_write (inr none) is) = absurd (some none)
+once_writes named_file asked file bytes x y (two_writes name to some named is) (two_writes other too more also so) =
+    is
+    ∙ ap (λ (n : List ℕ). let writes : List Write = record { name = n; bytes = file.data_fork } ∷ record { name = asked.output; bytes = bytes } ∷ [] in writes) (named_file asked.output name other named also)
+    ∙ sym so
+
+once_bridges : OneNamed → OneDataFile → (asked : BridgeAsked) (files : Files) → Once (Bridges asked files)
+once_bridges named beside asked files =
+    once_then (IsRead asked files (finite.get files asked.file)) (λ file. Then (Named asked.to asked.output file) (IsWrittenAs asked))
+    (once_read beside asked files (finite.get files asked.file))
+    (λ file. once_then (Named asked.to asked.output file) (IsWrittenAs asked) (named asked.to asked.output file)
+    (λ file. once_then (λ bytes. bytes ≡ written_as asked.to file) (λ bytes answer. (writes : List Write) × AreWrites asked file bytes writes × (answer ≡ Ok writes))
+    (once_is (written_as asked.to file))
+    (λ bytes a b is also. is.2 ∙ ap ok (once_writes beside asked file bytes is.0 also.0 is.1 also.1) ∙ sym also.2)))
+
 module _ (cutting : OneCutting) (statement_law : OneStatement) (matching : OneMatch) (spelling : OneSpelling) (rows : OnePlainRow) where
-  once_behind : (setting : Setting) (mark : Mark) (work : Work) (statement : Statement) → Once (IsBehind setting mark work statement)
-  once_behind setting mark work Empty = once_is (Ok work)
-  once_behind setting mark work (Data raw) = λ a b is also.
-      is.2
-      ∙ ap (with_list work) (once_changes setting.tool work.list (λ list. list ≡ list_behind setting mark work.list raw) (once_is (list_behind setting mark work.list raw)) is.0 also.0 is.1 also.1)
-      ∙ sym also.2
-  once_behind setting mark work (compiled_statement one) = λ a b is also.
-      is.2
-      ∙ ap (with_list work) (once_changes setting.tool work.list (IsListBehind setting mark work.types work.list one)
-      (once_list matching spelling setting mark work.types work.list one) is.0 also.0 is.1 also.1)
-      ∙ sym also.2
-  once_behind setting mark work (Declares one) = once_is (declared setting mark work one)
+  once_made : (setting : Setting) (work : Work) (answers : Result (List Resource) Fault → Type 0) → Once answers → Once (MakesList setting work answers)
+  once_made setting work answers once a b is also = is.2 ∙ ap (with_list work) (once_changes setting.tool work.list answers once is.0 also.0 is.1 also.1) ∙ sym also.2
 
-  one_step : (setting : Setting) (work : Work) (tokens : List Token) → Once (Steps setting work tokens)
-  one_step setting work tokens =
-      once_with work.warnings (Then (Parses tokens) (IsBehind setting (mark_of tokens) work))
-      (once_then (Parses tokens) (IsBehind setting (mark_of tokens) work) (statement_law tokens) (once_behind setting (mark_of tokens) work))
+  once_behind : (around : Around) (mark : Mark) (work : Work) (statement : Statement) → Once (IsBehind around mark work statement)
+  once_behind around mark work Empty = once_is (Ok work)
+  once_behind around mark work (Data raw) =
+      once_made around.setting work (λ list. list ≡ list_behind around.setting mark work.list raw) (once_is (list_behind around.setting mark work.list raw))
+  once_behind around mark work (compiled_statement one) =
+      once_made around.setting work (IsListBehind around.setting mark work.types work.list one) (once_list matching spelling around.setting mark work.types work.list one)
+  once_behind around mark work (Lists one) =
+      once_made around.setting work (λ list. list ≡ list_after around mark work.list one) (once_is (list_after around mark work.list one))
+  once_behind around mark work (Declares one) = once_is (declared around.setting mark work one)
 
-  one_meaning : (setting : Setting) (work : Work) (statements : List (List Token)) → Once (Means setting work statements)
-  one_meaning setting work [] = once_is (Ok work)
-  one_meaning setting work (tokens ∷ statements) =
-      once_then (Steps setting work (map (numbered setting.tool) tokens)) (λ next. Means setting next statements)
-      (one_step setting work (map (numbered setting.tool) tokens)) (λ next. one_meaning setting next statements)
+  one_step : (around : Around) (work : Work) (tokens : List Token) → Once (Steps around work tokens)
+  one_step around work tokens =
+      once_with work.warnings (Then (Parses tokens) (IsBehind around (mark_of tokens) work))
+      (once_then (Parses tokens) (IsBehind around (mark_of tokens) work) (statement_law tokens) (once_behind around (mark_of tokens) work))
 
-  once_work : (setting : Setting) (program : State) → Once (HasWork setting program)
-  once_work setting program a b is also =
-      once_in program (Means setting nothing_made is.0) (one_meaning setting nothing_made is.0) a b is.2
-      (subst (λ (ss : List (List Token)). InProgram program (Means setting nothing_made ss) b) (sym (cutting program.tokens is.0 also.0 is.1 also.1)) also.2)
+  one_meaning : (around : Around) (work : Work) (statements : List (List Token)) → Once (Means around work statements)
+  one_meaning around work [] = once_is (Ok work)
+  one_meaning around work (tokens ∷ statements) =
+      once_then (Steps around work (map (numbered around.setting.tool) tokens)) (λ next. Means around next statements)
+      (one_step around work (map (numbered around.setting.tool) tokens)) (λ next. one_meaning around next statements)
 
-  module _ (program : OneProgram) where
-    once_compiled : (setting : Setting) (names paths : List (List ℕ)) (defs : List Def) (files : Files) → Once (AreCompiled setting names paths defs files)
-    once_compiled setting names paths defs files =
-        once_then (Unsaid (ProgramGoes files setting.tool names paths defs)) (HasWork setting)
-        (once_unsaid (ProgramGoes files setting.tool names paths defs) (program files setting.tool names paths defs)) (once_work setting)
+  once_work : (around : Around) (list : List Resource) (program : State) → Once (HasWork around list program)
+  once_work around list program a b is also =
+      once_in program (Means around (begun list) is.0) (one_meaning around (begun list) is.0) a b is.2
+      (subst (λ (ss : List (List Token)). InProgram program (Means around (begun list) ss) b) (sym (cutting program.tokens is.0 also.0 is.1 also.1)) also.2)
 
-    once_fork : (setting : Setting) (asked : RezAsked) (files : Files) → Once (Compiles setting asked files)
-    once_fork setting asked files =
-        once_then (AreCompiled setting asked.files asked.paths asked.defs files) HasFork (once_compiled setting asked.files asked.paths asked.defs files)
-        (λ made. once_beside made (λ fork. fork ≡ list_fork made.work.list) (once_is (list_fork made.work.list)))
+  module _ (program : OneProgram) (named : OneNamed) (data_file : OneDataFile) where
+    once_program : (around : Around) (names paths : List (List ℕ)) (defs : List Def) → Once (IsProgramOf around names paths defs)
+    once_program around names paths defs =
+        once_unsaid (ProgramGoes around.files around.setting.tool names paths defs) (program around.files around.setting.tool names paths defs)
+
+    once_compiled : (around : Around) (names paths : List (List ℕ)) (defs : List Def) → Once (AreCompiled around names paths defs)
+    once_compiled around names paths defs =
+        once_then (IsProgramOf around names paths defs) (HasWork around []) (once_program around names paths defs) (once_work around [])
+
+    once_made_of : (moment : Moment) (asked : RezAsked) (files : Files) (state : State) → Once (IsMadeOf moment asked files state)
+    once_made_of moment asked files state =
+        once_then (BeginsWith state (base_of asked files)) (IsMadeBehind moment asked files state) (once_begins state (base_of asked files))
+        (λ base. once_then (HasWork (around_of moment asked files) base.fork.list state) (HasOutput moment asked base)
+        (once_work (around_of moment asked files) base.fork.list state)
+        (λ made. once_beside made (IsOutput asked moment base made.work.list) (once_output named asked moment base made.work.list)))
+
+    once_rez : (moment : Moment) (asked : RezAsked) (files : Files) → Once (Compiles moment asked files)
+    once_rez moment asked files =
+        once_then (IsProgramOf (around_of moment asked files) asked.files asked.paths asked.defs) (IsMadeOf moment asked files)
+        (once_program (around_of moment asked files) asked.files asked.paths asked.defs) (once_made_of moment asked files)
 
     once_shows : (moment : Moment) (asked : DeRezAsked) (files : Files) → Once (Shows moment asked files)
     once_shows moment asked files =
-        once_then (TypesAre moment asked files) (HasText moment asked files) (once_compiled (derez_setting moment asked) asked.files asked.paths asked.defs files)
+        once_then (TypesAre moment asked files) (HasText moment asked files) (once_compiled (derez_around moment asked files) asked.files asked.paths asked.defs)
         (λ made. once_beside made (HasFileText (known_by moment made) asked (finite.get files asked.file))
         (once_file_text rows (known_by moment made) asked (finite.get files asked.file)))
 
     one_to : (asked : Asked) (files : Files) (moment : Moment) (a b : Answer) → AnswersTo asked files moment a → AnswersTo asked files moment b → a ≡ b
     one_to (Rez asked) files moment a b is also =
-        is.2 ∙ ap (or_refused (written asked.output)) (once_fork (setting_of moment asked) asked files is.0 also.0 is.1 also.1) ∙ sym also.2
+        is.2 ∙ ap (or_refused (written asked.output)) (once_rez moment asked files is.0 also.0 is.1 also.1) ∙ sym also.2
     one_to (DeRez asked) files moment a b is also =
         is.2 ∙ ap (or_refused shown) (once_shows moment asked files is.0 also.0 is.1 also.1) ∙ sym also.2
+    one_to (Bridge asked) files moment a b is also =
+        is.2 ∙ ap bridged (once_bridges named data_file asked files is.0 also.0 is.1 also.1) ∙ sym also.2
     one_to Help files moment a b is also = is ∙ sym also
     one_to Version files moment a b is also = is ∙ sym also
 

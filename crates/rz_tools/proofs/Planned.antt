@@ -7,16 +7,16 @@ use Rattle.std.specs.declared.result.Result.{Result}
 use Rattle.rz_core.specs.declared.moment.Moment.{Moment}
 use Rattle.rz_folder.specs.Folder.{Files}
 use Rattle.rz_words.specs.Command.{Asked, DeRez, DeRezAsked, IsCommand, IsMisplaced}
-use Rattle.rz_tools.specs.Again.{IsFile}
+use Rattle.rz_tools.specs.Again.{HoldsFile}
 use Rattle.rz_tools.specs.Program.{command, misplaced, Answers, AnswersTo}
-use Rattle.rz_tools.specs.Answer.{misused, Answer, Answered, Failing, Making}
-use Rattle.rz_tools.specs.Made.{MadeSo}
-use Rattle.rz_tools.specs.Plan.{answer_of, EndsIn}
-use Rattle.rz_tools.specs.declared.outcome.Outcome.TheVariants.{Done}
-use Rattle.rz_tools.specs.declared.plan.Plan.{Plan}
-use Rattle.rz_tools.specs.declared.made.Unanswered.{Unanswered}
-use Rattle.rz_tools.specs.declared.made.Stopped.{Stopped}
-use Rattle.rz_tools.specs.declared.made.Stopped.TheVariants as stops
+use Rattle.rz_answer.specs.Answer.{misused, Answer, Answered, Failing, Making}
+use Rattle.rz_answer.specs.Made.{MadeSo}
+use Rattle.rz_answer.specs.Plan.{answer_of, EndsIn}
+use Rattle.rz_answer.specs.declared.outcome.Outcome.TheVariants.{Done}
+use Rattle.rz_answer.specs.declared.plan.Plan.{Plan}
+use Rattle.rz_answer.specs.declared.made.Unanswered.{Unanswered}
+use Rattle.rz_answer.specs.declared.made.Stopped.{Stopped}
+use Rattle.rz_answer.specs.declared.made.Stopped.TheVariants as stops
 
 module _ (done : Making → Answer) (Makes : Files → Result Making Failing → Type 0) (answer : Answer) where
   pub made : (before : Option Files) (making : Making) → answer ≡ done making → IfSome before (λ files. Makes files (Ok making))
@@ -66,8 +66,8 @@ same_asked : (one other : DeRezAsked) → DeRez one ≡ DeRez other → one ≡ 
 same_asked one other is = cc
 
 pub held_asked : (one other : DeRezAsked) → DeRez one ≡ DeRez other → (before : Option Files) (result : Result Plan Unanswered)
-    → IfSome before (λ files. IfSome (finite.get files one.file) (λ bytes. IfOk result (λ plan. plan.outcome ≡ Done → IsFile bytes)))
-    → IfSome before (λ files. IfSome (finite.get files other.file) (λ bytes. IfOk result (λ plan. plan.outcome ≡ Done → IsFile bytes)))
+    → IfSome before (λ files. IfSome (finite.get files one.file) (λ bytes. IfOk result (λ plan. plan.outcome ≡ Done → HoldsFile one.from bytes)))
+    → IfSome before (λ files. IfSome (finite.get files other.file) (λ bytes. IfOk result (λ plan. plan.outcome ≡ Done → HoldsFile other.from bytes)))
 held_asked one other same before result held =
-    subst (λ (a : DeRezAsked). IfSome before (λ files. IfSome (finite.get files a.file) (λ bytes. IfOk result (λ plan. plan.outcome ≡ Done → IsFile bytes))))
+    subst (λ (a : DeRezAsked). IfSome before (λ files. IfSome (finite.get files a.file) (λ bytes. IfOk result (λ plan. plan.outcome ≡ Done → HoldsFile a.from bytes))))
     (same_asked one other same) held

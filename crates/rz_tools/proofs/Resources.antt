@@ -14,11 +14,13 @@ use Rattle.rz_layout.specs.Compiled.{IsCompiled, MeetsLaid}
 use Rattle.rz_layout.specs.Fault.{refusal_of}
 use Rattle.rz_layout.specs.declared.fault.LayFault.{LayFault}
 use Rattle.rz_match.specs.Match.{IsMatch}
-use Rattle.rz_tools.specs.Data.{with_bytes}
-use Rattle.rz_tools.specs.Head.{facts_of}
+use Rattle.rz_work.specs.Data.{with_bytes}
+use Rattle.rz_work.specs.Head.{facts_of}
 use Rattle.rz_tools.specs.Resource.{fields_for, row_fault, AreBytes, AreItemBytes, IsMade, IsResource, IsSpelled}
-use Rattle.rz_tools.specs.Step.{put_unless_protected, IsListBehind, Stepped}
-use Rattle.rz_tools.specs.declared.setting.Setting.{Setting}
+use Rattle.rz_work.specs.Put.{list_with}
+use Rattle.rz_work.specs.Work.{Stepped}
+use Rattle.rz_tools.specs.Step.{IsListBehind}
+use Rattle.rz_work.specs.declared.setting.Setting.{Setting}
 use Rattle.rz_fields.specs.declared.tree.Tree.{Tree}
 use Rattle.rz_types.specs.Field.{PlainBody}
 use Rattle.rz_types.specs.Laid.{Refusal}
@@ -49,7 +51,7 @@ spelled_fault mark known body row fault told is tells = (refusal_of fault, is, t
 
 module _ (setting : Setting) (mark : Mark) (types : List Declaration) (list : List Resource) (one : Compile) where
   pub put_compiled : (resource : Resource) (result : Result (Unit {0}) (Stop Fault)) (after : List Resource) → IsResource setting mark types one (Ok resource)
-      → Stepped (λ answer. answer ≡ put_unless_protected mark list resource) result after → Stepped (IsListBehind setting mark types list one) result after
+      → Stepped (λ answer. answer ≡ list_with mark setting.over list resource) result after → Stepped (IsListBehind setting mark types list one) result after
   put_compiled resource (Ok nothing) after is done = inl (resource, is, done)
   put_compiled resource (Err (Refused fault)) after is done = inl (resource, is, done)
   put_compiled resource (Err NoMemory) after is done = tt
@@ -78,5 +80,5 @@ module _ (matching : (known : Facts) (place : Mark) (body : PlainBody) (items : 
 
   pub once_list : (setting : Setting) (mark : Mark) (types : List Declaration) (list : List Resource) (one : Compile) → Once (IsListBehind setting mark types list one)
   once_list setting mark types list one =
-      once_then (IsResource setting mark types one) (λ resource answer. answer ≡ put_unless_protected mark list resource) (once_resource setting mark types one)
-      (λ resource. once_is (put_unless_protected mark list resource))
+      once_then (IsResource setting mark types one) (λ resource answer. answer ≡ list_with mark setting.over list resource) (once_resource setting mark types one)
+      (λ resource. once_is (list_with mark setting.over list resource))

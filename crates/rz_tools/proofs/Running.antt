@@ -6,12 +6,13 @@ use Rattle.rz_core.specs.declared.moment.Moment.{Moment}
 use Rattle.rz_folder.specs.Counts.{Rose}
 use Rattle.rz_folder.specs.Folder.{Files}
 use Rattle.rz_words.specs.declared.read.UsageFault.{UsageFault}
-use Rattle.rz_tools.specs.Answer.{Answer, Write}
-use Rattle.rz_tools.specs.Program.{at_file, at_text, Answers, CarriesOut, Ends, IsAnswered, IsPartlyWritten, IsUntouched}
-use Rattle.rz_tools.specs.World.{World}
-use Rattle.rz_tools.specs.declared.outcome.Outcome.{Outcome}
-use Rattle.rz_tools.specs.declared.outcome.Outcome.TheVariants.{Done, Usage, Refused, ReadFault, WriteFault, NoMemory}
-use Rattle.rz_tools.proofs.Carried.{carried_too}
+use Rattle.rz_answer.specs.Answer.{Answer, Write}
+use Rattle.rz_answer.specs.Carried.{at_file, at_text, CarriesOut, Ends, IsAnswered, IsPartlyWritten, IsUntouched}
+use Rattle.rz_tools.specs.Program.{Answers}
+use Rattle.rz_answer.specs.World.{World}
+use Rattle.rz_answer.specs.declared.outcome.Outcome.{Outcome}
+use Rattle.rz_answer.specs.declared.outcome.Outcome.TheVariants.{Done, Usage, Refused, ReadFault, WriteFault, NoMemory}
+use Rattle.rz_answer.proofs.Carried.{carried_too}
 
 -- Files were read before, which may have failed.
 

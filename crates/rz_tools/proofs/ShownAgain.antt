@@ -1,5 +1,5 @@
 -- What derez answers for a fork means again the resources that are shown.
-use Rattle.std.proofs.Common.{◌≡◌, ◌++◌, inl, inr, ℕ, List, Option, Some, None, Ok, Err, sym, ap, subst, ◌∙◌}
+use Rattle.std.proofs.Common.{◌≡◌, ◌++◌, inl, inr, ℕ, List, [], Option, Some, None, Ok, Err, refl, sym, ap, subst, ◌∙◌}
 use Rattle.std.specs.Prelude.{IfSome}
 use Rattle.std.specs.FinMap as finite
 use Rattle.std.specs.declared.result.Result.{Result}
@@ -7,23 +7,29 @@ use Rattle.rz_core.specs.declared.fault.Fault.{Fault}
 use Rattle.rz_core.specs.declared.moment.Moment.{Moment}
 use Rattle.rz_core.specs.declared.resource.OsType.{OsType}
 use Rattle.rz_folder.specs.Folder.{Files}
+use Rattle.rz_bridge.specs.declared.file.MacFile.{MacFile}
+use Rattle.rz_core.specs.Stop.{◌>>=◌}
+use Rattle.rz_files.specs.Contents.{admit_fork, file_in, fork_in, IsFile}
+use Rattle.rz_files.specs.Faults.{or_torn}
 use Rattle.rz_fork.specs.Admit.{admitted}
+use Rattle.rz_form.specs.declared.form.Form.{Form}
 use Rattle.rz_fork.specs.Contents.{Fork}
 use Rattle.rz_fork.specs.declared.fault.ForkFault.{ForkFault}
 use Rattle.rz_words.specs.Command.{Asked, DeRez, DeRezAsked, IsCommand}
-use Rattle.rz_tools.specs.Again.{AreShort, IsFile, MeansAgain, ShowsAgain, SparesWords}
-use Rattle.rz_tools.specs.Answer.{Answer, Failing, Making}
+use Rattle.rz_tools.specs.Again.{AreShort, HoldsFile, MeansAgain, ShowsAgain, SparesWords}
+use Rattle.rz_answer.specs.Answer.{Answer, Failing, Making}
 use Rattle.rz_tools.specs.Chosen.{chosen}
-use Rattle.rz_tools.specs.DeRez.{derez_setting, known_by, AnswersDeRez, HasFileText, HasForkText, ShowsEach, TypesAre}
+use Rattle.rz_tools.specs.DeRez.{derez_around, known_by, AnswersDeRez, HasFileText, HasForkText, ShowsEach, TypesAre}
 use Rattle.rz_tools.specs.Sources.{AreCompiled, Compiled}
-use Rattle.rz_tools.specs.declared.setting.Setting.{Setting}
+use Rattle.rz_work.specs.Around.{Around}
 use Rattle.rz_pre.specs.Definitions.{AreFree}
 use Rattle.rz_pre.specs.declared.program.Def.{Def}
-use Rattle.rz_tools.specs.Program.{command, misplaced, Answers, AnswersTo, CarriesOut}
+use Rattle.rz_tools.specs.Program.{command, misplaced, Answers, AnswersTo}
+use Rattle.rz_answer.specs.Carried.{CarriesOut}
 use Rattle.rz_tools.specs.Shown.{Known}
-use Rattle.rz_tools.specs.World.{World}
-use Rattle.rz_tools.specs.declared.outcome.Outcome.{Outcome}
-use Rattle.rz_tools.specs.declared.outcome.Outcome.TheVariants.{Done, Refused}
+use Rattle.rz_answer.specs.World.{World}
+use Rattle.rz_answer.specs.declared.outcome.Outcome.{Outcome}
+use Rattle.rz_answer.specs.declared.outcome.Outcome.TheVariants.{Done, Refused}
 use Rattle.rz_tools.proofs.OneAnswer.{OneCommand}
 
 -- the law of the text of a fork
@@ -35,8 +41,8 @@ ForksAreReadAgain =
 -- the law of the macros behind type files
 abbrev pub WordsAreSpared : Type 0
 WordsAreSpared =
-    (setting : Setting) (names paths : List (List ℕ)) (defs : List Def) (files : Files) (compiled : Compiled) → AreFree defs
-    → AreCompiled setting names paths defs files (Ok compiled) → SparesWords compiled.is_macro
+    (around : Around) (names paths : List (List ℕ)) (defs : List Def) (compiled : Compiled) → AreFree defs
+    → AreCompiled around names paths defs (Ok compiled) → SparesWords compiled.is_macro
 
 of_asked : (commands : OneCommand) (words : List (List ℕ)) (asked : Asked) → IsCommand words asked → (files : Files) (moment : Moment) (wanted : Answer)
     → Answers words files moment wanted → AnswersTo asked files moment wanted
@@ -58,16 +64,30 @@ same_text text others is = cc is
 same_making : (one other : Making) → ◌≡◌ {A = Result Making Failing} (Ok one) (Ok other) → one ≡ other
 same_making one other is = cc is
 
+-- the file that holds a fork
+fork_parts : (form : Option Form) (bytes : List ℕ) (fork : Fork) → fork_in None form bytes ≡ Ok fork
+    → (file : MacFile) × (file_in None form bytes [] ≡ Ok file) × (admitted file.res_fork ≡ Ok fork)
+fork_parts form bytes fork is = by (file_in None form bytes []) refl is
+  where
+    admits : (fork_held : Result Fork ForkFault) → or_torn None fork_held ≡ Ok fork → fork_held ≡ Ok fork
+    admits (Ok held) is = let so : ◌≡◌ {A = Result Fork Fault} (Ok held) (Ok fork) = is in cc
+    admits (Err fault) is = cc is
+
+    by : (held : Result MacFile Fault) → file_in None form bytes [] ≡ held → (held >>= λ file. admit_fork None file.res_fork) ≡ Ok fork
+        → (file : MacFile) × (file_in None form bytes [] ≡ Ok file) × (admitted file.res_fork ≡ Ok fork)
+    by (Ok file) same is = (file, same, admits (admitted file.res_fork) is)
+    by (Err fault) same is = cc is
+
 -- the text of a fork that a name holds
-text_in_file : (known : Known) (asked : DeRezAsked) (entry : Option (List ℕ)) (bytes : List ℕ) (fork : Fork) (text : List ℕ) → entry ≡ Some bytes → admitted bytes ≡ Ok fork
+text_in_file : (known : Known) (asked : DeRezAsked) (entry : Option (List ℕ)) (bytes : List ℕ) (fork : Fork) (text : List ℕ) → entry ≡ Some bytes → fork_in None asked.from bytes ≡ Ok fork
     → HasFileText known asked entry (Ok text) → ShowsEach known (chosen asked.only asked.skip fork.list) text
 text_in_file known asked entry bytes fork text held admits has =
     let so =
-    subst (λ (a : Result Fork ForkFault). HasForkText known asked a (Ok text)) admits (subst (λ (e : Option (List ℕ)). HasFileText known asked e (Ok text)) held has) in
+    subst (λ (a : Result Fork Fault). HasForkText known asked a (Ok text)) admits (subst (λ (e : Option (List ℕ)). HasFileText known asked e (Ok text)) held has) in
     subst (λ (t : List ℕ). ShowsEach known (chosen asked.only asked.skip fork.list) t) (sym (same_text text so.0 so.2)) so.1
 
 text_of_answer : (moment : Moment) (asked : DeRezAsked) (files : Files) (bytes : List ℕ) (fork : Fork) (wanted : Answer) → AnswersDeRez asked files moment wanted → wanted.outcome ≡ Done
-    → finite.get files asked.file ≡ Some bytes → admitted bytes ≡ Ok fork → (compiled : Compiled) × TypesAre moment asked files (Ok compiled) × ShowsEach (known_by moment compiled) (chosen asked.only asked.skip fork.list) wanted.out
+    → finite.get files asked.file ≡ Some bytes → fork_in None asked.from bytes ≡ Ok fork → (compiled : Compiled) × TypesAre moment asked files (Ok compiled) × ShowsEach (known_by moment compiled) (chosen asked.only asked.skip fork.list) wanted.out
 text_of_answer moment asked files bytes fork wanted (Err failing, makes, is) done held admits =
     absurd (not_refused failing.fault (sym (ap (λ (a : Answer). a.outcome) is) ∙ done))
 text_of_answer moment asked files bytes fork wanted (Ok making, inr (failing, first, same), is) done held admits = absurd (made_or_not making failing same)
@@ -87,22 +107,25 @@ at_some P o x is holds = subst (λ (o : Option (List ℕ)). IfSome o P) is holds
 module _ (commands : OneCommand) (law : ForksAreReadAgain) (spared : WordsAreSpared) (words : List (List ℕ)) (moment : Moment) (before after : World) (done : Answer) where
   pub shows_again : (result : Outcome) → result ≡ Done → CarriesOut done before after result → (asked : DeRezAsked) → IsCommand words (DeRez asked) → AreFree asked.defs
       → IfSome before.files (λ files. Answers words files moment done)
-      → IfSome before.files (λ files. IfSome (finite.get files asked.file) (λ bytes. done.outcome ≡ Done → IsFile bytes))
+      → IfSome before.files (λ files. IfSome (finite.get files asked.file) (λ bytes. done.outcome ≡ Done → HoldsFile asked.from bytes))
       → IfSome before.files (λ files. IfSome before.out (λ out. ShowsAgain moment asked files out after.out))
   shows_again result is carried asked as_asked free answers held =
       let ends = (subst (λ r. CarriesOut done before after r) is carried).ends in
       by before.files before.out ends.0 ends.1.out answers held
     where
       by : (b : Option Files) (o : Option (List ℕ)) → done.outcome ≡ Done → IfSome o (λ out. after.out ≡ Some (out ++ done.out)) → IfSome b (λ files. Answers words files moment done)
-          → IfSome b (λ files. IfSome (finite.get files asked.file) (λ bytes. done.outcome ≡ Done → IsFile bytes)) → IfSome b (λ files. IfSome o (λ out. ShowsAgain moment asked files out after.out))
+          → IfSome b (λ files. IfSome (finite.get files asked.file) (λ bytes. done.outcome ≡ Done → HoldsFile asked.from bytes)) → IfSome b (λ files. IfSome o (λ out. ShowsAgain moment asked files out after.out))
       by None o ended written answers held = tt
       by (Some files) None ended written answers held = tt
       by (Some files) (Some out) ended written answers held = λ bytes there fork admits short.
+          let parts = fork_parts asked.from bytes fork admits in
           let shows = text_of_answer moment asked files bytes fork done (of_asked commands words (DeRez asked) as_asked files moment done answers) ended there admits in (
             shows.0,
             done.out,
             shows.1,
             written,
-            law bytes (at_some (λ bytes. done.outcome ≡ Done → IsFile bytes) (finite.get files asked.file) bytes there held ended) fork admits asked.only asked.skip short
-                (known_by moment shows.0) (spared (derez_setting moment asked) asked.files asked.paths asked.defs files shows.0 free shows.1) done.out shows.2,
+            law parts.0.res_fork
+                (at_some (λ bytes. done.outcome ≡ Done → HoldsFile asked.from bytes) (finite.get files asked.file) bytes there held ended parts.0 parts.1)
+                fork parts.2 asked.only asked.skip short (known_by moment shows.0)
+                (spared (derez_around moment asked files) asked.files asked.paths asked.defs shows.0 free shows.1) done.out shows.2,
           )

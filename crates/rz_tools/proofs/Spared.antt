@@ -7,9 +7,9 @@ use Rattle.rz_pre.specs.Program.{ProgramGoes, State}
 use Rattle.rz_pre.specs.declared.condition.Tool.{Tool}
 use Rattle.rz_pre.specs.declared.program.Def.{Def}
 use Rattle.rz_tools.specs.Again.{SparesWords}
-use Rattle.rz_tools.specs.Answer.{Failing}
+use Rattle.rz_answer.specs.Answer.{Failing}
 use Rattle.rz_tools.specs.Sources.{AreCompiled, Compiled}
-use Rattle.rz_tools.specs.declared.setting.Setting.{Setting}
+use Rattle.rz_work.specs.Around.{Around}
 use Rattle.rz_tools.proofs.Reserved.{words_spared, AttributesAreSpelled, KeywordsAreSpelled}
 
 -- the law of what is live behind a program
@@ -21,9 +21,9 @@ LiveNamesAreFree =
 not_both : (compiled : Compiled) (failing : Failing) → ◌≡◌ {A = Result Compiled Failing} (Ok compiled) (Err failing) → ⊥
 not_both compiled failing is = cc is
 
-pub compiled_spared : LiveNamesAreFree → KeywordsAreSpelled → AttributesAreSpelled → (setting : Setting) (names paths : List (List ℕ)) (defs : List Def) (files : Files)
-    (compiled : Compiled) → AreFree defs → AreCompiled setting names paths defs files (Ok compiled) → SparesWords compiled.is_macro
-compiled_spared live keywords attributes setting names paths defs files compiled free (inl (state, goes, (statements, are, (work, means, is)))) =
+pub compiled_spared : LiveNamesAreFree → KeywordsAreSpelled → AttributesAreSpelled → (around : Around) (names paths : List (List ℕ)) (defs : List Def)
+    (compiled : Compiled) → AreFree defs → AreCompiled around names paths defs (Ok compiled) → SparesWords compiled.is_macro
+compiled_spared live keywords attributes around names paths defs compiled free (inl (state, goes, (statements, are, (work, means, is)))) =
     subst (λ (c : Compiled). SparesWords c.is_macro) (sym is)
-    (words_spared state.live (live files setting.tool names paths defs state free goes) keywords attributes)
-compiled_spared live keywords attributes setting names paths defs files compiled free (inr (failing, goes, is)) = absurd (not_both compiled failing is)
+    (words_spared state.live (live around.files around.setting.tool names paths defs state free goes) keywords attributes)
+compiled_spared live keywords attributes around names paths defs compiled free (inr (failing, goes, is)) = absurd (not_both compiled failing is)

@@ -1,5 +1,7 @@
 -- Statements one after the other.
 use Rattle.std.proofs.Common.{◌≡◌, inl, inr, ℕ, zero, suc, ◌-◌, ◌<◌, ◌≤◌, List, [], ◌∷◌, ◌++◌, drop, get_or, length, map, slice_get, Some, None, take, Ok, Err, refl, sym, ap, subst, ◌∙◌, arith, length-append}
+use Rattle.std.specs.Prelude.{IfSome}
+use Rattle.std.specs.declared.option.Option.{Option}
 use Rattle.std.specs.declared.result.Result.{Result}
 use Rattle.std.proofs.lemmas.List.{take_all}
 use Rattle.std.proofs.lemmas.Option.{get_or_from_slice_get, same_Some}
@@ -10,72 +12,101 @@ use Rattle.rz_core.specs.declared.resource.Resource.{Resource}
 use Rattle.rz_lex.specs.declared.token.Token.{Token}
 use Rattle.rz_core.specs.Stop.{Gives, OnFault, ◌>>=◌}
 use Rattle.rz_core.specs.declared.stop.Stop.{Stop}
-use Rattle.rz_core.specs.declared.stop.Stop.TheVariants.{Refused, NoMemory}
+use Rattle.rz_core.specs.declared.stop.Stop.TheVariants as stops
+use Rattle.rz_paths.specs.Halt.{halt_of}
+use Rattle.rz_paths.specs.declared.halt.Halt.{Halt}
+use Rattle.rz_paths.specs.declared.halt.Halt.TheVariants.{NoMemory, ReadFault, Refused}
 use Rattle.rz_pre.specs.declared.condition.Tool.{Tool}
 use Rattle.rz_pre.specs.declared.condition.Tool.TheVariants as tools
 use Rattle.rz_stmt.specs.Constants as declare
-use Rattle.rz_stmt.specs.Grammar.{mark_of, Compiles, Data, Declares, Empty, Gave, Parses}
+use Rattle.rz_stmt.specs.Grammar.{mark_of, Compiles, Data, Declares, Empty, Gave, Lists, Parses, Statement}
 use Rattle.rz_items.specs.Compile.{Compile}
+use Rattle.rz_lists.specs.Lists.{ListForm}
 use Rattle.rz_stmt.specs.Raw.{Raw}
-use Rattle.rz_tools.specs.Data.{resource_of}
+use Rattle.rz_work.specs.Data.{resource_of}
 use Rattle.rz_stmt.specs.Statements.{AreStatements}
 use Rattle.rz_statements.specs.Next.{BeginsWith}
 use Rattle.rz_lex.specs.Lexeme.{AreLexed}
-use Rattle.rz_tools.specs.ToolWords.{numbered}
+use Rattle.rz_work.specs.ToolWords.{numbered}
 use Rattle.rz_brackets.specs.declared.span.Span.{Span}
-use Rattle.rz_tools.specs.Held.{work_of}
-use Rattle.rz_tools.specs.Warning.{AreWarnings}
-use Rattle.rz_tools.specs.declared.step.Work as held
-use Rattle.rz_tools.specs.Step.{declared, list_behind, nothing_made, put_unless_protected, tokens_at, Changes, IsListBehind, IsSpan, Means, Stepped, Steps, WarnedFault, Work, Worked}
-use Rattle.rz_tools.specs.declared.setting.Setting.{Setting}
+use Rattle.rz_core.specs.Answers.{Then}
+use Rattle.rz_folder.specs.Folder.{Files}
+use Rattle.rz_work.specs.Around.{around, Around}
+use Rattle.rz_work.specs.Lists.{list_after}
+use Rattle.rz_work.specs.Put.{list_with}
+use Rattle.rz_work.specs.Work.{declared, halted, list_behind, with_list, Stepped, Went, Work}
+use Rattle.rz_tools.specs.Step.{tokens_at, Changes, IsBehind, IsListBehind, IsSpan, MakesList, Means, Steps, WarnedFault, Worked}
+use Rattle.rz_work.specs.declared.setting.Setting.{Setting}
 
 -- whatever the rest of the statements means after this, all mean so
-abbrev pub LeadsTo : Setting → List (List Token) → List (List Token) → Work → Type 0
-LeadsTo setting all rest work = (answer : Result Work WarnedFault) → Means setting work rest answer → Means setting nothing_made all answer
+abbrev pub LeadsTo : Around → Work → List (List Token) → List (List Token) → Work → Type 0
+LeadsTo around start all rest work = (answer : Result Work WarnedFault) → Means around work rest answer → Means around start all answer
 
 -- the statements of the tokens that are left lead to all of them
-abbrev pub LeadsFrom : Setting → List Token → List Token → Work → Type 0
-LeadsFrom setting tokens left work =
-    (statements : List (List Token)) → AreStatements tokens statements → (rest : List (List Token)) × AreStatements left rest × LeadsTo setting statements rest work
+abbrev pub LeadsFrom : Around → Work → List Token → List Token → Work → Type 0
+LeadsFrom around start tokens left work =
+    (statements : List (List Token)) → AreStatements tokens statements → (rest : List (List Token)) × AreStatements left rest × LeadsTo around start statements rest work
 
-module _ (setting : Setting) (tokens left after statement : List Token) (work : Work) (leads : LeadsFrom setting tokens left work)
+-- the same where the files are told, all of one setting and paths
+abbrev pub LeadsIn : Setting → List (List ℕ) → Option Files → Work → List Token → List Token → Work → Type 0
+LeadsIn setting paths told start tokens left work = IfSome told (λ files. LeadsFrom (around setting paths files) start tokens left work)
+
+module _ (setting : Setting) (paths : List (List ℕ)) (start : Work) (tokens left after statement : List Token) (work : Work)
     (first : (statements : List (List Token)) → AreStatements left statements → BeginsWith (Some statement) statements after) where
-  pub leads_on : (next : Work) → Steps setting work (map (numbered setting.tool) statement) (Ok next) → LeadsFrom setting tokens after next
-  leads_on next steps statements are =
-      let so = leads statements are in
-      let begins = first so.0 so.1 in (
-        begins.0,
-        begins.2,
-        λ answer means. so.2 answer (subst (λ (ss : List (List Token)). Means setting work ss answer) (sym begins.1) (inl (next, steps, means))),
-      )
+  module _ (files : Files) (leads : LeadsFrom (around setting paths files) start tokens left work) where
+    leads_next : (next : Work) → Steps (around setting paths files) work (map (numbered setting.tool) statement) (Ok next)
+        → LeadsFrom (around setting paths files) start tokens after next
+    leads_next next steps statements are =
+        let so = leads statements are in
+        let begins = first so.0 so.1 in (
+          begins.0,
+          begins.2,
+          λ answer means. so.2 answer (subst (λ (ss : List (List Token)). Means (around setting paths files) work ss answer) (sym begins.1) (inl (next, steps, means))),
+        )
 
-  leads_to_fault : (stopped : WarnedFault) → Steps setting work (map (numbered setting.tool) statement) (Err stopped) → (statements : List (List Token)) → AreStatements tokens statements
-      → Means setting nothing_made statements (Err stopped)
-  leads_to_fault stopped steps statements are =
-      let so = leads statements are in
-      let begins = first so.0 so.1 in
-      so.2 (Err stopped) (subst (λ (ss : List (List Token)). Means setting work ss (Err stopped)) (sym begins.1) (inr (stopped, steps, refl)))
+    leads_to_fault : (stopped : WarnedFault) → Steps (around setting paths files) work (map (numbered setting.tool) statement) (Err stopped)
+        → (statements : List (List Token)) → AreStatements tokens statements → Means (around setting paths files) start statements (Err stopped)
+    leads_to_fault stopped steps statements are =
+        let so = leads statements are in
+        let begins = first so.0 so.1 in
+        so.2 (Err stopped) (subst (λ (ss : List (List Token)). Means (around setting paths files) work ss (Err stopped)) (sym begins.1) (inr (stopped, steps, refl)))
 
-  -- a statement that stops all
-  pub leads_to_stop : (stop : Stop Fault) (end : Work) → Worked (Steps setting work (map (numbered setting.tool) statement)) (Err stop) end
-      → (statements : List (List Token)) → AreStatements tokens statements → Worked (Means setting nothing_made statements) (Err stop) end
-  leads_to_stop (Refused fault) end steps statements are = leads_to_fault (record { fault = fault; warnings = end.warnings }) steps statements are
-  leads_to_stop NoMemory end steps statements are = tt
+    -- a statement that stops all
+    leads_to_halt : (halt : Halt) (end : Work) → Worked (Steps (around setting paths files) work (map (numbered setting.tool) statement)) (Err halt) end
+        → (statements : List (List Token)) → AreStatements tokens statements → Worked (Means (around setting paths files) start statements) (Err halt) end
+    leads_to_halt (Refused fault) end steps statements are = leads_to_fault (record { fault = fault; warnings = end.warnings }) steps statements are
+    leads_to_halt ReadFault end steps statements are = tt
+    leads_to_halt NoMemory end steps statements are = tt
 
-pub leads_end : (setting : Setting) (tokens left after : List Token) (work : Work) → LeadsFrom setting tokens left work
-    → ((statements : List (List Token)) → AreStatements left statements → BeginsWith None statements after)
-    → (statements : List (List Token)) → AreStatements tokens statements → Means setting nothing_made statements (Ok work)
-leads_end setting tokens left after work leads none statements are =
-    let so = leads statements are in so.2 (Ok work) (subst (λ (ss : List (List Token)). Means setting work ss (Ok work)) (sym (none so.0 so.1)) refl)
+  -- and where the files are told as they were before
+  pub leads_on : (before mid : Option Files) → mid ≡ before → LeadsIn setting paths before start tokens left work → (next : Work)
+      → IfSome mid (λ files. Worked (Steps (around setting paths files) work (map (numbered setting.tool) statement)) (Ok tt) next)
+      → LeadsIn setting paths before start tokens after next
+  leads_on None mid same leads next steps = tt
+  leads_on (Some files) mid same leads next steps =
+      leads_next files leads next (subst (λ (o : Option Files). IfSome o (λ files. Worked (Steps (around setting paths files) work (map (numbered setting.tool) statement)) (Ok tt) next)) same steps)
 
--- nothing is made before the first
-module _ (held : held.Work) (nothing : work_of held ≡ nothing_made) where
-  pub leads_from : (setting : Setting) (tokens left : List Token) → left ≡ tokens → LeadsFrom setting tokens left (work_of held)
-  leads_from setting tokens left same statements are =
-      (statements, subst (λ (ts : List Token). AreStatements ts statements) (sym same) are, λ answer means. subst (λ (w : Work). Means setting w statements answer) nothing means)
+  pub leads_to_stop : (before mid : Option Files) → mid ≡ before → LeadsIn setting paths before start tokens left work → (halt : Halt) (end : Work)
+      → IfSome mid (λ files. Worked (Steps (around setting paths files) work (map (numbered setting.tool) statement)) (Err halt) end)
+      → IfSome before (λ files. (statements : List (List Token)) → AreStatements tokens statements → Worked (Means (around setting paths files) start statements) (Err halt) end)
+  leads_to_stop None mid same leads halt end steps = tt
+  leads_to_stop (Some files) mid same leads halt end steps =
+      leads_to_halt files leads halt end (subst (λ (o : Option Files). IfSome o (λ files. Worked (Steps (around setting paths files) work (map (numbered setting.tool) statement)) (Err halt) end)) same steps)
 
-  pub none_is_warned : (files : ℕ) → AreWarnings files held.warnings
-  none_is_warned files = subst (λ (w : Work). AreWarnings files w.warnings) (sym nothing) tt
+pub leads_end : (setting : Setting) (paths : List (List ℕ)) (start : Work) (tokens left after : List Token) (work : Work) (before : Option Files)
+    → LeadsIn setting paths before start tokens left work → ((statements : List (List Token)) → AreStatements left statements → BeginsWith None statements after)
+    → IfSome before (λ files. (statements : List (List Token)) → AreStatements tokens statements → Worked (Means (around setting paths files) start statements) (Ok tt) work)
+leads_end setting paths start tokens left after work None leads none = tt
+leads_end setting paths start tokens left after work (Some files) leads none = λ statements are.
+    let so = leads statements are in
+    so.2 (Ok work) (subst (λ (ss : List (List Token)). Means (around setting paths files) work ss (Ok work)) (sym (none so.0 so.1)) refl)
+
+-- before the first statement
+pub leads_from : (setting : Setting) (paths : List (List ℕ)) (start : Work) (tokens left : List Token) → left ≡ tokens → (before : Option Files)
+    → LeadsIn setting paths before start tokens left start
+leads_from setting paths start tokens left same None = tt
+leads_from setting paths start tokens left same (Some files) = λ statements are.
+    (statements, subst (λ (ts : List Token). AreStatements ts statements) (sym same) are, λ answer means. means)
 
 -- What holds of all tokens holds of those of a front and of the rest.
 
@@ -130,58 +161,129 @@ changes tools.DeRez list answers answer is so = absurd (cc is)
 pub rez_changes : (tool : Tool) (list : List Resource) (answers : Result (List Resource) Fault → Type 0) (result : Result (Unit {0}) (Stop Fault)) (after : List Resource)
     → tool ≡ tools.Rez → Stepped answers result after → Stepped (Changes tool list answers) result after
 rez_changes tool list answers (Ok nothing) after is so = changes tool list answers (Ok after) is so
-rez_changes tool list answers (Err (Refused fault)) after is so = changes tool list answers (Err fault) is so
-rez_changes tool list answers (Err NoMemory) after is so = tt
+rez_changes tool list answers (Err (stops.Refused fault)) after is so = changes tool list answers (Err fault) is so
+rez_changes tool list answers (Err stops.NoMemory) after is so = tt
 
 pub derez_changes : (tool : Tool) (list : List Resource) (answers : Result (List Resource) Fault → Type 0) → tool ≡ tools.DeRez → Changes tool list answers (Ok list)
 derez_changes tools.Rez list answers is = absurd (cc is)
 derez_changes tools.DeRez list answers is = refl
 
-module _ (setting : Setting) (work : Work) (ts : List Token) where
-  pub stopped : (stop : Stop Fault) → Gave (Err stop) (Parses ts) → Worked (Steps setting work ts) (Err stop) work
-  stopped (Refused fault) parsed = (inr (fault, parsed, refl), refl)
-  stopped NoMemory parsed = tt
+-- the same of a call that reads files, where they are told
+pub rez_went : (told : Option Files) (tool : Tool) (list : List Resource) (answers : Files → Result (List Resource) Fault → Type 0) (result : Result (Unit {0}) Halt) (after : List Resource)
+    → tool ≡ tools.Rez → IfSome told (λ files. Went (answers files) result after) → IfSome told (λ files. Went (Changes tool list (answers files)) result after)
+rez_went None tool list answers result after is went = tt
+rez_went (Some files) tool list answers (Ok nothing) after is went = changes tool list (answers files) (Ok after) is went
+rez_went (Some files) tool list answers (Err (Refused fault)) after is went = changes tool list (answers files) (Err fault) is went
+rez_went (Some files) tool list answers (Err ReadFault) after is went = tt
+rez_went (Some files) tool list answers (Err NoMemory) after is went = tt
 
-  pub nothing_done : Parses ts (Ok Empty) → Steps setting work ts (Ok work)
+pub derez_went : (told : Option Files) (tool : Tool) (list : List Resource) (answers : Files → Result (List Resource) Fault → Type 0)
+    → tool ≡ tools.DeRez → IfSome told (λ files. Changes tool list (answers files) (Ok list))
+derez_went None tool list answers is = tt
+derez_went (Some files) tool list answers is = derez_changes tool list (answers files) is
+
+-- what a call that reads no file gave, as one that may
+went_of : {X : Type 0} (answers : Result X Fault → Type 0) (result : Result (Unit {0}) (Stop Fault)) (after : X) → Stepped answers result after → Went answers (halted result) after
+went_of answers (Ok nothing) after done = done
+went_of answers (Err (stops.Refused fault)) after done = done
+went_of answers (Err stops.NoMemory) after done = tt
+
+module _ (around : Around) (work : Work) (ts : List Token) where
+  stopped : (stop : Stop Fault) → Gave (Err stop) (Parses ts) → Worked (Steps around work ts) (Err (halt_of stop)) work
+  stopped (stops.Refused fault) parsed = (inr (fault, parsed, refl), refl)
+  stopped stops.NoMemory parsed = tt
+
+  nothing_done : Parses ts (Ok Empty) → Steps around work ts (Ok work)
   nothing_done parsed = inl (Empty, parsed, refl)
 
-  pub raw_done : (raw : Raw) (mark : Mark) (result : Result (Unit {0}) (Stop Fault)) (after : List Resource) → Parses ts (Ok (Data raw)) → mark_of ts ≡ mark
-      → Stepped (Changes setting.tool work.list (λ answer. answer ≡ list_behind setting mark work.list raw)) result after
-      → Worked (Steps setting work ts) result (record work { list = after })
-  raw_done raw mark (Ok nothing) after parsed same done =
-      inl (Data raw, parsed, (Ok after, subst (λ (m : Mark). Changes setting.tool work.list (λ answer. answer ≡ list_behind setting m work.list raw) (Ok after)) (sym same) done, refl))
-  raw_done raw mark (Err (Refused fault)) after parsed same done =
-      (inl (Data raw, parsed, (Err fault, subst (λ (m : Mark). Changes setting.tool work.list (λ answer. answer ≡ list_behind setting m work.list raw) (Err fault)) (sym same) done, refl)), refl)
-  raw_done raw mark (Err NoMemory) after parsed same done = tt
+  -- a statement that changes the list alone
+  module _ (statement : Statement) (mark : Mark) (answers : Mark → Result (List Resource) Fault → Type 0)
+      (parsed : Parses ts (Ok statement)) (same : mark_of ts ≡ mark)
+      (behind : IsBehind around (mark_of ts) work statement ≡ MakesList around.setting work (answers (mark_of ts))) where
+    list_done : (answer : Result (List Resource) Fault) → Changes around.setting.tool work.list (answers mark) answer
+        → Then (Parses ts) (IsBehind around (mark_of ts) work) (with_list work answer)
+    list_done answer done =
+        inl (
+          statement,
+          parsed,
+          subst (λ (P : Result Work Fault → Type 0). P (with_list work answer)) (sym behind)
+              (answer, subst (λ (m : Mark). Changes around.setting.tool work.list (answers m) answer) (sym same) done, refl),
+        )
 
-  pub compiled_done : (one : Compile) (mark : Mark) (result : Result (Unit {0}) (Stop Fault)) (after : List Resource) → Parses ts (Ok (Compiles one)) → mark_of ts ≡ mark
-      → Stepped (Changes setting.tool work.list (IsListBehind setting mark work.types work.list one)) result after
-      → Worked (Steps setting work ts) result (record work { list = after })
-  compiled_done one mark (Ok nothing) after parsed same done =
-      inl (Compiles one, parsed, (Ok after, subst (λ (m : Mark). Changes setting.tool work.list (IsListBehind setting m work.types work.list one) (Ok after)) (sym same) done, refl))
-  compiled_done one mark (Err (Refused fault)) after parsed same done =
-      (inl (Compiles one, parsed, (Err fault, subst (λ (m : Mark). Changes setting.tool work.list (IsListBehind setting m work.types work.list one) (Err fault)) (sym same) done, refl)), refl)
-  compiled_done one mark (Err NoMemory) after parsed same done = tt
+    listed : (result : Result (Unit {0}) Halt) (after : List Resource) → Went (Changes around.setting.tool work.list (answers mark)) result after
+        → Worked (Steps around work ts) result (record work { list = after })
+    listed (Ok nothing) after done = list_done (Ok after) done
+    listed (Err (Refused fault)) after done = (list_done (Err fault) done, refl)
+    listed (Err ReadFault) after done = tt
+    listed (Err NoMemory) after done = tt
 
-  pub declare_done : (one : declare.Declare) (mark : Mark) (result : Result (Unit {0}) (Stop Fault)) (after : Work) → Parses ts (Ok (Declares one)) → mark_of ts ≡ mark
-      → Stepped (λ answer. answer ≡ declared setting mark work one) result after → OnFault result (λ fault. after.warnings ≡ work.warnings)
-      → Worked (Steps setting work ts) result after
-  declare_done one mark (Ok nothing) after parsed same done kept = inl (Declares one, parsed, done ∙ ap (λ m. declared setting m work one) (sym same))
-  declare_done one mark (Err (Refused fault)) after parsed same done kept =
-      (inl (Declares one, parsed, done ∙ ap (λ m. declared setting m work one) (sym same)), kept)
-  declare_done one mark (Err NoMemory) after parsed same done kept = tt
+  declare_done : (one : declare.Declare) (mark : Mark) (result : Result (Unit {0}) (Stop Fault)) (after : Work) → Parses ts (Ok (Declares one)) → mark_of ts ≡ mark
+      → Stepped (λ answer. answer ≡ declared around.setting mark work one) result after → OnFault result (λ fault. after.warnings ≡ work.warnings)
+      → Worked (Steps around work ts) (halted result) after
+  declare_done one mark (Ok nothing) after parsed same done kept = inl (Declares one, parsed, done ∙ ap (λ m. declared around.setting m work one) (sym same))
+  declare_done one mark (Err (stops.Refused fault)) after parsed same done kept =
+      (inl (Declares one, parsed, done ∙ ap (λ m. declared around.setting m work one) (sym same)), kept)
+  declare_done one mark (Err stops.NoMemory) after parsed same done kept = tt
+
+-- The same where the files are told, of what a call gave that reads no file.
+
+module _ (setting : Setting) (paths : List (List ℕ)) (work : Work) (ts : List Token) where
+  pub nothing_told : (told : Option Files) → Parses ts (Ok Empty) → IfSome told (λ files. Worked (Steps (around setting paths files) work ts) (Ok tt) work)
+  nothing_told None parsed = tt
+  nothing_told (Some files) parsed = nothing_done (around setting paths files) work ts parsed
+
+  pub stopped_told : (told : Option Files) (stop : Stop Fault) (given : Result (Unit {0}) Halt) → Gave (Err stop) (Parses ts) → given ≡ Err (halt_of stop)
+      → IfSome told (λ files. Worked (Steps (around setting paths files) work ts) given work)
+  stopped_told None stop given parsed is = tt
+  stopped_told (Some files) stop given parsed is =
+      subst (λ (r : Result (Unit {0}) Halt). Worked (Steps (around setting paths files) work ts) r work) (sym is) (stopped (around setting paths files) work ts stop parsed)
+
+  module _ (mark : Mark) (same : mark_of ts ≡ mark) (result : Result (Unit {0}) (Stop Fault)) (given : Result (Unit {0}) Halt) (is : given ≡ halted result) where
+    pub raw_told : (told : Option Files) (raw : Raw) (after : List Resource) → Parses ts (Ok (Data raw))
+        → Stepped (Changes setting.tool work.list (λ answer. answer ≡ list_behind setting mark work.list raw)) result after
+        → IfSome told (λ files. Worked (Steps (around setting paths files) work ts) given (record work { list = after }))
+    raw_told None raw after parsed done = tt
+    raw_told (Some files) raw after parsed done =
+        subst (λ (r : Result (Unit {0}) Halt). Worked (Steps (around setting paths files) work ts) r (record work { list = after })) (sym is)
+        (listed (around setting paths files) work ts (Data raw) mark (λ m answer. answer ≡ list_behind setting m work.list raw) parsed same refl (halted result) after
+        (went_of (Changes setting.tool work.list (λ answer. answer ≡ list_behind setting mark work.list raw)) result after done))
+
+    pub compiled_told : (told : Option Files) (one : Compile) (after : List Resource) → Parses ts (Ok (Compiles one))
+        → Stepped (Changes setting.tool work.list (IsListBehind setting mark work.types work.list one)) result after
+        → IfSome told (λ files. Worked (Steps (around setting paths files) work ts) given (record work { list = after }))
+    compiled_told None one after parsed done = tt
+    compiled_told (Some files) one after parsed done =
+        subst (λ (r : Result (Unit {0}) Halt). Worked (Steps (around setting paths files) work ts) r (record work { list = after })) (sym is)
+        (listed (around setting paths files) work ts (Compiles one) mark (λ m. IsListBehind setting m work.types work.list one) parsed same refl (halted result) after
+        (went_of (Changes setting.tool work.list (IsListBehind setting mark work.types work.list one)) result after done))
+
+    pub declared_told : (told : Option Files) (one : declare.Declare) (after : Work) → Parses ts (Ok (Declares one))
+        → Stepped (λ answer. answer ≡ declared setting mark work one) result after → OnFault result (λ fault. after.warnings ≡ work.warnings)
+        → IfSome told (λ files. Worked (Steps (around setting paths files) work ts) given after)
+    declared_told None one after parsed done kept = tt
+    declared_told (Some files) one after parsed done kept =
+        subst (λ (r : Result (Unit {0}) Halt). Worked (Steps (around setting paths files) work ts) r after) (sym is)
+        (declare_done (around setting paths files) work ts one mark result after parsed same done kept)
+
+  -- and of one that may read files
+  pub lists_told : (told : Option Files) (mark : Mark) → mark_of ts ≡ mark → (one : ListForm) (result : Result (Unit {0}) Halt) (after : List Resource) → Parses ts (Ok (Lists one))
+      → IfSome told (λ files. Went (Changes setting.tool work.list (λ answer. answer ≡ list_after (around setting paths files) mark work.list one)) result after)
+      → IfSome told (λ files. Worked (Steps (around setting paths files) work ts) result (record work { list = after }))
+  lists_told None mark same one result after parsed done = tt
+  lists_told (Some files) mark same one result after parsed done =
+      listed (around setting paths files) work ts (Lists one) mark (λ m answer. answer ≡ list_after (around setting paths files) m work.list one) parsed same refl result after done
 
 module _ (setting : Setting) (mark : Mark) (list : List Resource) (raw : Raw) where
   pub put_after : (resource : Resource) (result : Result (Unit {0}) (Stop Fault)) (after : List Resource) → resource_of setting mark raw ≡ Ok resource
-      → Stepped (λ answer. answer ≡ put_unless_protected mark list resource) result after
+      → Stepped (λ answer. answer ≡ list_with mark setting.over list resource) result after
       → Stepped (λ answer. answer ≡ list_behind setting mark list raw) result after
-  put_after resource (Ok nothing) after is done = done ∙ ap (λ (r : Result Resource Fault). r >>= put_unless_protected mark list) (sym is)
-  put_after resource (Err (Refused fault)) after is done = done ∙ ap (λ (r : Result Resource Fault). r >>= put_unless_protected mark list) (sym is)
-  put_after resource (Err NoMemory) after is done = tt
+  put_after resource (Ok nothing) after is done = done ∙ ap (λ (r : Result Resource Fault). r >>= list_with mark setting.over list) (sym is)
+  put_after resource (Err (stops.Refused fault)) after is done = done ∙ ap (λ (r : Result Resource Fault). r >>= list_with mark setting.over list) (sym is)
+  put_after resource (Err stops.NoMemory) after is done = tt
 
   pub no_resource : (stop : Stop Fault) → Gives (resource_of setting mark raw) (Err stop) → Stepped (λ answer. answer ≡ list_behind setting mark list raw) (Err stop) list
-  no_resource (Refused fault) is = ap (λ (r : Result Resource Fault). r >>= put_unless_protected mark list) (sym is)
-  no_resource NoMemory is = tt
+  no_resource (stops.Refused fault) is = ap (λ (r : Result Resource Fault). r >>= list_with mark setting.over list) (sym is)
+  no_resource stops.NoMemory is = tt
 
 -- each token is where all are
 pub within_at : (files : ℕ) (tokens : List Token) (k : ℕ) (token : Token) → AreWithin files tokens → slice_get tokens k ≡ Some token → token.mark.file < files

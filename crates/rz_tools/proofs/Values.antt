@@ -16,9 +16,9 @@ use Rattle.rz_show.specs.Showing.{IsStored}
 use Rattle.rz_show.specs.Statement.{attributes_of, id_term, name_part, shown_head, shown_raw, text_parts}
 use Rattle.rz_types.specs.Text.{bytes_in, bytes_of, Plain}
 use Rattle.rz_types.specs.Value.{number_of}
-use Rattle.rz_tools.specs.Data.{contents_of, most_bytes, resource_of, short_bytes}
-use Rattle.rz_tools.specs.Head.{bits_behind_all, facts_of, head_facts, id_of, name_of, short_name}
-use Rattle.rz_tools.specs.declared.setting.Setting.{Setting}
+use Rattle.rz_work.specs.Data.{contents_of, most_bytes, resource_of, short_bytes}
+use Rattle.rz_work.specs.Head.{bits_behind_all, facts_of, head_facts, id_of, name_of, short_name}
+use Rattle.rz_work.specs.declared.setting.Setting.{Setting}
 
 module _ (mark : Mark) where
   id_value : (known : Facts) (id : ℤ) → FitsSigned w16 id → number_of mark known (id_term id) ≡ Ok id

@@ -1,13 +1,16 @@
 -- The text that DeRez writes, read by Rez.
-use Rattle.std.specs.Prelude.{◌≡◌, ◌<◌, ◌≤◌, ◌^◌, ℕ, Bool, false, is_some, List, [], ◌∷◌, ◌++◌, length, Option, Some, Ok}
+use Rattle.std.specs.Prelude.{◌≡◌, ◌≤◌, ℕ, Bool, false, is_some, List, [], ◌∷◌, ◌++◌, length, Option, Some, None, Ok}
 use Rattle.std.specs.FinMap as finite
 use Rattle.std.specs.List.{AllByRecursion}
+use Rattle.std.specs.declared.result.Result.{Result}
 use Rattle.std.specs.Str.{str_to_ascii_lowercase}
 use Rattle.rz_core.specs.declared.fault.Fault.{Fault}
 use Rattle.rz_core.specs.declared.moment.Moment.{Moment}
 use Rattle.rz_core.specs.declared.resource.Resource.{Resource}
 use Rattle.rz_folder.specs.Folder.{Files}
-use Rattle.rz_fork.specs.Admit.{admitted}
+use Rattle.rz_bridge.specs.declared.file.MacFile.{MacFile}
+use Rattle.rz_files.specs.Contents.{file_in, fork_in, IsFile}
+use Rattle.rz_form.specs.declared.form.Form.{Form}
 use Rattle.rz_fork.specs.Contents.{Fork}
 use Rattle.rz_lex.specs.declared.token.Token.{Token}
 use Rattle.rz_pre.specs.Live.{Live}
@@ -15,15 +18,17 @@ use Rattle.rz_pre.specs.Program.{NamedGoes, State}
 use Rattle.rz_pre.specs.declared.condition.Tool.TheVariants as tools
 use Rattle.rz_show.specs.Statement.{shown_words}
 use Rattle.rz_stmt.specs.Statements.{AreStatements}
-use Rattle.rz_tools.specs.Data.{most_bytes}
+use Rattle.rz_work.specs.Data.{most_bytes}
+use Rattle.rz_tools.specs.Base.{new_base}
 use Rattle.rz_tools.specs.DeRez.{known_by, TypesAre}
 use Rattle.rz_tools.specs.Step.{Means}
-use Rattle.rz_tools.specs.declared.setting.Setting.{Setting}
-use Rattle.rz_tools.specs.Answer.{or_refused, written}
+use Rattle.rz_work.specs.Around.{Around}
+use Rattle.rz_answer.specs.Answer.{or_refused, written}
 use Rattle.rz_tools.specs.Program.{Answers}
-use Rattle.rz_tools.specs.Rez.{list_fork}
+use Rattle.rz_tools.specs.Output.{IsOutput}
 use Rattle.rz_tools.specs.Shown.{Known}
-use Rattle.rz_tools.specs.Sources.{said_beside, Compiled}
+use Rattle.rz_answer.specs.Warning.{said_beside}
+use Rattle.rz_tools.specs.Sources.{Compiled}
 use Rattle.rz_tools.specs.Chosen.{chosen}
 use Rattle.rz_words.specs.Command.{DeRezAsked, IsCommand, Rez, RezAsked}
 
@@ -40,8 +45,8 @@ HasMacros is_macro live = (name : List ℕ) → is_some (live (str_to_ascii_lowe
 abbrev pub MeanResources : Known → List Token → List Resource → Type 0
 MeanResources known tokens list =
     (statements : List (List Token)) × AreStatements tokens statements
-    × ((setting : Setting) (warnings : List Fault) → setting.tool ≡ tools.Rez → setting.moment ≡ known.moment
-    → Means setting (record { types = known.types; list = []; warnings = warnings }) statements
+    × ((around : Around) (warnings : List Fault) → around.setting.tool ≡ tools.Rez → around.setting.moment ≡ known.moment
+    → Means around (record { types = known.types; list = []; warnings = warnings }) statements
     (Ok (record { types = known.types; list = list; warnings = warnings })))
 
 -- a text means these resources to Rez, where so much is known: as a file of whatever name, behind whatever was read
@@ -58,23 +63,24 @@ pub record MeansAgain (known : Known) (text : List ℕ) (list : List Resource) :
 abbrev pub AreShort : List Resource → Type 0
 AreShort list = AllByRecursion (λ r. length r.bytes ≤ most_bytes) list
 
--- the answer to words that are `rez` with a file of this text as the one source, whatever else they ask for: the fork of
--- the same resources, or the first limit that such a fork passes
+-- the answer to words that are `rez` with a file of this text as the one source, whatever else they ask for but to begin
+-- with a file: the file of the same resources, or the fault of what such a file may hold
 abbrev pub CompilesAlone : List ℕ → List Resource → Type 0
 CompilesAlone text list =
-    (words : List (List ℕ)) (asked : RezAsked) (files : Files) (moment : Moment) (name : List ℕ)
-    → IsCommand words (Rez asked) → asked.files ≡ name ∷ [] → finite.get files name ≡ Some text
-    → Answers words files moment (or_refused (written asked.output) (said_beside (name ∷ []) [] (list_fork list)))
+    (words : List (List ℕ)) (asked : RezAsked) (files : Files) (moment : Moment) (name : List ℕ) (output : Result (List ℕ) Fault)
+    → IsCommand words (Rez asked) → asked.append ≡ false → asked.files ≡ name ∷ [] → finite.get files name ≡ Some text
+    → IsOutput asked moment new_base list output
+    → Answers words files moment (or_refused (written asked.output) (said_beside (name ∷ []) [] output))
 
--- bytes, as few as a file has
-abbrev pub IsFile : List ℕ → Type 0
-IsFile bytes = AllByRecursion (λ b. b < 256) bytes × (length bytes < 2 ^ 32)
+-- what bytes of a form hold has a fork of as few bytes as a file has
+abbrev pub HoldsFile : Option Form → List ℕ → Type 0
+HoldsFile form bytes = (file : MacFile) → file_in None form bytes [] ≡ Ok file → IsFile file.res_fork
 
--- where the fork's file is such a fork, the type files mean something, and behind what the output had stands a text that
--- under it means again the resources that are shown
+-- where the fork's file holds such a fork, the type files mean something, and behind what the output had stands a text
+-- that under it means again the resources that are shown
 abbrev pub ShowsAgain : Moment → DeRezAsked → Files → List ℕ → Option (List ℕ) → Type 0
 ShowsAgain moment asked files before after =
-    (bytes : List ℕ) → finite.get files asked.file ≡ Some bytes → (fork : Fork) → admitted bytes ≡ Ok fork
+    (bytes : List ℕ) → finite.get files asked.file ≡ Some bytes → (fork : Fork) → fork_in None asked.from bytes ≡ Ok fork
     → AreShort (chosen asked.only asked.skip fork.list)
     → (compiled : Compiled) × (text : List ℕ) × TypesAre moment asked files (Ok compiled) × (after ≡ Some (before ++ text))
     × MeansAgain (known_by moment compiled) text (chosen asked.only asked.skip fork.list)

@@ -1,23 +1,22 @@
 -- What `derez` means: under the types that the type files declare, the text of the fork's resources. (MPW DeRez.)
-use Rattle.std.specs.Prelude.{◌≡◌, ℕ, pos, List, [], ◌∷◌, ◌++◌, Ok, Err, Option, Some, None}
+use Rattle.std.specs.Prelude.{◌≡◌, ℕ, false, List, [], ◌∷◌, ◌++◌, Ok, Err, Option, Some, None}
 use Rattle.std.specs.declared.result.Result.{Result}
 use Rattle.std.specs.FinMap as map
 use Rattle.rz_core.specs.Answers.{Then}
 use Rattle.rz_core.specs.declared.fault.Fault.{Fault}
-use Rattle.rz_core.specs.declared.fault.Kept.TheVariants as kept
 use Rattle.rz_core.specs.declared.moment.Moment.{Moment}
 use Rattle.rz_core.specs.declared.resource.Resource.{Resource}
 use Rattle.rz_folder.specs.Folder.{Files}
-use Rattle.rz_fork.specs.Admit.{admitted}
-use Rattle.rz_fork.specs.declared.fault.ForkFault.{ForkFault}
+use Rattle.rz_files.specs.Contents.{fork_in}
 use Rattle.rz_fork.specs.Contents.{Fork}
-use Rattle.rz_pre.specs.Program.{missing_file}
+use Rattle.rz_paths.specs.Names.{missing_file}
 use Rattle.rz_pre.specs.declared.condition.Tool.TheVariants as tools
-use Rattle.rz_tools.specs.Answer.{Answer, Answered, Failing, Making, shown}
+use Rattle.rz_answer.specs.Answer.{Answer, Answered, Failing, Making, shown}
 use Rattle.rz_tools.specs.Chosen.{chosen}
 use Rattle.rz_tools.specs.Shown.{Known, Shown}
 use Rattle.rz_tools.specs.Sources.{AreCompiled, Compiled, SaidBeside}
-use Rattle.rz_tools.specs.declared.setting.Setting.{Setting}
+use Rattle.rz_work.specs.Around.{Around}
+use Rattle.rz_work.specs.declared.setting.Setting.{Setting}
 use Rattle.rz_words.specs.Command.{DeRezAsked}
 
 -- the text shows each of these resources, one behind the other
@@ -25,31 +24,31 @@ abbrev pub ShowsEach : Known → List Resource → List ℕ → Type 0
 ShowsEach known [] text = text ≡ []
 ShowsEach known (r ∷ rs) text = (front behind : List ℕ) × (text ≡ front ++ behind) × Shown known r front × ShowsEach known rs behind
 
--- a broken rule of a fork, with its offset and its value
-abbrev pub broken_rule : ForkFault → Fault
-broken_rule fault = record { number = fault.number; mark = None; kept = kept.Pair (pos fault.offset) (pos fault.value) }
-
--- the text of the resources of a fork that the words choose, or the first rule that the fork breaks
-abbrev pub HasForkText : Known → DeRezAsked → Result Fork ForkFault → Result (List ℕ) Fault → Type 0
+-- the text of the resources of a fork that the words choose, or the fault of its file
+abbrev pub HasForkText : Known → DeRezAsked → Result Fork Fault → Result (List ℕ) Fault → Type 0
 HasForkText known asked (Ok fork) answer = (text : List ℕ) × ShowsEach known (chosen asked.only asked.skip fork.list) text × (answer ≡ Ok text)
-HasForkText known asked (Err fault) answer = answer ≡ Err (broken_rule fault)
+HasForkText known asked (Err fault) answer = answer ≡ Err fault
 
--- the text of the fork that its name holds, or 101 where it holds none
+-- the text of the fork of the file that its name holds, in the form that the words give or that it has; 101 where there is
+-- none
 abbrev pub HasFileText : Known → DeRezAsked → Option (List ℕ) → Result (List ℕ) Fault → Type 0
 HasFileText known asked None answer = answer ≡ Err (missing_file None asked.file)
-HasFileText known asked (Some bytes) answer = HasForkText known asked (admitted bytes) answer
+HasFileText known asked (Some bytes) answer = HasForkText known asked (fork_in None asked.from bytes) answer
 
 -- what is known behind the type files
 abbrev pub known_by : Moment → Compiled → Known
 known_by moment compiled = record { types = compiled.work.types; is_macro = compiled.is_macro; moment = moment }
 
--- what holds for all statements: what the words ask for, and the moment
+-- what holds for all statements: what the words ask for, and the moment; no statement reads a file
 abbrev pub derez_setting : Moment → DeRezAsked → Setting
-derez_setting moment asked = record { tool = tools.DeRez; redeclare = asked.redeclare; moment = moment }
+derez_setting moment asked = record { tool = tools.DeRez; redeclare = asked.redeclare; append = false; over = false; moment = moment }
+
+abbrev pub derez_around : Moment → DeRezAsked → Files → Around
+derez_around moment asked files = record { setting = derez_setting moment asked; paths = []; files = files }
 
 -- what the type files mean
 abbrev pub TypesAre : Moment → DeRezAsked → Files → Result Compiled Failing → Type 0
-TypesAre moment asked files = AreCompiled (derez_setting moment asked) asked.files asked.paths asked.defs files
+TypesAre moment asked files = AreCompiled (derez_around moment asked files) asked.files asked.paths asked.defs
 
 -- and then the text of the fork, with the lines of the warnings
 abbrev pub HasText : Moment → DeRezAsked → Files → Compiled → Result Making Failing → Type 0

@@ -1,24 +1,22 @@
--- What the code holds of the work so far, of what sources mean, and of what is known where resources are shown.
+-- What the code holds of what sources mean, and of what is known where resources are shown.
 use Rattle.std.specs.Prelude.{ℕ, Bool, List, length, Ok, Err}
 use Rattle.std.specs.Str.{str_to_ascii_lowercase}
 use Rattle.std.specs.declared.result.Result.{Result}
 use Rattle.rz_core.specs.declared.resource.Word.{Word}
-use Rattle.rz_pre.specs.Reading.{is_among}
+use Rattle.rz_pre.specs.Program.{State}
+use Rattle.rz_pre.specs.Reading.{is_among, IsProgram}
+use Rattle.rz_pre.specs.declared.program.Program.{Program}
 use Rattle.rz_print.specs.Hidden.{hides}
-use Rattle.rz_tools.specs.Answer.{Failing}
-use Rattle.rz_tools.specs.Made.{NamesFault, SaysBefore, StopsSo}
+use Rattle.rz_answer.specs.Answer.{Failing}
+use Rattle.rz_answer.specs.Made.{NamesFault, SaysBefore, StopsSo}
 use Rattle.rz_tools.specs.Shown as shown
 use Rattle.rz_tools.specs.Sources as sources
-use Rattle.rz_tools.specs.Step as step
-use Rattle.rz_tools.specs.Warning.{AreWarnings}
-use Rattle.rz_tools.specs.declared.made.Stopped.{Stopped}
+use Rattle.rz_answer.specs.Warning.{AreWarnings}
+use Rattle.rz_answer.specs.declared.made.Stopped.{Stopped}
 use Rattle.rz_tools.specs.declared.shown.Known.{Known}
 use Rattle.rz_tools.specs.declared.sources.Compiled.{Compiled}
-use Rattle.rz_tools.specs.declared.step.Work.{Work}
+use Rattle.rz_work.specs.Held.{work_of}
 use Rattle.rz_types.specs.TypeTable.{table_of}
-
-abbrev pub work_of : Work → step.Work
-work_of work = record { types = table_of work.types; list = work.resources; warnings = work.warnings }
 
 -- a name, in whatever case, is one of these in lower case
 abbrev pub macros_held : List Word → List ℕ → Bool
@@ -39,3 +37,8 @@ CompiledSo (Err stop) answers = StopsSo stop (λ failing. answers (Err failing))
 abbrev pub AreNameable : Result Compiled Stopped → Type 0
 AreNameable (Ok compiled) = AreWarnings (length compiled.files) compiled.work.warnings
 AreNameable (Err stop) = NamesFault stop × SaysBefore stop
+
+-- what is answered holds of the program that was read
+abbrev pub ReadSo : Result Program Stopped → (Result State Failing → Type 0) → Type 0
+ReadSo (Ok program) answers = (s : State) × IsProgram program s × answers (Ok s)
+ReadSo (Err stop) answers = StopsSo stop (λ failing. answers (Err failing))

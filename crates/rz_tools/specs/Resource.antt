@@ -14,9 +14,9 @@ use Rattle.rz_items.specs.Compile.{Compile}
 use Rattle.rz_items.specs.Item.{PlainItem}
 use Rattle.rz_layout.specs.Compiled.{IsCompiled}
 use Rattle.rz_match.specs.Match.{IsMatch}
-use Rattle.rz_tools.specs.Data.{with_bytes}
-use Rattle.rz_tools.specs.Head.{facts_of}
-use Rattle.rz_tools.specs.declared.setting.Setting.{Setting}
+use Rattle.rz_work.specs.Data.{with_bytes}
+use Rattle.rz_work.specs.Head.{facts_of}
+use Rattle.rz_work.specs.declared.setting.Setting.{Setting}
 use Rattle.rz_fields.specs.declared.tree.Tree.{Tree}
 use Rattle.rz_types.specs.Field.{PlainBody}
 use Rattle.rz_types.specs.Laid.{Refusal}

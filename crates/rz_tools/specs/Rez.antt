@@ -1,50 +1,52 @@
--- What `rez` means: the fork of the resources that the sources make. (MPW Rez.)
-use Rattle.std.specs.Prelude.{ℕ, ◌<◌, ◌^◌, pos, ◌≡◌, true, List, [], Ok, Err, None}
+-- What `rez` means: the file of the resources that the sources make. (MPW Rez.)
+use Rattle.std.specs.Prelude.{◌≡◌, [], Ok, Err}
 use Rattle.std.specs.declared.result.Result.{Result}
-use Rattle.rz_core.specs.Message.{is_fault}
-use Rattle.rz_core.specs.declared.moment.Moment.{Moment}
-use Rattle.rz_core.specs.declared.resource.Resource.{Resource}
-use Rattle.rz_core.specs.declared.fault.Fault.{Fault}
-use Rattle.rz_core.specs.declared.fault.Kept.TheVariants as kept
-use Rattle.rz_folder.specs.Folder.{Files}
-use Rattle.rz_fork.specs.Image.{fork_of}
-use Rattle.rz_fork.specs.declared.fault.LimitFault.{LimitFault}
 use Rattle.rz_core.specs.Answers.{Then}
+use Rattle.rz_core.specs.declared.fault.Fault.{Fault}
+use Rattle.rz_core.specs.declared.moment.Moment.{Moment}
+use Rattle.rz_folder.specs.Folder.{Files}
+use Rattle.rz_pre.specs.Program.{State}
 use Rattle.rz_pre.specs.declared.condition.Tool.TheVariants as tools
 use Rattle.rz_words.specs.Command.{RezAsked}
-use Rattle.rz_tools.specs.Answer.{Answer, Answered, Failing, Making, written}
-use Rattle.rz_tools.specs.Sources.{AreCompiled, Compiled, SaidBeside}
-use Rattle.rz_tools.specs.declared.setting.Setting.{Setting}
+use Rattle.rz_answer.specs.Answer.{Answer, Answered, Failing, Making, written}
+use Rattle.rz_work.specs.Around.{Around}
+use Rattle.rz_work.specs.declared.setting.Setting.{Setting}
+use Rattle.rz_tools.specs.Base.{base_of, Base}
+use Rattle.rz_tools.specs.Output.{IsOutput}
+use Rattle.rz_tools.specs.Sources.{Compiled, HasWork, IsProgramOf, SaidBeside}
 
--- a length past its limit
-abbrev pub past_limit : LimitFault → Fault
-past_limit fault = record { number = fault.number; mark = None; kept = kept.Number (pos fault.length) }
-
--- a fault of a limit: the table has its number, and its length is less than 2^63
-pub record IsLimit (fault : LimitFault) : Type 0 where
-  pub number : is_fault fault.number ≡ true
-  pub length : fault.length < 2 ^ 63
-
-abbrev pub fork_or_fault : Result (List ℕ) LimitFault → Result (List ℕ) Fault
-fork_or_fault (Ok fork) = Ok fork
-fork_or_fault (Err fault) = Err (past_limit fault)
-
--- the fork of a list of resources, or the first limit that it passes
-unfoldable pub list_fork : List Resource → Result (List ℕ) Fault
-list_fork list = fork_or_fault (fork_of list 0 [])
-
--- what holds for all statements: what the words ask for, and the moment
+-- what holds for all statements: what the words ask for, the moment and the files
 abbrev pub setting_of : Moment → RezAsked → Setting
-setting_of moment asked = record { tool = tools.Rez; redeclare = asked.redeclare; moment = moment }
+setting_of moment asked = record { tool = tools.Rez; redeclare = asked.redeclare; append = asked.append; over = asked.over; moment = moment }
 
--- the fork of what the sources made, or the first limit that it passes, with the lines of the warnings
-abbrev pub HasFork : Compiled → Result Making Failing → Type 0
-HasFork compiled = SaidBeside compiled (λ fork. fork ≡ list_fork compiled.work.list)
+abbrev pub around_of : Moment → RezAsked → Files → Around
+around_of moment asked files = record { setting = setting_of moment asked; paths = asked.searches; files = files }
 
--- the fork that the sources mean, or the first fault
-abbrev pub Compiles : Setting → RezAsked → Files → Result Making Failing → Type 0
-Compiles setting asked files = Then (AreCompiled setting asked.files asked.paths asked.defs files) HasFork
+-- what there is to begin with, or its fault, before which nothing was said
+abbrev pub BeginsWith : State → Result Base Fault → Result Base Failing → Type 0
+BeginsWith program (Ok base) answer = answer ≡ Ok base
+BeginsWith program (Err fault) answer = answer ≡ Err (record { fault = fault; files = program.files; said = [] })
 
--- the fork is written, or the fault ends the run
+-- the file of what the statements made, with the lines of the warnings
+abbrev pub HasOutput : Moment → RezAsked → Base → Compiled → Result Making Failing → Type 0
+HasOutput moment asked base compiled = SaidBeside compiled (IsOutput asked moment base compiled.work.list)
+
+-- the file of what the statements of a program make, behind the resources to begin with
+abbrev pub IsMadeBehind : Moment → RezAsked → Files → State → Base → Result Making Failing → Type 0
+IsMadeBehind moment asked files program base =
+    Then (HasWork (around_of moment asked files) base.fork.list program) (HasOutput moment asked base)
+
+-- and what there is to begin with: with `-a` the file of the output's name
+abbrev pub IsMadeOf : Moment → RezAsked → Files → State → Result Making Failing → Type 0
+IsMadeOf moment asked files program =
+    Then (BeginsWith program (base_of asked files)) (IsMadeBehind moment asked files program)
+
+-- The file that the sources mean: their program, what there is to begin with, what the statements make of it, and the file of
+-- that; or the first fault of these, in this order.
+abbrev pub Compiles : Moment → RezAsked → Files → Result Making Failing → Type 0
+Compiles moment asked files =
+    Then (IsProgramOf (around_of moment asked files) asked.files asked.paths asked.defs) (IsMadeOf moment asked files)
+
+-- the file is written, or the fault ends the run
 abbrev pub AnswersRez : RezAsked → Files → Moment → Answer → Type 0
-AnswersRez asked files moment = Answered (written asked.output) (Compiles (setting_of moment asked) asked files)
+AnswersRez asked files moment = Answered (written asked.output) (Compiles moment asked files)

@@ -4,15 +4,16 @@ use Rattle.std.specs.Str.{str_to_ascii_lowercase}
 use Rattle.std.specs.declared.result.Result.{Result}
 use Rattle.rz_core.specs.Answers.{Then}
 use Rattle.rz_core.specs.declared.fault.Fault.{Fault}
-use Rattle.rz_folder.specs.Folder.{Files}
 use Rattle.rz_lex.specs.declared.token.Token.{Token}
 use Rattle.rz_pre.specs.Program.{Failure, ProgramGoes, State}
 use Rattle.rz_pre.specs.declared.program.Def.{Def}
 use Rattle.rz_stmt.specs.Statements.{AreStatements}
-use Rattle.rz_tools.specs.Answer.{Failing, Making}
-use Rattle.rz_tools.specs.Step.{nothing_made, Means, WarnedFault, Work}
-use Rattle.rz_tools.specs.Warning.{warning_lines}
-use Rattle.rz_tools.specs.declared.setting.Setting.{Setting}
+use Rattle.rz_answer.specs.Answer.{Failing, Making}
+use Rattle.rz_work.specs.Around.{Around}
+use Rattle.rz_work.specs.Work.{begun, Work}
+use Rattle.rz_tools.specs.Step.{Means, WarnedFault}
+use Rattle.rz_answer.specs.Warning.{said_beside, warning_lines}
+use Rattle.rz_core.specs.declared.resource.Resource.{Resource}
 
 -- what the statements of sources made, which names, in whatever case, are macros behind them, and the files that were opened
 pub record Compiled : Type 0 where
@@ -35,18 +36,18 @@ InProgram program answers (Err failing) =
     (stopped : WarnedFault) × answers (Err stopped)
     × (failing ≡ record { fault = stopped.fault; files = program.files; said = warning_lines program.files stopped.warnings })
 
-abbrev pub HasWork : Setting → State → Result Compiled Failing → Type 0
-HasWork setting program made =
-    (statements : List (List Token)) × AreStatements program.tokens statements × InProgram program (Means setting nothing_made statements) made
+-- what the statements of a program make, behind these resources
+abbrev pub HasWork : Around → List Resource → State → Result Compiled Failing → Type 0
+HasWork around list program made =
+    (statements : List (List Token)) × AreStatements program.tokens statements × InProgram program (Means around (begun list) statements) made
 
--- what the sources mean of these names, with these paths and definitions, or the first fault
-abbrev pub AreCompiled : Setting → List (List ℕ) → List (List ℕ) → List Def → Files → Result Compiled Failing → Type 0
-AreCompiled setting names paths defs files = Then (Unsaid (ProgramGoes files setting.tool names paths defs)) (HasWork setting)
+-- the program of the sources of these names, with these paths and definitions, or its first fault
+abbrev pub IsProgramOf : Around → List (List ℕ) → List (List ℕ) → List Def → Result State Failing → Type 0
+IsProgramOf around names paths defs = Unsaid (ProgramGoes around.files around.setting.tool names paths defs)
 
--- bytes and the lines of the warnings of these files, or a fault behind these lines
-abbrev pub said_beside : List (List ℕ) → List Fault → Result (List ℕ) Fault → Result Making Failing
-said_beside files warnings (Ok bytes) = Ok (record { bytes = bytes; said = warning_lines files warnings })
-said_beside files warnings (Err fault) = Err (record { fault = fault; files = files; said = warning_lines files warnings })
+-- what the sources mean: their program, and what its statements make of nothing; or the first fault of these
+abbrev pub AreCompiled : Around → List (List ℕ) → List (List ℕ) → List Def → Result Compiled Failing → Type 0
+AreCompiled around names paths defs = Then (IsProgramOf around names paths defs) (HasWork around [])
 
 -- what is made of the work, with the lines of its warnings
 abbrev pub SaidBeside : Compiled → (Result (List ℕ) Fault → Type 0) → Result Making Failing → Type 0

@@ -3,18 +3,16 @@ ghost use Rattle.std.specs.String.{string_bytes};
 ghost use Rattle.std.specs.FinMap as finite;
 ghost use Rattle.rz_folder.specs.OnlyReads.{OnlyReads};
 ghost use Rattle.rz_words.specs.Command.{DeRez, DeRezAsked, IsCommand, IsMisplaced};
-ghost use Rattle.rz_tools.specs.Again.{IsFile};
-ghost use Rattle.rz_tools.specs.Plan.{answer_of};
+ghost use Rattle.rz_tools.specs.Again.{HoldsFile};
+ghost use Rattle.rz_answer.specs.Plan.{answer_of};
 ghost use Rattle.rz_tools.specs.Program.{Answers};
-ghost use Rattle.rz_tools.specs.WellFormed.{AreWritable, IsWellFormed};
-ghost use Rattle.rz_tools.specs.declared.made.Unanswered.TheVariants.{NoMemory as no_memory, ReadFault};
+ghost use Rattle.rz_answer.specs.WellFormed.{AreWritable, IsWellFormed};
+ghost use Rattle.rz_answer.specs.declared.made.Unanswered.TheVariants.{NoMemory as no_memory, ReadFault};
 
+use crate::bridge::plan_bridge;
 use crate::derez::plan_derez;
-use crate::help::{help_text, version_text};
-use crate::made::Unanswered;
-use crate::outcome::Outcome;
-use crate::plan::Plan;
 use crate::rez::plan_rez;
+use rz_answer::{Outcome, Plan, Unanswered, help_text, version_text};
 use rz_core::{Moment, Stop};
 use rz_folder::Folder;
 use rz_words::{Command, definitions_are_lexed, one_command, read_words};
@@ -34,7 +32,7 @@ pub fn answer<F: Folder>(
     ensures every_usage { (position : ℕ) → IsMisplaced (map string_bytes words.now) position
         → (result ≡ Err no_memory) ⊎ IsOkAnd result (λ plan. plan.outcome ≡ Outcome.Usage (record { position = position })) }
     ensures held { (asked : DeRezAsked) → IsCommand (map string_bytes words.now) (DeRez asked)
-        → IfSome (F.files folder.old) (λ files. IfSome (finite.get files asked.file) (λ bytes. IfOk result (λ plan. plan.outcome ≡ Outcome.Done → IsFile bytes))) }
+        → IfSome (F.files folder.old) (λ files. IfSome (finite.get files asked.file) (λ bytes. IfOk result (λ plan. plan.outcome ≡ Outcome.Done → HoldsFile asked.from bytes))) }
     ensures reads { OnlyReads F.files F.read_faults F.write_faults folder.old folder.new (result ≡ Err ReadFault) }
 {
     one_command();
@@ -47,6 +45,7 @@ pub fn answer<F: Folder>(
             definitions_are_lexed();
             plan_derez(alloc, folder, &asked, moment)
         }
+        Ok(Command::Bridge(asked)) => plan_bridge(alloc, folder, &asked),
         Ok(Command::Help) => Ok(Plan::text(alloc, help_text())?),
         Ok(Command::Version) => Ok(Plan::text(alloc, version_text())?),
         Err(Stop::Refused(fault)) => Ok(Plan::misused(alloc, fault)?),

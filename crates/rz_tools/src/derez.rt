@@ -5,37 +5,34 @@ ghost use Rattle.rz_core.specs.Answers.{Meets};
 ghost use Rattle.rz_core.specs.Message.{IsNameable};
 ghost use Rattle.rz_core.specs.Stop.{OnFault};
 ghost use Rattle.rz_folder.specs.OnlyReads.{OnlyReads};
-ghost use Rattle.rz_fork.specs.Admit.{admitted, IsSayable};
+ghost use Rattle.rz_files.specs.Contents.{admit_fork, fork_in};
 ghost use Rattle.rz_pre.specs.Lexed.{HaveLexedTexts};
-ghost use Rattle.rz_pre.specs.Program.{missing_file};
-ghost use Rattle.rz_tools.specs.Again.{IsFile};
+ghost use Rattle.rz_paths.specs.Names.{missing_file};
+ghost use Rattle.rz_tools.specs.Again.{HoldsFile};
 ghost use Rattle.rz_tools.specs.Chosen.{chosen};
 ghost use Rattle.rz_core.specs.declared.moment.Moment.{Moment as MomentOf};
 ghost use Rattle.rz_tools.specs.Sources.{Compiled as CompiledOf};
-ghost use Rattle.rz_tools.specs.DeRez.{broken_rule, known_by, AnswersDeRez, HasForkText, HasText, Shows, ShowsEach};
-ghost use Rattle.rz_tools.specs.Held.{compiled_of, known_of};
-ghost use Rattle.rz_tools.specs.Made.{IsNamed, MadeSo, SaysWarnings};
-ghost use Rattle.rz_tools.specs.Plan.{answer_of, IsNoUsage};
-ghost use Rattle.rz_tools.specs.Warning.{AreWarnings};
-ghost use Rattle.rz_tools.specs.WellFormed.{AreWritable, IsWellFormed};
-ghost use Rattle.rz_tools.specs.declared.made.Stopped.TheVariants.{ReadFault};
-ghost use Rattle.rz_tools.specs.declared.made.Unanswered.TheVariants.{ReadFault as unread};
+ghost use Rattle.rz_tools.specs.DeRez.{known_by, AnswersDeRez, HasForkText, HasText, Shows, ShowsEach, TypesAre};
+ghost use Rattle.rz_tools.specs.Held.{compiled_of, known_of, AreNameable, CompiledSo};
+ghost use Rattle.rz_answer.specs.Made.{IsNamed, MadeSo, SaysWarnings};
+ghost use Rattle.rz_answer.specs.Plan.{answer_of, IsNoUsage};
+ghost use Rattle.rz_answer.specs.Warning.{AreWarnings};
+ghost use Rattle.rz_answer.specs.WellFormed.{AreWritable, IsWellFormed};
+ghost use Rattle.rz_answer.specs.declared.made.Stopped.TheVariants.{ReadFault};
+ghost use Rattle.rz_answer.specs.declared.made.Unanswered.TheVariants.{ReadFault as unread};
 ghost use Rattle.rz_words.specs.Item.{derez};
 
 use crate::chosen::is_chosen;
-use crate::made::{Made, Stopped, Unanswered};
-use crate::outcome::Outcome;
-use crate::plan::Plan;
-use crate::setting::Setting;
 use crate::shown::{Known, show};
-use crate::sources::{Compiled, compile_sources};
-use crate::step::{Faults, Work};
-use crate::warning::say_beside;
-use rz_core::{Bytes, Fault, FileNames, Kept, Moment, NoMemory, Resource, Resources, Stop};
+use crate::sources::{Compiled, compile_program, read_program};
+use rz_answer::{Faults, Made, Outcome, Plan, Stopped, Unanswered, say_beside};
+use rz_core::{Bytes, Fault, FileNames, Moment, NoMemory, Resource, Resources, Stop};
+use rz_files::{admit_fork, file_in};
 use rz_folder::{Folder, Read};
-use rz_fork::{ForkFault, read_fork};
+use rz_paths::missing_file;
 use rz_pre::Tool;
 use rz_words::DeRezWords;
+use rz_work::{Setting, Work};
 use std::alloc::Global;
 
 /// The answer to the words of `derez`: under what the type files declare, the text of the resources of the fork whose
@@ -53,7 +50,7 @@ pub fn plan_derez<F: Folder>(
     ensures writable { IfOk result (λ plan. AreWritable (answer_of plan).writes) }
     ensures no_usage { IfOk result (λ plan. IsNoUsage plan.outcome) }
     ensures held { IfSome (F.files folder.old) (λ files. IfSome (map.get files (string_bytes words.now.file)) (λ bytes.
-        IfOk result (λ plan. plan.outcome ≡ Outcome.Done → IsFile bytes))) }
+        IfOk result (λ plan. plan.outcome ≡ Outcome.Done → HoldsFile words.now.from bytes))) }
     ensures reads { OnlyReads F.files F.read_faults F.write_faults folder.old folder.new (result ≡ Err unread) }
 {
     match read_and_show(alloc, folder, words, moment) {
@@ -71,25 +68,52 @@ fn read_and_show<F: Folder>(
 ) -> Result<Made, Stopped>
     requires { HaveLexedTexts words.now.defs }
     ensures text { IfSome (F.files folder.old) (λ files. MadeSo result (Shows moment (derez words.now) files)) }
-    ensures held { IfSome (F.files folder.old) (λ files. IfSome (map.get files (string_bytes words.now.file)) (λ bytes. IfOk result (λ _. IsFile bytes))) }
+    ensures held { IfSome (F.files folder.old) (λ files. IfSome (map.get files (string_bytes words.now.file)) (λ bytes. IfOk result (λ _. HoldsFile words.now.from bytes))) }
     ensures nameable { IsNamed result }
     ensures warned { SaysWarnings result }
+    ensures reads { OnlyReads F.files F.read_faults F.write_faults folder.old folder.new (result ≡ Err ReadFault) }
+{
+    match compile_types(alloc, folder, words, moment) {
+        Ok(compiled) => show_under(alloc, folder, words, compiled, moment),
+        Err(stop) => Err(stop),
+    }
+}
+
+/// What the type files mean.
+fn compile_types<F: Folder>(
+    alloc: Global,
+    folder: &mut F,
+    words: &DeRezWords,
+    moment: Moment,
+) -> Result<Compiled, Stopped>
+    requires { HaveLexedTexts words.now.defs }
+    ensures compiled { IfSome (F.files folder.old) (λ files. CompiledSo result (TypesAre moment (derez words.now) files)) }
+    ensures nameable { AreNameable result }
     ensures reads { OnlyReads F.files F.read_faults F.write_faults folder.old folder.new (result ≡ Err ReadFault) }
 {
     let setting = Setting {
         tool: Tool::DeRez,
         redeclare: words.redeclare,
+        append: false,
+        over: false,
         moment,
     };
-    match compile_sources(
+    match read_program(
         alloc,
         folder,
+        Tool::DeRez,
         &words.files,
         &words.paths,
         &words.defs,
-        setting,
     ) {
-        Ok(compiled) => show_under(alloc, folder, words, compiled, moment),
+        Ok(program) => compile_program(
+            alloc,
+            folder,
+            &FileNames::new(alloc),
+            program,
+            Resources::new(alloc),
+            setting,
+        ),
         Err(stop) => Err(stop),
     }
 }
@@ -104,7 +128,7 @@ fn show_under<F: Folder>(
 ) -> Result<Made, Stopped>
     requires { AreWarnings (length compiled.files) compiled.work.warnings }
     ensures text { IfSome (F.files folder.old) (λ files. MadeSo result (HasText moment (derez words.now) files (compiled_of compiled))) }
-    ensures held { IfSome (F.files folder.old) (λ files. IfSome (map.get files (string_bytes words.now.file)) (λ bytes. IfOk result (λ _. IsFile bytes))) }
+    ensures held { IfSome (F.files folder.old) (λ files. IfSome (map.get files (string_bytes words.now.file)) (λ bytes. IfOk result (λ _. HoldsFile words.now.from bytes))) }
     ensures nameable { IsNamed result }
     ensures warned { SaysWarnings result }
     ensures reads { OnlyReads F.files F.read_faults F.write_faults folder.old folder.new (result ≡ Err ReadFault) }
@@ -137,7 +161,7 @@ fn show_file<F: Folder>(
     requires { AreWarnings (length files) warnings.now }
     ensures text { (moment : MomentOf) (compiled : CompiledOf) → compiled.files ≡ files → compiled.work.warnings ≡ warnings.now → known_of known.now ≡ known_by moment compiled
         → IfSome (F.files folder.old) (λ held. MadeSo result (HasText moment (derez words.now) held compiled)) }
-    ensures held { IfSome (F.files folder.old) (λ files. IfSome (map.get files (string_bytes words.now.file)) (λ bytes. IfOk result (λ _. IsFile bytes))) }
+    ensures held { IfSome (F.files folder.old) (λ files. IfSome (map.get files (string_bytes words.now.file)) (λ bytes. IfOk result (λ _. HoldsFile words.now.from bytes))) }
     ensures nameable { IsNamed result }
     ensures warned { SaysWarnings result }
     ensures reads { OnlyReads F.files F.read_faults F.write_faults folder.old folder.new (result ≡ Err ReadFault) }
@@ -146,7 +170,7 @@ fn show_file<F: Folder>(
     match folder.read(alloc, name) {
         Read::Bytes(bytes) => say_beside(
             alloc,
-            text_of(alloc, bytes.as_slice(), words, known),
+            text_of(alloc, bytes, words, known),
             warnings,
             files,
         ),
@@ -161,30 +185,38 @@ fn no_file(alloc: Global, name: &str) -> Result<Bytes, Stop<Fault>>
     ensures missing { Meets result (λ answer. answer ≡ Err (missing_file None name.now)) }
     ensures nameable { (files : ℕ) → OnFault result (IsNameable files) }
 {
-    Err(Stop::Refused(Fault {
-        number: 101,
-        mark: None,
-        kept: Kept::Name(Bytes::of(alloc, name.as_bytes())?),
-    }))
+    Err(Stop::Refused(missing_file(alloc, None, name.as_bytes())?))
 }
 
-/// The text of the resources of a fork that the words choose, or the first rule that the fork breaks.
+/// The text of the resources of the fork in bytes that the words choose, or the fault of their form or their fork.
 fn text_of(
     alloc: Global,
-    bytes: &[u8],
+    bytes: Bytes,
     words: &DeRezWords,
     known: &Known,
 ) -> Result<Bytes, Stop<Fault>>
-    requires { length bytes.now < 2 ^ 32 }
-    ensures text { Meets result (HasForkText (known_of known.now) (derez words.now) (admitted bytes.now)) }
-    ensures held { IsFile bytes.now }
+    requires { length bytes < 2 ^ 32 }
+    ensures text { Meets result (HasForkText (known_of known.now) (derez words.now) (fork_in None words.now.from bytes)) }
+    ensures held { IfOk result (λ _. HoldsFile words.now.from bytes) }
     ensures nameable { (files : ℕ) → OnFault result (IsNameable files) }
 {
-    match read_fork(alloc, bytes) {
-        Ok(fork) => Ok(show_list(alloc, &fork.list, words, known)?),
-        Err(Stop::Refused(fault)) => Err(Stop::Refused(broken_rule(fault))),
-        Err(Stop::NoMemory) => Err(Stop::NoMemory),
-    }
+    let file = file_in(alloc, words.from, bytes, Bytes::new(alloc), None)?;
+    text_of_fork(alloc, file.res_fork.as_slice(), words, known)
+}
+
+/// The text of the resources of a fork that the words choose, or its fault.
+fn text_of_fork(
+    alloc: Global,
+    fork: &[u8],
+    words: &DeRezWords,
+    known: &Known,
+) -> Result<Bytes, Stop<Fault>>
+    requires { length fork.now < 2 ^ 32 }
+    ensures text { Meets result (HasForkText (known_of known.now) (derez words.now) (admit_fork None fork.now)) }
+    ensures nameable { (files : ℕ) → OnFault result (IsNameable files) }
+{
+    let fork = admit_fork(alloc, fork, None)?;
+    Ok(show_list(alloc, &fork.list, words, known)?)
 }
 
 /// The text of the resources of a list that the words choose, in order.
@@ -218,18 +250,5 @@ fn show_chosen(
         show(alloc, resource, known, into)
     } else {
         Ok(())
-    }
-}
-
-/// The fault of a rule that a fork breaks.
-fn broken_rule(fault: ForkFault) -> Fault
-    requires { IsSayable fault }
-    ensures fault { result ≡ broken_rule fault }
-    ensures nameable { (files : ℕ) → IsNameable files result }
-{
-    Fault {
-        number: fault.number,
-        mark: None,
-        kept: Kept::Pair(fault.offset as i64, i64::from(fault.value)),
     }
 }

@@ -1,25 +1,25 @@
-ghost use Rattle.std.specs.Prelude.{◌≡◌, ◌⊎◌, List, [], ℕ, Ok};
+ghost use Rattle.std.specs.Prelude.{◌≡◌, List, [], ℕ, Ok};
 ghost use Rattle.rz_core.specs.declared.moment.Moment.{Moment};
 ghost use Rattle.rz_folder.specs.Folder.{Files};
 ghost use Rattle.rz_fork.specs.Admit.{admitted};
 ghost use Rattle.rz_fork.specs.Contents.{Fork};
 ghost use Rattle.rz_core.specs.declared.resource.OsType.{OsType};
-ghost use Rattle.rz_tools.specs.Again.{AreShort, CompilesAlone, IsFile, MeansAgain, SparesWords};
-ghost use Rattle.rz_tools.specs.Answer.{Answer};
+ghost use Rattle.rz_files.specs.Contents.{IsFile};
+ghost use Rattle.rz_tools.specs.Again.{AreShort, CompilesAlone, MeansAgain, SparesWords};
+ghost use Rattle.rz_answer.specs.Answer.{Answer};
 ghost use Rattle.rz_tools.specs.Chosen.{chosen};
 ghost use Rattle.rz_tools.specs.DeRez.{ShowsEach};
 ghost use Rattle.rz_tools.specs.Shown.{Known};
 ghost use Rattle.rz_tools.specs.Sources.{AreCompiled, Compiled};
-ghost use Rattle.rz_tools.specs.declared.setting.Setting.{Setting};
+ghost use Rattle.rz_work.specs.Around.{Around};
 ghost use Rattle.rz_pre.specs.Definitions.{AreFree};
 ghost use Rattle.rz_pre.specs.declared.program.Def.{Def};
-ghost use Rattle.rz_tools.specs.Program.{Answers, CarriesOut};
-ghost use Rattle.rz_tools.specs.World.{ReadFailed, World, WriteFailed};
-ghost use Rattle.rz_tools.specs.declared.outcome.Outcome.{Outcome};
-ghost use Rattle.rz_tools.specs.declared.outcome.Outcome.TheVariants.{Done, NoMemory};
+ghost use Rattle.rz_tools.specs.Program.{Answers};
 
 use rz_expr::{attribute_words_are_spelled, keywords_are_spelled};
+use rz_files::one_named_file;
 use rz_fork::admitted_forks_fit;
+use rz_form::one_data_file;
 use rz_layout::one_spelling;
 use rz_match::one_match;
 use rz_pre::{live_names_are_free, one_program};
@@ -40,21 +40,16 @@ pub fn one_answer()
     one_match();
     one_spelling();
     one_plain_row();
+    one_named_file();
+    one_data_file();
     one_command();
 }
-
-/// A law, with nothing to run: a run that carries out an answer ends as the answer does, unless memory was refused, a
-/// read failed, or, where the answer is Done, a write failed.
-pub fn answers_are_carried_out()
-    ensures { (answer : Answer) (before after : World) (result : Outcome) → CarriesOut answer before after result
-        → (result ≡ answer.outcome) ⊎ (result ≡ NoMemory) ⊎ ReadFailed before after ⊎ ((answer.outcome ≡ Done) × WriteFailed before after) }
-{}
 
 /// A law, with nothing to run: no reserved word is a macro behind sources, if the definitions before them are of none: so
 /// no word of statements and attributes is.
 pub fn reserved_words_are_spared()
-    ensures { (setting : Setting) (names paths : List (List ℕ)) (defs : List Def) (files : Files) (compiled : Compiled) → AreFree defs
-        → AreCompiled setting names paths defs files (Ok compiled) → SparesWords compiled.is_macro }
+    ensures { (around : Around) (names paths : List (List ℕ)) (defs : List Def) (compiled : Compiled) → AreFree defs
+        → AreCompiled around names paths defs (Ok compiled) → SparesWords compiled.is_macro }
 {
     live_names_are_free();
     keywords_are_spelled();

@@ -1,18 +1,16 @@
 ghost use Rattle.std.specs.Prelude.{◌≡◌, ◌⊎◌, ℕ, List, map, IfSome};
 ghost use Rattle.std.specs.String.{string_bytes};
 ghost use Rattle.rz_tools.specs.Again.{ShowsAgain};
-ghost use Rattle.rz_tools.specs.Answer.{Answer};
-ghost use Rattle.rz_tools.specs.Program.{Answers, CarriesOut, IsAnswered};
-ghost use Rattle.rz_tools.specs.World.{world};
-ghost use Rattle.rz_tools.specs.WellFormed.{IsWellFormed};
+ghost use Rattle.rz_answer.specs.Answer.{Answer};
+ghost use Rattle.rz_tools.specs.Program.{Answers};
+ghost use Rattle.rz_answer.specs.Carried.{CarriesOut, IsAnswered};
+ghost use Rattle.rz_answer.specs.World.{world};
+ghost use Rattle.rz_answer.specs.WellFormed.{IsWellFormed};
 ghost use Rattle.rz_words.specs.Command.{DeRez, DeRezAsked, IsCommand, IsMisplaced};
 
-use crate::Outcome;
 use crate::answer::answer;
-use crate::carry::{carry_out, put_line};
 use crate::laws::{one_answer, reserved_words_are_spared, shown_forks_are_read_again};
-use crate::made::Unanswered;
-use crate::message::{NO_MEMORY, READ_FAULT};
+use rz_answer::{NO_MEMORY, Outcome, READ_FAULT, Unanswered, carry_out, put_line};
 use rz_core::Moment;
 use rz_folder::{Folder, Sink};
 use rz_words::{definitions_are_free, one_command};

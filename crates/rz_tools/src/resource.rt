@@ -13,14 +13,12 @@ ghost use Rattle.rz_types.specs.Table.{found};
 ghost use Rattle.rz_types.specs.Template.{template_of};
 ghost use Rattle.rz_types.specs.TypeTable.{table_of};
 
-use crate::data::with_bytes;
-use crate::head::facts_of;
-use crate::setting::Setting;
 use rz_core::{Bytes, Facts, Fault, Kept, Mark, Resource, Stop};
 use rz_layout::{LayFault, compile};
 use rz_match::match_items;
 use rz_stmt::{CompileStmt, Items};
 use rz_types::{Row, Template, TypeTable};
+use rz_work::{Setting, facts_of, with_bytes};
 use std::alloc::Global;
 
 /// The resource of a `resource` statement on this line: the values of its head; then 202 (kept: the type and the id)

@@ -1,34 +1,39 @@
-ghost use Rattle.std.specs.Prelude.{◌≡◌, [], ◌<◌, ◌^◌, ℕ, length, IfSome, IfOk, Err};
-ghost use Rattle.rz_core.specs.Message.{IsNameable};
+ghost use Rattle.std.specs.Prelude.{◌≡◌, ◌≤◌, [], ◌<◌, ◌^◌, List, length, IfSome, IfOk, Err};
+ghost use Rattle.rz_answer.specs.Made.{IsNamed, MadeSo, SaysWarnings};
+ghost use Rattle.rz_answer.specs.Plan.{answer_of, IsNoUsage};
+ghost use Rattle.rz_answer.specs.Warning.{AreWarnings};
+ghost use Rattle.rz_answer.specs.WellFormed.{AreWritable, IsWellFormed};
+ghost use Rattle.rz_answer.specs.declared.made.Stopped.TheVariants.{ReadFault};
+ghost use Rattle.rz_answer.specs.declared.made.Unanswered.TheVariants.{ReadFault as unread};
 ghost use Rattle.rz_core.specs.Resources.{KeysDiffer};
-ghost use Rattle.rz_core.specs.Stop.{Gives, OnFault};
-ghost use Rattle.rz_fork.specs.Image.{AreNamed};
-ghost use Rattle.rz_pre.specs.Lexed.{HaveLexedTexts};
-ghost use Rattle.rz_words.specs.Item.{rez};
-ghost use Rattle.rz_tools.specs.Held.{compiled_of};
-ghost use Rattle.rz_tools.specs.Warning.{AreWarnings};
-ghost use Rattle.rz_tools.specs.Made.{IsNamed, MadeSo, SaysWarnings};
 ghost use Rattle.rz_folder.specs.OnlyReads.{OnlyReads};
-ghost use Rattle.rz_tools.specs.Plan.{answer_of, IsNoUsage};
-ghost use Rattle.rz_tools.specs.WellFormed.{AreWritable, IsWellFormed};
-ghost use Rattle.rz_tools.specs.declared.made.Unanswered.TheVariants.{ReadFault as unread};
-ghost use Rattle.rz_tools.specs.Rez.{list_fork, past_limit, setting_of, AnswersRez, Compiles, HasFork, IsLimit};
-ghost use Rattle.rz_tools.specs.declared.made.Stopped.TheVariants.{ReadFault};
+ghost use Rattle.rz_lex.specs.Lexeme.{AreLexed};
+ghost use Rattle.rz_lex.specs.Within.{AreWithin};
+ghost use Rattle.rz_pre.specs.Lexed.{HaveLexedTexts};
+ghost use Rattle.rz_pre.specs.Program.{State};
+ghost use Rattle.rz_pre.specs.Reading.{IsProgram};
+ghost use Rattle.rz_set.specs.ResSet.{AreNamed};
+ghost use Rattle.rz_words.specs.Item.{rez};
+ghost use Rattle.rz_core.specs.declared.resource.Resource.{Resource};
+ghost use Rattle.rz_tools.specs.Base.{base_with, begun_of};
+ghost use Rattle.rz_tools.specs.Held.{compiled_of};
+ghost use Rattle.rz_tools.specs.Rez.{AnswersRez, Compiles, HasOutput, IsMadeBehind, IsMadeOf};
 
-use crate::made::{Made, Stopped, Unanswered};
-use crate::plan::Plan;
-use crate::setting::Setting;
-use crate::sources::{Compiled, compile_sources};
-use crate::step::Work;
-use crate::warning::say_beside;
-use rz_core::{Bytes, Fault, Kept, Moment, Resources, Stop};
+use crate::base::{Base, Beginning, read_base};
+use crate::output::write_output;
+use crate::sources::{Compiled, compile_program, read_program};
+use rz_answer::{Made, Plan, Stopped, Unanswered, say_beside};
+use rz_core::{Bytes, Moment};
 use rz_folder::Folder;
-use rz_fork::{LimitFault, write_fork};
-use rz_pre::Tool;
+use rz_paths::Halt;
+use rz_pre::{Program, Tool};
 use rz_words::RezWords;
+use rz_work::{Setting, Work};
 use std::alloc::Global;
 
-/// The answer to the words of `rez`: the sources that they name are compiled into a raw fork, which is to be written.
+/// The answer to the words of `rez`: the sources that they name are compiled into a resource fork, behind what there is to begin
+/// with, and its file is to be written. The sources are read first, then the file to begin with, then the files of
+/// statements.
 pub fn plan_rez<F: Folder>(
     alloc: Global,
     folder: &mut F,
@@ -48,7 +53,7 @@ pub fn plan_rez<F: Folder>(
     }
 }
 
-/// The fork that the sources mean, or what stopped the command.
+/// The file that the sources mean, or what stopped the command.
 fn compile<F: Folder>(
     alloc: Global,
     folder: &mut F,
@@ -56,7 +61,66 @@ fn compile<F: Folder>(
     moment: Moment,
 ) -> Result<Made, Stopped>
     requires { HaveLexedTexts words.now.defs }
-    ensures fork { IfSome (F.files folder.old) (λ files. MadeSo result (Compiles (setting_of moment (rez words.now)) (rez words.now) files)) }
+    ensures made { IfSome (F.files folder.old) (λ files. MadeSo result (Compiles moment (rez words.now) files)) }
+    ensures nameable { IsNamed result }
+    ensures warned { SaysWarnings result }
+    ensures short { IfOk result (λ made. length made.bytes < 2 ^ 32) }
+    ensures reads { OnlyReads F.files F.read_faults F.write_faults folder.old folder.new (result ≡ Err ReadFault) }
+{
+    match read_program(
+        alloc,
+        folder,
+        Tool::Rez,
+        &words.files,
+        &words.paths,
+        &words.defs,
+    ) {
+        Ok(program) => compile_from_base(alloc, folder, words, program, moment),
+        Err(stop) => Err(stop),
+    }
+}
+
+/// The file that a program means, behind what there is to begin with.
+fn compile_from_base<F: Folder>(
+    alloc: Global,
+    folder: &mut F,
+    words: &RezWords<'_>,
+    program: Program,
+    moment: Moment,
+) -> Result<Made, Stopped>
+    requires within { AreWithin (length program.files) program.tokens }
+    requires lexed { AreLexed program.tokens }
+    ensures made { IfSome (F.files folder.old) (λ files. (s : State) → IsProgram program s → MadeSo result (IsMadeOf moment (rez words.now) files s)) }
+    ensures nameable { IsNamed result }
+    ensures warned { SaysWarnings result }
+    ensures short { IfOk result (λ made. length made.bytes < 2 ^ 32) }
+    ensures reads { OnlyReads F.files F.read_faults F.write_faults folder.old folder.new (result ≡ Err ReadFault) }
+{
+    match read_base(alloc, folder, words) {
+        Ok(begun) => compile_behind(alloc, folder, words, program, begun, moment),
+        Err(Halt::Refused(fault)) => {
+            Err(Stopped::Refused(fault, program.files, Bytes::new(alloc)))
+        }
+        Err(Halt::ReadFault) => Err(Stopped::ReadFault),
+        Err(Halt::NoMemory) => Err(Stopped::NoMemory),
+    }
+}
+
+/// The file that a program means, behind this.
+fn compile_behind<F: Folder>(
+    alloc: Global,
+    folder: &mut F,
+    words: &RezWords<'_>,
+    program: Program,
+    begun: Beginning,
+    moment: Moment,
+) -> Result<Made, Stopped>
+    requires within { AreWithin (length program.files) program.tokens }
+    requires lexed { AreLexed program.tokens }
+    requires keys { KeysDiffer [] begun.list }
+    requires named { AreNamed begun.list }
+    requires room { length begun.base.reserved ≤ 240 }
+    ensures made { IfSome (F.files folder.old) (λ files. (s : State) → IsProgram program s → MadeSo result (IsMadeBehind moment (rez words.now) files s (begun_of begun))) }
     ensures nameable { IsNamed result }
     ensures warned { SaysWarnings result }
     ensures short { IfOk result (λ made. length made.bytes < 2 ^ 32) }
@@ -65,25 +129,28 @@ fn compile<F: Folder>(
     let setting = Setting {
         tool: Tool::Rez,
         redeclare: words.redeclare,
+        append: words.append,
+        over: words.over,
         moment,
     };
-    match compile_sources(
-        alloc,
-        folder,
-        &words.files,
-        &words.paths,
-        &words.defs,
-        setting,
-    ) {
-        Ok(compiled) => write_compiled(alloc, compiled),
+    let Beginning { base, list } = begun;
+    match compile_program(alloc, folder, &words.searches, program, list, setting) {
+        Ok(compiled) => write_compiled(alloc, words, base, compiled, moment),
         Err(stop) => Err(stop),
     }
 }
 
-/// The fork of what the sources made.
-fn write_compiled(alloc: Global, compiled: Compiled) -> Result<Made, Stopped>
-    requires { AreWarnings (length compiled.files) compiled.work.warnings }
-    ensures fork { MadeSo result (HasFork (compiled_of compiled)) }
+/// The file of what the sources made.
+fn write_compiled(
+    alloc: Global,
+    words: &RezWords<'_>,
+    base: Base,
+    compiled: Compiled,
+    moment: Moment,
+) -> Result<Made, Stopped>
+    requires warnings { AreWarnings (length compiled.files) compiled.work.warnings }
+    requires room { length base.reserved ≤ 240 }
+    ensures made { (others : List Resource) → MadeSo result (HasOutput moment (rez words.now) (base_with base others) (compiled_of compiled)) }
     ensures nameable { IsNamed result }
     ensures warned { SaysWarnings result }
     ensures short { IfOk result (λ made. length made.bytes < 2 ^ 32) }
@@ -96,34 +163,10 @@ fn write_compiled(alloc: Global, compiled: Compiled) -> Result<Made, Stopped>
         ..
     } = work;
     let list = resources.into_list(alloc)?;
-    say_beside(alloc, write_list(alloc, &list), &warnings, files)
-}
-
-/// The fork of a list of resources.
-#[tactic(auto, unfolding(crate::specs::Rez::list_fork))]
-fn write_list(alloc: Global, list: &Resources) -> Result<Bytes, Stop<Fault>>
-    requires keys { KeysDiffer [] list.now }
-    requires named { AreNamed list.now }
-    ensures fork { Gives (list_fork list.now) result }
-    ensures nameable { (files : ℕ) → OnFault result (IsNameable files) }
-    ensures short { IfOk result (λ fork. length fork < 2 ^ 32) }
-{
-    match write_fork(alloc, list, 0, &[]) {
-        Ok(fork) => Ok(fork),
-        Err(Stop::Refused(fault)) => Err(Stop::Refused(past_limit(fault))),
-        Err(Stop::NoMemory) => Err(Stop::NoMemory),
-    }
-}
-
-/// The fault of a length that is past its limit.
-fn past_limit(fault: LimitFault) -> Fault
-    requires { IsLimit fault }
-    ensures fault { result ≡ past_limit fault }
-    ensures nameable { (files : ℕ) → IsNameable files result }
-{
-    Fault {
-        number: fault.number,
-        mark: None,
-        kept: Kept::Number(fault.length as i64),
-    }
+    say_beside(
+        alloc,
+        write_output(alloc, words, base, &list, moment),
+        &warnings,
+        files,
+    )
 }

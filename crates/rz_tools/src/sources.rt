@@ -1,25 +1,26 @@
-ghost use Rattle.std.specs.Prelude.{◌≡◌, List, length, Err, IfSome};
+ghost use Rattle.std.specs.Prelude.{◌≡◌, [], length, Err, IfErr, IfOk, IfSome};
+ghost use Rattle.rz_answer.specs.Made.{NamesFault, SaysBefore};
+ghost use Rattle.rz_answer.specs.declared.made.Stopped.TheVariants.{ReadFault};
+ghost use Rattle.rz_core.specs.Resources.{KeysDiffer};
 ghost use Rattle.rz_folder.specs.OnlyReads.{OnlyReads};
 ghost use Rattle.rz_lex.specs.Lexeme.{AreLexed};
 ghost use Rattle.rz_lex.specs.Within.{AreWithin};
-ghost use Rattle.rz_lex.specs.declared.token.Token.{Token};
 ghost use Rattle.rz_pre.specs.Lexed.{HaveLexedTexts};
-ghost use Rattle.rz_pre.specs.Program.{State};
+ghost use Rattle.rz_pre.specs.Program.{ProgramGoes, State};
 ghost use Rattle.rz_pre.specs.Reading.{IsProgram};
-ghost use Rattle.rz_stmt.specs.Statements.{AreStatements};
-ghost use Rattle.rz_tools.specs.Held.{AreNameable, CompiledSo};
-ghost use Rattle.rz_tools.specs.Sources.{AreCompiled, InProgram};
-ghost use Rattle.rz_tools.specs.Step.{nothing_made, Means};
-ghost use Rattle.rz_tools.specs.declared.made.Stopped.TheVariants.{ReadFault};
+ghost use Rattle.rz_set.specs.ResSet.{AreNamed};
+ghost use Rattle.rz_work.specs.Around.{around};
+ghost use Rattle.rz_tools.specs.Held.{AreNameable, CompiledSo, ReadSo};
+ghost use Rattle.rz_tools.specs.Sources.{HasWork, Unsaid};
 
-use crate::made::Stopped;
-use crate::setting::Setting;
-use crate::step::{Work, compile_statements};
-use crate::warning::refusal;
-use rz_core::{Bytes, FileNames, Stop, Words};
+use crate::step::compile_statements;
+use rz_answer::{Stopped, refusal};
+use rz_core::{Bytes, FileNames, Resources, Words};
 use rz_folder::Folder;
-use rz_pre::{Defs, PreFault, Program, preprocess};
+use rz_paths::Halt;
+use rz_pre::{Defs, PreFault, Program, Tool, preprocess};
 use rz_stmt::all_tokens_are_statements;
+use rz_work::{Setting, Work};
 use std::alloc::Global;
 
 /// What sources mean.
@@ -33,24 +34,24 @@ pub struct Compiled {
     pub files: FileNames,
 }
 
-/// What the sources mean of these names: their program, as the tool of the setting reads it, and what its statements
-/// make; or what stopped the command, with the lines of what was warned of before. No file changes.
-pub fn compile_sources<F: Folder>(
+/// The program of the sources of these names, as the tool reads it, or what stopped the command. No file changes.
+pub fn read_program<F: Folder>(
     alloc: Global,
     folder: &mut F,
+    tool: Tool,
     names: &FileNames,
     paths: &FileNames,
     defs: &Defs,
-    setting: Setting,
-) -> Result<Compiled, Stopped>
+) -> Result<Program, Stopped>
     requires { HaveLexedTexts defs.now }
-    ensures compiled { IfSome (F.files folder.old) (λ files. CompiledSo result (AreCompiled setting names.now paths.now defs.now files)) }
-    ensures nameable { AreNameable result }
+    ensures read { IfSome (F.files folder.old) (λ files. ReadSo result (Unsaid (ProgramGoes files tool names.now paths.now defs.now))) }
+    ensures nameable { IfErr result (λ stop. NamesFault stop × SaysBefore stop) }
+    ensures within { IfOk result (λ program. AreWithin (length program.files) program.tokens) }
+    ensures lexed { IfOk result (λ program. AreLexed program.tokens) }
     ensures reads { OnlyReads F.files F.read_faults F.write_faults folder.old folder.new (result ≡ Err ReadFault) }
 {
-    all_tokens_are_statements();
-    match preprocess(alloc, folder, setting.tool, names, paths, defs) {
-        Ok(program) => compile_program(alloc, program, setting),
+    match preprocess(alloc, folder, tool, names, paths, defs) {
+        Ok(program) => Ok(program),
         Err(PreFault::Refused(fault, files)) => {
             Err(Stopped::Refused(fault, files, Bytes::new(alloc)))
         }
@@ -59,28 +60,40 @@ pub fn compile_sources<F: Folder>(
     }
 }
 
-/// What the statements of a program make.
-fn compile_program(alloc: Global, program: Program, setting: Setting) -> Result<Compiled, Stopped>
+/// What the statements of a program make, behind these resources, whose pairs of type and id differ; or what stopped the
+/// command, with the lines of what was warned of before. The files of statements are looked for behind the paths. No file
+/// changes.
+pub fn compile_program<F: Folder>(
+    alloc: Global,
+    folder: &mut F,
+    paths: &FileNames,
+    program: Program,
+    list: Resources,
+    setting: Setting,
+) -> Result<Compiled, Stopped>
     requires within { AreWithin (length program.files) program.tokens }
     requires lexed { AreLexed program.tokens }
-    ensures compiled { (s : State) → IsProgram program s → (statements : List (List Token)) → AreStatements program.tokens statements
-        → CompiledSo result (InProgram s (Means setting nothing_made statements)) }
+    requires keys { KeysDiffer [] list }
+    requires named { AreNamed list }
+    ensures compiled { IfSome (F.files folder.old) (λ files. (s : State) → IsProgram program s → CompiledSo result (HasWork (around setting paths.now files) list s)) }
     ensures nameable { AreNameable result }
-    ensures quiet { result ≡ Err ReadFault → ⊥ }
+    ensures reads { OnlyReads F.files F.read_faults F.write_faults folder.old folder.new (result ≡ Err ReadFault) }
 {
+    all_tokens_are_statements();
     let Program {
         files,
         tokens,
         macros,
     } = program;
-    let mut work = Work::new(alloc);
-    match compile_statements(alloc, &tokens, setting, &mut work) {
+    let mut work = Work::begun(alloc, list)?;
+    match compile_statements(alloc, folder, paths, &tokens, setting, &mut work) {
         Ok(()) => Ok(Compiled {
             work,
             macros,
             files,
         }),
-        Err(Stop::Refused(fault)) => Err(refusal(alloc, fault, &work.warnings, files)),
-        Err(Stop::NoMemory) => Err(Stopped::NoMemory),
+        Err(Halt::Refused(fault)) => Err(refusal(alloc, fault, &work.warnings, files)),
+        Err(Halt::ReadFault) => Err(Stopped::ReadFault),
+        Err(Halt::NoMemory) => Err(Stopped::NoMemory),
     }
 }

@@ -1,147 +1,172 @@
-ghost use Rattle.std.specs.Prelude.{◌≡◌, ◌<◌, ℕ, List, length, map};
-ghost use Rattle.rz_lex.specs.Within.{AreWithin};
+ghost use Rattle.std.specs.Prelude.{◌≡◌, ◌<◌, ℕ, List, length, map, IfSome};
+ghost use Rattle.rz_answer.specs.Warning.{AreWarnings};
 ghost use Rattle.rz_core.specs.Message.{IsNameable};
 ghost use Rattle.rz_core.specs.Stop.{OnFault};
-ghost use Rattle.rz_lex.specs.Lexeme.{AreLexed};
-ghost use Rattle.rz_lex.specs.declared.token.Token.{Token};
+ghost use Rattle.rz_folder.specs.OnlyReads.{OnlyReads};
 ghost use Rattle.rz_items.specs.Compile.{compile_of};
 ghost use Rattle.rz_items.specs.Item.{plain_items};
 ghost use Rattle.rz_items.specs.Places.{AreItemsWithin};
+ghost use Rattle.rz_lex.specs.Lexeme.{AreLexed};
+ghost use Rattle.rz_lex.specs.Within.{AreWithin};
+ghost use Rattle.rz_lex.specs.declared.token.Token.{Token};
+ghost use Rattle.rz_lists.specs.Lists.{list_of};
+ghost use Rattle.rz_paths.specs.Halt.{IsReadFault, OnRefusal};
 ghost use Rattle.rz_stmt.specs.Raw.{raw_of};
 ghost use Rattle.rz_stmt.specs.Statements.{AreStatements};
-ghost use Rattle.rz_tools.specs.Held.{work_of};
-ghost use Rattle.rz_tools.specs.Warning.{AreWarnings};
-ghost use Rattle.rz_set.specs.ResSet.{found};
 ghost use Rattle.rz_types.specs.TypeTable.{table_of};
-ghost use Rattle.rz_tools.specs.ToolWords.{numbered};
-ghost use Rattle.rz_tools.specs.Step.{is_protected, list_behind, nothing_made, protected_fault, protects, put_unless_protected, tokens_at, Changes, IsListBehind, IsSpan, Means, Stepped, Steps, Worked};
+ghost use Rattle.rz_work.specs.Around.{around};
+ghost use Rattle.rz_work.specs.Held.{work_of};
+ghost use Rattle.rz_work.specs.Lists.{list_after};
+ghost use Rattle.rz_work.specs.ToolWords.{numbered};
+ghost use Rattle.rz_work.specs.Work.{halted, list_behind, Stepped, Went};
+ghost use Rattle.rz_tools.specs.Step.{tokens_at, Changes, IsListBehind, IsSpan, Means, Steps, Worked};
 
-use crate::data::resource_of;
-use crate::declare::declare_type;
 use crate::resource::resource_of_items;
-use crate::setting::Setting;
-use crate::tool_words::number_tool_words;
-use rz_core::{Fault, Kept, Listing, Mark, NoMemory, Resource, Stop};
+use rz_core::{Fault, FileNames, Mark, Stop};
+use rz_folder::Folder;
 use rz_lex::Tokens;
+use rz_paths::Halt;
 use rz_pre::Tool;
 use rz_set::ResSet;
 use rz_statements::next_statement;
-use rz_stmt::{CompileStmt, RawStmt, Span, Stmt, parse};
+use rz_stmt::{CompileStmt, ListStmt, RawStmt, Span, Stmt, parse};
 use rz_tokens::TokenStore;
 use rz_types::TypeTable;
+use rz_work::{Setting, Work, declare_type, list_step, number_tool_words, put, resource_of};
 use std::alloc::Global;
 
-/// The attribute bit of a protected resource.
-const PROTECTED: u8 = 0x08;
-
-/// A list of faults.
-pub type Faults = Listing<Fault>;
-
-/// What the statements so far have made.
-#[derive(Drop)]
-pub struct Work {
-    /// The declarations of types.
-    pub types: TypeTable,
-    /// The resources.
-    pub resources: ResSet,
-    /// What is to be warned of.
-    pub warnings: Faults,
-}
-
-impl Work {
-    /// Nothing.
-    pub fn new(alloc: Global) -> Work
-        ensures { work_of result ≡ nothing_made }
-    {
-        Work {
-            types: TypeTable::new(alloc),
-            resources: ResSet::new(alloc),
-            warnings: Faults::new(alloc),
-        }
-    }
-}
-
 /// Does what the statements of a program say, one after the other, up to the first fault. For DeRez each one is read,
-/// and `type` alone does anything. A resource with the
-/// type and id of an earlier one takes its place, unless that one is protected (219), and every other one goes
-/// to the end. A type that is declared again goes to the end of the table, and is warned of unless the
-/// setting allows it. One statement is held at a time. Work and memory are in proportion to the tokens of `data`
-/// statements, and of `resource` statements also to the fields of their types; a name in an item is looked for among
-/// the symbols of its field. Each declaration of a type and each `resource` statement goes once over the declarations
-/// of its type, and a type that is declared again over the whole table; a declaration that copies takes the memory of
-/// what it copies.
-pub fn compile_statements(
+/// and `type` alone does anything. A resource with the type and id of an earlier one takes its place, unless that one is
+/// protected and protected ones aren't given up (219), and every other one goes to the end. A type that is declared again
+/// goes to the end of the table, and is warned of unless the setting allows it. The files of statements are looked for
+/// under their names and then behind the paths; no file changes. One statement is held at a time. Work and memory are in
+/// proportion to the tokens of `data` statements, and of `resource` statements also to the fields of their types; a name
+/// in an item is looked for among the symbols of its field. Each declaration of a type and each `resource` statement goes
+/// once over the declarations of its type, and a type that is declared again over the whole table; a declaration that
+/// copies takes the memory of what it copies. A statement over lists goes a few times over the resources of its file, and
+/// `change` and `delete` a few times over the list.
+pub fn compile_statements<F: Folder>(
     alloc: Global,
+    folder: &mut F,
+    paths: &FileNames,
     tokens: &TokenStore,
     setting: Setting,
     work: &mut Work,
-) -> Result<(), Stop<Fault>>
+) -> Result<(), Halt>
     requires lexed { AreLexed tokens.now }
-    requires nothing { work_of work.now ≡ nothing_made }
-    ensures work { (statements : List (List Token)) → AreStatements tokens.now statements
-        → Worked (Means setting nothing_made statements) result (work_of work.new) }
-    ensures nameable { (files : ℕ) → AreWithin files tokens.now → OnFault result (IsNameable files) }
-    ensures warned { (files : ℕ) → AreWithin files tokens.now → AreWarnings files work.new.warnings }
+    ensures work { IfSome (F.files folder.old) (λ files. (statements : List (List Token)) → AreStatements tokens.now statements
+        → Worked (Means (around setting paths.now files) (work_of work.old) statements) result (work_of work.new)) }
+    ensures nameable { (files : ℕ) → AreWithin files tokens.now → OnRefusal result (IsNameable files) }
+    ensures warned { (files : ℕ) → AreWithin files tokens.now → AreWarnings files work.old.warnings → AreWarnings files work.new.warnings }
+    ensures reads { OnlyReads F.files F.read_faults F.write_faults folder.old folder.new (IsReadFault result) }
 {
     let mut reader = tokens.reader();
     while let Some(statement) = next_statement(alloc, &mut reader)? {
-        match step(alloc, statement, setting, work) {
+        match step(alloc, folder, paths, statement, setting, work) {
             Ok(()) => {}
-            Err(stop) => return Err(stop),
+            Err(halt) => return Err(halt),
         }
     }
     Ok(())
 }
 
 /// What one statement does, in which the words `rez` and `derez` become numbers.
-fn step(
+fn step<F: Folder>(
     alloc: Global,
+    folder: &mut F,
+    paths: &FileNames,
     statement: Tokens,
     setting: Setting,
     work: &mut Work,
-) -> Result<(), Stop<Fault>>
+) -> Result<(), Halt>
     requires some { 0 < length statement }
     requires lexed { AreLexed statement }
-    ensures stepped { Worked (Steps setting (work_of work.old) (map (numbered setting.tool) statement)) result (work_of work.new) }
-    ensures nameable { (files : ℕ) → AreWithin files statement → OnFault result (IsNameable files) }
+    ensures stepped { IfSome (F.files folder.old) (λ files. Worked (Steps (around setting paths.now files) (work_of work.old) (map (numbered setting.tool) statement)) result (work_of work.new)) }
+    ensures nameable { (files : ℕ) → AreWithin files statement → OnRefusal result (IsNameable files) }
     ensures warned { (files : ℕ) → AreWithin files statement → AreWarnings files work.old.warnings → AreWarnings files work.new.warnings }
+    ensures reads { OnlyReads F.files F.read_faults F.write_faults folder.old folder.new (IsReadFault result) }
 {
     let tokens = number_tool_words(setting.tool, statement);
     let span = Span {
         start: 0,
         end: tokens.len(),
     };
-    step_at(alloc, &tokens, span, setting, work)
+    step_at(alloc, folder, paths, &tokens, span, setting, work)
 }
 
 /// What the statement does that stands there.
-fn step_at(
+fn step_at<F: Folder>(
     alloc: Global,
+    folder: &mut F,
+    paths: &FileNames,
     tokens: &Tokens,
     span: Span,
     setting: Setting,
     work: &mut Work,
-) -> Result<(), Stop<Fault>>
+) -> Result<(), Halt>
     requires span { IsSpan tokens.now span }
     requires lexed { AreLexed tokens.now }
-    ensures stepped { Worked (Steps setting (work_of work.old) (tokens_at tokens.now span)) result (work_of work.new) }
-    ensures nameable { (files : ℕ) → AreWithin files tokens.now → OnFault result (IsNameable files) }
+    ensures stepped { IfSome (F.files folder.old) (λ files. Worked (Steps (around setting paths.now files) (work_of work.old) (tokens_at tokens.now span)) result (work_of work.new)) }
+    ensures nameable { (files : ℕ) → AreWithin files tokens.now → OnRefusal result (IsNameable files) }
     ensures warned { (files : ℕ) → AreWithin files tokens.now → AreWarnings files work.old.warnings → AreWarnings files work.new.warnings }
+    ensures reads { OnlyReads F.files F.read_faults F.write_faults folder.old folder.new (IsReadFault result) }
 {
     let mark = tokens.at(span.start).mark;
     match parse(alloc, tokens, span) {
         Ok(Stmt::Empty) => Ok(()),
-        Ok(Stmt::Raw(raw)) => put_raw(alloc, &raw, mark, setting, &mut work.resources),
-        Ok(Stmt::Compile(stmt)) => put_compiled(
+        Ok(Stmt::Raw(raw)) => halted(put_raw(alloc, &raw, mark, setting, &mut work.resources)),
+        Ok(Stmt::Compile(stmt)) => halted(put_compiled(
             alloc,
             &stmt,
             mark,
             setting,
             &work.types,
             &mut work.resources,
+        )),
+        Ok(Stmt::List(stmt)) => change_list(
+            alloc,
+            folder,
+            paths,
+            &stmt,
+            mark,
+            setting,
+            &mut work.resources,
         ),
-        Ok(Stmt::Declare(declare)) => declare_type(alloc, declare, mark, setting, work),
-        Err(stop) => Err(stop),
+        Ok(Stmt::Declare(declare)) => halted(declare_type(alloc, declare, mark, setting, work)),
+        Err(stop) => halted(Err(stop)),
+    }
+}
+
+/// The end of a call that reads no files, as that of one that does.
+fn halted(ended: Result<(), Stop<Fault>>) -> Result<(), Halt>
+    ensures halted { result ≡ halted ended }
+    ensures nameable { (files : ℕ) → OnFault ended (IsNameable files) → OnRefusal result (IsNameable files) }
+    ensures unread { IsReadFault result → ⊥ }
+{
+    match ended {
+        Ok(()) => Ok(()),
+        Err(stop) => Err(Halt::from(stop)),
+    }
+}
+
+/// What a statement over lists on this line does. For DeRez it does nothing, and reads no file.
+fn change_list<F: Folder>(
+    alloc: Global,
+    folder: &mut F,
+    paths: &FileNames,
+    stmt: &ListStmt,
+    mark: Mark,
+    setting: Setting,
+    resources: &mut ResSet,
+) -> Result<(), Halt>
+    ensures changed { IfSome (F.files folder.old) (λ files.
+        Went (Changes setting.tool resources.old (λ answer. answer ≡ list_after (around setting paths.now files) mark resources.old (list_of stmt.now))) result resources.new) }
+    ensures nameable { (files : ℕ) → mark.file < files → OnRefusal result (IsNameable files) }
+    ensures reads { OnlyReads F.files F.read_faults F.write_faults folder.old folder.new (IsReadFault result) }
+{
+    match setting.tool {
+        Tool::Rez => list_step(alloc, folder, paths, stmt, mark, setting, resources),
+        Tool::DeRez => Ok(()),
     }
 }
 
@@ -174,7 +199,7 @@ fn put_data(
     ensures nameable { (files : ℕ) → mark.file < files → OnFault result (IsNameable files) }
 {
     match resource_of(alloc, raw, mark, setting) {
-        Ok(resource) => put(resources, resource, mark),
+        Ok(resource) => put(resources, resource, setting.over, mark),
         Err(stop) => Err(stop),
     }
 }
@@ -210,51 +235,7 @@ fn put_items(
     ensures nameable { (files : ℕ) → mark.file < files → AreItemsWithin files (plain_items stmt.now.items) → OnFault result (IsNameable files) }
 {
     match resource_of_items(alloc, stmt, mark, setting, types) {
-        Ok(resource) => put(resources, resource, mark),
+        Ok(resource) => put(resources, resource, setting.over, mark),
         Err(stop) => Err(stop),
-    }
-}
-
-/// Puts a resource into the list, unless a protected one there has its type and id.
-fn put(resources: &mut ResSet, resource: Resource, mark: Mark) -> Result<(), Stop<Fault>>
-    requires named { length resource.name < 256 }
-    ensures put { Stepped (λ answer. answer ≡ put_unless_protected mark resources.old resource) result resources.new }
-    ensures nameable { (files : ℕ) → mark.file < files → OnFault result (IsNameable files) }
-{
-    if holds_protected(resources, &resource) {
-        return Err(Stop::Refused(protected_fault(&resource, mark)));
-    }
-    match resources.put(resource) {
-        Ok(()) => Ok(()),
-        Err(NoMemory) => Err(Stop::NoMemory),
-    }
-}
-
-/// Whether a protected resource of the list has the type and id of another.
-fn holds_protected(resources: &ResSet, resource: &Resource) -> bool
-    ensures { result ≡ protects (found resource.now.kind resource.now.id resources.now) }
-{
-    match resources.find(resource.kind, resource.id) {
-        Some(held) => is_protected(held),
-        None => false,
-    }
-}
-
-/// Whether a resource is protected.
-fn is_protected(resource: &Resource) -> bool
-    ensures { result ≡ is_protected resource.now }
-{
-    resource.attr.byte() & PROTECTED != 0
-}
-
-/// 219, with the type and the id.
-fn protected_fault(resource: &Resource, mark: Mark) -> Fault
-    ensures fault { result ≡ protected_fault mark resource.now }
-    ensures nameable { (files : ℕ) → mark.file < files → IsNameable files result }
-{
-    Fault {
-        number: 219,
-        mark: Some(mark),
-        kept: Kept::Key(resource.kind, i32::from(resource.id)),
     }
 }

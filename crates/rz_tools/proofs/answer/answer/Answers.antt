@@ -1,12 +1,12 @@
 use Rattle.std.proofs.Common.{ℕ, List, [], inr, map, ap, sym, subst, ◌∙◌}
 use Rattle.std.specs.String.{string_bytes}
-use Rattle.rz_tools.specs.Answer.{shown, Answer}
-use Rattle.rz_tools.specs.WellFormed.{IsWellFormed}
-use Rattle.rz_tools.specs.declared.outcome.Outcome.TheVariants.{Usage}
-use Rattle.rz_words.specs.Command.{Rez, DeRez, Help, Version}
-use Rattle.rz_words.specs.Item.{derez, rez}
+use Rattle.rz_answer.specs.Answer.{shown, Answer}
+use Rattle.rz_answer.specs.WellFormed.{IsWellFormed}
+use Rattle.rz_answer.specs.declared.outcome.Outcome.TheVariants.{Usage}
+use Rattle.rz_words.specs.Command.{Bridge, Rez, DeRez, Help, Version}
+use Rattle.rz_words.specs.Item.{bridge, derez, rez}
 use Rattle.rz_tools.proofs.Planned.{as_command, as_misused, as_told, held_asked}
-use Rattle.rz_tools.proofs.Warnings.{no_lines}
+use Rattle.rz_answer.proofs.Warnings.{no_lines}
 use Rattle.rz_tools.proofs.answer.answer.Goals as goal
 
 pub plan_rez-requires : goal.plan_rez-requires
@@ -26,6 +26,11 @@ pub returns-in-Ok-DeRez-clause-answered : goal.returns-in-Ok-DeRez-clause-answer
 returns-in-Ok-DeRez-clause-answered g c =
     as_command (map string_bytes c.args.words.now) c.args.moment (DeRez (derez c.in-Ok-DeRez.asked)) (rw c.in-Ok-DeRez.field-0-is at c.in-Ok-DeRez.ensures.command)
     c.plan_derez.result (g.F.Folder.files c.args.folder.now) c.plan_derez.ensures.answered
+
+pub returns-in-Ok-Bridge-clause-answered : goal.returns-in-Ok-Bridge-clause-answered
+returns-in-Ok-Bridge-clause-answered g c =
+    as_command (map string_bytes c.args.words.now) c.args.moment (Bridge (bridge c.in-Ok-Bridge.asked)) (rw c.in-Ok-Bridge.field-0-is at c.in-Ok-Bridge.ensures.command)
+    c.plan_bridge.result (g.F.Folder.files c.args.folder.now) c.plan_bridge.ensures.answered
 
 pub returns-in_ok-text-in-Ok-Help-clause-answered : goal.returns-in_ok-text-in-Ok-Help-clause-answered
 returns-in_ok-text-in-Ok-Help-clause-answered g c =

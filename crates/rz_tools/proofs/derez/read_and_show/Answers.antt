@@ -4,10 +4,10 @@ use Rattle.std.specs.Prelude.{IfOk, IfSome}
 use Rattle.std.specs.String.{string_bytes}
 use Rattle.rz_folder.specs.Folder.{Files}
 use Rattle.rz_words.specs.Item.{derez}
-use Rattle.rz_tools.specs.Again.{IsFile}
+use Rattle.rz_tools.specs.Again.{HoldsFile}
 use Rattle.rz_tools.specs.DeRez.{HasText, TypesAre}
 use Rattle.rz_tools.specs.Held.{compiled_of}
-use Rattle.rz_tools.specs.Made.{MadeSo}
+use Rattle.rz_answer.specs.Made.{MadeSo}
 use Rattle.rz_tools.proofs.Sourced.{then_made, then_stopped}
 use Rattle.rz_tools.proofs.derez.read_and_show.Goals as goal
 
@@ -21,7 +21,7 @@ returns-in-Ok-clause-text g c =
 
 pub returns-in-Ok-clause-held : goal.returns-in-Ok-clause-held
 returns-in-Ok-clause-held g c =
-    subst (λ (before : Option Files). IfSome before (λ files. IfSome (map.get files (string_bytes c.args.words.now.file)) (λ bytes. IfOk c.show_under.result (λ _. IsFile bytes))))
+    subst (λ (before : Option Files). IfSome before (λ files. IfSome (map.get files (string_bytes c.args.words.now.file)) (λ bytes. IfOk c.show_under.result (λ _. HoldsFile c.args.words.now.from bytes))))
     c.in-Ok.ensures.reads.unchanged c.show_under.ensures.held
 
 pub returns-in-Err-clause-text : goal.returns-in-Err-clause-text

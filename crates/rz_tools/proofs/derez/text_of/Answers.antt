@@ -1,15 +1,21 @@
-use Rattle.rz_fork.specs.Admit.{admitted}
+use Rattle.std.proofs.lemmas.Result.{err_from_is_err_and}
 use Rattle.rz_words.specs.Item.{derez}
+use Rattle.rz_tools.specs.Again.{HoldsFile}
 use Rattle.rz_tools.specs.Held.{known_of}
-use Rattle.rz_tools.proofs.Showing.{fork_refused, fork_shown}
+use Rattle.rz_tools.proofs.Showing.{file_refused, file_text, holds_file, if_ok_so}
 use Rattle.rz_tools.proofs.derez.text_of.Goals as goal
 
-pub returns-in_ok-show_list-in-Ok-clause-text : goal.returns-in_ok-show_list-in-Ok-clause-text
-returns-in_ok-show_list-in-Ok-clause-text c =
-    fork_shown (known_of c.args.known.now) (derez c.args.words.now) (admitted c.args.bytes.now) c.in-Ok.fork c.in_ok-show_list-in-Ok.field-0 c.in-Ok.ensures.fork
-    c.in_ok-show_list-in-Ok.ensures
+pub returns-clause-text : goal.returns-clause-text
+returns-clause-text c =
+    file_text (known_of c.args.known.now) (derez c.args.words.now) c.args.bytes c.new.result c.new.ensures c.in_ok-file.file c.in_ok-file.ensures.file
+    c.as_slice.result.now c.as_slice.ensures c.text_of_fork.result c.text_of_fork.ensures.text
 
-pub returns-in-Err-Refused-clause-text : goal.returns-in-Err-Refused-clause-text
-returns-in-Err-Refused-clause-text c =
-    fork_refused (known_of c.args.known.now) (derez c.args.words.now) (admitted c.args.bytes.now) c.in-Err-Refused.fault c.broken_rule.result
-    (rw c.in-Err-Refused.field-0-is at c.in-Err-Refused.ensures.fork) (rw c.in-Err-Refused.fault-is at c.broken_rule.ensures.fault)
+pub returns-clause-held : goal.returns-clause-held
+returns-clause-held c =
+    if_ok_so (HoldsFile c.args.words.now.from c.args.bytes) c.text_of_fork.result
+    (holds_file c.args.words.now.from c.args.bytes c.new.result c.new.ensures c.in_ok-file.file c.in_ok-file.ensures.file c.in_ok-file.ensures.res_fork)
+
+pub returns-in_err-file-clause-text : goal.returns-in_err-file-clause-text
+returns-in_err-file-clause-text c =
+    let p = err_from_is_err_and c.from_residual.result c.from_residual.ensures.1 in
+    rw (p.1, p.2) (file_refused (known_of c.args.known.now) (derez c.args.words.now) c.args.bytes c.new.result c.new.ensures c.in_err-file.field-0.0 c.in_err-file.ensures.file)

@@ -1,21 +1,23 @@
+use Rattle.rz_pre.specs.Reading.{IsProgram}
+use Rattle.rz_pre.specs.Program.{State}
 use Rattle.rz_words.specs.Item.{rez}
-use Rattle.rz_tools.specs.Held.{compiled_of}
-use Rattle.rz_tools.specs.Made.{MadeSo}
-use Rattle.rz_tools.specs.Rez.{setting_of, HasFork}
-use Rattle.rz_tools.specs.Sources.{AreCompiled}
-use Rattle.rz_tools.proofs.Planned.{always}
-use Rattle.rz_tools.proofs.Sourced.{then_made, then_stopped}
+use Rattle.rz_answer.specs.Made.{MadeSo}
+use Rattle.rz_tools.specs.Rez.{around_of, IsMadeOf}
+use Rattle.rz_tools.specs.Sources.{IsProgramOf}
+use Rattle.rz_tools.proofs.Compiling.{still_told}
+use Rattle.rz_tools.proofs.Sourced.{read_made, then_stopped}
 use Rattle.rz_tools.proofs.rez.compile.Goals as goal
 
-pub returns-in-Ok-clause-fork : goal.returns-in-Ok-clause-fork
-returns-in-Ok-clause-fork g c =
+pub returns-in-Ok-clause-made : goal.returns-in-Ok-clause-made
+returns-in-Ok-clause-made g c =
     let asked = rez c.args.words.now in
-    then_made (AreCompiled (setting_of c.args.moment asked) asked.files asked.paths asked.defs) (λ files. HasFork) (compiled_of c.in-Ok.compiled)
-    (g.F.Folder.files c.args.folder.now) c.in-Ok.ensures.compiled c.write_compiled.result
-    (always (g.F.Folder.files c.args.folder.now) (λ files. MadeSo c.write_compiled.result (HasFork (compiled_of c.in-Ok.compiled))) (λ files. c.write_compiled.ensures.fork))
+    read_made (λ files. IsProgramOf (around_of c.args.moment asked files) asked.files asked.paths asked.defs) (IsMadeOf c.args.moment asked) c.in-Ok.program
+    (g.F.Folder.files c.args.folder.now) c.in-Ok.ensures.read c.compile_from_base.result
+    (still_told (g.F.Folder.files c.args.folder.now) (g.F.Folder.files c.read_program.new.folder) c.in-Ok.ensures.reads.unchanged
+    (λ files. (s : State) → IsProgram c.in-Ok.program s → MadeSo c.compile_from_base.result (IsMadeOf c.args.moment asked files s)) c.compile_from_base.ensures.made)
 
-pub returns-in-Err-clause-fork : goal.returns-in-Err-clause-fork
-returns-in-Err-clause-fork g c =
+pub returns-in-Err-clause-made : goal.returns-in-Err-clause-made
+returns-in-Err-clause-made g c =
     let asked = rez c.args.words.now in
-    then_stopped (AreCompiled (setting_of c.args.moment asked) asked.files asked.paths asked.defs) (λ files. HasFork)
-    (g.F.Folder.files c.args.folder.now) c.in-Err.stop c.in-Err.ensures.compiled
+    then_stopped (λ files. IsProgramOf (around_of c.args.moment asked files) asked.files asked.paths asked.defs) (IsMadeOf c.args.moment asked)
+    (g.F.Folder.files c.args.folder.now) c.in-Err.stop c.in-Err.ensures.read

@@ -1,6 +1,6 @@
-use Rattle.rz_tools.specs.Answer.{written}
-use Rattle.rz_tools.specs.Made.{making_of}
-use Rattle.rz_tools.specs.Rez.{setting_of, Compiles}
+use Rattle.rz_answer.specs.Answer.{written}
+use Rattle.rz_answer.specs.Made.{making_of}
+use Rattle.rz_tools.specs.Rez.{Compiles}
 use Rattle.rz_words.specs.Item.{rez}
 use Rattle.rz_tools.proofs.Planned.{made, or_stopped}
 use Rattle.rz_tools.proofs.rez.plan_rez.Goals as goal
@@ -8,9 +8,9 @@ use Rattle.rz_tools.proofs.rez.plan_rez.Goals as goal
 pub returns-in_ok-written-in-Ok-clause-answered : goal.returns-in_ok-written-in-Ok-clause-answered
 returns-in_ok-written-in-Ok-clause-answered g c =
     let asked = rez c.args.words.now in
-    made (written asked.output) (Compiles (setting_of c.args.moment asked) asked) _ (g.F.Folder.files c.args.folder.now) (making_of c.in-Ok.made) c.in_ok-written-in-Ok.ensures c.in-Ok.ensures.fork
+    made (written asked.output) (Compiles c.args.moment asked) _ (g.F.Folder.files c.args.folder.now) (making_of c.in-Ok.made) c.in_ok-written-in-Ok.ensures c.in-Ok.ensures.made
 
 pub returns-in-Err-clause-answered : goal.returns-in-Err-clause-answered
 returns-in-Err-clause-answered g c =
     let asked = rez c.args.words.now in
-    or_stopped (written asked.output) (Compiles (setting_of c.args.moment asked) asked) c.in-Err.stop c.stopped.result c.stopped.ensures.refused (g.F.Folder.files c.args.folder.now) c.in-Err.ensures.fork
+    or_stopped (written asked.output) (Compiles c.args.moment asked) c.in-Err.stop c.stopped.result c.stopped.ensures.refused (g.F.Folder.files c.args.folder.now) c.in-Err.ensures.made

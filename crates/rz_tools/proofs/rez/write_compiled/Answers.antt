@@ -1,11 +1,16 @@
-use Rattle.std.proofs.Common.{◌≡◌, ap}
+use Rattle.std.proofs.Common.{List, subst}
+use Rattle.rz_core.specs.Answers.{Meets}
+use Rattle.rz_core.specs.declared.resource.Resource.{Resource}
+use Rattle.rz_words.specs.Item.{rez}
+use Rattle.rz_tools.specs.Base.{base_with}
 use Rattle.rz_tools.specs.Held.{compiled_of}
-use Rattle.rz_tools.specs.Rez.{list_fork}
-use Rattle.rz_tools.proofs.Sourced.{beside, gives_meets}
+use Rattle.rz_tools.specs.Output.{IsOutput}
+use Rattle.rz_tools.proofs.Sourced.{beside}
 use Rattle.rz_tools.proofs.rez.write_compiled.Goals as goal
 
-pub returns-clause-fork : goal.returns-clause-fork
-returns-clause-fork c =
-    beside (compiled_of c.args.compiled) (λ fork. fork ≡ list_fork c.args.compiled.work.resources) c.write_list.result c.say_beside.result
-    (gives_meets (list_fork c.in_ok-list.list) (list_fork c.args.compiled.work.resources) (ap list_fork c.in_ok-list.ensures.list) c.write_list.result c.write_list.ensures.fork)
+pub returns-clause-made : goal.returns-clause-made
+returns-clause-made c others =
+    let asked = rez c.args.words.now in
+    beside (compiled_of c.args.compiled) (IsOutput asked c.args.moment (base_with c.args.base others) c.args.compiled.work.resources) c.write_output.result c.say_beside.result
+    (subst (λ (list : List Resource). Meets c.write_output.result (IsOutput asked c.args.moment (base_with c.args.base others) list)) c.in_ok-list.ensures.list (c.write_output.ensures.output others))
     c.say_beside.ensures.said

@@ -1,22 +1,39 @@
-use Rattle.std.proofs.Common.{length}
-use Rattle.rz_tools.specs.Held.{work_of}
-use Rattle.rz_tools.proofs.Sourced.{made_of_work, refused_so}
+use Rattle.std.proofs.Common.{List, length, subst, Err}
+use Rattle.std.specs.Prelude.{IfSome}
+use Rattle.rz_lex.specs.declared.token.Token.{Token}
+use Rattle.rz_paths.specs.declared.halt.Halt.{Halt}
+use Rattle.rz_stmt.specs.Statements.{AreStatements}
+use Rattle.rz_work.specs.Around.{around}
+use Rattle.rz_work.specs.Held.{work_of}
+use Rattle.rz_tools.specs.Step.{Means, Worked}
+use Rattle.rz_tools.proofs.Sourced.{none_warned, refusal_told, work_told}
 use Rattle.rz_tools.proofs.sources.compile_program.Goals as goal
 
 pub returns-in-Ok-clause-compiled : goal.returns-in-Ok-clause-compiled
-returns-in-Ok-clause-compiled c s is statements are =
-    made_of_work c.args.setting statements c.args.program s is (work_of c.compile_statements.new.work) (c.in-Ok.ensures.work statements are)
+returns-in-Ok-clause-compiled g c =
+    let cut = c.all_tokens_are_statements.ensures c.args.program.tokens in
+    work_told c.args.setting c.args.paths.now c.args.list cut.0 c.args.program cut.1 (work_of c.in_ok-work.work) c.in_ok-work.ensures
+    (g.F.Folder.files c.args.folder.now) (work_of c.compile_statements.new.work) c.in-Ok.ensures.work
 
 pub returns-in-Err-Refused-clause-compiled : goal.returns-in-Err-Refused-clause-compiled
-returns-in-Err-Refused-clause-compiled c s is statements are =
-    refused_so c.args.setting statements c.args.program s is c.in-Err-Refused.fault c.compile_statements.new.work.warnings
-    (rw c.in-Err-Refused.field-0-is at (c.in-Err-Refused.ensures.work statements are)) c.refusal.result (rw c.in-Err-Refused.fault-is at c.refusal.ensures.refused)
+returns-in-Err-Refused-clause-compiled g c =
+    let cut = c.all_tokens_are_statements.ensures c.args.program.tokens in
+    refusal_told c.args.setting c.args.paths.now c.args.list cut.0 c.args.program cut.1 (work_of c.in_ok-work.work) c.in_ok-work.ensures
+    (g.F.Folder.files c.args.folder.now) (work_of c.compile_statements.new.work) c.in-Err-Refused.fault
+    (subst (λ (h : Halt). IfSome (g.F.Folder.files c.args.folder.now) (λ files. (statements : List (List Token)) → AreStatements c.args.program.tokens statements
+    → Worked (Means (around c.args.setting c.args.paths.now files) (work_of c.in_ok-work.work) statements) (Err h) (work_of c.compile_statements.new.work)))
+    c.in-Err-Refused.field-0-is c.in-Err-Refused.ensures.work)
+    c.refusal.result (rw c.in-Err-Refused.fault-is at c.refusal.ensures.refused)
 
 pub refusal-requires-clause-fault : goal.refusal-requires-clause-fault
-refusal-requires-clause-fault c = rw c.in-Err-Refused.fault-is (rw c.in-Err-Refused.field-0-is at (c.in-Err-Refused.ensures.nameable (length c.args.program.files) c.requires.within))
+refusal-requires-clause-fault g c = rw c.in-Err-Refused.fault-is (rw c.in-Err-Refused.field-0-is at (c.in-Err-Refused.ensures.nameable (length c.args.program.files) c.requires.within))
 
 pub refusal-requires-clause-warnings : goal.refusal-requires-clause-warnings
-refusal-requires-clause-warnings c = c.compile_statements.ensures.warned (length c.args.program.files) c.requires.within
+refusal-requires-clause-warnings g c =
+    c.compile_statements.ensures.warned (length c.args.program.files) c.requires.within
+    (none_warned (length c.args.program.files) c.args.list (work_of c.in_ok-work.work) c.in_ok-work.ensures)
 
 pub returns-in-Ok-clause-nameable : goal.returns-in-Ok-clause-nameable
-returns-in-Ok-clause-nameable c = c.compile_statements.ensures.warned (length c.args.program.files) c.requires.within
+returns-in-Ok-clause-nameable g c =
+    c.compile_statements.ensures.warned (length c.args.program.files) c.requires.within
+    (none_warned (length c.args.program.files) c.args.list (work_of c.in_ok-work.work) c.in_ok-work.ensures)

@@ -1,41 +1,51 @@
 use Rattle.std.proofs.Common.{List, subst}
 use Rattle.std.specs.declared.option.Option.{Option}
+use Rattle.rz_folder.proofs.Reading.{reads_on}
 use Rattle.rz_lex.specs.Lexeme.{AreLexed}
 use Rattle.rz_lex.specs.Within.{AreWithin}
 use Rattle.rz_lex.specs.declared.token.Token.{Token}
 use Rattle.rz_statements.specs.Next.{BeginsWith}
-use Rattle.rz_tools.specs.Held.{work_of}
-use Rattle.rz_tools.proofs.Stepping.{leads_on, lexed_parts, within_parts}
+use Rattle.rz_work.specs.Held.{work_of}
+use Rattle.rz_tools.proofs.Stepping.{leads_on, leads_to_stop, lexed_parts, within_parts}
 use Rattle.rz_tools.proofs.step.compile_statements.Goals as goal
 
 pub step-requires-clause-lexed : goal.step-requires-clause-lexed
-step-requires-clause-lexed c =
+step-requires-clause-lexed g c =
     let front = rw c.in-Some.is at c.in_ok-statement.ensures.front in
     (lexed_parts c.in-Some.statement c.next_statement.new.reader (subst AreLexed front.0 c.loop-statement.invariant.lexed)).0
 
 pub loop-statement-preserved : goal.loop-statement-preserved
-loop-statement-preserved c =
+loop-statement-preserved g c =
     let front = rw c.in-Some.is at c.in_ok-statement.ensures.front in
     record {
-      leads = leads_on c.args.setting c.args.tokens.now c.loop-statement.reader c.next_statement.new.reader c.in-Some.statement (work_of c.loop-statement.work) c.loop-statement.invariant.leads
+      leads = leads_on c.args.setting c.args.paths.now (work_of c.args.work.now) c.args.tokens.now c.loop-statement.reader c.next_statement.new.reader c.in-Some.statement (work_of c.loop-statement.work)
           (λ statements are. subst (λ (o : Option (List Token)). BeginsWith o statements c.next_statement.new.reader) c.in-Some.is (c.in_ok-statement.ensures.first statements are))
+          (g.F.Folder.files c.args.folder.now) (g.F.Folder.files c.loop-statement.folder) c.loop-statement.invariant.reads.unchanged c.loop-statement.invariant.leads
           (work_of c.step.new.work) c.in-Ok.ensures.stepped;
+      reads = reads_on g.F.Folder.files g.F.Folder.read_faults g.F.Folder.write_faults _ _ _ _ _ ⊥ c.loop-statement.invariant.reads c.in-Ok.ensures.reads (λ never. absurd never);
       lexed = (lexed_parts c.in-Some.statement c.next_statement.new.reader (subst AreLexed front.0 c.loop-statement.invariant.lexed)).1;
       within = λ files within. (within_parts files c.in-Some.statement c.next_statement.new.reader (subst (AreWithin files) front.0 (c.loop-statement.invariant.within files within))).1;
-      warned = λ files within.
+      warned = λ files within are.
           c.in-Ok.ensures.warned files (within_parts files c.in-Some.statement c.next_statement.new.reader (subst (AreWithin files) front.0 (c.loop-statement.invariant.within files within))).0
-          (c.loop-statement.invariant.warned files within);
+          (c.loop-statement.invariant.warned files within are);
     }
 
+pub returns-in-Err-clause-work : goal.returns-in-Err-clause-work
+returns-in-Err-clause-work g c =
+    leads_to_stop c.args.setting c.args.paths.now (work_of c.args.work.now) c.args.tokens.now c.loop-statement.reader c.next_statement.new.reader c.in-Some.statement (work_of c.loop-statement.work)
+    (λ statements are. subst (λ (o : Option (List Token)). BeginsWith o statements c.next_statement.new.reader) c.in-Some.is (c.in_ok-statement.ensures.first statements are))
+    (g.F.Folder.files c.args.folder.now) (g.F.Folder.files c.loop-statement.folder) c.loop-statement.invariant.reads.unchanged c.loop-statement.invariant.leads
+    c.in-Err.halt (work_of c.step.new.work) c.in-Err.ensures.stepped
+
 pub returns-in-Err-clause-nameable : goal.returns-in-Err-clause-nameable
-returns-in-Err-clause-nameable c files within =
+returns-in-Err-clause-nameable g c files within =
     let front = rw c.in-Some.is at c.in_ok-statement.ensures.front in
     c.in-Err.ensures.nameable files
     (within_parts files c.in-Some.statement c.next_statement.new.reader (subst (AreWithin files) front.0 (c.loop-statement.invariant.within files within))).0
 
 pub returns-in-Err-clause-warned : goal.returns-in-Err-clause-warned
-returns-in-Err-clause-warned c files within =
+returns-in-Err-clause-warned g c files within are =
     let front = rw c.in-Some.is at c.in_ok-statement.ensures.front in
     c.in-Err.ensures.warned files
     (within_parts files c.in-Some.statement c.next_statement.new.reader (subst (AreWithin files) front.0 (c.loop-statement.invariant.within files within))).0
-    (c.loop-statement.invariant.warned files within)
+    (c.loop-statement.invariant.warned files within are)

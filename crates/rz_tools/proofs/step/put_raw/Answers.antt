@@ -1,6 +1,6 @@
 use Rattle.std.proofs.Common.{◌≡◌}
 use Rattle.rz_stmt.specs.Raw.{raw_of}
-use Rattle.rz_tools.specs.Step.{list_behind}
+use Rattle.rz_work.specs.Work.{list_behind}
 use Rattle.rz_tools.proofs.Stepping.{derez_changes, rez_changes}
 use Rattle.rz_tools.proofs.step.put_raw.Goals as goal
 

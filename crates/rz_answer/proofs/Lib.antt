@@ -1,0 +1,5 @@
+pub mod Said
+pub mod Warnings
+pub mod Beside
+pub mod Carried
+pub mod Complete

@@ -1,0 +1,10 @@
+pub mod Outcome
+pub mod Message
+pub mod Answer
+pub mod Warning
+pub mod WellFormed
+pub mod Made
+pub mod Help
+pub mod World
+pub mod Carried
+pub mod Plan
