@@ -147,7 +147,7 @@ def content_lines(content):
 
 def fork_case(k):
     fork = some_fork()
-    given = "case fork %d\nwords derez f\nfile bytes f\n%s" % (k, content_lines(fork))
+    given = "case fork %d\nwords derez f -from raw\nfile bytes f\n%s" % (k, content_lines(fork))
     try:
         shown = "".join(text_of(*each) for each in admitted(fork))
     except Broken as rule:

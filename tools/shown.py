@@ -21,6 +21,8 @@ where fixed values and sizes are expressions: numbers, names in lower case, and 
 import re
 import sys
 
+from forms import form_of, read_form
+
 WORDS = set("""type resource data include read change delete as to not array wide switch case key fill align bit nibble
 byte word long integer longint bitstring boolean char string pstring wstring cstring point rect hex decimal octal binary
 literal unsigned appheap sysheap nonpurgeable purgeable unlocked locked unprotected protected nonpreload preload unchanged
@@ -759,7 +761,7 @@ def resources_of(fork):
 
 def derez(words, files):
     """What `derez` with these words shows."""
-    names, macros, paths, only, skip = [], {}, [], [], []
+    names, macros, paths, only, skip, form = [], {}, [], [], [], None
     words = list(words)
     while words:
         word = words.pop(0)
@@ -768,6 +770,8 @@ def derez(words, files):
             macros[name.lower()] = tokens_of(text)
         elif word == "-u":
             macros.pop(words.pop(0).lower(), None)
+        elif word == "-from":
+            form = words.pop(0)
         elif word in ("-i", "-only", "-skip", "-s"):
             value = words.pop(0)
             (paths if word == "-i" else only if word == "-only" else skip).append(value)
@@ -777,7 +781,8 @@ def derez(words, files):
     tokens = [token for name in names[1:] for token in program_of(name, texts, paths, macros)]
     table = declarations_of(tokens)
     only, skip = [[each.encode("mac_roman") for each in kinds] for kinds in (only, skip)]
-    chosen = [each for each in resources_of(files[names[0]]) if (not only or each[0] in only) and each[0] not in skip]
+    fork = read_form(form or form_of(files[names[0]]), files[names[0]]).res
+    chosen = [each for each in resources_of(fork) if (not only or each[0] in only) and each[0] not in skip]
     return "".join(resource_text(each, table, set(macros)) for each in chosen)
 
 
