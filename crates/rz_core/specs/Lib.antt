@@ -8,5 +8,6 @@ pub mod Decimal
 pub mod Quoted
 pub mod Message
 pub mod Moment
+pub mod DateText
 pub mod Resources
 pub mod Roman

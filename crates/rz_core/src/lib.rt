@@ -1,15 +1,17 @@
 //! The values that all other crates share: bytes and lists, types and attributes of resources, moments, Mac
 //! Roman, and faults with their message lines. Each call gives exactly its definition, or is out of memory.
-//! It rests on the standard library alone.
+//! It rests on the standard library, and on `jiff_core` for the calendar.
 //! A new fault is a row of the table in `message`, of its definition, and of docs/LANGUAGE.md. Definitions that
 //! several crates need stand in `specs`.
 #![tactic(auto)]
 
 mod attr;
+mod date_text;
 mod decimal;
 mod facts;
 mod fault;
 mod file_names;
+mod laws;
 mod list;
 mod message;
 mod moment;
@@ -20,10 +22,12 @@ mod stop;
 mod word;
 
 pub use attr::Attr;
+pub use date_text::{write_date, write_time};
 pub use decimal::{write_decimal, write_signed};
 pub use facts::Facts;
 pub use fault::{Fault, Kept, Mark};
 pub use file_names::FileNames;
+pub use laws::one_date;
 pub use list::{Bytes, Listing};
 pub use message::write_fault;
 pub use moment::Moment;

@@ -1,16 +1,15 @@
--- The head of a statement: an id, and then maybe a name and attributes. A head of a new resource has constants alone, so
--- far; one of a resource that is chosen may speak of that too. (MPW Rez.)
+-- The head of a statement: an id, and then maybe a name and attributes. A head of a new resource has constants and
+-- the date alone; one of a resource that is chosen may speak of that too. (MPW Rez.)
 use Rattle.std.specs.Prelude.{◌≡◌, ℕ, Bool, true, false, ◌&&◌, if◌then◌else◌, List, [], ◌∷◌, map, Option, Some, None, option_map}
 use Rattle.rz_expr.specs.Attribute.{attribute_word}
 use Rattle.rz_expr.specs.declared.attribute.AttributeWord.{AttributeWord}
-use Rattle.rz_expr.specs.Constant.{is_constant}
 use Rattle.rz_expr.specs.Grammar.{IsExpression}
 use Rattle.rz_expr.specs.Term.{term_of, Term}
 use Rattle.rz_lex.specs.declared.token.Shape.{Shape}
 use Rattle.rz_lex.specs.declared.token.Shape.TheVariants as shapes
 use Rattle.rz_lex.specs.declared.token.Token.{Token}
-use Rattle.rz_fields.specs.Text.{plain_parts, text_in, NameFact, Plain, PlainPart}
-use Rattle.rz_fields.specs.Value.{is_field_expression}
+use Rattle.rz_fields.specs.Text.{plain_parts, text_in, NameFact, PlainPart}
+use Rattle.rz_fields.specs.Value.{is_field_expression, is_head_expression}
 use Rattle.rz_data.specs.declared.head.AttrPart.{AttrPart}
 use Rattle.rz_data.specs.declared.head.AttrPart.TheVariants as parts
 use Rattle.rz_data.specs.declared.head.HeadExpr.{HeadExpr}
@@ -49,9 +48,10 @@ word_attribute (token ∷ []) = by_word token.shape
     by_word shape = None
 word_attribute tokens = None
 
--- of a new resource nothing is known where its head is read; of one that is chosen its id, type and attributes are
+-- of a new resource nothing but the date is known where its head is read; of one that is chosen its id, type and
+-- attributes are
 abbrev pub may_say : Subject → Term → Bool
-may_say New term = is_constant term
+may_say New term = is_head_expression term
 may_say Chosen term = is_field_expression term
 
 -- the tokens are this expression, and it may stand in a head of the subject
@@ -71,22 +71,22 @@ AreAttributesFor subject [] attributes = attributes ≡ []
 AreAttributesFor subject (piece ∷ pieces) attributes =
     (first : Attribute) × (rest : List Attribute) × IsAttributeFor subject piece first × AreAttributesFor subject pieces rest × (attributes ≡ first ∷ rest)
 
--- a part that stood between quote marks, and is no `$$Name`
-abbrev pub is_quoted : PlainPart → Bool
-is_quoted (Plain bytes) = true
-is_quoted NameFact = false
+-- a part that is known before a resource is: whatever but `$$Name`
+abbrev pub is_known : PlainPart → Bool
+is_known NameFact = false
+is_known other = true
 
-abbrev pub are_quoted : List PlainPart → Bool
-are_quoted [] = true
-are_quoted (part ∷ parts) = is_quoted part && are_quoted parts
+abbrev pub are_known : List PlainPart → Bool
+are_known [] = true
+are_known (part ∷ parts) = is_known part && are_known parts
 
-abbrev pub if_quoted : Option (List PlainPart) → Option (List PlainPart)
-if_quoted None = None
-if_quoted (Some parts) = if are_quoted parts then Some parts else None
+abbrev pub if_known : Option (List PlainPart) → Option (List PlainPart)
+if_known None = None
+if_known (Some parts) = if are_known parts then Some parts else None
 
--- the name that a piece is in the head of a new resource: a text whose parts are all quoted
+-- the name that a piece is in the head of a new resource: a text whose parts are all known
 abbrev pub name_in : List Token → Option (List PlainPart)
-name_in piece = if_quoted (text_in piece)
+name_in piece = if_known (text_in piece)
 
 -- in the head of one that is chosen `$$Name` may stand too
 abbrev pub name_for : Subject → List Token → Option (List PlainPart)

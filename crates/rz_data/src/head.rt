@@ -3,12 +3,12 @@ ghost use Rattle.rz_expr.specs.Term.{term_of, Term};
 ghost use Rattle.rz_expr.specs.Attribute.{attribute_word};
 ghost use Rattle.rz_fields.specs.Text.{plain_parts};
 ghost use Rattle.rz_core.specs.Decided.{Decided};
-ghost use Rattle.rz_data.specs.Head.{are_quoted, attribute_of, head_of, may_say, name_for, name_in, said, word_attribute, AreAttributesFor, Attribute, Head, IsAttributeFor, IsHead, IsHeadFor, IsRestOf, IsSaidFor};
+ghost use Rattle.rz_data.specs.Head.{are_known, attribute_of, head_of, may_say, name_for, name_in, said, word_attribute, AreAttributesFor, Attribute, Head, IsAttributeFor, IsHead, IsHeadFor, IsRestOf, IsSaidFor};
 ghost use Rattle.rz_data.specs.declared.head.Subject.TheVariants.{New};
 
 use rz_core::{Listing, NoMemory, Word};
-use rz_expr::{AttributeWord, Expr, attribute_word, is_constant, one_expression, read_whole};
-use rz_fields::{TextPart, Texts, is_field_expression, text_in};
+use rz_expr::{AttributeWord, Expr, attribute_word, one_expression, read_whole};
+use rz_fields::{TextPart, Texts, is_field_expression, is_head_expression, text_in};
 use rz_lex::{Shape, Token};
 use std::alloc::Global;
 
@@ -46,8 +46,8 @@ pub struct HeadExpr {
     pub attributes: AttrParts,
 }
 
-/// The head of a new resource that the pieces of its brackets are: an id, then maybe a name, each part of which stood
-/// between quote marks, then maybe attributes. `None` exactly where they are none. (MPW Rez.)
+/// The head of a new resource that the pieces of its brackets are: an id, then maybe a name without `$$Name`, then maybe
+/// attributes. `None` exactly where they are none. (MPW Rez.)
 pub fn read_head(alloc: Global, pieces: &[&[Token]]) -> Result<Option<HeadExpr>, NoMemory>
     ensures { IfOk result (λ head. Decided (IsHead (map (λ piece. piece.now) pieces.now)) (option_map head_of head)) }
 {
@@ -114,13 +114,13 @@ fn name_for(alloc: Global, subject: Subject, piece: &[Token]) -> Result<Option<T
     }
 }
 
-/// The name of a new resource, or of one that is picked, that a piece is: a text whose parts are all quoted. (MPW Rez.)
+/// The name of a new resource, or of one that is picked, that a piece is: a text without `$$Name`. (MPW Rez.)
 pub fn name_in(alloc: Global, piece: &[Token]) -> Result<Option<Texts>, NoMemory>
     ensures { IfOk result (λ name. option_map plain_parts name ≡ name_in piece.now) }
 {
     match text_in(alloc, piece)? {
         Some(parts) => {
-            if are_quoted(&parts) {
+            if are_known(&parts) {
                 Ok(Some(parts))
             } else {
                 Ok(None)
@@ -130,12 +130,12 @@ pub fn name_in(alloc: Global, piece: &[Token]) -> Result<Option<Texts>, NoMemory
     }
 }
 
-/// Whether all parts stood between quote marks.
-fn are_quoted(parts: &Texts) -> bool
-    ensures { result ≡ are_quoted (plain_parts parts.now) }
+/// Whether all parts are known before a resource is: none is `$$Name`.
+fn are_known(parts: &Texts) -> bool
+    ensures { result ≡ are_known (plain_parts parts.now) }
 {
     for part in parts.as_slice() {
-        if !matches!(part, TextPart::Plain(_)) {
+        if matches!(part, TextPart::NameFact) {
             return false;
         }
     }
@@ -205,7 +205,7 @@ fn may_say(subject: Subject, expr: &Expr) -> bool
     ensures { result ≡ may_say subject (term_of expr.now) }
 {
     match subject {
-        Subject::New => is_constant(expr),
+        Subject::New => is_head_expression(expr),
         Subject::Chosen => is_field_expression(expr),
     }
 }

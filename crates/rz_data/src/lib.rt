@@ -3,7 +3,7 @@
 //! for them. `read_head` reads the heads of `resource` statements too, and
 //! `read_head_for` those that speak of a resource that is chosen.
 //! It rests on `rz_core`, `rz_lex`, `rz_expr`, `rz_fields` and `rz_brackets`.
-//! A new part of a head changes `head` here, `head` of `rz_tools`, which computes it, and `rz_show`, which writes
+//! A new part of a head changes `head` here, `head` of `rz_work`, which computes it, and `rz_show`, which writes
 //! it.
 #![tactic(auto)]
 

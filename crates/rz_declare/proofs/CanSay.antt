@@ -15,8 +15,8 @@ use Rattle.rz_expr.specs.Constant.{constant_sight}
 use Rattle.rz_expr.specs.declared.value.EvalFault.{EvalFault}
 use Rattle.rz_expr.specs.declared.value.EvalFault.TheVariants.{BadShift, DataWidth, LaterData, UnknownName, ZeroDivisor}
 use Rattle.rz_declare.specs.Constants.{body_value, cases_value, count_value, declare_of, declared, field_value, given_value, key_value, made_value, number_of_width, number_value, scope_value, seen, width_value}
-use Rattle.rz_declare.specs.Form.{BodyForm, CasesForm, DeclareForm, FieldForm, MadeForm, NamedTerm, NumberForm, Own, ScopeForm, WidthForm, Written}
-use Rattle.rz_declare.specs.Form as form
+use Rattle.rz_flat.specs.Form.{BodyForm, CasesForm, DeclareForm, FieldForm, MadeForm, NamedTerm, NumberForm, Own, ScopeForm, WidthForm, Written}
+use Rattle.rz_flat.specs.Form as form
 use Rattle.rz_fields.specs.Value.{constant_value, value_fault, with_fault}
 use Rattle.rz_fields.specs.Range.{fits_number}
 use Rattle.rz_declare.specs.Values.{given_or, out_of_range, values_of, with_value}

@@ -4,9 +4,9 @@ use Rattle.rz_brackets.specs.Pieces.{AreCut}
 use Rattle.rz_brackets.specs.declared.pieces.Divider.TheVariants.{Case}
 use Rattle.rz_lex.specs.declared.token.Token.{Token}
 use Rattle.rz_declare.specs.Body.{case_more, cut_cases, no_case, AreCases, AreEachCase, IsCase}
-use Rattle.rz_declare.specs.Form.{case_and, cases_of, no_cases, CaseForm, CasesForm}
+use Rattle.rz_flat.specs.Form.{case_and, cases_of, no_cases, CaseForm, CasesForm}
 use Rattle.rz_declare.specs.Head.{behind_empty}
-use Rattle.rz_declare.proofs.Each.{before, leads_all, leads_first, leads_more, Leads}
+use Rattle.rz_flat.proofs.Each.{before, leads_all, leads_first, leads_more, Leads}
 
 abbrev with_case : CaseForm → CasesForm → CasesForm
 with_case one cases = case_and one.name one.row cases

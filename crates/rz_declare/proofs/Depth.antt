@@ -25,19 +25,19 @@ use Rattle.rz_declare.specs.Body.{array, case_more, cut, cut_cases, empty, flat,
 use Rattle.rz_declare.specs.Constants.{body_value, cases_value, count_value, field_value, declared, given_value, made_value, number_value, scope_value, Declare, PlainMade}
 use Rattle.rz_declare.specs.Constants as values
 use Rattle.rz_declare.specs.Declare.{copied, copied_of, for_any, for_ids, in_braces, IsDeclare, IsMade, IsScoped}
-use Rattle.rz_declare.specs.FieldForm.{IsFieldOf, IsFill, IsFillOf}
-use Rattle.rz_declare.specs.FieldWord.{FieldFront}
-use Rattle.rz_declare.specs.Form as form
-use Rattle.rz_declare.specs.Form.{BodyForm, CasesForm, DeclareForm, FieldForm, MadeForm, ScopeForm}
+use Rattle.rz_flat.specs.FieldForm.{IsFieldOf, IsFill, IsFillOf}
+use Rattle.rz_flat.specs.FieldWord.{FieldFront}
+use Rattle.rz_flat.specs.Form as form
+use Rattle.rz_flat.specs.Form.{BodyForm, CasesForm, DeclareForm, FieldForm, MadeForm, ScopeForm}
 use Rattle.rz_declare.specs.Head.{bare, case_front, counted, is_colon, named, ArrayFront, CaseFront, IsArrayFront, IsBraced, IsNamed}
-use Rattle.rz_declare.specs.Key.{IsKeyOf}
+use Rattle.rz_flat.specs.Key.{IsKeyOf}
 use Rattle.rz_declare.specs.Start.{start_of, started, wide_start, Array, FieldStart, Flat, Key, Switch}
-use Rattle.rz_declare.specs.Symbols.{name_in}
-use Rattle.rz_declare.specs.declared.field_word.FieldWord.{FieldWord}
-use Rattle.rz_declare.specs.declared.field_word.FieldWord.TheVariants as words
-use Rattle.rz_declare.proofs.Answering.{same_ok, then_ok}
-use Rattle.rz_declare.proofs.Level.{bracket_level, bracket_opens, level_bracketed, level_cut, level_derives, level_join, level_more, level_nil, plain_by, IsLevel, IsPlain, OfNone}
-use Rattle.rz_declare.proofs.LevelField.{flat_level, key_level, keyword_plain, name_plain}
+use Rattle.rz_flat.specs.Symbols.{name_in}
+use Rattle.rz_flat.specs.declared.field_word.FieldWord.{FieldWord}
+use Rattle.rz_flat.specs.declared.field_word.FieldWord.TheVariants as words
+use Rattle.rz_flat.proofs.Answering.{same_ok, then_ok}
+use Rattle.rz_flat.proofs.Level.{bracket_level, bracket_opens, level_bracketed, level_cut, level_derives, level_join, level_more, level_nil, plain_by, IsLevel, IsPlain, OfNone}
+use Rattle.rz_flat.proofs.LevelField.{flat_level, key_level, keyword_plain, name_plain}
 use Rattle.rz_fields.specs.Field as made
 use Rattle.rz_fields.specs.Field.{PlainBody, PlainCases, PlainField}
 use Rattle.rz_fields.specs.Shape.{body_depth, cases_depth, field_depth}

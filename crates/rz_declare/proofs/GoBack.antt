@@ -8,7 +8,7 @@ use Rattle.rz_core.specs.declared.fault.Fault.{Fault}
 use Rattle.rz_core.specs.declared.fault.Mark.{Mark}
 use Rattle.rz_expr.specs.Term.{Term}
 use Rattle.rz_expr.specs.Value.{reduced}
-use Rattle.rz_declare.specs.Form.{NamedTerm}
+use Rattle.rz_flat.specs.Form.{NamedTerm}
 use Rattle.rz_declare.specs.GoOn.{GoWrong, HasItsValue, HaveValues, IsFaultOf, IsNext}
 use Rattle.rz_declare.specs.Values.{given_or, out_of_range, values_of, with_value}
 use Rattle.rz_fields.specs.declared.field.Symbol.{Symbol}

@@ -10,7 +10,7 @@ use Rattle.rz_expr.specs.Term.{Term}
 use Rattle.rz_expr.specs.Value.{reduced}
 use Rattle.rz_declare.specs.GoOn.{HasItsValue, HaveValues, IsNext}
 use Rattle.rz_fields.specs.Value.{constant_value}
-use Rattle.rz_declare.specs.Form.{NamedTerm}
+use Rattle.rz_flat.specs.Form.{NamedTerm}
 use Rattle.rz_declare.specs.Values.{given_or, out_of_range, values_of, with_value}
 use Rattle.rz_fields.specs.declared.field.Symbol.{Symbol}
 

@@ -16,7 +16,7 @@ use Rattle.rz_brackets.specs.declared.bracket.Bracket.{Bracket}
 use Rattle.rz_brackets.specs.declared.bracket.Bracket.TheVariants.{Curly, Round, Square}
 use Rattle.rz_declare.specs.Declare.{copied, copied_of, for_any, for_ids, in_braces, IsMade}
 use Rattle.rz_declare.specs.DeclareSteps.{AreFieldsMade, AreForAny, AreForIds, AreScoped, IsCopy, IsCopyId, IsCopyIdBy}
-use Rattle.rz_declare.specs.Form.{CopyOf, MadeForm, ScopeForm}
+use Rattle.rz_flat.specs.Form.{CopyOf, MadeForm, ScopeForm}
 
 no_keyword : (keyword : Keyword) (bracket : Bracket) (shape : Shape) → opens bracket shape ≡ true → is_keyword keyword shape ≡ true → ⊥
 no_keyword keyword Round (shapes.Word word) is also = true_false (sym is)

@@ -5,12 +5,12 @@ use Rattle.rz_core.proofs.Tests.{same_some}
 use Rattle.rz_brackets.specs.declared.pieces.Divider.TheVariants.{Case, Semicolon}
 use Rattle.rz_lex.specs.declared.token.Token.{Token}
 use Rattle.rz_declare.specs.Body.{array, case_more, cut, cut_cases, empty, flat, key, more, no_case, none, switch, AreCases, AreEachCase, AreFields, IsBody, IsField}
-use Rattle.rz_declare.specs.Form.{case_and, field_and, Array, BodyForm, CasesForm, FieldForm, Switch}
+use Rattle.rz_flat.specs.Form.{case_and, field_and, Array, BodyForm, CasesForm, FieldForm, Switch}
 use Rattle.rz_declare.specs.Head.{case_front, ArrayFront, CaseFront}
-use Rattle.rz_declare.proofs.OneField.{one_flat}
+use Rattle.rz_flat.proofs.OneField.{one_flat}
 use Rattle.rz_declare.proofs.OneHead.{one_array_front, one_braced}
-use Rattle.rz_declare.proofs.OneKey.{one_key}
-use Rattle.rz_declare.proofs.OneTerm.{OneCut, OneWithin}
+use Rattle.rz_flat.proofs.OneKey.{one_key}
+use Rattle.rz_flat.proofs.OneTerm.{OneCut, OneWithin}
 use Rattle.rz_declare.proofs.Starts.{array_back, flat_back, key_back, starts_flat, switch_back}
 
 module _ (one : OneExpression) (one_cut : OneCut) (within : OneWithin) where

@@ -14,11 +14,11 @@ use Rattle.rz_declare.specs.Body.{IsBody}
 use Rattle.rz_declare.specs.Declare.{AreIds, IsDeclare, IsMade, IsScope, IsScoped}
 use Rattle.rz_declare.specs.DeclareSteps.{AreFieldsMade, AreForAny, AreForIds, AreScoped, IsCopy, IsCopyId, IsCopyIdBy, IsGivenId}
 use Rattle.rz_expr.specs.Constant.{IsConstant}
-use Rattle.rz_declare.specs.Form.{Any, BodyForm, CopyOf, DeclareForm, Fields, MadeForm, One, ScopeForm, Two}
+use Rattle.rz_flat.specs.Form.{Any, BodyForm, CopyOf, DeclareForm, Fields, MadeForm, One, ScopeForm, Two}
 use Rattle.rz_declare.proofs.MadeSo.{any_back, copy_back, fields_back, ids_back}
 use Rattle.rz_declare.proofs.OneBody.{one_body}
-use Rattle.rz_declare.proofs.OneTerm.{OneCut, OneWithin}
-use Rattle.rz_declare.proofs.OneValue.{one_constant}
+use Rattle.rz_flat.proofs.OneTerm.{OneCut, OneWithin}
+use Rattle.rz_flat.proofs.OneValue.{one_constant}
 
 same_tokens : (tokens xs ys : List Token) (a b x y : Token) → tokens ≡ a ∷ x ∷ xs → tokens ≡ b ∷ y ∷ ys → (x ≡ y) × (xs ≡ ys)
 same_tokens tokens xs ys a b x y is also = (heads (sym is ∙ also), tails (sym is ∙ also))

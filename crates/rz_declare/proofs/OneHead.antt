@@ -12,10 +12,10 @@ use Rattle.rz_lex.specs.declared.token.Shape.{Shape}
 use Rattle.rz_lex.specs.declared.token.Shape.TheVariants as shapes
 use Rattle.rz_lex.specs.declared.token.Token.{Token}
 use Rattle.rz_declare.specs.Head.{bare, counted, named, ArrayFront, IsArrayFront, IsBare, IsBraced, IsCounted, IsNamed}
-use Rattle.rz_declare.specs.Symbols.{name_in}
+use Rattle.rz_flat.specs.Symbols.{name_in}
 use Rattle.rz_declare.proofs.MadeSo.{begins_so, curly_or_square}
-use Rattle.rz_declare.proofs.OneTerm.{OneWithin}
-use Rattle.rz_declare.proofs.OneValue.{one_constant}
+use Rattle.rz_flat.proofs.OneTerm.{OneWithin}
+use Rattle.rz_flat.proofs.OneValue.{one_constant}
 
 -- Which of the three it is.
 

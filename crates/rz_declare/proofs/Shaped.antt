@@ -9,14 +9,14 @@ use Rattle.rz_brackets.specs.Limit.{deepest_type, is_within_limits}
 use Rattle.rz_brackets.specs.declared.bracket.Bracket.TheVariants.{Curly, Round}
 use Rattle.rz_declare.specs.Constants.{body_value, declared, given_value, made_value, scope_value, CopyOf, Declare, Fields, PlainMade}
 use Rattle.rz_declare.specs.Declare.{copied, copied_of, for_any, for_ids, in_braces, IsDeclare, IsMade, IsScoped}
-use Rattle.rz_declare.specs.Form as form
-use Rattle.rz_declare.specs.Form.{DeclareForm, MadeForm, ScopeForm}
+use Rattle.rz_flat.specs.Form as form
+use Rattle.rz_flat.specs.Form.{DeclareForm, MadeForm, ScopeForm}
 use Rattle.rz_declare.specs.Shaped.{IsShapedMade}
-use Rattle.rz_declare.proofs.Answering.{same_ok, then_ok}
+use Rattle.rz_flat.proofs.Answering.{same_ok, then_ok}
 use Rattle.rz_declare.proofs.Depth.{declare_fits, IsMadeWithin}
-use Rattle.rz_declare.proofs.Pieces.{after_lexed, within_lexed}
+use Rattle.rz_flat.proofs.Pieces.{after_lexed, within_lexed}
 use Rattle.rz_declare.proofs.ShapedBody.{body_formed, body_shaped}
-use Rattle.rz_declare.proofs.ShapedField.{IsBodyFormed}
+use Rattle.rz_flat.proofs.ShapedField.{IsBodyFormed}
 use Rattle.rz_fields.specs.Shape.{are_shaped, body_depth, deepest_body}
 
 -- Statements as they are written.

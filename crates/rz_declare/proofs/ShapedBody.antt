@@ -12,15 +12,15 @@ use Rattle.rz_brackets.specs.declared.bracket.Bracket.TheVariants.{Curly, Square
 use Rattle.rz_brackets.specs.declared.pieces.Divider.TheVariants.{Case, Semicolon}
 use Rattle.rz_declare.specs.Body.{array, case_more, cut, cut_cases, empty, flat, key, more, no_case, none, switch, AreCases, AreEachCase, AreFields, IsBody, IsField}
 use Rattle.rz_declare.specs.Constants.{body_value, cases_value, count_value, field_value, given_value, number_value}
-use Rattle.rz_declare.specs.Form as form
-use Rattle.rz_declare.specs.Form.{BodyForm, CasesForm, FieldForm}
+use Rattle.rz_flat.specs.Form as form
+use Rattle.rz_flat.specs.Form.{BodyForm, CasesForm, FieldForm}
 use Rattle.rz_declare.specs.Head.{bare, case_front, counted, is_colon, named, ArrayFront, CaseFront, IsArrayFront, IsBraced, IsNamed}
 use Rattle.rz_declare.specs.Start.{start_of, started, wide_start, Array, FieldStart, Flat, Key, Switch}
-use Rattle.rz_declare.specs.Symbols.{name_in}
-use Rattle.rz_declare.proofs.Answering.{same_ok, then_ok}
-use Rattle.rz_declare.proofs.Pieces.{after_lexed, cut_lexed, within_lexed, AreAllLexed}
-use Rattle.rz_declare.proofs.ShapedField.{a_key_formed, flat_formed, AreCasesFormed, IsBodyFormed, IsFieldFormed}
-use Rattle.rz_declare.proofs.ShapedNumber.{name_of}
+use Rattle.rz_flat.specs.Symbols.{name_in}
+use Rattle.rz_flat.proofs.Answering.{same_ok, then_ok}
+use Rattle.rz_flat.proofs.Pieces.{after_lexed, cut_lexed, within_lexed, AreAllLexed}
+use Rattle.rz_flat.proofs.ShapedField.{a_key_formed, flat_formed, AreCasesFormed, IsBodyFormed, IsFieldFormed}
+use Rattle.rz_flat.proofs.ShapedNumber.{name_of}
 use Rattle.rz_declare.proofs.ShapedValue.{number_shaped}
 use Rattle.rz_fields.specs.Field as made
 use Rattle.rz_fields.specs.Field.{PlainBody, PlainCases, PlainField}

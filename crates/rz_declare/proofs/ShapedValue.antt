@@ -17,10 +17,10 @@ use Rattle.rz_expr.specs.Constant.{constant_sight, is_constant}
 use Rattle.rz_expr.specs.Value.{reduced, value_of}
 use Rattle.rz_expr.specs.declared.value.EvalFault.{EvalFault}
 use Rattle.rz_declare.specs.Constants.{key_value, number_value, width_value}
-use Rattle.rz_declare.specs.Form.{NamedTerm, NumberForm, Own, WidthForm, Written}
+use Rattle.rz_flat.specs.Form.{NamedTerm, NumberForm, Own, WidthForm, Written}
 use Rattle.rz_declare.specs.Values.{given_or, out_of_range, values_of, with_value}
-use Rattle.rz_declare.proofs.Answering.{same_ok, then_ok}
-use Rattle.rz_declare.proofs.ShapedNumber.{AreNamesShaped, IsFixedShaped, IsKeyFormed, IsKeyFormedBy, IsNumberFormed, IsWidthOf}
+use Rattle.rz_flat.proofs.Answering.{same_ok, then_ok}
+use Rattle.rz_flat.proofs.ShapedNumber.{AreNamesShaped, IsFixedShaped, IsKeyFormed, IsKeyFormedBy, IsNumberFormed, IsWidthOf}
 use Rattle.rz_fields.specs.Field.{PlainNumber}
 use Rattle.rz_fields.specs.Range.{fits_number, own_width}
 use Rattle.rz_fields.specs.Shape.{has_value, is_empty, is_fixed_number, is_none_or, is_number_shaped, is_own_width, is_symbol_name, is_symbol_of, may_be_key}

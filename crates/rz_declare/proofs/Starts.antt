@@ -6,12 +6,12 @@ use Rattle.rz_expr.specs.declared.keyword.Keyword.{Keyword}
 use Rattle.rz_expr.specs.declared.keyword.Keyword.TheVariants as keywords
 use Rattle.rz_lex.specs.declared.token.Token.{Token}
 use Rattle.rz_declare.specs.Body.{array, flat, key, switch, IsArray, IsField, IsSwitch}
-use Rattle.rz_declare.specs.FieldForm.{IsFlat}
-use Rattle.rz_declare.specs.FieldWord.{by_modifier, field_word, front_in, modifier_word, FieldFront}
-use Rattle.rz_declare.specs.Form.{FieldForm}
-use Rattle.rz_declare.specs.Key.{IsKey}
+use Rattle.rz_flat.specs.FieldForm.{IsFlat}
+use Rattle.rz_flat.specs.FieldWord.{by_modifier, field_word, front_in, modifier_word, FieldFront}
+use Rattle.rz_flat.specs.Form.{FieldForm}
+use Rattle.rz_flat.specs.Key.{IsKey}
 use Rattle.rz_declare.specs.Start.{start_of, started, Array, Flat, Key, Switch}
-use Rattle.rz_declare.proofs.Fronts.{fronts}
+use Rattle.rz_flat.proofs.Fronts.{fronts}
 
 -- a field with no fields of its own begins with none of the words of the others
 flat_start : (tokens : List Token) (front : FieldFront) → front_in false None tokens ≡ Some front → start_of tokens ≡ Flat

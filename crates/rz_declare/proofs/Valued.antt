@@ -1,20 +1,13 @@
 -- Symbols and their values, one more at a time.
-use Rattle.std.proofs.Common.{◌≡◌, ℤ, Bool, true, false, List, [], ◌∷◌, ◌++◌, if◌then◌else◌, Option, Some, Ok, Err, refl, sym, ap, ◌∙◌, append_assoc}
+use Rattle.std.proofs.Common.{◌≡◌, ℤ, Bool, true, false, List, [], ◌∷◌, ◌++◌, if◌then◌else◌, Ok, Err, refl, sym, ap, ◌∙◌, append_assoc}
 use Rattle.std.specs.Prelude.{pos, ◌+ℤ◌}
 use Rattle.std.specs.declared.result.Result.{Result}
-use Rattle.rz_expr.proofs.OneTerm.{OneExpression}
-use Rattle.rz_core.proofs.Tests.{same_some}
 use Rattle.rz_core.specs.Stop.{◌>>=◌}
 use Rattle.rz_core.specs.declared.fault.Fault.{Fault}
 use Rattle.rz_core.specs.declared.fault.Mark.{Mark}
-use Rattle.rz_expr.specs.Term.{Term}
 use Rattle.rz_expr.specs.Value.{reduced}
-use Rattle.rz_lex.specs.declared.token.Token.{Token}
-use Rattle.rz_declare.specs.Form.{NamedTerm}
-use Rattle.rz_declare.specs.Symbols.{name_in, IsGiven, IsSymbol}
+use Rattle.rz_flat.specs.Form.{NamedTerm}
 use Rattle.rz_declare.specs.Values.{given_or, out_of_range, values_of, with_value}
-use Rattle.rz_declare.proofs.OneValue.{one_symbol_value}
-use Rattle.rz_fields.specs.declared.field.NumForm.{NumForm}
 use Rattle.rz_fields.specs.declared.field.Symbol.{Symbol}
 
 -- the symbols so far before those that follow
@@ -55,17 +48,3 @@ module _ (fits : ℤ → Bool) (mark : Mark) (all : Result (List Symbol) Fault) 
         by : (one : Symbol) (more : Result (List Symbol) Fault) → behind_symbols before (more >>= λ others. Ok (one ∷ others)) ≡ behind_symbols (before ++ one ∷ []) more
         by one (Ok others) = ap (λ (l : List Symbol). Ok l) (sym (append_assoc before (one ∷ []) others))
         by one (Err fault) = refl
-
--- Symbols are one at most.
-
-module _ (one : OneExpression) (form : NumForm) where
-  one_given : (tokens : List Token) (a b : Option Term) → IsGiven form tokens a → IsGiven form tokens b → a ≡ b
-  one_given [] a b is also = is ∙ sym also
-  one_given (token ∷ tokens) a b is also = is.3 ∙ ap (λ (t : Term). Some t) (one_symbol_value one form tokens is.1 also.1 is.2 also.2) ∙ sym also.3
-
-  pub one_symbol : (tokens : List Token) (a b : NamedTerm) → IsSymbol form tokens a → IsSymbol form tokens b → a ≡ b
-  one_symbol [] a b is also = absurd is
-  one_symbol (token ∷ tokens) a b is also =
-      let name : a.name ≡ b.name = same_some (name_in token.shape) a.name b.name is.0 also.0 in
-      let value : a.value ≡ b.value = one_given tokens a.value b.value is.1 also.1 in
-      λ i. record { name = name i; value = value i }

@@ -3,11 +3,11 @@ use Rattle.std.specs.Prelude.{◌≡◌, Bool, true, false, List, [], ◌∷◌,
 use Rattle.rz_lex.specs.declared.token.Token.{Token}
 use Rattle.rz_brackets.specs.Pieces.{AreCut}
 use Rattle.rz_brackets.specs.declared.pieces.Divider.TheVariants.{Case, Semicolon}
-use Rattle.rz_declare.specs.FieldForm.{IsFlat}
-use Rattle.rz_declare.specs.Form as form
-use Rattle.rz_declare.specs.Form.{BodyForm, CaseForm, CasesForm, FieldForm}
+use Rattle.rz_flat.specs.FieldForm.{IsFlat}
+use Rattle.rz_flat.specs.Form as form
+use Rattle.rz_flat.specs.Form.{BodyForm, CaseForm, CasesForm, FieldForm}
 use Rattle.rz_declare.specs.Head.{case_front, ArrayFront, CaseFront, IsArrayFront, IsBraced}
-use Rattle.rz_declare.specs.Key.{IsKey}
+use Rattle.rz_flat.specs.Key.{IsKey}
 use Rattle.rz_declare.specs.Start.{start_of, Array, Key, Switch}
 
 mutual

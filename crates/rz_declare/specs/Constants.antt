@@ -6,8 +6,8 @@ use Rattle.rz_core.specs.Stop.{◌>>=◌}
 use Rattle.rz_core.specs.declared.fault.Fault.{Fault}
 use Rattle.rz_core.specs.declared.fault.Mark.{Mark}
 use Rattle.rz_core.specs.declared.stop.Stop.{Stop}
-use Rattle.rz_declare.specs.Form.{BodyForm, CaseForm, CasesForm, DeclareForm, FieldForm, MadeForm, NumberForm, Own, ScopeForm, WidthForm, Written}
-use Rattle.rz_declare.specs.Form as form
+use Rattle.rz_flat.specs.Form.{BodyForm, CaseForm, CasesForm, DeclareForm, FieldForm, MadeForm, NumberForm, Own, ScopeForm, WidthForm, Written}
+use Rattle.rz_flat.specs.Form as form
 use Rattle.rz_fields.specs.Value.{constant_value}
 use Rattle.rz_fields.specs.Range.{fits_number}
 use Rattle.rz_declare.specs.Values.{values_of}

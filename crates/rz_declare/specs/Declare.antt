@@ -13,7 +13,7 @@ use Rattle.rz_brackets.specs.declared.bracket.Bracket.TheVariants.{Curly, Round}
 use Rattle.rz_brackets.specs.declared.pieces.Divider.TheVariants.{Colon}
 use Rattle.rz_declare.specs.Body.{IsBody}
 use Rattle.rz_expr.specs.Constant.{IsConstant}
-use Rattle.rz_declare.specs.Form.{Any, BodyForm, CopyOf, DeclareForm, Fields, MadeForm, One, ScopeForm, Two}
+use Rattle.rz_flat.specs.Form.{Any, BodyForm, CopyOf, DeclareForm, Fields, MadeForm, One, ScopeForm, Two}
 
 -- the ids: one, or the first and the last
 abbrev pub AreIds : List (List Token) → ScopeForm → Type 0

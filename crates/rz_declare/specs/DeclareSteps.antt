@@ -12,7 +12,7 @@ use Rattle.rz_brackets.specs.declared.bracket.Bracket.TheVariants.{Curly, Round}
 use Rattle.rz_declare.specs.Body.{IsBody}
 use Rattle.rz_declare.specs.Declare.{IsMade, IsScope, IsScoped}
 use Rattle.rz_expr.specs.Constant.{IsConstant}
-use Rattle.rz_declare.specs.Form.{made_form, scope_form, Any, BodyForm, CopyOf, Fields, MadeForm, One, ScopeForm, Two}
+use Rattle.rz_flat.specs.Form.{made_form, scope_form, Any, BodyForm, CopyOf, Fields, MadeForm, One, ScopeForm, Two}
 use Rattle.rz_declare.specs.declared.declare.Scoped.{Scoped}
 
 abbrev pub IsOneId : List Token → ScopeForm → Type 0

@@ -10,7 +10,7 @@ use Rattle.rz_lex.specs.declared.token.Token.{Token}
 use Rattle.rz_brackets.specs.Bracket.{IsBracketed}
 use Rattle.rz_brackets.specs.Pieces.{Parted}
 use Rattle.rz_brackets.specs.declared.bracket.Bracket.TheVariants.{Curly, Square}
-use Rattle.rz_declare.specs.Symbols.{name_in}
+use Rattle.rz_flat.specs.Symbols.{name_in}
 
 -- the tokens are braces, in which this stands, and nothing behind them
 abbrev pub IsBraced : List Token → List Token → Type 0

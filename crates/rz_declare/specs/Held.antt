@@ -1,17 +1,12 @@
 -- What the code holds of tokens that it lends.
 use Rattle.std.specs.Prelude.{option_map}
 use Rattle.rz_expr.specs.Term.{term_of}
-use Rattle.rz_declare.specs.FieldWord.{FieldFront}
 use Rattle.rz_declare.specs.Head as head
 use Rattle.rz_declare.specs.Start as start
-use Rattle.rz_declare.specs.declared.field_word.Front.{Front}
 use Rattle.rz_declare.specs.declared.head.ArrayFront.{ArrayFront}
 use Rattle.rz_declare.specs.declared.head.CaseFront.{CaseFront}
 use Rattle.rz_declare.specs.declared.start.Start.{Start}
 use Rattle.rz_declare.specs.declared.start.Start.TheVariants.{Array, Flat, Key, Switch}
-
-abbrev pub held_front : Front → FieldFront
-held_front front = record { unsigned = front.unsigned; radix = front.radix; word = front.word; tail = front.tail.now }
 
 abbrev pub held_start : Start → start.FieldStart
 held_start (Key behind) = start.Key behind.now

@@ -1,15 +1,6 @@
-pub mod Each
-pub mod Form
-pub mod FieldValue
-pub mod FieldWord
-pub mod FieldFront
 pub mod Start
-pub mod Symbols
 pub mod Head
 pub mod Held
-pub mod NumberField
-pub mod FieldForm
-pub mod Key
 pub mod Body
 pub mod Declare
 pub mod DeclareSteps
@@ -24,3 +15,8 @@ pub use Rattle.rz_brackets.specs.Kind
 pub use Rattle.rz_fields.specs.Text
 pub use Rattle.rz_fields.specs.Value
 pub use Rattle.rz_fields.specs.Range
+pub use Rattle.rz_flat.specs.Form
+pub use Rattle.rz_flat.specs.FieldFront
+pub use Rattle.rz_flat.specs.FieldForm
+pub use Rattle.rz_flat.specs.Key
+pub use Rattle.rz_flat.specs.Symbols

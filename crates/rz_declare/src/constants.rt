@@ -4,16 +4,16 @@ ghost use Rattle.rz_core.specs.Stop.{Gives, OnFault};
 ghost use Rattle.rz_expr.specs.Term.{term_of};
 ghost use Rattle.rz_fields.specs.Field.{plain_array, plain_body, plain_case, plain_cases, plain_field, plain_number};
 ghost use Rattle.rz_declare.specs.Constants.{body_value, case_value, cases_value, count_value, declare_of, declared, field_value, given_value, key_value, made_of, made_value, number_of_width, number_value, scope_value, seen, two_value, width_value};
-ghost use Rattle.rz_declare.specs.Form.{array_form, body_form, case_form, cases_form, declare_form, field_form, made_form, number_form, scope_form, width_form};
+ghost use Rattle.rz_flat.specs.Form.{array_form, body_form, case_form, cases_form, declare_form, field_form, made_form, number_form, scope_form, width_form};
 
-use crate::form::{
-    ArrayExpr, CaseExpr, CaseExprs, DeclareExpr, FieldExpr, FieldExprs, MadeExpr, NumberExpr,
-    ScopeExpr, Width,
-};
 use crate::values::values_of;
 use rz_core::{Fault, Mark, OsType, Stop};
 use rz_expr::Expr;
 use rz_fields::{ArrayField, Body, Case, Cases, Field, NumField, constant_value};
+use rz_flat::{
+    ArrayExpr, CaseExpr, CaseExprs, DeclareExpr, FieldExpr, FieldExprs, MadeExpr, NumberExpr,
+    ScopeExpr, Width,
+};
 use std::alloc::Global;
 
 /// For which ids a declaration is, as the statement says it. (MPW Rez.)

@@ -3,13 +3,13 @@ ghost use Rattle.rz_expr.specs.Term.{term_of};
 ghost use Rattle.rz_declare.specs.Declare.{AreIds, IsDeclare, IsMade, IsScope};
 ghost use Rattle.rz_declare.specs.DeclareSteps.{scoped_form, AreFieldsMade, AreForAny, AreForIds, AreScoped, AreTwoIds, IsCopy, IsCopyId, IsGivenId, IsOneId};
 ghost use Rattle.rz_core.specs.Decided.{Decided};
-ghost use Rattle.rz_declare.specs.Form.{declare_form, made_form, scope_form};
+ghost use Rattle.rz_flat.specs.Form.{declare_form, made_form, scope_form};
 
 use crate::body::read_body;
-use crate::form::{DeclareExpr, MadeExpr, ScopeExpr};
 use rz_brackets::{Bracket, Divider, begins, bracketed, is_empty_statement, kind_in, pieces_by};
 use rz_core::{NoMemory, OsType};
 use rz_expr::{Expr, Keyword, is_keyword, read_constant};
+use rz_flat::{DeclareExpr, MadeExpr, ScopeExpr};
 use rz_lex::Token;
 use std::alloc::Global;
 

@@ -3,10 +3,10 @@ ghost use Rattle.rz_core.specs.Decided.{Decided};
 ghost use Rattle.rz_declare.specs.Head.{behind_empty, case_front, is_colon, IsArrayFront, IsBare, IsBraced, IsCounted, IsNamed};
 ghost use Rattle.rz_declare.specs.Held.{held_array, held_case};
 
-use crate::symbols::name_in;
 use rz_brackets::{Bracket, begins, bracketed};
 use rz_core::{NoMemory, Word};
 use rz_expr::{Expr, read_constant};
+use rz_flat::name_in;
 use rz_lex::{Shape, Sign, Token};
 use std::alloc::Global;
 

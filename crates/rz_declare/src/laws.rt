@@ -1,4 +1,4 @@
-ghost use Rattle.std.specs.Prelude.{◌≡◌, ◌↔◌, true, false, None, Bool, ℤ, List, Err, Ok, Some};
+ghost use Rattle.std.specs.Prelude.{◌≡◌, ◌↔◌, true, Bool, ℤ, List, Err, Ok};
 ghost use Rattle.rz_core.specs.declared.fault.Fault.{Fault};
 ghost use Rattle.rz_core.specs.declared.fault.Mark.{Mark};
 ghost use Rattle.rz_lex.specs.Lexeme.{AreLexed};
@@ -7,9 +7,7 @@ ghost use Rattle.rz_brackets.specs.Limit.{is_within_limits};
 ghost use Rattle.rz_fields.specs.declared.field.Symbol.{Symbol};
 ghost use Rattle.rz_declare.specs.Constants.{declared, Declare};
 ghost use Rattle.rz_declare.specs.Declare.{IsDeclare};
-ghost use Rattle.rz_declare.specs.FieldFront.{IsFront};
-ghost use Rattle.rz_declare.specs.FieldWord.{front_in, FieldFront};
-ghost use Rattle.rz_declare.specs.Form.{DeclareForm, NamedTerm};
+ghost use Rattle.rz_flat.specs.Form.{DeclareForm, NamedTerm};
 ghost use Rattle.rz_declare.specs.GoOn.{GoWrong, HaveValues};
 ghost use Rattle.rz_declare.specs.Shaped.{IsShapedMade};
 ghost use Rattle.rz_declare.specs.Values.{values_of};
@@ -24,12 +22,6 @@ pub fn one_declare()
     one_expression();
     pieces_are_cut();
 }
-
-/// A law, with nothing to run: tokens have this front of a field exactly where `unsigned` and a radix, once each at
-/// most and in either order, stand before the word that says what the field is.
-pub fn words_before_fields()
-    ensures { (tokens : List Token) (front : FieldFront) → (front_in false None tokens ≡ Some front) ↔ IsFront tokens front }
-{}
 
 /// A law, with nothing to run: symbols have these values exactly where there are as many as names; each has its
 /// name, a value in the range, and the one that is given, or else one more than the symbol before, wrapped to 32

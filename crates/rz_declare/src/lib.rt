@@ -1,32 +1,25 @@
 //! `type` statements. `read_declare` gives exactly the statement that the tokens are, with expressions where
 //! constants stand, or none; `value_declare` gives these their values from left to right, or the first fault.
 //! A body leads back to itself, by arrays and switches: `body` reads it with the fields that have fields of their
-//! own, whose first words stand in `start` and what stands before their braces or their fields in `head`; `field`
-//! reads the others, and `key` the keys of cases.
-//! It rests on `rz_core`, `rz_lex`, `rz_expr`, `rz_fields` and `rz_brackets`.
-//! A new kind of field changes `form`, `field` (or `start` and `body`, where it has fields of its own) and `constants`
-//! here, each with its definitions, and `Field` of `rz_fields`.
+//! own, whose first words stand in `start` and what stands before their braces or their fields in `head`. The other
+//! fields, the keys of cases and the form of the statement stand in `rz_flat`.
+//! It rests on `rz_core`, `rz_lex`, `rz_expr`, `rz_fields`, `rz_brackets` and `rz_flat`.
+//! A new kind of field changes `form` of `rz_flat`, `field` there (or `start` and `body` here, where it has fields of
+//! its own) and `constants` here, each with its definitions, and `Field` of `rz_fields`.
 #![tactic(auto)]
 
 mod body;
 mod constants;
 mod declare;
-mod field;
-mod field_word;
-mod form;
 mod head;
-mod key;
 mod laws;
-mod number_field;
 mod start;
-mod symbols;
-mod value;
 mod values;
 
 pub use constants::{Bounds, DeclareStmt, Made, value_declare};
 pub use declare::read_declare;
-pub use form::{
+pub use laws::{declarations_are_shaped, one_declare, symbols_have_values};
+pub use rz_flat::{
     ArrayExpr, CaseExpr, CaseExprs, DeclareExpr, FieldExpr, FieldExprs, MadeExpr, Named, Names,
-    NumberExpr, ScopeExpr, Width,
+    NumberExpr, ScopeExpr, Width, words_before_fields,
 };
-pub use laws::{declarations_are_shaped, one_declare, symbols_have_values, words_before_fields};

@@ -2,14 +2,14 @@ ghost use Rattle.std.specs.Prelude.{◌≡◌, ◌+ℤ◌, map, option_map, pos}
 ghost use Rattle.rz_core.specs.Stop.{Gives};
 ghost use Rattle.rz_expr.specs.Term.{term_of};
 ghost use Rattle.rz_expr.specs.Value.{reduced};
-ghost use Rattle.rz_declare.specs.Form.{named_of};
+ghost use Rattle.rz_flat.specs.Form.{named_of};
 ghost use Rattle.rz_fields.specs.Range.{fits_number};
 ghost use Rattle.rz_declare.specs.Values.{given_or, out_of_range, values_of};
 
-use crate::form::Named;
 use rz_core::{Fault, Kept, Mark, Stop};
 use rz_expr::Expr;
 use rz_fields::{NumForm, Symbol, Symbols, constant_value, fits_number};
+use rz_flat::Named;
 use std::alloc::Global;
 
 /// The symbols with their values, or the first fault among them.

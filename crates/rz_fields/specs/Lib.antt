@@ -9,3 +9,4 @@ pub mod Width
 pub mod Solve
 pub mod Spells
 pub mod Laid
+pub mod NameKey

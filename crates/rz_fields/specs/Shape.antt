@@ -10,7 +10,7 @@ use Rattle.rz_lex.specs.Lexeme.{is_lexed_word}
 use Rattle.rz_core.specs.declared.resource.Word.{Word}
 use Rattle.rz_fields.specs.Field.{case_and, field_and, no_cases, no_fields, Align, Array, Fill, Number, PlainBody, PlainCases, PlainField, PlainNumber, PlainPoints, PlainText, Points, Switch, Text}
 use Rattle.rz_fields.specs.Range.{fits_number, own_width}
-use Rattle.rz_fields.specs.Text.{NameFact, Plain, PlainPart}
+use Rattle.rz_fields.specs.Text.{DateFact, NameFact, Plain, PlainPart, TimeFact, VersionFact}
 use Rattle.rz_fields.specs.Value.{is_field_expression, is_fixed_expression}
 use Rattle.rz_fields.specs.declared.field.NumForm.{NumForm}
 use Rattle.rz_fields.specs.declared.field.NumForm.TheVariants.{Bits, Boolean, Byte, Char, Integer, Longint}
@@ -71,6 +71,9 @@ is_number_shaped in_case number =
 abbrev pub is_fixed_part : PlainPart → Bool
 is_fixed_part (Plain bytes) = true
 is_fixed_part NameFact = true
+is_fixed_part DateFact = true
+is_fixed_part TimeFact = true
+is_fixed_part VersionFact = true
 
 -- a fixed text has one part or more
 abbrev pub is_fixed_text : List PlainPart → Bool

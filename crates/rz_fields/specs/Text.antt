@@ -1,7 +1,8 @@
 -- Texts, and their bytes. (MPW Rez.)
-use Rattle.std.specs.Prelude.{ℕ, List, [], ◌∷◌, map, Option, Some, None, option_map, Ok}
+use Rattle.std.specs.Prelude.{ℕ, codes, List, [], ◌∷◌, map, Option, Some, None, option_map, Ok}
 use Rattle.std.specs.List.{flat_map}
 use Rattle.std.specs.declared.result.Result.{Result}
+use Rattle.rz_core.specs.DateText.{date_text, time_text}
 use Rattle.rz_core.specs.declared.facts.Facts.{Facts}
 use Rattle.rz_core.specs.declared.fault.Fault.{Fault}
 use Rattle.rz_core.specs.declared.fault.Mark.{Mark}
@@ -19,10 +20,16 @@ use Rattle.rz_fields.specs.declared.text.TextPart.TheVariants as parts
 pub data PlainPart : Type 0 where
   Plain : (bytes : List ℕ) → PlainPart  -- bytes that stood between quote marks
   NameFact : PlainPart  -- the name of the resource
+  DateFact : PlainPart  -- the date of the run
+  TimeFact : PlainPart  -- the time of the run
+  VersionFact : PlainPart  -- the version of the language
 
 abbrev pub plain_part : TextPart → PlainPart
 plain_part (parts.Plain bytes) = Plain bytes
 plain_part parts.NameFact = NameFact
+plain_part parts.DateFact = DateFact
+plain_part parts.TimeFact = TimeFact
+plain_part parts.VersionFact = VersionFact
 
 abbrev pub plain_parts : List TextPart → List PlainPart
 plain_parts parts = map plain_part parts
@@ -30,6 +37,9 @@ plain_parts parts = map plain_part parts
 -- the part that a word is
 abbrev pub word_part : Role → Option PlainPart
 word_part (roles.Text words.Name) = Some NameFact
+word_part (roles.Text words.Date) = Some DateFact
+word_part (roles.Text words.Time) = Some TimeFact
+word_part (roles.Text words.Version) = Some VersionFact
 word_part role = None
 
 -- the part that a token is
@@ -55,6 +65,9 @@ text_in (token ∷ tokens) = parts_in (token ∷ tokens)
 abbrev pub bytes_in : Facts → PlainPart → List ℕ
 bytes_in known (Plain bytes) = bytes
 bytes_in known NameFact = known.name
+bytes_in known DateFact = date_text known.moment
+bytes_in known TimeFact = time_text known.moment
+bytes_in known VersionFact = codes "V1.0"
 
 -- the bytes of the parts in order; no part has a fault so far
 abbrev pub bytes_of : Mark → Facts → List PlainPart → Result (List ℕ) Fault

@@ -20,28 +20,46 @@ use Rattle.rz_fields.specs.declared.field.Symbol.{Symbol}
 
 -- Facts.
 
--- what is known of the resource, as a number; the words of the date stand in no expression of a field so far
+-- what is known of the resource and of the moment, as a number
 abbrev pub fact_of : Facts → FactWord → ℤ
 fact_of known facts.Id = known.id
 fact_of known facts.Kind = pos known.kind.code
 fact_of known facts.Attributes = pos known.attr
-fact_of known other = pos 0
+fact_of known facts.Year = known.moment.year
+fact_of known facts.Month = pos known.moment.month
+fact_of known facts.Day = pos known.moment.day
+fact_of known facts.Hour = pos known.moment.hour
+fact_of known facts.Minute = pos known.moment.minute
+fact_of known facts.Second = pos known.moment.second
+fact_of known facts.Weekday = pos known.moment.weekday
 
-abbrev pub is_resource_fact : FactWord → Bool
-is_resource_fact facts.Id = true
-is_resource_fact facts.Kind = true
-is_resource_fact facts.Attributes = true
-is_resource_fact other = false
+-- whether it is known before a resource is
+abbrev pub is_date_fact : FactWord → Bool
+is_date_fact facts.Id = false
+is_date_fact facts.Kind = false
+is_date_fact facts.Attributes = false
+is_date_fact other = true
 
--- Field expressions, those of sizes and heads: no names but `true` and `false`, and of the functions the facts of the
--- resource.
+-- Expressions of new heads: no names but `true` and `false`, and of the functions the numbers of the date and the time.
+
+abbrev pub is_head_expression : Term → Bool
+is_head_expression (Constant number) = true
+is_head_expression (Named name) = is_some (predefined name)
+is_head_expression (RowsOf name) = false
+is_head_expression (BitsAt name start width) = false
+is_head_expression (FactOf which) = is_date_fact which
+is_head_expression (OfOne op operand) = is_head_expression operand
+is_head_expression (OfTwo op left right) = is_head_expression left && is_head_expression right
+
+-- Field expressions, those of sizes and of heads for chosen resources: no names but `true` and `false`, and of the
+-- functions the facts.
 
 abbrev pub is_field_expression : Term → Bool
 is_field_expression (Constant number) = true
 is_field_expression (Named name) = is_some (predefined name)
 is_field_expression (RowsOf name) = false
 is_field_expression (BitsAt name start width) = false
-is_field_expression (FactOf which) = is_resource_fact which
+is_field_expression (FactOf which) = true
 is_field_expression (OfOne op operand) = is_field_expression operand
 is_field_expression (OfTwo op left right) = is_field_expression left && is_field_expression right
 
@@ -51,7 +69,7 @@ is_fixed_expression (Constant number) = true
 is_fixed_expression (Named name) = is_some (predefined name)
 is_fixed_expression (RowsOf name) = true
 is_fixed_expression (BitsAt name start width) = false
-is_fixed_expression (FactOf which) = is_resource_fact which
+is_fixed_expression (FactOf which) = true
 is_fixed_expression (OfOne op operand) = is_fixed_expression operand
 is_fixed_expression (OfTwo op left right) = is_fixed_expression left && is_fixed_expression right
 

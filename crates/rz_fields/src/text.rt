@@ -4,7 +4,7 @@ ghost use Rattle.rz_core.specs.Message.{IsNameable};
 ghost use Rattle.rz_core.specs.Stop.{Gives, OnFault};
 ghost use Rattle.rz_fields.specs.Text.{bytes_of, part_in, plain_part, plain_parts, text_in, word_part};
 
-use rz_core::{Bytes, Facts, Fault, Listing, Mark, NoMemory, Stop, Word};
+use rz_core::{Bytes, Facts, Fault, Listing, Mark, NoMemory, Stop, Word, write_date, write_time};
 use rz_expr::{Role, TextWord, role_of};
 use rz_lex::{Shape, Token};
 use std::alloc::Global;
@@ -16,6 +16,12 @@ pub enum TextPart {
     Plain(Bytes),
     /// `$$Name`, the name of the resource.
     NameFact,
+    /// `$$Date`, the date of the run in UTC.
+    DateFact,
+    /// `$$Time`, the time of the run in UTC.
+    TimeFact,
+    /// `$$Version`, the version of the language.
+    VersionFact,
 }
 
 /// The parts of a text, in order.
@@ -37,6 +43,9 @@ pub fn text_of(
         match part {
             TextPart::Plain(piece) => bytes.append(piece.as_slice())?,
             TextPart::NameFact => bytes.append(facts.name.as_slice())?,
+            TextPart::DateFact => write_date(facts.moment, &mut bytes)?,
+            TextPart::TimeFact => write_time(facts.moment, &mut bytes)?,
+            TextPart::VersionFact => bytes.append(b"V1.0")?,
         }
     }
     Ok(bytes)
@@ -76,6 +85,9 @@ fn word_part(word: &Word) -> Option<TextPart>
 {
     match role_of(word) {
         Role::Text(TextWord::Name) => Some(TextPart::NameFact),
+        Role::Text(TextWord::Date) => Some(TextPart::DateFact),
+        Role::Text(TextWord::Time) => Some(TextPart::TimeFact),
+        Role::Text(TextWord::Version) => Some(TextPart::VersionFact),
         _ => None,
     }
 }

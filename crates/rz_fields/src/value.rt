@@ -5,7 +5,7 @@ ghost use Rattle.rz_core.specs.Stop.{Gives, OnFault};
 ghost use Rattle.rz_expr.specs.Constant.{is_constant};
 ghost use Rattle.rz_expr.specs.Term.{term_of};
 ghost use Rattle.rz_expr.specs.Value.{reduced};
-ghost use Rattle.rz_fields.specs.Value.{constant_value, fact_of, field_sight, is_field_expression, is_fixed_expression, is_resource_fact, number_of, symbol_number_of, symbol_value, value_fault, IsArithmeticFault};
+ghost use Rattle.rz_fields.specs.Value.{constant_value, fact_of, field_sight, is_date_fact, is_field_expression, is_fixed_expression, is_head_expression, number_of, symbol_number_of, symbol_value, value_fault, IsArithmeticFault};
 
 use crate::Symbol;
 use rz_core::{Facts, Fault, Kept, Mark, Stop, Word};
@@ -50,16 +50,30 @@ impl Env for FieldEnv<'_> {
     ghost law = { Prim.search rules };
 }
 
-/// Whether an expression may stand in a head or in the size of a text: it has no names but `true` and `false`, and of
-/// the `$$` functions the facts of the resource alone. (MPW Rez.)
-pub fn is_field_expression(expr: &Expr) -> bool
-    ensures { result ≡ is_field_expression (term_of expr.now) }
+/// Whether an expression may stand in the head of a new resource: it has no names but `true` and `false`, and of the
+/// `$$` functions the numbers of the date and the time alone. (MPW Rez.)
+pub fn is_head_expression(expr: &Expr) -> bool
+    ensures { result ≡ is_head_expression (term_of expr.now) }
 {
     match expr {
         Expr::Number(_) => true,
         Expr::Name(name) => predefined(name).is_some(),
         Expr::Count(_) | Expr::Bits(..) => false,
-        Expr::Fact(which) => is_resource_fact(*which),
+        Expr::Fact(which) => is_date_fact(*which),
+        Expr::Unary(_, operand) => is_head_expression(operand),
+        Expr::Binary(_, left, right) => is_head_expression(left) && is_head_expression(right),
+    }
+}
+
+/// Whether an expression may stand in the head for a chosen resource or in the size of a text: it has no names but
+/// `true` and `false`, and of the `$$` functions the facts alone. (MPW Rez.)
+pub fn is_field_expression(expr: &Expr) -> bool
+    ensures { result ≡ is_field_expression (term_of expr.now) }
+{
+    match expr {
+        Expr::Number(_) | Expr::Fact(_) => true,
+        Expr::Name(name) => predefined(name).is_some(),
+        Expr::Count(_) | Expr::Bits(..) => false,
         Expr::Unary(_, operand) => is_field_expression(operand),
         Expr::Binary(_, left, right) => is_field_expression(left) && is_field_expression(right),
     }
@@ -70,20 +84,19 @@ pub fn is_fixed_expression(expr: &Expr) -> bool
     ensures { result ≡ is_fixed_expression (term_of expr.now) }
 {
     match expr {
-        Expr::Number(_) | Expr::Count(_) => true,
+        Expr::Number(_) | Expr::Count(_) | Expr::Fact(_) => true,
         Expr::Name(name) => predefined(name).is_some(),
         Expr::Bits(..) => false,
-        Expr::Fact(which) => is_resource_fact(*which),
         Expr::Unary(_, operand) => is_fixed_expression(operand),
         Expr::Binary(_, left, right) => is_fixed_expression(left) && is_fixed_expression(right),
     }
 }
 
-/// Whether it is a fact of the resource: `$$ID`, `$$Type` or `$$Attributes`.
-pub fn is_resource_fact(which: FactWord) -> bool
-    ensures { result ≡ is_resource_fact which }
+/// Whether it is known before a resource is: whatever but `$$ID`, `$$Type` and `$$Attributes`.
+fn is_date_fact(which: FactWord) -> bool
+    ensures { result ≡ is_date_fact which }
 {
-    matches!(which, FactWord::Id | FactWord::Kind | FactWord::Attributes)
+    !matches!(which, FactWord::Id | FactWord::Kind | FactWord::Attributes)
 }
 
 /// The value of the first symbol of a name, in whatever case.
@@ -98,8 +111,7 @@ fn symbol_value(symbols: &[Symbol], name: &Word) -> Option<i32>
     None
 }
 
-/// What is known of a resource, as a number of 32 bits with a sign. No expression of a field has the words of
-/// the date so far.
+/// What is known of a resource and of the moment, as a number of 32 bits with a sign.
 pub fn fact_of(facts: &Facts, which: FactWord) -> i32
     ensures { result ≡ reduced (fact_of facts.now which) }
 {
@@ -107,7 +119,13 @@ pub fn fact_of(facts: &Facts, which: FactWord) -> i32
         FactWord::Id => i32::from(facts.id),
         FactWord::Kind => signed(facts.kind.code),
         FactWord::Attributes => i32::from(facts.attr.byte()),
-        _ => 0,
+        FactWord::Year => facts.moment.year,
+        FactWord::Month => i32::from(facts.moment.month),
+        FactWord::Day => i32::from(facts.moment.day),
+        FactWord::Hour => i32::from(facts.moment.hour),
+        FactWord::Minute => i32::from(facts.moment.minute),
+        FactWord::Second => i32::from(facts.moment.second),
+        FactWord::Weekday => i32::from(facts.moment.weekday),
     }
 }
 

@@ -7,15 +7,14 @@ use Rattle.rz_lex.specs.declared.token.Token.{Token}
 use Rattle.rz_items.specs.Item as item
 use Rattle.rz_items.specs.Item.{PlainItem}
 use Rattle.rz_fields.specs.Text.{text_in, PlainPart}
-use Rattle.rz_fields.specs.Value.{is_resource_fact}
 
--- any names, but no rows and no bits of what is laid out, and of the facts those of the resource alone
+-- any names and facts, but no rows and no bits of what is laid out
 abbrev pub is_item_expression : Term → Bool
 is_item_expression (Constant number) = true
 is_item_expression (Named name) = true
 is_item_expression (RowsOf name) = false
 is_item_expression (BitsAt name start width) = false
-is_item_expression (FactOf which) = is_resource_fact which
+is_item_expression (FactOf which) = true
 is_item_expression (OfOne op operand) = is_item_expression operand
 is_item_expression (OfTwo op left right) = is_item_expression left && is_item_expression right
 

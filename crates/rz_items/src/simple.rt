@@ -8,7 +8,7 @@ ghost use Rattle.rz_items.specs.Simple.{is_item_expression, IsItemExpression, Is
 use crate::item::Item;
 use rz_core::{Mark, NoMemory};
 use rz_expr::{Expr, one_expression, read_whole, signed};
-use rz_fields::{is_resource_fact, text_in};
+use rz_fields::text_in;
 use rz_lex::{Shape, Token};
 use std::alloc::Global;
 
@@ -72,15 +72,13 @@ fn read_expression(alloc: Global, tokens: &[Token]) -> Result<Option<Expr>, NoMe
     }
 }
 
-/// Whether an expression may stand in an item: it has no `$$CountOf` and no data functions, and of the facts only
-/// those of the resource.
+/// Whether an expression may stand in an item: it has no `$$CountOf` and no data functions.
 fn is_item_expression(expr: &Expr) -> bool
     ensures { result ≡ is_item_expression (term_of expr.now) }
 {
     match expr {
-        Expr::Number(_) | Expr::Name(_) => true,
+        Expr::Number(_) | Expr::Name(_) | Expr::Fact(_) => true,
         Expr::Count(_) | Expr::Bits(..) => false,
-        Expr::Fact(which) => is_resource_fact(*which),
         Expr::Unary(_, operand) => is_item_expression(operand),
         Expr::Binary(_, left, right) => is_item_expression(left) && is_item_expression(right),
     }

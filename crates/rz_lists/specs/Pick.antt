@@ -40,7 +40,7 @@ AreIds pieces pick = ⊥
 abbrev pub IsIds : List Token → Pick → Type 0
 IsIds tokens pick = (pieces : List (List Token)) × AreCut Colon tokens pieces × AreIds pieces pick
 
--- a name, where the tokens are a text whose parts are all quoted, or else ids
+-- a name, where the tokens are a text whose parts are all known before, or else ids
 abbrev pub IsPickBy : Option (List PlainPart) → List Token → Pick → Type 0
 IsPickBy (Some parts) tokens pick = pick ≡ Name parts
 IsPickBy None tokens pick = IsIds tokens pick

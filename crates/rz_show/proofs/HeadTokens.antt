@@ -19,8 +19,8 @@ use Rattle.rz_lex.specs.declared.token.Token.{Token}
 use Rattle.rz_brackets.specs.Pieces.{divides, has_divider, AreCut, Parted}
 use Rattle.rz_brackets.specs.Statements.{open_behind, open_behind_all}
 use Rattle.rz_brackets.specs.declared.pieces.Divider.TheVariants.{CloseParen, Comma}
-use Rattle.rz_expr.specs.Constant.{IsConstant}
-use Rattle.rz_data.specs.Head.{are_quoted, if_quoted, name_in, AreAttributes, Attribute, IsAttribute, IsRest, Set}
+use Rattle.rz_data.specs.Head.{are_known, if_known, name_in, AreAttributes, Attribute, IsAttribute, IsRest, IsSaidFor, Set}
+use Rattle.rz_data.specs.declared.head.Subject.TheVariants.{New}
 use Rattle.rz_fields.specs.Text.{part_in, parts_in, with_part, PlainPart}
 use Rattle.rz_show.specs.Statement.{attribute_part, attributes_of, id_term, name_part, text_parts}
 use Rattle.rz_show.proofs.Shapes.{behind_commas, id_shapes, name_pieces, text_shapes}
@@ -136,20 +136,20 @@ texts_again (piece ∷ pieces) tokens is =
     ap parts_in one.are ∙ rw one.one_is (rw (texts_again pieces one.more one.more_are) refl)
 
 -- each of them is quoted
-all_quoted : (pieces : List (List ℕ)) → are_quoted (text_parts pieces) ≡ true
-all_quoted [] = refl
-all_quoted (piece ∷ pieces) = all_quoted pieces
+all_known : (pieces : List (List ℕ)) → are_known (text_parts pieces) ≡ true
+all_known [] = refl
+all_known (piece ∷ pieces) = all_known pieces
 
 name_again : (part : List ℕ) (name : List (List ℕ)) (piece : List Token) → shapes_in piece ≡ text_shapes (part ∷ name) → name_in piece ≡ Some (text_parts (part ∷ name))
 name_again part name [] is = absurd cc
 name_again part name (token ∷ piece) is =
-    ap if_quoted (texts_again (part ∷ name) (token ∷ piece) is)
-    ∙ ap (λ (b : Bool). if b then Some (text_parts (part ∷ name)) else None) (all_quoted (part ∷ name))
+    ap if_known (texts_again (part ∷ name) (token ∷ piece) is)
+    ∙ ap (λ (b : Bool). if b then Some (text_parts (part ∷ name)) else None) (all_known (part ∷ name))
 
 no_name_piece : (a : Shape × Attribute) → IsShownAttribute a → (piece : List Token) → shapes_in piece ≡ a.0 ∷ [] → name_in piece ≡ None
 no_name_piece a shown piece is =
     let one = one_and_more piece a.0 [] is in
-    ap name_in one.are ∙ ap (λ (o : Option PlainPart). if_quoted (with_part o (parts_in one.more))) (ap part_in one.one_is ∙ shown.no_text)
+    ap name_in one.are ∙ ap (λ (o : Option PlainPart). if_known (with_part o (parts_in one.more))) (ap part_in one.one_is ∙ shown.no_text)
 
 pub rest_is : (name : List (List ℕ)) (attributes : List (Shape × Attribute)) → AllByRecursion IsShownAttribute attributes → (pieces : List (List Token))
     → map shapes_in pieces ≡ name_pieces name ++ map (λ a. a.0 ∷ []) attributes → IsRest pieces (name_part name) (map (λ a. a.1) attributes)
@@ -166,7 +166,7 @@ rest_is (part ∷ name) attributes shown (piece ∷ pieces) is =
     rw (name_again part name piece first) (refl, attribute_pieces attributes shown pieces others)
 
 -- the id
-pub id_is : (id : ℤ) → FitsSigned w16 id → (tokens : List Token) → shapes_in tokens ≡ id_shapes id → IsConstant tokens (id_term id)
+pub id_is : (id : ℤ) → FitsSigned w16 id → (tokens : List Token) → shapes_in tokens ≡ id_shapes id → IsSaidFor New tokens (id_term id)
 id_is (pos n) fits tokens is =
     let one = one_and_more tokens (shapes.Number n) [] is in
     let alone : tokens ≡ one.one ∷ [] = one.are ∙ ap (λ (x : List Token). one.one ∷ x) (none_left one.more one.more_are) in

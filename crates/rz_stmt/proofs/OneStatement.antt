@@ -15,7 +15,7 @@ use Rattle.rz_lists.proofs.Listed.{one_beginning}
 use Rattle.rz_lists.specs.Lists.{word_of, BeginsWith, Changes, Deletes, Includes, IsListed, ListForm, Reads}
 use Rattle.rz_declare.specs.Constants.{declared}
 use Rattle.rz_declare.specs.Declare.{IsDeclare}
-use Rattle.rz_declare.specs.Form.{DeclareForm}
+use Rattle.rz_flat.specs.Form.{DeclareForm}
 use Rattle.rz_expr.specs.Keyword.{is_keyword, keyword_of, spelling}
 use Rattle.rz_expr.specs.declared.keyword.Keyword.{Keyword}
 use Rattle.rz_expr.specs.declared.keyword.Keyword.TheVariants as keywords

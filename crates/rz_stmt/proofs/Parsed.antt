@@ -9,7 +9,7 @@ use Rattle.rz_lex.specs.declared.token.Token.{Token}
 use Rattle.rz_core.specs.Stop.{◌>>=◌, Gives}
 use Rattle.rz_declare.specs.Constants.{declare_of, declared, Declare}
 use Rattle.rz_declare.specs.Declare.{IsDeclare}
-use Rattle.rz_declare.specs.Form.{DeclareForm}
+use Rattle.rz_flat.specs.Form.{DeclareForm}
 use Rattle.rz_declare.specs.declared.constants.DeclareStmt.{DeclareStmt}
 use Rattle.rz_stmt.specs.Grammar.{alone, data_statement, list_statement, mark_of, none, resource_statement, statement, statement_of, syntax, type_statement, Compiled, Declared, Declares, Gave, IsStatement, Listed, Parses, Statement}
 use Rattle.rz_brackets.specs.Limit.{is_within_limits}

@@ -10,7 +10,7 @@ use Rattle.rz_core.specs.declared.stop.Stop.TheVariants.{Refused, NoMemory}
 use Rattle.rz_lex.specs.declared.token.Token.{Token}
 use Rattle.rz_declare.specs.Constants.{declare_of, declared, Declare}
 use Rattle.rz_declare.specs.Declare.{IsDeclare}
-use Rattle.rz_declare.specs.Form.{DeclareForm}
+use Rattle.rz_flat.specs.Form.{DeclareForm}
 use Rattle.rz_declare.specs.Shaped.{IsShapedMade}
 use Rattle.rz_items.specs.Compile.{compile_of, Compile, IsCompile}
 use Rattle.rz_items.specs.Places.{AreItemsWithin}

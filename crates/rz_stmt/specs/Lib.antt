@@ -22,7 +22,7 @@ pub use Rattle.rz_lists.specs.Change
 pub use Rattle.rz_lists.specs.Delete
 pub use Rattle.rz_lists.specs.Lists
 pub use Rattle.rz_types.specs.Text
-pub use Rattle.rz_declare.specs.Form
+pub use Rattle.rz_flat.specs.Form
 pub use Rattle.rz_declare.specs.Declare
 pub use Rattle.rz_declare.specs.Constants
 pub use Rattle.rz_declare.specs.Shaped

@@ -1,7 +1,7 @@
 //! The one front of the statements: `parse` gives exactly what the tokens of a span are, or their first fault,
 //! and they are one thing at most.
-//! It rests on `rz_core`, `rz_lex`, `rz_expr`, `rz_types`, `rz_brackets`, `rz_data`, `rz_items`, `rz_lists` and
-//! `rz_declare`, and hands on what the crates above need of them.
+//! It rests on `rz_core`, `rz_lex`, `rz_expr`, `rz_types`, `rz_brackets`, `rz_data`, `rz_items`, `rz_lists`, `rz_flat`
+//! and `rz_declare`, and hands on what the crates above need of them.
 //! A new statement is a crate beside `rz_data`, `rz_items`, `rz_lists` and `rz_declare`, a case of `Stmt` here and one
 //! of `step` in `rz_tools`.
 #![tactic(auto)]

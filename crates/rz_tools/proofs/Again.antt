@@ -56,7 +56,7 @@ use Rattle.rz_set.specs.ResSet.{found}
 use Rattle.rz_types.specs.Field.{PlainBody}
 use Rattle.rz_types.specs.Row.{IsRow}
 use Rattle.rz_types.specs.Spells.{Spells}
-use Rattle.rz_types.specs.Table.{Declaration}
+use Rattle.rz_table.specs.Table.{Declaration}
 use Rattle.rz_work.specs.ToolWords.{number_in, numbered, tool_in}
 use Rattle.rz_work.proofs.Named.{names_no_tool}
 use Rattle.rz_tools.proofs.PutOut.{lines_go, tokens_of, AreBare}

@@ -18,7 +18,7 @@ use Rattle.rz_show.specs.Showing.{by_bytes, showing_text}
 use Rattle.rz_pre.specs.Live.{Live}
 use Rattle.rz_fields.specs.declared.tree.Tree.{Tree}
 use Rattle.rz_types.specs.Field.{PlainBody}
-use Rattle.rz_types.specs.Table.{found, Declaration}
+use Rattle.rz_table.specs.Table.{found, Declaration}
 use Rattle.rz_answer.specs.Answer.{or_refused, written}
 use Rattle.rz_tools.specs.Program.{command, Answers}
 use Rattle.rz_tools.specs.Base.{base_in, base_of, new_base, or_empty}

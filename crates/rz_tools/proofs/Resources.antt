@@ -24,7 +24,7 @@ use Rattle.rz_work.specs.declared.setting.Setting.{Setting}
 use Rattle.rz_fields.specs.declared.tree.Tree.{Tree}
 use Rattle.rz_types.specs.Field.{PlainBody}
 use Rattle.rz_types.specs.Laid.{Refusal}
-use Rattle.rz_types.specs.Table.{Declaration}
+use Rattle.rz_table.specs.Table.{Declaration}
 
 -- One call behind another.
 

@@ -24,7 +24,7 @@ use Rattle.rz_tools.specs.Shown.{facts_of, its_bytes, its_row, Known, Shown, Tel
 use Rattle.rz_types.specs.Field.{PlainBody}
 use Rattle.rz_types.specs.Rules.{keeps_rules}
 use Rattle.rz_types.specs.Shape.{is_well_shaped}
-use Rattle.rz_types.specs.Table.{found, Declaration}
+use Rattle.rz_table.specs.Table.{found, Declaration}
 use Rattle.rz_unlay.specs.Reading.{row_in, IsTold}
 use Rattle.rz_unlay.specs.declared.resource.Reading.{Reading}
 

@@ -16,7 +16,7 @@ use Rattle.rz_answer.specs.declared.made.Stopped.{Stopped}
 use Rattle.rz_tools.specs.declared.shown.Known.{Known}
 use Rattle.rz_tools.specs.declared.sources.Compiled.{Compiled}
 use Rattle.rz_work.specs.Held.{work_of}
-use Rattle.rz_types.specs.TypeTable.{table_of}
+use Rattle.rz_table.specs.TypeTable.{table_of}
 
 -- a name, in whatever case, is one of these in lower case
 abbrev pub macros_held : List Word → List ℕ → Bool

@@ -20,7 +20,7 @@ use Rattle.rz_work.specs.declared.setting.Setting.{Setting}
 use Rattle.rz_fields.specs.declared.tree.Tree.{Tree}
 use Rattle.rz_types.specs.Field.{PlainBody}
 use Rattle.rz_types.specs.Laid.{Refusal}
-use Rattle.rz_types.specs.Table.{found, Declaration}
+use Rattle.rz_table.specs.Table.{found, Declaration}
 
 -- 202 for a resource whose type and id no declaration is for
 abbrev pub no_type : Mark → Facts → Fault

@@ -9,7 +9,7 @@ use Rattle.rz_show.specs.Showing.{by_bytes, by_row, showing_text, Showing}
 use Rattle.rz_types.specs.Field.{PlainBody}
 use Rattle.rz_types.specs.Rules.{keeps_rules}
 use Rattle.rz_types.specs.Shape.{is_well_shaped}
-use Rattle.rz_types.specs.Table.{found, Declaration}
+use Rattle.rz_table.specs.Table.{found, Declaration}
 use Rattle.rz_unlay.specs.Reading.{IsTold}
 
 -- what is known where resources are shown: the declarations, which names, in whatever case, are macros, and the moment

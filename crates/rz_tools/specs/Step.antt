@@ -13,7 +13,7 @@ use Rattle.rz_paths.specs.declared.halt.Halt.TheVariants.{NoMemory, ReadFault, R
 use Rattle.rz_pre.specs.declared.condition.Tool.{Tool}
 use Rattle.rz_pre.specs.declared.condition.Tool.TheVariants as tools
 use Rattle.rz_stmt.specs.Grammar.{mark_of, Compiles, Data, Declares, Empty, Lists, Parses, Statement}
-use Rattle.rz_types.specs.Table.{Declaration}
+use Rattle.rz_table.specs.Table.{Declaration}
 use Rattle.rz_work.specs.Around.{Around}
 use Rattle.rz_work.specs.Lists.{list_after}
 use Rattle.rz_work.specs.Put.{list_with}

@@ -3,7 +3,7 @@
 //! `rez` the resources that it shows, if each has at most 16,777,212 bytes.
 //! It rests on all crates below it: of `rz_answer` it has how an answer is carried out, and of `rz_work` what single
 //! statements do. The folder, the streams and the moment are arguments of `run`.
-//! A new command is a module beside `rez` and `derez`, and a case of `answer` and of the answers in `specs`; a
+//! A new command is a module beside `rez`, `derez` and `bridge`, and a case of `answer` and of the answers in `specs`; a
 //! new statement is a case of `step`; another form of a resource's text is `shown`. docs/PROOFS.md lists the promises.
 #![tactic(auto)]
 

@@ -9,15 +9,16 @@ ghost use Rattle.rz_layout.specs.Compiled.{is_compile_fault};
 ghost use Rattle.rz_layout.specs.Fault.{refusal_of};
 ghost use Rattle.rz_tools.specs.Resource.{no_type, row_fault, AreBytes, AreItemBytes, IsMade, IsResource, IsSpelled};
 ghost use Rattle.rz_types.specs.Row.{IsRow};
-ghost use Rattle.rz_types.specs.Table.{found};
+ghost use Rattle.rz_table.specs.Table.{found};
 ghost use Rattle.rz_types.specs.Template.{template_of};
-ghost use Rattle.rz_types.specs.TypeTable.{table_of};
+ghost use Rattle.rz_table.specs.TypeTable.{table_of};
 
 use rz_core::{Bytes, Facts, Fault, Kept, Mark, Resource, Stop};
 use rz_layout::{LayFault, compile};
 use rz_match::match_items;
 use rz_stmt::{CompileStmt, Items};
-use rz_types::{Row, Template, TypeTable};
+use rz_table::TypeTable;
+use rz_types::{Row, Template};
 use rz_work::{Setting, facts_of, with_bytes};
 use std::alloc::Global;
 

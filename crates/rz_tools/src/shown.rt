@@ -5,14 +5,15 @@ ghost use Rattle.rz_print.specs.Shown.{row_uses};
 ghost use Rattle.rz_tools.specs.Held.{known_of, macros_held};
 ghost use Rattle.rz_tools.specs.Shown.{facts_of, Known as KnownOf, Shown, TellsRow};
 ghost use Rattle.rz_types.specs.Field.{plain_body};
-ghost use Rattle.rz_types.specs.Table.{found};
+ghost use Rattle.rz_table.specs.Table.{found};
 ghost use Rattle.rz_types.specs.Template.{template_of};
-ghost use Rattle.rz_types.specs.TypeTable.{table_of};
+ghost use Rattle.rz_table.specs.TypeTable.{table_of};
 
 use rz_core::{Bytes, Facts, Moment, NoMemory, Resource, Words};
 use rz_print::{Hidden, uses_hidden};
 use rz_show::{show_resource, show_row};
-use rz_types::{Body, Row, Template, TypeTable};
+use rz_table::TypeTable;
+use rz_types::{Body, Row, Template};
 use rz_unlay::{Reading, read};
 use std::alloc::Global;
 

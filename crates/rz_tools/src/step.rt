@@ -13,7 +13,7 @@ ghost use Rattle.rz_lists.specs.Lists.{list_of};
 ghost use Rattle.rz_paths.specs.Halt.{IsReadFault, OnRefusal};
 ghost use Rattle.rz_stmt.specs.Raw.{raw_of};
 ghost use Rattle.rz_stmt.specs.Statements.{AreStatements};
-ghost use Rattle.rz_types.specs.TypeTable.{table_of};
+ghost use Rattle.rz_table.specs.TypeTable.{table_of};
 ghost use Rattle.rz_work.specs.Around.{around};
 ghost use Rattle.rz_work.specs.Held.{work_of};
 ghost use Rattle.rz_work.specs.Lists.{list_after};
@@ -30,8 +30,8 @@ use rz_pre::Tool;
 use rz_set::ResSet;
 use rz_statements::next_statement;
 use rz_stmt::{CompileStmt, ListStmt, RawStmt, Span, Stmt, parse};
+use rz_table::TypeTable;
 use rz_tokens::TokenStore;
-use rz_types::TypeTable;
 use rz_work::{Setting, Work, declare_type, list_step, number_tool_words, put, resource_of};
 use std::alloc::Global;
 

@@ -1,6 +1,3 @@
-pub mod Found
-pub mod Placed
-pub mod Places
 pub mod Arithmetic
 pub mod Firsts
 pub mod Stepping
@@ -9,7 +6,6 @@ pub mod Walks
 pub mod Broken
 pub mod Differing
 pub mod Keeping
-pub mod SameNames
 pub mod Unknown
 pub mod SameKnown
 pub mod Noted

@@ -15,10 +15,5 @@ pub mod Walked
 pub mod Kept
 pub mod Names
 pub mod Template
-pub mod Table
-pub mod Listed
-pub mod Positions
-pub mod TypeTable
-pub mod Scopes
 pub mod Readable
 pub mod Notes

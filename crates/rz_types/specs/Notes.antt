@@ -4,17 +4,11 @@ use Rattle.rz_core.specs.Lists.{or_else}
 use Rattle.rz_expr.specs.Environment.{count_key, place_key, Key}
 use Rattle.rz_expr.specs.Term.{BitsAt, Constant, FactOf, Named, OfOne, OfTwo, RowsOf, Term}
 use Rattle.rz_fields.specs.Field.{plain_body}
+use Rattle.rz_fields.specs.NameKey.{key_of}
 use Rattle.rz_fields.specs.Solve.{is_same_key}
 use Rattle.rz_fields.specs.Spells.{counts_rows, declares, is_known, nothing_passed, states, Names, Passed}
-use Rattle.rz_types.specs.declared.passed.KeyRef.{KeyRef}
-use Rattle.rz_types.specs.declared.passed.KeyRef.TheVariants.{Count, Place}
 use Rattle.rz_types.specs.declared.passed.Note.{Note}
 use Rattle.rz_types.specs.declared.passed.Note.TheVariants.{Array, Front, Told}
-
--- the key that a name in an expression has
-abbrev pub key_of : KeyRef → Key
-key_of (Place name) = place_key name.now.bytes
-key_of (Count name) = count_key name.now.bytes
 
 -- what is known behind a note: the number of rows of an array of this name, or this name; at the front of a body a name that it
 -- declares is known where its count is stated, whatever was known outside

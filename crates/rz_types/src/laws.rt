@@ -1,20 +1,16 @@
-ghost use Rattle.std.specs.Prelude.{◌≡◌, ◌↔◌, ◌∷◌, ◌++◌, ℤ, [], false, true, List, None, Some};
-ghost use Rattle.std.specs.List.{list_any};
+ghost use Rattle.std.specs.Prelude.{◌≡◌, ◌↔◌, true, List, None, Some};
 ghost use Rattle.rz_core.specs.declared.facts.Facts.{Facts};
-ghost use Rattle.rz_core.specs.declared.resource.OsType.{OsType};
 ghost use Rattle.rz_expr.specs.Term.{Term};
 ghost use Rattle.rz_expr.specs.Value.{value_of};
 ghost use Rattle.rz_fields.specs.Field.{PlainBody};
 ghost use Rattle.rz_types.specs.Kept.{AreKeysApart, IsKept};
 ghost use Rattle.rz_types.specs.Rules.{broken, keeps_rules, BreaksNone, IsFirstBroken};
 ghost use Rattle.rz_types.specs.declared.rules.TypeFault.{TypeFault};
-ghost use Rattle.rz_types.specs.Scopes.{concerns, holds, is_narrower_for, PlacesDiffer};
 ghost use Rattle.rz_core.specs.declared.resource.Word.{Word};
 ghost use Rattle.rz_expr.specs.Environment.{Environment};
 ghost use Rattle.rz_fields.specs.Value.{is_field_expression, is_fixed_expression, names_sight, IsArithmetic};
 ghost use Rattle.rz_types.specs.Rules.{unknown_array};
 ghost use Rattle.rz_types.specs.Names.{GivesCounts, GivesPredefined};
-ghost use Rattle.rz_types.specs.Table.{declared_behind, found, has_place, stands_at, Declaration};
 
 /// A law, with nothing to run: a body has this fault first exactly where a step of the walk breaks a rule by it and
 /// none before does, or where no step breaks a rule, and a step has this name that can't be named and none before has
@@ -35,36 +31,6 @@ pub fn rules_hold_within()
 /// and the keys of its cases stand at one place with one width, and have different bits; so in each switch within.
 pub fn keys_stand_apart()
     ensures { (body : PlainBody) → keeps_rules body ≡ true → AreKeysApart body }
-{}
-
-/// A law, with nothing to run: the declaration that was made last is found for each id that its scope holds,
-/// unless one of the type with a narrower scope holds it: this very id is narrower than a range, and a range
-/// than any id.
-pub fn last_declared_is_found()
-    ensures { (table : List Declaration) (one : Declaration) (id : ℤ) → holds id one.scope ≡ true
-        → list_any (is_narrower_for one id) table ≡ false → found one.kind id (declared_behind table one) ≡ Some one }
-{}
-
-/// A law, with nothing to run: what a declaration doesn't concern, since the type is another or its scope
-/// doesn't hold the id, is found as before.
-pub fn others_are_found_as_before()
-    ensures { (table : List Declaration) (one : Declaration) (kind : OsType) (id : ℤ) → concerns kind id one ≡ false
-        → found kind id (declared_behind table one) ≡ found kind id table }
-{}
-
-/// A law, with nothing to run: a declaration stands at the end, the others keep their order, and one of the
-/// same type and scope is no more there.
-pub fn order_stays()
-    ensures added { (table : List Declaration) (one : Declaration) → has_place one.kind one.scope table ≡ false
-        → declared_behind table one ≡ table ++ one ∷ [] }
-    ensures again { (front behind : List Declaration) (old one : Declaration) → has_place one.kind one.scope front ≡ false
-        → stands_at one.kind one.scope old ≡ true → declared_behind (front ++ old ∷ behind) one ≡ front ++ behind ++ one ∷ [] }
-{}
-
-/// A law, with nothing to run: no two declarations of a table are of the same type and scope: there are none
-/// in a table without declarations, and a further declaration brings none.
-pub fn places_stay_different()
-    ensures { (table : List Declaration) (one : Declaration) → PlacesDiffer table → PlacesDiffer (declared_behind table one) }
 {}
 
 /// A law, with nothing to run: an expression of a size has a value for each resource, or is a quotient or a remainder

@@ -5,9 +5,6 @@ ghost use Rattle.rz_types.specs.Readable.{is_readable};
 ghost use Rattle.rz_types.specs.Rules.{keeps_rules};
 
 use crate::Body;
-use crate::copies::copy_body;
-use rz_core::NoMemory;
-use std::alloc::Global;
 
 /// A body that has the shape of a declaration and keeps the rules, as [`check`](crate::check) gives it.
 #[derive(Debug, Drop)]
@@ -20,11 +17,11 @@ pub struct Template {
 }
 
 impl Template {
-    ghost use Rattle.std.specs.Prelude.{IfOk};
     ghost use Rattle.rz_types.specs.Template.{template_of};
 
-    /// The template of a body that has the shape and keeps the rules, with whether it can be read.
-    pub(crate) fn of(body: Body, readable: bool) -> Template
+    /// The template of a body that has the shape and keeps the rules, with whether it can be read. A copy of a
+    /// template is made so.
+    pub fn of(body: Body, readable: bool) -> Template
         requires shaped { is_well_shaped (plain_body body) ≡ true }
         requires kept { keeps_rules (plain_body body) ≡ true }
         requires read { readable ≡ is_readable (plain_body body) }
@@ -47,15 +44,5 @@ impl Template {
         ensures kept { keeps_rules (template_of self.now) ≡ true }
     {
         &self.body
-    }
-
-    /// A copy of it.
-    pub(crate) fn copy(&self, alloc: Global) -> Result<Template, NoMemory>
-        ensures { IfOk result (λ copy. template_of copy ≡ template_of self.now) }
-    {
-        Ok(Template {
-            body: copy_body(alloc, &self.body)?,
-            readable: self.readable,
-        })
     }
 }

@@ -17,7 +17,7 @@ use Rattle.rz_work.specs.Declare.{IsRule}
 use Rattle.rz_fields.specs.declared.keys.CaseKey.{CaseKey}
 use Rattle.rz_types.specs.Field.{Align, Array, Fill, Number, PlainBody, PlainField, Points, Switch, Text}
 use Rattle.rz_types.specs.Rules.{array_twice, bad_place, bad_width, broken, broken_at, case_names, checked, found_if, has_other_place, has_other_width, has_same_bits, has_values, kept_position, key_rule, name_fault, no_values, repeated, type_fault, unknown_at, unknown_fault, unknown_in, width_fault}
-use Rattle.rz_types.specs.Table.{asked, copied, no_such_type, Declaration}
+use Rattle.rz_table.specs.Table.{asked, copied, no_such_type, Declaration}
 use Rattle.rz_types.specs.Template.{plain_templates}
 use Rattle.rz_types.specs.Walk.{at_field, behind_case, is_among, walk, Step}
 use Rattle.rz_types.specs.declared.rules.TypeFault.{TypeFault}

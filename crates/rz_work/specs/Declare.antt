@@ -15,10 +15,10 @@ use Rattle.rz_declare.specs.declared.constants.Bounds.TheVariants as bounds
 use Rattle.rz_work.specs.Head.{id_of}
 use Rattle.rz_types.specs.Field.{PlainBody}
 use Rattle.rz_types.specs.Rules.{checked}
-use Rattle.rz_types.specs.Table.{copied, Declaration}
+use Rattle.rz_table.specs.Table.{copied, Declaration}
 use Rattle.rz_types.specs.declared.rules.TypeFault.{TypeFault}
-use Rattle.rz_types.specs.declared.table.Scope.{Scope}
-use Rattle.rz_types.specs.declared.table.Scope.TheVariants as scopes
+use Rattle.rz_table.specs.declared.table.Scope.{Scope}
+use Rattle.rz_table.specs.declared.table.Scope.TheVariants as scopes
 
 -- the ids that a declaration is for, each from -32768 to 32767: 204
 abbrev pub scope_of : Mark → Bounds → Result Scope Fault

@@ -1,5 +1,5 @@
 -- What the code holds of the work so far.
-use Rattle.rz_types.specs.TypeTable.{table_of}
+use Rattle.rz_table.specs.TypeTable.{table_of}
 use Rattle.rz_work.specs.Work as work
 use Rattle.rz_work.specs.declared.work.Work.{Work}
 

@@ -14,8 +14,8 @@ use Rattle.rz_paths.specs.declared.halt.Halt.TheVariants as halts
 use Rattle.rz_data.specs.Raw.{Raw}
 use Rattle.rz_declare.specs.Constants as declare
 use Rattle.rz_types.specs.Field.{PlainBody}
-use Rattle.rz_types.specs.Table.{declared_behind, has_place, Declaration}
-use Rattle.rz_types.specs.declared.table.Scope.{Scope}
+use Rattle.rz_table.specs.Table.{declared_behind, has_place, Declaration}
+use Rattle.rz_table.specs.declared.table.Scope.{Scope}
 use Rattle.rz_work.specs.Data.{resource_of}
 use Rattle.rz_work.specs.Put.{list_with}
 use Rattle.rz_work.specs.Declare.{redeclared, scope_of, template_of}

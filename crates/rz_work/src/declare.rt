@@ -8,14 +8,15 @@ ghost use Rattle.rz_work.specs.Held.{work_of};
 ghost use Rattle.rz_answer.specs.Warning.{AreWarnings, IsWarning};
 ghost use Rattle.rz_work.specs.Work.{declared, Stepped};
 ghost use Rattle.rz_types.specs.Template.{plain_templates};
-ghost use Rattle.rz_types.specs.TypeTable.{table_of};
+ghost use Rattle.rz_table.specs.TypeTable.{table_of};
 
 use crate::head::id_of;
 use crate::setting::Setting;
 use crate::work::Work;
 use rz_core::{Fault, Kept, Mark, OsType, Stop};
 use rz_declare::{Bounds, DeclareStmt, Made};
-use rz_types::{Scope, Template, TypeFault, TypeTable, check};
+use rz_table::{Scope, TypeTable};
+use rz_types::{Template, TypeFault, check};
 use std::alloc::Global;
 
 /// What a `type` statement on this line does. The ids of its scope and then that of the type that it copies are

@@ -7,7 +7,7 @@ ghost use Rattle.rz_work.specs.Work.{begun};
 use rz_answer::Faults;
 use rz_core::{NoMemory, Resources};
 use rz_set::ResSet;
-use rz_types::TypeTable;
+use rz_table::TypeTable;
 use std::alloc::Global;
 
 /// What the statements so far have made.

@@ -6,15 +6,15 @@ use Rattle.rz_brackets.specs.declared.pieces.Divider.TheVariants.{Case, Semicolo
 use Rattle.rz_brackets.proofs.Short.{cut_short, AreShort}
 use Rattle.rz_lex.specs.declared.token.Token.{Token}
 use Rattle.rz_declare.specs.Body.{cut, cut_cases, flat, key, IsArray, IsBody, IsField, IsSwitch}
-use Rattle.rz_declare.specs.FieldForm.{IsFlat}
-use Rattle.rz_declare.specs.Form.{body_form, case_form, cases_form, field_form}
+use Rattle.rz_flat.specs.FieldForm.{IsFlat}
+use Rattle.rz_flat.specs.Form.{body_form, case_form, cases_form, field_form}
 use Rattle.rz_declare.specs.Head.{ArrayFront}
 use Rattle.rz_declare.specs.Held.{held_array}
-use Rattle.rz_declare.specs.Key.{IsKey}
-use Rattle.rz_declare.proofs.Answering.{found_so}
+use Rattle.rz_flat.specs.Key.{IsKey}
+use Rattle.rz_flat.proofs.Answering.{found_so}
 use Rattle.rz_declare.proofs.CaseLeads.{case_nowhere, cases_all, cases_first, first_empty, no_cases_here, one_case_more, CaseLeads}
 use Rattle.rz_declare.proofs.FieldLeads.{field_more, field_nowhere, fields_all, fields_first, no_body, skipped, FieldLeads}
-use Rattle.rz_declare.proofs.Mirror.{array_is}
+use Rattle.rz_flat.proofs.Mirror.{array_is}
 use Rattle.rz_declare.proofs.OneHead.{one_array_front}
 use Rattle.rz_declare.proofs.Starts.{array_back, array_forth, flat_back, key_back, switch_back, switch_forth}
 use Rattle.rz_declare.proofs.body.+body.Goals as goal

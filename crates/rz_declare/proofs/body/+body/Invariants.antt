@@ -1,6 +1,6 @@
 use Rattle.std.proofs.Common.{◌+◌, ◌*◌, drop, length, map}
 use Rattle.rz_brackets.proofs.Short.{AreShort}
-use Rattle.rz_declare.specs.Form.{case_form, field_form}
+use Rattle.rz_flat.specs.Form.{case_form, field_form}
 use Rattle.rz_declare.proofs.CaseLeads.{CaseLeads}
 use Rattle.rz_declare.proofs.FieldLeads.{FieldLeads}
 use Rattle.rz_declare.proofs.body.+body.Given as goal

@@ -1,9 +1,9 @@
 use Rattle.std.proofs.Common.{List, [], ◌∷◌, ◌++◌, map, Ok, sym, ap, ◌∙◌, append_assoc}
 use Rattle.std.proofs.lemmas.List.{map-append, nil_from_length}
 use Rattle.rz_declare.specs.Constants.{body_value, cases_value, case_value, field_value}
-use Rattle.rz_declare.specs.Form.{body_form, case_form, cases_form, field_form}
-use Rattle.rz_declare.specs.declared.form.CaseExpr.{CaseExpr}
-use Rattle.rz_declare.specs.declared.form.FieldExpr.{FieldExpr}
+use Rattle.rz_flat.specs.Form.{body_form, case_form, cases_form, field_form}
+use Rattle.rz_flat.specs.declared.form.CaseExpr.{CaseExpr}
+use Rattle.rz_flat.specs.declared.form.FieldExpr.{FieldExpr}
 use Rattle.rz_fields.specs.Field.{field_and, plain_case, plain_field, PlainBody, PlainCases}
 use Rattle.rz_declare.proofs.Bodies.{all_cases, all_fields, case_first, one_more, so_far, with_case}
 use Rattle.rz_declare.proofs.constants.+constants.Goals as goal

@@ -1,6 +1,6 @@
 use Rattle.std.proofs.Common.{◌≡◌, ◌++◌, map}
 use Rattle.rz_declare.specs.Constants.{body_value, cases_value}
-use Rattle.rz_declare.specs.Form.{body_form, cases_form}
+use Rattle.rz_flat.specs.Form.{body_form, cases_form}
 use Rattle.rz_fields.specs.Field.{field_and, plain_case, plain_field}
 use Rattle.rz_declare.proofs.Bodies.{so_far, with_case}
 use Rattle.rz_declare.proofs.constants.+constants.Given as goal

@@ -1,10 +1,10 @@
 use Rattle.std.proofs.Common.{map, Ok, w32, to_z, of_z}
 use Rattle.std.specs.Prelude.{pos}
 use Rattle.std.proofs.lemmas.Int.{to_z-of_z}
-use Rattle.rz_declare.specs.Form.{named_of, number_form}
+use Rattle.rz_flat.specs.Form.{named_of, number_form}
 use Rattle.rz_fields.specs.Range.{fits_number}
 use Rattle.rz_declare.specs.Values.{values_of}
-use Rattle.rz_declare.proofs.Answering.{gives_err}
+use Rattle.rz_flat.proofs.Answering.{gives_err}
 use Rattle.rz_declare.proofs.constants.make_number.Goals as goal
 
 pub returns-in-Err : goal.returns-in-Err

@@ -1,4 +1,4 @@
-use Rattle.rz_declare.specs.Form.{declare_form}
+use Rattle.rz_flat.specs.Form.{declare_form}
 use Rattle.rz_declare.proofs.CanSay.{say_result}
 use Rattle.rz_declare.proofs.constants.value_declare.Goals as goal
 

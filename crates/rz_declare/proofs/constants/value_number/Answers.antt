@@ -4,7 +4,7 @@ use Rattle.std.proofs.lemmas.Int.{to_z-of_z}
 use Rattle.rz_core.specs.Stop.{◌>>=◌, Gives}
 use Rattle.rz_core.specs.declared.fault.Fault.{Fault}
 use Rattle.rz_declare.specs.Constants.{key_value, number_of_width, seen}
-use Rattle.rz_declare.specs.Form.{number_form}
+use Rattle.rz_flat.specs.Form.{number_form}
 use Rattle.rz_fields.specs.Field.{plain_number}
 use Rattle.rz_declare.proofs.constants.value_number.Goals as goal
 

@@ -1,5 +1,5 @@
 use Rattle.std.proofs.Common.{refl}
-use Rattle.rz_declare.specs.Form.{made_form}
+use Rattle.rz_flat.specs.Form.{made_form}
 use Rattle.rz_declare.proofs.declare.read_for_any.Goals as goal
 
 pub returns-in-Some : goal.returns-in-Some

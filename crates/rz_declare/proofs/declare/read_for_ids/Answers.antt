@@ -3,7 +3,7 @@ use Rattle.rz_brackets.specs.Held.{held_split}
 use Rattle.rz_brackets.specs.Pieces.{Parted}
 use Rattle.rz_brackets.specs.declared.bracket.Bracket.TheVariants.{Round}
 use Rattle.rz_declare.specs.Declare.{IsMade, IsScope}
-use Rattle.rz_declare.specs.Form.{made_form, scope_form}
+use Rattle.rz_flat.specs.Form.{made_form, scope_form}
 use Rattle.rz_brackets.proofs.OneBracket.{never_within, same_within}
 use Rattle.rz_declare.proofs.declare.read_for_ids.Goals as goal
 

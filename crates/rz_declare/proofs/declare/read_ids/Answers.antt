@@ -3,7 +3,7 @@ use Rattle.std.specs.Prelude.{IfOk, option_map}
 use Rattle.rz_lex.specs.declared.token.Token.{Token}
 use Rattle.rz_core.specs.Decided.{Decided}
 use Rattle.rz_declare.specs.Declare.{AreIds}
-use Rattle.rz_declare.specs.Form.{scope_form}
+use Rattle.rz_flat.specs.Form.{scope_form}
 use Rattle.rz_brackets.proofs.Slices.{only_one, only_two}
 use Rattle.rz_declare.proofs.declare.read_ids.Goals as goal
 

@@ -1,8 +1,8 @@
 use Rattle.std.proofs.Common.{sym}
 use Rattle.rz_declare.specs.Declare.{IsMade}
 use Rattle.rz_declare.specs.DeclareSteps.{AreFieldsMade, IsCopy}
-use Rattle.rz_declare.specs.Form.{made_form}
-use Rattle.rz_declare.proofs.Answering.{found_so}
+use Rattle.rz_flat.specs.Form.{made_form}
+use Rattle.rz_flat.proofs.Answering.{found_so}
 use Rattle.rz_declare.proofs.MadeSo.{copy_back, copy_forth, fields_back, fields_forth}
 use Rattle.rz_declare.proofs.declare.read_made.Goals as goal
 

@@ -1,6 +1,6 @@
 use Rattle.std.proofs.Common.{sym}
 use Rattle.rz_declare.specs.DeclareSteps.{scoped_form, AreForAny, AreForIds, AreScoped}
-use Rattle.rz_declare.proofs.Answering.{found_so}
+use Rattle.rz_flat.proofs.Answering.{found_so}
 use Rattle.rz_declare.proofs.MadeSo.{any_back, any_forth, ids_back, ids_forth}
 use Rattle.rz_declare.proofs.declare.read_scoped.Goals as goal
 

@@ -1,7 +1,7 @@
 use Rattle.std.proofs.Common.{sym}
 use Rattle.rz_declare.specs.Head.{bare, counted, named, IsArrayFront, IsBare, IsCounted, IsNamed}
 use Rattle.rz_declare.specs.Held.{held_array}
-use Rattle.rz_declare.proofs.Answering.{decided_so, found_so}
+use Rattle.rz_flat.proofs.Answering.{decided_so, found_so}
 use Rattle.rz_declare.proofs.OneHead.{bare_back, counted_back, named_back}
 use Rattle.rz_declare.proofs.head.read_array_front.Goals as goal
 

@@ -5,10 +5,10 @@ use Rattle.std.proofs.lemmas.List.{at_drop_more}
 use Rattle.rz_core.specs.declared.fault.Fault.{Fault}
 use Rattle.rz_core.specs.declared.resource.Word.{Word}
 use Rattle.rz_expr.specs.Value.{reduced}
-use Rattle.rz_declare.specs.Form.{named_of}
+use Rattle.rz_flat.specs.Form.{named_of}
 use Rattle.rz_fields.specs.Range.{fits_number}
 use Rattle.rz_declare.specs.Values.{out_of_range, values_of}
-use Rattle.rz_declare.specs.declared.form.Named.{Named}
+use Rattle.rz_flat.specs.declared.form.Named.{Named}
 use Rattle.rz_declare.proofs.Valued.{behind_symbols, no_room, one_more}
 use Rattle.rz_declare.proofs.values.values_of.Goals as goal
 

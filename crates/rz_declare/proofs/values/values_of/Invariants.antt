@@ -1,6 +1,6 @@
 use Rattle.std.proofs.Common.{◌≡◌, drop, map}
 use Rattle.std.specs.Prelude.{pos}
-use Rattle.rz_declare.specs.Form.{named_of}
+use Rattle.rz_flat.specs.Form.{named_of}
 use Rattle.rz_fields.specs.Range.{fits_number}
 use Rattle.rz_declare.specs.Values.{values_of}
 use Rattle.rz_declare.proofs.Valued.{behind_symbols}

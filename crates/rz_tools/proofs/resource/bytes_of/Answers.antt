@@ -4,7 +4,7 @@ use Rattle.rz_items.specs.Item.{plain_items}
 use Rattle.rz_tools.specs.Resource.{fields_for, no_type, AreItemBytes}
 use Rattle.rz_types.specs.Field.{PlainBody}
 use Rattle.rz_types.specs.Template.{template_of}
-use Rattle.rz_types.specs.TypeTable.{table_of}
+use Rattle.rz_table.specs.TypeTable.{table_of}
 use Rattle.rz_tools.proofs.Resources.{then_meets}
 use Rattle.rz_tools.proofs.resource.bytes_of.Goals as goal
 

@@ -3,7 +3,7 @@ use Rattle.rz_items.specs.Item.{plain_items}
 use Rattle.rz_stmt.specs.Head.{head_of}
 use Rattle.rz_work.specs.Head.{facts_of}
 use Rattle.rz_tools.specs.Resource.{IsMade}
-use Rattle.rz_types.specs.TypeTable.{table_of}
+use Rattle.rz_table.specs.TypeTable.{table_of}
 use Rattle.rz_tools.proofs.Resources.{then_meets}
 use Rattle.rz_tools.proofs.resource.resource_of_items.Goals as goal
 

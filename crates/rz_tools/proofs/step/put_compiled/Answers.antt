@@ -1,6 +1,6 @@
 use Rattle.rz_items.specs.Compile.{compile_of}
 use Rattle.rz_tools.specs.Step.{IsListBehind}
-use Rattle.rz_types.specs.TypeTable.{table_of}
+use Rattle.rz_table.specs.TypeTable.{table_of}
 use Rattle.rz_tools.proofs.Stepping.{derez_changes, rez_changes}
 use Rattle.rz_tools.proofs.step.put_compiled.Goals as goal
 

@@ -11,7 +11,7 @@ use Rattle.rz_pieces.specs.Few.{few}
 use Rattle.rz_unlay.specs.Few.{line_count}
 use Rattle.rz_pieces.specs.Names.{known}
 use Rattle.rz_pieces.specs.Fits.{AreFit}
-use Rattle.rz_unlay.proofs.EndSteps.{ended_so}
+use Rattle.rz_unlay.proofs.EndSteps.{ended_so, none_ended}
 use Rattle.rz_unlay.proofs.Fitting.{template_fits}
 use Rattle.rz_unlay.proofs.row.read_row.Goals as goal
 
@@ -30,4 +30,12 @@ returns-then-is_end c =
     ∙ (λ i. few line_count 1048576 (row_at c.args.facts.now all (plain_body (c.as_slice-fields.ensures i)) (known (c.new-notes.ensures.items i)) 0)))
     (subst (λ o. IfSome o (λ r. r.after ≤ length all)) c.in-Some.is c.in_ok-came.ensures.within)
     (sym c.if-is_end.ensures)
+    ∙ ap (λ (bits : List Bool). ended bits (body_found c.args.facts.now bits body (names_inside body outside) 0)) c.over-view.ensures
+
+pub returns : goal.returns
+returns c =
+    let body = plain_body c.args.body.now in
+    none_ended (seen c.over-view.result) (body_found c.args.facts.now (seen c.over-view.result) body (names_inside body outside) 0)
+    (ap (option_map line_in) (sym c.in-None.is) ∙ c.in_ok-came.ensures.row
+    ∙ (λ i. few line_count 1048576 (row_at c.args.facts.now (seen c.over-view.result) (plain_body (c.as_slice-fields.ensures i)) (known (c.new-notes.ensures.items i)) 0)))
     ∙ ap (λ (bits : List Bool). ended bits (body_found c.args.facts.now bits body (names_inside body outside) 0)) c.over-view.ensures

@@ -1,0 +1,16 @@
+pub mod Each
+pub mod OneTerm
+pub mod OneValue
+pub mod OneSymbol
+pub mod OneNumber
+pub mod Fronts
+pub mod OneField
+pub mod OneKey
+pub mod Mirror
+pub mod Answering
+pub mod Filled
+pub mod Pieces
+pub mod ShapedNumber
+pub mod ShapedField
+pub mod Level
+pub mod LevelField

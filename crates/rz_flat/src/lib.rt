@@ -1,0 +1,27 @@
+//! The fields of `type` statements as they are written, with expressions where constants stand. `read_flat` gives
+//! exactly the field that tokens are, of those with no fields of their own, and `read_key` the key of a case; or
+//! none. `form` has the whole statement too, whose arrays and switches `rz_declare` reads.
+//! A field begins with the words of `field_word`; behind them stand values (`value`), or of a number its width, its
+//! symbols and its fixed value (`number_field`, `symbols`).
+//! It rests on `rz_core`, `rz_lex`, `rz_expr`, `rz_fields` and `rz_brackets`.
+//! A new kind of field changes `form` and `field_word` here, and `field`, where it has no fields of its own, each with
+//! its definitions; the values of its constants in `rz_declare`, and `Field` of `rz_fields`.
+#![tactic(auto)]
+
+mod field;
+mod field_word;
+mod form;
+mod key;
+mod laws;
+mod number_field;
+mod symbols;
+mod value;
+
+pub use field::read_flat;
+pub use form::{
+    ArrayExpr, CaseExpr, CaseExprs, DeclareExpr, FieldExpr, FieldExprs, MadeExpr, Named, Names,
+    NumberExpr, ScopeExpr, Width,
+};
+pub use key::read_key;
+pub use laws::words_before_fields;
+pub use symbols::name_in;
