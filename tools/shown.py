@@ -20,6 +20,7 @@ where fixed values and sizes are expressions: numbers, names in lower case, and 
 """
 import re
 import sys
+from datetime import datetime, timedelta
 
 from forms import form_of, read_form
 
@@ -304,12 +305,34 @@ def quotient(left, right):
     return abs(left) // abs(right) * (1 if (left < 0) == (right < 0) else -1)
 
 
+def moment_of(facts):
+    """The moment, which stands behind the parts of a resource; without one it is the first second of 1970."""
+    return datetime(1970, 1, 1) + timedelta(seconds=(facts[5:] + (0,))[0])
+
+
+def fact_of(word, facts):
+    """A fact of the resource or of the moment that is a number."""
+    now = moment_of(facts)
+    return {"$$id": facts[1], "$$type": int.from_bytes(facts[0], "big"), "$$attributes": facts[3], "$$year": now.year,
+            "$$month": now.month, "$$day": now.day, "$$hour": now.hour, "$$minute": now.minute, "$$second": now.second,
+            "$$weekday": now.isoweekday() % 7 + 1}[word]
+
+
+def part_bytes(token, facts):
+    """The bytes of a part of a string."""
+    if not token.startswith("$$"):
+        return bytes_of(token)
+    now = moment_of(facts)
+    return {"$$name": facts[2], "$$date": now.strftime("%Y-%m-%d").encode(), "$$time": now.strftime("%H:%M:%S").encode(),
+            "$$version": b"V1.0"}[token.lower()]
+
+
 def value_of(term, counts, facts):
     """The value of an expression; NoRow if it has none."""
     if isinstance(term, int):
         return wrapped(term)
     if isinstance(term, str):
-        return wrapped({"$$id": facts[1], "$$type": int.from_bytes(facts[0], "big"), "$$attributes": facts[3]}[term])
+        return wrapped(fact_of(term, facts))
     if term[0] == "count":
         return wrapped(counts[term[1]])
     values = [value_of(each, counts, facts) for each in term[1:]]
@@ -590,7 +613,7 @@ def read_row(fields, counts, facts, bits):
             bits.count(field["count"])
             out.append([bits.take(16) for _ in range(field["count"])])
         elif field["is"] == "text" and field["fixed"] is not None:
-            text = b"".join(facts[2] if each.lower() == "$$name" else bytes_of(each) for each in field["fixed"])
+            text = b"".join(part_bytes(each, facts) for each in field["fixed"])
             wanted = text_bits(field, text, counts, facts)
             if bits.take_bytes(len(wanted)) != wanted:
                 raise NoRow
@@ -724,12 +747,12 @@ def head_text(word, resource):
     return text + ") {"
 
 
-def resource_text(resource, table, hidden):
+def resource_text(resource, table, hidden, moment):
     fields, content = found(table, resource[0], resource[1]), resource[4]
     word, lines = "data", ["    " + hex_text(each) for each in pieces(content, 16)]
     if fields is not None and is_readable(fields):
         try:
-            row = row_of(fields, content, resource)
+            row = row_of(fields, content, resource + (moment,))
             if not uses_hidden(fields, row, hidden):
                 word, lines = "resource", lines_of(items_of(fields, row, hidden), 1)
         except NoRow:
@@ -759,8 +782,8 @@ def resources_of(fork):
     return out
 
 
-def derez(words, files):
-    """What `derez` with these words shows."""
+def derez(words, files, moment=0):
+    """What `derez` with these words shows, so many seconds after the first one of 1970."""
     names, macros, paths, only, skip, form = [], {}, [], [], [], None
     words = list(words)
     while words:
@@ -783,7 +806,7 @@ def derez(words, files):
     only, skip = [[each.encode("mac_roman") for each in kinds] for kinds in (only, skip)]
     fork = read_form(form or form_of(files[names[0]]), files[names[0]]).res
     chosen = [each for each in resources_of(fork) if (not only or each[0] in only) and each[0] not in skip]
-    return "".join(resource_text(each, table, set(macros)) for each in chosen)
+    return "".join(resource_text(each, table, set(macros), moment) for each in chosen)
 
 
 # Cases of commands.
@@ -799,7 +822,7 @@ def content_of(kind, lines):
 
 
 def cases_of(text):
-    """The cases of a file: name, words, files, out and status."""
+    """The cases of a file: name, words, files, moment, out and status."""
     out, content = [], None
     for line in text.split("\n"):
         if line.startswith("|"):
@@ -807,7 +830,7 @@ def cases_of(text):
             continue
         key, _, rest = line.partition(" ")
         if key == "case":
-            out.append({"name": rest, "words": [], "files": {}, "out": ("text", []), "status": "0"})
+            out.append({"name": rest, "words": [], "files": {}, "moment": 0, "out": ("text", []), "status": "0"})
         elif key == "words":
             out[-1]["words"] += rest.split()
         elif key in ("word", "word-bytes"):
@@ -821,6 +844,8 @@ def cases_of(text):
             out[-1]["out"] = (rest, content)
         elif key in ("leaves", "err"):
             content = []
+        elif key == "moment":
+            out[-1]["moment"] = int(rest)
         elif key == "status":
             out[-1]["status"] = rest
     return out
@@ -841,7 +866,7 @@ def main():
                 passed += 1
                 continue
             try:
-                came = derez(case["words"][1:], files)
+                came = derez(case["words"][1:], files, case["moment"])
             except NotImplementedError:
                 passed += 1
                 continue
