@@ -1,9 +1,5 @@
-use crate::fixed::{outcome_at, outcome_of, wrong_cases};
-use rz_cases::{add_if_wrong, cases_of, expanded};
-use std::test::Fail;
-
-/// Texts and what they give, see `wrong_cases`.
-const LONGEST: &str = r#"
+/// The longest expression is read.
+pub const LONGEST: &str = r#"
 // where operands end
  => none
 ; => none
@@ -49,15 +45,8 @@ $"01" => none
 1 + ( 2 ) ; => 3 to 5
 "#;
 
-#[test]
-fn longest_expression_is_read(rt: HostRuntime) -> Result<(), Fail> {
-    let wrong = wrong_cases(rt.alloc(), LONGEST)?;
-    assert_eq!(rt; wrong.as_str(), "");
-    Ok(())
-}
-
-/// Texts and what they give, see `wrong_cases`.
-const OPERANDS: &str = r#"
+/// Words and facts as operands.
+pub const OPERANDS: &str = r#"
 // words
 here => 8
 HERE + hErE => 16
@@ -94,34 +83,20 @@ $$Nothing => none
 $$here => none
 "#;
 
-#[test]
-fn words_and_facts_are_operands(rt: HostRuntime) -> Result<(), Fail> {
-    let wrong = wrong_cases(rt.alloc(), OPERANDS)?;
-    assert_eq!(rt; wrong.as_str(), "");
-    Ok(())
-}
+/// Expressions that begin at any token: its position, and the text.
+pub const STARTS: &str = r"
+0:  => none
+1: 1 => none
+1: 1 + 2 => none
+2: 1 + 2 => 2
+1: 1 - 2 => -2
+1: ( 1 + 2 ) * 3 => 3 to 4
+2: here ; ( 4 ) 5 => 4 to 5
+1: $$CountOf ( rows ) => UnknownName rows
+";
 
-#[test]
-fn expressions_begin_at_any_token(rt: HostRuntime) -> Result<(), Fail> {
-    let texts = [
-        ("", 0, "none"),
-        ("1", 1, "none"),
-        ("1 + 2", 1, "none"),
-        ("1 + 2", 2, "2"),
-        ("1 - 2", 1, "-2"),
-        ("( 1 + 2 ) * 3", 1, "3 to 4"),
-        ("here ; ( 4 ) 5", 2, "4 to 5"),
-        ("$$CountOf ( rows )", 1, "UnknownName rows"),
-    ];
-    for (text, start, wanted) in texts {
-        let outcome = outcome_at(rt.alloc(), text.as_bytes(), start)?;
-        assert_eq!(rt; outcome.as_slice(), wanted.as_bytes(), "{text} {start}");
-    }
-    Ok(())
-}
-
-/// Texts and what they give, see `wrong_cases`.
-const FUNCTIONS: &str = r#"
+/// Functions with names in brackets.
+pub const FUNCTIONS: &str = r#"
 // numbers of rows
 $$CountOf ( rows ) => 5
 $$countof ( ROWS ) ; => 5 to 4
@@ -190,15 +165,8 @@ $$BitField ( type , 1 , 2 ) => none
 $$BitField here , 1 , 2 => none
 "#;
 
-#[test]
-fn functions_with_names_in_brackets(rt: HostRuntime) -> Result<(), Fail> {
-    let wrong = wrong_cases(rt.alloc(), FUNCTIONS)?;
-    assert_eq!(rt; wrong.as_str(), "");
-    Ok(())
-}
-
-/// Texts, as `expanded` reads them, and what they give.
-const LONG: &str = "\
+/// Long and deep expressions.
+pub const LONG: &str = r"
 1«+1×499» => 500
 1«-1×500» => -499
 1«*2×31» => -2147483648
@@ -224,20 +192,3 @@ const LONG: &str = "\
 «$$BitField(start,×21»0«,4)×21» => 12
 «$$BitField(start,×21»0«,4)×20» => none
 ";
-
-#[test]
-fn long_and_deep_expressions(rt: HostRuntime) -> Result<(), Fail> {
-    let mut wrong = String::new(rt.alloc());
-    for case in &cases_of(rt.alloc(), LONG, "//")? {
-        let text = expanded(rt.alloc(), case.text)?;
-        let came = outcome_of(rt.alloc(), &text)?;
-        add_if_wrong(
-            case.line,
-            case.wanted.as_bytes(),
-            came.as_slice(),
-            &mut wrong,
-        )?;
-    }
-    assert_eq!(rt; wrong.as_str(), "");
-    Ok(())
-}

@@ -3,11 +3,8 @@ ghost use Rattle.std.specs.Str.{str_eq_ignore_ascii_case};
 ghost use Rattle.std.proofs.Common.{rules};
 ghost use Rattle.rz_expr_cases.specs.Fixed.{bits_of, fixed_bits, fixed_sight, natural_bits};
 
-use rz_cases::{add_if_wrong, cases_of, tokens_of};
-use rz_core::{Bytes, Stop, Word, write_decimal, write_signed};
-use rz_expr::{Env, EvalFault, FactWord, eval, read_expr};
-use std::alloc::Global;
-use std::test::Fail;
+use rz_core::Word;
+use rz_expr::{Env, FactWord};
 
 /// The bits that are there, the first of them highest: the bytes A5, 7F, 80 and 3C.
 const BITS: u64 = 0xA57F_803C;
@@ -117,74 +114,4 @@ fn is(word: &[u8], name: &[u8]) -> bool
     ensures { result ≡ str_eq_ignore_ascii_case name.now word.now }
 {
     name.eq_ignore_ascii_case(word)
-}
-
-/// The value of the longest expression that begins at a token of a text, or its fault, or that there is
-/// none. After `to` stands the position of the token after it, where there is one.
-pub fn outcome_at(alloc: Global, text: &[u8], start: u64) -> Result<Bytes, Fail> {
-    let tokens = tokens_of(alloc, text)?;
-    if start > tokens.len() {
-        return Err(Fail::from("no such token"));
-    }
-    let Some(found) = read_expr(alloc, &tokens, start)? else {
-        return Ok(Bytes::of(alloc, b"none")?);
-    };
-    let mut outcome = Bytes::new(alloc);
-    match eval(alloc, &found.expr, &Fixed) {
-        Ok(value) => write_signed(i64::from(value), &mut outcome)?,
-        Err(Stop::Refused(fault)) => append_fault(&fault, &mut outcome)?,
-        Err(Stop::NoMemory) => return Err(Fail::from("no memory")),
-    }
-    if found.end < tokens.len() {
-        outcome.append(b" to ")?;
-        write_decimal(found.end, &mut outcome)?;
-    }
-    Ok(outcome)
-}
-
-/// The same from the first token on.
-pub fn outcome_of(alloc: Global, text: &str) -> Result<Bytes, Fail> {
-    outcome_at(alloc, text.as_bytes(), 0)
-}
-
-/// Appends the name of a fault and what it keeps.
-fn append_fault(fault: &EvalFault, text: &mut Bytes) -> Result<(), Fail> {
-    match fault {
-        EvalFault::ZeroDivisor => text.append(b"ZeroDivisor")?,
-        EvalFault::UnknownName(name) => {
-            text.append(b"UnknownName ")?;
-            text.append(name.bytes.as_slice())?;
-        }
-        EvalFault::LaterData(first, end) => {
-            text.append(b"LaterData ")?;
-            write_signed(*first, text)?;
-            text.append(b" ")?;
-            write_signed(*end, text)?;
-        }
-        EvalFault::DataWidth(width) => {
-            text.append(b"DataWidth ")?;
-            write_signed(i64::from(*width), text)?;
-        }
-        EvalFault::BadShift(count) => {
-            text.append(b"BadShift ")?;
-            write_signed(i64::from(*count), text)?;
-        }
-    }
-    Ok(())
-}
-
-/// The cases of a table whose texts give something else than they say, each with what its text gives. A line that
-/// begins with `//` says what is tried.
-pub fn wrong_cases(alloc: Global, table: &str) -> Result<String, Fail> {
-    let mut wrong = String::new(alloc);
-    for case in &cases_of(alloc, table, "//")? {
-        let came = outcome_of(alloc, case.text)?;
-        add_if_wrong(
-            case.line,
-            case.wanted.as_bytes(),
-            came.as_slice(),
-            &mut wrong,
-        )?;
-    }
-    Ok(wrong)
 }

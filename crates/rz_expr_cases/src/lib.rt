@@ -4,14 +4,18 @@
 #![tactic(auto)]
 
 #[cfg(test)]
+mod calls;
+#[cfg(test)]
 mod constants;
 #[cfg(test)]
-mod expression_faults;
-#[cfg(test)]
 mod expressions;
+#[cfg(test)]
+mod faults;
 #[cfg(test)]
 mod fixed;
 #[cfg(test)]
 mod operators;
 #[cfg(test)]
 mod roles;
+#[cfg(test)]
+mod tables;

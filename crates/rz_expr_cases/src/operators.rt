@@ -1,8 +1,5 @@
-use crate::fixed::wrong_cases;
-use std::test::Fail;
-
-/// Texts and what they give, see `wrong_cases`.
-const EDGES: &str = r"
+/// Numbers and literals, and operators at the ends of their range.
+pub const EDGES: &str = r"
 // numbers and literals
 0 => 0
 017 => 15
@@ -82,15 +79,8 @@ $FF => 255
 0 - 2147483648 => -2147483648
 ";
 
-#[test]
-fn numbers_at_their_edges(rt: HostRuntime) -> Result<(), Fail> {
-    let wrong = wrong_cases(rt.alloc(), EDGES)?;
-    assert_eq!(rt; wrong.as_str(), "");
-    Ok(())
-}
-
-/// Texts and what they give, see `wrong_cases`.
-const BITS: &str = r"
+/// Shifts, comparisons, bits and truth.
+pub const BITS: &str = r"
 // shifts
 5 << 0 => 5
 1 << 31 => -2147483648
@@ -167,15 +157,8 @@ const BITS: &str = r"
 2 || 5 => 1
 ";
 
-#[test]
-fn shifts_comparisons_and_bits(rt: HostRuntime) -> Result<(), Fail> {
-    let wrong = wrong_cases(rt.alloc(), BITS)?;
-    assert_eq!(rt; wrong.as_str(), "");
-    Ok(())
-}
-
-/// Texts and what they give, see `wrong_cases`.
-const LEVELS: &str = r"
+/// Tighter operators come first.
+pub const LEVELS: &str = r"
 // before an operand, and then all others
 !0 * 2 => 2
 ~1 * 2 => -4
@@ -257,10 +240,3 @@ const LEVELS: &str = r"
 (2 & 2) == 2 => 1
 ((1)) + (((2))) => 3
 ";
-
-#[test]
-fn tighter_operators_come_first(rt: HostRuntime) -> Result<(), Fail> {
-    let wrong = wrong_cases(rt.alloc(), LEVELS)?;
-    assert_eq!(rt; wrong.as_str(), "");
-    Ok(())
-}

@@ -1,10 +1,5 @@
-use rz_cases::{add_if_wrong, cases_of};
-use rz_core::{Bytes, Word};
-use rz_expr::role_of;
-use std::test::Fail;
-
-/// Words and their roles; a line that begins with `//` says what is tried.
-const ROLES: &str = "
+/// Words and their roles.
+pub const ROLES: &str = r"
 // labels
 here => Label
 _ => Label
@@ -115,21 +110,3 @@ $$integer => OtherFunction
 $$locked => OtherFunction
 $$x_1 => OtherFunction
 ";
-
-#[test]
-fn words_have_their_roles(rt: HostRuntime) -> Result<(), Fail> {
-    let mut wrong = String::new(rt.alloc());
-    for case in &cases_of(rt.alloc(), ROLES, "//")? {
-        let bytes = Bytes::of(rt.alloc(), case.text.as_bytes())?;
-        let role = role_of(&Word { bytes });
-        let role = format!(in rt.alloc(); "{role:?}")?;
-        add_if_wrong(
-            case.line,
-            case.wanted.as_bytes(),
-            role.as_bytes(),
-            &mut wrong,
-        )?;
-    }
-    assert_eq!(rt; wrong.as_str(), "");
-    Ok(())
-}

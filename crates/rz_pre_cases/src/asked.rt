@@ -1,5 +1,5 @@
-use crate::outcome::text_of;
-use rz_cases::{cases_of, tokens_of};
+use crate::spelled::spelled;
+use rz_cases::{CaseFault, tokens_of};
 use rz_core::{Bytes, FileNames, Word};
 use rz_folder::MemFolder;
 use rz_lex::Tokens;
@@ -34,32 +34,30 @@ impl Asked {
         }
     }
 
-    /// The one file `main`, which the words name.
-    pub fn of_main(alloc: Global, text: &[u8]) -> Result<Asked, Fail> {
+    /// What a case says, in pieces between ` ;; `. The first is the text of the file `main`, which the words name, as
+    /// `spelled` reads it and after some front text; or it is `no main`. For the others see `add`.
+    pub fn of_case(alloc: Global, front: &str, text: &str) -> Result<Asked, Fail> {
         let mut asked = Asked::new(alloc);
-        asked.insert("main", text)?;
-        asked.names.push("main")?;
+        let (main, pieces) = match text.split_once(" ;; ") {
+            Some((main, pieces)) => (main, Some(pieces)),
+            None => (text, None),
+        };
+        if main != "no main" {
+            let mut source = spelled(alloc, front)?;
+            source.append(spelled(alloc, main)?.as_slice())?;
+            asked.add_main(source.as_slice())?;
+        }
+        if let Some(pieces) = pieces {
+            for piece in pieces.split(" ;; ") {
+                asked.add(piece)?;
+            }
+        }
         Ok(asked)
     }
 
-    /// What a case says, in pieces between ` ;; `. The first is the text of `main`, as `spelled` reads it;
-    /// for the others see `add`.
-    pub fn of_case(alloc: Global, text: &str) -> Result<Asked, Fail> {
-        match text.split_once(" ;; ") {
-            None => Asked::of_main(alloc, spelled(alloc, text)?.as_slice()),
-            Some((main, pieces)) => {
-                let mut asked = Asked::of_main(alloc, spelled(alloc, main)?.as_slice())?;
-                for piece in pieces.split(" ;; ") {
-                    asked.add(piece)?;
-                }
-                Ok(asked)
-            }
-        }
-    }
-
     /// A further piece of a case. `-n NAME` is a further file that the words name, `-i PATH` a path,
-    /// `-d NAME=TEXT` and `-u NAME` are definitions, `derez` is the other tool; else it is `NAME:TEXT`, a
-    /// file.
+    /// `-d NAME=TEXT` and `-u NAME` are definitions, `derez` is the other tool, and `-f N` makes the Nth call of the
+    /// folder fail; else it is `NAME:TEXT`, a file, whose text `spelled` reads.
     fn add(&mut self, piece: &str) -> Result<(), Fail> {
         if piece == "derez" {
             self.tool = Tool::DeRez;
@@ -70,6 +68,7 @@ impl Asked {
             Some(("-i", path)) => Ok(self.paths.push(path)?),
             Some(("-d", definition)) => self.define(definition),
             Some(("-u", name)) => self.push_def(name, None),
+            Some(("-f", call)) => Ok(self.folder.fail_at(call.parse::<u64>()?)),
             _ => self.add_file(piece),
         }
     }
@@ -77,7 +76,7 @@ impl Asked {
     /// A piece that is a definition, `NAME=TEXT`.
     fn define(&mut self, definition: &str) -> Result<(), Fail> {
         let Some((name, text)) = definition.split_once('=') else {
-            return Err(Fail::from("no text"));
+            return Err(Fail::from(CaseFault::NoCase));
         };
         let tokens = tokens_of(self.alloc, text.as_bytes())?;
         self.push_def(name, Some(tokens))
@@ -96,16 +95,22 @@ impl Asked {
     /// A piece that is a file, `NAME:TEXT`.
     fn add_file(&mut self, piece: &str) -> Result<(), Fail> {
         let Some((name, text)) = piece.split_once(':') else {
-            return Err(Fail::from("no piece of a case"));
+            return Err(Fail::from(CaseFault::NoCase));
         };
         let text = spelled(self.alloc, text)?;
         self.insert(name, text.as_slice())
     }
 
+    /// Adds the file `main`, which the words name.
+    pub fn add_main(&mut self, bytes: &[u8]) -> Result<(), Fail> {
+        self.names.push("main")?;
+        self.insert("main", bytes)
+    }
+
     /// Lets a name hold these bytes.
     pub fn insert(&mut self, name: &str, bytes: &[u8]) -> Result<(), Fail> {
         if bytes.len() > MOST {
-            return Err(Fail::from("too long for a test"));
+            return Err(Fail::from(CaseFault::TooLong));
         }
         self.folder.insert(name, bytes)?;
         Ok(())
@@ -122,47 +127,4 @@ impl Asked {
             &self.defs,
         )
     }
-
-    /// The answer as text.
-    pub fn outcome(&mut self) -> Result<String, Fail> {
-        let answer = self.answer();
-        text_of(self.alloc, &answer)
-    }
-}
-
-/// The text that a case spells: `|` is the line end LF, `^` is CR and `~` is CR LF.
-pub fn spelled(alloc: Global, text: &str) -> Result<Bytes, Fail> {
-    let mut bytes = Bytes::new(alloc);
-    for byte in text.as_bytes() {
-        match byte {
-            b'|' => bytes.push(b'\n')?,
-            b'^' => bytes.push(b'\r')?,
-            b'~' => bytes.append(b"\r\n")?,
-            _ => bytes.push(*byte)?,
-        }
-    }
-    Ok(bytes)
-}
-
-/// The cases of a table with another outcome than they say, each with its outcome. A line that begins with `//`
-/// says what is tried.
-pub fn wrong_cases(alloc: Global, table: &str) -> Result<String, Fail> {
-    let mut wrong = String::new(alloc);
-    for case in &cases_of(alloc, table, "//")? {
-        let mut asked = Asked::of_case(alloc, case.text)?;
-        let outcome = asked.outcome()?;
-        if outcome.as_str() != case.wanted {
-            append_wrong(&mut wrong, case.line, &outcome)?;
-        }
-    }
-    Ok(wrong)
-}
-
-/// Appends a case and its outcome.
-pub fn append_wrong(wrong: &mut String, line: &str, outcome: &str) -> Result<(), Fail> {
-    wrong.push_str(line)?;
-    wrong.push_str(" BUT ")?;
-    wrong.push_str(outcome)?;
-    wrong.push('\n')?;
-    Ok(())
 }

@@ -1,8 +1,5 @@
-use crate::asked::wrong_cases;
-use std::test::Fail;
-
-/// Sources and what they mean, see `wrong_cases`.
-const PARTS: &str = r#"
+/// Parts of conditionals, of which the chosen one is read.
+pub const PARTS: &str = r#"
 // the first part whose condition holds
 #if 1|a|#endif|b => 2:a 4:b
 #if 0|a|#endif|b => 4:b
@@ -39,15 +36,8 @@ const PARTS: &str = r#"
 #define x 1|#if x|#undef x|#endif|#ifndef x|a|#endif => 6:a
 "#;
 
-#[test]
-fn chosen_parts_are_read(rt: HostRuntime) -> Result<(), Fail> {
-    let wrong = wrong_cases(rt.alloc(), PARTS)?;
-    assert_eq!(rt; wrong.as_str(), "");
-    Ok(())
-}
-
-/// Sources and what they mean, see `wrong_cases`.
-const PASSED: &str = r#"
+/// Parts of conditionals that are passed over.
+pub const PASSED: &str = r#"
 // nothing is cut, and no other directive is followed
 #if 0|@|08|"a|'|#foo|#12|#include "none"|#include|#define type x|#undef a b|#endif|x => 13:x
 #if 1|x|#else|@|"a|#foo|#include "none"|#endif|y => 2:x 9:y
@@ -82,15 +72,8 @@ const PASSED: &str = r#"
 #if 1|#else|x /* y|#endif => 107 on 3
 "#;
 
-#[test]
-fn other_parts_are_passed_over(rt: HostRuntime) -> Result<(), Fail> {
-    let wrong = wrong_cases(rt.alloc(), PASSED)?;
-    assert_eq!(rt; wrong.as_str(), "");
-    Ok(())
-}
-
-/// Sources and what they mean, see `wrong_cases`.
-const UNPAIRED: &str = r#"
+/// Conditionals that do not begin and end in one file.
+pub const UNPAIRED: &str = r#"
 // open at the end: the last that was opened
 #if 1 => 105 on 1
 #if 1|@ => 111 on 2 #64
@@ -137,10 +120,3 @@ x|#else|#foo => 106 on 2
 #if 1|#include "a"|#endif ;; a:#elif 1/0 => 106 on 1/1 in main a
 #if 1|#include "a"|#else|#include "b"|#endif|x ;; a:#if 0|#else|y|#endif ;; b:#if 1 => 1/3:y 6:x in main a
 "#;
-
-#[test]
-fn conditionals_begin_and_end_in_one_file(rt: HostRuntime) -> Result<(), Fail> {
-    let wrong = wrong_cases(rt.alloc(), UNPAIRED)?;
-    assert_eq!(rt; wrong.as_str(), "");
-    Ok(())
-}

@@ -1,13 +1,5 @@
-use crate::asked::{Asked, append_wrong};
-use rz_cases::cases_of;
-use rz_core::Bytes;
-use rz_pre::Tool;
-use std::alloc::Global;
-use std::test::Fail;
-
-/// Macros of these tests. H, G and F are 8, 64 and 512 tokens, R 1,020, N 1,024 and M 1,025, and A is too
-/// many.
-const MACROS: &str = "
+/// Macros of these conditions. H, G and F are 8, 64 and 512 tokens, R 1,020, N 1,024 and M 1,025, and A is too many.
+pub const MACROS: &str = "
 #define one 1
 #define zero 0
 #define none
@@ -27,32 +19,8 @@ const MACROS: &str = "
 #define A C C
 ";
 
-/// What a file means whose first line brings the macros, whose second is an `#if` with this condition, and
-/// that has `yes` on its third line and `no` after an `#else`. Its files are `main` and `macros`.
-fn decision_of(alloc: Global, tool: Tool, condition: &str) -> Result<String, Fail> {
-    let mut source = Bytes::of(alloc, b"#include \"macros\"\n#if ")?;
-    source.append(condition.as_bytes())?;
-    source.append(b"\nyes\n#else\nno\n#endif\n")?;
-    let mut asked = Asked::of_main(alloc, source.as_slice())?;
-    asked.insert("macros", MACROS.as_bytes())?;
-    asked.tool = tool;
-    asked.outcome()
-}
-
-/// The cases of a table of conditions with another decision than they say, each with its decision. A line that begins with `//` says what is tried.
-fn wrong_decisions(alloc: Global, tool: Tool, table: &str) -> Result<String, Fail> {
-    let mut wrong = String::new(alloc);
-    for case in &cases_of(alloc, table, "//")? {
-        let outcome = decision_of(alloc, tool, case.text)?;
-        if outcome.strip_suffix(" in main macros") != Some(case.wanted) {
-            append_wrong(&mut wrong, case.line, &outcome)?;
-        }
-    }
-    Ok(wrong)
-}
-
-/// Conditions and what they decide, see `wrong_decisions`.
-const VALUES: &str = r#"
+/// Conditions with a value, and those of other forms of `defined`.
+pub const VALUES: &str = r#"
 // numbers and words
 1 => 3:yes
 0 => 5:no
@@ -95,15 +63,8 @@ defined 1 => 114 on 2
 defined((one)) => 114 on 2
 "#;
 
-#[test]
-fn conditions_are_computed(rt: HostRuntime) -> Result<(), Fail> {
-    let wrong = wrong_decisions(rt.alloc(), Tool::Rez, VALUES)?;
-    assert_eq!(rt; wrong.as_str(), "");
-    Ok(())
-}
-
-/// Conditions and what they decide, see `wrong_decisions`.
-const NO_VALUES: &str = r#"
+/// Conditions without a value, and at the limits of their tokens.
+pub const NO_VALUES: &str = r#"
 // no expression
  => 114 on 2
 none => 114 on 2
@@ -154,25 +115,11 @@ M '' => 110 on 2 ''
 1 / 0 " => 108 on 2
 "#;
 
-#[test]
-fn conditions_without_a_value_are_refused(rt: HostRuntime) -> Result<(), Fail> {
-    let wrong = wrong_decisions(rt.alloc(), Tool::Rez, NO_VALUES)?;
-    assert_eq!(rt; wrong.as_str(), "");
-    Ok(())
-}
-
-/// Conditions and what they decide where DeRez reads them, see `wrong_decisions`.
-const OF_DEREZ: &str = "
+/// Conditions that DeRez reads.
+pub const OF_DEREZ: &str = "
 rez * 4 + derez * 8 == 8 => 3:yes
 rez => 5:no
 DEREZ => 3:yes
 defined rez + defined derez == 2 => 3:yes
 true + false == 1 => 3:yes
 ";
-
-#[test]
-fn words_of_the_tools_tell_which_reads(rt: HostRuntime) -> Result<(), Fail> {
-    let wrong = wrong_decisions(rt.alloc(), Tool::DeRez, OF_DEREZ)?;
-    assert_eq!(rt; wrong.as_str(), "");
-    Ok(())
-}

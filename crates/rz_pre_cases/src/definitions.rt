@@ -1,11 +1,5 @@
-use crate::asked::{Asked, append_wrong, wrong_cases};
-use rz_cases::cases_of;
-use rz_core::{Word, Words};
-use std::alloc::Global;
-use std::test::Fail;
-
-/// Sources and what they mean, see `wrong_cases`.
-const OF_WORDS: &str = r#"
+/// Definitions of the words, which come before the lines.
+pub const OF_WORDS: &str = r#"
 // in their order
 a ;; -d a=1 => 1:1
 a ;; -u a => 1:a
@@ -39,38 +33,8 @@ a|#define a 2|a ;; -u a => 1:a 3:2
 a ;; -n f ;; f:a ;; -d a=1 => 1:1 1/1:1 in main f
 "#;
 
-#[test]
-fn definitions_of_the_words_come_first(rt: HostRuntime) -> Result<(), Fail> {
-    let wrong = wrong_cases(rt.alloc(), OF_WORDS)?;
-    assert_eq!(rt; wrong.as_str(), "");
-    Ok(())
-}
-
-/// Whether these are the wanted names, between which blanks stand, in whatever order.
-fn are_names(words: &Words, wanted: &str) -> bool {
-    wanted
-        .split(' ')
-        .all(|name| is_among(name.as_bytes(), words))
-        && words.as_slice().iter().all(|word| is_wanted(word, wanted))
-}
-
-/// Whether a name is one of these.
-fn is_among(name: &[u8], words: &Words) -> bool {
-    words
-        .as_slice()
-        .iter()
-        .any(|word| word.bytes.as_slice() == name)
-}
-
-/// Whether a name is one of those, between which blanks stand.
-fn is_wanted(word: &Word, wanted: &str) -> bool {
-    wanted
-        .split(' ')
-        .any(|name| name.as_bytes() == word.bytes.as_slice())
-}
-
-/// Sources and the names that are macros at the end, see `wrong_names`.
-const AT_THE_END: &str = r#"
+/// Sources, and the names that are macros at the end.
+pub const AT_THE_END: &str = r#"
 // lines
 #define a 1|#define B 2|#define c => a b c
 #define A_1 x|#define a_1 y => a_1
@@ -88,49 +52,13 @@ x ;; -d a= ;; -d b=c => a b
 #undef a|#define b ;; -d a=1 ;; -d c=1 => b c
 #define a ;; -u a => a
 // files
-#include "f"|#define a ;; f:#define In_F 1 => in_f a
+#include "f"|#define a ;; f:#define In_F 1 => a in_f
 #define a|#include "f" ;; f:#undef a|#define b => b
 #define a ;; -n f ;; f:#define b => a b
+// no macros
+ => nothing
+#define a|#undef A => nothing
+#undef a => nothing
+a ;; -d a= ;; -u A => nothing
+no main => nothing
 "#;
-
-/// The cases of a table whose macros at the end are others than they say. A line that
-/// begins with `//` says what is tried.
-fn wrong_names(alloc: Global, table: &str) -> Result<String, Fail> {
-    let mut wrong = String::new(alloc);
-    for case in &cases_of(alloc, table, "//")? {
-        let mut asked = Asked::of_case(alloc, case.text)?;
-        match asked.answer() {
-            Ok(program) => {
-                if !are_names(&program.macros, case.wanted) {
-                    append_wrong(&mut wrong, case.line, "other names")?;
-                }
-            }
-            Err(_) => append_wrong(&mut wrong, case.line, "a fault")?,
-        }
-    }
-    Ok(wrong)
-}
-
-#[test]
-fn macros_at_the_end_are_named(rt: HostRuntime) -> Result<(), Fail> {
-    let wrong = wrong_names(rt.alloc(), AT_THE_END)?;
-    assert_eq!(rt; wrong.as_str(), "");
-    Ok(())
-}
-
-#[test]
-fn program_may_have_no_macros_and_no_tokens(rt: HostRuntime) -> Result<(), Fail> {
-    for text in ["", "#define a|#undef A", "#undef a", "a ;; -d a= ;; -u A"] {
-        let mut asked = Asked::of_case(rt.alloc(), text)?;
-        let Ok(program) = asked.answer() else {
-            return Err(Fail::from("refused"));
-        };
-        assert!(rt; program.macros.is_empty(), "{text}");
-    }
-    let mut asked = Asked::new(rt.alloc());
-    let Ok(program) = asked.answer() else {
-        return Err(Fail::from("refused"));
-    };
-    assert!(rt; program.files.len() == 0 && program.tokens.is_empty() && program.macros.is_empty());
-    Ok(())
-}

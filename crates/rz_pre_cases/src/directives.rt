@@ -1,8 +1,5 @@
-use crate::asked::wrong_cases;
-use std::test::Fail;
-
-/// Sources and what they mean, see `wrong_cases`.
-const TOLD: &str = r##"
+/// Directives, which are told by their words.
+pub const TOLD: &str = r##"
 // no directive
  => nothing
  a => 1:a
@@ -35,15 +32,8 @@ a # => 111 on 1 #35
 #if 0|a|#else @|b|#endif 08 => 4:b
 "##;
 
-#[test]
-fn directives_are_told_by_their_words(rt: HostRuntime) -> Result<(), Fail> {
-    let wrong = wrong_cases(rt.alloc(), TOLD)?;
-    assert_eq!(rt; wrong.as_str(), "");
-    Ok(())
-}
-
-/// Sources and what they mean, see `wrong_cases`.
-const REFUSED: &str = r#"
+/// Directives of other forms, which keep their word.
+pub const REFUSED: &str = r#"
 // other words, and none
 #foo => 104 on 1 foo
 #Foo bar => 104 on 1 Foo
@@ -113,15 +103,8 @@ const REFUSED: &str = r#"
 #ifdef a 08 => 110 on 1 08
 "#;
 
-#[test]
-fn directives_of_other_forms_keep_their_word(rt: HostRuntime) -> Result<(), Fail> {
-    let wrong = wrong_cases(rt.alloc(), REFUSED)?;
-    assert_eq!(rt; wrong.as_str(), "");
-    Ok(())
-}
-
-/// Sources and what they mean, see `wrong_cases`; a backslash is spelled twice, since this is no raw text.
-const LINES: &str = "
+/// Directives as logical lines. A backslash is spelled twice, since this is no raw text.
+pub const LINES: &str = "
 // blanks before and after `#`
  #define a 1|a => 2:1
 \t#\tdefine\ta\t1|a => 2:1
@@ -163,10 +146,3 @@ x \\|#define a 1|a => 111 on 1 #35
 x /* |*/ #define a 1 => 111 on 1 #35
 |// #define a 2|#define a 1|a => 4:1
 ";
-
-#[test]
-fn directives_are_logical_lines(rt: HostRuntime) -> Result<(), Fail> {
-    let wrong = wrong_cases(rt.alloc(), LINES)?;
-    assert_eq!(rt; wrong.as_str(), "");
-    Ok(())
-}

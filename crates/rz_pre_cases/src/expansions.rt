@@ -1,13 +1,5 @@
-use crate::asked::{Asked, wrong_cases};
-use crate::outcome::read_all;
-use rz_core::Bytes;
-use rz_lex::{Shape, Token};
-use std::alloc::Global;
-use std::test::Fail;
-
-/// Fifteen macros, each of which stands for two of the next: A for 32,768 words P, with 65,535 tokens
-/// handled.
-const FIFTEEN: &str = "\
+/// Fifteen macros, each of which stands for two of the next: A for 32,768 words P, with 65,535 tokens handled.
+pub const FIFTEEN: &str = "\
 #define A B B
 #define B C C
 #define C D D
@@ -25,8 +17,8 @@ const FIFTEEN: &str = "\
 #define O P P
 ";
 
-/// Sources and what they mean, see `wrong_cases`.
-const REPLACED: &str = r#"
+/// Words that are replaced.
+pub const REPLACED: &str = r#"
 // words in whatever case, and nothing else
 #define z 0|a 1 'z' "z" $"7A" zz => 2:a 2:1 2:'z' 2:"z" 2:"z" 2:zz
 #define a b|a A x a => 2:b 2:b 2:x 2:b
@@ -62,77 +54,23 @@ a|#define a 1|a => 1:a 3:1
 #define a 1|#define a|a b => 3:b
 "#;
 
-#[test]
-fn words_are_replaced(rt: HostRuntime) -> Result<(), Fail> {
-    let wrong = wrong_cases(rt.alloc(), REPLACED)?;
-    assert_eq!(rt; wrong.as_str(), "");
-    Ok(())
-}
+/// Lines after the fifteen macros, which are the 16th and further ones, with 65,536 tokens for a word; and how many words
+/// `P` come of them on which line.
+pub const MOST: &str = r#"
+A => 32768 on 16
+#define Y A||Y => 32768 on 18
+#define Y A||A Y B => 81920 on 18
+#define Z B C D|Z => 28672 on 17
+"#;
 
-/// A program of the fifteen macros and these lines after them, which are the 16th and further ones.
-fn after_fifteen(alloc: Global, lines: &str) -> Result<Asked, Fail> {
-    let mut source = Bytes::of(alloc, FIFTEEN.as_bytes())?;
-    source.append(lines.as_bytes())?;
-    Asked::of_main(alloc, source.as_slice())
-}
-
-/// Whether it is this number of tokens, each the word `P` on this line.
-fn are_words(tokens: &[Token], count: usize, line: u32) -> bool {
-    tokens.len() == count && tokens.iter().all(|token| is_word(token, line))
-}
-
-/// Whether a token is the word `P` on this line of the first file.
-fn is_word(token: &Token, line: u32) -> bool {
-    match &token.shape {
-        Shape::Word(word) => {
-            word.bytes.as_slice() == b"P".as_slice()
-                && token.mark.file == 0
-                && token.mark.line == line
-        }
-        _ => false,
-    }
-}
-
-#[test]
-fn word_may_take_65536_tokens(rt: HostRuntime) -> Result<(), Fail> {
-    // the lines after the macros, how many words there are, and their line
-    let lines = [
-        ("A", 32_768, 16),
-        ("#define Y A\n\nY", 32_768, 18),
-        ("#define Y A\n\nA Y B", 81_920, 18),
-        ("#define Z B C D\nZ", 28_672, 17),
-    ];
-    for (text, count, line) in lines {
-        let mut asked = after_fifteen(rt.alloc(), text)?;
-        let Ok(program) = asked.answer() else {
-            return Err(Fail::from("refused"));
-        };
-        let tokens = read_all(rt.alloc(), &program.tokens)?;
-        assert!(rt; are_words(tokens.as_slice(), count, line), "{text}");
-    }
-    Ok(())
-}
-
-#[test]
-fn word_that_takes_more_tokens_is_refused(rt: HostRuntime) -> Result<(), Fail> {
-    let texts = [
-        ("#define P Q Q\n#define Q R R\nA", "112 on 18 A"),
-        ("#define P Q Q\nx\na", "112 on 18 a"),
-        ("#define P Q\nx A y", "112 on 17 A"),
-        ("#define Y A\n#define Z Y\nZ", "112 on 18 Z"),
-        ("#define Z A x\nB\nx z Z", "112 on 18 z"),
-        ("#define Z A x\nZ @", "111 on 17 #64"),
-        ("#define Z A x\n\n#include \"f\"", "112 on 1/2 Z in main f"),
-        (
-            "#define Z A x\n#ifdef Z\n#endif\n#if 0\nZ\n#endif\nx",
-            "22:x",
-        ),
-    ];
-    for (text, wanted) in texts {
-        let mut asked = after_fifteen(rt.alloc(), text)?;
-        asked.insert("f", b"\nx Z A\n")?;
-        let outcome = asked.outcome()?;
-        assert_eq!(rt; outcome.as_str(), wanted, "{text}");
-    }
-    Ok(())
-}
+/// Lines after the fifteen macros with more tokens for a word.
+pub const MORE: &str = r#"
+#define P Q Q|#define Q R R|A => 112 on 18 A
+#define P Q Q|x|a => 112 on 18 a
+#define P Q|x A y => 112 on 17 A
+#define Y A|#define Z Y|Z => 112 on 18 Z
+#define Z A x|B|x z Z => 112 on 18 z
+#define Z A x|Z @ => 111 on 17 #64
+#define Z A x||#include "f" ;; f:|x Z A| => 112 on 1/2 Z in main f
+#define Z A x|#ifdef Z|#endif|#if 0|Z|#endif|x => 22:x
+"#;

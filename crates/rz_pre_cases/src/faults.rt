@@ -1,9 +1,5 @@
-use crate::asked::{Asked, wrong_cases};
-use rz_core::Bytes;
-use std::test::Fail;
-
-/// Sources and what they mean, see `wrong_cases`.
-const INSIDE: &str = r#"
+/// Each fault in a file that is not the first, and its file and line.
+pub const INSIDE: &str = r#"
 // each fault in a file that another includes
 #include "a" ;; a:|#include "None" => 101 on 1/2 None in main a
 #include "a" ;; a:x|#Foo => 104 on 1/2 Foo in main a
@@ -32,15 +28,8 @@ const INSIDE: &str = r#"
 x ;; -n a ;; a:x|@ => 111 on 1/2 #64 in main a
 "#;
 
-#[test]
-fn faults_tell_their_file_and_line(rt: HostRuntime) -> Result<(), Fail> {
-    let wrong = wrong_cases(rt.alloc(), INSIDE)?;
-    assert_eq!(rt; wrong.as_str(), "");
-    Ok(())
-}
-
-/// Sources and what they mean, see `wrong_cases`.
-const FIRST: &str = r#"
+/// Programs with several faults, of which the first is given.
+pub const FIRST: &str = r#"
 // the first in the order of the lines, and on a line of the tokens
 @|#include "none"|/* => 111 on 1 #64
 #include "none"|@ => 101 on 1 none
@@ -60,35 +49,13 @@ x|/* y|@ => 107 on 2
 /* ;; -n a ;; a:*/ => 107 on 1
 "#;
 
-#[test]
-fn first_fault_of_a_program_is_given(rt: HostRuntime) -> Result<(), Fail> {
-    let wrong = wrong_cases(rt.alloc(), FIRST)?;
-    assert_eq!(rt; wrong.as_str(), "");
-    Ok(())
-}
-
-#[test]
-fn words_of_more_than_255_bytes_are_refused(rt: HostRuntime) -> Result<(), Fail> {
-    // what stands before the word, how many bytes that has, and what stands after it
-    let texts = [
-        ("x\n", 256, "\n@", "115 on 1/2 #256 in main a"),
-        ("x\n$$", 255, "\n@", "115 on 1/2 #257 in main a"),
-        ("#define ", 300, " 1", "115 on 1/1 #300 in main a"),
-        ("#", 256, "", "115 on 1/1 #256 in main a"),
-        ("@ ", 256, "", "111 on 1/1 #64 in main a"),
-        ("#if 0\n", 256, "\n#endif", "3:y in main a"),
-        ("#define ", 255, " 1", "3:y in main a"),
-    ];
-    for (before, count, after, wanted) in texts {
-        let mut text = Bytes::of(rt.alloc(), before.as_bytes())?;
-        for _ in 0..count {
-            text.push(b'w')?;
-        }
-        text.append(after.as_bytes())?;
-        let mut asked = Asked::of_main(rt.alloc(), b"\n#include \"a\"\ny")?;
-        asked.insert("a", text.as_slice())?;
-        let outcome = asked.outcome()?;
-        assert_eq!(rt; outcome.as_str(), wanted, "{before} {count} {after}");
-    }
-    Ok(())
-}
+/// Words of more than 255 bytes.
+pub const LONG: &str = r##"
+|#include "a"|y ;; a:x|«w×256»|@ => 115 on 1/2 #256 in main a
+|#include "a"|y ;; a:x|$$«w×255»|@ => 115 on 1/2 #257 in main a
+|#include "a"|y ;; a:#define «w×300» 1 => 115 on 1/1 #300 in main a
+|#include "a"|y ;; a:#«w×256» => 115 on 1/1 #256 in main a
+|#include "a"|y ;; a:@ «w×256» => 111 on 1/1 #64 in main a
+|#include "a"|y ;; a:#if 0|«w×256»|#endif => 3:y in main a
+|#include "a"|y ;; a:#define «w×255» 1 => 3:y in main a
+"##;

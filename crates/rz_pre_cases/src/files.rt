@@ -1,10 +1,5 @@
-use crate::asked::{Asked, wrong_cases};
-use rz_core::{Fault, Kept};
-use rz_pre::PreFault;
-use std::test::Fail;
-
-/// Sources and what they mean, see `wrong_cases`.
-const INCLUDED: &str = r#"
+/// Files that others include, which stand in their place.
+pub const INCLUDED: &str = r#"
 // the lines of a file stand after the line that includes it
 x|#include "a"|y ;; a:b|c => 1:x 1/1:b 1/2:c 3:y in main a
 #include "a"|x ;; a: => 2:x in main a
@@ -31,15 +26,8 @@ x ;; a:y => 1:x
 #define a b|#include "a" ;; a:x ;; b:y => 1/1:x in main a
 "#;
 
-#[test]
-fn included_files_stand_in_their_place(rt: HostRuntime) -> Result<(), Fail> {
-    let wrong = wrong_cases(rt.alloc(), INCLUDED)?;
-    assert_eq!(rt; wrong.as_str(), "");
-    Ok(())
-}
-
-/// Sources and what they mean, see `wrong_cases`.
-const DEEP: &str = r#"
+/// Files included at most sixteen levels deep.
+pub const DEEP: &str = r#"
 // a file that includes itself
 #include "main" => 103 on 15/1 #17 in main main main main main main main main main main main main main main main main
 x|#include "main"|@ => 103 on 15/2 #17 in main main main main main main main main main main main main main main main main
@@ -52,17 +40,12 @@ x|#include "main"|@ => 103 on 15/2 #17 in main main main main main main main mai
 #include "a" ;; a:#include "b" ;; b:#include "c" ;; c:#include "d" ;; d:#include "e" ;; e:#include "f" ;; f:#include "g" ;; g:#include "h" ;; h:#include "i" ;; i:#include "j" ;; j:#include "k" ;; k:#include "l" ;; l:#include "m" ;; m:#include "n" ;; n:#include "o" ;; o:x|#include "none"|y => 103 on 15/2 #17 in main a b c d e f g h i j k l m n o
 #include "a" ;; a:#include "b" ;; b:#include "c" ;; c:#include "d" ;; d:#include "e" ;; e:#include "f" ;; f:#include "g" ;; g:#include "h" ;; h:#include "i" ;; i:#include "j" ;; j:#include "k" ;; k:#include "l" ;; l:#include "m" ;; m:#include "n" ;; n:#include "o" ;; o:#include none => 104 on 15/1 include in main a b c d e f g h i j k l m n o
 x ;; -n a ;; a:#include "a" => 103 on 16/1 #17 in main a a a a a a a a a a a a a a a a
+// nor asked for: a seventeenth read would fail
+#include "main" ;; -f 17 => 103 on 15/1 #17 in main main main main main main main main main main main main main main main main
 "#;
 
-#[test]
-fn files_are_included_sixteen_levels_deep(rt: HostRuntime) -> Result<(), Fail> {
-    let wrong = wrong_cases(rt.alloc(), DEEP)?;
-    assert_eq!(rt; wrong.as_str(), "");
-    Ok(())
-}
-
-/// Sources and what they mean, see `wrong_cases`.
-const LOOKED_FOR: &str = r#"
+/// Files that are looked for under their name and after paths.
+pub const LOOKED_FOR: &str = r#"
 // under the name as it is given, and then after each path in order
 #include "f" ;; -i p ;; f:x ;; p/f:y => 1/1:x in main f
 #include "f" ;; -i p ;; p/f:y => 1/1:y in main p/f
@@ -89,15 +72,8 @@ x ;; -n f ;; -i p ;; p/f:y => 101 f
 x ;; -n p/f ;; -i p ;; p/f:y => 1:x 1/1:y in main p/f
 "#;
 
-#[test]
-fn included_files_are_looked_for_after_paths(rt: HostRuntime) -> Result<(), Fail> {
-    let wrong = wrong_cases(rt.alloc(), LOOKED_FOR)?;
-    assert_eq!(rt; wrong.as_str(), "");
-    Ok(())
-}
-
-/// Sources and what they mean, see `wrong_cases`.
-const NAMED: &str = r#"
+/// Files that the words name, which are one program.
+pub const NAMED: &str = r#"
 // one program
 #define a 1 ;; -n b ;; b:a => 1/1:1 in main b
 a|#define a 1|#define c 2 ;; -n b ;; b:a|#undef c ;; -n d ;; d:a c => 1:a 1/1:1 2/1:1 2/1:c in main b d
@@ -117,114 +93,36 @@ x ;; -n none => 101 none
 x ;; -n b ;; -n none ;; -n c ;; b:y ;; c:@ => 101 none in main b
 x|#include "a" ;; -n None ;; a:y => 101 None in main a
 x ;; -n  => 101 empty
+// no file at all
+no main => nothing in
 "#;
 
-#[test]
-fn named_files_are_one_program(rt: HostRuntime) -> Result<(), Fail> {
-    let wrong = wrong_cases(rt.alloc(), NAMED)?;
-    assert_eq!(rt; wrong.as_str(), "");
-    Ok(())
-}
+/// Names in Mac Roman, which are looked for in UTF-8; a name that a fault keeps is shown as it was given. Quotes are
+/// spelled with a backslash, since this is no raw text.
+pub const ROMAN: &str = "
+#include \"%80\" ;; -i p ;; \u{C4}:x => 1/1:x in main \u{C4}
+#include \"\\0x80\" ;; -i p ;; \u{C4}:x => 1/1:x in main \u{C4}
+#include $\"80\" ;; -i p ;; p/\u{C4}:x => 1/1:x in main p/\u{C4}
+%EF%BB%BF#include \"%C3%84\" ;; -i p ;; \u{C4}:x => 1/1:x in main \u{C4}
+#include \"%F0%A0\" ;; -i p ;; \u{F8FF}\u{2020}:x => 1/1:x in main \u{F8FF}\u{2020}
+#include \"%C3%84\" ;; -i p ;; \u{C4}:x => 101 on 1 \u{221A}\u{D1}
+#include \"%80\" ;; -i p ;; \u{E4}:x => 101 on 1 \u{C4}
+#include \"%8A\" ;; -i p ;; \u{C4}:x => 101 on 1 \u{E4}
+#include \"%80\" => 101 on 1 \u{C4}
+// the words give a name in UTF-8
+no main ;; -n \u{C4} => 101 \u{221A}\u{D1} in
+";
 
-#[test]
-fn names_in_mac_roman_are_looked_for_in_utf8(rt: HostRuntime) -> Result<(), Fail> {
-    // the source, the name of another file, and what that means: a name that a fault keeps is shown in UTF-8
-    let sources: [(&[u8], &str, &str); 8] = [
-        (b"#include \"\x80\"", "\u{C4}", "1/1:x in main \u{C4}"),
-        (b"#include \"\\0x80\"", "\u{C4}", "1/1:x in main \u{C4}"),
-        (b"#include $\"80\"", "p/\u{C4}", "1/1:x in main p/\u{C4}"),
-        (
-            b"\xEF\xBB\xBF#include \"\xC3\x84\"",
-            "\u{C4}",
-            "1/1:x in main \u{C4}",
-        ),
-        (
-            b"#include \"\xF0\xA0\"",
-            "\u{F8FF}\u{2020}",
-            "1/1:x in main \u{F8FF}\u{2020}",
-        ),
-        (
-            b"#include \"\xC3\x84\"",
-            "\u{C4}",
-            "101 on 1 \u{221A}\u{D1}",
-        ),
-        (b"#include \"\x80\"", "\u{E4}", "101 on 1 \u{C4}"),
-        (b"#include \"\x8A\"", "\u{C4}", "101 on 1 \u{E4}"),
-    ];
-    for (source, name, wanted) in sources {
-        let mut asked = Asked::of_main(rt.alloc(), source)?;
-        asked.insert(name, b"x")?;
-        asked.paths.push("p")?;
-        let outcome = asked.outcome()?;
-        assert_eq!(rt; outcome.as_str(), wanted);
-    }
-    Ok(())
-}
+/// Calls of the folder that fail: `main`, then `f` that is not there, `p/f`, and `g`.
+pub const FAILING: &str = r#"
+#include "f" ;; -i p ;; p/f:x ;; -n g ;; g:y ;; -f 1 => read fault
+#include "f" ;; -i p ;; p/f:x ;; -n g ;; g:y ;; -f 2 => read fault
+#include "f" ;; -i p ;; p/f:x ;; -n g ;; g:y ;; -f 3 => read fault
+#include "f" ;; -i p ;; p/f:x ;; -n g ;; g:y ;; -f 4 => read fault
+#include "f" ;; -i p ;; p/f:x ;; -n g ;; g:y ;; -f 5 => 1/1:x 2/1:y in main p/f g
+"#;
 
-#[test]
-fn missing_name_is_kept_as_it_was_given(rt: HostRuntime) -> Result<(), Fail> {
-    let mut asked = Asked::new(rt.alloc());
-    asked.names.push("\u{C4}")?;
-    let Err(PreFault::Refused(fault, files)) = asked.answer() else {
-        return Err(Fail::from("not refused"));
-    };
-    assert_eq!(rt; fault.number, 101);
-    assert!(rt; fault.mark.is_none() && files.len() == 0);
-    assert!(rt; keeps(&fault, b"\xC3\x84"));
-    let mut asked = Asked::of_main(rt.alloc(), b"#include \"\x80\"")?;
-    let Err(PreFault::Refused(fault, _)) = asked.answer() else {
-        return Err(Fail::from("not refused"));
-    };
-    assert!(rt; keeps(&fault, b"\x80"));
-    Ok(())
-}
-
-/// Whether a fault keeps these bytes.
-fn keeps(fault: &Fault, bytes: &[u8]) -> bool {
-    match &fault.kept {
-        Kept::Name(name) => name.as_slice() == bytes,
-        _ => false,
-    }
-}
-
-#[test]
-fn failed_read_is_told(rt: HostRuntime) -> Result<(), Fail> {
-    // `main`, then `f` that isn't there, `p/f`, and `g`
-    let outcomes = [
-        (1, "read fault"),
-        (2, "read fault"),
-        (3, "read fault"),
-        (4, "read fault"),
-        (5, "1/1:x 2/1:y in main p/f g"),
-    ];
-    for (call, wanted) in outcomes {
-        let text = "#include \"f\" ;; -i p ;; p/f:x ;; -n g ;; g:y";
-        let mut asked = Asked::of_case(rt.alloc(), text)?;
-        asked.folder.fail_at(call);
-        let outcome = asked.outcome()?;
-        assert_eq!(rt; outcome.as_str(), wanted, "{call}");
-    }
-    Ok(())
-}
-
-#[test]
-fn seventeenth_level_is_not_asked_for(rt: HostRuntime) -> Result<(), Fail> {
-    let mut asked = Asked::of_case(rt.alloc(), "#include \"main\"")?;
-    // a seventeenth read would fail
-    asked.folder.fail_at(17);
-    let outcome = asked.outcome()?;
-    let files = " main main main main main main main main main main main main main main main main";
-    let wanted = format!(in rt.alloc(); "103 on 15/1 #17 in{files}")?;
-    assert_eq!(rt; outcome.as_str(), wanted.as_str());
-    Ok(())
-}
-
-#[test]
-fn files_are_unchanged(rt: HostRuntime) -> Result<(), Fail> {
-    let mut asked = Asked::of_case(rt.alloc(), "#include \"f\" ;; f:x@")?;
-    let outcome = asked.outcome()?;
-    assert_eq!(rt; outcome.as_str(), "111 on 1/1 #64 in main f");
-    let held = asked.folder.bytes("f").ok_or("no file")?;
-    assert_eq!(rt; held, b"x@".as_slice());
-    Ok(())
-}
+/// Sources, and what the file `f` holds afterwards.
+pub const UNCHANGED: &str = r#"
+#include "f" ;; f:x@ => 111 on 1/1 #64 in main f f:x@
+"#;

@@ -6,6 +6,8 @@
 #[cfg(test)]
 mod asked;
 #[cfg(test)]
+mod calls;
+#[cfg(test)]
 mod conditionals;
 #[cfg(test)]
 mod conditions;
@@ -23,3 +25,7 @@ mod files;
 mod outcome;
 #[cfg(test)]
 mod sources;
+#[cfg(test)]
+mod spelled;
+#[cfg(test)]
+mod tables;

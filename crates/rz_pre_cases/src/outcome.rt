@@ -1,6 +1,7 @@
 use rz_cases::append_shape;
-use rz_core::{Bytes, Fault, FileNames, Kept, Mark, from_roman, write_decimal, write_signed};
-use rz_lex::{Token, Tokens};
+use rz_core::{
+    Bytes, Fault, FileNames, Kept, Mark, Words, from_roman, write_decimal, write_signed,
+};
 use rz_pre::{PreFault, Program};
 use rz_tokens::TokenStore;
 use std::alloc::Global;
@@ -13,7 +14,7 @@ pub fn text_of(alloc: Global, answer: &Result<Program, PreFault>) -> Result<Stri
     match answer {
         Ok(program) => {
             append_roman(
-                text_of_tokens(alloc, read_all(alloc, &program.tokens)?.as_slice())?.as_slice(),
+                text_of_tokens(alloc, &program.tokens)?.as_slice(),
                 &mut text,
             )?;
             append_files(&program.files, &mut text)?;
@@ -28,20 +29,32 @@ pub fn text_of(alloc: Global, answer: &Result<Program, PreFault>) -> Result<Stri
     Ok(text)
 }
 
-/// All tokens of a store.
-pub fn read_all(alloc: Global, store: &TokenStore) -> Result<Tokens, Fail> {
-    let mut tokens = Tokens::new(alloc);
-    let mut reader = store.reader();
-    for _ in 0..store.len() {
-        if let Some(token) = reader.next(alloc)? {
-            tokens.push(token)?;
-        }
+/// Names in the order of their bytes, with blanks between them; `nothing` where there is none.
+pub fn text_of_names(alloc: Global, words: &Words) -> Result<String, Fail> {
+    let mut names = Vec::new(alloc);
+    for word in words.as_slice() {
+        names.push(word.bytes.as_slice())?;
     }
-    Ok(tokens)
+    names.sort()?;
+    joined(alloc, names.as_slice())
+}
+
+/// Names with blanks between them; `nothing` where there is none.
+fn joined(alloc: Global, names: &[&[u8]]) -> Result<String, Fail> {
+    let Some((first, others)) = names.split_first() else {
+        return Ok("nothing".to_string(alloc)?);
+    };
+    let mut text = String::new(alloc);
+    append_roman(first, &mut text)?;
+    for name in others {
+        text.push(' ')?;
+        append_roman(name, &mut text)?;
+    }
+    Ok(text)
 }
 
 /// Appends bytes of Mac Roman.
-fn append_roman(bytes: &[u8], text: &mut String) -> Result<(), Fail> {
+pub fn append_roman(bytes: &[u8], text: &mut String) -> Result<(), Fail> {
     for byte in bytes {
         text.push(from_roman(*byte))?;
     }
@@ -55,30 +68,29 @@ fn append_files(files: &FileNames, text: &mut String) -> Result<(), Fail> {
     }
     text.push_str(" in")?;
     for k in 0..files.len() {
+        let name = files.at(k);
         text.push(' ')?;
-        text.push_str(or_empty(files.at(k)))?;
+        text.push_str(if name.is_empty() { "empty" } else { name })?;
     }
     Ok(())
 }
 
-/// A name, and `empty` for the one without bytes.
-fn or_empty(name: &str) -> &str {
-    if name.is_empty() { "empty" } else { name }
-}
-
 /// Each token after its place and a colon, with blanks between them; `nothing` where there is none.
-fn text_of_tokens(alloc: Global, tokens: &[Token]) -> Result<Bytes, Fail> {
-    if tokens.is_empty() {
+fn text_of_tokens(alloc: Global, store: &TokenStore) -> Result<Bytes, Fail> {
+    if store.is_empty() {
         return Ok(Bytes::of(alloc, b"nothing")?);
     }
     let mut text = Bytes::new(alloc);
-    for token in tokens {
-        if !text.is_empty() {
-            text.push(b' ')?;
+    let mut reader = store.reader();
+    for _ in 0..store.len() {
+        if let Some(token) = reader.next(alloc)? {
+            if !text.is_empty() {
+                text.push(b' ')?;
+            }
+            append_mark(token.mark, &mut text)?;
+            text.push(b':')?;
+            append_shape(&token.shape, &mut text)?;
         }
-        append_mark(token.mark, &mut text)?;
-        text.push(b':')?;
-        append_shape(&token.shape, &mut text)?;
     }
     Ok(text)
 }

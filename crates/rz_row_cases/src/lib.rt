@@ -1,11 +1,22 @@
-//! Tests of rows: what bytes tell under a declaration, and that what is read is compiled to the bytes again. It rests
-//! on `rz_unlay`, `rz_layout`, crates below them, `rz_stmt` and `rz_cases`, and has no code that ships. It changes with
-//! what `rz_unlay` promises.
+//! Tests of types and rows: which rules fields break, which declaration is found, what bytes tell under a declaration,
+//! that what is read is compiled to the bytes again, and how it is shown. It rests on `rz_table`, `rz_layout`, `rz_unlay`,
+//! `rz_print`, `rz_show`, crates below them, `rz_stmt` and `rz_cases`, and has no code that ships. It changes with what
+//! these promise.
 #![tactic(auto)]
 
 #[cfg(test)]
-mod outcome;
+mod calls;
+#[cfg(test)]
+mod made;
 #[cfg(test)]
 mod reads;
 #[cfg(test)]
+mod rows;
+#[cfg(test)]
 mod show;
+#[cfg(test)]
+mod shows;
+#[cfg(test)]
+mod tables;
+#[cfg(test)]
+mod types;

@@ -1,11 +1,5 @@
-use crate::outcome::{outcome_of, rows_of};
-use rz_cases::{add_if_wrong, cases_of};
-use rz_core::Bytes;
-use std::alloc::Global;
-use std::test::Fail;
-
 /// Fields, and behind ` @` the bytes of a resource in hexadecimal; then the row that is read.
-const NUMBERS: &str = r#"
+pub const NUMBERS: &str = r#"
 // the ends of each width
 byte; byte; byte; @ 00 80 FF => 0 128 255
 integer; longint; @ FFFF 80000000 => 65535 2147483648
@@ -62,7 +56,8 @@ byte; align word; @ 01 00 => 1
 byte; align word; @ 01 => none
 "#;
 
-const TEXTS: &str = r#"
+/// The same with texts.
+pub const TEXTS: &str = r#"
 // without a size
 pstring; @ 00 => ""
 pstring; @ 03 414243 => "ABC"
@@ -122,7 +117,8 @@ string = "ab"; byte; @ 616263 07 => none
 pstring = $$Name; byte; @ 046E616D65 07 => 7
 "#;
 
-const ARRAYS: &str = r#"
+/// The same with arrays.
+pub const ARRAYS: &str = r#"
 // stated
 array [2] { byte; }; @ 0102 => {1|2}
 array [2] { byte; }; @ 01 => none
@@ -191,7 +187,8 @@ byte = $$CountOf(a); array a { byte = $$CountOf(a); byte; }; @ 02 0205 0306 => n
 array [1] { byte = $$CountOf(b); byte; }; byte = $$CountOf(b); array b { byte; }; @ 01 05 01 06 => unreadable
 "#;
 
-const SWITCHES: &str = r#"
+/// The same with switches.
+pub const SWITCHES: &str = r#"
 switch { case A: key byte = 1; byte; case B: key byte = 2; pstring; }; @ 01 05 => A(5)
 switch { case A: key byte = 1; byte; case B: key byte = 2; pstring; }; @ 02 0141 => B("A")
 switch { case A: key byte = 1; byte; case B: key byte = 2; pstring; }; @ 03 05 => none
@@ -212,103 +209,16 @@ integer = $$CountOf(Parts) - 1; array Parts { fill long; rect; switch { case But
 integer = $$CountOf(Parts) - 1; array Parts { fill long; rect; switch { case Button: boolean enabled, disabled; key bitstring[7] = 4; pstring; case UserItem: boolean enabled, disabled; key bitstring[7] = 0; fill byte; }; align word; }; @ FFFF => {}
 "#;
 
-/// Appends the bytes that hexadecimal digits spell, with blanks anywhere.
-fn append_bytes(digits: &str, bytes: &mut Bytes) -> Result<(), Fail> {
-    let mut high = None;
-    for letter in digits.chars() {
-        if letter == ' ' {
-            continue;
-        }
-        let Some(digit) = letter.to_digit(16) else {
-            return Err(Fail::from("no digit"));
-        };
-        match high {
-            None => high = Some(digit),
-            Some(first) => {
-                bytes.push((first % 16 * 16 + digit % 16) as u8)?;
-                high = None;
-            }
-        }
-    }
-    match high {
-        None => Ok(()),
-        Some(_) => Err(Fail::from("half a byte")),
-    }
-}
+/// A declaration whose empty rows would take hours to count.
+pub const EMPTY_ROWS: &str = r#"
+array [1048576] { array [1048576] { array [0] { byte; }; }; }; @ => none
+"#;
 
-/// The cases of a table that come out otherwise, each with what came. A line that begins with `//` says what is tried.
-fn wrong_cases(alloc: Global, table: &str) -> Result<String, Fail> {
-    let mut wrong = String::new(alloc);
-    for case in &cases_of(alloc, table, "//")? {
-        let Some((fields, digits)) = case.text.split_once(" @") else {
-            return Err(Fail::from("no bytes"));
-        };
-        let mut bytes = Bytes::new(alloc);
-        append_bytes(digits, &mut bytes)?;
-        let came = outcome_of(alloc, fields, bytes.as_slice())?;
-        add_if_wrong(
-            case.line,
-            case.wanted.as_bytes(),
-            came.as_slice(),
-            &mut wrong,
-        )?;
-    }
-    Ok(wrong)
-}
-
-#[test]
-fn numbers_are_read(rt: HostRuntime) -> Result<(), Fail> {
-    let wrong = wrong_cases(rt.alloc(), NUMBERS)?;
-    assert_eq!(rt; wrong.as_str(), "");
-    Ok(())
-}
-
-#[test]
-fn texts_are_read(rt: HostRuntime) -> Result<(), Fail> {
-    let wrong = wrong_cases(rt.alloc(), TEXTS)?;
-    assert_eq!(rt; wrong.as_str(), "");
-    Ok(())
-}
-
-#[test]
-fn arrays_are_read(rt: HostRuntime) -> Result<(), Fail> {
-    let wrong = wrong_cases(rt.alloc(), ARRAYS)?;
-    assert_eq!(rt; wrong.as_str(), "");
-    Ok(())
-}
-
-#[test]
-fn switches_are_read(rt: HostRuntime) -> Result<(), Fail> {
-    let wrong = wrong_cases(rt.alloc(), SWITCHES)?;
-    assert_eq!(rt; wrong.as_str(), "");
-    Ok(())
-}
-
-/// Fields of which the last is an array to the end, how many bytes there are, all zero, and how many rows are read.
-/// A row of one number counts as two values; 1,048,576 values are read, and no more.
-const MANY: [(&str, usize, Option<u64>); 4] = [
-    ("array { byte; };", 524_288, Some(524_288)),
-    ("array { byte; };", 524_289, None),
-    ("byte; array { byte; };", 524_288, Some(524_287)),
-    ("byte; array { byte; };", 524_289, None),
-];
-
-#[test]
-fn a_row_has_1048576_values_at_most(rt: HostRuntime) -> Result<(), Fail> {
-    let alloc = rt.alloc();
-    for (fields, count, wanted) in MANY {
-        let rows = rows_of(alloc, fields, count)?;
-        assert_eq!(rt; rows, wanted, "{fields} {count}");
-    }
-    Ok(())
-}
-
-/// Declarations whose empty rows would take hours to count.
-const EMPTY_ROWS: &str = "array [1048576] { array [1048576] { array [0] { byte; }; }; }; @ => none";
-
-#[test]
-fn empty_rows_count_too(rt: HostRuntime) -> Result<(), Fail> {
-    let wrong = wrong_cases(rt.alloc(), EMPTY_ROWS)?;
-    assert_eq!(rt; wrong.as_str(), "");
-    Ok(())
-}
+/// Fields of which the last is an array to the end, how many bytes there are, all zero, and how many rows are read. A row of
+/// one number counts as two values; 1,048,576 values are read, and no more.
+pub const MANY: &str = r#"
+array { byte; }; @ 524288 => 524288
+array { byte; }; @ 524289 => none
+byte; array { byte; }; @ 524288 => 524287
+byte; array { byte; }; @ 524289 => none
+"#;

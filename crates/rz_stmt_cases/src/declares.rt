@@ -1,15 +1,6 @@
-use crate::data::{bytes_of, show_value, wrong_cases};
-use rz_core::{Bytes, Mark, OsType, write_decimal, write_signed};
-use rz_fields::{
-    ArrayField, Body, Cases, Field, NumField, NumForm, PointField, Radix, TextField, TextForm,
-};
-use rz_stmt::{Bounds, DeclareStmt, Made};
-use std::alloc::Global;
-use std::test::Fail;
-
-/// Statements, and what they are: a type, ids and fields, or another type; or a fault with its line and what
-/// it keeps.
-const CASES: &str = r#"
+/// `type` statements, and what they are: a type, ids and fields, or another type; or a fault with its line and what it
+/// keeps.
+pub const DECLARES: &str = r#"
 // ids, bodies, and copies
 type 'Byte' { byte; }; => 'Byte' any {byte; }.
 TYPE 'Byte' { BYTE }; => 'Byte' any {byte; }.
@@ -69,7 +60,6 @@ type 'Byte' { byte[3]; }; => 201 on 1
 type 'Byte' { byte = ; }; => 201 on 1
 type 'Byte' { byte = x; }; => 201 on 1
 type 'Byte' { byte a = $$ID; }; => 201 on 1
-type 'Byte' { byte = $$Year; }; => 201 on 1
 type 'Byte' { bitstring[$$ID]; }; => 201 on 1
 type 'Byte' { byte = "a"; }; => 201 on 1
 type 'Byte' { char = "ab"; }; => 201 on 1
@@ -87,8 +77,9 @@ type 'Byte' { fill; }; => 201 on 1
 type 'Byte' { fill bit[1] 2; }; => 201 on 1
 type 'Byte' { align bit; }; => 201 on 1
 type 'Byte' { align word[2]; }; => 201 on 1
-// facts of a resource, here of one with the id 0
+// facts of a resource, here of one with the id 0, and of the moment, here the first second of 1970
 type 'Byte' { byte = $$ID; }; => 'Byte' any {byte =0; }.
+type 'Byte' { byte = $$Year; }; => 'Byte' any {byte =1970; }.
 // arrays and switches
 type 'Byte' { array { byte; }; }; => 'Byte' any {array {byte; }; }.
 type 'Byte' { wide array a { byte; integer }; byte }; => 'Byte' any {array a {byte; integer; }; byte; }.
@@ -165,222 +156,3 @@ type 'Byte' { byte a = 300 = 1; }; => 201 on 1
 // the mark is that of the first token
 |type 'Byte'|{ byte a = 256; }; => 207 on 2 256
 "#;
-
-/// Appends a type between quote marks.
-pub fn show_kind(kind: OsType, text: &mut Bytes) -> Result<(), Fail> {
-    text.push(b'\'')?;
-    text.append(&kind.code.to_be_bytes())?;
-    text.push(b'\'')?;
-    Ok(())
-}
-
-/// Appends the word of a number.
-fn show_form(form: NumForm, width: i32, text: &mut Bytes) -> Result<(), Fail> {
-    match form {
-        NumForm::Bits => {
-            text.append(b"bits ")?;
-            write_signed(i64::from(width), text)?;
-        }
-        NumForm::Byte => text.append(b"byte")?,
-        NumForm::Integer => text.append(b"integer")?,
-        NumForm::Longint => text.append(b"longint")?,
-        NumForm::Boolean => text.append(b"boolean")?,
-        NumForm::Char => text.append(b"char")?,
-    }
-    Ok(())
-}
-
-/// Appends how a number is shown.
-fn show_radix(radix: Radix, text: &mut Bytes) -> Result<(), Fail> {
-    match radix {
-        Radix::Plain => {}
-        Radix::Hex => text.append(b" hex")?,
-        Radix::Decimal => text.append(b" decimal")?,
-        Radix::Octal => text.append(b" octal")?,
-        Radix::Binary => text.append(b" binary")?,
-        Radix::Literal => text.append(b" literal")?,
-    }
-    Ok(())
-}
-
-/// Appends a number.
-fn show_number(alloc: Global, number: &NumField, mark: Mark, text: &mut Bytes) -> Result<(), Fail> {
-    if number.key {
-        text.append(b"key ")?;
-    }
-    show_form(number.form, number.width, text)?;
-    if number.unsigned {
-        text.append(b" unsigned")?;
-    }
-    show_radix(number.radix, text)?;
-    for symbol in number.symbols.as_slice() {
-        text.push(b' ')?;
-        text.append(symbol.name.bytes.as_slice())?;
-        text.push(b':')?;
-        write_signed(i64::from(symbol.value), text)?;
-    }
-    if let Some(fixed) = &number.fixed {
-        text.append(b" =")?;
-        show_value(alloc, fixed, mark, text)?;
-    }
-    Ok(())
-}
-
-/// Appends a text; a byte that is no plain one is a `.`.
-fn show_text(alloc: Global, field: &TextField, mark: Mark, text: &mut Bytes) -> Result<(), Fail> {
-    text.append(match field.form {
-        TextForm::Open => b"string".as_slice(),
-        TextForm::Pascal => b"pstring".as_slice(),
-        TextForm::WordLong => b"wstring".as_slice(),
-        TextForm::Zero => b"cstring".as_slice(),
-    })?;
-    if field.hex {
-        text.append(b" hex")?;
-    }
-    if let Some(size) = &field.size {
-        text.append(b" [")?;
-        show_value(alloc, size, mark, text)?;
-        text.push(b']')?;
-    }
-    if let Some(fixed) = &field.fixed {
-        text.append(b" <")?;
-        for byte in bytes_of(alloc, fixed)?.as_slice() {
-            text.push(if byte.is_ascii_graphic() { *byte } else { b'.' })?;
-        }
-        text.push(b'>')?;
-    }
-    Ok(())
-}
-
-/// Appends a point or a rectangle.
-fn show_points(
-    alloc: Global,
-    field: &PointField,
-    mark: Mark,
-    text: &mut Bytes,
-) -> Result<(), Fail> {
-    text.append(if field.rect {
-        b"rect".as_slice()
-    } else {
-        b"point".as_slice()
-    })?;
-    if let Some(fixed) = &field.fixed {
-        for expr in fixed.as_slice() {
-            text.push(b' ')?;
-            show_value(alloc, expr, mark, text)?;
-        }
-    }
-    Ok(())
-}
-
-/// Appends an array.
-#[cycle(show)]
-fn show_array(alloc: Global, array: &ArrayField, mark: Mark, text: &mut Bytes) -> Result<(), Fail> {
-    text.append(b"array ")?;
-    if let Some(name) = &array.name {
-        text.append(name.bytes.as_slice())?;
-        text.push(b' ')?;
-    }
-    if let Some(count) = array.count {
-        write_signed(i64::from(count), text)?;
-        text.push(b' ')?;
-    }
-    show_body(alloc, &array.row, mark, text)
-}
-
-/// Appends a switch.
-#[cycle(show)]
-fn show_switch(alloc: Global, cases: &Cases, mark: Mark, text: &mut Bytes) -> Result<(), Fail> {
-    text.append(b"switch")?;
-    for case in cases.as_slice() {
-        text.push(b' ')?;
-        text.append(case.name.bytes.as_slice())?;
-        text.push(b' ')?;
-        show_body(alloc, &case.row, mark, text)?;
-    }
-    Ok(())
-}
-
-/// Appends a field.
-#[cycle(show)]
-fn show_field(alloc: Global, field: &Field, mark: Mark, text: &mut Bytes) -> Result<(), Fail> {
-    match field {
-        Field::Num(number) => show_number(alloc, number, mark, text)?,
-        Field::Text(field) => show_text(alloc, field, mark, text)?,
-        Field::Points(field) => show_points(alloc, field, mark, text)?,
-        Field::Fill(unit, count) => {
-            text.append(b"fill ")?;
-            write_decimal(u64::from(*unit), text)?;
-            text.push(b' ')?;
-            write_signed(i64::from(*count), text)?;
-        }
-        Field::Align(unit) => {
-            text.append(b"align ")?;
-            write_decimal(u64::from(*unit), text)?;
-        }
-        Field::Array(array) => show_array(alloc, array, mark, text)?,
-        Field::Switch(cases) => show_switch(alloc, cases, mark, text)?,
-    }
-    text.append(b"; ")?;
-    Ok(())
-}
-
-/// Appends fields.
-#[cycle(show)]
-fn show_body(alloc: Global, body: &Body, mark: Mark, text: &mut Bytes) -> Result<(), Fail> {
-    text.push(b'{')?;
-    for field in body.as_slice() {
-        show_field(alloc, field, mark, text)?;
-    }
-    text.push(b'}')?;
-    Ok(())
-}
-
-/// Appends ids.
-fn show_bounds(bounds: Bounds, text: &mut Bytes) -> Result<(), Fail> {
-    match bounds {
-        Bounds::Any => text.append(b"any")?,
-        Bounds::One(id) => write_signed(i64::from(id), text)?,
-        Bounds::Two(first, last) => {
-            write_signed(i64::from(first), text)?;
-            text.push(b':')?;
-            write_signed(i64::from(last), text)?;
-        }
-    }
-    Ok(())
-}
-
-/// Appends what a type is.
-fn show_made(alloc: Global, made: &Made, mark: Mark, text: &mut Bytes) -> Result<(), Fail> {
-    match made {
-        Made::Fields(body) => show_body(alloc, body, mark, text),
-        Made::Copy(kind, id) => {
-            text.append(b"as ")?;
-            show_kind(*kind, text)?;
-            if let Some(id) = id {
-                text.push(b' ')?;
-                write_signed(i64::from(*id), text)?;
-            }
-            Ok(())
-        }
-    }
-}
-
-/// A `type` statement as text.
-pub fn show_declare(alloc: Global, stmt: &DeclareStmt, mark: Mark) -> Result<Bytes, Fail> {
-    let mut text = Bytes::new(alloc);
-    show_kind(stmt.kind, &mut text)?;
-    text.push(b' ')?;
-    show_bounds(stmt.bounds, &mut text)?;
-    text.push(b' ')?;
-    show_made(alloc, &stmt.made, mark, &mut text)?;
-    text.push(b'.')?;
-    Ok(text)
-}
-
-#[test]
-fn tokens_are_type_statements(rt: HostRuntime) -> Result<(), Fail> {
-    let wrong = wrong_cases(rt.alloc(), CASES)?;
-    assert_eq!(rt; wrong.as_str(), "");
-    Ok(())
-}

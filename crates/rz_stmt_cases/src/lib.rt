@@ -3,14 +3,24 @@
 #![tactic(auto)]
 
 #[cfg(test)]
+mod calls;
+#[cfg(test)]
 mod cuts;
 #[cfg(test)]
 mod data;
 #[cfg(test)]
 mod declares;
 #[cfg(test)]
+mod fields;
+#[cfg(test)]
 mod limits;
 #[cfg(test)]
 mod lists;
 #[cfg(test)]
 mod resources;
+#[cfg(test)]
+mod shown;
+#[cfg(test)]
+mod tables;
+#[cfg(test)]
+mod values;

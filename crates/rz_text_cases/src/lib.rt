@@ -3,6 +3,12 @@
 #![tactic(auto)]
 
 #[cfg(test)]
+mod bytes;
+#[cfg(test)]
+mod calls;
+#[cfg(test)]
+mod conversions;
+#[cfg(test)]
 mod core_calls;
 #[cfg(test)]
 mod lines;
@@ -11,10 +17,14 @@ mod messages;
 #[cfg(test)]
 mod outcome;
 #[cfg(test)]
+mod pairs;
+#[cfg(test)]
 mod quoted;
 #[cfg(test)]
 mod signs;
 #[cfg(test)]
 mod tables;
+#[cfg(test)]
+mod taken;
 #[cfg(test)]
 mod words;

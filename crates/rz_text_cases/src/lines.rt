@@ -1,11 +1,5 @@
-use crate::outcome::text_of_tokens;
-use crate::tables::wrong_cases;
-use rz_core::Mark;
-use rz_lex::{Position, cut, next_line};
-use std::test::Fail;
-
-/// Texts and what they give, see `wrong_cases`.
-const LINE_ENDS: &str = r#"
+/// Line ends, and backslashes before them.
+pub const LINE_ENDS: &str = r#"
 # CR LF is one line end
  => []
  ␉␋␌ => []
@@ -63,15 +57,8 @@ a // b\ => [1:a ]
 "a\␍␊␍b" => [108 on 1]
 "#;
 
-#[test]
-fn line_ends_and_joins(rt: HostRuntime) -> Result<(), Fail> {
-    let wrong = wrong_cases(rt.alloc(), LINE_ENDS)?;
-    assert_eq!(rt; wrong.as_str(), "");
-    Ok(())
-}
-
-/// Texts and what they give, see `wrong_cases`.
-const COMMENTS: &str = r#"
+/// Comments, each of which is one blank.
+pub const COMMENTS: &str = r#"
 # from the first mark to the first end
 a/* x */b => [1:a 1:b ]
 1/**/2 => [1:1 1:2 ]
@@ -119,42 +106,3 @@ a␊b\␊c /* d␊e => [107 on 2]
 a␊/* b␊*/ c /* d => [107 on 2]
 /* a */␊// /*␊'/*'␊/* ' => [107 on 4]
 "#;
-
-#[test]
-fn comments_are_one_blank(rt: HostRuntime) -> Result<(), Fail> {
-    let wrong = wrong_cases(rt.alloc(), COMMENTS)?;
-    assert_eq!(rt; wrong.as_str(), "");
-    Ok(())
-}
-
-#[test]
-fn lines_are_taken_and_cut_one_by_one(rt: HostRuntime) -> Result<(), Fail> {
-    let alloc = rt.alloc();
-    let start = Position {
-        rest: b"a /* x */ \"b\"\\\nc // d\r\n  e",
-        line: 1,
-    };
-    let Ok(Some((line, after))) = next_line(alloc, 3, start) else {
-        return Err(Fail::from("no first line"));
-    };
-    assert_eq!(rt; line.mark, Mark { file: 3, line: 1 });
-    assert_eq!(rt; line.bytes.as_slice(), b"a   \"b\"c  ".as_slice());
-    assert_eq!(rt; after.line, 3);
-    assert_eq!(rt; after.rest, b"  e".as_slice());
-    let Ok(tokens) = cut(alloc, &line) else {
-        return Err(Fail::from("not cut"));
-    };
-    let shown = text_of_tokens(alloc, &tokens)?;
-    assert_eq!(rt; shown.as_slice(), b"1:a 1:\"b\" 1:c ".as_slice());
-    assert_eq!(rt;
-        tokens.as_slice().iter().all(|token| token.mark.file == 3),
-        true
-    );
-    let Ok(Some((line, after))) = next_line(alloc, 3, after) else {
-        return Err(Fail::from("no second line"));
-    };
-    assert_eq!(rt; line.mark, Mark { file: 3, line: 3 });
-    assert_eq!(rt; line.bytes.as_slice(), b"  e".as_slice());
-    assert!(rt; matches!(next_line(alloc, 3, after), Ok(None)));
-    Ok(())
-}

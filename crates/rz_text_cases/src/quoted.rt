@@ -1,10 +1,5 @@
-use crate::outcome::outcome_of;
-use crate::tables::{spelled, wrong_cases};
-use rz_cases::add_if_wrong;
-use std::test::Fail;
-
-/// Texts and what they give, see `wrong_cases`.
-const ESCAPES: &str = r#"
+/// Escapes, which are their bytes.
+pub const ESCAPES: &str = r#"
 # one letter or mark
 "\t\b\n\r" => [1:"\0x09\0x08\0x0D\0x0A" ]
 "\v\f\?" => [1:"\0x0B\0x0C\0x7F" ]
@@ -27,83 +22,60 @@ const ESCAPES: &str = r#"
 '\0b01000001' => [1:'A' ]
 "#;
 
-#[test]
-fn escapes_are_their_bytes(rt: HostRuntime) -> Result<(), Fail> {
-    let wrong = wrong_cases(rt.alloc(), ESCAPES)?;
-    assert_eq!(rt; wrong.as_str(), "");
-    Ok(())
-}
-
-/// Texts of one token with a wrong escape, as `spelled` reads them.
-const WRONG_ESCAPES: &str = r#"
-"\q"
-"\T"
-"\a"
-"\ "
-"\␉"
-"\/"
-"\0"
-"\00"
-"\1"
-"\10"
-"\8"
-"\08"
-"\08x"
-"\18x"
-"\018"
-"\1 2"
-"\400"
-"\777"
-"\0o17"
-"\0b"
-"\0B0000000"
-"\0B0000000 0"
-"\0B00000002"
-"\0b20000000"
-"\0d"
-"\0D12"
-"\0D12a"
-"\0d 12"
-"\0D256"
-"\0d999"
-"\0x"
-"\0X4"
-"\0X4g"
-"\0Xg0"
-"\$"
-"\$4"
-"\$g0"
-"\$4 "
-"a\qb\wc"
-"\t\0x41\q"
-"\\\q"
-'\q'
-'\\\'\q'
-'\$'
-'\0x4'
-'abcd\q'
-'\q\q\q\q\q'
-'\400abcde'
+/// Texts of one token with a wrong escape, which is kept.
+pub const WRONG_ESCAPES: &str = r#"
+"\q" => [109 on 1 "\q"]
+"\T" => [109 on 1 "\T"]
+"\a" => [109 on 1 "\a"]
+"\ " => [109 on 1 "\ "]
+"\␉" => [109 on 1 "\␉"]
+"\/" => [109 on 1 "\/"]
+"\0" => [109 on 1 "\0"]
+"\00" => [109 on 1 "\00"]
+"\1" => [109 on 1 "\1"]
+"\10" => [109 on 1 "\10"]
+"\8" => [109 on 1 "\8"]
+"\08" => [109 on 1 "\08"]
+"\08x" => [109 on 1 "\08x"]
+"\18x" => [109 on 1 "\18x"]
+"\018" => [109 on 1 "\018"]
+"\1 2" => [109 on 1 "\1 2"]
+"\400" => [109 on 1 "\400"]
+"\777" => [109 on 1 "\777"]
+"\0o17" => [109 on 1 "\0o17"]
+"\0b" => [109 on 1 "\0b"]
+"\0B0000000" => [109 on 1 "\0B0000000"]
+"\0B0000000 0" => [109 on 1 "\0B0000000 0"]
+"\0B00000002" => [109 on 1 "\0B00000002"]
+"\0b20000000" => [109 on 1 "\0b20000000"]
+"\0d" => [109 on 1 "\0d"]
+"\0D12" => [109 on 1 "\0D12"]
+"\0D12a" => [109 on 1 "\0D12a"]
+"\0d 12" => [109 on 1 "\0d 12"]
+"\0D256" => [109 on 1 "\0D256"]
+"\0d999" => [109 on 1 "\0d999"]
+"\0x" => [109 on 1 "\0x"]
+"\0X4" => [109 on 1 "\0X4"]
+"\0X4g" => [109 on 1 "\0X4g"]
+"\0Xg0" => [109 on 1 "\0Xg0"]
+"\$" => [109 on 1 "\$"]
+"\$4" => [109 on 1 "\$4"]
+"\$g0" => [109 on 1 "\$g0"]
+"\$4 " => [109 on 1 "\$4 "]
+"a\qb\wc" => [109 on 1 "a\qb\wc"]
+"\t\0x41\q" => [109 on 1 "\t\0x41\q"]
+"\\\q" => [109 on 1 "\\\q"]
+'\q' => [109 on 1 '\q']
+'\\\'\q' => [109 on 1 '\\\'\q']
+'\$' => [109 on 1 '\$']
+'\0x4' => [109 on 1 '\0x4']
+'abcd\q' => [109 on 1 'abcd\q']
+'\q\q\q\q\q' => [109 on 1 '\q\q\q\q\q']
+'\400abcde' => [109 on 1 '\400abcde']
 "#;
 
-#[test]
-fn wrong_escapes_keep_their_token(rt: HostRuntime) -> Result<(), Fail> {
-    let mut wrong = String::new(rt.alloc());
-    for line in WRONG_ESCAPES.lines() {
-        if line.is_empty() || line.starts_with('#') {
-            continue;
-        }
-        let text = spelled(rt.alloc(), line)?;
-        let outcome = outcome_of(rt.alloc(), text.as_bytes())?;
-        let wanted = format!(in rt.alloc(); "109 on 1 {text}")?;
-        add_if_wrong(line, wanted.as_bytes(), outcome.as_slice(), &mut wrong)?;
-    }
-    assert_eq!(rt; wrong.as_str(), "");
-    Ok(())
-}
-
-/// Texts and what they give, see `wrong_cases`.
-const QUOTED: &str = r#"
+/// Literals, texts, and hex texts behind a `$`.
+pub const QUOTED: &str = r#"
 # literals have one to four bytes
 '' => [110 on 1 '']
 'a' => [1:'a' ]
@@ -157,15 +129,8 @@ $"01␊" => [108 on 1]
 $'a' => [111 on 1 36]
 "#;
 
-#[test]
-fn quoted_parts_and_dollars(rt: HostRuntime) -> Result<(), Fail> {
-    let wrong = wrong_cases(rt.alloc(), QUOTED)?;
-    assert_eq!(rt; wrong.as_str(), "");
-    Ok(())
-}
-
-/// Texts and what they give, see `wrong_cases`.
-const FIRST: &str = r#"
+/// Texts with several faults, the first of which is given.
+pub const FIRST: &str = r#"
 # of one token
 "\q => [108 on 1]
 "\q\" => [108 on 1]
@@ -193,10 +158,3 @@ a\␊b␊c\␊@ => [111 on 3 64]
 /* b␊@ => [107 on 1]
 a␊/* b␊@ => [107 on 2]
 "#;
-
-#[test]
-fn first_fault_of_a_text_is_given(rt: HostRuntime) -> Result<(), Fail> {
-    let wrong = wrong_cases(rt.alloc(), FIRST)?;
-    assert_eq!(rt; wrong.as_str(), "");
-    Ok(())
-}

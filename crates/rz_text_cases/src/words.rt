@@ -1,13 +1,5 @@
-use crate::outcome::outcome_of;
-use crate::tables::{in_brackets, wrong_cases};
-use rz_cases::{add_if_wrong, cases_of, expanded};
-use rz_core::{Bytes, Kept, Stop, write_decimal};
-use rz_lex::{Shape, lex};
-use std::alloc::Global;
-use std::test::Fail;
-
-/// Texts and what they give, see `wrong_cases`.
-const WORDS: &str = r#"
+/// Words and numbers.
+pub const WORDS: &str = r#"
 # decimal
 1 => [1:1 ]
 10 => [1:10 ]
@@ -92,15 +84,8 @@ $$"01" => [111 on 1 36]
 a$ => [111 on 1 36]
 "#;
 
-#[test]
-fn words_and_numbers_are_cut(rt: HostRuntime) -> Result<(), Fail> {
-    let wrong = wrong_cases(rt.alloc(), WORDS)?;
-    assert_eq!(rt; wrong.as_str(), "");
-    Ok(())
-}
-
-/// Texts and what they give; for the form of a case see `wrong_cases` and `expanded`.
-const LONG: &str = r#"
+/// Tokens of 255 bytes and more.
+pub const LONG: &str = r#"
 a«a×254» => [1:a«a×254» ]
 a«a×255» => [115 on 1 256]
 _«9×254» => [1:_«9×254» ]
@@ -126,76 +111,3 @@ a «b×256» @ => [115 on 1 256]
 '«a×254»' => [110 on 1 '«a×254»]
 '«a×300»\q' => [109 on 1 '«a×254»]
 "#;
-
-#[test]
-fn tokens_of_255_bytes_and_more(rt: HostRuntime) -> Result<(), Fail> {
-    let mut wrong = String::new(rt.alloc());
-    for case in &cases_of(rt.alloc(), LONG, "#")? {
-        let text = expanded(rt.alloc(), case.text)?;
-        let wanted = expanded(rt.alloc(), in_brackets(case.wanted)?)?;
-        let outcome = outcome_of(rt.alloc(), text.as_bytes())?;
-        add_if_wrong(case.line, wanted.as_bytes(), outcome.as_slice(), &mut wrong)?;
-    }
-    assert_eq!(rt; wrong.as_str(), "");
-    Ok(())
-}
-
-/// The single bytes that are signs.
-const SIGNS: &[u8] = b"{}()[],;:=+-*/%<>&|^~!";
-
-#[test]
-fn every_byte_outside_quotes(rt: HostRuntime) -> Result<(), Fail> {
-    for byte in 0..=u8::MAX {
-        if SIGNS.contains(&byte) {
-            continue;
-        }
-        let mut wanted = Bytes::new(rt.alloc());
-        match byte {
-            b'a'..=b'z' | b'A'..=b'Z' | b'_' | b'0'..=b'9' => {
-                wanted.append(b"1:")?;
-                wanted.push(byte)?;
-                wanted.append(b" ")?;
-            }
-            b' ' | 0x09 | 0x0A | 0x0B | 0x0C | 0x0D => {}
-            b'"' | b'\'' => wanted.append(b"108 on 1")?,
-            _ => {
-                wanted.append(b"111 on 1 ")?;
-                write_decimal(u64::from(byte), &mut wanted)?;
-            }
-        }
-        let outcome = outcome_of(rt.alloc(), &[byte])?;
-        assert_eq!(rt; outcome.as_slice(), wanted.as_slice(), "{byte}");
-    }
-    Ok(())
-}
-
-#[test]
-fn every_byte_inside_quotes(rt: HostRuntime) -> Result<(), Fail> {
-    for byte in 0..=u8::MAX {
-        if matches!(byte, b'"' | b'\\' | b'\n' | b'\r') {
-            continue;
-        }
-        let Ok(tokens) = lex(rt.alloc(), &[b'"', byte, b'"'], 0) else {
-            return Err(Fail::from("refused"));
-        };
-        let [token] = tokens.as_slice() else {
-            return Err(Fail::from("not one token"));
-        };
-        let Shape::Text(text) = &token.shape else {
-            return Err(Fail::from("no text"));
-        };
-        assert_eq!(rt; text.as_slice(), [byte].as_slice(), "{byte}");
-        if byte < b' ' || byte > b'~' {
-            let wrong = [b'"', b'\\', byte, b'"'];
-            let Err(Stop::Refused(fault)) = lex(rt.alloc(), &wrong, 0) else {
-                return Err(Fail::from("an escape"));
-            };
-            let Kept::Name(kept) = &fault.kept else {
-                return Err(Fail::from("no bytes kept"));
-            };
-            assert_eq!(rt; fault.number, 109, "{byte}");
-            assert_eq!(rt; kept.as_slice(), wrong.as_slice(), "{byte}");
-        }
-    }
-    Ok(())
-}

@@ -5,3 +5,7 @@
 
 #[cfg(test)]
 mod commands;
+#[cfg(test)]
+mod shown;
+#[cfg(test)]
+mod words;

@@ -1,8 +1,5 @@
-use crate::fixed::wrong_cases;
-use std::test::Fail;
-
-/// Texts and what they give, see `wrong_cases`.
-const FAULTS: &str = r"
+/// The first fault of an expression is given.
+pub const FAULTS: &str = r"
 // quotients and shifts
 1 / 0 => ZeroDivisor
 1 % 0 => ZeroDivisor
@@ -70,10 +67,3 @@ $$Word(low) => LaterData -2147483648 -2147483632
 $$BitField(low, -1, 1) => LaterData -2147483649 -2147483648
 $$BitField(low, low, 32) => LaterData -4294967296 -4294967264
 ";
-
-#[test]
-fn first_fault_of_an_expression_is_given(rt: HostRuntime) -> Result<(), Fail> {
-    let wrong = wrong_cases(rt.alloc(), FAULTS)?;
-    assert_eq!(rt; wrong.as_str(), "");
-    Ok(())
-}

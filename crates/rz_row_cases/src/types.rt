@@ -1,0 +1,91 @@
+/// Fields, and their template or the rule that they break.
+pub const CHECKS: &str = r#"
+// widths are 1 to 32
+bitstring[-1]; => 238 0 -1
+bitstring[0]; => 238 0 0
+bitstring[1]; => fields 1
+bitstring[32]; => fields 1
+bitstring[33]; => 238 0 33
+// other numbers have their own width
+byte; => fields 1
+boolean; => fields 1
+longint; => fields 1
+// fills are no longer than a resource
+fill bit[-1]; => 238 0 -1
+fill bit[0]; => fill 0
+fill bit[16777212]; => fill 16777212
+fill bit[16777213]; => 238 0 16777213
+fill bit[2147483647]; => 238 0 2147483647
+// sizes are those of the type
+string[-1]; => 238 0 -1
+string[0]; => fields 1
+string[2147483647]; => fields 1
+pstring[-1]; => 238 0 -1
+pstring[0]; => fields 1
+pstring[255]; => fields 1
+pstring[256]; => 238 0 256
+wstring[-1]; => 238 0 -1
+wstring[65535]; => fields 1
+wstring[65536]; => 238 0 65536
+cstring[-1]; => 238 0 -1
+cstring[0]; => 238 0 0
+cstring[1]; => fields 1
+// a size that is no constant is told later
+pstring[2 * 128]; => 238 0 256
+pstring[256 / 0]; => fields 1
+cstring[FALSE]; => 238 0 0
+cstring[$$ID]; => fields 1
+// the first field counts
+align byte; rect; cstring[0]; bitstring[33]; => 238 2 0
+// a body without fields is a template
+ => fields 0
+// stated rows are at most 1,048,576
+array [-1] { byte; }; => 238 0 -1
+array [0] { byte; }; => fields 1
+array [1048576] { byte; }; => fields 1
+array [1048577] { byte; }; => 238 0 1048577
+array [2147483647] { byte; }; => 238 0 2147483647
+// positions are counted depth first
+array { byte; }; array { array { byte; bitstring[33]; }; }; => 238 5 33
+"#;
+
+/// Types that are declared, found and copied in turn.
+pub const FINDS: &str = r#"
+// the last with the id or the range counts
+declare 'ICON' { fill byte[1]; } => new
+declare 'ICON' (1:9) { fill byte[2]; } => new
+declare 'ICON' (5:15) { fill byte[3]; } => new
+declare 'ICON' (4) { fill byte[4]; } => new
+declare 'ICON' (1:9) { fill byte[5]; } => again
+declare 'ICON' (4) { fill byte[6]; } => again
+declare 'ICON' (1:8) { fill byte[7]; } => new
+declare 'ICON' (20:10) { fill byte[8]; } => new
+find 'ICON' (1) => fill 7
+find 'MENU' (1) => none
+find 'ICON' (4) => fill 6
+find 'MENU' (4) => none
+find 'ICON' (8) => fill 7
+find 'MENU' (8) => none
+find 'ICON' (9) => fill 5
+find 'MENU' (9) => none
+find 'ICON' (10) => fill 3
+find 'MENU' (10) => none
+find 'ICON' (15) => fill 3
+find 'MENU' (15) => none
+find 'ICON' (16) => fill 1
+find 'MENU' (16) => none
+find 'ICON' (-32768) => fill 1
+find 'MENU' (-32768) => none
+find 'ICON' (32767) => fill 1
+find 'MENU' (32767) => none
+// copies are of what is found
+declare 'MENU' (-5) { fill byte[9]; } => new
+copy 'ICON' => fill 1
+copy 'ICON' (4) => fill 6
+copy 'MENU' (-5) => fill 9
+copy 'MENU' => 239 0 0
+copy 'MENU' (-6) => 239 0 -6
+// all parts are copied
+declare 'ALL ' { unsigned hex byte one = 1; unsigned hex byte = -$$ID; hex string[2] = "ab"; point = {1, $$Type}; align word; } => new
+copy 'ALL ' => fields 5
+"#;
