@@ -1,5 +1,5 @@
 -- An expression of a field has a value, a divisor of 0 or a bad shift.
-use Rattle.std.proofs.Common.{◌≡◌, ℕ, ℤ, pos, negsuc, Bool, true, false, List, [], Option, Some, None, Result, Ok, Err, refl, sym, subst, ◌∙◌}
+use Rattle.std.proofs.Common.{◌≡◌, ℕ, ℤ, pos, negsuc, Bool, true, false, List, [], Option, Some, None, Result, Ok, Err, refl, sym, ◌∙◌}
 use Rattle.std.specs.Prelude.{◌*ℤ◌, ◌^◌, if◌then◌else◌, int_div, int_rem, nat_lt}
 use Rattle.std.specs.Int.{int_shr}
 use Rattle.std.specs.Option.{is_some}
@@ -19,7 +19,7 @@ use Rattle.rz_expr.specs.declared.expr.BinaryOp.TheVariants as two
 use Rattle.rz_expr.specs.declared.value.EvalFault.{EvalFault}
 use Rattle.rz_expr.specs.declared.value.EvalFault.TheVariants.{BadShift, ZeroDivisor}
 use Rattle.rz_expr.proofs.Cases.{same_value}
-use Rattle.rz_fields.specs.Value.{field_sight, is_field_expression, is_fixed_expression, number_of, value_fault, with_fault, IsArithmetic, IsArithmeticFault}
+use Rattle.rz_fields.specs.Value.{constant_value, field_sight, is_field_expression, is_fixed_expression, number_of, with_fault, IsArithmetic, IsArithmeticFault}
 
 chained : (first : Result ℤ EvalFault) (next : ℤ → Result ℤ EvalFault) → IsArithmetic first → ((x : ℤ) → IsArithmetic (next x)) → IsArithmetic (first >>= next)
 chained (Ok x) next one rest = rest x
@@ -144,28 +144,22 @@ constant_stands (OfTwo op left right) is =
     let each = both (is_constant left) (is_constant right) is in
     and_so (is_field_expression left) (is_field_expression right) (constant_stands left each.0) (constant_stands right each.1)
 
-same_answer : (sight : Sight) (term : Term) (answer : Result ℤ (Stop EvalFault)) (fault : EvalFault) → Gives (value_of term sight) answer
-    → answer ≡ Err (Refused fault) → value_of term sight ≡ Err fault
-same_answer sight term answer fault gives is = subst (Gives (value_of term sight)) is gives
-
 pub field_sound : (known : Facts) (term : Term) → is_field_expression term ≡ true → IsArithmetic (value_of term (field_sight known []))
 field_sound known term is = sound (field_sight known []) (facts_see known) term is
 
 -- the call gave a value or such a fault
+valued_sound : (mark : Mark) (value : Result ℤ EvalFault) (answer : Result ℤ (Stop Fault)) → IsArithmetic value
+    → Gives (with_fault mark value) answer → OnFault answer (IsArithmeticFault mark)
+valued_sound mark value (Ok number) is gives = tt
+valued_sound mark value (Err NoMemory) is gives = tt
+valued_sound mark (Ok number) (Err (Refused fault)) is gives = absurd cc
+valued_sound mark (Err cause) (Err (Refused fault)) is gives = (cause, is, sym (cc gives))
+
 pub number_sound : (mark : Mark) (known : Facts) (term : Term) (answer : Result ℤ (Stop Fault)) → is_field_expression term ≡ true
     → Gives (number_of mark known term) answer → OnFault answer (IsArithmeticFault mark)
-number_sound mark known term (Ok value) is gives = tt
-number_sound mark known term (Err NoMemory) is gives = tt
-number_sound mark known term (Err (Refused fault)) is gives = by (value_of term (field_sight known [])) (field_sound known term is) gives
-  where
-    by : (value : Result ℤ EvalFault) → IsArithmetic value → with_fault mark value ≡ Err fault → IsArithmeticFault mark fault
-    by (Ok value) sound gives = absurd cc
-    by (Err cause) sound gives = (cause, sound, sym (cc gives))
+number_sound mark known term answer is gives = valued_sound mark (value_of term (field_sight known [])) answer (field_sound known term is) gives
 
-pub constant_sound : (mark : Mark) (term : Term) (answer : Result ℤ (Stop EvalFault)) (fault : EvalFault) (given : Fault) → is_constant term ≡ true
-    → Gives (value_of term constant_sight) answer → answer ≡ Err (Refused fault) → given ≡ value_fault mark fault → IsArithmeticFault mark given
-constant_sound mark term answer fault given is gives refused as_given =
-    (fault, subst IsArithmetic (same_answer constant_sight term answer fault gives refused) (sound constant_sight constants_see term (constant_stands term is)), as_given)
-
-abbrev pub err : Stop EvalFault → Result ℤ (Stop EvalFault)
-err stop = Err stop
+pub constant_sound : (mark : Mark) (term : Term) (answer : Result ℤ (Stop Fault)) → is_constant term ≡ true
+    → Gives (constant_value mark term) answer → OnFault answer (IsArithmeticFault mark)
+constant_sound mark term answer is gives =
+    valued_sound mark (value_of term constant_sight) answer (sound constant_sight constants_see term (constant_stands term is)) gives

@@ -1,5 +1,5 @@
 pub mod Symbols
 pub mod Arithmetic
+pub mod Appending
 pub mod Bodies
 pub mod Capped
-pub mod SameNames

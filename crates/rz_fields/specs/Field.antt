@@ -1,5 +1,6 @@
 -- Fields as contracts see them, without where their expressions lie in memory. (MPW Rez.)
-use Rattle.std.specs.Prelude.{ℕ, ℤ, Bool, List, [], ◌∷◌, map, Option, option_map}
+use Rattle.std.specs.Prelude.{ℕ, ℤ, Bool, true, false, List, [], ◌∷◌, map, Option, option_map}
+use Rattle.std.specs.Option.{is_none}
 use Rattle.rz_core.specs.declared.resource.Word.{Word}
 use Rattle.rz_expr.specs.Term.{term_of, Term}
 use Rattle.rz_fields.specs.declared.field.ArrayField.{ArrayField}
@@ -84,6 +85,16 @@ pub record PlainCase : Type 0 where
 abbrev pub cases_of : List PlainCase → PlainCases
 cases_of [] = no_cases
 cases_of (one ∷ cases) = case_and one.name one.row (cases_of cases)
+
+-- the row has the value of the field: the declaration gives none
+abbrev pub takes_value : PlainField → Bool
+takes_value (Number number) = is_none number.fixed
+takes_value (Text text) = is_none text.fixed
+takes_value (Points points) = is_none points.fixed
+takes_value (Fill unit count) = false
+takes_value (Align unit) = false
+takes_value (Array name count row) = true
+takes_value (Switch cases) = true
 
 -- What the code holds.
 

@@ -1,12 +1,12 @@
-pub mod Text
+pub mod Appended
 pub mod Range
 pub mod Value
+pub mod Text
+pub mod Place
 pub mod Field
 pub mod Shape
 pub mod Stored
-pub mod Row
 pub mod Width
 pub mod Solve
-pub mod Spells
-pub mod Laid
-pub mod NameKey
+pub mod Piece
+pub mod Passed

@@ -10,11 +10,13 @@ use Rattle.rz_lex.specs.Lexeme.{is_lexed_word}
 use Rattle.rz_core.specs.declared.resource.Word.{Word}
 use Rattle.rz_fields.specs.Field.{case_and, field_and, no_cases, no_fields, Align, Array, Fill, Number, PlainBody, PlainCases, PlainField, PlainNumber, PlainPoints, PlainText, Points, Switch, Text}
 use Rattle.rz_fields.specs.Range.{fits_number, own_width}
-use Rattle.rz_fields.specs.Text.{DateFact, NameFact, Plain, PlainPart, TimeFact, VersionFact}
+use Rattle.rz_fields.specs.Place.{may_stand}
+use Rattle.rz_fields.specs.Text.{PlainPart}
 use Rattle.rz_fields.specs.Value.{is_field_expression, is_fixed_expression}
 use Rattle.rz_fields.specs.declared.field.NumForm.{NumForm}
 use Rattle.rz_fields.specs.declared.field.NumForm.TheVariants.{Bits, Boolean, Byte, Char, Integer, Longint}
 use Rattle.rz_fields.specs.declared.field.Symbol.{Symbol}
+use Rattle.rz_fields.specs.declared.place.TextPlace.TheVariants.{Fixed}
 
 abbrev pub is_empty : {A : Type 0} → List A → Bool
 is_empty [] = true
@@ -67,17 +69,9 @@ is_number_shaped in_case number =
 
 -- Texts.
 
--- a part that a fixed text may have: none of files
-abbrev pub is_fixed_part : PlainPart → Bool
-is_fixed_part (Plain bytes) = true
-is_fixed_part NameFact = true
-is_fixed_part DateFact = true
-is_fixed_part TimeFact = true
-is_fixed_part VersionFact = true
-
 -- a fixed text has one part or more
 abbrev pub is_fixed_text : List PlainPart → Bool
-is_fixed_text parts = not (is_empty parts) && list_all is_fixed_part parts
+is_fixed_text parts = not (is_empty parts) && may_stand Fixed parts
 
 abbrev pub is_text_shaped : PlainText → Bool
 is_text_shaped text = is_none_or is_field_expression text.size && is_none_or is_fixed_text text.fixed

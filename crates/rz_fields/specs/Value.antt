@@ -73,6 +73,16 @@ is_fixed_expression (FactOf which) = true
 is_fixed_expression (OfOne op operand) = is_fixed_expression operand
 is_fixed_expression (OfTwo op left right) = is_fixed_expression left && is_fixed_expression right
 
+-- an expression of an item: any names and facts, but no rows and no bits of what is laid out
+abbrev pub is_item_expression : Term → Bool
+is_item_expression (Constant number) = true
+is_item_expression (Named name) = true
+is_item_expression (RowsOf name) = false
+is_item_expression (BitsAt name start width) = false
+is_item_expression (FactOf which) = true
+is_item_expression (OfOne op operand) = is_item_expression operand
+is_item_expression (OfTwo op left right) = is_item_expression left && is_item_expression right
+
 -- What is seen.
 
 -- the value of the first symbol of a name, in whatever case

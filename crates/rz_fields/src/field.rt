@@ -1,3 +1,6 @@
+ghost use Rattle.std.specs.Prelude.{◌≡◌};
+ghost use Rattle.rz_fields.specs.Field.{plain_field, takes_value};
+
 use crate::Texts;
 use rz_core::{Listing, Word};
 use rz_expr::Expr;
@@ -152,3 +155,16 @@ pub enum Field {
 
 /// The fields of a type declaration, in order.
 pub type Body = Listing<Field>;
+
+/// Whether a row has a value of the field: the declaration gives none. (MPW Rez.)
+pub fn takes_value(field: &Field) -> bool
+    ensures { result ≡ takes_value (plain_field field.now) }
+{
+    match field {
+        Field::Num(number) => number.fixed.is_none(),
+        Field::Text(text) => text.fixed.is_none(),
+        Field::Points(points) => points.fixed.is_none(),
+        Field::Fill(..) | Field::Align(_) => false,
+        Field::Array(_) | Field::Switch(_) => true,
+    }
+}

@@ -1,37 +1,33 @@
 //! The fields of type declarations, and what a resource gives them: numbers and texts with their ranges, the parts of
-//! texts, the values of expressions with the facts of a resource, the names in them, fixed widths and the keys of cases.
-//! Rows: the values that a resource gives to the fields of its type, how they are stored, and which bytes they spell.
-//! Each call gives exactly its definition. The rules that the fields of a type keep stand in `rz_types`, and where a type
-//! is found in `rz_table`.
-//! It rests on `rz_core`, `rz_bits`, `rz_lex` and `rz_expr`.
-//! A new kind of field changes `Field` and its mirror `PlainField`, the shape and the width here, its value in
-//! `specs/Row`, its pieces and bits in `specs/Spells` and `specs/Laid`, the walk and the rules of `rz_types`, `copies` of
-//! `rz_table`, the form and the values in `rz_declare`, the item that fits it in `rz_match`, and what `rz_layout` lays.
+//! texts and where they may stand, the values of expressions with the facts of a resource, fixed widths and the keys of
+//! cases, and how values are stored. Each call gives exactly its definition. Definitions alone are the shape of fields,
+//! their pieces, the names that fields give values, and how a name is solved. The rules that the fields of a type keep
+//! stand in `rz_types`, where a type is found in `rz_table`, and the values of a resource in `rz_rows`.
+//! It rests on `rz_core`, `rz_formats`, `rz_lex` and `rz_expr`.
+//! A new kind of field changes `Field` and its mirror `PlainField`, the shape, the pieces and the width here, its value
+//! and its bits in `rz_rows`, the rules and whether it is read in `rz_types`, the walk in `rz_check`, `copies` of
+//! `rz_table`, its form in `rz_flat` and, for texts and what has fields within it, in `rz_declare`, which has the values
+//! of constants too, the item that fits it in `rz_match`, and what `rz_layout` lays.
 #![tactic(auto)]
 
 mod field;
 mod keys;
-mod name_key;
+mod place;
 mod range;
 mod stored;
 mod text;
-mod tree;
 mod value;
-pub mod values;
 
 pub use field::{
     ArrayField, Body, Case, Cases, Exprs, Field, NumField, NumForm, PointField, Radix, Symbol,
-    Symbols, TextField, TextForm,
+    Symbols, TextField, TextForm, takes_value,
 };
 pub use keys::{CaseKey, case_keys, fixed_width, fixed_widths, key_bits, sized_bytes, text_width};
-pub use name_key::{
-    KeyRef, Standing, counts_rows, declares, is_predefined, is_same_key, standing_of, states,
-};
+pub use place::{TextPlace, may_say, may_stand};
 pub use range::{fits_number, may_be_size, own_width};
 pub use stored::{is_too_long, stored_number};
-pub use text::{TextPart, Texts, part_in, text_in, text_of};
-pub use tree::{Numbers, Row, RowList, Tree, takes_value};
+pub use text::{FormatArg, FormatArgs, ResKey, TextPart, Texts, text_of, text_seen};
 pub use value::{
     FieldEnv, constant_value, fact_of, is_field_expression, is_fixed_expression,
-    is_head_expression, number_of, symbol_number_of,
+    is_head_expression, is_item_expression, number_of, symbol_number_of, value_seen,
 };

@@ -4,8 +4,8 @@ ghost use Rattle.rz_core.specs.Message.{IsNameable};
 ghost use Rattle.rz_core.specs.Stop.{Gives, OnFault};
 ghost use Rattle.rz_expr.specs.Constant.{is_constant};
 ghost use Rattle.rz_expr.specs.Term.{term_of};
-ghost use Rattle.rz_expr.specs.Value.{reduced};
-ghost use Rattle.rz_fields.specs.Value.{constant_value, fact_of, field_sight, is_date_fact, is_field_expression, is_fixed_expression, is_head_expression, number_of, symbol_number_of, symbol_value, value_fault, IsArithmeticFault};
+ghost use Rattle.rz_expr.specs.Value.{reduced, value_of};
+ghost use Rattle.rz_fields.specs.Value.{constant_value, fact_of, field_sight, is_date_fact, is_field_expression, is_fixed_expression, is_head_expression, is_item_expression, number_of, symbol_number_of, symbol_value, value_fault, with_fault, IsArithmeticFault};
 
 use crate::Symbol;
 use rz_core::{Facts, Fault, Kept, Mark, Stop, Word};
@@ -92,6 +92,18 @@ pub fn is_fixed_expression(expr: &Expr) -> bool
     }
 }
 
+/// Whether an expression may stand in an item: it has no `$$CountOf` and no data functions. (MPW Rez.)
+pub fn is_item_expression(expr: &Expr) -> bool
+    ensures { result ≡ is_item_expression (term_of expr.now) }
+{
+    match expr {
+        Expr::Number(_) | Expr::Name(_) | Expr::Fact(_) => true,
+        Expr::Count(_) | Expr::Bits(..) => false,
+        Expr::Unary(_, operand) => is_item_expression(operand),
+        Expr::Binary(_, left, right) => is_item_expression(left) && is_item_expression(right),
+    }
+}
+
 /// Whether it is known before a resource is: whatever but `$$ID`, `$$Type` and `$$Attributes`.
 fn is_date_fact(which: FactWord) -> bool
     ensures { result ≡ is_date_fact which }
@@ -153,7 +165,20 @@ pub fn symbol_number_of(
     ensures value { Gives (symbol_number_of place facts.now symbols.now (term_of expr.now)) result }
     ensures nameable { (files : ℕ) → place.file < files → OnFault result (IsNameable files) }
 {
-    match eval(alloc, expr, &FieldEnv { facts, symbols }) {
+    value_seen(alloc, expr, place, &FieldEnv { facts, symbols })
+}
+
+/// The value of an expression on a line that sees so much, or its first fault.
+pub fn value_seen<E: Env>(
+    alloc: Global,
+    expr: &Expr,
+    place: Mark,
+    env: &E,
+) -> Result<i32, Stop<Fault>>
+    ensures value { Gives (with_fault place (value_of (term_of expr.now) (E.view env.now))) result }
+    ensures nameable { (files : ℕ) → place.file < files → OnFault result (IsNameable files) }
+{
+    match eval(alloc, expr, env) {
         Ok(value) => Ok(value),
         Err(Stop::Refused(fault)) => Err(Stop::Refused(value_fault(place, fault))),
         Err(Stop::NoMemory) => Err(Stop::NoMemory),
@@ -187,9 +212,5 @@ pub fn constant_value(alloc: Global, expr: &Expr, place: Mark) -> Result<i32, St
     ensures arithmetic { is_constant (term_of expr.now) ≡ true → OnFault result (IsArithmeticFault place) }
     ensures nameable { (files : ℕ) → place.file < files → OnFault result (IsNameable files) }
 {
-    match eval(alloc, expr, &ConstantEnv) {
-        Ok(value) => Ok(value),
-        Err(Stop::Refused(fault)) => Err(Stop::Refused(value_fault(place, fault))),
-        Err(Stop::NoMemory) => Err(Stop::NoMemory),
-    }
+    value_seen(alloc, expr, place, &ConstantEnv)
 }

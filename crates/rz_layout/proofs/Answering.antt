@@ -11,11 +11,11 @@ use Rattle.rz_layout.specs.Compiled.{is_compile_fault, IsCompiled, MeetsLaid}
 use Rattle.rz_layout.specs.Fault.{refusal_of}
 use Rattle.rz_layout.specs.Laid.{GivesLaid}
 use Rattle.rz_layout.specs.declared.fault.LayFault.{LayFault}
-use Rattle.rz_fields.specs.declared.tree.Tree.{Tree}
+use Rattle.rz_rows.specs.declared.tree.Tree.{Tree}
+use Rattle.rz_rows.specs.Laid.{laid, Refusal}
+use Rattle.rz_rows.specs.Row.{IsRow}
 use Rattle.rz_types.specs.Field.{PlainBody}
 use Rattle.rz_types.specs.Kept.{IsKept}
-use Rattle.rz_types.specs.Laid.{laid, Refusal}
-use Rattle.rz_types.specs.Row.{IsRow}
 use Rattle.rz_layout.proofs.Complete.{complete}
 use Rattle.rz_layout.proofs.Sound.{sound}
 use Rattle.rz_layout.proofs.Numbers.{Known}

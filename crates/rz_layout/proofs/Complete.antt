@@ -8,12 +8,14 @@ use Rattle.rz_core.specs.declared.resource.Word.{Word}
 use Rattle.rz_expr.specs.Environment.{Environment}
 use Rattle.rz_bits.specs.Bits.{bits_of, bytes_of}
 use Rattle.rz_bits.specs.BitBuf.{filled}
-use Rattle.rz_fields.specs.declared.tree.Tree.{Tree}
-use Rattle.rz_fields.specs.declared.tree.Tree.TheVariants as trees
-use Rattle.rz_types.specs.Field.{case_and, field_and, no_cases, no_fields, Align, Array, Fill, Number, PlainBody, PlainCases, PlainField, Points, Switch, Text}
-use Rattle.rz_types.specs.Laid.{body_laid, case_laid, counted, field_laid, first_value, laid, line_in, nothing_laid, other_values, pieces_laid, rows_in, rows_laid, Draft, Refusal}
-use Rattle.rz_types.specs.Row.{takes_value, By}
-use Rattle.rz_types.specs.Spells.{at_front, behind, is_case, nothing_passed, outside, pieces_of, values_for, BodySpells, CaseSpells, FieldSpells, Filler, Inside, IsCounted, Late, OneNumber, OneText, Passed, PiecesSpell, RowsSpell, Spells, Zeros}
+use Rattle.rz_rows.specs.declared.tree.Tree.{Tree}
+use Rattle.rz_rows.specs.declared.tree.Tree.TheVariants as trees
+use Rattle.rz_rows.specs.Laid.{body_laid, case_laid, counted, field_laid, first_value, laid, line_in, nothing_laid, other_values, pieces_laid, rows_in, rows_laid, Draft, Refusal}
+use Rattle.rz_rows.specs.Row.{By}
+use Rattle.rz_rows.specs.Spells.{is_case, values_for, BodySpells, CaseSpells, FieldSpells, Inside, IsCounted, Late, PiecesSpell, RowsSpell, Spells}
+use Rattle.rz_types.specs.Field.{case_and, field_and, no_cases, no_fields, takes_value, Align, Array, Fill, Number, PlainBody, PlainCases, PlainField, Points, Switch, Text}
+use Rattle.rz_types.specs.Passed.{at_front, behind, nothing_passed, outside, Passed}
+use Rattle.rz_types.specs.Piece.{pieces_of, Filler, OneNumber, OneText, Zeros}
 use Rattle.rz_layout.proofs.Own.{alike_own, alike_same, Alike, AreCounted, FieldCounted}
 use Rattle.rz_layout.proofs.Spelling.{first_is, good, group_taken, one_taken, others_are, pieces_goes, then_goes, Fits, Goes}
 use Rattle.rz_layout.proofs.Trees.{line_is, rows_are}

@@ -1,12 +1,13 @@
 -- The faults of rows.
-use Rattle.std.proofs.Common.{◌≡◌, ℕ, zero, suc, ◌+◌, ◌==◌, ◌&&◌, ℤ, pos, Bool, true, false, List, [], ◌∷◌, ◌++◌, length, Option, Some, None, Result, Ok, Err, refl}
-use Rattle.std.specs.Prelude.{if◌then◌else◌, map, nat_lt, nat_abs, replicate}
+use Rattle.std.proofs.Common.{◌≡◌, ℕ, zero, suc, ◌+◌, ◌==◌, ◌&&◌, ℤ, pos, Bool, true, false, List, [], ◌∷◌, ◌++◌, length, Option, Some, None, Result, Ok, Err, refl, sym, ◌∙◌}
+use Rattle.std.specs.Prelude.{if◌then◌else◌, map, not, nat_lt, nat_abs, replicate}
 use Rattle.std.specs.List.{list_all, AllByRecursion}
 use Rattle.std.specs.Option.{option_to_list}
-use Rattle.rz_core.proofs.Tests.{both}
+use Rattle.rz_core.proofs.Tests.{and_so, both}
 use Rattle.rz_core.specs.Lists.{first_of, or_else, unless_fault}
 use Rattle.rz_core.specs.Stop.{◌>>=◌}
 use Rattle.rz_core.specs.declared.facts.Facts.{Facts}
+use Rattle.rz_core.specs.declared.fault.Fault.{Fault}
 use Rattle.rz_core.specs.declared.resource.Word.{Word}
 use Rattle.rz_expr.specs.Environment.{Environment}
 use Rattle.rz_expr.specs.Term.{Term}
@@ -16,23 +17,28 @@ use Rattle.rz_expr.specs.declared.value.EvalFault.TheVariants.{BadShift, DataWid
 use Rattle.rz_bits.specs.Bits.{bytes_of, number_bits}
 use Rattle.rz_bits.specs.BitBuf.{filled}
 use Rattle.rz_layout.specs.Compiled.{is_compile_fault}
+use Rattle.rz_fields.specs.Place.{may_say, may_stand}
 use Rattle.rz_fields.specs.declared.field.NumForm.{NumForm}
 use Rattle.rz_fields.specs.declared.field.Symbol.{Symbol}
 use Rattle.rz_fields.specs.declared.field.TextForm.{TextForm}
-use Rattle.rz_fields.specs.declared.tree.Tree.{Tree}
-use Rattle.rz_types.specs.Field.{case_and, field_and, no_cases, no_fields, Align, Array, Fill, Number, PlainBody, PlainCases, PlainField, PlainNumber, Points, Switch, Text}
+use Rattle.rz_fields.specs.declared.place.TextPlace.TheVariants as places
+use Rattle.rz_rows.specs.declared.tree.Tree.{Tree}
+use Rattle.rz_rows.specs.Laid.{bad_length, bad_size, behind_refusal, body_laid, bytes_given, bytes_laid, case_laid, counted, field_laid, first_value, in_order, joined, laid, lay, line_in, nothing_laid, number_given, one_more, other_values, piece_laid, refusal, refusal_in, rows_in, rows_laid, size_in, takes_one, text_refusal, too_long, unless, unvalued, valued, value_in, with_bits, Draft, Refusal}
+use Rattle.rz_rows.specs.Spells.{is_case, most_bits, nowhere, values_for}
+use Rattle.rz_types.specs.Field.{case_and, field_and, no_cases, no_fields, takes_value, Align, Array, Fill, Number, PlainBody, PlainCases, PlainField, PlainNumber, PlainText, Points, Switch, Text}
 use Rattle.rz_types.specs.Kept.{AreCasesKept, AreKept, IsKept, IsKeptWithin}
-use Rattle.rz_types.specs.Laid.{bad_length, bad_size, body_laid, bytes_given, bytes_laid, case_laid, counted, field_laid, first_value, in_order, laid, lay, line_in, nothing_laid, number_given, one_more, other_values, piece_laid, refusal, rows_in, rows_laid, size_in, takes_one, text_refusal, too_long, unless, valued, value_in, with_bits, Draft, Refusal}
 use Rattle.rz_types.specs.Names.{GivesCounts, GivesPredefined}
 use Rattle.rz_types.specs.Range.{fits_number, may_be_size}
-use Rattle.rz_types.specs.Row.{takes_value}
 use Rattle.rz_types.specs.Rules.{terms_in, unknown_array, unknown_in}
-use Rattle.rz_types.specs.Shape.{are_cases_shaped, are_fixed_points, are_shaped, is_empty, is_fixed_number, is_fixed_text, is_key_shaped, is_none_or, is_number_shaped, is_own_name, is_own_width, is_shaped, is_symbol_of, is_well_shaped, numbers_of}
-use Rattle.rz_types.specs.Spells.{fixed_integer, free_integer, integers, is_case, most_bits, outside, pieces_of, values_for, Filler, OneNumber, OneText, Piece, Zeros}
+use Rattle.rz_types.specs.Shape.{are_cases_shaped, are_fixed_points, are_shaped, is_empty, is_fixed_number, is_fixed_text, is_key_shaped, is_none_or, is_number_shaped, is_own_name, is_own_width, is_shaped, is_symbol_of, is_text_shaped, is_well_shaped, numbers_of}
+use Rattle.rz_types.specs.Passed.{outside}
+use Rattle.rz_types.specs.Piece.{fixed_integer, fixed_terms, free_integer, integers, pieces_of, terms_of_text, Filler, OneNumber, OneText, Piece, Zeros}
 use Rattle.rz_types.specs.Stored.{stored_number}
-use Rattle.rz_types.specs.Text.{PlainPart}
+use Rattle.rz_types.specs.Text.{bytes_seen, text_terms, PlainPart}
 use Rattle.rz_types.specs.Value.{is_field_expression, is_fixed_expression, names_sight, IsArithmetic}
 use Rattle.rz_types.specs.Walk.{names_of}
+use Rattle.rz_types.proofs.Firsts.{first_append}
+use Rattle.rz_types.proofs.Texts.{text_one, text_says, OnlyOne}
 use Rattle.rz_layout.proofs.Own.{gives_counts, gives_names, outside_counts, outside_gives}
 
 -- an expression that has a value where these arrays are counted
@@ -49,7 +55,7 @@ IsSizeOr (Some term) = is_field_expression term ≡ true
 
 abbrev pub HasTerms : List Word → Piece → Type 0
 HasTerms scope (OneNumber number) = IsFixedOr scope number.fixed
-HasTerms scope (OneText text) = IsSizeOr text.size
+HasTerms scope (OneText text) = IsSizeOr text.size × AllByRecursion (IsFixed scope) (fixed_terms text.fixed)
 HasTerms scope (Zeros count) = Unit {0}
 HasTerms scope (Filler unit) = Unit {0}
 
@@ -69,17 +75,41 @@ size_term : (size : Option Term) → is_none_or is_field_expression size ≡ tru
 size_term None is = tt
 size_term (Some term) is = is
 
+each_fixed : (scope : List Word) (terms : List Term) → list_all is_fixed_expression terms ≡ true → first_of (map (unknown_array scope) terms) ≡ None → AllByRecursion (IsFixed scope) terms
+each_fixed scope [] is known = tt
+each_fixed scope (term ∷ terms) is known =
+    let each = both (is_fixed_expression term) (list_all is_fixed_expression terms) is in
+    let none = no_first (unknown_array scope term) (first_of (map (unknown_array scope) terms)) known in
+    ((each.0, none.0), each_fixed scope terms each.1 none.1)
+
+says_fixed : (terms : List Term) → list_all (may_say places.Fixed) terms ≡ true → list_all is_fixed_expression terms ≡ true
+says_fixed [] is = refl
+says_fixed (term ∷ terms) is =
+    let each = both (may_say places.Fixed term) (list_all (may_say places.Fixed) terms) is in
+    and_so (is_fixed_expression term) (list_all is_fixed_expression terms) each.0 (says_fixed terms each.1)
+
+fixed_says : (fixed : Option (List PlainPart)) → is_none_or is_fixed_text fixed ≡ true → list_all is_fixed_expression (fixed_terms fixed) ≡ true
+fixed_says None is = refl
+fixed_says (Some parts) is = says_fixed (text_terms parts) (text_says places.Fixed parts (both (not (is_empty parts)) (may_stand places.Fixed parts) is).1)
+
+text_piece : (scope : List Word) (text : PlainText) → is_text_shaped text ≡ true → first_of (map (unknown_array scope) (terms_of_text text)) ≡ None → HasTerms scope (OneText text)
+text_piece scope text is known =
+    let each = both (is_none_or is_field_expression text.size) (is_none_or is_fixed_text text.fixed) is in
+    let none = no_first (first_of (map (unknown_array scope) (option_to_list text.size))) (first_of (map (unknown_array scope) (fixed_terms text.fixed)))
+    (sym (first_append (unknown_array scope) (option_to_list text.size) (fixed_terms text.fixed)) ∙ known) in
+    (size_term text.size each.0, each_fixed scope (fixed_terms text.fixed) (fixed_says text.fixed each.1) none.1)
+
 free_pieces : (scope : List Word) (count : ℕ) → AllByRecursion (HasTerms scope) (replicate count free_integer)
 free_pieces scope zero = tt
 free_pieces scope (suc count) = (tt, free_pieces scope count)
 
 fixed_pieces : (scope : List Word) (terms : List Term) → list_all is_fixed_expression terms ≡ true → first_of (map (unknown_array scope) terms) ≡ None
     → AllByRecursion (HasTerms scope) (map fixed_integer terms)
-fixed_pieces scope [] is known = tt
-fixed_pieces scope (term ∷ terms) is known =
-    let each = both (is_fixed_expression term) (list_all is_fixed_expression terms) is in
-    let none = no_first (unknown_array scope term) (first_of (map (unknown_array scope) terms)) known in
-    ((each.0, none.0), fixed_pieces scope terms each.1 none.1)
+fixed_pieces scope terms is known = as_pieces terms (each_fixed scope terms is known)
+  where
+    as_pieces : (terms : List Term) → AllByRecursion (IsFixed scope) terms → AllByRecursion (HasTerms scope) (map fixed_integer terms)
+    as_pieces [] each = tt
+    as_pieces (term ∷ terms) each = (each.0, as_pieces terms each.1)
 
 point_pieces : (scope : List Word) (rect : Bool) (fixed : Option (List Term)) → is_none_or (are_fixed_points rect) fixed ≡ true → first_of (map (unknown_array scope) (terms_in fixed)) ≡ None
     → AllByRecursion (HasTerms scope) (integers rect fixed)
@@ -146,9 +176,36 @@ module _ (sizes : (known : Facts) (names : Environment) (term : Term) → GivesP
     size_known piece (Some term) is =
         then_known (value_in piece known names term) (λ size. Ok (Some size)) (valued_known piece (value_of term (names_sight known names)) (sizes known names term gives is)) (λ v. tt)
 
-  bytes_known : (piece : ℕ) (fixed : Option (List PlainPart)) (value : Option Tree) → Known (bytes_given piece known fixed value)
-  bytes_known piece None value = tt
-  bytes_known piece (Some parts) value = tt
+    have_values : (terms : List Term) → AllByRecursion (IsFixed scope) terms → AllByRecursion (λ term. IsArithmetic (value_of term (names_sight known names))) terms
+    have_values [] each = tt
+    have_values (term ∷ terms) each = (values known names scope term gives counts each.0.0 each.0.1, have_values terms each.1)
+
+    joined_known : (piece : ℕ) (found : Result (List ℕ) Fault) → OnlyOne (λ number. is_compile_fault number ≡ true) found
+        → Known (joined piece found)
+    joined_known piece (Ok bytes) is = tt
+    joined_known piece (Err fault) is = is
+
+    refusal_known : (found : Result ℤ Refusal) → Known found → KnownFault (refusal_in found)
+    refusal_known (Ok value) is = tt
+    refusal_known (Err fault) is = is
+
+    terms_known : (piece : ℕ) (terms : List Term) → AllByRecursion (IsFixed scope) terms → KnownFault (first_of (map (unvalued piece known names) terms))
+    terms_known piece [] each = tt
+    terms_known piece (term ∷ terms) each =
+        or_known (unvalued piece known names term) (first_of (map (unvalued piece known names) terms))
+        (refusal_known (value_in piece known names term) (fixed_known piece term each.0)) (terms_known piece terms each.1)
+
+    behind_known : (found : Option Refusal) (given : Result (List ℕ) Refusal) → KnownFault found → Known given → Known (behind_refusal found given)
+    behind_known None given is also = also
+    behind_known (Some fault) given is also = is
+
+    bytes_known : (piece : ℕ) (fixed : Option (List PlainPart)) → AllByRecursion (IsFixed scope) (fixed_terms fixed) → (value : Option Tree) → Known (bytes_given piece known names fixed value)
+    bytes_known piece None each value = tt
+    bytes_known piece (Some parts) each value =
+        behind_known (first_of (map (unvalued piece known names) (text_terms parts))) (joined piece (bytes_seen nowhere known (names_sight known names) parts))
+        (terms_known piece (text_terms parts) each)
+        (joined_known piece (bytes_seen nowhere known (names_sight known names) parts)
+        (text_one (λ number. is_compile_fault number ≡ true) refl refl refl nowhere known (names_sight known names) parts (have_values (text_terms parts) each)))
 
   bad_size_known : (piece : ℕ) (form : TextForm) (size : Option ℤ) → KnownFault (bad_size piece form size)
   bad_size_known piece form None = tt
@@ -173,8 +230,9 @@ module _ (sizes : (known : Facts) (names : Environment) (term : Term) → GivesP
         then_known (number_given draft.piece known names number.form number.width number.fixed value) (λ n. Ok (number_bits (nat_abs number.width) n))
         (number_known scope names gives counts draft.piece number.form number.width number.fixed is value) (λ n. tt)
     piece_known draft (OneText text) is value =
-        then_known (size_in draft.piece known names text.size) _ (size_known scope names gives counts draft.piece text.size is)
-        (λ size. then_known (bytes_given draft.piece known text.fixed value) _ (bytes_known draft.piece text.fixed value) (λ bytes. laid_known draft.piece text.form size bytes))
+        then_known (size_in draft.piece known names text.size) _ (size_known scope names gives counts draft.piece text.size is.0)
+        (λ size. then_known (bytes_given draft.piece known names text.fixed value) _ (bytes_known scope names gives counts draft.piece text.fixed is.1 value)
+        (λ bytes. laid_known draft.piece text.form size bytes))
     piece_known draft (Zeros count) is value = tt
     piece_known draft (Filler unit) is value = tt
 
@@ -217,7 +275,7 @@ module _ (sizes : (known : Facts) (names : Environment) (term : Term) → GivesP
     field_known scope in_case (Number number) is none kept names gives counts draft value =
         pieces_known scope names gives counts (OneNumber number ∷ []) (number_term scope in_case number is none, tt) draft (option_to_list value)
     field_known scope in_case (Text text) is none kept names gives counts draft value =
-        pieces_known scope names gives counts (OneText text ∷ []) (size_term text.size (both (is_none_or is_field_expression text.size) (is_none_or is_fixed_text text.fixed) is).0, tt) draft (option_to_list value)
+        pieces_known scope names gives counts (OneText text ∷ []) (text_piece scope text is none, tt) draft (option_to_list value)
     field_known scope in_case (Points points) is none kept names gives counts draft value =
         pieces_known scope names gives counts (integers points.rect points.fixed) (point_pieces scope points.rect points.fixed is none) draft (values_for (Points points) value)
     field_known scope in_case (Fill unit count) is none kept names gives counts draft value =

@@ -12,16 +12,16 @@ use Rattle.rz_expr.specs.Term.{Term}
 use Rattle.rz_layout.specs.Sound.{AreSound, IsCaseSound, IsGroupBy, IsSound, IsWidth}
 use Rattle.rz_fields.specs.declared.field.NumForm.{NumForm}
 use Rattle.rz_fields.specs.declared.field.NumForm.TheVariants.{Bits, Boolean, Byte, Char, Integer, Longint}
-use Rattle.rz_fields.specs.declared.tree.Tree.{Tree}
-use Rattle.rz_fields.specs.declared.tree.Tree.TheVariants as trees
-use Rattle.rz_types.specs.Field.{case_and, field_and, no_cases, no_fields, Align, Array, Fill, Number, PlainBody, PlainCases, PlainField, PlainNumber, PlainPoints, Points, Switch, Text}
+use Rattle.rz_rows.specs.declared.tree.Tree.{Tree}
+use Rattle.rz_rows.specs.declared.tree.Tree.TheVariants as trees
+use Rattle.rz_rows.specs.Laid.{first_value, line_in, other_values, rows_in}
+use Rattle.rz_rows.specs.Row.{IsChoice, IsRow, IsValue}
+use Rattle.rz_rows.specs.Spells.{group_in, is_case}
+use Rattle.rz_types.specs.Field.{case_and, field_and, no_cases, no_fields, takes_value, Align, Array, Fill, Number, PlainBody, PlainCases, PlainField, PlainNumber, PlainPoints, Points, Switch, Text}
 use Rattle.rz_types.specs.Kept.{AreCasesKept, AreKept, Differ, IsKept, IsKeptWithin}
-use Rattle.rz_types.specs.Laid.{first_value, line_in, other_values, rows_in}
 use Rattle.rz_types.specs.Range.{is_between}
-use Rattle.rz_types.specs.Row.{takes_value, IsChoice, IsRow, IsValue}
 use Rattle.rz_types.specs.Rules.{bad_width, case_names, may_be_width, unless}
 use Rattle.rz_types.specs.Shape.{are_cases_shaped, are_shaped, is_fixed_number, is_key_shaped, is_none_or, is_number_shaped, is_own_name, is_own_width, is_shaped, is_symbol_of, is_unit, is_well_shaped}
-use Rattle.rz_types.specs.Spells.{group_in, is_case}
 use Rattle.rz_types.specs.Walk.{names_of}
 use Rattle.rz_layout.proofs.Own.{other_name}
 use Rattle.rz_layout.proofs.Rows.{choice_differs, fronted, Takes}

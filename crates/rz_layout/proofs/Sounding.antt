@@ -1,10 +1,10 @@
 -- What is laid is spelled so: pieces, and values one behind the other.
 use Rattle.std.proofs.Common.{◌≡◌, ℕ, ◌+◌, ◌^◌, ◌<◌, ◌≤◌, ℤ, pos, negsuc, Bool, true, false, List, [], ◌∷◌, ◌++◌, length, take, drop, Option, Some, None, Result, Ok, Err, refl, sym, ap, subst, ◌∙◌, arith}
-use Rattle.std.specs.Prelude.{if◌then◌else◌, nat_lt, not, nat_abs, option_map}
+use Rattle.std.specs.Prelude.{if◌then◌else◌, nat_lt, not, map, nat_abs, option_map}
 use Rattle.std.proofs.lemmas.Bool.{ltb-false}
 use Rattle.std.proofs.lemmas.List.{length-append, take-take, drop-take}
 use Rattle.std.proofs.Math.Seq.{take-append_seam, drop-append_seam}
-use Rattle.rz_core.specs.Lists.{or_else, unless_fault}
+use Rattle.rz_core.specs.Lists.{first_of, or_else, unless_fault}
 use Rattle.rz_core.specs.Stop.{◌>>=◌}
 use Rattle.rz_core.specs.declared.facts.Facts.{Facts}
 use Rattle.rz_expr.specs.Environment.{Environment, Sight}
@@ -15,14 +15,16 @@ use Rattle.rz_bits.specs.Bits.{bits_of, number_bits}
 use Rattle.rz_fields.specs.declared.field.NumForm.{NumForm}
 use Rattle.rz_fields.specs.declared.field.TextForm.{TextForm}
 use Rattle.rz_fields.specs.declared.field.TextForm.TheVariants as forms
-use Rattle.rz_fields.specs.declared.tree.Tree.{Tree}
-use Rattle.rz_fields.specs.declared.tree.Tree.TheVariants as trees
+use Rattle.rz_rows.specs.declared.tree.Tree.{Tree}
+use Rattle.rz_rows.specs.declared.tree.Tree.TheVariants as trees
+use Rattle.rz_rows.specs.Laid.{bad_length, bad_size, behind_refusal, bytes_given, bytes_laid, first_value, fixed_number, in_order, joined, lay, number_given, number_in, one_more, other_values, piece_laid, refusal, size_in, takes_one, text_in, text_laid, text_refusal, too_long, unless, unvalued, valued, value_in, with_bits, Draft, Refusal}
+use Rattle.rz_rows.specs.Spells.{is_late_size, is_one_late, marks, most_bits, nowhere, put, AreBytes, InOrder, IsNumber, IsSize, IsStored, IsText, Late, PieceSpells, RowSpells, Then}
 use Rattle.rz_types.specs.Field.{PlainText}
-use Rattle.rz_types.specs.Laid.{bad_length, bad_size, bytes_given, bytes_laid, first_value, fixed_number, in_order, joined, lay, number_given, number_in, one_more, other_values, piece_laid, refusal, size_in, takes_one, text_in, text_laid, text_refusal, too_long, unless, valued, value_in, with_bits, Draft, Refusal}
 use Rattle.rz_types.specs.Range.{fits_number, may_be_size}
-use Rattle.rz_types.specs.Spells.{behind_piece, is_late_size, is_late_value, marks, most_bits, nowhere, put, AreBytes, Filler, InOrder, IsNumber, IsSize, IsStored, IsText, Late, Names, OneNumber, OneText, Passed, Piece, PieceSpells, RowSpells, Then, Zeros}
+use Rattle.rz_types.specs.Passed.{behind_piece, Names, Passed}
+use Rattle.rz_types.specs.Piece.{terms_of_text, Filler, OneNumber, OneText, Piece, Zeros}
 use Rattle.rz_types.specs.Stored.{stored_number, stored_text}
-use Rattle.rz_types.specs.Text.{bytes_of as text_bytes_of, PlainPart}
+use Rattle.rz_types.specs.Text.{bytes_seen, text_terms, PlainPart}
 use Rattle.rz_types.specs.Value.{names_sight}
 use Rattle.rz_layout.proofs.Trees.{number_is, text_is}
 
@@ -135,17 +137,25 @@ module _ (known : Facts) (names : Environment) where
   joined_is piece (Ok value) bytes is = ap (λ (bs : List ℕ). Ok bs) (same_ok value bytes is)
   joined_is piece (Err fault) bytes is = absurd cc
 
+  unrefused_bytes : (found : Option Refusal) (given : Result (List ℕ) Refusal) (bytes : List ℕ) → behind_refusal found given ≡ Ok bytes → given ≡ Ok bytes
+  unrefused_bytes None given bytes is = is
+  unrefused_bytes (Some fault) given bytes is = absurd cc
+
   bytes_sound : (piece : ℕ) (form : TextForm) (fixed : Option (List PlainPart)) (size : Option ℕ) (value : Option Tree) → TextValue fixed value → (bytes : List ℕ)
-      → bytes_given piece known fixed value ≡ Ok bytes → AreBytes false form known fixed size value bytes
+      → bytes_given piece known names fixed value ≡ Ok bytes → AreBytes false form known (names_sight known names) fixed size value bytes
   bytes_sound piece form None size value has bytes is =
       (has.1 ∙ ap (λ (bs : List ℕ). Some (trees.Text bs)) (sym (ap text_in has.1 ∙ text_is has.0) ∙ same_ok (text_in value) bytes is), tt)
-  bytes_sound piece form (Some parts) size value has bytes is = (has, joined_is piece (text_bytes_of nowhere known parts) bytes is)
+  bytes_sound piece form (Some parts) size value has bytes is = (
+    has,
+    joined_is piece (bytes_seen nowhere known (names_sight known names) parts) bytes
+        (unrefused_bytes (first_of (map (unvalued piece known names) (text_terms parts))) (joined piece (bytes_seen nowhere known (names_sight known names) parts)) bytes is),
+  )
 
   text_sound : (piece : ℕ) (text : PlainText) (value : Option Tree) → TextValue text.fixed value → (bits : List Bool)
       → text_laid piece known names text value ≡ Ok bits → IsText false text known (names_sight known names) value bits
   text_sound piece text value has bits is =
-      let one = chained (size_in piece known names text.size) (λ size. bytes_given piece known text.fixed value >>= λ bytes. bytes_laid piece text.form size bytes) bits is in
-      let two = chained (bytes_given piece known text.fixed value) (λ bytes. bytes_laid piece text.form one.value bytes) bits one.leads in
+      let one = chained (size_in piece known names text.size) (λ size. bytes_given piece known names text.fixed value >>= λ bytes. bytes_laid piece text.form size bytes) bits is in
+      let two = chained (bytes_given piece known names text.fixed value) (λ bytes. bytes_laid piece text.form one.value bytes) bits one.leads in
       let free = unrefused (text_refusal piece text.form one.value (length two.value)) (bits_of (stored_text text.form (option_map nat_abs one.value) two.value)) bits two.leads in
       let each = first_none (bad_size piece text.form one.value) (or_else (bad_length piece text.form one.value (length two.value)) None) free.0 in
       let short = first_none (bad_length piece text.form one.value (length two.value)) None each.1 in
@@ -168,13 +178,13 @@ module _ (known : Facts) (names : Environment) where
 
 -- No number is late so far.
 
-no_late_value : (met : Names) (late : Late) (term : Option Term) (sight : Sight) → is_late_value met late term sight ≡ false
-no_late_value met late None sight = refl
-no_late_value met late (Some term) sight = refl
+no_late_terms : (met : Names) (late : Late) (terms : List Term) (sight : Sight) → is_one_late met late terms sight ≡ false
+no_late_terms met late [] sight = refl
+no_late_terms met late (term ∷ terms) sight = no_late_terms met late terms sight
 
 no_late_size : (met : Names) (late : Late) (piece : Piece) (sight : Sight) → is_late_size met late piece sight ≡ false
 no_late_size met late (OneNumber number) sight = refl
-no_late_size met late (OneText text) sight = no_late_value met late text.size sight
+no_late_size met late (OneText text) sight = no_late_terms met late (terms_of_text text) sight
 no_late_size met late (Zeros count) sight = refl
 no_late_size met late (Filler unit) sight = refl
 

@@ -1,9 +1,10 @@
 -- What is spelled is laid so: pieces, and values one behind the other.
 use Rattle.std.proofs.Common.{◌≡◌, ℕ, zero, suc, ◌+◌, ◌≤◌, ℤ, pos, Bool, true, false, List, [], ◌∷◌, ◌++◌, length, take, drop, Option, Some, None, Result, Ok, refl, sym, ap, subst, ◌∙◌, arith}
-use Rattle.std.specs.Prelude.{not, nat_abs, option_map}
+use Rattle.std.specs.Prelude.{map, not, nat_abs, option_map}
+use Rattle.std.specs.List.{AllByRecursion}
 use Rattle.std.specs.Option.{is_none, is_some, option_to_list}
 use Rattle.std.proofs.lemmas.List.{length-append}
-use Rattle.rz_core.specs.Lists.{or_else, unless_fault}
+use Rattle.rz_core.specs.Lists.{first_of, or_else, unless_fault}
 use Rattle.rz_core.specs.Stop.{◌>>=◌}
 use Rattle.rz_core.specs.declared.facts.Facts.{Facts}
 use Rattle.rz_expr.specs.Environment.{Environment, Sight}
@@ -12,14 +13,17 @@ use Rattle.rz_expr.specs.Value.{value_of}
 use Rattle.rz_bits.specs.Bits.{bits_of, number_bits}
 use Rattle.rz_fields.specs.declared.field.NumForm.{NumForm}
 use Rattle.rz_fields.specs.declared.field.TextForm.{TextForm}
-use Rattle.rz_fields.specs.declared.tree.Tree.{Tree}
+use Rattle.rz_rows.specs.declared.tree.Tree.{Tree}
+use Rattle.rz_rows.specs.Laid.{bad_size, behind_refusal, bytes_given, bytes_laid, first_value, in_order, joined, lay, number_given, number_in, one_more, other_values, piece_laid, refusal, refusal_in, size_in, text_in, takes_one, text_laid, then_laid, unless, unvalued, valued, value_in, with_bits, Draft, Refusal}
+use Rattle.rz_rows.specs.Spells.{most_bits, nowhere, put, AreBytes, InOrder, IsGrouped, IsNumber, IsSize, IsStored, IsText, Late, PieceSpells}
 use Rattle.rz_types.specs.Field.{PlainText}
-use Rattle.rz_types.specs.Laid.{bad_size, bytes_given, bytes_laid, first_value, in_order, joined, lay, number_given, number_in, one_more, other_values, piece_laid, refusal, size_in, text_in, takes_one, text_laid, then_laid, unless, valued, value_in, with_bits, Draft, Refusal}
 use Rattle.rz_types.specs.Range.{fits_number}
-use Rattle.rz_types.specs.Spells.{behind_piece, most_bits, put, AreBytes, Filler, InOrder, IsGrouped, IsNumber, IsSize, IsStored, IsText, Late, OneNumber, OneText, Passed, Piece, PieceSpells, Zeros}
+use Rattle.rz_types.specs.Passed.{behind_piece, Passed}
+use Rattle.rz_types.specs.Piece.{Filler, OneNumber, OneText, Piece, Zeros}
 use Rattle.rz_types.specs.Stored.{is_too_long, stored_number, stored_text}
-use Rattle.rz_types.specs.Text.{PlainPart}
+use Rattle.rz_types.specs.Text.{bytes_seen, text_terms, PlainPart}
 use Rattle.rz_types.specs.Value.{names_sight}
+use Rattle.rz_types.proofs.Texts.{bytes_kept, bytes_valued, Keeps}
 use Rattle.rz_layout.proofs.Own.{seen, Alike}
 use Rattle.rz_layout.proofs.Room.{laid_in}
 use Rattle.rz_layout.proofs.Trees.{number_is, text_is}
@@ -74,10 +78,24 @@ module _ (known : Facts) (names inner : Environment) (alike : Alike names inner)
     allowed = ap (λ (b : Bool). unless b (refusal 207 piece (pos it.0))) it.2;
   }
 
+  same_terms : (terms : List Term) → AllByRecursion (Keeps (names_sight known names) (names_sight known inner)) terms
+  same_terms [] = tt
+  same_terms (term ∷ terms) = ((λ v found. sym (seen known names inner alike term) ∙ found), same_terms terms)
+
+  terms_spelled : (piece : ℕ) (terms : List Term) → AllByRecursion (λ term. (v : ℤ) × (value_of term (names_sight known names) ≡ Ok v)) terms
+      → first_of (map (unvalued piece known inner) terms) ≡ None
+  terms_spelled piece [] each = refl
+  terms_spelled piece (term ∷ terms) each =
+      ap (λ (r : Result ℤ Refusal). or_else (refusal_in r) (first_of (map (unvalued piece known inner) terms))) (value_spelled piece term each.0.0 each.0.1)
+      ∙ terms_spelled piece terms each.1
+
   bytes_spelled : (piece : ℕ) (form : TextForm) (fixed : Option (List PlainPart)) (size : Option ℕ) (value : Option Tree) (bytes : List ℕ)
-      → AreBytes false form known fixed size value bytes → bytes_given piece known fixed value ≡ Ok bytes
+      → AreBytes false form known (names_sight known names) fixed size value bytes → bytes_given piece known inner fixed value ≡ Ok bytes
   bytes_spelled piece form None size value bytes it = ap (λ (o : Option Tree). good (text_in o)) it.0 ∙ ap good (text_is bytes)
-  bytes_spelled piece form (Some parts) size value bytes it = ap (joined piece) it.1
+  bytes_spelled piece form (Some parts) size value bytes it =
+      ap (λ (o : Option Refusal). behind_refusal o (joined piece (bytes_seen nowhere known (names_sight known inner) parts)))
+      (terms_spelled piece (text_terms parts) (bytes_valued nowhere known (names_sight known names) parts bytes it.1))
+      ∙ ap (joined piece) (bytes_kept nowhere known (names_sight known names) (names_sight known inner) parts (same_terms (text_terms parts)) bytes it.1)
 
   text_spelled : (piece : ℕ) (text : PlainText) (value : Option Tree) (bits : List Bool) → IsText false text known (names_sight known names) value bits
       → text_laid piece known inner text value ≡ Ok bits
@@ -105,10 +123,10 @@ number_taken : (passed : Passed) (form : NumForm) (width : ℤ) (fixed : Option 
 number_taken passed form width None sight value bits it = ap is_some it.1
 number_taken passed form width (Some term) sight value bits it = ap is_some it.1
 
-bytes_taken : (form : TextForm) (known : Facts) (fixed : Option (List PlainPart)) (size : Option ℕ) (value : Option Tree) (bytes : List ℕ) → AreBytes false form known fixed size value bytes
-    → is_some value ≡ is_none fixed
-bytes_taken form known None size value bytes it = ap is_some it.0
-bytes_taken form known (Some parts) size value bytes it = ap is_some it.0
+bytes_taken : (form : TextForm) (known : Facts) (sight : Sight) (fixed : Option (List PlainPart)) (size : Option ℕ) (value : Option Tree) (bytes : List ℕ)
+    → AreBytes false form known sight fixed size value bytes → is_some value ≡ is_none fixed
+bytes_taken form known sight None size value bytes it = ap is_some it.0
+bytes_taken form known sight (Some parts) size value bytes it = ap is_some it.0
 
 pub group_taken : (fixed : Option (List Term)) (value : Option Tree) → IsGrouped fixed value → is_some value ≡ is_none fixed
 group_taken None value it = ap is_some it.1
@@ -173,7 +191,7 @@ module _ (all : List Bool) where
     piece_taken : (passed : Passed) (piece : Piece) (value : Option Tree) (at after : ℕ) (late late_after : Late)
         → PieceSpells false known all names passed piece value at late after late_after → is_some value ≡ takes_one piece
     piece_taken passed (OneNumber number) value at after late late_after it = number_taken passed number.form number.width number.fixed (names_sight known names) value it.bits it.stored
-    piece_taken passed (OneText text) value at after late late_after it = bytes_taken text.form known text.fixed it.stored.size value it.stored.bytes it.stored.are_bytes
+    piece_taken passed (OneText text) value at after late late_after it = bytes_taken text.form known (names_sight known names) text.fixed it.stored.size value it.stored.bytes it.stored.are_bytes
     piece_taken passed (Zeros count) value at after late late_after it = ap is_some it.stored.0
     piece_taken passed (Filler unit) value at after late late_after it = ap is_some it.stored.0
 

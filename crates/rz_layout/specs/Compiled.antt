@@ -6,10 +6,10 @@ use Rattle.rz_core.specs.declared.stop.Stop.{Stop}
 use Rattle.rz_core.specs.declared.stop.Stop.TheVariants.{NoMemory, Refused}
 use Rattle.rz_layout.specs.Fault.{refusal_of}
 use Rattle.rz_layout.specs.declared.fault.LayFault.{LayFault}
-use Rattle.rz_fields.specs.declared.tree.Tree.{Tree}
+use Rattle.rz_rows.specs.declared.tree.Tree.{Tree}
+use Rattle.rz_rows.specs.Laid.{Refusal, Refuses}
+use Rattle.rz_rows.specs.Spells.{Spells}
 use Rattle.rz_types.specs.Field.{PlainBody}
-use Rattle.rz_types.specs.Laid.{Refusal, Refuses}
-use Rattle.rz_types.specs.Spells.{Spells}
 
 -- the bytes that a row spells, or its refusal
 abbrev pub IsCompiled : Facts → PlainBody → List Tree → Result (List ℕ) Refusal → Type 0
@@ -24,4 +24,4 @@ MeetsLaid (Err NoMemory) answers = Unit {0}
 
 -- the faults that a row can have
 abbrev pub is_compile_fault : ℕ → Bool
-is_compile_fault number = (number == 207) || (number == 211) || (number == 215) || (number == 216) || (number == 301)
+is_compile_fault number = (number == 207) || (number == 211) || (number == 215) || (number == 216) || (number == 222) || (number == 301)

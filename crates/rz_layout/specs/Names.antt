@@ -2,8 +2,8 @@
 use Rattle.std.specs.Prelude.{◌≡◌, List, [], ◌∷◌, ◌++◌, Some}
 use Rattle.rz_expr.specs.Environment.{Environment}
 use Rattle.rz_layout.specs.declared.names.Counted.{Counted}
-use Rattle.rz_types.specs.Laid.{with_count}
-use Rattle.rz_types.specs.Spells.{outside}
+use Rattle.rz_rows.specs.Laid.{with_count}
+use Rattle.rz_types.specs.Passed.{outside}
 
 -- behind what names have outside, the numbers of rows of arrays, the oldest first: the newest of a name counts
 abbrev pub counted_behind : Environment → List Counted → Environment

@@ -2,12 +2,11 @@
 use Rattle.std.specs.Prelude.{◌≡◌, ◌<◌, ◌≤ℤ◌, ℤ, pos, Bool, true, List, length, Option, None, Some}
 use Rattle.std.specs.List.{AllByRecursion}
 use Rattle.rz_expr.specs.Term.{Term}
-use Rattle.rz_fields.specs.declared.tree.Tree.{Tree}
-use Rattle.rz_types.specs.Field.{case_and, field_and, no_cases, no_fields, Align, Array, Fill, Number, PlainBody, PlainCases, PlainField, PlainPoints, Points, Switch, Text}
-use Rattle.rz_types.specs.Laid.{first_value, line_in, other_values, rows_in}
-use Rattle.rz_types.specs.Row.{takes_value}
+use Rattle.rz_rows.specs.declared.tree.Tree.{Tree}
+use Rattle.rz_rows.specs.Laid.{first_value, line_in, other_values, rows_in}
+use Rattle.rz_rows.specs.Spells.{group_in, is_case}
+use Rattle.rz_types.specs.Field.{case_and, field_and, no_cases, no_fields, takes_value, Align, Array, Fill, Number, PlainBody, PlainCases, PlainField, PlainPoints, Points, Switch, Text}
 use Rattle.rz_types.specs.Shape.{numbers_of}
-use Rattle.rz_types.specs.Spells.{group_in, is_case}
 
 -- a width of 1 to 32 bits
 abbrev pub IsWidth : ℤ → Type 0

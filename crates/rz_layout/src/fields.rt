@@ -6,10 +6,10 @@ ghost use Rattle.rz_layout.specs.Names.{known};
 ghost use Rattle.rz_layout.specs.Sound.{AreSound, IsCaseSound, IsSound};
 ghost use Rattle.rz_core.specs.Stop.{OnFault};
 ghost use Rattle.std.specs.List.{AllByRecursion};
+ghost use Rattle.rz_rows.specs.Laid.{body_laid, case_laid, counted, field_laid, laid, rows_laid, Refusal};
+ghost use Rattle.rz_rows.specs.Row.{IsRow};
+ghost use Rattle.rz_rows.specs.Spells.{most_bits};
 ghost use Rattle.rz_types.specs.Field.{plain_body, plain_cases, plain_field};
-ghost use Rattle.rz_types.specs.Laid.{body_laid, case_laid, counted, field_laid, laid, rows_laid, Refusal};
-ghost use Rattle.rz_types.specs.Row.{IsRow};
-ghost use Rattle.rz_types.specs.Spells.{most_bits};
 ghost use Rattle.rz_types.specs.Template.{template_of};
 
 use crate::LayFault;
@@ -23,9 +23,10 @@ use rz_bits::{
     numbers_are_written_back,
 };
 use rz_core::{Bytes, Facts, Stop};
-use rz_fields::values::{choice_in, line_in, next_value, rows_in};
+use rz_rows::values::{choice_in, line_in, next_value, rows_in};
+use rz_rows::{Row, Tree};
 use rz_types::{
-    Case, Field, Row, Template, Tree, field_expressions_have_values, rules_hold_within, takes_value,
+    Case, Field, Template, field_expressions_have_values, rules_hold_within, takes_value,
 };
 use std::alloc::Global;
 
@@ -37,9 +38,10 @@ use std::alloc::Global;
 /// body and of those within it.
 ///
 /// Otherwise the fault is the first from left to right: of an expression 211, a zero divisor, or 215, a shift by a count
-/// outside 0 to 31 (kept: the count); 207 for a value outside the range of its number, or a size that its text may not
-/// have (kept: the value); 216 for a text without a size that is too long for its type (kept: its length); 301 where a
-/// piece ends after 16,777,212 bytes (kept: the length to its end in bytes, rounded up).
+/// outside 0 to 31 (kept: the count); 222 for a format that its arguments don't fit; 207 for a value outside the range of
+/// its number, or a size that its text may not have (kept: the value); 216 for a text without a size that is too long for
+/// its type (kept: its length); 301 where a piece ends after 16,777,212 bytes (kept: the length to its end in bytes,
+/// rounded up). In a text its size's expression comes before its formats, and these before its size.
 ///
 /// Its time is in proportion to the fields that are laid, for each row those of its array, with their expressions and
 /// fixed texts, to the cases of each switch, to the row and to the bytes; a `$$CountOf` counts as many times as there

@@ -4,8 +4,9 @@ ghost use Rattle.rz_layout.specs.Laid.{draft_of, GivesLaid, Lays};
 ghost use Rattle.rz_layout.specs.Sound.{IsWidth};
 ghost use Rattle.rz_types.specs.Field.{plain_number};
 ghost use Rattle.rz_layout.specs.Names.{known};
-ghost use Rattle.rz_types.specs.Laid.{fixed_number, lay, number_given, value_in};
-ghost use Rattle.rz_types.specs.Spells.{most_bits, OneNumber};
+ghost use Rattle.rz_rows.specs.Laid.{fixed_number, lay, number_given, value_in};
+ghost use Rattle.rz_rows.specs.Spells.{most_bits};
+ghost use Rattle.rz_types.specs.Piece.{OneNumber};
 
 use crate::LayFault;
 use crate::fault::value_fault;
@@ -13,8 +14,9 @@ use crate::laid::Laid;
 use crate::names::NamesEnv;
 use rz_core::Stop;
 use rz_expr::{Expr, value_in};
-use rz_fields::values::number_in;
-use rz_types::{NumField, NumForm, Tree, fits_number, stored_number};
+use rz_rows::Tree;
+use rz_rows::values::number_in;
+use rz_types::{NumField, NumForm, fits_number, stored_number};
 
 /// Lays a number: that of the row, or the value of its expression.
 pub fn lay_number(

@@ -3,11 +3,12 @@ ghost use Rattle.rz_expr.specs.Term.{term_of};
 ghost use Rattle.rz_layout.specs.Laid.{draft_of, Lays};
 ghost use Rattle.rz_layout.specs.Names.{known};
 ghost use Rattle.rz_layout.specs.Sound.{IsGroupOf};
-ghost use Rattle.rz_fields.specs.declared.tree.Tree.TheVariants as trees;
+ghost use Rattle.rz_rows.specs.declared.tree.Tree.TheVariants as trees;
+ghost use Rattle.rz_rows.specs.Laid.{field_laid, in_order, lay, takes_one};
+ghost use Rattle.rz_rows.specs.Spells.{most_bits};
 ghost use Rattle.rz_types.specs.Field.{plain_points};
-ghost use Rattle.rz_types.specs.Laid.{field_laid, in_order, lay, takes_one};
 ghost use Rattle.rz_types.specs.Field.{Points};
-ghost use Rattle.rz_types.specs.Spells.{fixed_integer, free_integer, most_bits};
+ghost use Rattle.rz_types.specs.Piece.{fixed_integer, free_integer};
 
 use crate::LayFault;
 use crate::laid::Laid;
@@ -15,8 +16,9 @@ use crate::names::NamesEnv;
 use crate::number::fixed_number;
 use rz_core::Stop;
 use rz_expr::Expr;
-use rz_fields::values::group_in;
-use rz_types::{NumForm, PointField, Tree};
+use rz_rows::Tree;
+use rz_rows::values::group_in;
+use rz_types::{NumForm, PointField};
 
 /// Lays the numbers of a point or a rectangle: those of the row, or the values of its expressions.
 pub fn lay_points(

@@ -4,21 +4,25 @@ ghost use Rattle.rz_layout.specs.Laid.{draft_of, sized_put, text_put, GivesLaid,
 ghost use Rattle.rz_layout.specs.Fault.{refusal_of};
 ghost use Rattle.rz_layout.specs.Names.{known};
 ghost use Rattle.rz_layout.specs.Text.{sized_length, stored_length};
+ghost use Rattle.rz_rows.specs.Laid.{fixed_bytes, joined, lay, refusal, size_in, text_refusal};
+ghost use Rattle.rz_rows.specs.Spells.{most_bits, nowhere};
 ghost use Rattle.rz_types.specs.Field.{plain_text};
-ghost use Rattle.rz_types.specs.Laid.{fixed_bytes, lay, refusal, size_in, text_refusal};
-ghost use Rattle.rz_types.specs.Spells.{most_bits, OneText};
+ghost use Rattle.rz_types.specs.Piece.{OneText};
 ghost use Rattle.rz_types.specs.Stored.{before_zero};
-ghost use Rattle.rz_types.specs.Text.{plain_parts};
+ghost use Rattle.rz_types.specs.Text.{bytes_seen, plain_parts};
+ghost use Rattle.rz_types.specs.Value.{names_sight};
 
 use crate::LayFault;
 use crate::laid::{Laid, one_more};
 use crate::names::NamesEnv;
 use crate::number::expression_value;
 use crate::push::push_text;
-use rz_core::{Bytes, Facts, Kept, Mark, Stop};
+use crate::valued::unvalued_in;
+use rz_core::{Bytes, Kept, Mark, Stop};
 use rz_expr::Expr;
-use rz_fields::values::text_in;
-use rz_types::{TextField, TextForm, Texts, Tree, is_too_long, may_be_size, text_of};
+use rz_rows::Tree;
+use rz_rows::values::text_in;
+use rz_types::{TextField, TextForm, Texts, is_too_long, may_be_size, text_seen};
 use std::alloc::Global;
 
 /// Lays a text: the bytes of the row, or those of its fixed parts, in its stored form.
@@ -34,7 +38,7 @@ pub fn lay_text(
     ensures short { IfOk result (λ _. length laid.new.bits ≤ most_bits) }
 {
     match size_in(&field.size, names, laid.piece) {
-        Ok(size) => lay_sized(alloc, field, size, value, names.facts, laid),
+        Ok(size) => lay_sized(alloc, field, size, value, names, laid),
         Err(stop) => Err(stop),
     }
 }
@@ -45,15 +49,15 @@ fn lay_sized(
     field: &TextField,
     size: Option<i32>,
     value: Option<&Tree>,
-    facts: &Facts,
+    names: &NamesEnv<'_>,
     laid: &mut Laid,
 ) -> Result<(), Stop<LayFault>>
     requires short { length laid.old.bits ≤ most_bits }
-    ensures laid { Lays (sized_put facts.now (draft_of laid.old) (plain_text field.now) size (option_map (λ v. v.now) value.entry)) result (draft_of laid.new) }
+    ensures laid { Lays (sized_put names.now.facts.now (known names.now.counts.now) (draft_of laid.old) (plain_text field.now) size (option_map (λ v. v.now) value.entry)) result (draft_of laid.new) }
     ensures short { IfOk result (λ _. length laid.new.bits ≤ most_bits) }
 {
     match &field.fixed {
-        Some(parts) => match fixed_bytes(alloc, parts, facts, laid.piece) {
+        Some(parts) => match fixed_bytes(alloc, parts, names, laid.piece) {
             Ok(bytes) => put_text(field.form, size, bytes.as_slice(), laid),
             Err(stop) => Err(stop),
         },
@@ -78,16 +82,32 @@ fn size_in(
     }
 }
 
-/// The bytes of the fixed parts of a text.
+/// The bytes of the fixed parts of a text, with the numbers of rows in their formats. The numbers of all formats are
+/// computed before a format is filled.
 fn fixed_bytes(
     alloc: Global,
     parts: &Texts,
-    facts: &Facts,
+    names: &NamesEnv<'_>,
     piece: u64,
 ) -> Result<Bytes, Stop<LayFault>>
-    ensures { GivesLaid (fixed_bytes piece facts.now (plain_parts parts.now)) result }
+    ensures { GivesLaid (fixed_bytes piece names.now.facts.now (known names.now.counts.now) (plain_parts parts.now)) result }
 {
-    match text_of(alloc, parts, Mark { file: 0, line: 0 }, facts) {
+    match unvalued_in(parts, names, piece) {
+        Some(fault) => Err(Stop::Refused(fault)),
+        None => joined_bytes(alloc, parts, names, piece),
+    }
+}
+
+/// The bytes of parts, or their first fault.
+fn joined_bytes(
+    alloc: Global,
+    parts: &Texts,
+    names: &NamesEnv<'_>,
+    piece: u64,
+) -> Result<Bytes, Stop<LayFault>>
+    ensures { GivesLaid (joined piece (bytes_seen nowhere names.now.facts.now (names_sight names.now.facts.now (known names.now.counts.now)) (plain_parts parts.now))) result }
+{
+    match text_seen(alloc, parts, Mark { file: 0, line: 0 }, names.facts, names) {
         Ok(bytes) => Ok(bytes),
         Err(Stop::Refused(fault)) => {
             let value = match fault.kept {

@@ -1,10 +1,10 @@
 -- How many values one has.
 use Rattle.std.proofs.Common.{◌≡◌, ℕ, List, length, sym, ap, ◌∙◌}
-use Rattle.rz_fields.specs.declared.tree.Tree.TheFolds.{fold-roll-Tree}
-use Rattle.rz_fields.specs.declared.tree.Tree.TheOpen.{Tree-F}
-use Rattle.rz_fields.specs.declared.tree.Tree.TheVariants as trees
-use Rattle.rz_fields.specs.declared.tree.Tree.TheVariants.{rolls-Group, rolls-Number, rolls-Text}
-use Rattle.rz_fields.specs.Spells.{count_in, count_step}
+use Rattle.rz_rows.specs.declared.tree.Tree.TheFolds.{fold-roll-Tree}
+use Rattle.rz_rows.specs.declared.tree.Tree.TheOpen.{Tree-F}
+use Rattle.rz_rows.specs.declared.tree.Tree.TheVariants as trees
+use Rattle.rz_rows.specs.declared.tree.Tree.TheVariants.{rolls-Group, rolls-Number, rolls-Text}
+use Rattle.rz_rows.specs.Spells.{count_in, count_step}
 
 pub count_number : (n : ℕ) → count_in (trees.Number n) ≡ 1
 count_number n = ap count_in (sym (rolls-Number n)) ∙ fold-roll-Tree ℕ count_step (Tree-F.Number n)

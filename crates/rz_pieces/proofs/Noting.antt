@@ -14,7 +14,7 @@ use Rattle.rz_expr.specs.Environment.{count_key, place_key, place_of, predefined
 use Rattle.rz_expr.proofs.Cases.{same_value}
 use Rattle.rz_fields.specs.Field.{field_and, no_fields, plain_body, Align, Array, Fill, Number, PlainBody, PlainField, Points, Switch, Text}
 use Rattle.rz_fields.specs.Solve.{is_same_key}
-use Rattle.rz_fields.specs.Spells.{counts_rows, declares, gives_count, gives_key, outside}
+use Rattle.rz_fields.specs.Passed.{counts_rows, declares, gives_count, gives_key, outside}
 use Rattle.rz_pieces.specs.Pieces.{also, solve_key, stated_in}
 use Rattle.rz_pieces.specs.Names.{known, noted, noting, Grew}
 use Rattle.rz_pieces.specs.declared.names.Note.{Note}

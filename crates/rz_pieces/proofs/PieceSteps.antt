@@ -15,11 +15,12 @@ use Rattle.rz_fields.specs.declared.field.NumForm.{NumForm}
 use Rattle.rz_fields.specs.Solve.{solved_count}
 use Rattle.rz_fields.specs.Value.{is_fixed_expression, names_sight}
 use Rattle.rz_expr.specs.declared.expr.Expr.{Expr}
-use Rattle.rz_fields.specs.declared.tree.Tree.{Tree}
-use Rattle.rz_fields.specs.declared.tree.Tree.TheVariants as trees
 use Rattle.rz_fields.specs.Field.{Align, Fill, Number, PlainBody, PlainNumber, PlainText, Text}
 use Rattle.rz_fields.specs.Shape.{numbers_of}
-use Rattle.rz_fields.specs.Spells.{fixed_integer, free_integer, put}
+use Rattle.rz_fields.specs.Piece.{fixed_integer, free_integer}
+use Rattle.rz_rows.specs.declared.tree.Tree.{Tree}
+use Rattle.rz_rows.specs.declared.tree.Tree.TheVariants as trees
+use Rattle.rz_rows.specs.Spells.{put}
 use Rattle.rz_pieces.specs.Pieces.{field_of_pieces, first_of_row, grouped, is_stored, number_of_value, solve_all, number_step, numbers_of_values, piece_step, pieces_found, text_step, with_value, zeros_step, Found, Step}
 use Rattle.rz_pieces.specs.Points.{behind_numbers, fixed_read, group_read}
 

@@ -1,7 +1,7 @@
 -- What is read with at most so many values.
 use Rattle.std.specs.Prelude.{ℕ, nat_le, if◌then◌else◌, Option, Some, None}
-use Rattle.rz_fields.specs.declared.tree.Tree.{Tree}
-use Rattle.rz_fields.specs.Spells.{count_in}
+use Rattle.rz_rows.specs.declared.tree.Tree.{Tree}
+use Rattle.rz_rows.specs.Spells.{count_in}
 use Rattle.rz_pieces.specs.Pieces.{Step}
 
 -- what is found, where it counts no more than that

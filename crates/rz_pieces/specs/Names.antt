@@ -3,7 +3,7 @@ use Rattle.std.specs.Prelude.{◌≡◌, ℤ, pos, Bool, true, false, if◌then�
 use Rattle.rz_expr.specs.Environment.{count_key, Environment, Key}
 use Rattle.rz_fields.specs.Field.{plain_body, Array, PlainField}
 use Rattle.rz_fields.specs.Solve.{is_same_key}
-use Rattle.rz_fields.specs.Spells.{counts_rows, declares, outside}
+use Rattle.rz_fields.specs.Passed.{counts_rows, declares, outside}
 use Rattle.rz_pieces.specs.Pieces.{stated_in, stated_value}
 use Rattle.rz_pieces.specs.declared.names.Note.{Note}
 use Rattle.rz_pieces.specs.declared.names.Note.TheVariants.{Counted, Entered, Told}

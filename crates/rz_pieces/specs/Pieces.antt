@@ -7,7 +7,7 @@ use Rattle.std.specs.declared.result.Result.{Result}
 use Rattle.rz_core.specs.Lists.{or_else}
 use Rattle.rz_core.specs.declared.facts.Facts.{Facts}
 use Rattle.rz_core.specs.declared.resource.Word.{Word}
-use Rattle.rz_expr.specs.Environment.{count_key, place_key, Environment, Key}
+use Rattle.rz_expr.specs.Environment.{count_key, place_key, Environment, Key, Sight}
 use Rattle.rz_expr.specs.Term.{BitsAt, Constant, FactOf, Named, OfOne, OfTwo, RowsOf, Term}
 use Rattle.rz_expr.specs.Value.{value_of}
 use Rattle.rz_expr.specs.declared.value.EvalFault.{EvalFault}
@@ -15,16 +15,18 @@ use Rattle.rz_bits.specs.BitBuf.{missing}
 use Rattle.rz_fields.specs.declared.field.NumForm.{NumForm}
 use Rattle.rz_fields.specs.declared.field.TextForm.{TextForm}
 use Rattle.rz_fields.specs.declared.field.TextForm.TheVariants as texts
-use Rattle.rz_fields.specs.declared.tree.Tree.{out-Tree, Tree}
-use Rattle.rz_fields.specs.declared.tree.Tree.TheOpen.{Tree-F}
-use Rattle.rz_fields.specs.declared.tree.Tree.TheVariants as trees
 use Rattle.rz_fields.specs.Field.{field_and, no_fields, Array, Number, PlainBody, PlainField, PlainText, Points, Text}
 use Rattle.rz_fields.specs.Range.{fits_number, may_be_size}
 use Rattle.rz_fields.specs.Solve.{is_same_key, solved_count}
-use Rattle.rz_fields.specs.Spells.{declares, nowhere, gives_count, pieces_of, put, sees, states_count, Filler, OneNumber, OneText, Piece, Zeros}
+use Rattle.rz_fields.specs.Passed.{declares, gives_count, states_count}
+use Rattle.rz_fields.specs.Piece.{pieces_of, Filler, OneNumber, OneText, Piece, Zeros}
 use Rattle.rz_fields.specs.Stored.{stored_number, stored_text}
-use Rattle.rz_fields.specs.Text.{bytes_of as text_bytes_of, PlainPart}
+use Rattle.rz_fields.specs.Text.{bytes_seen, PlainPart}
 use Rattle.rz_fields.specs.Width.{fixed_widths, sized_bytes}
+use Rattle.rz_rows.specs.declared.tree.Tree.{out-Tree, Tree}
+use Rattle.rz_rows.specs.declared.tree.Tree.TheOpen.{Tree-F}
+use Rattle.rz_rows.specs.declared.tree.Tree.TheVariants as trees
+use Rattle.rz_rows.specs.Spells.{nowhere, put, sees}
 use Rattle.rz_bits.specs.View.{bytes_at, number_at}
 
 -- What is known.
@@ -112,10 +114,10 @@ stored_size all rest texts.WordLong None at = option_map (λ n. 2 + n) (number_a
 stored_size all rest texts.Zero None at =
     option_and_then (λ bytes. option_map (λ front. length front + 1) (up_to_zero bytes)) (bytes_at all at ((length all - at) / 8))
 
--- how many bytes the stored form of a text has: that of its fixed parts, or what stands here
-abbrev pub text_size : Facts → List Bool → PlainBody → TextForm → Option ℕ → Option (List PlainPart) → ℕ → Option ℕ
-text_size known all rest form size None at = stored_size all rest form size at
-text_size known all rest form size (Some parts) at = option_map (λ bytes. length (stored_text form size bytes)) (result_ok (text_bytes_of nowhere known parts))
+-- how many bytes the stored form of a text has: that of its fixed parts, where expressions see so much, or what stands here
+abbrev pub text_size : Facts → Sight → List Bool → PlainBody → TextForm → Option ℕ → Option (List PlainPart) → ℕ → Option ℕ
+text_size known sight all rest form size None at = stored_size all rest form size at
+text_size known sight all rest form size (Some parts) at = option_map (λ bytes. length (stored_text form size bytes)) (result_ok (bytes_seen nowhere known sight parts))
 
 abbrev pub two_byte_size : List ℕ → ℕ
 two_byte_size (high ∷ low ∷ bytes) = high * 256 + low
@@ -156,17 +158,17 @@ abbrev pub fixed_read : {E : Type 0} → Result (List ℕ) E → Option (Option 
 fixed_read (Err fault) = None
 fixed_read (Ok bytes) = Some (None, map (λ byte. byte % 256) bytes)
 
-abbrev pub text_read : Facts → TextForm → Option ℕ → Option (List PlainPart) → List ℕ → Option (Option Tree × List ℕ)
-text_read known form size None raw = Some (Some (trees.Text (plain_text form size raw)), plain_text form size raw)
-text_read known form size (Some parts) raw = fixed_read (text_bytes_of nowhere known parts)
+abbrev pub text_read : Facts → Sight → TextForm → Option ℕ → Option (List PlainPart) → List ℕ → Option (Option Tree × List ℕ)
+text_read known sight form size None raw = Some (Some (trees.Text (plain_text form size raw)), plain_text form size raw)
+text_read known sight form size (Some parts) raw = fixed_read (bytes_seen nowhere known sight parts)
 
 abbrev pub text_step : Facts → List Bool → PlainBody → PlainText → Environment → ℕ → Option Step
 text_step known all rest text names at =
     option_and_then (λ size. option_and_then (λ count. option_and_then (λ raw. option_and_then (λ found.
     if same_bytes (stored_text text.form size found.1) raw then Some (record { value = found.0; after = at + 8 * count; names = names }) else None)
-    (text_read known text.form size text.fixed raw))
+    (text_read known (sees known all names at) text.form size text.fixed raw))
     (bytes_at all at count))
-    (text_size known all rest text.form size text.fixed at))
+    (text_size known (sees known all names at) all rest text.form size text.fixed at))
     (size_read known all text.form text.size names at)
 
 -- Zero bits.

@@ -3,9 +3,9 @@ use Rattle.std.specs.Prelude.{ℕ, Bool, List, ◌++◌, map, replicate, Option,
 use Rattle.rz_core.specs.declared.facts.Facts.{Facts}
 use Rattle.rz_expr.specs.Environment.{Environment}
 use Rattle.rz_expr.specs.Term.{Term}
-use Rattle.rz_fields.specs.declared.tree.Tree.TheVariants as trees
 use Rattle.rz_fields.specs.Field.{PlainBody}
-use Rattle.rz_fields.specs.Spells.{fixed_integer, free_integer}
+use Rattle.rz_fields.specs.Piece.{fixed_integer, free_integer}
+use Rattle.rz_rows.specs.declared.tree.Tree.TheVariants as trees
 use Rattle.rz_pieces.specs.Pieces.{grouped, pieces_found, Found, Step}
 
 -- so many numbers of the row, as one value

@@ -1,7 +1,7 @@
 ghost use Rattle.std.specs.Prelude.{◌≡◌};
 ghost use Rattle.rz_pieces.specs.Few.{value_count};
 
-use rz_fields::Tree;
+use rz_rows::Tree;
 
 /// What stands at a piece or at a field without fields within it.
 #[derive(Debug, Drop)]

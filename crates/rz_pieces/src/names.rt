@@ -4,7 +4,7 @@ ghost use Rattle.rz_expr.specs.Environment.{count_key};
 ghost use Rattle.rz_expr.specs.Value.{reduced};
 ghost use Rattle.rz_fields.specs.Field.{plain_body, plain_field};
 ghost use Rattle.rz_fields.specs.Solve.{is_same_key};
-ghost use Rattle.rz_fields.specs.Spells.{counts_rows, declares, gives_count, gives_key};
+ghost use Rattle.rz_fields.specs.Passed.{counts_rows, declares, gives_count, gives_key};
 ghost use Rattle.rz_fields.specs.Value.{names_sight};
 ghost use Rattle.rz_pieces.specs.Pieces.{claim_count, names_inside, stated_in, stated_value};
 ghost use Rattle.rz_pieces.specs.Names.{known, noting, stated_by, told, Grew};

@@ -16,7 +16,8 @@ use crate::solve::solve_all;
 use rz_bits::BitView;
 use rz_core::{Facts, NoMemory};
 use rz_expr::{Expr, value_in};
-use rz_fields::{NumField, NumForm, Tree, fits_number, stored_number};
+use rz_fields::{NumField, NumForm, fits_number, stored_number};
+use rz_rows::Tree;
 
 /// Reads a number: its bits are the value of the row, or are as its expression is stored, which tells the names that
 /// aren't known. `Ok(None)` where they aren't there or aren't stored so.

@@ -5,7 +5,7 @@ ghost use Rattle.rz_expr.specs.Environment.{Environment};
 ghost use Rattle.rz_expr.specs.Term.{term_of};
 ghost use Rattle.rz_fields.specs.Field.{plain_body, plain_points, Points};
 ghost use Rattle.rz_fields.specs.Shape.{numbers_of};
-ghost use Rattle.rz_fields.specs.Spells.{fixed_integer};
+ghost use Rattle.rz_fields.specs.Piece.{fixed_integer};
 ghost use Rattle.rz_fields.specs.Value.{is_fixed_expression};
 ghost use Rattle.rz_pieces.specs.Came.{step_in, step_of};
 ghost use Rattle.rz_pieces.specs.Pieces.{field_of_pieces};
@@ -19,7 +19,8 @@ use crate::number::read_fixed;
 use rz_bits::BitView;
 use rz_core::{Facts, NoMemory};
 use rz_expr::Expr;
-use rz_fields::{Field, NumForm, Numbers, PointField, Tree};
+use rz_fields::{Field, NumForm, PointField};
+use rz_rows::{Numbers, Tree};
 use std::alloc::Global;
 
 /// Reads a point or a rectangle: two or four numbers of 16 bits.

@@ -4,9 +4,10 @@ ghost use Rattle.rz_expr.specs.Environment.{Environment};
 ghost use Rattle.rz_expr.specs.Term.{term_of};
 ghost use Rattle.std.specs.Result.{result_ok};
 ghost use Rattle.rz_fields.specs.Field.{plain_body, plain_text as plain_field_text};
-ghost use Rattle.rz_fields.specs.Spells.{nowhere};
 ghost use Rattle.rz_fields.specs.Stored.{stored_text};
-ghost use Rattle.rz_fields.specs.Text.{bytes_of, plain_parts};
+ghost use Rattle.rz_fields.specs.Text.{bytes_seen, plain_parts};
+ghost use Rattle.rz_fields.specs.Value.{names_sight};
+ghost use Rattle.rz_rows.specs.Spells.{nowhere};
 ghost use Rattle.rz_pieces.specs.Came.{step_in};
 ghost use Rattle.rz_pieces.specs.Pieces.{bytes_left, size_read, stored_size, text_size, text_step, up_to_zero};
 ghost use Rattle.rz_pieces.specs.Names.{known};
@@ -17,11 +18,12 @@ use crate::names::NamesEnv;
 use crate::plain::plain_text;
 use crate::stored::{is_stored_fixed, is_stored_text, stored_length};
 use rz_bits::BitView;
-use rz_core::{Bytes, Facts, Mark, NoMemory, Stop};
+use rz_core::{Bytes, Mark, NoMemory, Stop};
 use rz_expr::{Expr, value_in};
 use rz_fields::{
-    Field, TextField, TextForm, Texts, Tree, fixed_widths, may_be_size, sized_bytes, text_of,
+    Field, TextField, TextForm, Texts, fixed_widths, may_be_size, sized_bytes, text_seen,
 };
+use rz_rows::Tree;
 use std::alloc::Global;
 
 /// Reads a text: its bytes are the value of the row, or those of its fixed parts. `Ok(None)` where they aren't there
@@ -40,7 +42,7 @@ pub fn read_text(
     ensures within { IfOk result (λ came. IfSome came (λ c. c.after ≤ length (seen view.now))) }
 {
     match size_in(view, &field.size, field.form, names, at) {
-        Some(size) => match text_size(alloc, view, rest, field, size, names.facts, at)? {
+        Some(size) => match text_size(alloc, view, rest, field, size, names, at)? {
             Some(count) => read_sized(alloc, view, field, size, count, names, at),
             None => Ok(None),
         },
@@ -80,15 +82,15 @@ fn text_size(
     rest: &[Field],
     field: &TextField,
     size: Option<u32>,
-    facts: &Facts,
+    names: &NamesEnv<'_>,
     at: u32,
 ) -> Result<Option<u64>, NoMemory>
     requires { at ≤ length (seen view.now) }
     ensures { IfOk result (λ count. count
-        ≡ text_size facts.now (seen view.now) (plain_body rest.now) field.now.form size (plain_field_text field.now).fixed at) }
+        ≡ text_size names.now.facts.now (names_sight names.now.facts.now (known names.now.notes.now)) (seen view.now) (plain_body rest.now) field.now.form size (plain_field_text field.now).fixed at) }
 {
     match &field.fixed {
-        Some(parts) => fixed_size(alloc, field.form, size, parts, facts),
+        Some(parts) => fixed_size(alloc, field.form, size, parts, names),
         None => Ok(stored_size(view, rest, field.form, size, at)),
     }
 }
@@ -99,12 +101,12 @@ fn fixed_size(
     form: TextForm,
     size: Option<u32>,
     parts: &Texts,
-    facts: &Facts,
+    names: &NamesEnv<'_>,
 ) -> Result<Option<u64>, NoMemory>
     ensures { IfOk result (λ count. count
-        ≡ option_map (λ bytes. length (stored_text form size bytes)) (result_ok (bytes_of nowhere facts.now (plain_parts parts.now)))) }
+        ≡ option_map (λ bytes. length (stored_text form size bytes)) (result_ok (bytes_seen nowhere names.now.facts.now (names_sight names.now.facts.now (known names.now.notes.now)) (plain_parts parts.now)))) }
 {
-    match fixed_bytes(alloc, parts, facts)? {
+    match fixed_bytes(alloc, parts, names)? {
         Some(bytes) => Ok(Some(stored_length(form, size, bytes.as_slice()))),
         None => Ok(None),
     }
@@ -213,11 +215,11 @@ fn read_raw(
     after: u32,
 ) -> Result<Option<Came>, NoMemory>
     ensures step { IfOk result (λ came. option_map (step_in (known names.now.notes.now)) came
-        ≡ raw_step names.now.facts.now (plain_field_text field.now) size after (known names.now.notes.now) raw.now) }
+        ≡ raw_step names.now.facts.now (names_sight names.now.facts.now (known names.now.notes.now)) (plain_field_text field.now) size after (known names.now.notes.now) raw.now) }
     ensures after { IfOk result (λ came. IfSome came (λ c. c.after ≡ after)) }
 {
     match &field.fixed {
-        Some(parts) => match fixed_bytes(alloc, parts, names.facts)? {
+        Some(parts) => match fixed_bytes(alloc, parts, names)? {
             Some(bytes) => {
                 if is_stored_fixed(field.form, size, bytes.as_slice(), raw) {
                     Ok(Some(Came {
@@ -247,11 +249,15 @@ fn read_raw(
     }
 }
 
-/// The bytes of the fixed parts of a text.
-fn fixed_bytes(alloc: Global, parts: &Texts, facts: &Facts) -> Result<Option<Bytes>, NoMemory>
-    ensures { IfOk result (λ bytes. bytes ≡ result_ok (bytes_of nowhere facts.now (plain_parts parts.now))) }
+/// The bytes of the fixed parts of a text, with the numbers of rows in their formats.
+fn fixed_bytes(
+    alloc: Global,
+    parts: &Texts,
+    names: &NamesEnv<'_>,
+) -> Result<Option<Bytes>, NoMemory>
+    ensures { IfOk result (λ bytes. bytes ≡ result_ok (bytes_seen nowhere names.now.facts.now (names_sight names.now.facts.now (known names.now.notes.now)) (plain_parts parts.now))) }
 {
-    match text_of(alloc, parts, Mark { file: 0, line: 0 }, facts) {
+    match text_seen(alloc, parts, Mark { file: 0, line: 0 }, names.facts, names) {
         Ok(bytes) => Ok(Some(bytes)),
         Err(Stop::Refused(_)) => Ok(None),
         Err(Stop::NoMemory) => Err(NoMemory),

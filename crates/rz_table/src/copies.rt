@@ -1,14 +1,14 @@
 ghost use Rattle.std.specs.Prelude.{◌≡◌, IfOk, map, option_map};
 ghost use Rattle.rz_expr.specs.Term.{term_of};
 ghost use Rattle.rz_fields.specs.Field.{plain_array, plain_body, plain_case, plain_cases, plain_field, plain_number, plain_points, plain_text};
-ghost use Rattle.rz_fields.specs.Text.{plain_part, plain_parts};
+ghost use Rattle.rz_fields.specs.Text.{plain_argument, plain_arguments, plain_key, plain_part, plain_parts};
 ghost use Rattle.rz_types.specs.Template.{template_of};
 
 use rz_core::{Bytes, NoMemory, Word};
 use rz_expr::{Expr, copy};
 use rz_fields::{
-    ArrayField, Body, Case, Cases, Exprs, Field, NumField, PointField, Symbol, Symbols, TextField,
-    TextPart, Texts,
+    ArrayField, Body, Case, Cases, Exprs, Field, FormatArg, FormatArgs, NumField, PointField,
+    ResKey, Symbol, Symbols, TextField, TextPart, Texts,
 };
 use rz_types::{Template, is_readable};
 use std::alloc::Global;
@@ -166,6 +166,7 @@ fn copy_fixed_text(alloc: Global, text: &Option<Texts>) -> Result<Option<Texts>,
     }
 }
 
+#[cycle(parts)]
 fn copy_parts(alloc: Global, parts: &Texts) -> Result<Texts, NoMemory>
     ensures { IfOk result (λ copies. plain_parts copies ≡ plain_parts parts.now) }
 {
@@ -176,6 +177,7 @@ fn copy_parts(alloc: Global, parts: &Texts) -> Result<Texts, NoMemory>
     Ok(copies)
 }
 
+#[cycle(parts)]
 fn copy_part(alloc: Global, part: &TextPart) -> Result<TextPart, NoMemory>
     ensures { IfOk result (λ copy. plain_part copy ≡ plain_part part.now) }
 {
@@ -185,6 +187,48 @@ fn copy_part(alloc: Global, part: &TextPart) -> Result<TextPart, NoMemory>
         TextPart::DateFact => Ok(TextPart::DateFact),
         TextPart::TimeFact => Ok(TextPart::TimeFact),
         TextPart::VersionFact => Ok(TextPart::VersionFact),
+        TextPart::FileBytes(file) => Ok(TextPart::FileBytes(Bytes::of(alloc, file.as_slice())?)),
+        TextPart::FileResource(file, kind, key) => {
+            let file = Bytes::of(alloc, file.as_slice())?;
+            let key = copy_key(alloc, key)?;
+            Ok(TextPart::FileResource(file, *kind, key))
+        }
+        TextPart::Format(text, arguments) => {
+            let text = Bytes::of(alloc, text.as_slice())?;
+            let arguments = copy_arguments(alloc, arguments)?;
+            Ok(TextPart::Format(text, arguments))
+        }
+    }
+}
+
+#[cycle(parts)]
+fn copy_key(alloc: Global, key: &ResKey) -> Result<ResKey, NoMemory>
+    ensures { IfOk result (λ made. plain_key made ≡ plain_key key.now) }
+{
+    match key {
+        ResKey::Id(expr) => Ok(ResKey::Id(copy(alloc, expr)?)),
+        ResKey::Name(parts) => Ok(ResKey::Name(copy_parts(alloc, parts)?)),
+    }
+}
+
+#[cycle(parts)]
+fn copy_arguments(alloc: Global, arguments: &FormatArgs) -> Result<FormatArgs, NoMemory>
+    ensures { IfOk result (λ copies. plain_arguments copies ≡ plain_arguments arguments.now) }
+{
+    let mut copies = FormatArgs::new(alloc);
+    for argument in arguments.as_slice() {
+        copies.push(copy_argument(alloc, argument)?)?;
+    }
+    Ok(copies)
+}
+
+#[cycle(parts)]
+fn copy_argument(alloc: Global, argument: &FormatArg) -> Result<FormatArg, NoMemory>
+    ensures { IfOk result (λ made. plain_argument made ≡ plain_argument argument.now) }
+{
+    match argument {
+        FormatArg::Number(expr) => Ok(FormatArg::Number(copy(alloc, expr)?)),
+        FormatArg::Text(parts) => Ok(FormatArg::Text(copy_parts(alloc, parts)?)),
     }
 }
 

@@ -1,5 +1,5 @@
 -- Which declarations can be read, and what numbers tell of counts: examples that compute.
-use Rattle.std.proofs.Common.{◌≡◌, refl, ℕ, pos, List, [], Option, Some, None, true, false}
+use Rattle.std.proofs.Common.{◌≡◌, refl, ℕ, pos, List, [], ◌∷◌, Option, Some, None, true, false}
 use Rattle.std.specs.Prelude.{codes}
 use Rattle.rz_expr.specs.Environment.{count_key}
 use Rattle.rz_expr.specs.Constant.{constant_sight}
@@ -7,6 +7,7 @@ use Rattle.rz_expr.specs.Term.{Constant, OfTwo, RowsOf, Term}
 use Rattle.rz_expr.specs.declared.expr.BinaryOp.TheVariants as two
 use Rattle.rz_fields.specs.Field.{field_and, no_fields, Align, Array, Number, PlainField, Text}
 use Rattle.rz_fields.specs.Solve.{solved_count}
+use Rattle.rz_fields.specs.Text as parts
 use Rattle.rz_fields.specs.declared.field.NumForm.TheVariants as forms
 use Rattle.rz_fields.specs.declared.field.Radix.TheVariants as radixes
 use Rattle.rz_fields.specs.declared.field.TextForm.TheVariants as texts
@@ -56,3 +57,15 @@ inside = refl
 
 outer_count : is_readable (field_and (named (codes "a") (number (Some (RowsOf (codes "a"))))) no_fields) ≡ false
 outer_count = refl
+
+abbrev counting : List ℕ → PlainField
+counting name = Text (record { form = texts.Pascal; hex = false; size = None; fixed = Some (parts.Format (codes "%d") (parts.argument_and (parts.Number (RowsOf name)) parts.no_arguments) ∷ []) })
+
+format_before : is_readable (field_and (counting (codes "a")) (field_and (number (Some (RowsOf (codes "a")))) (field_and (named (codes "a") pstring) no_fields))) ≡ false
+format_before = refl
+
+format_told : is_readable (field_and (number (Some (RowsOf (codes "a")))) (field_and (counting (codes "A")) (field_and (named (codes "a") pstring) no_fields))) ≡ true
+format_told = refl
+
+format_behind : is_readable (field_and (number (Some (RowsOf (codes "a")))) (field_and (named (codes "a") pstring) (field_and (counting (codes "a")) no_fields))) ≡ true
+format_behind = refl

@@ -1,14 +1,14 @@
 pub mod Arithmetic
 pub mod Firsts
-pub mod Stepping
-pub mod Walking
-pub mod Walks
 pub mod Broken
 pub mod Differing
 pub mod Keeping
+pub mod SameNames
 pub mod Unknown
 pub mod SameKnown
 pub mod Noted
 pub mod LeastWidths
 mod Examples
 pub mod Apart
+pub mod Parts
+pub mod Texts

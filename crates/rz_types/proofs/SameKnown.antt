@@ -1,15 +1,15 @@
 -- Whether fields can be read depends on which names are known, and on nothing else of what was passed.
 use Rattle.std.proofs.Common.{◌≡◌, Bool, true, false, ◌&&◌, ◌||◌, List, [], ◌∷◌, Option, Some, None, ℤ, refl, sym, ap, ◌∙◌}
 use Rattle.std.specs.Prelude.{not, if◌then◌else◌, nat_le}
+use Rattle.std.specs.List.{list_all}
 use Rattle.rz_core.specs.declared.resource.Word.{Word}
 use Rattle.rz_expr.specs.Environment.{count_key, Key}
 use Rattle.rz_expr.specs.Term.{Term}
-use Rattle.rz_fields.specs.Field.{case_and, field_and, no_cases, no_fields, Align, Array, Fill, Number, PlainBody, PlainCases, PlainField, Points, Switch, Text}
+use Rattle.rz_fields.specs.Field.{case_and, field_and, no_cases, no_fields, Align, Array, Fill, Number, PlainBody, PlainCases, PlainField, PlainText, Points, Switch, Text}
 use Rattle.rz_fields.specs.Solve.{has_key}
-use Rattle.rz_fields.specs.Spells.{at_front, behind, behind_piece, behind_pieces, declares, gives_key, is_known, pieces_of, states, told_by, Filler, Names, OneNumber, OneText, Passed, Piece, Zeros}
-use Rattle.rz_fields.specs.declared.field.TextForm.{TextForm}
-use Rattle.rz_fields.specs.declared.field.TextForm.TheVariants as texts
-use Rattle.rz_types.specs.Readable.{all_known, are_cases_read, are_pieces_read, are_read, ends_at_end, is_count_known, is_number_read, is_piece_read, is_read, is_text_read, least_widths, rows_end, tells_one}
+use Rattle.rz_fields.specs.Passed.{at_front, behind, behind_piece, behind_pieces, declares, gives_key, is_known, states, told_by, Names, Passed}
+use Rattle.rz_fields.specs.Piece.{pieces_of, terms_of_text, Filler, OneNumber, OneText, Piece, Zeros}
+use Rattle.rz_types.specs.Readable.{all_known, are_cases_read, are_pieces_read, are_read, ends_at_end, is_count_known, is_number_read, is_piece_read, is_read, is_text_read, least_widths, rows_end, tells_one, text_ends}
 
 -- the same names are known
 abbrev pub Same : Passed → Passed → Type 0
@@ -78,21 +78,15 @@ same_number : (rest : PlainBody) (value : Option Term) (one other : Passed) → 
 same_number rest None one other same = refl
 same_number rest (Some term) one other same = ap (λ (known : Names). all_known known term || tells_one rest known term term) (as_one one other same)
 
-same_text : (outermost : Bool) (rest : PlainBody) (form : TextForm) (size : Option Term) (one other : Passed) → Same one other
-    → is_text_read outermost rest one form size ≡ is_text_read outermost rest other form size
-same_text outermost rest texts.Open None one other same = refl
-same_text outermost rest texts.Pascal None one other same = refl
-same_text outermost rest texts.WordLong None one other same = refl
-same_text outermost rest texts.Zero None one other same = refl
-same_text outermost rest texts.Open (Some size) one other same = ap (λ (known : Names). all_known known size) (as_one one other same)
-same_text outermost rest texts.Pascal (Some size) one other same = ap (λ (known : Names). all_known known size) (as_one one other same)
-same_text outermost rest texts.WordLong (Some size) one other same = ap (λ (known : Names). all_known known size) (as_one one other same)
-same_text outermost rest texts.Zero (Some size) one other same = ap (λ (known : Names). all_known known size) (as_one one other same)
+same_text : (outermost : Bool) (rest : PlainBody) (text : PlainText) (one other : Passed) → Same one other
+    → is_text_read outermost rest one text ≡ is_text_read outermost rest other text
+same_text outermost rest text one other same =
+    ap (λ (known : Names). text_ends outermost rest text.form text.size && list_all (all_known known) (terms_of_text text)) (as_one one other same)
 
 same_piece : (outermost : Bool) (rest : PlainBody) (piece : Piece) (one other : Passed) → Same one other
     → is_piece_read outermost rest one piece ≡ is_piece_read outermost rest other piece
 same_piece outermost rest (OneNumber number) one other same = same_number rest number.fixed one other same
-same_piece outermost rest (OneText text) one other same = same_text outermost rest text.form text.size one other same
+same_piece outermost rest (OneText text) one other same = same_text outermost rest text one other same
 same_piece outermost rest (Zeros count) one other same = refl
 same_piece outermost rest (Filler unit) one other same = refl
 

@@ -1,14 +1,16 @@
 -- Which declarations can be read: those by which the bytes of a resource say where each field ends, and how many rows each
 -- array has. (Inside Macintosh: More Macintosh Toolbox, Resource Manager; MPW Rez.)
 use Rattle.std.specs.Prelude.{ℕ, ◌+◌, ◌*◌, min, ℤ, nat_abs, nat_le, Bool, true, false, ◌&&◌, ◌||◌, List, [], ◌∷◌, Option, Some, None}
+use Rattle.std.specs.List.{list_all}
 use Rattle.std.specs.Option.{is_some, unwrap_or}
 use Rattle.rz_core.specs.declared.resource.Word.{Word}
 use Rattle.rz_expr.specs.Environment.{count_key, place_key, Key}
 use Rattle.rz_expr.specs.Term.{BitsAt, Constant, FactOf, Named, OfOne, OfTwo, RowsOf, Term}
-use Rattle.rz_fields.specs.Field.{case_and, field_and, no_cases, no_fields, Align, Array, Fill, Number, PlainBody, PlainCases, PlainField, Points, Switch, Text}
+use Rattle.rz_fields.specs.Field.{case_and, field_and, no_cases, no_fields, Align, Array, Fill, Number, PlainBody, PlainCases, PlainField, PlainText, Points, Switch, Text}
 use Rattle.rz_fields.specs.Shape.{numbers_of}
 use Rattle.rz_fields.specs.Solve.{can_solve, is_same_key}
-use Rattle.rz_fields.specs.Spells.{at_front, behind, behind_piece, declares, is_known, nothing_passed, pieces_of, Filler, Names, OneNumber, OneText, Passed, Piece, Zeros}
+use Rattle.rz_fields.specs.Passed.{at_front, behind, behind_piece, declares, is_known, nothing_passed, Names, Passed}
+use Rattle.rz_fields.specs.Piece.{pieces_of, terms_of_text, Filler, OneNumber, OneText, Piece, Zeros}
 use Rattle.rz_fields.specs.Width.{fixed_widths, text_width}
 use Rattle.rz_fields.specs.declared.field.TextForm.{TextForm}
 use Rattle.rz_fields.specs.declared.field.TextForm.TheVariants as texts
@@ -88,15 +90,18 @@ is_number_read rest passed (Some term) = all_known (is_known passed) term || tel
 abbrev pub ends_at_end : (outermost : Bool) → PlainBody → Bool
 ends_at_end outermost rest = outermost && is_some (fixed_widths rest)
 
--- a text ends by its own form, or a `string` by its size or at the end of the resource; the names of a size are known
-abbrev pub is_text_read : (outermost : Bool) → PlainBody → Passed → TextForm → Option Term → Bool
-is_text_read outermost rest passed texts.Open None = ends_at_end outermost rest
-is_text_read outermost rest passed form None = true
-is_text_read outermost rest passed form (Some size) = all_known (is_known passed) size
+-- a text ends by its own form, or a `string` by its size or at the end of the resource
+abbrev pub text_ends : (outermost : Bool) → PlainBody → TextForm → Option Term → Bool
+text_ends outermost rest texts.Open size = is_some size || ends_at_end outermost rest
+text_ends outermost rest form size = true
+
+-- all names of its size and of its formats are known
+abbrev pub is_text_read : (outermost : Bool) → PlainBody → Passed → PlainText → Bool
+is_text_read outermost rest passed text = text_ends outermost rest text.form text.size && list_all (all_known (is_known passed)) (terms_of_text text)
 
 abbrev pub is_piece_read : (outermost : Bool) → PlainBody → Passed → Piece → Bool
 is_piece_read outermost rest passed (OneNumber number) = is_number_read rest passed number.fixed
-is_piece_read outermost rest passed (OneText text) = is_text_read outermost rest passed text.form text.size
+is_piece_read outermost rest passed (OneText text) = is_text_read outermost rest passed text
 is_piece_read outermost rest passed (Zeros count) = true
 is_piece_read outermost rest passed (Filler unit) = true
 

@@ -9,9 +9,9 @@ use Rattle.rz_core.specs.declared.fault.Kept.TheVariants as kept
 use Rattle.rz_core.specs.declared.resource.Word.{Word}
 use Rattle.rz_expr.specs.Constant.{constant_of}
 use Rattle.rz_expr.specs.Term.{BitsAt, Constant, FactOf, Named, OfOne, OfTwo, RowsOf, Term}
-use Rattle.rz_fields.specs.Field.{case_and, field_and, no_cases, no_fields, Align, Array, Fill, Number, PlainBody, PlainCases, PlainField, Points, Switch, Text}
+use Rattle.rz_fields.specs.Field.{case_and, field_and, no_cases, no_fields, takes_value, Align, Array, Fill, Number, PlainBody, PlainCases, PlainField, Points, Switch, Text}
 use Rattle.rz_fields.specs.Range.{is_between, may_be_size}
-use Rattle.rz_fields.specs.Row.{takes_value}
+use Rattle.rz_fields.specs.Piece.{terms_of_text}
 use Rattle.rz_fields.specs.declared.field.NumForm.{NumForm}
 use Rattle.rz_fields.specs.declared.field.NumForm.TheVariants.{Bits}
 use Rattle.rz_fields.specs.declared.field.TextForm.{TextForm}
@@ -166,10 +166,10 @@ abbrev pub terms_in : Option (List Term) → List Term
 terms_in None = []
 terms_in (Some terms) = terms
 
--- the expressions of a field, as they are written
+-- the expressions of a field, as they are written: the size of a text stands before the formats in it
 abbrev pub expressions_of : PlainField → List Term
 expressions_of (Number number) = option_to_list number.fixed
-expressions_of (Text text) = option_to_list text.size
+expressions_of (Text text) = terms_of_text text
 expressions_of (Points points) = terms_in points.fixed
 expressions_of field = []
 

@@ -2,23 +2,25 @@ ghost use Rattle.std.specs.Prelude.{◌≡◌, ◌≤◌, ◌||◌, IfOk, OnOk, 
 ghost use Rattle.rz_expr.specs.Term.{term_of};
 ghost use Rattle.rz_fields.specs.Field.{plain_array, plain_body, plain_cases, plain_field, plain_points, plain_text, Points};
 ghost use Rattle.rz_fields.specs.Solve.{is_same_key};
-ghost use Rattle.rz_fields.specs.Spells.{at_front, behind, behind_pieces, fixed_integer, gives_count, is_known, told_by};
-ghost use Rattle.rz_fields.specs.NameKey.{key_of};
+ghost use Rattle.rz_fields.specs.Passed.{at_front, behind, behind_pieces, gives_count, is_known, told_by};
+ghost use Rattle.rz_fields.specs.Piece.{fixed_integer};
+ghost use Rattle.rz_types.specs.NameKey.{key_of};
 ghost use Rattle.rz_types.specs.Notes.{known, passed, Grew};
-ghost use Rattle.rz_types.specs.Readable.{are_cases_read, are_pieces_read, are_read, ends_at_end, is_count_known, is_number_read, is_read, is_readable, is_text_read, rows_end, tells};
+ghost use Rattle.rz_types.specs.Readable.{are_cases_read, are_pieces_read, are_read, ends_at_end, is_count_known, is_number_read, is_read, is_readable, is_text_read, rows_end, tells, text_ends};
 ghost use Rattle.rz_types.specs.Template.{template_of};
 
 use crate::least::least_widths;
-use crate::passed::{Note, all_known, first_unknown, is_known};
+use crate::name_key::{KeyRef, declares, standing_of};
+use crate::passed::{Note, all_known, all_known_in_text, first_unknown, is_known};
 use crate::{ArrayField, Case, Exprs, Field, PointField, Template, TextField, TextForm};
 use rz_core::{NoMemory, Word};
 use rz_expr::Expr;
-use rz_fields::{KeyRef, declares, fixed_widths, standing_of};
+use rz_fields::fixed_widths;
 use std::alloc::Global;
 
 /// Whether a resource of this declaration can be read: exactly where its bytes say where each field ends, and how many
 /// rows each array has. A number with a fixed value has no name that isn't known before it, or one that is the count of
-/// an array behind it in its body and that the value tells; then it is known from there on. The size of a text has known
+/// an array behind it in its body and that the value tells; then it is known from there on. A size and a format have known
 /// names only. A `string` without a size, and an array whose number of rows isn't known, stand outside of all rows and
 /// cases, with only fields of fixed width behind them: they end with the resource. Rows of an array without a stated
 /// count have one bit at least, and 8 where their number isn't known. (MPW Rez.)
@@ -196,14 +198,21 @@ fn ends_at_end(outermost: bool, rest: &[Field]) -> bool
 
 /// Whether a text can be read.
 fn is_text_read(outermost: bool, rest: &[Field], text: &TextField, notes: &[Note<'_>]) -> bool
-    ensures { result ≡ is_text_read outermost (plain_body rest.now) (passed notes.now) (plain_text text.now).form (plain_text text.now).size }
+    ensures { result ≡ is_text_read outermost (plain_body rest.now) (passed notes.now) (plain_text text.now) }
 {
-    match &text.size {
-        Some(size) => all_known(notes, size),
-        None => match text.form {
-            TextForm::Open => ends_at_end(outermost, rest),
-            TextForm::Pascal | TextForm::WordLong | TextForm::Zero => true,
+    text_ends(outermost, rest, text) && all_known_in_text(notes, text)
+}
+
+/// Whether it is told where a text ends.
+fn text_ends(outermost: bool, rest: &[Field], text: &TextField) -> bool
+    ensures { result ≡ text_ends outermost (plain_body rest.now) text.now.form (option_map term_of text.now.size) }
+{
+    match text.form {
+        TextForm::Open => match &text.size {
+            Some(_) => true,
+            None => ends_at_end(outermost, rest),
         },
+        TextForm::Pascal | TextForm::WordLong | TextForm::Zero => true,
     }
 }
 

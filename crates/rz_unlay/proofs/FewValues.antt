@@ -6,12 +6,12 @@ use Rattle.std.proofs.lemmas.Bool.Decides.{leb_tells}
 use Rattle.std.proofs.lemmas.List.{length-append, length-map}
 use Rattle.std.proofs.lemmas.List.Sums.{sum_by-cons, sum_by_push, sum-map}
 use Rattle.rz_core.specs.declared.resource.Word.{Word}
-use Rattle.rz_fields.specs.declared.tree.Tree.{Tree}
-use Rattle.rz_fields.specs.declared.tree.Tree.TheFolds.{fold-roll-Tree}
-use Rattle.rz_fields.specs.declared.tree.Tree.TheOpen.{Tree-F}
-use Rattle.rz_fields.specs.declared.tree.Tree.TheVariants as trees
-use Rattle.rz_fields.specs.declared.tree.Tree.TheVariants.{rolls-Choice, rolls-Rows}
-use Rattle.rz_types.specs.Spells.{count_in, count_step, put, values_in}
+use Rattle.rz_rows.specs.declared.tree.Tree.{Tree}
+use Rattle.rz_rows.specs.declared.tree.Tree.TheFolds.{fold-roll-Tree}
+use Rattle.rz_rows.specs.declared.tree.Tree.TheOpen.{Tree-F}
+use Rattle.rz_rows.specs.declared.tree.Tree.TheVariants as trees
+use Rattle.rz_rows.specs.declared.tree.Tree.TheVariants.{rolls-Choice, rolls-Rows}
+use Rattle.rz_rows.specs.Spells.{count_in, count_step, put, values_in}
 use Rattle.rz_pieces.specs.Pieces.{with_value, Found}
 use Rattle.rz_unlay.specs.Cursor.{Line, Lines}
 use Rattle.rz_unlay.specs.Rows.{pushed}

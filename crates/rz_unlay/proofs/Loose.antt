@@ -7,11 +7,13 @@ use Rattle.rz_expr.specs.Term.{Term}
 use Rattle.rz_bits.specs.Bits.{bits_of}
 use Rattle.rz_fields.specs.declared.field.NumForm.{NumForm}
 use Rattle.rz_fields.specs.declared.field.TextForm.{TextForm}
-use Rattle.rz_fields.specs.declared.tree.Tree.{Tree}
-use Rattle.rz_fields.specs.declared.tree.Tree.TheVariants as trees
+use Rattle.rz_rows.specs.declared.tree.Tree.{Tree}
+use Rattle.rz_rows.specs.declared.tree.Tree.TheVariants as trees
+use Rattle.rz_rows.specs.Row.{By}
+use Rattle.rz_rows.specs.Spells.{is_case, sees, values_for, AreBytes, BodySpells, CaseSpells, FieldSpells, Inside, InOrder, IsNumber, IsStored, IsText, Late, PieceSpells, PiecesSpell, RowsSpell, Spells}
 use Rattle.rz_types.specs.Field.{case_and, field_and, no_cases, no_fields, Align, Array, Fill, Number, PlainBody, PlainCases, PlainField, PlainText, Points, Switch, Text}
-use Rattle.rz_types.specs.Row.{By}
-use Rattle.rz_types.specs.Spells.{at_front, behind, behind_piece, is_case, nothing_passed, pieces_of, sees, values_for, AreBytes, BodySpells, CaseSpells, FieldSpells, Filler, Inside, InOrder, IsNumber, IsStored, IsText, Late, OneNumber, OneText, Passed, Piece, PieceSpells, PiecesSpell, RowsSpell, Spells, Zeros}
+use Rattle.rz_types.specs.Passed.{at_front, behind, behind_piece, nothing_passed, Passed}
+use Rattle.rz_types.specs.Piece.{pieces_of, Filler, OneNumber, OneText, Piece, Zeros}
 use Rattle.rz_types.specs.Text.{PlainPart}
 
 number_loose : (passed : Passed) (form : NumForm) (width : ℤ) (fixed : Option Term) (sight : Sight) (value : Option Tree) (bits : List Bool)
@@ -19,17 +21,17 @@ number_loose : (passed : Passed) (form : NumForm) (width : ℤ) (fixed : Option 
 number_loose passed form width None sight value bits it = it
 number_loose passed form width (Some term) sight value bits it = (it.0, it.1, it.2, it.3, it.4, tt)
 
-bytes_loose : (form : TextForm) (known : Facts) (fixed : Option (List PlainPart)) (size : Option ℕ) (value : Option Tree) (bytes : List ℕ)
-    → AreBytes true form known fixed size value bytes → AreBytes false form known fixed size value bytes
-bytes_loose form known None size value bytes it = (it.0, tt)
-bytes_loose form known (Some parts) size value bytes it = it
+bytes_loose : (form : TextForm) (known : Facts) (sight : Sight) (fixed : Option (List PlainPart)) (size : Option ℕ) (value : Option Tree) (bytes : List ℕ)
+    → AreBytes true form known sight fixed size value bytes → AreBytes false form known sight fixed size value bytes
+bytes_loose form known sight None size value bytes it = (it.0, tt)
+bytes_loose form known sight (Some parts) size value bytes it = it
 
 text_loose : (text : PlainText) (known : Facts) (sight : Sight) (value : Option Tree) (bits : List Bool) → IsText true text known sight value bits → IsText false text known sight value bits
 text_loose text known sight value bits it = record {
   size = it.size;
   has_size = it.has_size;
   bytes = it.bytes;
-  are_bytes = bytes_loose text.form known text.fixed it.size value it.bytes it.are_bytes;
+  are_bytes = bytes_loose text.form known sight text.fixed it.size value it.bytes it.are_bytes;
   short = it.short;
   are_bits = it.are_bits;
 }

@@ -7,7 +7,7 @@ use Rattle.std.proofs.Math.Seq.{take-append_seam}
 use Rattle.rz_pieces.specs.Pieces.{before_zeros, or_none, plain_text, trimmed, up_to_zero}
 use Rattle.rz_fields.specs.declared.field.TextForm.{TextForm}
 use Rattle.rz_fields.specs.declared.field.TextForm.TheVariants as texts
-use Rattle.rz_types.specs.Spells.{IsPlainShort, IsPlainText}
+use Rattle.rz_rows.specs.Spells.{IsPlainShort, IsPlainText}
 use Rattle.rz_types.specs.Stored.{before_zero, in_size, stored_text, to_size}
 
 -- Sizes.

@@ -15,12 +15,13 @@ use Rattle.rz_bits.specs.Bits.{number_bits, number_of}
 use Rattle.rz_pieces.specs.Pieces.{is_stored, number_step, solve_all, Step}
 use Rattle.rz_bits.specs.View.{number_at}
 use Rattle.rz_fields.specs.declared.field.NumForm.{NumForm}
-use Rattle.rz_fields.specs.declared.tree.Tree.{Tree}
-use Rattle.rz_fields.specs.declared.tree.Tree.TheVariants as trees
+use Rattle.rz_rows.specs.declared.tree.Tree.{Tree}
+use Rattle.rz_rows.specs.declared.tree.Tree.TheVariants as trees
+use Rattle.rz_rows.specs.Spells.{IsNumber}
 use Rattle.rz_types.specs.Field.{PlainBody}
 use Rattle.rz_types.specs.Readable.{all_known, is_number_read, tells_one}
 use Rattle.rz_types.specs.Solve.{can_solve, has_key, is_same_key, solved_count, undoes_one, undoes_right, AreSolved, IsSolvedTo, SolvesBack}
-use Rattle.rz_types.specs.Spells.{declares, is_known, told_by, IsNumber, Names, Passed}
+use Rattle.rz_types.specs.Passed.{declares, is_known, told_by, Names, Passed}
 use Rattle.rz_types.specs.Stored.{stored_number}
 use Rattle.rz_types.specs.Value.{names_sight}
 use Rattle.rz_unlay.proofs.Sees.{both_true, by_test, solve_same, value_same, Covers}

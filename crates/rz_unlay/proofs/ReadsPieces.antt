@@ -7,11 +7,13 @@ use Rattle.rz_expr.specs.Environment.{Environment, IsPartOf}
 use Rattle.rz_expr.specs.Term.{Term}
 use Rattle.rz_bits.specs.Bits.{bits_of, bytes_of, number_bits, number_of}
 use Rattle.rz_bits.specs.BitBuf.{missing, zeros}
-use Rattle.rz_fields.specs.declared.tree.Tree.{Tree}
-use Rattle.rz_fields.specs.declared.tree.Tree.TheVariants as trees
+use Rattle.rz_rows.specs.declared.tree.Tree.{Tree}
+use Rattle.rz_rows.specs.declared.tree.Tree.TheVariants as trees
+use Rattle.rz_rows.specs.Spells.{group_in, numbers_of_group, put, values_for, FieldSpells, InOrder, IsGrouped, PieceSpells}
 use Rattle.rz_types.specs.Field.{Align, Fill, Number, PlainBody, PlainNumber, PlainPoints, PlainText, Points, Text}
 use Rattle.rz_types.specs.Readable.{are_pieces_read, is_number_read, is_read, is_text_read}
-use Rattle.rz_types.specs.Spells.{behind, behind_piece, behind_pieces, fixed_integer, free_integer, group_in, integers, numbers_of_group, put, values_for, FieldSpells, Filler, InOrder, IsGrouped, OneNumber, OneText, Passed, Piece, PieceSpells, Zeros}
+use Rattle.rz_types.specs.Passed.{behind, behind_piece, behind_pieces, Passed}
+use Rattle.rz_types.specs.Piece.{fixed_integer, free_integer, integers, Filler, OneNumber, OneText, Piece, Zeros}
 use Rattle.rz_types.specs.Shape.{numbers_of}
 use Rattle.rz_pieces.specs.Pieces.{field_of_pieces, first_of_row, grouped, number_of_value, numbers_of_values, piece_step, pieces_found, with_value, zeros_step, Found, Step}
 use Rattle.rz_unlay.proofs.ReadsBits.{length_zeros, zeros_found}
@@ -163,7 +165,7 @@ module _ (read : (width number : ℕ) → number_of (number_bits width number) �
       let one = single facts all env passed (OneText text) (values_for (Text text) value) at late after late_after it.1 in
       let here = one.spelled in
       let is = text_steps read written again back facts rest all env outermost text passed names knows part one.value here.bits at
-      (both_true (is_text_read outermost rest passed text.form text.size) true reads).0 here.stored
+      (both_true (is_text_read outermost rest passed text) true reads).0 here.stored
       (subst (λ (n : ℕ). EndsAt outermost all rest n) here.ends end) (subst (λ (n : ℕ). n ≤ length all) here.ends within) here.there in
       record {
         names = names;

@@ -1,31 +1,35 @@
 -- A text that is spelled plainly is read.
 use Rattle.std.proofs.Common.{◌≡◌, ℕ, zero, suc, ◌+◌, ◌-◌, ◌*◌, ◌/◌, ◌%◌, ◌^◌, ◌<◌, ◌≤◌, pos, Bool, true, false, ◌&&◌, List, [], ◌∷◌, ◌++◌, length, map, take, drop, Option, Some, None, Result, Ok, refl, sym, ap, ◌∙◌, subst, arith}
 use Rattle.std.specs.Prelude.{if◌then◌else◌, int_le, min, nat_lt, option_and_then, option_map, replicate, slice_index}
-use Rattle.std.specs.Option.{is_some}
+use Rattle.std.specs.List.{list_all, AllByRecursion}
+use Rattle.std.specs.Option.{is_some, option_to_list}
 use Rattle.std.specs.Result.{result_ok}
 use Rattle.std.proofs.lemmas.Bool.Decides.{nat_tests}
 use Rattle.std.proofs.lemmas.List.{append_assoc, length-append, length-map, length-replicate, length-take}
 use Rattle.rz_core.specs.declared.facts.Facts.{Facts}
 use Rattle.rz_core.specs.declared.fault.Fault.{Fault}
-use Rattle.rz_expr.specs.Environment.{Environment, IsPartOf}
+use Rattle.rz_expr.specs.Environment.{Environment, IsPartOf, Sight}
 use Rattle.rz_expr.specs.Term.{Term}
 use Rattle.rz_expr.specs.Value.{value_of}
 use Rattle.rz_bits.specs.Bits.{bits_of, bytes_of, number_bits, number_of}
 use Rattle.rz_fields.specs.declared.field.TextForm.{TextForm}
 use Rattle.rz_fields.specs.declared.field.TextForm.TheVariants as texts
-use Rattle.rz_fields.specs.declared.tree.Tree.{Tree}
-use Rattle.rz_fields.specs.declared.tree.Tree.TheVariants as trees
+use Rattle.rz_rows.specs.declared.tree.Tree.{Tree}
+use Rattle.rz_rows.specs.declared.tree.Tree.TheVariants as trees
+use Rattle.rz_rows.specs.Spells.{nowhere, IsPlainText, IsSize, IsText}
+use Rattle.rz_rows.specs.Spells as spells
 use Rattle.rz_types.specs.Field.{PlainBody, PlainText}
 use Rattle.rz_types.specs.Range.{may_be_size}
-use Rattle.rz_types.specs.Readable.{all_known, is_text_read}
-use Rattle.rz_types.specs.Spells.{is_known, IsPlainText, IsSize, IsText, Passed}
-use Rattle.rz_types.specs.Spells as spells
+use Rattle.rz_types.specs.Readable.{all_known, is_text_read, text_ends}
+use Rattle.rz_types.specs.Passed.{is_known, Names, Passed}
+use Rattle.rz_types.specs.Piece.{fixed_terms, terms_of_text}
 use Rattle.rz_types.specs.Stored.{before_zero, in_size, is_too_long, sized, stored_text, to_size}
-use Rattle.rz_types.specs.Text.{PlainPart}
+use Rattle.rz_types.specs.Text.{text_terms, PlainPart}
 use Rattle.rz_types.specs.Value.{names_sight}
 use Rattle.rz_types.specs.Width.{fixed_widths, sized_bytes}
 use Rattle.rz_bits.specs.View.{bytes_at}
 use Rattle.rz_pieces.specs.Pieces.{bytes_left, fixed_read, same_bytes, size_found, size_read, stored_size, text_read, text_size, text_step, up_to_zero}
+use Rattle.rz_types.proofs.Texts.{bytes_kept, Keeps}
 use Rattle.rz_unlay.proofs.ReadsBits.{all_append, bits_there, each_small, front_there, length_bits, length_number, number_append, number_found, reduced_are, reduced_bits, take_are, zero_there, zeros_are, AreBytes}
 use Rattle.rz_unlay.proofs.ReadsNames.{folded, known_lower, lower, seen, Knows}
 use Rattle.rz_unlay.proofs.ReadsTests.{itself, not_below, some_is, there_is}
@@ -153,7 +157,7 @@ count_left len width at count within over =
 
 module _ (back : (width number : ℕ) → number < 2 ^ width → number_of (number_bits width number) ≡ number) (all : List Bool) (rest : PlainBody) (outermost : Bool) (at : ℕ) (bytes : List ℕ) where
   -- a free text without a size says its own length
-  size_stored : (form : TextForm) (passed : Passed) (bits : List Bool) → is_text_read outermost rest passed form None ≡ true → IsPlainText form None bytes
+  size_stored : (form : TextForm) (passed : Passed) (bits : List Bool) → text_ends outermost rest form None ≡ true → IsPlainText form None bytes
       → is_too_long form None (length bytes) ≡ false → bits ≡ bits_of (stored_text form None bytes)
       → EndsAt outermost all rest (at + length bits) → at + length bits ≤ length all → take (length bits) (drop at all) ≡ bits
       → stored_size all rest form None at ≡ Some (length (stored_text form None bytes))
@@ -201,10 +205,10 @@ module _ (back : (width number : ℕ) → number < 2 ^ width → number_of (numb
 -- Reading it.
 
 -- the bytes that are stored there, and those that tell them
-record TextTold (facts : Facts) (all : List Bool) (rest : PlainBody) (form : TextForm) (size : Option ℕ) (fixed : Option (List PlainPart)) (value : Option Tree) (at : ℕ) (bits : List Bool) : Type 0 where
+record TextTold (facts : Facts) (sight : Sight) (all : List Bool) (rest : PlainBody) (form : TextForm) (size : Option ℕ) (fixed : Option (List PlainPart)) (value : Option Tree) (at : ℕ) (bits : List Bool) : Type 0 where
   found : List ℕ
-  has_size : text_size facts all rest form size fixed at ≡ Some (length (stored_text form size found))
-  has_value : text_read facts form size fixed (stored_text form size found) ≡ Some (value, found)
+  has_size : text_size facts sight all rest form size fixed at ≡ Some (length (stored_text form size found))
+  has_value : text_read facts sight form size fixed (stored_text form size found) ≡ Some (value, found)
   are_bytes : AreBytes (stored_text form size found)
   are_bits : bits ≡ bits_of (stored_text form size found)
 
@@ -216,39 +220,60 @@ bytes_found again all at bytes bits small are within there =
     ∙ ap (λ (bs : List Bool). Some (bytes_of bs)) (ap (λ (n : ℕ). take n (drop at all)) (sym long) ∙ there ∙ are)
     ∙ ap (λ (bs : List ℕ). Some bs) (again bytes (each_small bytes small))
 
-is_read_with : (outermost : Bool) (rest : PlainBody) (passed : Passed) (form : TextForm) (size : Option Term) → is_text_read outermost rest passed form size ≡ true
-    → (t : Term) → size ≡ Some t → all_known (is_known passed) t ≡ true
-is_read_with outermost rest passed form None reads t is = absurd cc
-is_read_with outermost rest passed texts.Open (Some size) reads t is = subst (λ (t : Term). all_known (is_known passed) t ≡ true) (some_is size t is) reads
-is_read_with outermost rest passed texts.Pascal (Some size) reads t is = subst (λ (t : Term). all_known (is_known passed) t ≡ true) (some_is size t is) reads
-is_read_with outermost rest passed texts.WordLong (Some size) reads t is = subst (λ (t : Term). all_known (is_known passed) t ≡ true) (some_is size t is) reads
-is_read_with outermost rest passed texts.Zero (Some size) reads t is = subst (λ (t : Term). all_known (is_known passed) t ≡ true) (some_is size t is) reads
+-- the size's expression and those of the formats have known names
+size_known : (known : Names) (size : Option Term) (others : List Term) → list_all (all_known known) (option_to_list size ++ others) ≡ true → (t : Term) → size ≡ Some t → all_known known t ≡ true
+size_known known None others reads t is = absurd cc
+size_known known (Some size) others reads t is =
+    subst (λ (t : Term). all_known known t ≡ true) (some_is size t is) (both_true (all_known known size) (list_all (all_known known) others) reads).0
+
+others_known : (known : Names) (size : Option Term) (others : List Term) → list_all (all_known known) (option_to_list size ++ others) ≡ true → list_all (all_known known) others ≡ true
+others_known known None others reads = reads
+others_known known (Some size) others reads = (both_true (all_known known size) (list_all (all_known known) others) reads).1
+
+module _ (facts : Facts) (env : Environment) (passed : Passed) (names : Environment) (knows : Knows passed names) (part : IsPartOf names (folded env)) where
+  -- a known expression has the value that it has in the finished names
+  known_value : (term : Term) → all_known (is_known passed) term ≡ true → value_of term (names_sight facts names) ≡ value_of term (names_sight facts env)
+  known_value term known =
+      value_same facts (lower (is_known passed)) names (folded env) knows part term (known_lower (is_known passed) term ∙ known) ∙ seen facts env term
+
+  known_terms : (terms : List Term) → list_all (all_known (is_known passed)) terms ≡ true → AllByRecursion (Keeps (names_sight facts env) (names_sight facts names)) terms
+  known_terms [] known = tt
+  known_terms (term ∷ terms) known =
+      let each = both_true (all_known (is_known passed) term) (list_all (all_known (is_known passed)) terms) known in
+      ((λ v found. known_value term each.0 ∙ found), known_terms terms each.1)
+
+  -- so a text has the bytes that it has there
+  bytes_there : (form : TextForm) (fixed : Option (List PlainPart)) (size : Option ℕ) (value : Option Tree) (bytes : List ℕ) → list_all (all_known (is_known passed)) (fixed_terms fixed) ≡ true
+      → spells.AreBytes true form facts (names_sight facts env) fixed size value bytes → spells.AreBytes true form facts (names_sight facts names) fixed size value bytes
+  bytes_there form None size value bytes known are = are
+  bytes_there form (Some parts) size value bytes known (is, fixed) =
+      (is, bytes_kept nowhere facts (names_sight facts env) (names_sight facts names) parts (known_terms (text_terms parts) known) bytes fixed)
 
 module _ (read : (width number : ℕ) → number_of (number_bits width number) ≡ number % 2 ^ width) (written : (bits : List Bool) → number_bits (length bits) (number_of bits) ≡ bits)
     (again : (bytes : List ℕ) → ((k : ℕ) → slice_index bytes k < 256) → bytes_of (bits_of bytes) ≡ bytes)
     (back : (width number : ℕ) → number < 2 ^ width → number_of (number_bits width number) ≡ number) (facts : Facts) (rest : PlainBody) (all : List Bool) (env : Environment) (outermost : Bool) where
   -- by whether the text is fixed, and whether it has a size
-  text_told : (passed : Passed) (form : TextForm) (term : Option Term) (size : Option ℕ) (fixed : Option (List PlainPart)) (value : Option Tree) (bytes : List ℕ) (at : ℕ) (bits : List Bool)
-      → is_text_read outermost rest passed form term ≡ true → IsSize form (names_sight facts env) term size → spells.AreBytes true form facts fixed size value bytes
+  text_told : (sight : Sight) (passed : Passed) (form : TextForm) (term : Option Term) (size : Option ℕ) (fixed : Option (List PlainPart)) (value : Option Tree) (bytes : List ℕ) (at : ℕ) (bits : List Bool)
+      → text_ends outermost rest form term ≡ true → IsSize form (names_sight facts env) term size → spells.AreBytes true form facts sight fixed size value bytes
       → is_too_long form size (length bytes) ≡ false → bits ≡ bits_of (stored_text form size bytes)
       → EndsAt outermost all rest (at + length bits) → at + length bits ≤ length all → take (length bits) (drop at all) ≡ bits
-      → TextTold facts all rest form size fixed value at bits
-  text_told passed form term (Some size) None value bytes at bits reads sized (is, plain) short are ends within there = record {
+      → TextTold facts sight all rest form size fixed value at bits
+  text_told sight passed form term (Some size) None value bytes at bits reads sized (is, plain) short are ends within there = record {
     found = bytes;
     has_size = ap (λ (n : ℕ). Some n) (sym (length_with_size form size bytes));
     has_value = (λ i. Some (Some (trees.Text (plain_text_is form (Some size) bytes plain i)), plain_text_is form (Some size) bytes plain i)) ∙ (λ i. Some (sym is i, bytes));
     are_bytes = stored_are form (Some size) bytes plain.0 (size_may form facts env term (Some size) sized) short;
     are_bits = are;
   }
-  text_told passed form None None None value bytes at bits reads sized (is, plain) short are ends within there = record {
+  text_told sight passed form None None None value bytes at bits reads sized (is, plain) short are ends within there = record {
     found = bytes;
     has_size = size_stored back all rest outermost at bytes form passed bits reads plain short are ends within there;
     has_value = (λ i. Some (Some (trees.Text (plain_text_is form None bytes plain i)), plain_text_is form None bytes plain i)) ∙ (λ i. Some (sym is i, bytes));
     are_bytes = stored_are form None bytes plain.0 tt short;
     are_bits = are;
   }
-  text_told passed form (Some term) None None value bytes at bits reads (n, valued, may, is) plain short are ends within there = absurd (let wrong = is in cc)
-  text_told passed form term size (Some parts) value bytes at bits reads sized (is, fixed) short are ends within there =
+  text_told sight passed form (Some term) None None value bytes at bits reads (n, valued, may, is) plain short are ends within there = absurd (let wrong = is in cc)
+  text_told sight passed form term size (Some parts) value bytes at bits reads sized (is, fixed) short are ends within there =
       let reduced = map (λ byte. byte % 256) bytes in
       let short_too : is_too_long form size (length reduced) ≡ false = ap (is_too_long form size) (length-map bytes (λ byte. byte % 256)) ∙ short in
       let same = stored_bits read written bytes form size in
@@ -263,26 +288,28 @@ module _ (read : (width number : ℕ) → number_of (number_bits width number) �
       }
 
   pub text_steps : (text : PlainText) (passed : Passed) (names : Environment) → Knows passed names → IsPartOf names (folded env) → (value : Option Tree) (bits : List Bool) (at : ℕ)
-      → is_text_read outermost rest passed text.form text.size ≡ true → IsText true text facts (names_sight facts env) value bits
+      → is_text_read outermost rest passed text ≡ true → IsText true text facts (names_sight facts env) value bits
       → EndsAt outermost all rest (at + length bits) → at + length bits ≤ length all → take (length bits) (drop at all) ≡ bits
       → text_step facts all rest text names at ≡ Some (record { value = value; after = at + length bits; names = names })
   text_steps text passed names knows part value bits at reads it ends within there =
-      let told = text_told passed text.form text.size it.size text.fixed value it.bytes at bits reads it.has_size it.are_bytes it.short it.are_bits ends within there in
+      let each = both_true (text_ends outermost rest text.form text.size) (list_all (all_known (is_known passed)) (terms_of_text text)) reads in
+      let bytes_are = bytes_there facts env passed names knows part text.form text.fixed it.size value it.bytes (others_known (is_known passed) text.size (fixed_terms text.fixed) each.1) it.are_bytes in
+      let told = text_told (names_sight facts names) passed text.form text.size it.size text.fixed value it.bytes at bits each.0 it.has_size bytes_are it.short it.are_bits ends within there in
       let raw = stored_text text.form it.size told.found in
       let long : length bits ≡ 8 * length raw = ap length told.are_bits ∙ length_bits raw in
       ap (option_and_then (λ size. option_and_then (λ count. option_and_then (λ raw. option_and_then (λ found.
       if same_bytes (stored_text text.form size found.1) raw then Some (record { value = found.0; after = at + 8 * count; names = names }) else None)
-      (text_read facts text.form size text.fixed raw))
+      (text_read facts (names_sight facts names) text.form size text.fixed raw))
       (bytes_at all at count))
-      (text_size facts all rest text.form size text.fixed at)))
-      (size_is_read facts all env passed names knows part text.form text.size it.size at (is_read_with outermost rest passed text.form text.size reads) it.has_size)
+      (text_size facts (names_sight facts names) all rest text.form size text.fixed at)))
+      (size_is_read facts all env passed names knows part text.form text.size it.size at (size_known (is_known passed) text.size (fixed_terms text.fixed) each.1) it.has_size)
       ∙ ap (option_and_then (λ count. option_and_then (λ raw. option_and_then (λ found.
       if same_bytes (stored_text text.form it.size found.1) raw then Some (record { value = found.0; after = at + 8 * count; names = names }) else None)
-      (text_read facts text.form it.size text.fixed raw))
+      (text_read facts (names_sight facts names) text.form it.size text.fixed raw))
       (bytes_at all at count))) told.has_size
       ∙ ap (option_and_then (λ raw. option_and_then (λ found.
       if same_bytes (stored_text text.form it.size found.1) raw then Some (record { value = found.0; after = at + 8 * length (stored_text text.form it.size told.found); names = names }) else None)
-      (text_read facts text.form it.size text.fixed raw))) (bytes_found again all at raw bits told.are_bytes told.are_bits within there)
+      (text_read facts (names_sight facts names) text.form it.size text.fixed raw))) (bytes_found again all at raw bits told.are_bytes told.are_bits within there)
       ∙ ap (option_and_then (λ found.
       if same_bytes (stored_text text.form it.size found.1) raw then Some (record { value = found.0; after = at + 8 * length raw; names = names }) else None)) told.has_value
       ∙ ap (λ (b : Bool). if b then Some (record { value = value; after = at + 8 * length raw; names = names }) else None) (same_again raw)

@@ -18,12 +18,14 @@ use Rattle.rz_fields.specs.declared.field.NumForm.{NumForm}
 use Rattle.rz_fields.specs.declared.field.NumForm.TheVariants as forms
 use Rattle.rz_fields.specs.declared.field.TextForm.{TextForm}
 use Rattle.rz_fields.specs.declared.field.TextForm.TheVariants as texts
-use Rattle.rz_fields.specs.declared.tree.Tree.{Tree}
+use Rattle.rz_rows.specs.declared.tree.Tree.{Tree}
+use Rattle.rz_rows.specs.Row.{By, IsStated}
+use Rattle.rz_rows.specs.Spells.{is_case, put, values_for, BodySpells, CaseSpells, FieldSpells, InOrder, IsNumber, IsSize, PieceSpells, RowSpells, RowsSpell}
 use Rattle.rz_types.specs.Field.{case_and, field_and, no_cases, no_fields, Align, Array, Fill, Number, PlainBody, PlainCases, PlainField, Points, Switch, Text}
 use Rattle.rz_types.specs.Readable.{least_case, least_of, least_rows, least_text, least_width, least_widths}
-use Rattle.rz_types.specs.Row.{By, IsStated}
 use Rattle.rz_types.specs.Shape.{are_cases_shaped, are_fixed_points, are_shaped, is_none_or, is_own_name, is_shaped, numbers_of}
-use Rattle.rz_types.specs.Spells.{at_front, behind, behind_piece, fixed_integer, free_integer, integers, is_case, put, values_for, BodySpells, CaseSpells, FieldSpells, Filler, InOrder, IsNumber, IsSize, OneNumber, OneText, Passed, Piece, PieceSpells, RowSpells, RowsSpell, Zeros}
+use Rattle.rz_types.specs.Passed.{at_front, behind, behind_piece, Passed}
+use Rattle.rz_types.specs.Piece.{fixed_integer, free_integer, integers, Filler, OneNumber, OneText, Piece, Zeros}
 use Rattle.rz_types.specs.Stored.{before_zero, stored_text, to_size}
 use Rattle.rz_types.specs.Value.{names_sight}
 use Rattle.rz_types.specs.Width.{constant_size, fixed_width, fixed_widths, plus, rows_width, sized_bytes, text_width}

@@ -10,7 +10,7 @@ use Rattle.rz_expr.specs.Value.{known_value, number_at, operate, operate_one, va
 use Rattle.rz_expr.specs.declared.value.EvalFault.{EvalFault}
 use Rattle.rz_types.specs.Readable.{all_known}
 use Rattle.rz_types.specs.Solve.{can_solve, has_key, in_64_bits, is_same_key, solve, undo_left, undo_one, undo_right, undoes_left, undoes_one, undoes_right}
-use Rattle.rz_types.specs.Spells.{Names}
+use Rattle.rz_types.specs.Passed.{Names}
 use Rattle.rz_types.specs.Value.{names_sight}
 
 -- each of these names has a value

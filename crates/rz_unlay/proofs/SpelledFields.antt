@@ -14,14 +14,16 @@ use Rattle.rz_bits.specs.Bits.{bits_of, number_bits, number_of}
 use Rattle.rz_bits.specs.BitBuf.{filled, missing, zeros}
 use Rattle.rz_unlay.specs.Cursor.{body_found, case_found, count_known, ended, field_found, has_keys, line_of, reading, rows_by, Line, Lines}
 use Rattle.rz_pieces.specs.Pieces.{claim_count, names_inside, with_value, Found, Step}
-use Rattle.rz_fields.specs.declared.tree.Tree.{Tree}
-use Rattle.rz_fields.specs.declared.tree.Tree.TheVariants as trees
+use Rattle.rz_rows.specs.declared.tree.Tree.{Tree}
+use Rattle.rz_rows.specs.declared.tree.Tree.TheVariants as trees
+use Rattle.rz_rows.specs.Row.{By}
+use Rattle.rz_rows.specs.Spells.{choice_of_tree, is_case, most_bits, put, values_in, BodySpells, CaseSpells, FieldSpells, Inside, Late, Spells}
 use Rattle.rz_types.specs.Field.{case_and, field_and, no_cases, no_fields, Align, Array, Fill, Number, PlainBody, PlainCases, PlainField, Points, Switch, Text}
 use Rattle.rz_types.specs.Kept.{AreCasesKept, AreKept, Differ, IsKept, IsKeptWithin}
 use Rattle.rz_types.specs.Readable.{are_cases_read, are_read, is_read, is_readable, rows_end}
-use Rattle.rz_types.specs.Row.{By}
 use Rattle.rz_types.specs.Rules.{case_names}
-use Rattle.rz_types.specs.Spells.{at_front, behind, choice_of_tree, declares, gives_count, gives_key, is_case, is_known, most_bits, nothing_passed, outside, put, values_in, BodySpells, CaseSpells, FieldSpells, Filler, Inside, Late, OneNumber, OneText, Passed, Spells, Zeros}
+use Rattle.rz_types.specs.Passed.{at_front, behind, declares, gives_count, gives_key, is_known, nothing_passed, outside, Passed}
+use Rattle.rz_types.specs.Piece.{Filler, OneNumber, OneText, Zeros}
 use Rattle.rz_types.specs.Walk.{names_of}
 use Rattle.rz_types.specs.Width.{case_keys}
 use Rattle.rz_unlay.proofs.SpelledNames.{and_then, if_false, left_true, mapped, neither, none_is, part_same, part_then, some_same, Came, Grows, Knows, Part}

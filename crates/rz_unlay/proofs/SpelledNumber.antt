@@ -14,13 +14,14 @@ use Rattle.rz_bits.specs.Bits.{number_bits, number_of}
 use Rattle.rz_pieces.specs.Pieces.{also, is_stored, number_step, solve_all, solve_key, Step}
 use Rattle.rz_bits.specs.View.{bits_at, number_at}
 use Rattle.rz_fields.specs.declared.field.NumForm.{NumForm}
-use Rattle.rz_fields.specs.declared.tree.Tree.{Tree}
-use Rattle.rz_fields.specs.declared.tree.Tree.TheVariants as trees
+use Rattle.rz_rows.specs.declared.tree.Tree.{Tree}
+use Rattle.rz_rows.specs.declared.tree.Tree.TheVariants as trees
+use Rattle.rz_rows.specs.Spells.{IsNumber}
 use Rattle.rz_types.specs.Field.{PlainBody}
 use Rattle.rz_types.specs.Range.{fits_number}
 use Rattle.rz_types.specs.Readable.{all_known, is_number_read, tells_one}
 use Rattle.rz_types.specs.Solve.{can_solve, has_key, is_same_key, solved_count, AreSolved, IsSolvedTo, SolvesBack}
-use Rattle.rz_types.specs.Spells.{declares, is_known, told_by, IsNumber, Names, Passed}
+use Rattle.rz_types.specs.Passed.{declares, is_known, told_by, Names, Passed}
 use Rattle.rz_types.specs.Stored.{stored_number}
 use Rattle.rz_types.specs.Value.{names_sight}
 use Rattle.rz_unlay.proofs.SpelledNames.{and_then, by_case, either_of, if_some, left_true, lower_in, mapped, neither, none_is, not_both, part_of, part_then, right_true, solved_grows, some_same, value_grows, Grows, IsLower, Knows, Part}

@@ -12,12 +12,14 @@ use Rattle.rz_pieces.specs.Pieces.{field_of_pieces, first_of_row, grouped, numbe
 use Rattle.rz_bits.specs.View.{number_at}
 use Rattle.rz_fields.specs.declared.field.NumForm.{NumForm}
 use Rattle.rz_fields.specs.declared.field.NumForm.TheVariants.{Integer}
-use Rattle.rz_fields.specs.declared.tree.Tree.{Tree}
-use Rattle.rz_fields.specs.declared.tree.Tree.TheVariants as trees
+use Rattle.rz_rows.specs.declared.tree.Tree.{Tree}
+use Rattle.rz_rows.specs.declared.tree.Tree.TheVariants as trees
+use Rattle.rz_rows.specs.Spells.{group_in, is_late_size, is_one_late, marks, most_bits, numbers_of_group, put, values_for, InOrder, IsGrouped, IsGroupedFor, IsStored, Late, PieceSpells, PiecesSpell, RowSpells, Then}
 use Rattle.rz_types.specs.Field.{PlainBody, PlainField}
 use Rattle.rz_types.specs.Readable.{are_pieces_read, is_piece_read}
 use Rattle.rz_types.specs.Shape.{numbers_of}
-use Rattle.rz_types.specs.Spells.{behind_piece, behind_pieces, declares, fixed_integer, free_integer, group_in, integers, is_known, is_late_size, is_late_value, marks, most_bits, numbers_of_group, pieces_of, put, values_for, Filler, InOrder, IsGrouped, IsGroupedFor, IsStored, Late, Names, OneNumber, OneText, Passed, Piece, PieceSpells, PiecesSpell, RowSpells, Then, Zeros}
+use Rattle.rz_types.specs.Passed.{behind_piece, behind_pieces, declares, is_known, Names, Passed}
+use Rattle.rz_types.specs.Piece.{fixed_integer, free_integer, integers, pieces_of, terms_of_text, Filler, OneNumber, OneText, Piece, Zeros}
 use Rattle.rz_types.specs.Solve.{solved_count}
 use Rattle.rz_types.specs.Value.{names_sight}
 use Rattle.rz_unlay.proofs.SpelledNames.{and_then, grows_then, grows_wide, if_some, mapped, part_same, part_then, some_same, Came, Knows}
@@ -27,13 +29,13 @@ use Rattle.rz_unlay.proofs.Sees.{both_true}
 
 -- No number is late so far.
 
-never_late_value : (met : Names) (late : Late) (size : Option Term) (sight : Sight) → is_late_value met late size sight ≡ false
-never_late_value met late None sight = refl
-never_late_value met late (Some term) sight = refl
+never_late_terms : (met : Names) (late : Late) (terms : List Term) (sight : Sight) → is_one_late met late terms sight ≡ false
+never_late_terms met late [] sight = refl
+never_late_terms met late (term ∷ terms) sight = never_late_terms met late terms sight
 
 never_late : (met : Names) (late : Late) (piece : Piece) (sight : Sight) → is_late_size met late piece sight ≡ false
 never_late met late (OneNumber number) sight = refl
-never_late met late (OneText text) sight = never_late_value met late text.size sight
+never_late met late (OneText text) sight = never_late_terms met late (terms_of_text text) sight
 never_late met late (Zeros count) sight = refl
 never_late met late (Filler unit) sight = refl
 

@@ -11,10 +11,11 @@ use Rattle.rz_core.specs.declared.resource.Word.{Word}
 use Rattle.rz_expr.specs.Environment.{count_key, count_of, place_of, Environment, Key}
 use Rattle.rz_pieces.specs.Pieces.{also_count, claim_count, count_claimed, known_count, names_inside, stated_in, stated_value}
 use Rattle.rz_unlay.specs.Cursor.{count_known, rows_at, rows_by, rows_while, up_to_end, Line, Lines}
-use Rattle.rz_fields.specs.declared.tree.Tree.{Tree}
+use Rattle.rz_rows.specs.declared.tree.Tree.{Tree}
+use Rattle.rz_rows.specs.Row.{IsStated}
+use Rattle.rz_rows.specs.Spells.{BodySpells, Inside, IsCounted, Late, RowSpells, RowsSpell, Within}
 use Rattle.rz_types.specs.Field.{field_and, no_fields, Align, Array, Fill, Number, PlainBody, Points, Switch, Text}
-use Rattle.rz_types.specs.Row.{IsStated}
-use Rattle.rz_types.specs.Spells.{at_front, declares, gives_count, is_known, states, states_count, BodySpells, Inside, IsCounted, Late, Passed, RowSpells, RowsSpell, Within}
+use Rattle.rz_types.specs.Passed.{at_front, declares, gives_count, is_known, states, states_count, Passed}
 use Rattle.rz_types.specs.Width.{fixed_widths}
 use Rattle.rz_unlay.proofs.SpelledNames.{and_then, by_case, count_lower, either_of, if_false, if_some, if_true, left_true, lower_twice, mapped, none_is, part_same, right_true, some_same, Came, Grows, IsLower, Knows, Part}
 

@@ -9,12 +9,14 @@ use Rattle.rz_expr.specs.Environment.{Environment, Sight}
 use Rattle.rz_expr.specs.Term.{Term}
 use Rattle.rz_bits.specs.Bits.{bits_of}
 use Rattle.rz_fields.specs.declared.field.NumForm.{NumForm}
-use Rattle.rz_fields.specs.declared.tree.Tree.{out-Tree, Tree}
-use Rattle.rz_fields.specs.declared.tree.Tree.TheVariants as trees
-use Rattle.rz_types.specs.Field.{case_and, field_and, no_cases, no_fields, Align, Array, Fill, Number, PlainBody, PlainCases, PlainField, PlainPoints, PlainText, Points, Switch, Text}
-use Rattle.rz_types.specs.Row.{takes_value, By, IsChoice, IsFront, IsRow, IsValue}
+use Rattle.rz_rows.specs.declared.tree.Tree.{out-Tree, Tree}
+use Rattle.rz_rows.specs.declared.tree.Tree.TheVariants as trees
+use Rattle.rz_rows.specs.Row.{By, IsChoice, IsFront, IsRow, IsValue}
+use Rattle.rz_rows.specs.Spells.{group_in, is_case, numbers_of_group, put, sees, AreBytes, BodySpells, CaseSpells, FieldSpells, Inside, InOrder, IsGrouped, IsNumber, IsStored, IsText, Late, PieceSpells, RowsSpell, RowSpells, Spells}
+use Rattle.rz_types.specs.Field.{case_and, field_and, no_cases, no_fields, takes_value, Align, Array, Fill, Number, PlainBody, PlainCases, PlainField, PlainPoints, PlainText, Points, Switch, Text}
 use Rattle.rz_types.specs.Shape.{numbers_of}
-use Rattle.rz_types.specs.Spells.{at_front, behind, behind_piece, free_integer, group_in, integers, is_case, nothing_passed, numbers_of_group, put, sees, AreBytes, BodySpells, CaseSpells, FieldSpells, Filler, Inside, InOrder, IsGrouped, IsNumber, IsStored, IsText, Late, OneNumber, OneText, Passed, Piece, PieceSpells, RowsSpell, RowSpells, Spells, Zeros}
+use Rattle.rz_types.specs.Passed.{at_front, behind, behind_piece, nothing_passed, Passed}
+use Rattle.rz_types.specs.Piece.{free_integer, integers, Filler, OneNumber, OneText, Piece, Zeros}
 use Rattle.rz_types.specs.Text.{PlainPart}
 use Rattle.rz_pieces.specs.Pieces.{number_of_value}
 
@@ -47,7 +49,7 @@ text_takes : (plain : Bool) (text : PlainText) (known : Facts) (sight : Sight) (
     → Takes (is_none text.fixed) (λ v. (bytes : List ℕ) × (v ≡ trees.Text bytes)) value
 text_takes plain text known sight value bits it = by text.fixed it.are_bytes
   where
-    by : (fixed : Option (List PlainPart)) → AreBytes plain text.form known fixed it.size value it.bytes → Takes (is_none fixed) (λ v. (bytes : List ℕ) × (v ≡ trees.Text bytes)) value
+    by : (fixed : Option (List PlainPart)) → AreBytes plain text.form known sight fixed it.size value it.bytes → Takes (is_none fixed) (λ v. (bytes : List ℕ) × (v ≡ trees.Text bytes)) value
     by None are = (trees.Text it.bytes, (it.bytes, refl), are.0)
     by (Some parts) are = are.0
 

@@ -8,7 +8,7 @@ use Rattle.std.proofs.lemmas.List.{length-drop, length-map, length-take}
 use Rattle.std.proofs.lemmas.Nat.{pow_pos}
 use Rattle.std.proofs.Math.Pow.{pow_mono}
 use Rattle.rz_core.specs.declared.facts.Facts.{Facts}
-use Rattle.rz_expr.specs.Environment.{Environment}
+use Rattle.rz_expr.specs.Environment.{Environment, Sight}
 use Rattle.rz_expr.specs.Term.{Term}
 use Rattle.rz_expr.specs.Value.{value_of}
 use Rattle.rz_expr.specs.declared.value.EvalFault.{EvalFault}
@@ -18,15 +18,17 @@ use Rattle.rz_pieces.specs.Pieces.{before_zeros, fixed_read, one_byte_size, or_n
 use Rattle.rz_bits.specs.View.{bits_at, bytes_at, number_at}
 use Rattle.rz_fields.specs.declared.field.TextForm.{TextForm}
 use Rattle.rz_fields.specs.declared.field.TextForm.TheVariants as texts
-use Rattle.rz_fields.specs.declared.tree.Tree.{Tree}
-use Rattle.rz_fields.specs.declared.tree.Tree.TheVariants as trees
+use Rattle.rz_rows.specs.declared.tree.Tree.{Tree}
+use Rattle.rz_rows.specs.declared.tree.Tree.TheVariants as trees
+use Rattle.rz_rows.specs.Spells.{nowhere, AreBytes, IsPlainText, IsSize, IsText}
 use Rattle.rz_types.specs.Field.{PlainBody, PlainText}
 use Rattle.rz_types.specs.Range.{may_be_size}
-use Rattle.rz_types.specs.Spells.{declares, is_known, nowhere, AreBytes, IsPlainText, IsSize, IsText, Passed}
+use Rattle.rz_types.specs.Passed.{declares, is_known, Passed}
 use Rattle.rz_types.specs.Stored.{is_too_long, stored_text}
-use Rattle.rz_types.specs.Text.{bytes_of as text_bytes_of, PlainPart}
+use Rattle.rz_types.specs.Text.{bytes_seen, text_terms, PlainPart}
 use Rattle.rz_types.specs.Value.{names_sight}
 use Rattle.rz_types.specs.Width.{sized_bytes}
+use Rattle.rz_types.proofs.Texts.{bytes_kept, Keeps}
 use Rattle.rz_unlay.proofs.SpelledNames.{and_then, if_false, if_some, mapped, none_is, part_same, some_same, value_grows, Knows, Part}
 use Rattle.rz_unlay.proofs.SpelledNumber.{bits_stand, number_stands, PieceRead}
 use Rattle.rz_unlay.proofs.ReadsText.{stored_bits}
@@ -242,23 +244,30 @@ fixed_is (Ok bytes) found is =
     let same = some_same (None, map (λ byte. byte % 256) bytes) found is in
     (bytes, sym (ap (λ (f : Option Tree × List ℕ). f.0) same), refl, sym (ap (λ (f : Option Tree × List ℕ). f.1) same))
 
-record BytesCame (form : TextForm) (facts : Facts) (fixed : Option (List PlainPart)) (size : Option ℕ) (found : Option Tree × List ℕ) : Type 0 where
+record BytesCame (form : TextForm) (facts : Facts) (sight : Sight) (fixed : Option (List PlainPart)) (size : Option ℕ) (found : Option Tree × List ℕ) : Type 0 where
   bytes : List ℕ
-  are : AreBytes true form facts fixed size found.0 bytes
+  are : AreBytes true form facts sight fixed size found.0 bytes
   long : length bytes ≡ length found.1
   same : bits_of (stored_text form size bytes) ≡ bits_of (stored_text form size found.1)
 
+-- a value that is known is that of the finished names
+terms_grow : (facts : Facts) (names env : Environment) → Part names env → (terms : List Term) → AllByRecursion (Keeps (names_sight facts names) (names_sight facts env)) terms
+terms_grow facts names env part [] = tt
+terms_grow facts names env part (term ∷ terms) = (value_grows facts names env part term, terms_grow facts names env part terms)
+
 bytes_came : ((width number : ℕ) → number_of (number_bits width number) ≡ number % 2 ^ width) → ((bits : List Bool) → number_bits (length bits) (number_of bits) ≡ bits)
-    → (facts : Facts) (all : List Bool) (rest : PlainBody) (form : TextForm) (size : Option ℕ) (fixed : Option (List PlainPart)) (at count : ℕ) (raw : List ℕ) (found : Option Tree × List ℕ) → AreSmall raw
-    → text_size facts all rest form size fixed at ≡ Some count → length raw ≡ count → text_read facts form size fixed raw ≡ Some found → BytesCame form facts fixed size found
-bytes_came read numbers facts all rest form size None at count raw found small so long is =
-    subst (BytesCame form facts None size) (some_same (Some (trees.Text (plain_text form size raw)), plain_text form size raw) found is)
+    → (facts : Facts) (all : List Bool) (rest : PlainBody) (names : Environment) (form : TextForm) (size : Option ℕ) (fixed : Option (List PlainPart)) (at count : ℕ) (raw : List ℕ)
+    (found : Option Tree × List ℕ) → AreSmall raw
+    → text_size facts (names_sight facts names) all rest form size fixed at ≡ Some count → length raw ≡ count → text_read facts (names_sight facts names) form size fixed raw ≡ Some found
+    → (env : Environment) → Part names env → BytesCame form facts (names_sight facts env) fixed size found
+bytes_came read numbers facts all rest names form size None at count raw found small so long is env part =
+    subst (BytesCame form facts (names_sight facts env) None size) (some_same (Some (trees.Text (plain_text form size raw)), plain_text form size raw) found is)
     (record { bytes = plain_text form size raw; are = (refl, plain_is form size raw small (sized_is all rest form size at count raw so long)); long = refl; same = refl })
-bytes_came read numbers facts all rest form size (Some parts) at count raw found small so long is =
-    let it = fixed_is (text_bytes_of nowhere facts parts) found is in
+bytes_came read numbers facts all rest names form size (Some parts) at count raw found small so long is env part =
+    let it = fixed_is (bytes_seen nowhere facts (names_sight facts names) parts) found is in
     record {
       bytes = it.0;
-      are = (it.1, it.2);
+      are = (it.1, bytes_kept nowhere facts (names_sight facts names) (names_sight facts env) parts (terms_grow facts names env part (text_terms parts)) it.0 it.2);
       long = sym (length-map it.0 (λ byte. byte % 256)) ∙ sym (ap length it.3);
       same = stored_bits read numbers it.0 form size ∙ ap (λ (bs : List ℕ). bits_of (stored_text form size bs)) (sym it.3);
     }
@@ -282,11 +291,11 @@ module _ (below : (bits : List Bool) → number_of bits < 2 ^ length bits) (writ
   text_came read numbers facts all rest passed text names at step knows is =
       let one = and_then _ (size_read facts all text.form text.size names at) step is in
       let size : Option ℕ = one.0 in
-      let two = and_then _ (text_size facts all rest text.form size text.fixed at) step one.2 in
+      let two = and_then _ (text_size facts (names_sight facts names) all rest text.form size text.fixed at) step one.2 in
       let count : ℕ = two.0 in
       let three = and_then _ (bytes_at all at count) step two.2 in
       let raw : List ℕ = three.0 in
-      let four = and_then _ (text_read facts text.form size text.fixed raw) step three.2 in
+      let four = and_then _ (text_read facts (names_sight facts names) text.form size text.fixed raw) step three.2 in
       let found : Option Tree × List ℕ = four.0 in
       let five = if_some (same_bytes (stored_text text.form size found.1) raw) (record { value = found.0; after = at + 8 * count; names = names }) step four.2 in
       let there = mapped bytes_of (bits_at all at (8 * count)) raw three.1 in
@@ -298,7 +307,7 @@ module _ (below : (bits : List Bool) → number_of bits < 2 ^ length bits) (writ
       let eighth : length bits / 8 ≡ count = omega (arith, long) in
       let raw_long : length raw ≡ count = sym (ap length there.2) ∙ length_fronts (length bits / 8) bits ∙ eighth in
       let whole : length bits % 8 ≡ 0 = omega (arith, long) in
-      let came = bytes_came read numbers facts all rest text.form size text.fixed at count raw found small two.1 raw_long four.1 in
+      let came = bytes_came read numbers facts all rest names text.form size text.fixed at count raw found small two.1 raw_long four.1 in
       subst (PieceRead (declares rest) passed names all at (λ env value bits. IsText true text facts (names_sight facts env) value bits)) five.1 (record {
         count = 8 * count;
         bits = bits;
@@ -306,12 +315,14 @@ module _ (below : (bits : List Bool) → number_of bits < 2 ^ length bits) (writ
         ends = refl;
         grows = record { kept = part_same names; same = λ key none. refl };
         knows = knows;
-        stored = λ env part. record {
-          size = size;
-          has_size = size_came facts all names env at part text.form text.size size one.1;
-          bytes = came.bytes;
-          are_bytes = came.are;
-          short = ap (is_too_long text.form size) came.long ∙ not_long text.form size raw found.1 small stored;
-          are_bits = sym (written bits whole) ∙ ap bits_of (there.2 ∙ sym stored) ∙ sym came.same;
-        };
+        stored = λ env part.
+            let it = came env part in
+            record {
+              size = size;
+              has_size = size_came facts all names env at part text.form text.size size one.1;
+              bytes = it.bytes;
+              are_bytes = it.are;
+              short = ap (is_too_long text.form size) it.long ∙ not_long text.form size raw found.1 small stored;
+              are_bits = sym (written bits whole) ∙ ap bits_of (there.2 ∙ sym stored) ∙ sym it.same;
+            };
       })

@@ -4,7 +4,7 @@ use Rattle.rz_expr.specs.Environment.{count_key, place_key, Key}
 use Rattle.rz_expr.specs.Term.{BitsAt, Constant, FactOf, Named, OfOne, OfTwo, RowsOf, Term}
 use Rattle.rz_types.specs.Field.{PlainBody}
 use Rattle.rz_types.specs.Readable.{tells, tells_one}
-use Rattle.rz_types.specs.Spells.{Names}
+use Rattle.rz_types.specs.Passed.{Names}
 use Rattle.rz_unlay.proofs.SpelledNames.{either_of}
 
 -- the name that is told

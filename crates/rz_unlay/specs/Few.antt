@@ -1,8 +1,8 @@
 -- How many values the rows that are read have.
 use Rattle.std.specs.Prelude.{ℕ, ◌+◌, List, length}
 use Rattle.std.specs.List.{sum_by}
-use Rattle.rz_fields.specs.declared.tree.Tree.{Tree}
-use Rattle.rz_types.specs.Spells.{values_in}
+use Rattle.rz_rows.specs.declared.tree.Tree.{Tree}
+use Rattle.rz_rows.specs.Spells.{values_in}
 use Rattle.rz_pieces.specs.Pieces.{Found}
 use Rattle.rz_unlay.specs.Cursor.{Line, Lines}
 

@@ -1,4 +1,4 @@
-use rz_fields::{Row, RowList};
+use rz_rows::{Row, RowList};
 
 /// The row of a body.
 #[derive(Debug, Drop)]

@@ -1,7 +1,7 @@
 ghost use Rattle.std.specs.Prelude.{◌≡◌, ◌+◌, ◌≤◌, pos, suc, length, drop, IfOk, IfSome, OnOk, option_map};
 ghost use Rattle.rz_bits.specs.View.{seen};
+ghost use Rattle.rz_rows.specs.Spells.{values_in};
 ghost use Rattle.rz_types.specs.Field.{plain_array, plain_body, plain_case, plain_cases, plain_field};
-ghost use Rattle.rz_types.specs.Spells.{values_in};
 ghost use Rattle.rz_unlay.specs.Came.{chosen, found_of, line_in, lines_in, row_at};
 ghost use Rattle.rz_pieces.specs.Came.{met_of};
 ghost use Rattle.rz_unlay.specs.Cursor.{body_found, case_found, count_known, field_found, rows_at, rows_by, rows_while};
@@ -15,8 +15,9 @@ use crate::came::{RowCame, RowsCame};
 use crate::cases::has_keys;
 use rz_bits::BitView;
 use rz_core::{Facts, NoMemory, Word};
-use rz_fields::{ArrayField, Case, Field, Row, RowList, Tree, fixed_widths};
+use rz_fields::{ArrayField, Case, Field, fixed_widths};
 use rz_pieces::{Met, Note, claim_count, enter, read_pieces, rows_of, spend};
+use rz_rows::{Row, RowList, Tree};
 use std::alloc::Global;
 
 /// Reads the row of a body, with at most so many values: what is learnt of the names of its own is forgotten behind it.

@@ -1,11 +1,11 @@
 ghost use Rattle.std.specs.Prelude.{◌≡◌, true, ℕ, List, Some};
 ghost use Rattle.rz_core.specs.declared.facts.Facts.{Facts};
-ghost use Rattle.rz_fields.specs.declared.tree.Tree.{Tree};
+ghost use Rattle.rz_rows.specs.declared.tree.Tree.{Tree};
+ghost use Rattle.rz_rows.specs.Spells.{Spells};
 ghost use Rattle.rz_types.specs.Field.{PlainBody};
 ghost use Rattle.rz_types.specs.Readable.{is_readable};
 ghost use Rattle.rz_types.specs.Rules.{keeps_rules};
 ghost use Rattle.rz_types.specs.Shape.{is_well_shaped};
-ghost use Rattle.rz_types.specs.Spells.{Spells};
 ghost use Rattle.rz_unlay.specs.Cursor.{reading};
 
 use rz_bits::{

@@ -1,7 +1,7 @@
 use Rattle.std.proofs.Common.{◌≡◌, drop}
 use Rattle.rz_layout.specs.Names.{known, Grew}
+use Rattle.rz_rows.specs.Laid.{counted}
 use Rattle.rz_types.specs.Field.{plain_body}
-use Rattle.rz_types.specs.Laid.{counted}
 use Rattle.rz_layout.proofs.names.enter.Given as goal
 
 abbrev pub invariant-loop-field : goal.invariant-loop-field

@@ -2,9 +2,10 @@ use Rattle.std.proofs.Common.{◌≡◌, ◌≤◌, length, drop, map}
 use Rattle.std.specs.Prelude.{replicate}
 use Rattle.rz_layout.specs.Laid.{draft_of}
 use Rattle.rz_layout.specs.Names.{known}
-use Rattle.rz_fields.specs.declared.tree.Tree.TheVariants as trees
-use Rattle.rz_types.specs.Laid.{in_order, lay, takes_one}
-use Rattle.rz_types.specs.Spells.{free_integer, most_bits}
+use Rattle.rz_rows.specs.declared.tree.Tree.TheVariants as trees
+use Rattle.rz_rows.specs.Laid.{in_order, lay, takes_one}
+use Rattle.rz_rows.specs.Spells.{most_bits}
+use Rattle.rz_types.specs.Piece.{free_integer}
 use Rattle.rz_layout.proofs.points.lay_group.Given as goal
 
 abbrev pub invariant-loop-number : goal.invariant-loop-number

@@ -1,7 +1,7 @@
 use Rattle.std.proofs.Common.{◌≡◌, drop}
 use Rattle.rz_expr.specs.Environment.{count_key}
 use Rattle.rz_fields.specs.Field.{plain_body}
-use Rattle.rz_fields.specs.Spells.{declares}
+use Rattle.rz_fields.specs.Passed.{declares}
 use Rattle.rz_pieces.proofs.names.declares.Given as goal
 
 abbrev pub invariant-loop-field : goal.invariant-loop-field

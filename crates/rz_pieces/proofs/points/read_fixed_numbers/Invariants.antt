@@ -3,7 +3,7 @@ use Rattle.std.specs.List.{AllByRecursion}
 use Rattle.rz_bits.specs.View.{seen}
 use Rattle.rz_expr.specs.Term.{term_of}
 use Rattle.rz_fields.specs.Field.{plain_body}
-use Rattle.rz_fields.specs.Spells.{fixed_integer}
+use Rattle.rz_fields.specs.Piece.{fixed_integer}
 use Rattle.rz_fields.specs.Value.{is_fixed_expression}
 use Rattle.rz_pieces.specs.Pieces.{pieces_found}
 use Rattle.rz_pieces.specs.Names.{known, Grew}

@@ -4,7 +4,7 @@ use Rattle.std.proofs.lemmas.List.{length-append}
 use Rattle.rz_bits.specs.View.{seen}
 use Rattle.rz_fields.specs.Field.{plain_body}
 use Rattle.rz_fields.specs.Shape.{numbers_of}
-use Rattle.rz_fields.specs.Spells.{free_integer}
+use Rattle.rz_fields.specs.Piece.{free_integer}
 use Rattle.rz_pieces.specs.Pieces.{pieces_found}
 use Rattle.rz_pieces.specs.Points.{behind_numbers}
 use Rattle.rz_pieces.proofs.PieceSteps.{group_more, group_over, grouped_is, no_group, not_grouped}

@@ -4,7 +4,7 @@ use Rattle.rz_bits.specs.View.{seen}
 use Rattle.rz_expr.specs.Environment.{Environment}
 use Rattle.rz_fields.specs.Field.{plain_body}
 use Rattle.rz_fields.specs.Shape.{numbers_of}
-use Rattle.rz_fields.specs.Spells.{free_integer}
+use Rattle.rz_fields.specs.Piece.{free_integer}
 use Rattle.rz_pieces.specs.Pieces.{pieces_found}
 use Rattle.rz_pieces.specs.Points.{behind_numbers}
 use Rattle.rz_pieces.proofs.points.read_group.Given as goal

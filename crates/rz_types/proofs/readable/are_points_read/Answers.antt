@@ -3,7 +3,8 @@ use Rattle.std.specs.Prelude.{option_map}
 use Rattle.rz_expr.specs.Term.{term_of}
 use Rattle.rz_expr.specs.declared.expr.Expr.{Expr}
 use Rattle.rz_fields.specs.Field.{plain_body}
-use Rattle.rz_fields.specs.Spells.{behind_pieces, integers, is_known}
+use Rattle.rz_fields.specs.Passed.{behind_pieces, is_known}
+use Rattle.rz_fields.specs.Piece.{integers}
 use Rattle.rz_types.specs.Notes.{passed}
 use Rattle.rz_types.specs.Readable.{are_pieces_read}
 use Rattle.rz_types.proofs.Noted.{free_known, free_read}

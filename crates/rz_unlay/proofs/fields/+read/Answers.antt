@@ -5,10 +5,10 @@ use Rattle.rz_bits.specs.View.{seen}
 use Rattle.rz_expr.specs.Environment.{Environment}
 use Rattle.rz_fields.specs.declared.field.Field.{Field}
 use Rattle.rz_fields.specs.declared.field.Field.TheViews.{out-ArrayField}
-use Rattle.rz_fields.specs.declared.tree.Tree.{Tree}
 use Rattle.rz_fields.proofs.Bodies.{array_is, case_is}
+use Rattle.rz_rows.specs.declared.tree.Tree.{Tree}
+use Rattle.rz_rows.specs.Spells.{values_in}
 use Rattle.rz_types.specs.Field.{plain_body, plain_field, PlainCase, PlainField}
-use Rattle.rz_types.specs.Spells.{values_in}
 use Rattle.rz_unlay.specs.Came.{chosen, line_in, lines_in, row_at}
 use Rattle.rz_pieces.specs.Came.{met_of}
 use Rattle.rz_unlay.specs.Cursor.{body_found, count_known, field_found, has_keys, rows_at, rows_by, rows_while, Lines}

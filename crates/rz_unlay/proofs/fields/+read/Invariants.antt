@@ -1,7 +1,7 @@
 use Rattle.std.proofs.Common.{◌≡◌, ◌+◌, ◌-◌, ◌≤◌, suc, drop, length}
 use Rattle.rz_bits.specs.View.{seen}
+use Rattle.rz_rows.specs.Spells.{values_in}
 use Rattle.rz_types.specs.Field.{plain_body, plain_cases}
-use Rattle.rz_types.specs.Spells.{values_in}
 use Rattle.rz_unlay.specs.Came.{row_at}
 use Rattle.rz_unlay.specs.Cursor.{body_found, case_found, rows_at, rows_while}
 use Rattle.rz_pieces.specs.Few.{few}

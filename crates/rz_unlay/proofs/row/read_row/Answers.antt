@@ -3,7 +3,7 @@ use Rattle.std.specs.Prelude.{option_map}
 use Rattle.rz_bits.specs.View.{seen}
 use Rattle.rz_fields.specs.declared.field.Field.{Field}
 use Rattle.rz_types.specs.Field.{plain_body}
-use Rattle.rz_types.specs.Spells.{outside}
+use Rattle.rz_types.specs.Passed.{outside}
 use Rattle.rz_unlay.specs.Came.{line_in, row_at}
 use Rattle.rz_unlay.specs.Cursor.{body_found, ended}
 use Rattle.rz_pieces.specs.Pieces.{names_inside}

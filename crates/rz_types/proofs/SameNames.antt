@@ -1,0 +1,61 @@
+-- Names of expressions, compared in whatever case or in lower case.
+use Rattle.std.proofs.Common.{◌≡◌, ℕ, ◌==◌, ◌&&◌, ◌||◌, Bool, true, false, List, [], ◌∷◌, refl, sym, ap, ◌∙◌}
+use Rattle.std.specs.Option.{is_some}
+use Rattle.std.specs.Char.{eq_ignore_ascii_case, to_ascii_lowercase}
+use Rattle.std.specs.Str.{str_eq_ignore_ascii_case, str_to_ascii_lowercase}
+use Rattle.std.proofs.lemmas.Bool.{and_parts, eqb-true, eq-eqb}
+use Rattle.std.proofs.lemmas.Str.Ascii.{lowercase-lowercase}
+use Rattle.rz_core.proofs.Tests.{and_so}
+use Rattle.rz_expr.proofs.Cases.{same_value}
+use Rattle.rz_expr.specs.Environment.{count_of, place_key, place_of, predefined, Key}
+use Rattle.rz_fields.specs.Solve.{is_same_key, is_same_name}
+use Rattle.rz_fields.specs.Passed.{is_known, nothing_passed}
+
+-- Names.
+
+pub same_name : (one other : List ℕ) → str_eq_ignore_ascii_case one other ≡ is_same_name (str_to_ascii_lowercase one) (str_to_ascii_lowercase other)
+same_name [] [] = refl
+same_name [] (o ∷ other) = refl
+same_name (n ∷ one) [] = refl
+same_name (n ∷ one) (o ∷ other) = ap (λ (same : Bool). eq_ignore_ascii_case n o && same) (same_name one other)
+
+same_byte : (a b : ℕ) → eq_ignore_ascii_case a (to_ascii_lowercase b) ≡ eq_ignore_ascii_case a b
+same_byte a b = ap (λ n. to_ascii_lowercase a == n) (lowercase-lowercase b)
+
+pub lower_name : (own name : List ℕ) → str_eq_ignore_ascii_case own (str_to_ascii_lowercase name) ≡ str_eq_ignore_ascii_case own name
+lower_name [] [] = refl
+lower_name [] (n ∷ name) = refl
+lower_name (o ∷ own) [] = refl
+lower_name (o ∷ own) (n ∷ name) = λ i. same_byte o n i && lower_name own name i
+
+or_false : (a : Bool) → (a || false) ≡ a
+or_false true = refl
+or_false false = refl
+
+pub predefined_is : (name : List ℕ) → is_some (predefined name) ≡ is_known nothing_passed (place_key name)
+predefined_is name = ap is_some (same_value name) ∙ sym (or_false (is_some (predefined (str_to_ascii_lowercase name))))
+
+-- Keys.
+
+name_is : (one other : List ℕ) → is_same_name one other ≡ true → one ≡ other
+name_is [] [] is = refl
+name_is [] (o ∷ other) is = absurd cc
+name_is (n ∷ one) [] is = absurd cc
+name_is (n ∷ one) (o ∷ other) is =
+    let parts = and_parts (n == o) (is_same_name one other) is in
+    λ i. eqb-true n o parts.0 i ∷ name_is one other parts.1 i
+
+-- keys that are found the same are one
+pub key_is : (one other : Key) → is_same_key one other ≡ true → one ≡ other
+key_is (place_of name) (place_of other) is = ap place_of (name_is name other is)
+key_is (place_of name) (count_of other) is = absurd cc
+key_is (count_of name) (place_of other) is = absurd cc
+key_is (count_of name) (count_of other) is = ap count_of (name_is name other is)
+
+name_itself : (name : List ℕ) → is_same_name name name ≡ true
+name_itself [] = refl
+name_itself (n ∷ name) = and_so (n == n) (is_same_name name name) (eq-eqb n n refl) (name_itself name)
+
+pub key_itself : (key : Key) → is_same_key key key ≡ true
+key_itself (place_of name) = name_itself name
+key_itself (count_of name) = name_itself name

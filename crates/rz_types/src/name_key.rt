@@ -1,0 +1,202 @@
+ghost use Rattle.std.specs.Prelude.{◌≡◌, ◌||◌, ◌&&◌, not, if◌then◌else◌};
+ghost use Rattle.rz_expr.specs.Term.{term_of};
+ghost use Rattle.rz_fields.specs.Field.{plain_body, plain_field};
+ghost use Rattle.rz_fields.specs.Solve.{can_solve, has_key, is_same_key, undoes_left, undoes_one, undoes_right};
+ghost use Rattle.rz_fields.specs.Passed.{counts_rows, declares, gives_count, gives_key, is_known, nothing_passed, states, states_key};
+ghost use Rattle.rz_types.specs.NameKey.{key_of};
+
+use crate::Field;
+use rz_core::Word;
+use rz_expr::{BinaryOp, Expr, UnaryOp, predefined};
+
+/// A name in an expression, as what can have a value.
+#[derive(Clone, Copy, Debug)]
+pub enum KeyRef<'a> {
+    /// A name by itself.
+    Place(&'a Word),
+    /// An array by the number of its rows.
+    Count(&'a Word),
+}
+
+/// Whether a name has a value outside of all fields.
+#[tactic(auto, using(crate::proofs::SameNames::predefined_is))]
+pub fn is_predefined(key: KeyRef<'_>) -> bool
+    ensures { result ≡ is_known nothing_passed (key_of key.entry) }
+{
+    match key {
+        KeyRef::Place(name) => predefined(name).is_some(),
+        KeyRef::Count(_) => false,
+    }
+}
+
+/// Whether two names are the same and of the same kind.
+#[tactic(auto, using(crate::proofs::SameNames::same_name))]
+pub fn is_same_key(one: KeyRef<'_>, other: KeyRef<'_>) -> bool
+    ensures { result ≡ is_same_key (key_of one.entry) (key_of other.entry) }
+{
+    match (one, other) {
+        (KeyRef::Place(one), KeyRef::Place(other)) => one.is(other.bytes.as_slice()),
+        (KeyRef::Count(one), KeyRef::Count(other)) => one.is(other.bytes.as_slice()),
+        _ => false,
+    }
+}
+
+/// Whether a name is the number of rows of an array of this name.
+#[tactic(auto, using(crate::proofs::SameNames::lower_name))]
+pub fn counts_rows(name: &Word, key: KeyRef<'_>) -> bool
+    ensures { result ≡ counts_rows name.now.bytes (key_of key.entry) }
+{
+    match key {
+        KeyRef::Place(_) => false,
+        KeyRef::Count(other) => name.is(other.bytes.as_slice()),
+    }
+}
+
+/// Whether the name of an array gives this name a value.
+fn gives_count(name: &Option<Word>, key: KeyRef<'_>) -> bool
+    ensures { result ≡ gives_count name.now (key_of key.entry) }
+{
+    match name {
+        Some(name) => counts_rows(name, key),
+        None => false,
+    }
+}
+
+/// Whether a field gives a name a value.
+fn gives_key(field: &Field, key: KeyRef<'_>) -> bool
+    ensures { result ≡ gives_key (plain_field field.now) (key_of key.entry) }
+{
+    match field {
+        Field::Array(array) => gives_count(&array.name, key),
+        _ => false,
+    }
+}
+
+/// Whether one of the fields of a body gives a name a value.
+pub fn declares(row: &[Field], key: KeyRef<'_>) -> bool
+    ensures { result ≡ declares (plain_body row.now) (key_of key.entry) }
+{
+    for field in row {
+        if gives_key(field, key) {
+            return true;
+        }
+    }
+    false
+}
+
+/// Whether a field tells a name by a stated count.
+fn states_key(field: &Field, key: KeyRef<'_>) -> bool
+    ensures { result ≡ states_key (plain_field field.now) (key_of key.entry) }
+{
+    match field {
+        Field::Array(array) => array.count.is_some() && gives_count(&array.name, key),
+        _ => false,
+    }
+}
+
+/// Whether one of the fields of a body tells a name by a stated count.
+pub fn states(row: &[Field], key: KeyRef<'_>) -> bool
+    ensures { result ≡ states (plain_body row.now) (key_of key.entry) }
+{
+    for field in row {
+        if states_key(field, key) {
+            return true;
+        }
+    }
+    false
+}
+
+/// How a name stands in an expression.
+#[derive(Clone, Copy, Debug)]
+pub struct Standing {
+    /// Whether it stands there.
+    pub stands: bool,
+    /// Whether it stands there once, below operators that can be undone alone.
+    pub solved: bool,
+}
+
+/// How a name stands in an expression.
+pub fn standing_of(key: KeyRef<'_>, expr: &Expr) -> Standing
+    ensures stands { result.stands ≡ has_key (key_of key.entry) (term_of expr.now) }
+    ensures solved { result.solved ≡ can_solve (key_of key.entry) (term_of expr.now) }
+{
+    match expr {
+        Expr::Number(_) | Expr::Fact(_) => alone(false),
+        Expr::Name(name) => alone(is_same_key(key, KeyRef::Place(name))),
+        Expr::Count(name) => alone(is_same_key(key, KeyRef::Count(name))),
+        Expr::Unary(op, operand) => {
+            let inner = standing_of(key, operand);
+            Standing {
+                stands: inner.stands,
+                solved: undoes_one(*op) && inner.solved,
+            }
+        }
+        Expr::Binary(op, left, right) => {
+            beside(*op, standing_of(key, left), standing_of(key, right))
+        }
+        Expr::Bits(name, start, width) => Standing {
+            stands: is_same_key(key, KeyRef::Place(name))
+                || standing_of(key, start).stands
+                || standing_of(key, width).stands,
+            solved: false,
+        },
+    }
+}
+
+/// How a name stands in an expression that is a name.
+fn alone(same: bool) -> Standing
+    ensures stands { result.stands ≡ same }
+    ensures solved { result.solved ≡ same }
+{
+    Standing {
+        stands: same,
+        solved: same,
+    }
+}
+
+/// How a name stands in an operator with two operands, in which it stands so.
+fn beside(op: BinaryOp, left: Standing, right: Standing) -> Standing
+    ensures stands { result.stands ≡ (left.stands || right.stands) }
+    ensures solved { result.solved ≡ (if left.stands then undoes_left op && not right.stands && left.solved else undoes_right op && right.solved) }
+{
+    Standing {
+        stands: left.stands || right.stands,
+        solved: if left.stands {
+            undoes_left(op) && !right.stands && left.solved
+        } else {
+            undoes_right(op) && right.solved
+        },
+    }
+}
+
+fn undoes_one(op: UnaryOp) -> bool
+    ensures { result ≡ undoes_one op }
+{
+    match op {
+        UnaryOp::Minus => true,
+        _ => false,
+    }
+}
+
+fn undoes_left(op: BinaryOp) -> bool
+    ensures { result ≡ undoes_left op }
+{
+    match op {
+        BinaryOp::Plus
+        | BinaryOp::Minus
+        | BinaryOp::Times
+        | BinaryOp::Divide
+        | BinaryOp::ShiftLeft
+        | BinaryOp::ShiftRight => true,
+        _ => false,
+    }
+}
+
+fn undoes_right(op: BinaryOp) -> bool
+    ensures { result ≡ undoes_right op }
+{
+    match op {
+        BinaryOp::Plus | BinaryOp::Minus | BinaryOp::Times => true,
+        _ => false,
+    }
+}
