@@ -1,5 +1,11 @@
-pub mod Parts
+pub mod Answering
+pub mod FileNames
+pub mod OneText
+pub mod Reading
+pub mod Calls
 pub mod Attributes
 pub mod OneData
 pub mod Shaped
-pub mod Closes
+pub mod Bodies
+pub mod Built
+pub mod Plain

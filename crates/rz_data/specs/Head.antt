@@ -1,6 +1,6 @@
 -- The head of a statement: an id, and then maybe a name and attributes. A head of a new resource has constants and
 -- the date alone; one of a resource that is chosen may speak of that too. (MPW Rez.)
-use Rattle.std.specs.Prelude.{◌≡◌, ℕ, Bool, true, false, ◌&&◌, if◌then◌else◌, List, [], ◌∷◌, map, Option, Some, None, option_map}
+use Rattle.std.specs.Prelude.{◌≡◌, ℕ, Bool, true, false, if◌then◌else◌, List, [], ◌∷◌, map, Option, Some, None, option_map}
 use Rattle.rz_expr.specs.Attribute.{attribute_word}
 use Rattle.rz_expr.specs.declared.attribute.AttributeWord.{AttributeWord}
 use Rattle.rz_expr.specs.Grammar.{IsExpression}
@@ -8,8 +8,11 @@ use Rattle.rz_expr.specs.Term.{term_of, Term}
 use Rattle.rz_lex.specs.declared.token.Shape.{Shape}
 use Rattle.rz_lex.specs.declared.token.Shape.TheVariants as shapes
 use Rattle.rz_lex.specs.declared.token.Token.{Token}
-use Rattle.rz_fields.specs.Text.{plain_parts, text_in, NameFact, PlainPart}
-use Rattle.rz_fields.specs.Value.{is_field_expression, is_head_expression}
+use Rattle.rz_fields.specs.Place.{may_say}
+use Rattle.rz_fields.specs.Text.{plain_parts, PlainPart}
+use Rattle.rz_fields.specs.declared.place.TextPlace.{TextPlace}
+use Rattle.rz_fields.specs.declared.place.TextPlace.TheVariants as places
+use Rattle.rz_data.specs.Texts.{begins_text, IsText}
 use Rattle.rz_data.specs.declared.head.AttrPart.{AttrPart}
 use Rattle.rz_data.specs.declared.head.AttrPart.TheVariants as parts
 use Rattle.rz_data.specs.declared.head.HeadExpr.{HeadExpr}
@@ -48,15 +51,14 @@ word_attribute (token ∷ []) = by_word token.shape
     by_word shape = None
 word_attribute tokens = None
 
--- of a new resource nothing but the date is known where its head is read; of one that is chosen its id, type and
--- attributes are
-abbrev pub may_say : Subject → Term → Bool
-may_say New term = is_head_expression term
-may_say Chosen term = is_field_expression term
+-- where the expressions and the name of such a head stand
+abbrev pub place_of : Subject → TextPlace
+place_of New = places.New
+place_of Chosen = places.Chosen
 
 -- the tokens are this expression, and it may stand in a head of the subject
 abbrev pub IsSaidFor : Subject → List Token → Term → Type 0
-IsSaidFor subject tokens term = IsExpression tokens term × (may_say subject term ≡ true)
+IsSaidFor subject tokens term = IsExpression tokens term × (may_say (place_of subject) term ≡ true)
 
 -- a piece that is an attribute: such a word, or else an expression
 abbrev pub IsAttributeBy : Subject → Option Attribute → List Token → Attribute → Type 0
@@ -71,36 +73,15 @@ AreAttributesFor subject [] attributes = attributes ≡ []
 AreAttributesFor subject (piece ∷ pieces) attributes =
     (first : Attribute) × (rest : List Attribute) × IsAttributeFor subject piece first × AreAttributesFor subject pieces rest × (attributes ≡ first ∷ rest)
 
--- a part that is known before a resource is: whatever but `$$Name`
-abbrev pub is_known : PlainPart → Bool
-is_known NameFact = false
-is_known other = true
-
-abbrev pub are_known : List PlainPart → Bool
-are_known [] = true
-are_known (part ∷ parts) = is_known part && are_known parts
-
-abbrev pub if_known : Option (List PlainPart) → Option (List PlainPart)
-if_known None = None
-if_known (Some parts) = if are_known parts then Some parts else None
-
--- the name that a piece is in the head of a new resource: a text whose parts are all known
-abbrev pub name_in : List Token → Option (List PlainPart)
-name_in piece = if_known (text_in piece)
-
--- in the head of one that is chosen `$$Name` may stand too
-abbrev pub name_for : Subject → List Token → Option (List PlainPart)
-name_for New piece = name_in piece
-name_for Chosen piece = text_in piece
-
--- what stands behind the id: a text is the name, and all other pieces are attributes
-abbrev pub IsRestBy : Subject → Option (List PlainPart) → List Token → List (List Token) → Option (List PlainPart) → List Attribute → Type 0
-IsRestBy subject (Some parts) piece pieces name attributes = (name ≡ Some parts) × AreAttributesFor subject pieces attributes
-IsRestBy subject None piece pieces name attributes = (name ≡ None) × AreAttributesFor subject (piece ∷ pieces) attributes
+-- what stands behind the id: the name where a text begins there, and all other pieces are attributes
+abbrev pub IsRestBy : Subject → Bool → List Token → List (List Token) → Option (List PlainPart) → List Attribute → Type 0
+IsRestBy subject true piece pieces name attributes =
+    (parts : List PlainPart) × IsText (place_of subject) piece parts × AreAttributesFor subject pieces attributes × (name ≡ Some parts)
+IsRestBy subject false piece pieces name attributes = (name ≡ None) × AreAttributesFor subject (piece ∷ pieces) attributes
 
 abbrev pub IsRestFor : Subject → List (List Token) → Option (List PlainPart) → List Attribute → Type 0
 IsRestFor subject [] name attributes = (name ≡ None) × (attributes ≡ [])
-IsRestFor subject (piece ∷ pieces) name attributes = IsRestBy subject (name_for subject piece) piece pieces name attributes
+IsRestFor subject (piece ∷ pieces) name attributes = IsRestBy subject (begins_text piece) piece pieces name attributes
 
 abbrev pub IsRestOf : Subject → List (List Token) → Option (List PlainPart) × List Attribute → Type 0
 IsRestOf subject pieces rest = IsRestFor subject pieces rest.0 rest.1

@@ -1,14 +1,16 @@
-ghost use Rattle.std.specs.Prelude.{◌≡◌, IfOk, List, MatchOption, map, option_map};
-ghost use Rattle.rz_expr.specs.Term.{term_of, Term};
+ghost use Rattle.std.specs.Prelude.{◌≡◌, IfOk, map, option_map};
+ghost use Rattle.rz_expr.specs.Term.{term_of};
 ghost use Rattle.rz_expr.specs.Attribute.{attribute_word};
 ghost use Rattle.rz_fields.specs.Text.{plain_parts};
 ghost use Rattle.rz_core.specs.Decided.{Decided};
-ghost use Rattle.rz_data.specs.Head.{are_known, attribute_of, head_of, may_say, name_for, name_in, said, word_attribute, AreAttributesFor, Attribute, Head, IsAttributeFor, IsHead, IsHeadFor, IsRestOf, IsSaidFor};
+ghost use Rattle.rz_data.specs.Head.{attribute_of, head_of, place_of, said, word_attribute, AreAttributesFor, IsAttributeFor, IsHead, IsHeadFor, IsRestOf, IsSaidFor};
+ghost use Rattle.rz_data.specs.Steps.{rest_of, IsNamedRest};
 ghost use Rattle.rz_data.specs.declared.head.Subject.TheVariants.{New};
 
+use crate::texts::{begins_text, text_at};
 use rz_core::{Listing, NoMemory, Word};
 use rz_expr::{AttributeWord, Expr, attribute_word, one_expression, read_whole};
-use rz_fields::{TextPart, Texts, is_field_expression, is_head_expression, text_in};
+use rz_fields::{TextPlace, Texts, may_say};
 use rz_lex::{Shape, Token};
 use std::alloc::Global;
 
@@ -86,60 +88,46 @@ fn read_rest(
     subject: Subject,
     pieces: &[&[Token]],
 ) -> Result<Option<(Option<Texts>, AttrParts)>, NoMemory>
-    ensures { IfOk result (λ rest. Decided (IsRestOf subject (map (λ piece. piece.now) pieces.now))
-        (option_map (λ rest. (option_map plain_parts rest.0, map attribute_of rest.1)) rest)) }
+    ensures { IfOk result (λ rest. Decided (IsRestOf subject (map (λ piece. piece.now) pieces.now)) (option_map rest_of rest)) }
 {
     let Some((first, others)) = pieces.split_first() else {
         return Ok(Some((None, AttrParts::new(alloc))));
     };
-    match name_for(alloc, subject, first)? {
-        Some(name) => match read_attributes(alloc, subject, others)? {
-            Some(attributes) => Ok(Some((Some(name), attributes))),
-            None => Ok(None),
-        },
-        None => match read_attributes(alloc, subject, pieces)? {
-            Some(attributes) => Ok(Some((None, attributes))),
-            None => Ok(None),
-        },
+    if begins_text(first) {
+        return read_named(alloc, subject, first, others);
     }
-}
-
-/// The name that a piece is.
-fn name_for(alloc: Global, subject: Subject, piece: &[Token]) -> Result<Option<Texts>, NoMemory>
-    ensures { IfOk result (λ name. option_map plain_parts name ≡ name_for subject piece.now) }
-{
-    match subject {
-        Subject::New => name_in(alloc, piece),
-        Subject::Chosen => text_in(alloc, piece),
-    }
-}
-
-/// The name of a new resource, or of one that is picked, that a piece is: a text without `$$Name`. (MPW Rez.)
-pub fn name_in(alloc: Global, piece: &[Token]) -> Result<Option<Texts>, NoMemory>
-    ensures { IfOk result (λ name. option_map plain_parts name ≡ name_in piece.now) }
-{
-    match text_in(alloc, piece)? {
-        Some(parts) => {
-            if are_known(&parts) {
-                Ok(Some(parts))
-            } else {
-                Ok(None)
-            }
-        }
+    match read_attributes(alloc, subject, pieces)? {
+        Some(attributes) => Ok(Some((None, attributes))),
         None => Ok(None),
     }
 }
 
-/// Whether all parts are known before a resource is: none is `$$Name`.
-fn are_known(parts: &Texts) -> bool
-    ensures { result ≡ are_known (plain_parts parts.now) }
+/// The name that a piece is, and the attributes behind it.
+fn read_named(
+    alloc: Global,
+    subject: Subject,
+    piece: &[Token],
+    others: &[&[Token]],
+) -> Result<Option<(Option<Texts>, AttrParts)>, NoMemory>
+    ensures { IfOk result (λ rest. Decided (IsNamedRest subject piece.now (map (λ piece. piece.now) others.now)) (option_map rest_of rest)) }
 {
-    for part in parts.as_slice() {
-        if matches!(part, TextPart::NameFact) {
-            return false;
-        }
+    let Some(name) = text_at(alloc, place_of(subject), piece)? else {
+        return Ok(None);
+    };
+    match read_attributes(alloc, subject, others)? {
+        Some(attributes) => Ok(Some((Some(name), attributes))),
+        None => Ok(None),
     }
-    true
+}
+
+/// Where the expressions and the name of a head of the subject stand.
+fn place_of(subject: Subject) -> TextPlace
+    ensures { result ≡ place_of subject }
+{
+    match subject {
+        Subject::New => TextPlace::New,
+        Subject::Chosen => TextPlace::Chosen,
+    }
 }
 
 /// The attributes that the pieces are.
@@ -190,23 +178,13 @@ pub fn read_said(
     one_expression();
     match read_whole(alloc, tokens)? {
         Some(expr) => {
-            if may_say(subject, &expr) {
+            if may_say(place_of(subject), &expr) {
                 Ok(Some(expr))
             } else {
                 Ok(None)
             }
         }
         None => Ok(None),
-    }
-}
-
-/// Whether an expression may stand in a head of the subject.
-fn may_say(subject: Subject, expr: &Expr) -> bool
-    ensures { result ≡ may_say subject (term_of expr.now) }
-{
-    match subject {
-        Subject::New => is_head_expression(expr),
-        Subject::Chosen => is_field_expression(expr),
     }
 }
 

@@ -1,18 +1,22 @@
-//! `data` statements: their heads, and the texts that are their bytes. `read_raw` gives exactly the statement
-//! that the tokens are, or none, and there is one at most. The values of its expressions are computed by who asks
-//! for them. `read_head` reads the heads of `resource` statements too, and
-//! `read_head_for` those that speak of a resource that is chosen.
+//! Texts, heads and `data` statements. `text_at` gives exactly the text that the tokens are, where it may stand in its
+//! place, or none, and there is one at most: text tokens, words, and functions with what they are of in brackets.
+//! `read_raw` gives the `data` statement that the tokens are: its head, and the text that is its bytes. `read_head`
+//! reads the heads of `resource` statements too, and `read_head_for` those that speak of a resource that is chosen.
+//! `whole_file` and `file_in` read the name of a file. The values of expressions are computed by who asks for them.
 //! It rests on `rz_core`, `rz_lex`, `rz_expr`, `rz_fields` and `rz_brackets`.
+//! A new part of a text changes `texts` here, and what `specs/Text.antt` and `specs/Place.antt` of `rz_fields` say of it.
 //! A new part of a head changes `head` here, `head` of `rz_work`, which computes it, and `rz_show`, which writes
 //! it.
 #![tactic(auto)]
 
+mod files;
 mod head;
 mod laws;
 mod raw;
+mod texts;
 
-pub use head::{
-    AttrPart, AttrParts, HeadExpr, Subject, name_in, read_head, read_head_for, read_said,
-};
-pub use laws::{one_data, texts_are_closed};
+pub use files::{behind_texts, file_in, whole_file};
+pub use head::{AttrPart, AttrParts, HeadExpr, Subject, read_head, read_head_for, read_said};
+pub use laws::{one_data, one_text};
 pub use raw::{RawStmt, read_raw};
+pub use texts::{TextCall, begins_text, text_at};

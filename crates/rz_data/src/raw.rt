@@ -1,14 +1,16 @@
-ghost use Rattle.std.specs.Prelude.{◌≡◌, IfOk, option_map};
+ghost use Rattle.std.specs.Prelude.{◌≡◌, IfOk, map, option_map};
 ghost use Rattle.rz_fields.specs.Text.{plain_parts};
 ghost use Rattle.rz_core.specs.Decided.{Decided};
-ghost use Rattle.rz_data.specs.Raw.{is_close, is_end, is_open_brace, raw_of, texts_in, IsRaw};
+ghost use Rattle.rz_data.specs.Raw.{raw_of, AreTexts, IsBody, IsInside, IsMaybeText, IsRaw};
+ghost use Rattle.rz_data.specs.Steps.{headed_of, IsHeadedPair};
 
 use crate::head::{HeadExpr, read_head};
-use rz_brackets::{Bracket, Divider, bracketed, is_semicolon, kind_in, pieces_by};
+use crate::texts::text_at;
+use rz_brackets::{Bracket, Divider, bracketed, is_empty_statement, kind_in, pieces_by};
 use rz_core::{NoMemory, OsType};
 use rz_expr::{Keyword, is_keyword};
-use rz_fields::{Texts, part_in};
-use rz_lex::{Shape, Sign, Token};
+use rz_fields::{TextPlace, Texts};
+use rz_lex::Token;
 use std::alloc::Global;
 
 /// A `data` statement. (MPW Rez.)
@@ -22,7 +24,8 @@ pub struct RawStmt {
     pub texts: Texts,
 }
 
-/// The `data` statement that the tokens are, where they are one.
+/// The `data` statement that the tokens are, where they are one. Reading goes as deep as brackets are open: callers
+/// bound the tokens that they hand in. (MPW Rez.)
 pub fn read_raw(alloc: Global, tokens: &[Token]) -> Result<Option<RawStmt>, NoMemory>
     ensures { IfOk result (λ raw. Decided (IsRaw tokens.now) (option_map raw_of raw)) }
 {
@@ -32,80 +35,89 @@ pub fn read_raw(alloc: Global, tokens: &[Token]) -> Result<Option<RawStmt>, NoMe
     if !is_keyword(word, Keyword::Data) {
         return Ok(None);
     }
-    let Some(kind) = kind_in(kind) else {
+    let Some(code) = kind_in(kind) else {
         return Ok(None);
     };
-    let Some(split) = bracketed(behind, Bracket::Round) else {
-        return Ok(None);
-    };
-    let [brace, body @ ..] = split.behind else {
-        return Ok(None);
-    };
-    if !is_open_brace(brace) {
-        return Ok(None);
-    }
-    let pieces = pieces_by(alloc, split.front, Divider::Comma)?;
-    let Some(head) = read_head(alloc, &pieces)? else {
-        return Ok(None);
-    };
-    match texts_in(alloc, body)? {
-        Some(texts) => Ok(Some(RawStmt {
-            kind: OsType { code: kind },
-            head,
-            texts,
+    match read_headed(alloc, behind)? {
+        Some(parts) => Ok(Some(RawStmt {
+            kind: OsType { code },
+            head: parts.head,
+            texts: parts.texts,
         })),
         None => Ok(None),
     }
 }
 
-/// Whether it is `{`.
-fn is_open_brace(token: &Token) -> bool
-    ensures { result ≡ is_open_brace token.now.shape }
-{
-    matches!(token.shape, Shape::Sign(Sign::OpenBrace))
+/// A head, and the texts behind it.
+#[derive(Drop)]
+struct Headed {
+    head: HeadExpr,
+    texts: Texts,
 }
 
-/// The parts of the text at the front, where the end of a statement stands behind them.
-fn texts_in(alloc: Global, tokens: &[Token]) -> Result<Option<Texts>, NoMemory>
-    ensures { IfOk result (λ texts. option_map plain_parts texts ≡ texts_in tokens.now) }
+/// What stands behind the type.
+fn read_headed(alloc: Global, tokens: &[Token]) -> Result<Option<Headed>, NoMemory>
+    ensures { IfOk result (λ parts. Decided (IsHeadedPair tokens.now) (option_map headed_of parts)) }
 {
-    let mut texts = Texts::new(alloc);
-    let mut rest = tokens;
-    while let Some((first, behind)) = rest.split_first() {
-        match part_in(alloc, first)? {
-            Some(part) => {
-                texts.push(part)?;
-                rest = behind;
-            }
-            None => return Ok(if is_end(rest) { Some(texts) } else { None }),
-        }
+    let Some(split) = bracketed(tokens, Bracket::Round) else {
+        return Ok(None);
+    };
+    let pieces = pieces_by(alloc, split.front, Divider::Comma)?;
+    let Some(head) = read_head(alloc, &pieces)? else {
+        return Ok(None);
+    };
+    match read_body(alloc, split.behind)? {
+        Some(texts) => Ok(Some(Headed { head, texts })),
+        None => Ok(None),
     }
-    Ok(None)
 }
 
-/// Whether these are the end of a statement: `}` and `;`, and before them maybe a `;`.
-fn is_end(tokens: &[Token]) -> bool
-    ensures { result ≡ is_end tokens.now }
+/// The texts in braces with the `;` behind them.
+fn read_body(alloc: Global, tokens: &[Token]) -> Result<Option<Texts>, NoMemory>
+    ensures { IfOk result (λ texts. Decided (IsBody tokens.now) (option_map plain_parts texts)) }
 {
-    match tokens {
-        [first, rest @ ..] => {
-            if is_semicolon(first) {
-                is_close(rest)
+    let Some(split) = bracketed(tokens, Bracket::Curly) else {
+        return Ok(None);
+    };
+    if is_empty_statement(split.behind) {
+        read_inside(alloc, split.front)
+    } else {
+        Ok(None)
+    }
+}
+
+/// The texts that stand in braces, maybe with a `;` behind them.
+fn read_inside(alloc: Global, tokens: &[Token]) -> Result<Option<Texts>, NoMemory>
+    ensures { IfOk result (λ texts. Decided (IsInside tokens.now) (option_map plain_parts texts)) }
+{
+    let pieces = pieces_by(alloc, tokens, Divider::Semicolon)?;
+    read_texts(alloc, &pieces)
+}
+
+/// The texts that the first piece is, where no piece but an empty one stands behind it.
+fn read_texts(alloc: Global, pieces: &[&[Token]]) -> Result<Option<Texts>, NoMemory>
+    ensures { IfOk result (λ texts. Decided (AreTexts (map (λ piece. piece.now) pieces.now)) (option_map plain_parts texts)) }
+{
+    match pieces {
+        [piece] => read_maybe(alloc, piece),
+        [piece, end] => {
+            if end.is_empty() {
+                read_maybe(alloc, piece)
             } else {
-                is_close(tokens)
+                Ok(None)
             }
         }
-        [] => false,
+        _ => Ok(None),
     }
 }
 
-/// Whether these are `}` and `;`.
-fn is_close(tokens: &[Token]) -> bool
-    ensures { result ≡ is_close tokens.now }
+/// A text, or nothing.
+fn read_maybe(alloc: Global, tokens: &[Token]) -> Result<Option<Texts>, NoMemory>
+    ensures { IfOk result (λ texts. Decided (IsMaybeText tokens.now) (option_map plain_parts texts)) }
 {
-    match tokens {
-        [brace, semicolon] => matches!(brace.shape, Shape::Sign(Sign::CloseBrace))
-            && is_semicolon(semicolon),
-        _ => false,
+    if tokens.is_empty() {
+        Ok(Some(Texts::new(alloc)))
+    } else {
+        text_at(alloc, TextPlace::Data, tokens)
     }
 }

@@ -8,7 +8,7 @@ use Rattle.rz_core.specs.declared.stop.Stop.{Stop}
 use Rattle.rz_core.specs.declared.stop.Stop.TheVariants.{NoMemory, Refused}
 use Rattle.rz_declare.specs.Constants.{body_value, cases_value, case_value}
 use Rattle.rz_flat.specs.Form as form
-use Rattle.rz_flat.specs.Form.{BodyForm, CaseForm, CasesForm, FieldForm}
+use Rattle.rz_flat.specs.Form.{CaseForm, CasesForm}
 use Rattle.rz_flat.proofs.Each.{before, before_more}
 use Rattle.rz_fields.specs.Field.{body_of, case_and, cases_of, field_and, no_cases, no_fields, PlainBody, PlainCase, PlainCases, PlainField}
 

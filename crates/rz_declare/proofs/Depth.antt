@@ -25,8 +25,10 @@ use Rattle.rz_declare.specs.Body.{array, case_more, cut, cut_cases, empty, flat,
 use Rattle.rz_declare.specs.Constants.{body_value, cases_value, count_value, field_value, declared, given_value, made_value, number_value, scope_value, Declare, PlainMade}
 use Rattle.rz_declare.specs.Constants as values
 use Rattle.rz_declare.specs.Declare.{copied, copied_of, for_any, for_ids, in_braces, IsDeclare, IsMade, IsScoped}
+use Rattle.rz_declare.specs.Flat.{IsFlatBy}
+use Rattle.rz_fields.specs.declared.field.TextForm.{TextForm}
 use Rattle.rz_flat.specs.FieldForm.{IsFieldOf, IsFill, IsFillOf}
-use Rattle.rz_flat.specs.FieldWord.{FieldFront}
+use Rattle.rz_flat.specs.FieldWord.{text_form, FieldFront}
 use Rattle.rz_flat.specs.Form as form
 use Rattle.rz_flat.specs.Form.{BodyForm, CasesForm, DeclareForm, FieldForm, MadeForm, ScopeForm}
 use Rattle.rz_declare.specs.Head.{bare, case_front, counted, is_colon, named, ArrayFront, CaseFront, IsArrayFront, IsBraced, IsNamed}
@@ -37,7 +39,8 @@ use Rattle.rz_flat.specs.declared.field_word.FieldWord.{FieldWord}
 use Rattle.rz_flat.specs.declared.field_word.FieldWord.TheVariants as words
 use Rattle.rz_flat.proofs.Answering.{same_ok, then_ok}
 use Rattle.rz_flat.proofs.Level.{bracket_level, bracket_opens, level_bracketed, level_cut, level_derives, level_join, level_more, level_nil, plain_by, IsLevel, IsPlain, OfNone}
-use Rattle.rz_flat.proofs.LevelField.{flat_level, key_level, keyword_plain, name_plain}
+use Rattle.rz_declare.proofs.LevelFlat.{flat_level}
+use Rattle.rz_flat.proofs.LevelField.{key_level, keyword_plain, name_plain}
 use Rattle.rz_fields.specs.Field as made
 use Rattle.rz_fields.specs.Field.{PlainBody, PlainCases, PlainField}
 use Rattle.rz_fields.specs.Shape.{body_depth, cases_depth, field_depth}
@@ -267,10 +270,14 @@ fill_flat (token ∷ tokens) field is = fill_of is.0 tokens field is.2
 
 field_of : (word : FieldWord) (front : FieldFront) (field : FieldForm) → IsFieldOf word front field → IsFlatForm field
 field_of (words.Number number) front field is = subst IsFlatForm (sym is.2) tt
-field_of (words.Text text) front field is = subst IsFlatForm (sym is.4) tt
+field_of (words.Text text) front field is = absurd is
 field_of (words.Points rect) front field is = subst IsFlatForm (sym is.3) tt
 field_of words.Fill front field is = fill_flat front.tail field is.1
 field_of words.Align front field is = subst IsFlatForm (sym is.3) tt
+
+flat_by : (text : Option TextForm) (front : FieldFront) (field : FieldForm) → IsFlatBy text front field → IsFlatForm field
+flat_by (Some text) front field is = subst IsFlatForm (sym is.4) tt
+flat_by None front field is = field_of front.word front field is
 
 key_of : (word : FieldWord) (front : FieldFront) (field : FieldForm) → IsKeyOf word front field → IsFlatForm field
 key_of (words.Number number) front field is = subst IsFlatForm (sym is.1.3) tt
@@ -305,7 +312,7 @@ module _ (mark : Mark) (most : ℕ) where
   mutual
     field_fits : (count : ℕ) (in_case : Bool) (tokens : List Token) (own : FieldForm) → IsField in_case tokens own → count ≤ most → HasRoom most count tokens
         → (field : PlainField) → field_value mark own ≡ Ok field → field_depth field + count ≤ most
-    field_fits count in_case tokens own (flat same all one is) low room field value = flat_fits mark most count own (field_of is.0.word is.0 own is.2) low field value
+    field_fits count in_case tokens own (flat same all one is) low room field value = flat_fits mark most count own (flat_by (text_form is.0.word) is.0 own is.2) low field value
     field_fits count in_case tokens own (key all behind one start is) low room field value = flat_fits mark most count own (key_of is.0.word is.0 own is.2) low field value
     field_fits count in_case tokens own (array same all behind front row start is rows) low room field value =
         let opened = array_opened tokens behind front start is in

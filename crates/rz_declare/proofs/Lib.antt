@@ -1,5 +1,8 @@
 pub mod Valued
 pub mod MadeSo
+pub mod OneFlat
+pub mod LevelFlat
+pub mod ShapedFlat
 pub mod Starts
 pub mod OneHead
 pub mod OneBody

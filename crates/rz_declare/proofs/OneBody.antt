@@ -7,7 +7,7 @@ use Rattle.rz_lex.specs.declared.token.Token.{Token}
 use Rattle.rz_declare.specs.Body.{array, case_more, cut, cut_cases, empty, flat, key, more, no_case, none, switch, AreCases, AreEachCase, AreFields, IsBody, IsField}
 use Rattle.rz_flat.specs.Form.{case_and, field_and, Array, BodyForm, CasesForm, FieldForm, Switch}
 use Rattle.rz_declare.specs.Head.{case_front, ArrayFront, CaseFront}
-use Rattle.rz_flat.proofs.OneField.{one_flat}
+use Rattle.rz_declare.proofs.OneFlat.{one_flat}
 use Rattle.rz_declare.proofs.OneHead.{one_array_front, one_braced}
 use Rattle.rz_flat.proofs.OneKey.{one_key}
 use Rattle.rz_flat.proofs.OneTerm.{OneCut, OneWithin}

@@ -19,7 +19,8 @@ use Rattle.rz_declare.specs.Start.{start_of, started, wide_start, Array, FieldSt
 use Rattle.rz_flat.specs.Symbols.{name_in}
 use Rattle.rz_flat.proofs.Answering.{same_ok, then_ok}
 use Rattle.rz_flat.proofs.Pieces.{after_lexed, cut_lexed, within_lexed, AreAllLexed}
-use Rattle.rz_flat.proofs.ShapedField.{a_key_formed, flat_formed, AreCasesFormed, IsBodyFormed, IsFieldFormed}
+use Rattle.rz_declare.proofs.ShapedFlat.{flat_formed}
+use Rattle.rz_flat.proofs.ShapedField.{a_key_formed, AreCasesFormed, IsBodyFormed, IsFieldFormed}
 use Rattle.rz_flat.proofs.ShapedNumber.{name_of}
 use Rattle.rz_declare.proofs.ShapedValue.{number_shaped}
 use Rattle.rz_fields.specs.Field as made

@@ -6,7 +6,7 @@ use Rattle.rz_expr.specs.declared.keyword.Keyword.{Keyword}
 use Rattle.rz_expr.specs.declared.keyword.Keyword.TheVariants as keywords
 use Rattle.rz_lex.specs.declared.token.Token.{Token}
 use Rattle.rz_declare.specs.Body.{array, flat, key, switch, IsArray, IsField, IsSwitch}
-use Rattle.rz_flat.specs.FieldForm.{IsFlat}
+use Rattle.rz_declare.specs.Flat.{IsFlat}
 use Rattle.rz_flat.specs.FieldWord.{by_modifier, field_word, front_in, modifier_word, FieldFront}
 use Rattle.rz_flat.specs.Form.{FieldForm}
 use Rattle.rz_flat.specs.Key.{IsKey}

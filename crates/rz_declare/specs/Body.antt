@@ -3,7 +3,7 @@ use Rattle.std.specs.Prelude.{◌≡◌, Bool, true, false, List, [], ◌∷◌,
 use Rattle.rz_lex.specs.declared.token.Token.{Token}
 use Rattle.rz_brackets.specs.Pieces.{AreCut}
 use Rattle.rz_brackets.specs.declared.pieces.Divider.TheVariants.{Case, Semicolon}
-use Rattle.rz_flat.specs.FieldForm.{IsFlat}
+use Rattle.rz_declare.specs.Flat.{IsFlat}
 use Rattle.rz_flat.specs.Form as form
 use Rattle.rz_flat.specs.Form.{BodyForm, CaseForm, CasesForm, FieldForm}
 use Rattle.rz_declare.specs.Head.{case_front, ArrayFront, CaseFront, IsArrayFront, IsBraced}

@@ -1,6 +1,7 @@
 pub mod Start
 pub mod Head
 pub mod Held
+pub mod Flat
 pub mod Body
 pub mod Declare
 pub mod DeclareSteps
@@ -12,6 +13,9 @@ pub use Rattle.rz_brackets.specs.Statements
 pub use Rattle.rz_brackets.specs.Pieces
 pub use Rattle.rz_brackets.specs.Bracket
 pub use Rattle.rz_brackets.specs.Kind
+pub use Rattle.rz_data.specs.Files
+pub use Rattle.rz_data.specs.Texts
+pub use Rattle.rz_fields.specs.Place
 pub use Rattle.rz_fields.specs.Text
 pub use Rattle.rz_fields.specs.Value
 pub use Rattle.rz_fields.specs.Range

@@ -3,12 +3,13 @@ ghost use Rattle.rz_core.specs.Decided.{Decided};
 ghost use Rattle.rz_declare.specs.Body.{AreCases, IsArray, IsBody, IsCase, IsField, IsSwitch};
 ghost use Rattle.rz_flat.specs.Form.{body_form, case_form, cases_form, field_form};
 
+use crate::flat::read_flat;
 use crate::head::{behind_empty, braced, case_front, read_array_front};
 use crate::start::{Start, start_of};
 use rz_brackets::{Divider, pieces_are_cut, pieces_by};
 use rz_core::NoMemory;
 use rz_expr::one_expression;
-use rz_flat::{ArrayExpr, CaseExpr, CaseExprs, FieldExpr, FieldExprs, read_flat, read_key};
+use rz_flat::{ArrayExpr, CaseExpr, CaseExprs, FieldExpr, FieldExprs, read_key};
 use rz_lex::Token;
 use std::alloc::Global;
 

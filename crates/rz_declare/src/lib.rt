@@ -1,9 +1,9 @@
 //! `type` statements. `read_declare` gives exactly the statement that the tokens are, with expressions where
 //! constants stand, or none; `value_declare` gives these their values from left to right, or the first fault.
 //! A body leads back to itself, by arrays and switches: `body` reads it with the fields that have fields of their
-//! own, whose first words stand in `start` and what stands before their braces or their fields in `head`. The other
-//! fields, the keys of cases and the form of the statement stand in `rz_flat`.
-//! It rests on `rz_core`, `rz_lex`, `rz_expr`, `rz_fields`, `rz_brackets` and `rz_flat`.
+//! own, whose first words stand in `start` and what stands before their braces or their fields in `head`. `flat` reads
+//! texts, and asks `rz_flat` for the other fields; the keys of cases and the form of the statement stand there too.
+//! It rests on `rz_core`, `rz_lex`, `rz_expr`, `rz_fields`, `rz_brackets`, `rz_data` and `rz_flat`.
 //! A new kind of field changes `form` of `rz_flat`, `field` there (or `start` and `body` here, where it has fields of
 //! its own) and `constants` here, each with its definitions, and `Field` of `rz_fields`.
 #![tactic(auto)]
@@ -11,6 +11,7 @@
 mod body;
 mod constants;
 mod declare;
+mod flat;
 mod head;
 mod laws;
 mod start;

@@ -1,6 +1,5 @@
 -- Behind the tokens of a field with no fields of its own as many brackets are open as before them.
-use Rattle.std.proofs.Common.{◌≡◌, ℕ, ℤ, Bool, true, false, if◌then◌else◌, List, [], ◌∷◌, length, Option, Some, None, refl, sym, subst}
-use Rattle.std.specs.Prelude.{option_map}
+use Rattle.std.proofs.Common.{◌≡◌, ℕ, ℤ, Bool, true, false, List, [], ◌∷◌, length, Option, Some, None, refl, sym, subst}
 use Rattle.std.specs.List.{AllByRecursion}
 use Rattle.std.proofs.lemmas.List.{nil_from_length}
 use Rattle.rz_core.specs.declared.resource.Word.{Word}
@@ -10,12 +9,11 @@ use Rattle.rz_expr.specs.Term.{Term}
 use Rattle.rz_expr.specs.declared.keyword.Keyword.{Keyword}
 use Rattle.rz_lex.specs.declared.token.Shape.{Shape}
 use Rattle.rz_lex.specs.declared.token.Token.{Token}
-use Rattle.rz_brackets.specs.Bracket.{begins}
 use Rattle.rz_brackets.specs.Pieces.{AreCut}
 use Rattle.rz_brackets.specs.declared.bracket.Bracket.TheVariants.{Curly, Square}
 use Rattle.rz_brackets.specs.declared.pieces.Divider.TheVariants.{Comma}
 use Rattle.rz_flat.specs.Each.{AreEach}
-use Rattle.rz_flat.specs.FieldForm.{align_of, fixed_text, AreNumbers, IsFieldOf, IsFill, IsFillOf, IsFlat, IsPoints, IsTextBy}
+use Rattle.rz_flat.specs.FieldForm.{align_of, AreNumbers, IsFieldFront, IsFieldOf, IsFill, IsFillOf, IsPoints}
 use Rattle.rz_flat.specs.FieldFront.{AreModifiers, IsFront}
 use Rattle.rz_flat.specs.FieldValue.{byte_in, is_equals, one_byte, IsFixedExpression, IsFixedValue, IsSymbolValue, IsValueBy}
 use Rattle.rz_flat.specs.FieldWord.{align_unit, field_word_in, modifier_in, unit_in, FieldFront}
@@ -27,12 +25,10 @@ use Rattle.rz_flat.specs.declared.field_word.FieldWord.{FieldWord}
 use Rattle.rz_flat.specs.declared.field_word.FieldWord.TheVariants as words
 use Rattle.rz_flat.specs.declared.field_word.Modifier.{Modifier}
 use Rattle.rz_flat.proofs.Level.{level_bracketed, level_cut, level_derives, level_join, level_more, level_nil, plain_by, IsLevel, IsPlain}
-use Rattle.rz_fields.specs.Field.{PlainPoints, PlainText}
+use Rattle.rz_fields.specs.Field.{PlainPoints}
 use Rattle.rz_fields.specs.Range.{own_width}
-use Rattle.rz_fields.specs.Text.{part_in, parts_in, text_in, with_part, PlainPart}
 use Rattle.rz_fields.specs.declared.field.NumForm.{NumForm}
 use Rattle.rz_fields.specs.declared.field.NumForm.TheVariants.{Char}
-use Rattle.rz_fields.specs.declared.field.TextForm.{TextForm}
 
 -- Words and signs.
 
@@ -54,13 +50,10 @@ align_plain unit = plain_by (λ s. align_unit (unit_in s) ≡ Some unit) ((λ h.
 pub name_plain : (name : Word) (shape : Shape) → name_in shape ≡ Some name → IsPlain shape
 name_plain name = plain_by (λ s. name_in s ≡ Some name) ((λ h. cc), (λ h. cc), (λ h. cc), (λ h. cc), (λ h. cc), (λ h. cc))
 
-part_plain : (part : PlainPart) (shape : Shape) → part_in shape ≡ Some part → IsPlain shape
-part_plain part = plain_by (λ s. part_in s ≡ Some part) ((λ h. cc), (λ h. cc), (λ h. cc), (λ h. cc), (λ h. cc), (λ h. cc))
-
 byte_plain : (byte : ℕ) (shape : Shape) → byte_in shape ≡ Some byte → IsPlain shape
 byte_plain byte = plain_by (λ s. byte_in s ≡ Some byte) ((λ h. cc), (λ h. cc), (λ h. cc), (λ h. cc), (λ h. cc), (λ h. cc))
 
-equals_plain : (shape : Shape) → is_equals shape ≡ true → IsPlain shape
+pub equals_plain : (shape : Shape) → is_equals shape ≡ true → IsPlain shape
 equals_plain = plain_by (λ s. is_equals s ≡ true) ((λ h. cc), (λ h. cc), (λ h. cc), (λ h. cc), (λ h. cc), (λ h. cc))
 
 -- Parts of fields.
@@ -68,7 +61,7 @@ equals_plain = plain_by (λ s. is_equals s ≡ true) ((λ h. cc), (λ h. cc), (�
 empty_level : (tokens : List Token) → length tokens ≡ 0 → IsLevel tokens
 empty_level tokens is = subst IsLevel (sym (nil_from_length tokens is)) level_nil
 
-comma_cut : (tokens : List Token) (pieces : List (List Token)) → AreCut Comma tokens pieces → AllByRecursion IsLevel pieces → IsLevel tokens
+pub comma_cut : (tokens : List Token) (pieces : List (List Token)) → AreCut Comma tokens pieces → AllByRecursion IsLevel pieces → IsLevel tokens
 comma_cut = level_cut Comma ((λ h. cc), (λ h. cc), (λ h. cc), (λ h. cc), (λ h. cc), (λ h. cc))
 
 each_level : {X : Type 0} (Is : List Token → X → Type 0) → ((piece : List Token) (one : X) → Is piece one → IsLevel piece)
@@ -116,35 +109,6 @@ number_by : (width : Option ℤ) (form : NumForm) (front : FieldFront) (number :
 number_by (Some width) form front number is = number_tail form front.tail is.0 is.1
 number_by None form front number is = level_bracketed Square front.tail is.0 is.3 (level_derives is.4.0) (number_tail form is.0.behind is.2 is.5)
 
--- Texts.
-
-parts_level : (tokens : List Token) (parts : List PlainPart) → parts_in tokens ≡ Some parts → IsLevel tokens
-parts_level [] parts is = level_nil
-parts_level (token ∷ tokens) parts is = by (part_in token.shape) refl (parts_in tokens) refl is (parts_level tokens)
-  where
-    by : (first : Option PlainPart) → part_in token.shape ≡ first → (others : Option (List PlainPart)) → parts_in tokens ≡ others → with_part first others ≡ Some parts
-        → ((rest : List PlainPart) → parts_in tokens ≡ Some rest → IsLevel tokens) → IsLevel (token ∷ tokens)
-    by None one others rest so behind = absurd cc
-    by (Some part) one None rest so behind = absurd cc
-    by (Some part) one (Some others) rest so behind = level_more token tokens (part_plain part token.shape one) (behind others rest)
-
-text_level : (tokens : List Token) (parts : List PlainPart) → text_in tokens ≡ Some parts → IsLevel tokens
-text_level [] parts is = level_nil
-text_level (token ∷ tokens) parts is = parts_level (token ∷ tokens) parts is
-
-fixed_text_level : (tokens : List Token) (fixed : Option (List PlainPart)) → fixed_text tokens ≡ Some fixed → IsLevel tokens
-fixed_text_level [] fixed is = level_nil
-fixed_text_level (token ∷ tokens) fixed is = by (is_equals token.shape) refl (text_in tokens) refl is
-  where
-    by : (equals : Bool) → is_equals token.shape ≡ equals → (found : Option (List PlainPart)) → text_in tokens ≡ found → (if equals then option_map Some found else None) ≡ Some fixed → IsLevel (token ∷ tokens)
-    by true here (Some parts) has so = level_more token tokens (equals_plain token.shape here) (text_level tokens parts has)
-    by true here None has so = absurd cc
-    by false here found has so = absurd cc
-
-text_by : (sized hex : Bool) (form : TextForm) (tokens : List Token) (text : PlainText) → IsTextBy sized hex form tokens text → IsLevel tokens
-text_by true hex form tokens text is = level_bracketed Square tokens is.0 is.3 (level_derives is.4.0) (fixed_text_level is.0.behind is.2 is.5)
-text_by false hex form tokens text is = fixed_text_level tokens is.0 is.1
-
 -- Points and rectangles.
 
 numbers_level : (rect : Bool) (tokens : List Token) (terms : List Term) → AreNumbers rect tokens terms → IsLevel tokens
@@ -181,7 +145,7 @@ modifiers_level [] (modifier ∷ modifiers) are = absurd are
 modifiers_level (token ∷ tokens) [] are = absurd are
 modifiers_level (token ∷ tokens) (modifier ∷ modifiers) are = level_more token tokens (modifier_plain modifier token.shape are.0) (modifiers_level tokens modifiers are.1)
 
-front_level : (tokens : List Token) (front : FieldFront) → IsFront tokens front → IsLevel front.tail → IsLevel tokens
+pub front_level : (tokens : List Token) (front : FieldFront) → IsFront tokens front → IsLevel front.tail → IsLevel tokens
 front_level tokens front is tail =
     subst IsLevel (sym is.are)
     (level_join is.words (is.last ∷ front.tail) (modifiers_level is.words is.modifiers is.are_modifiers)
@@ -189,13 +153,13 @@ front_level tokens front is tail =
 
 field_of : (word : FieldWord) (front : FieldFront) (field : FieldForm) → IsFieldOf word front field → IsLevel front.tail
 field_of (words.Number form) front field is = number_by (own_width form) form front is.0 is.1
-field_of (words.Text form) front field is = text_by (begins Square front.tail) is.0 form front.tail is.1 is.3
+field_of (words.Text form) front field is = absurd is
 field_of (words.Points rect) front field is = points_level rect front.tail is.0 is.2
 field_of words.Fill front field is = fill_level front.tail field is.1
 field_of words.Align front field is = align_level front.tail is.0 is.2
 
-pub flat_level : (tokens : List Token) (field : FieldForm) → IsFlat tokens field → IsLevel tokens
-flat_level tokens field is = front_level tokens is.0 is.1 (field_of is.0.word is.0 field is.2)
+pub field_level : (front : FieldFront) (field : FieldForm) → IsFieldFront front field → IsLevel front.tail
+field_level front field is = field_of front.word front field is
 
 key_of : (word : FieldWord) (front : FieldFront) (field : FieldForm) → IsKeyOf word front field → IsLevel front.tail
 key_of (words.Number form) front field is = number_by (own_width form) form front is.1.0 is.1.1

@@ -1,6 +1,6 @@
 -- Fields with no fields of their own are formed as they should be.
 use Rattle.std.proofs.Common.{◌≡◌, ℕ, ◌==◌, ◌&&◌, not, Bool, true, false, if◌then◌else◌, List, [], ◌∷◌, length, Option, Some, None, refl, sym, ap, subst, ◌∙◌, arith}
-use Rattle.std.specs.Prelude.{option_and_then, option_map}
+use Rattle.std.specs.Prelude.{option_and_then}
 use Rattle.std.specs.List.{list_all}
 use Rattle.std.proofs.lemmas.Bool.{eq-eqb}
 use Rattle.std.proofs.lemmas.Option.{same_Some}
@@ -11,12 +11,10 @@ use Rattle.rz_expr.specs.declared.keyword.Keyword.TheVariants as keywords
 use Rattle.rz_lex.specs.Lexeme.{AreLexed}
 use Rattle.rz_lex.specs.declared.token.Shape.{Shape}
 use Rattle.rz_lex.specs.declared.token.Token.{Token}
-use Rattle.rz_brackets.specs.Bracket.{begins}
-use Rattle.rz_brackets.specs.declared.bracket.Bracket.TheVariants.{Square}
 use Rattle.rz_flat.specs.Each.{AreEach}
-use Rattle.rz_flat.specs.FieldForm.{align_of, count_of, fixed_text, AreNumbers, IsFieldOf, IsFill, IsFillOf, IsFlat, IsPoints, IsTextBy}
+use Rattle.rz_flat.specs.FieldForm.{align_of, count_of, AreNumbers, IsFieldFront, IsFieldOf, IsFill, IsFillOf, IsPoints}
 use Rattle.rz_flat.specs.FieldFront.{IsFront}
-use Rattle.rz_flat.specs.FieldValue.{is_equals, IsFixedExpression}
+use Rattle.rz_flat.specs.FieldValue.{IsFixedExpression}
 use Rattle.rz_flat.specs.FieldWord.{align_unit, unit_in, unit_word, FieldFront}
 use Rattle.rz_flat.specs.Form.{case_and, field_and, no_cases, no_fields, Align, Array, BodyForm, CasesForm, FieldForm, Fill, Number, Points, Switch, Text}
 use Rattle.rz_flat.specs.Key.{IsKey, IsKeyOf}
@@ -24,54 +22,12 @@ use Rattle.rz_flat.specs.declared.field_word.FieldWord.{FieldWord}
 use Rattle.rz_flat.specs.declared.field_word.FieldWord.TheVariants as words
 use Rattle.rz_flat.proofs.Pieces.{lexed_behind}
 use Rattle.rz_flat.proofs.ShapedNumber.{key_formed, no_key_formed, number_formed, IsKeyFormed, IsNumberFormed}
-use Rattle.rz_fields.specs.Field.{PlainPoints, PlainText}
-use Rattle.rz_fields.specs.Shape.{are_fixed_points, is_fixed_part, is_fixed_text, is_none_or, is_own_name, is_points_shaped, is_text_shaped, is_unit, numbers_of}
-use Rattle.rz_fields.specs.Text.{part_in, parts_in, text_in, with_part, DateFact, NameFact, Plain, PlainPart, TimeFact, VersionFact}
+use Rattle.rz_fields.specs.Field.{PlainPoints}
+use Rattle.rz_fields.specs.Shape.{are_fixed_points, is_none_or, is_own_name, is_points_shaped, is_text_shaped, is_unit, numbers_of}
 use Rattle.rz_fields.specs.Value.{is_fixed_expression}
-use Rattle.rz_fields.specs.declared.field.TextForm.{TextForm}
 
-tail_lexed : (tokens : List Token) (front : FieldFront) → IsFront tokens front → AreLexed tokens → AreLexed front.tail
+pub tail_lexed : (tokens : List Token) (front : FieldFront) → IsFront tokens front → AreLexed tokens → AreLexed front.tail
 tail_lexed tokens front is are = (lexed_behind is.words (is.last ∷ front.tail) (subst AreLexed is.are are)).1
-
--- Texts.
-
-plain_part : (part : PlainPart) → is_fixed_part part ≡ true
-plain_part (Plain bytes) = refl
-plain_part NameFact = refl
-plain_part DateFact = refl
-plain_part TimeFact = refl
-plain_part VersionFact = refl
-
-plain_parts : (parts : List PlainPart) → list_all is_fixed_part parts ≡ true
-plain_parts [] = refl
-plain_parts (part ∷ parts) = λ i. plain_part part i && plain_parts parts i
-
-text_parts : (tokens : List Token) (parts : List PlainPart) → text_in tokens ≡ Some parts → is_fixed_text parts ≡ true
-text_parts [] parts is = cc
-text_parts (token ∷ tokens) (part ∷ parts) is = λ i. true && plain_parts (part ∷ parts) i
-text_parts (token ∷ tokens) [] is = by (part_in token.shape) (parts_in tokens) is
-  where
-    by : (first : Option PlainPart) (others : Option (List PlainPart)) → with_part first others ≡ Some [] → is_fixed_text [] ≡ true
-    by None others so = cc
-    by (Some part) None so = cc
-    by (Some part) (Some rest) so = cc
-
-fixed_shaped : (tokens : List Token) (fixed : Option (List PlainPart)) → fixed_text tokens ≡ Some fixed → is_none_or is_fixed_text fixed ≡ true
-fixed_shaped tokens None is = refl
-fixed_shaped [] (Some parts) is = cc
-fixed_shaped (token ∷ tokens) (Some parts) is = by (is_equals token.shape) (text_in tokens) refl is
-  where
-    by : (equals : Bool) (found : Option (List PlainPart)) → text_in tokens ≡ found → (if equals then option_map Some found else None) ≡ Some (Some parts) → is_fixed_text parts ≡ true
-    by true (Some other) has so = text_parts tokens parts (has ∙ same_Some (Some other) (Some parts) so)
-    by true None has so = cc
-    by false found has so = cc
-
-text_by : (sized hex : Bool) (form : TextForm) (tokens : List Token) (text : PlainText) → IsTextBy sized hex form tokens text → is_text_shaped text ≡ true
-text_by true hex form tokens text is =
-    subst (λ (t : PlainText). is_text_shaped t ≡ true) (sym is.6)
-    (λ i. is.4.1 i && fixed_shaped is.0.behind is.2 is.5 i)
-text_by false hex form tokens text is =
-    subst (λ (t : PlainText). is_text_shaped t ≡ true) (sym is.2) (λ i. true && fixed_shaped tokens is.0 is.1 i)
 
 -- Points and rectangles.
 
@@ -165,13 +121,13 @@ module _ (in_case : Bool) where
   field_of : (word : FieldWord) (front : FieldFront) (field : FieldForm) → IsFieldOf word front field → AreLexed front.tail → IsFieldFormed in_case field
   field_of (words.Number form) front field is are =
       subst (IsFieldFormed in_case) (sym is.2) (number_formed form front is.0 is.1 are, no_key_formed form front is.0 in_case is.1)
-  field_of (words.Text form) front field is are = subst (IsFieldFormed in_case) (sym is.4) (text_by (begins Square front.tail) is.0 form front.tail is.1 is.3)
+  field_of (words.Text form) front field is are = absurd is
   field_of (words.Points rect) front field is are = subst (IsFieldFormed in_case) (sym is.3) (points_shaped rect front.tail is.0 is.2)
   field_of words.Fill front field is are = fill_formed front.tail field is.1
   field_of words.Align front field is are = subst (IsFieldFormed in_case) (sym is.3) (align_by front.tail is.0 is.2)
 
-  pub flat_formed : (tokens : List Token) (field : FieldForm) → IsFlat tokens field → AreLexed tokens → IsFieldFormed in_case field
-  flat_formed tokens field is are = field_of is.0.word is.0 field is.2 (tail_lexed tokens is.0 is.1 are)
+  pub field_formed : (front : FieldFront) (field : FieldForm) → IsFieldFront front field → AreLexed front.tail → IsFieldFormed in_case field
+  field_formed front field is are = field_of front.word front field is are
 
 key_of : (word : FieldWord) (front : FieldFront) (field : FieldForm) → IsKeyOf word front field → AreLexed front.tail → IsFieldFormed true field
 key_of (words.Number form) front field is are =

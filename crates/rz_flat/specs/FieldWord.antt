@@ -12,6 +12,7 @@ use Rattle.rz_flat.specs.declared.field_word.Modifier.TheVariants.{Shown, Unsign
 use Rattle.rz_fields.specs.declared.field.NumForm.TheVariants as forms
 use Rattle.rz_fields.specs.declared.field.Radix.{Radix}
 use Rattle.rz_fields.specs.declared.field.Radix.TheVariants as radixes
+use Rattle.rz_fields.specs.declared.field.TextForm.{TextForm}
 use Rattle.rz_fields.specs.declared.field.TextForm.TheVariants as texts
 
 -- the word that says what a field is
@@ -34,6 +35,11 @@ field_word keyword = None
 
 abbrev pub field_word_in : Shape → Option FieldWord
 field_word_in shape = option_and_then field_word (keyword_in shape)
+
+-- the type of a text
+abbrev pub text_form : FieldWord → Option TextForm
+text_form (Text form) = Some form
+text_form word = None
 
 -- a word before the type of a number
 abbrev pub modifier_word : Keyword → Option Modifier

@@ -1,41 +1,30 @@
 ghost use Rattle.std.specs.Prelude.{◌≡◌, IfOk, map, option_map};
 ghost use Rattle.rz_expr.specs.Term.{term_of};
-ghost use Rattle.rz_fields.specs.Field.{plain_points, plain_text};
-ghost use Rattle.rz_fields.specs.Text.{plain_parts};
+ghost use Rattle.rz_fields.specs.Field.{plain_points};
 ghost use Rattle.rz_core.specs.Decided.{Decided};
-ghost use Rattle.rz_flat.specs.FieldForm.{align_of, count_of, fixed_text, is_bare, AreNumbers, IsAlignField, IsCount, IsFieldFront, IsFill, IsFillField, IsFlat, IsNumberField, IsPoints, IsPointsField, IsSized, IsText, IsTextField, IsUnsized};
+ghost use Rattle.rz_flat.specs.FieldForm.{align_of, count_of, is_bare, AreNumbers, IsAlignField, IsCount, IsFieldFront, IsFill, IsFillField, IsNumberField, IsPoints, IsPointsField};
 ghost use Rattle.rz_flat.specs.Form.{field_form};
 ghost use Rattle.rz_flat.specs.Held.{held_front};
 
-use crate::field_word::{FieldWord, Front, align_unit, front_in, hex_of, unit_in};
+use crate::field_word::{FieldWord, Front, align_unit, unit_in};
 use crate::form::FieldExpr;
 use crate::number_field::read_number;
-use crate::value::{is_equals, read_expression, read_expressions};
-use rz_brackets::{Bracket, Divider, begins, bracketed, pieces_by};
+use crate::value::{is_equals, read_expressions};
+use rz_brackets::{Bracket, Divider, bracketed, pieces_by};
 use rz_core::NoMemory;
 use rz_expr::{Expr, read_constant};
-use rz_fields::{Exprs, NumForm, PointField, TextField, TextForm, Texts, text_in};
+use rz_fields::{Exprs, NumForm, PointField};
 use rz_lex::Token;
 use std::alloc::Global;
 
-/// The field without fields of its own that the tokens are: a number, a text, a point, a rectangle, a `fill` or an
-/// `align`. `None` exactly where they are none. (MPW Rez.)
-pub fn read_flat(alloc: Global, tokens: &[Token]) -> Result<Option<FieldExpr>, NoMemory>
-    ensures { IfOk result (λ field. Decided (IsFlat tokens.now) (option_map field_form field)) }
-{
-    match front_in(tokens, false, None) {
-        Some(front) => read_front(alloc, &front),
-        None => Ok(None),
-    }
-}
-
-/// The field that a front begins.
-fn read_front(alloc: Global, front: &Front) -> Result<Option<FieldExpr>, NoMemory>
+/// The field without fields of its own that a front begins: a number, a point, a rectangle, a `fill` or an `align`.
+/// `None` exactly where it begins none. (MPW Rez.)
+pub fn read_front(alloc: Global, front: &Front) -> Result<Option<FieldExpr>, NoMemory>
     ensures { IfOk result (λ field. Decided (IsFieldFront (held_front front.now)) (option_map field_form field)) }
 {
     match front.word {
         FieldWord::Number(form) => read_number_field(alloc, form, front),
-        FieldWord::Text(form) => read_text_field(alloc, form, front),
+        FieldWord::Text(_) => Ok(None),
         FieldWord::Points(rect) => read_points_field(alloc, rect, front),
         FieldWord::Fill => read_fill_field(alloc, front),
         FieldWord::Align => Ok(read_align_field(front)),
@@ -51,22 +40,6 @@ fn read_number_field(
 {
     match read_number(alloc, form, front)? {
         Some(number) => Ok(Some(FieldExpr::Number(number))),
-        None => Ok(None),
-    }
-}
-
-fn read_text_field(
-    alloc: Global,
-    form: TextForm,
-    front: &Front,
-) -> Result<Option<FieldExpr>, NoMemory>
-    ensures { IfOk result (λ field. Decided (IsTextField form (held_front front.now)) (option_map field_form field)) }
-{
-    let Some(hex) = hex_of(front.unsigned, front.radix) else {
-        return Ok(None);
-    };
-    match read_text(alloc, hex, form, front.tail)? {
-        Some(text) => Ok(Some(FieldExpr::Text(text))),
         None => Ok(None),
     }
 }
@@ -114,82 +87,6 @@ fn is_bare(front: &Front) -> bool
     ensures { result ≡ is_bare (held_front front.now) }
 {
     !front.unsigned && front.radix.is_none()
-}
-
-/// The text that the tokens behind its type are: a size, where there is one, and the fixed text.
-fn read_text(
-    alloc: Global,
-    hex: bool,
-    form: TextForm,
-    tokens: &[Token],
-) -> Result<Option<TextField>, NoMemory>
-    ensures { IfOk result (λ text. Decided (IsText hex form tokens.now) (option_map plain_text text)) }
-{
-    if begins(tokens, Bracket::Square) {
-        read_sized(alloc, hex, form, tokens)
-    } else {
-        read_unsized(alloc, hex, form, tokens)
-    }
-}
-
-fn read_sized(
-    alloc: Global,
-    hex: bool,
-    form: TextForm,
-    tokens: &[Token],
-) -> Result<Option<TextField>, NoMemory>
-    ensures { IfOk result (λ text. Decided (IsSized hex form tokens.now) (option_map plain_text text)) }
-{
-    let Some(split) = bracketed(tokens, Bracket::Square) else {
-        return Ok(None);
-    };
-    let Some(size) = read_expression(alloc, split.front)? else {
-        return Ok(None);
-    };
-    match fixed_text(alloc, split.behind)? {
-        Some(fixed) => Ok(Some(TextField {
-            form,
-            hex,
-            size: Some(size),
-            fixed,
-        })),
-        None => Ok(None),
-    }
-}
-
-fn read_unsized(
-    alloc: Global,
-    hex: bool,
-    form: TextForm,
-    tokens: &[Token],
-) -> Result<Option<TextField>, NoMemory>
-    ensures { IfOk result (λ text. Decided (IsUnsized hex form tokens.now) (option_map plain_text text)) }
-{
-    match fixed_text(alloc, tokens)? {
-        Some(fixed) => Ok(Some(TextField {
-            form,
-            hex,
-            size: None,
-            fixed,
-        })),
-        None => Ok(None),
-    }
-}
-
-/// Nothing, or `=` and a text.
-fn fixed_text(alloc: Global, tokens: &[Token]) -> Result<Option<Option<Texts>>, NoMemory>
-    ensures { IfOk result (λ fixed. option_map (option_map plain_parts) fixed ≡ fixed_text tokens.now) }
-{
-    let Some((first, rest)) = tokens.split_first() else {
-        return Ok(Some(None));
-    };
-    if !is_equals(first) {
-        return Ok(None);
-    }
-    match text_in(alloc, rest)? {
-        Some(texts) => Ok(Some(Some(texts))),
-        None => Ok(None),
-    }
 }
 
 /// The point or rectangle that the tokens behind its type are.

@@ -1,5 +1,5 @@
 ghost use Rattle.std.specs.Prelude.{◌≡◌, false, None, option_map};
-ghost use Rattle.rz_flat.specs.FieldWord.{align_unit, field_word, field_word_in, front_in, hex_of, modifier_in, modifier_word, unit_in, unit_word};
+ghost use Rattle.rz_flat.specs.FieldWord.{align_unit, field_word, field_word_in, front_in, hex_of, modifier_in, modifier_word, text_form, unit_in, unit_word};
 ghost use Rattle.rz_flat.specs.Held.{held_front};
 
 use rz_expr::{Keyword, keyword_in};
@@ -67,6 +67,16 @@ pub fn front_in(tokens: &[Token], unsigned: bool, radix: Option<Radix>) -> Optio
             }),
             None => None,
         },
+    }
+}
+
+/// The type of a text, where the word is one.
+pub fn text_form(word: FieldWord) -> Option<TextForm>
+    ensures { result ≡ text_form word }
+{
+    match word {
+        FieldWord::Text(form) => Some(form),
+        _ => None,
     }
 }
 

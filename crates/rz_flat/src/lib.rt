@@ -1,6 +1,7 @@
-//! The fields of `type` statements as they are written, with expressions where constants stand. `read_flat` gives
-//! exactly the field that tokens are, of those with no fields of their own, and `read_key` the key of a case; or
-//! none. `form` has the whole statement too, whose arrays and switches `rz_declare` reads.
+//! The fields of `type` statements as they are written, with expressions where constants stand. `front_in` gives the
+//! words that a field begins with, `read_front` exactly the field that such a front begins, of those that are no
+//! texts and have no fields of their own, and `read_key` the key of a case; or none. `form` has the whole statement
+//! too, whose texts, arrays and switches `rz_declare` reads.
 //! A field begins with the words of `field_word`; behind them stand values (`value`), or of a number its width, its
 //! symbols and its fixed value (`number_field`, `symbols`).
 //! It rests on `rz_core`, `rz_lex`, `rz_expr`, `rz_fields` and `rz_brackets`.
@@ -17,7 +18,8 @@ mod number_field;
 mod symbols;
 mod value;
 
-pub use field::read_flat;
+pub use field::read_front;
+pub use field_word::{FieldWord, Front, Modifier, front_in, hex_of, text_form};
 pub use form::{
     ArrayExpr, CaseExpr, CaseExprs, DeclareExpr, FieldExpr, FieldExprs, MadeExpr, Named, Names,
     NumberExpr, ScopeExpr, Width,
@@ -25,3 +27,4 @@ pub use form::{
 pub use key::read_key;
 pub use laws::words_before_fields;
 pub use symbols::name_in;
+pub use value::{is_equals, read_expression};

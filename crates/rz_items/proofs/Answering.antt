@@ -1,7 +1,5 @@
 -- What is answered, made of what was answered below.
-use Rattle.std.proofs.Common.{◌≡◌, true, List, Option, Some, None, Ok, Err, sym, subst}
-use Rattle.std.specs.Prelude.{IfOk}
-use Rattle.std.specs.declared.result.Result.{Result}
+use Rattle.std.proofs.Common.{◌≡◌, true, List, Option, Some, None, sym, subst}
 use Rattle.rz_brackets.specs.Bracket.{IsBracketed}
 use Rattle.rz_brackets.specs.Pieces.{AreCut, Parted}
 use Rattle.rz_brackets.specs.Statements.{is_empty}
@@ -12,10 +10,6 @@ use Rattle.rz_lex.specs.declared.token.Token.{Token}
 use Rattle.rz_items.specs.Compile.{IsBody}
 use Rattle.rz_items.specs.Item.{PlainItem}
 use Rattle.rz_items.specs.Items.{cut, stripped, AreEach, AreItems}
-
-pub ok_so : {X E : Type 0} (P Q : X → Type 0) → ((x : X) → P x → Q x) → (result : Result X E) → IfOk result P → IfOk result Q
-ok_so P Q so (Ok x) holds = so x holds
-ok_so P Q so (Err fault) holds = holds
 
 -- the items in braces are those of the body
 pub body_decided : (tokens : List Token) (split : Parted) → IsBracketed Curly tokens split → ((parted : Parted) → IsBracketed Curly tokens parted → split ≡ parted)

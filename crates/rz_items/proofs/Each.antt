@@ -1,13 +1,9 @@
 -- Items, one more at a time.
-use Rattle.std.proofs.Common.{◌≡◌, ℕ, ◌+◌, ◌≤◌, false, List, [], ◌∷◌, ◌++◌, length, length-append, map, take, refl, sym, ap, subst, ◌∙◌, append_assoc, arith}
+use Rattle.std.proofs.Common.{◌≡◌, ℕ, false, List, [], ◌∷◌, ◌++◌, length, map, take, refl, sym, ap, subst, ◌∙◌, append_assoc, arith}
 use Rattle.std.proofs.lemmas.List.{append-nil, map-append, take_all}
 use Rattle.std.specs.Borrow.{Bor}
-use Rattle.std.specs.List.{AllByRecursion}
 use Rattle.std.specs.Prelude.{◌==◌}
-use Rattle.rz_brackets.specs.Bracket.{IsBracketed}
-use Rattle.rz_brackets.specs.Pieces.{last, more, AreCut, Parted}
-use Rattle.rz_brackets.specs.declared.bracket.Bracket.{Bracket}
-use Rattle.rz_brackets.specs.declared.pieces.Divider.{Divider}
+use Rattle.rz_brackets.proofs.Short.{AreShort}
 use Rattle.rz_lex.specs.declared.token.Token.{Token}
 use Rattle.rz_items.specs.Item.{PlainItem}
 use Rattle.rz_items.specs.Items.{no_more, one_more, stripped, AreEach, IsItem}
@@ -46,20 +42,7 @@ pub each_all : (all rest : List (List Token)) (so_far : List PlainItem) → Lead
 each_all all rest so_far leads none =
     subst (AreEach all) (append-nil so_far) (leads.forth [] (subst (λ (ps : List (List Token)). AreEach ps []) (sym none) no_more))
 
--- Pieces are no longer than the tokens, and what stands in brackets is shorter.
-
-abbrev pub AreShort : ℕ → List (List Token) → Type 0
-AreShort size pieces = AllByRecursion (λ piece. length piece ≤ size) pieces
-
-no_longer : (small size : ℕ) (pieces : List (List Token)) → small ≤ size → AreShort small pieces → AreShort size pieces
-no_longer small size [] le are = tt
-no_longer small size (piece ∷ pieces) le are = (omega (arith, le, are.0), no_longer small size pieces le are.1)
-
-pub cut_short : (divider : Divider) (tokens : List Token) (pieces : List (List Token)) → AreCut divider tokens pieces → AreShort (length tokens) pieces
-cut_short divider tokens pieces (last piece none) = (omega arith, tt)
-cut_short divider tokens pieces (more whole parted rest is cut) =
-    let size = ap (λ (ts : List Token). length ts) is.are ∙ length-append parted.front (is.sign ∷ parted.behind) in
-    (omega (arith, size), no_longer (length parted.behind) (length tokens) rest (omega (arith, size)) (cut_short divider parted.behind rest cut))
+-- Stripped pieces are no longer.
 
 pub stripped_short : (size : ℕ) (pieces : List (List Token)) → AreShort size pieces → AreShort size (stripped pieces)
 stripped_short size [] are = tt
@@ -67,10 +50,6 @@ stripped_short size ([] ∷ []) are = tt
 stripped_short size ((token ∷ tokens) ∷ []) are = are
 stripped_short size ([] ∷ next ∷ pieces) are = (are.0, stripped_short size (next ∷ pieces) are.1)
 stripped_short size ((token ∷ tokens) ∷ next ∷ pieces) are = (are.0, stripped_short size (next ∷ pieces) are.1)
-
-pub inside_short : (bracket : Bracket) (tokens : List Token) (parted : Parted) → IsBracketed bracket tokens parted → length parted.front + 1 ≤ length tokens
-inside_short bracket tokens parted is =
-    omega (arith, ap (λ (ts : List Token). length ts) is.are, ap (λ (ts : List Token). length ts) is.closes.are, length-append parted.front (is.closes.sign ∷ parted.behind))
 
 -- An empty last piece is left out.
 

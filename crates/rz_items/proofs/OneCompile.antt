@@ -1,5 +1,5 @@
 -- Tokens are one `resource` statement at most.
-use Rattle.std.proofs.Common.{◌≡◌, List, ◌∷◌, Option, Some, None, refl, sym, ap, subst, ◌∙◌}
+use Rattle.std.proofs.Common.{◌≡◌, Bool, true, false, List, ◌∷◌, refl, sym, ap, subst, ◌∙◌}
 use Rattle.rz_core.proofs.Tests.{none_some, same_some, true_false}
 use Rattle.rz_brackets.specs.Bracket.{IsBracketed}
 use Rattle.rz_brackets.specs.Kind.{kind_in}
@@ -9,13 +9,15 @@ use Rattle.rz_brackets.specs.declared.bracket.Bracket.TheVariants.{Curly, Round}
 use Rattle.rz_brackets.specs.declared.pieces.Divider.{Divider}
 use Rattle.rz_brackets.specs.declared.pieces.Divider.TheVariants.{Comma, Separator}
 use Rattle.rz_data.proofs.OneData.{one_head}
+use Rattle.rz_data.proofs.OneText.{one_parts}
 use Rattle.rz_data.specs.Head.{Head, IsHead}
+use Rattle.rz_data.specs.Texts.{begins_text}
 use Rattle.rz_expr.proofs.OneTerm.{OneExpression}
 use Rattle.rz_lex.specs.declared.token.Token.{Token}
-use Rattle.rz_fields.specs.Text.{text_in, PlainPart}
+use Rattle.rz_fields.specs.Text.{PlainPart}
 use Rattle.rz_core.specs.declared.fault.Mark.{Mark}
 use Rattle.rz_items.specs.Compile.{Compile, IsBody, IsCompile, IsHeaded}
-use Rattle.rz_items.specs.Item.{items_of, Braced, Named, Number, PlainItem}
+use Rattle.rz_items.specs.Item.{items_of, Braced, Named, Number, PlainItem, Text}
 use Rattle.rz_items.specs.Items.{cut, listed, name_in, named, no_more, one_more, simple, stripped, AreEach, AreItems, IsItem}
 use Rattle.rz_items.specs.Simple.{IsSimpleBy}
 use Rattle.rz_items.proofs.First.{bracket_begins, name_stands, no_name_opens}
@@ -23,9 +25,10 @@ use Rattle.rz_items.proofs.First.{bracket_begins, name_stands, no_name_opens}
 module _ (one : OneExpression)
     (one_cut : (divider : Divider) (tokens : List Token) (pieces others : List (List Token)) → AreCut divider tokens pieces → AreCut divider tokens others → pieces ≡ others)
     (within : (bracket : Bracket) (tokens : List Token) (parted other : Parted) → IsBracketed bracket tokens parted → IsBracketed bracket tokens other → parted ≡ other) where
-  simple_by : (found : Option (List PlainPart)) (mark : Mark) (tokens : List Token) (a b : PlainItem) → IsSimpleBy found mark tokens a → IsSimpleBy found mark tokens b → a ≡ b
-  simple_by (Some parts) mark tokens a b is also = is ∙ sym also
-  simple_by None mark tokens a b is also = is.2 ∙ ap (λ t. Number t mark) (one tokens is.0 also.0 is.1.0 also.1.0) ∙ sym also.2
+  simple_by : (begins : Bool) (mark : Mark) (tokens : List Token) (a b : PlainItem) → IsSimpleBy begins mark tokens a → IsSimpleBy begins mark tokens b → a ≡ b
+  simple_by true mark tokens a b is also =
+      is.2 ∙ ap (λ (parts : List PlainPart). Text parts mark) (one_parts one tokens is.0 also.0 is.1.are also.1.are) ∙ sym also.2
+  simple_by false mark tokens a b is also = is.2 ∙ ap (λ t. Number t mark) (one tokens is.0 also.0 is.1.0 also.1.0) ∙ sym also.2
 
   mutual
     one_item : (tokens : List Token) (a b : PlainItem) → IsItem tokens a → IsItem tokens b → a ≡ b
@@ -49,7 +52,7 @@ module _ (one : OneExpression)
     one_item tokens a b (simple first rest it off before so) (named same others name other more has also none_too are_too) =
         absurd (none_some name (sym before ∙ name_stands first.shape rest name has (bracket_begins rest other also)))
     one_item tokens a b (simple first rest it off before so) (simple same others that off_too before_too so_too) =
-        simple_by (text_in (first ∷ rest)) first.mark (first ∷ rest) a b so so_too
+        simple_by (begins_text (first ∷ rest)) first.mark (first ∷ rest) a b so so_too
 
     pub one_items : (tokens : List Token) (a b : List PlainItem) → AreItems tokens a → AreItems tokens b → a ≡ b
     one_items tokens a b (cut same pieces items is each) (cut same_too others more also each_too) =

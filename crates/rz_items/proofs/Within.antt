@@ -1,12 +1,12 @@
 -- Items stand where their tokens stand.
-use Rattle.std.proofs.Common.{ℕ, ◌<◌, List, [], ◌∷◌, Option, Some, None, sym, subst}
+use Rattle.std.proofs.Common.{ℕ, ◌<◌, Bool, true, false, List, [], ◌∷◌, sym, subst}
 use Rattle.std.specs.List.{AllByRecursion}
 use Rattle.rz_brackets.proofs.Parts.{after_each, cut_each, within_each}
 use Rattle.rz_brackets.specs.declared.bracket.Bracket.TheVariants.{Curly, Round}
 use Rattle.rz_brackets.specs.declared.pieces.Divider.TheVariants.{Separator}
 use Rattle.rz_lex.specs.Within.{AreWithin}
 use Rattle.rz_lex.specs.declared.token.Token.{Token}
-use Rattle.rz_fields.specs.Text.{text_in, PlainPart}
+use Rattle.rz_data.specs.Texts.{begins_text}
 use Rattle.rz_items.specs.Compile.{Compile, IsCompile}
 use Rattle.rz_items.specs.Item.{items_of, PlainItem}
 use Rattle.rz_items.specs.Items.{cut, listed, named, no_more, one_more, simple, stripped, AreEach, AreItems, IsItem}
@@ -27,10 +27,10 @@ module _ (files : ℕ) where
   stripped_within ([] ∷ next ∷ pieces) are = (are.0, stripped_within (next ∷ pieces) are.1)
   stripped_within ((token ∷ tokens) ∷ next ∷ pieces) are = (are.0, stripped_within (next ∷ pieces) are.1)
 
-  simple_within : (found : Option (List PlainPart)) (first : Token) (rest : List Token) (one : PlainItem) → IsSimpleBy found first.mark (first ∷ rest) one
+  simple_within : (begins : Bool) (first : Token) (rest : List Token) (one : PlainItem) → IsSimpleBy begins first.mark (first ∷ rest) one
       → AreWithin files (first ∷ rest) → IsItemWithin files one
-  simple_within (Some parts) first rest one is are = subst (IsItemWithin files) (sym is) are.0
-  simple_within None first rest one is are = subst (IsItemWithin files) (sym is.2) are.0
+  simple_within true first rest one is are = subst (IsItemWithin files) (sym is.2) are.0
+  simple_within false first rest one is are = subst (IsItemWithin files) (sym is.2) are.0
 
   mutual
     item_within : (tokens : List Token) (one : PlainItem) → IsItem tokens one → AreWithin files tokens → IsItemWithin files one
@@ -38,7 +38,7 @@ module _ (files : ℕ) where
         (stand.0, items_inside parted.front items are (within_each IsWithin Curly (first ∷ rest) parted is stand))
     item_within tokens one (named first rest name parted items has is none are) stand =
         (stand.0, items_inside parted.front items are (within_each IsWithin Curly rest parted is stand.1))
-    item_within tokens one (simple first rest it off before so) stand = simple_within (text_in (first ∷ rest)) first rest one so stand
+    item_within tokens one (simple first rest it off before so) stand = simple_within (begins_text (first ∷ rest)) first rest one so stand
 
     items_inside : (tokens : List Token) (items : List PlainItem) → AreItems tokens items → AreWithin files tokens → AreInside files (items_of items)
     items_inside tokens items (cut same pieces all is each) stand =

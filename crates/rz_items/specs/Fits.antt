@@ -6,17 +6,17 @@ use Rattle.rz_core.specs.declared.facts.Facts.{Facts}
 use Rattle.rz_items.specs.Item.{Braced, more, Named, none, Number, PlainItem, PlainItems, Text}
 use Rattle.rz_fields.specs.declared.field.NumForm.{NumForm}
 use Rattle.rz_fields.specs.declared.field.NumForm.TheVariants.{Char}
-use Rattle.rz_fields.specs.declared.tree.Tree.{Tree}
-use Rattle.rz_fields.specs.declared.tree.Tree.TheVariants as trees
-use Rattle.rz_fields.specs.Field.{PlainBody, PlainCases, PlainField, PlainNumber, PlainText}
+use Rattle.rz_fields.specs.Field.{takes_value, PlainBody, PlainCases, PlainField, PlainNumber, PlainText}
 use Rattle.rz_fields.specs.Field as fields
 use Rattle.rz_fields.specs.Range.{fits_number}
-use Rattle.rz_fields.specs.Row.{takes_value, By, IsStated}
 use Rattle.rz_fields.specs.Shape.{numbers_of}
-use Rattle.rz_fields.specs.Spells.{integer}
+use Rattle.rz_fields.specs.Piece.{integer}
 use Rattle.rz_fields.specs.Stored.{is_too_long, stored_number}
 use Rattle.rz_fields.specs.Text.{bytes_of}
 use Rattle.rz_fields.specs.Value.{symbol_number_of}
+use Rattle.rz_rows.specs.declared.tree.Tree.{Tree}
+use Rattle.rz_rows.specs.declared.tree.Tree.TheVariants as trees
+use Rattle.rz_rows.specs.Row.{By, IsStated}
 
 -- items in braces, as a list
 abbrev pub list_of : PlainItems → List PlainItem

@@ -1,31 +1,30 @@
 -- Items without braces: texts and numbers. (MPW Rez.)
-use Rattle.std.specs.Prelude.{◌≡◌, Bool, true, false, ◌&&◌, List, Option, Some, None}
+use Rattle.std.specs.Prelude.{◌≡◌, Bool, true, false, List}
 use Rattle.rz_core.specs.declared.fault.Mark.{Mark}
+use Rattle.rz_data.specs.Texts.{begins_text, IsText}
 use Rattle.rz_expr.specs.Grammar.{IsExpression}
-use Rattle.rz_expr.specs.Term.{BitsAt, Constant, FactOf, Named, OfOne, OfTwo, RowsOf, Term}
+use Rattle.rz_expr.specs.Term.{Term}
+use Rattle.rz_fields.specs.Text.{PlainPart}
+use Rattle.rz_fields.specs.Value.{is_item_expression}
+use Rattle.rz_fields.specs.declared.place.TextPlace.TheVariants as places
 use Rattle.rz_lex.specs.declared.token.Token.{Token}
 use Rattle.rz_items.specs.Item as item
 use Rattle.rz_items.specs.Item.{PlainItem}
-use Rattle.rz_fields.specs.Text.{text_in, PlainPart}
-
--- any names and facts, but no rows and no bits of what is laid out
-abbrev pub is_item_expression : Term → Bool
-is_item_expression (Constant number) = true
-is_item_expression (Named name) = true
-is_item_expression (RowsOf name) = false
-is_item_expression (BitsAt name start width) = false
-is_item_expression (FactOf which) = true
-is_item_expression (OfOne op operand) = is_item_expression operand
-is_item_expression (OfTwo op left right) = is_item_expression left && is_item_expression right
 
 -- the tokens are this expression, and it may stand in an item
 abbrev pub IsItemExpression : List Token → Term → Type 0
 IsItemExpression tokens term = IsExpression tokens term × (is_item_expression term ≡ true)
 
--- a text, where the tokens are one, or else a number
-abbrev pub IsSimpleBy : Option (List PlainPart) → Mark → List Token → PlainItem → Type 0
-IsSimpleBy (Some parts) mark tokens one = one ≡ item.Text parts mark
-IsSimpleBy None mark tokens one = (term : Term) × IsItemExpression tokens term × (one ≡ item.Number term mark)
+abbrev pub IsTextItem : Mark → List Token → PlainItem → Type 0
+IsTextItem mark tokens one = (parts : List PlainPart) × IsText places.Item tokens parts × (one ≡ item.Text parts mark)
+
+abbrev pub IsNumberItem : Mark → List Token → PlainItem → Type 0
+IsNumberItem mark tokens one = (term : Term) × IsItemExpression tokens term × (one ≡ item.Number term mark)
+
+-- a text where one begins there, or else a number
+abbrev pub IsSimpleBy : Bool → Mark → List Token → PlainItem → Type 0
+IsSimpleBy true mark tokens one = IsTextItem mark tokens one
+IsSimpleBy false mark tokens one = IsNumberItem mark tokens one
 
 abbrev pub IsSimple : Mark → List Token → PlainItem → Type 0
-IsSimple mark tokens = IsSimpleBy (text_in tokens) mark tokens
+IsSimple mark tokens = IsSimpleBy (begins_text tokens) mark tokens

@@ -25,8 +25,8 @@ pub struct CompileStmt {
 }
 
 /// The `resource` statement that the tokens are. `None` exactly where they are none. It takes time in proportion
-/// to the tokens for each brace that is open, and reading goes as deep as braces are open: callers bound the tokens
-/// that they hand in. (MPW Rez.)
+/// to the tokens for each brace or bracket that is open, and reading goes as deep as braces and brackets are open:
+/// callers bound the tokens that they hand in. (MPW Rez.)
 pub fn read_compile(alloc: Global, tokens: &[Token]) -> Result<Option<CompileStmt>, NoMemory>
     ensures { IfOk result (λ stmt. Decided (IsCompile tokens.now) (option_map compile_of stmt)) }
 {

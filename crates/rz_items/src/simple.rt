@@ -3,12 +3,13 @@ ghost use Rattle.rz_core.specs.Decided.{Decided};
 ghost use Rattle.rz_expr.specs.Term.{term_of, Constant};
 ghost use Rattle.rz_expr.specs.Value.{reduced};
 ghost use Rattle.rz_items.specs.Item.{plain_item};
-ghost use Rattle.rz_items.specs.Simple.{is_item_expression, IsItemExpression, IsSimple};
+ghost use Rattle.rz_items.specs.Simple.{IsItemExpression, IsNumberItem, IsSimple, IsTextItem};
 
 use crate::item::Item;
 use rz_core::{Mark, NoMemory};
+use rz_data::{begins_text, text_at};
 use rz_expr::{Expr, one_expression, read_whole, signed};
-use rz_fields::text_in;
+use rz_fields::{TextPlace, is_item_expression};
 use rz_lex::{Shape, Token};
 use std::alloc::Global;
 
@@ -46,12 +47,30 @@ fn constant(number: u32) -> Expr
 fn read_parts(alloc: Global, mark: Mark, tokens: &[Token]) -> Result<Option<Item>, NoMemory>
     ensures { IfOk result (λ item. Decided (IsSimple mark tokens.now) (option_map plain_item item)) }
 {
-    match text_in(alloc, tokens)? {
+    if begins_text(tokens) {
+        read_text(alloc, mark, tokens)
+    } else {
+        read_number(alloc, mark, tokens)
+    }
+}
+
+/// The text that the tokens are, as an item.
+fn read_text(alloc: Global, mark: Mark, tokens: &[Token]) -> Result<Option<Item>, NoMemory>
+    ensures { IfOk result (λ item. Decided (IsTextItem mark tokens.now) (option_map plain_item item)) }
+{
+    match text_at(alloc, TextPlace::Item, tokens)? {
         Some(texts) => Ok(Some(Item::Text(texts, mark))),
-        None => match read_expression(alloc, tokens)? {
-            Some(expr) => Ok(Some(Item::Number(expr, mark))),
-            None => Ok(None),
-        },
+        None => Ok(None),
+    }
+}
+
+/// The number that the tokens are, as an item.
+fn read_number(alloc: Global, mark: Mark, tokens: &[Token]) -> Result<Option<Item>, NoMemory>
+    ensures { IfOk result (λ item. Decided (IsNumberItem mark tokens.now) (option_map plain_item item)) }
+{
+    match read_expression(alloc, tokens)? {
+        Some(expr) => Ok(Some(Item::Number(expr, mark))),
+        None => Ok(None),
     }
 }
 
@@ -69,17 +88,5 @@ fn read_expression(alloc: Global, tokens: &[Token]) -> Result<Option<Expr>, NoMe
             }
         }
         None => Ok(None),
-    }
-}
-
-/// Whether an expression may stand in an item: it has no `$$CountOf` and no data functions.
-fn is_item_expression(expr: &Expr) -> bool
-    ensures { result ≡ is_item_expression (term_of expr.now) }
-{
-    match expr {
-        Expr::Number(_) | Expr::Name(_) | Expr::Fact(_) => true,
-        Expr::Count(_) | Expr::Bits(..) => false,
-        Expr::Unary(_, operand) => is_item_expression(operand),
-        Expr::Binary(_, left, right) => is_item_expression(left) && is_item_expression(right),
     }
 }

@@ -14,14 +14,14 @@ use Rattle.rz_lists.proofs.Renamings.{heads_two}
 use Rattle.rz_lists.specs.Brackets.{IsMaybe}
 use Rattle.rz_lists.specs.Change.{Change, IsChange}
 use Rattle.rz_lists.specs.Delete.{Delete, IsDelete}
-use Rattle.rz_lists.specs.Files.{IsFile}
+use Rattle.rz_data.specs.Files.{behind_texts, file_in, IsFile}
 use Rattle.rz_lists.specs.Include.{Include, IsInclude, IsPart}
 use Rattle.rz_lists.specs.Pick.{IsPicked, Pick}
 use Rattle.rz_lists.specs.Read.{IsNamed, IsRead, Read}
 use Rattle.rz_lists.specs.Renaming.{IsHeadIn, IsNewHead, IsRenaming, Renaming}
 use Rattle.rz_lists.proofs.Parts.{part_no_text}
-use Rattle.rz_lists.proofs.Texts.{file_found, file_is}
-use Rattle.rz_lists.specs.Steps.{behind_texts, file_in, IsMaybePair}
+use Rattle.rz_data.proofs.FileNames.{file_found, file_is}
+use Rattle.rz_lists.specs.Steps.{IsMaybePair}
 
 same_pair : {A : Type 0} {a b : A} → ◌≡◌ {A = Option A} (Some a) (Some b) → a ≡ b
 same_pair e = cc e

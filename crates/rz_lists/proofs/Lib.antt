@@ -1,4 +1,3 @@
-pub mod Answering
 pub mod Texts
 pub mod Maybes
 pub mod Picks

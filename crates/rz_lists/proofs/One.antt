@@ -18,7 +18,9 @@ use Rattle.rz_lists.proofs.Maybes.{one_maybe}
 use Rattle.rz_lists.proofs.Parts.{ended, none_here, nothing_there, of_type_back, others_back, part_no_text}
 use Rattle.rz_lists.proofs.Picks.{one_pick}
 use Rattle.rz_lists.proofs.Renamings.{heads_two, one_head_in, one_renaming}
-use Rattle.rz_lists.proofs.Texts.{file_found, named_so}
+use Rattle.rz_data.proofs.FileNames.{file_found}
+use Rattle.rz_data.specs.Files.{file_in}
+use Rattle.rz_lists.proofs.Texts.{named_so}
 use Rattle.rz_lists.specs.Brackets.{IsMaybe}
 use Rattle.rz_lists.specs.Change.{Change, IsChange}
 use Rattle.rz_lists.specs.Delete.{Delete, IsDelete}
@@ -26,7 +28,7 @@ use Rattle.rz_lists.specs.Include.{Include, IsInclude, IsPart, Not, Part, Rename
 use Rattle.rz_lists.specs.Pick.{IsPicked, Pick}
 use Rattle.rz_lists.specs.Read.{IsNamed, IsRead, Read}
 use Rattle.rz_lists.specs.Renaming.{IsHeadIn, IsRenaming, Renaming}
-use Rattle.rz_lists.specs.Steps.{file_in, IsGoneOn, IsOfType, IsOthers}
+use Rattle.rz_lists.specs.Steps.{IsGoneOn, IsOfType, IsOthers}
 
 kinds : (x y : Token) (a b : ℕ) → x ≡ y → kind_in x.shape ≡ Some a → kind_in y.shape ≡ Some b → a ≡ b
 kinds x y a b same is also = same_some (kind_in y.shape) a b (ap (λ (t : Token). kind_in t.shape) (sym same) ∙ is) also

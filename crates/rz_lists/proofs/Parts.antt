@@ -15,7 +15,8 @@ use Rattle.rz_lists.specs.Brackets.{IsMaybe}
 use Rattle.rz_lists.specs.Include.{all, all_but, chosen, renamed, All, Chosen, IsPart, Part, Renamed}
 use Rattle.rz_lists.specs.Pick.{IsPicked, Pick}
 use Rattle.rz_lists.specs.Renaming.{IsRenaming, Renaming}
-use Rattle.rz_lists.specs.Steps.{begins_with_text, text_of, IsGoneOn, IsOfType, IsOthers}
+use Rattle.rz_data.specs.Files.{begins_with_text, text_of}
+use Rattle.rz_lists.specs.Steps.{IsGoneOn, IsOfType, IsOthers}
 
 -- Tokens that are one thing alone.
 

@@ -1,136 +1,15 @@
--- Texts at the front of tokens, and the file that they name.
-use Rattle.std.proofs.Common.{◌≡◌, ◌≢◌, ℕ, Bool, true, false, if◌then◌else◌, List, [], ◌∷◌, ◌++◌, map, Option, Some, None, refl, sym, ap, ◌∙◌, append_assoc}
-use Rattle.std.specs.List.{concat}
+-- A file that a statement names, and its end.
+use Rattle.std.proofs.Common.{◌≡◌, ℕ, true, false, List, [], ◌∷◌, Option, Some, None, refl, sym, ap, ◌∙◌}
 use Rattle.std.specs.Option.{is_some}
 use Rattle.rz_core.specs.Decided.{Decided}
-use Rattle.rz_core.proofs.Tests.{none_some, same_some, true_false}
+use Rattle.rz_core.proofs.Tests.{none_some, true_false}
 use Rattle.rz_lex.specs.declared.token.Shape.{Shape}
 use Rattle.rz_lex.specs.declared.token.Shape.TheVariants as shapes
 use Rattle.rz_lex.specs.declared.token.Token.{Token}
 use Rattle.rz_brackets.specs.Statements.{is_empty, is_semicolon}
-use Rattle.rz_lists.specs.Files.{IsFile}
+use Rattle.rz_data.proofs.FileNames.{file_found, file_is}
+use Rattle.rz_data.specs.Files.{begins_with_text, behind_texts, file_in, text_of}
 use Rattle.rz_lists.specs.Read.{IsNamed}
-use Rattle.rz_lists.specs.Steps.{begins_with_text, behind_texts, file_in, past_text, text_of, texts_at_front, with_text}
-
--- One more text.
-
-pub texts_more : (tokens rest behind : List Token) (first : Token) (piece so_far after : List ℕ) → texts_at_front tokens ≡ so_far ++ texts_at_front rest → rest ≡ first ∷ behind
-    → first.shape ≡ shapes.Text piece → after ≡ so_far ++ piece → texts_at_front tokens ≡ after ++ texts_at_front behind
-texts_more tokens rest behind first piece so_far after leads are is pushed =
-    leads
-    ∙ ap (λ (ts : List Token). so_far ++ texts_at_front ts) are
-    ∙ ap (λ (shape : Shape). so_far ++ with_text (text_of shape) (texts_at_front behind)) is
-    ∙ sym (append_assoc so_far piece (texts_at_front behind))
-    ∙ ap (λ (bytes : List ℕ). bytes ++ texts_at_front behind) (sym pushed)
-
-pub behind_more : (tokens rest behind : List Token) (first : Token) (piece : List ℕ) → behind_texts tokens ≡ behind_texts rest → rest ≡ first ∷ behind
-    → first.shape ≡ shapes.Text piece → behind_texts tokens ≡ behind_texts behind
-behind_more tokens rest behind first piece leads are is =
-    leads ∙ ap (λ (ts : List Token). behind_texts ts) are ∙ ap (λ (shape : Shape). past_text (text_of shape) (first ∷ behind) (behind_texts behind)) is
-
--- The texts, and what stands behind them.
-
-none_at_front : (rest : List Token) → begins_with_text rest ≡ false → (texts_at_front rest ≡ []) × (behind_texts rest ≡ rest)
-none_at_front [] off = (refl, refl)
-none_at_front (t ∷ ts) off = by (text_of t.shape) off
-  where
-    by : (o : Option (List ℕ)) → is_some o ≡ false → (with_text o (texts_at_front ts) ≡ []) × (past_text o (t ∷ ts) (behind_texts ts) ≡ t ∷ ts)
-    by None off = (refl, refl)
-    by (Some bytes) off = absurd (true_false off)
-
-abbrev shapes_of : List Token → List Shape
-shapes_of tokens = map (λ token. token.shape) tokens
-
-pub file_apart : (file : List Token) (texts : List (List ℕ)) → map (λ token. token.shape) file ≡ map shapes.Text texts → (rest : List Token) → begins_with_text rest ≡ false
-    → (texts_at_front (file ++ rest) ≡ concat texts) × (behind_texts (file ++ rest) ≡ rest)
-file_apart [] [] are rest off = none_at_front rest off
-file_apart [] (b ∷ bs) are rest off = absurd (cc are)
-file_apart (t ∷ ts) [] are rest off = absurd (cc are)
-file_apart (t ∷ ts) (b ∷ bs) are rest off =
-    let first : t.shape ≡ shapes.Text b = heads t.shape (shapes.Text b) (shapes_of ts) (map shapes.Text bs) are in
-    let more = file_apart ts bs (tails t.shape (shapes.Text b) (shapes_of ts) (map shapes.Text bs) are) rest off in (
-      ap (λ (shape : Shape). with_text (text_of shape) (texts_at_front (ts ++ rest))) first ∙ ap (λ (l : List ℕ). b ++ l) more.0,
-      ap (λ (shape : Shape). past_text (text_of shape) (t ∷ (ts ++ rest)) (behind_texts (ts ++ rest))) first ∙ more.1,
-    )
-  where
-    heads : (x y : Shape) (xs ys : List Shape) → x ∷ xs ≡ y ∷ ys → x ≡ y
-    heads x y xs ys e = cc e
-
-    tails : (x y : Shape) (xs ys : List Shape) → x ∷ xs ≡ y ∷ ys → xs ≡ ys
-    tails x y xs ys e = cc e
-
-begins_so : (file : List Token) (texts : List (List ℕ)) → map (λ token. token.shape) file ≡ map shapes.Text texts → texts ≢ [] → (rest : List Token)
-    → begins_with_text (file ++ rest) ≡ true
-begins_so [] [] are some rest = absurd (some refl)
-begins_so [] (b ∷ bs) are some rest = absurd (cc are)
-begins_so (t ∷ ts) [] are some rest = absurd (cc are)
-begins_so (t ∷ ts) (b ∷ bs) are some rest = ap (λ (shape : Shape). is_some (text_of shape)) (heads t.shape (shapes.Text b) (shapes_of ts) (map shapes.Text bs) are)
-  where
-    heads : (x y : Shape) (xs ys : List Shape) → x ∷ xs ≡ y ∷ ys → x ≡ y
-    heads x y xs ys e = cc e
-
--- the texts that stand there
-pub record Fronted (tokens : List Token) : Type 0 where
-  pub file : List Token
-  pub texts : List (List ℕ)
-  pub are : tokens ≡ file ++ behind_texts tokens
-  pub shaped : map (λ token. token.shape) file ≡ map shapes.Text texts
-  pub joined : texts_at_front tokens ≡ concat texts
-  pub some : begins_with_text tokens ≡ true → texts ≢ []
-
-is_text : (shape : Shape) (bytes : List ℕ) → text_of shape ≡ Some bytes → shape ≡ shapes.Text bytes
-is_text (shapes.Text b) bytes is = ap shapes.Text (same_some (Some b) b bytes refl is)
-is_text (shapes.Word word) bytes is = absurd (none_some bytes is)
-is_text (shapes.Number number) bytes is = absurd (none_some bytes is)
-is_text (shapes.Literal literal) bytes is = absurd (none_some bytes is)
-is_text (shapes.Sign sign) bytes is = absurd (none_some bytes is)
-
-pub fronted : (tokens : List Token) → Fronted tokens
-fronted [] = record { file = []; texts = []; are = refl; shaped = refl; joined = refl; some = λ is. absurd (true_false (sym is)) }
-fronted (t ∷ ts) = by (text_of t.shape) refl (fronted ts)
-  where
-    by : (o : Option (List ℕ)) → text_of t.shape ≡ o → Fronted ts → Fronted (t ∷ ts)
-    by None none more = record {
-      file = [];
-      texts = [];
-      are = ap (λ (o : Option (List ℕ)). past_text o (t ∷ ts) (behind_texts ts)) (sym none);
-      shaped = refl;
-      joined = ap (λ (o : Option (List ℕ)). with_text o (texts_at_front ts)) none;
-      some = λ is. absurd (true_false (sym is ∙ ap (λ (o : Option (List ℕ)). is_some o) none));
-    }
-    by (Some bytes) has more = record {
-      file = t ∷ more.file;
-      texts = bytes ∷ more.texts;
-      are = ap (λ (l : List Token). t ∷ l) more.are
-          ∙ ap (λ (l : List Token). t ∷ (more.file ++ l)) (ap (λ (o : Option (List ℕ)). past_text o (t ∷ ts) (behind_texts ts)) (sym has));
-      shaped = λ i. is_text t.shape bytes has i ∷ more.shaped i;
-      joined = ap (λ (o : Option (List ℕ)). with_text o (texts_at_front ts)) has ∙ ap (λ (l : List ℕ). bytes ++ l) more.joined;
-      some = λ is none. cc none;
-    }
-
--- A file.
-
-in_file : (b : Bool) (bytes name : List ℕ) → (if b then Some bytes else None) ≡ Some name → (b ≡ true) × (bytes ≡ name)
-in_file true bytes name is = (refl, same_some (Some bytes) bytes name refl is)
-in_file false bytes name is = absurd (none_some name is)
-
--- the file that is named there is one
-pub file_is : (tokens : List Token) (name : List ℕ) → file_in tokens ≡ Some name → (file : List Token) × (tokens ≡ file ++ behind_texts tokens) × IsFile file name
-file_is tokens name is =
-    let front = fronted tokens in
-    let parts = in_file (begins_with_text tokens) (texts_at_front tokens) name is in
-    (front.file, front.are, record { texts = front.texts; are = front.shaped; some = front.some parts.0; joined = sym parts.1 ∙ front.joined })
-
--- and each that is one is named there
-pub file_found : (tokens file rest : List Token) (name : List ℕ) → tokens ≡ file ++ rest → IsFile file name → begins_with_text rest ≡ false
-    → (file_in tokens ≡ Some name) × (behind_texts tokens ≡ rest)
-file_found tokens file rest name are is off =
-    let apart = file_apart file is.texts is.are rest off in (
-      ap (λ (ts : List Token). file_in ts) are
-          ∙ ap (λ (b : Bool). if b then Some (texts_at_front (file ++ rest)) else None) (begins_so file is.texts is.are is.some rest)
-          ∙ ap (λ (l : List ℕ). Some l) (apart.0 ∙ sym is.joined),
-      ap (λ (ts : List Token). behind_texts ts) are ∙ apart.1,
-    )
 
 -- a `;` is no text
 no_semicolon : (shape : Shape) → is_semicolon shape ≡ true → is_some (text_of shape) ≡ false

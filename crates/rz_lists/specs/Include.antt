@@ -8,7 +8,7 @@ use Rattle.rz_brackets.specs.Kind.{kind_in}
 use Rattle.rz_brackets.specs.Statements.{is_empty}
 use Rattle.rz_data.specs.Head.{head_of, Head}
 use Rattle.rz_lists.specs.Brackets.{IsMaybe}
-use Rattle.rz_lists.specs.Files.{IsFile}
+use Rattle.rz_data.specs.Files.{IsFile}
 use Rattle.rz_lists.specs.Pick.{pick_of, IsPicked, Pick}
 use Rattle.rz_lists.specs.Renaming.{IsRenaming, Renaming}
 use Rattle.rz_lists.specs.declared.include.IncludePart.{IncludePart}

@@ -1,4 +1,3 @@
-pub mod Files
 pub mod Brackets
 pub mod Pick
 pub mod Renaming
@@ -12,5 +11,8 @@ pub use Rattle.rz_brackets.specs.Bracket
 pub use Rattle.rz_brackets.specs.Kind
 pub use Rattle.rz_brackets.specs.Pieces
 pub use Rattle.rz_brackets.specs.Statements
+pub use Rattle.rz_data.specs.Files
 pub use Rattle.rz_data.specs.Head
+pub use Rattle.rz_data.specs.Texts
+pub use Rattle.rz_fields.specs.Place
 pub use Rattle.rz_fields.specs.Text

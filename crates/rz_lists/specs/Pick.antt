@@ -4,9 +4,11 @@ use Rattle.rz_expr.specs.Term.{term_of, Term}
 use Rattle.rz_lex.specs.declared.token.Token.{Token}
 use Rattle.rz_brackets.specs.Pieces.{AreCut}
 use Rattle.rz_brackets.specs.declared.pieces.Divider.TheVariants.{Colon}
-use Rattle.rz_data.specs.Head.{name_in, IsSaidFor}
+use Rattle.rz_data.specs.Head.{IsSaidFor}
+use Rattle.rz_data.specs.Texts.{begins_text, IsText}
 use Rattle.rz_data.specs.declared.head.Subject.TheVariants.{New}
 use Rattle.rz_fields.specs.Text.{plain_parts, PlainPart}
+use Rattle.rz_fields.specs.declared.place.TextPlace.TheVariants as places
 use Rattle.rz_lists.specs.declared.pick.PickExpr.{PickExpr}
 use Rattle.rz_lists.specs.declared.pick.PickExpr.TheVariants as picks
 
@@ -40,13 +42,16 @@ AreIds pieces pick = ⊥
 abbrev pub IsIds : List Token → Pick → Type 0
 IsIds tokens pick = (pieces : List (List Token)) × AreCut Colon tokens pieces × AreIds pieces pick
 
--- a name, where the tokens are a text whose parts are all known before, or else ids
-abbrev pub IsPickBy : Option (List PlainPart) → List Token → Pick → Type 0
-IsPickBy (Some parts) tokens pick = pick ≡ Name parts
-IsPickBy None tokens pick = IsIds tokens pick
+abbrev pub IsNamePick : List Token → Pick → Type 0
+IsNamePick tokens pick = (parts : List PlainPart) × IsText places.New tokens parts × (pick ≡ Name parts)
+
+-- a name where a text begins there, or else ids
+abbrev pub IsPickBy : Bool → List Token → Pick → Type 0
+IsPickBy true tokens pick = IsNamePick tokens pick
+IsPickBy false tokens pick = IsIds tokens pick
 
 abbrev pub IsPick : List Token → Pick → Type 0
-IsPick tokens pick = IsPickBy (name_in tokens) tokens pick
+IsPick tokens pick = IsPickBy (begins_text tokens) tokens pick
 
 -- what stands in brackets; without them all are meant
 abbrev pub IsPicked : Option (List Token) → Pick → Type 0

@@ -10,7 +10,7 @@ use Rattle.rz_brackets.specs.Statements.{is_empty}
 use Rattle.rz_brackets.specs.declared.bracket.Bracket.TheVariants.{Round}
 use Rattle.rz_data.specs.Head.{head_of, Head}
 use Rattle.rz_data.specs.declared.head.Subject.TheVariants.{New}
-use Rattle.rz_lists.specs.Files.{IsFile}
+use Rattle.rz_data.specs.Files.{IsFile}
 use Rattle.rz_lists.specs.Renaming.{IsHeadIn}
 use Rattle.rz_lists.specs.declared.read.ReadStmt.{ReadStmt}
 

@@ -1,12 +1,9 @@
 -- What the parts of the readers look for. The other definitions say the same in the words of the language.
-use Rattle.std.specs.Prelude.{◌≡◌, ℕ, Bool, true, false, if◌then◌else◌, List, [], ◌∷◌, ◌++◌, Option, Some, None, option_map}
-use Rattle.std.specs.Option.{is_some}
+use Rattle.std.specs.Prelude.{◌≡◌, ℕ, Bool, true, false, List, ◌∷◌, Option, Some, option_map}
 use Rattle.rz_data.specs.Head.{IsSaidFor}
 use Rattle.rz_data.specs.declared.head.Subject.TheVariants.{New}
 use Rattle.rz_expr.specs.Term.{Term}
 use Rattle.rz_expr.specs.declared.keyword.Keyword.TheVariants as keywords
-use Rattle.rz_lex.specs.declared.token.Shape.{Shape}
-use Rattle.rz_lex.specs.declared.token.Shape.TheVariants as shapes
 use Rattle.rz_lex.specs.declared.token.Token.{Token}
 use Rattle.rz_brackets.specs.Kind.{kind_in}
 use Rattle.rz_brackets.specs.Statements.{is_empty}
@@ -15,38 +12,6 @@ use Rattle.rz_lists.specs.Include.{Chosen, Not, Part, Renamed}
 use Rattle.rz_lists.specs.Pick.{Id, IsPicked, Pick, Range}
 use Rattle.rz_lists.specs.Renaming.{IsRenaming, Renaming}
 use Rattle.rz_lists.specs.declared.brackets.Maybe as code
-
--- the bytes of a text
-abbrev pub text_of : Shape → Option (List ℕ)
-text_of (shapes.Text bytes) = Some bytes
-text_of shape = None
-
--- a text stands first
-abbrev pub begins_with_text : List Token → Bool
-begins_with_text [] = false
-begins_with_text (token ∷ tokens) = is_some (text_of token.shape)
-
--- the bytes of the texts at the front, joined
-abbrev pub with_text : Option (List ℕ) → List ℕ → List ℕ
-with_text None more = []
-with_text (Some bytes) more = bytes ++ more
-
-abbrev pub texts_at_front : List Token → List ℕ
-texts_at_front [] = []
-texts_at_front (token ∷ tokens) = with_text (text_of token.shape) (texts_at_front tokens)
-
--- what stands behind them
-abbrev pub past_text : Option (List ℕ) → List Token → List Token → List Token
-past_text None here past = here
-past_text (Some bytes) here past = past
-
-abbrev pub behind_texts : List Token → List Token
-behind_texts [] = []
-behind_texts (token ∷ tokens) = past_text (text_of token.shape) (token ∷ tokens) (behind_texts tokens)
-
--- the file at the front, where one is named there
-abbrev pub file_in : List Token → Option (List ℕ)
-file_in tokens = if begins_with_text tokens then Some (texts_at_front tokens) else None
 
 -- Brackets that may be left out.
 

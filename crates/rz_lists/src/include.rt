@@ -6,12 +6,11 @@ ghost use Rattle.rz_lists.specs.Pick.{pick_of};
 ghost use Rattle.rz_lists.specs.Steps.{IsGoneOn, IsOfType, IsOthers};
 
 use crate::brackets::maybe_bracketed;
-use crate::files::{behind_texts, file_in};
 use crate::pick::{PickExpr, read_picked};
 use crate::renaming::read_renaming;
 use rz_brackets::{is_empty_statement, kind_in, pieces_are_cut};
 use rz_core::{Bytes, NoMemory, OsType};
-use rz_data::HeadExpr;
+use rz_data::{HeadExpr, behind_texts, file_in};
 use rz_expr::{Keyword, is_keyword, one_expression};
 use rz_lex::Token;
 use std::alloc::Global;

@@ -2,13 +2,13 @@
 //! statement that the tokens are, or none, and there is one at most; a reader of each kind stands beside it. Which
 //! resources are meant, and the values of heads and picks, are for who carries them out.
 //! It rests on `rz_core`, `rz_lex`, `rz_expr`, `rz_fields`, `rz_brackets` and `rz_data`.
-//! What may stand in heads and picks is said in `specs/Head.antt` of `rz_data`, and changes there.
+//! What may stand in heads and picks is said in `specs/Head.antt` of `rz_data` and `specs/Place.antt` of `rz_fields`, and changes
+//! there.
 #![tactic(auto)]
 
 mod brackets;
 mod change;
 mod delete;
-mod files;
 mod include;
 mod laws;
 mod lists;

@@ -23,7 +23,8 @@ pub enum ListStmt {
     Delete(DeleteStmt),
 }
 
-/// The statement over lists of resources that the tokens are. `None` exactly where they are none. (MPW Rez.)
+/// The statement over lists of resources that the tokens are. `None` exactly where they are none. Reading goes
+/// as deep as brackets are open: callers bound the tokens that they hand in. (MPW Rez.)
 pub fn read_list(alloc: Global, tokens: &[Token]) -> Result<Option<ListStmt>, NoMemory>
     ensures { IfOk result (λ stmt. Decided (IsListed tokens.now) (option_map list_of stmt)) }
 {

@@ -1,15 +1,13 @@
 ghost use Rattle.std.specs.Prelude.{◌≡◌, IfOk, List, map, option_map};
 ghost use Rattle.rz_core.specs.Decided.{Decided};
-ghost use Rattle.rz_data.specs.Head.{name_in};
-ghost use Rattle.rz_fields.specs.Text.{plain_parts};
-ghost use Rattle.rz_lists.specs.Pick.{pick_of, picks_one, AreIds, IsIds, IsPick, IsPicked};
+ghost use Rattle.rz_lists.specs.Pick.{pick_of, picks_one, AreIds, IsIds, IsNamePick, IsPick, IsPicked};
 ghost use Rattle.rz_lists.specs.Steps.{AreTwoIds, IsOneId};
 
 use rz_brackets::{Divider, pieces_by};
 use rz_core::NoMemory;
-use rz_data::{Subject, name_in, read_said};
+use rz_data::{Subject, begins_text, read_said, text_at};
 use rz_expr::Expr;
-use rz_fields::Texts;
+use rz_fields::{TextPlace, Texts};
 use rz_lex::Token;
 use std::alloc::Global;
 
@@ -48,13 +46,24 @@ pub fn read_picked(alloc: Global, inside: Option<&[Token]>) -> Result<Option<Pic
     }
 }
 
-/// The name that the tokens are, or else the ids.
+/// The name that the tokens are, where a text begins there, or else the ids.
 fn read_pick(alloc: Global, tokens: &[Token]) -> Result<Option<PickExpr>, NoMemory>
     ensures { IfOk result (λ pick. Decided (IsPick tokens.now) (option_map pick_of pick)) }
 {
-    match name_in(alloc, tokens)? {
+    if begins_text(tokens) {
+        read_name(alloc, tokens)
+    } else {
+        read_ids(alloc, tokens)
+    }
+}
+
+/// The name that the tokens are.
+fn read_name(alloc: Global, tokens: &[Token]) -> Result<Option<PickExpr>, NoMemory>
+    ensures { IfOk result (λ pick. Decided (IsNamePick tokens.now) (option_map pick_of pick)) }
+{
+    match text_at(alloc, TextPlace::New, tokens)? {
         Some(name) => Ok(Some(PickExpr::Name(name))),
-        None => read_ids(alloc, tokens),
+        None => Ok(None),
     }
 }
 

@@ -2,11 +2,10 @@ ghost use Rattle.std.specs.Prelude.{◌≡◌, IfOk, option_map};
 ghost use Rattle.rz_core.specs.Decided.{Decided};
 ghost use Rattle.rz_lists.specs.Read.{read_of, IsNamed, IsRead};
 
-use crate::files::{behind_texts, file_in};
 use crate::renaming::read_head_in;
 use rz_brackets::{Bracket, bracketed, is_empty_statement, kind_in};
 use rz_core::{Bytes, NoMemory, OsType};
-use rz_data::{HeadExpr, Subject};
+use rz_data::{HeadExpr, Subject, behind_texts, file_in};
 use rz_expr::{Keyword, is_keyword};
 use rz_lex::Token;
 use std::alloc::Global;

@@ -22,7 +22,7 @@ use Rattle.rz_match.proofs.Steps.{rows_behind}
 use Rattle.rz_fields.specs.declared.field.ArrayField.{ArrayField}
 use Rattle.rz_fields.specs.declared.field.Field.TheFolds.{fold_out-ArrayField}
 use Rattle.rz_fields.specs.declared.field.Field.TheViews.{out-ArrayField}
-use Rattle.rz_fields.specs.declared.tree.Tree.{Tree}
+use Rattle.rz_rows.specs.declared.tree.Tree.{Tree}
 use Rattle.rz_types.specs.Field.{array_step, case_step, field_step, plain_array, plain_body, Array, PlainBody, PlainCase, PlainField}
 
 pub listed : (items : List PlainItem) → list_of (items_of items) ≡ items

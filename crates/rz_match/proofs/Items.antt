@@ -13,12 +13,12 @@ use Rattle.rz_match.proofs.Lines.{OneGiven, OneSound}
 use Rattle.rz_match.proofs.Lists.{fit_of, of_fit, of_unfit, unfit_of}
 use Rattle.rz_match.proofs.Numbers.{number_blamed, number_blames, number_complete, number_sound}
 use Rattle.rz_match.proofs.Results.{ok_err, same_err, same_ok, then_err, then_ok, unless_err, unless_ok}
-use Rattle.rz_fields.specs.declared.tree.Tree.{Tree}
-use Rattle.rz_fields.specs.declared.tree.Tree.TheVariants as trees
+use Rattle.rz_rows.specs.declared.tree.Tree.{Tree}
+use Rattle.rz_rows.specs.declared.tree.Tree.TheVariants as trees
 use Rattle.rz_types.specs.Field.{PlainNumber, PlainPoints, PlainText}
 use Rattle.rz_types.specs.Field as fields
 use Rattle.rz_types.specs.Shape.{numbers_of}
-use Rattle.rz_types.specs.Spells.{integer}
+use Rattle.rz_types.specs.Piece.{integer}
 use Rattle.rz_types.specs.Text.{bytes_of}
 
 blame : {X : Type 0} (fault other : Fault) → ◌≡◌ {A = Result X Fault} (Err fault) (Err other) → other ≡ fault

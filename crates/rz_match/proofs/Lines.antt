@@ -10,7 +10,7 @@ use Rattle.rz_match.specs.Fits.{NextFits}
 use Rattle.rz_match.specs.Matched.{next_matched, with_value, Line}
 use Rattle.rz_match.specs.Unfit.{too_few, NextUnfit}
 use Rattle.rz_match.proofs.Results.{ok_err, same_err, same_ok, then_err, then_ok}
-use Rattle.rz_fields.specs.declared.tree.Tree.{Tree}
+use Rattle.rz_rows.specs.declared.tree.Tree.{Tree}
 
 abbrev pub OneMatched : Type 0
 OneMatched = ℕ → PlainItem → Result Tree Fault

@@ -17,7 +17,7 @@ use Rattle.rz_match.specs.Unfit.{RowUnfit}
 use Rattle.rz_match.proofs.Lines.{RowGiven, RowSound}
 use Rattle.rz_match.proofs.Nested.{row_given, row_sounds}
 use Rattle.rz_match.proofs.RowLists.{whole_blamed, whole_blames, whole_complete, whole_sound}
-use Rattle.rz_fields.specs.declared.tree.Tree.{Tree}
+use Rattle.rz_rows.specs.declared.tree.Tree.{Tree}
 use Rattle.rz_types.specs.Field.{PlainBody}
 use Rattle.rz_types.specs.Kept.{IsKept}
 use Rattle.rz_types.specs.Walk.{names_of}

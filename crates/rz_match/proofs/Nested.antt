@@ -18,12 +18,12 @@ use Rattle.rz_match.proofs.Items.{none_given, none_sounds, number_given, number_
 use Rattle.rz_match.proofs.Lines.{end_given, end_sounds, next_given, next_sounds, OneGiven, OneSound, RowGiven, RowSound}
 use Rattle.rz_match.proofs.Results.{if_err, if_ok, ok_err, same_err, same_ok, then_err, then_ok}
 use Rattle.rz_match.proofs.RowLists.{rows_blamed, rows_blames, rows_complete, rows_sound, whole_blamed, whole_blames, whole_complete, whole_sound}
-use Rattle.rz_fields.specs.declared.tree.Tree.{Tree}
-use Rattle.rz_fields.specs.declared.tree.Tree.TheVariants as trees
+use Rattle.rz_rows.specs.declared.tree.Tree.{Tree}
+use Rattle.rz_rows.specs.declared.tree.Tree.TheVariants as trees
+use Rattle.rz_rows.specs.Row.{By, IsStated}
 use Rattle.rz_types.specs.Field as fields
-use Rattle.rz_types.specs.Field.{PlainBody, PlainCases, PlainField}
+use Rattle.rz_types.specs.Field.{takes_value, PlainBody, PlainCases, PlainField}
 use Rattle.rz_types.specs.Kept.{AreCasesKept, AreKept, IsKeptWithin}
-use Rattle.rz_types.specs.Row.{takes_value, By, IsStated}
 use Rattle.rz_types.specs.Rules.{has_values}
 use Rattle.rz_types.specs.Walk.{names_of}
 

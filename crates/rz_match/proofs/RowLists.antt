@@ -10,7 +10,7 @@ use Rattle.rz_match.specs.Matched.{nothing_left, rows_matched, whole_matched, Li
 use Rattle.rz_match.specs.Unfit.{too_many, WholeUnfit}
 use Rattle.rz_match.proofs.Lines.{RowGiven, RowMatched, RowSound}
 use Rattle.rz_match.proofs.Results.{ok_err, same_err, same_ok, then_err, then_ok}
-use Rattle.rz_fields.specs.declared.tree.Tree.{Tree}
+use Rattle.rz_rows.specs.declared.tree.Tree.{Tree}
 use Rattle.std.proofs.lemmas.List.{append-nil}
 
 module _ (row : RowMatched) (IsRow : List PlainItem → List Tree → Type 0) (IsFault : ℕ → List PlainItem → Fault → Type 0) where

@@ -7,7 +7,7 @@ use Rattle.rz_core.specs.declared.fault.Mark.{Mark}
 use Rattle.rz_items.specs.Item.{PlainItem}
 use Rattle.rz_match.specs.Fits.{Fits}
 use Rattle.rz_match.specs.Unfit.{Unfit}
-use Rattle.rz_fields.specs.declared.tree.Tree.{Tree}
+use Rattle.rz_rows.specs.declared.tree.Tree.{Tree}
 use Rattle.rz_types.specs.Field.{PlainBody}
 
 -- what the items of a statement at this place are under the fields, where of the resource so much is known

@@ -12,14 +12,13 @@ use Rattle.rz_expr.specs.Term.{Term}
 use Rattle.rz_items.specs.Item.{Braced, Named, Number, PlainItem, Text}
 use Rattle.rz_match.specs.Fits.{exceeds, is_char, list_of}
 use Rattle.rz_match.specs.Unfit.{mark_of, no_case, other_count, out_of_range, too_few, too_long, too_many, wrong_kind}
-use Rattle.rz_fields.specs.declared.tree.Tree.{Tree}
-use Rattle.rz_fields.specs.declared.tree.Tree.TheVariants as trees
-use Rattle.rz_types.specs.Field.{PlainBody, PlainCases, PlainField, PlainNumber, PlainText}
+use Rattle.rz_rows.specs.declared.tree.Tree.{Tree}
+use Rattle.rz_rows.specs.declared.tree.Tree.TheVariants as trees
+use Rattle.rz_types.specs.Field.{takes_value, PlainBody, PlainCases, PlainField, PlainNumber, PlainText}
 use Rattle.rz_types.specs.Field as fields
 use Rattle.rz_types.specs.Range.{fits_number}
-use Rattle.rz_types.specs.Row.{takes_value}
 use Rattle.rz_types.specs.Shape.{numbers_of}
-use Rattle.rz_types.specs.Spells.{integer}
+use Rattle.rz_types.specs.Piece.{integer}
 use Rattle.rz_types.specs.Stored.{stored_number}
 use Rattle.rz_types.specs.Text.{bytes_of, PlainPart}
 use Rattle.rz_types.specs.Value.{symbol_number_of}

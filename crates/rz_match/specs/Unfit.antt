@@ -8,13 +8,13 @@ use Rattle.rz_core.specs.declared.fault.Mark.{Mark}
 use Rattle.rz_expr.specs.Term.{Term}
 use Rattle.rz_items.specs.Item.{Braced, Named, Number, PlainItem, Text}
 use Rattle.rz_match.specs.Fits.{exceeds, is_char, list_of, FitAll, Fits, IsItemOf, IsNumberOf, RowsFit}
-use Rattle.rz_fields.specs.declared.tree.Tree.{Tree}
-use Rattle.rz_types.specs.Field.{PlainBody, PlainCases, PlainField, PlainNumber, PlainText}
+use Rattle.rz_rows.specs.declared.tree.Tree.{Tree}
+use Rattle.rz_rows.specs.Row.{By}
+use Rattle.rz_types.specs.Field.{takes_value, PlainBody, PlainCases, PlainField, PlainNumber, PlainText}
 use Rattle.rz_types.specs.Field as fields
 use Rattle.rz_types.specs.Range.{fits_number}
-use Rattle.rz_types.specs.Row.{takes_value, By}
 use Rattle.rz_types.specs.Shape.{numbers_of}
-use Rattle.rz_types.specs.Spells.{integer}
+use Rattle.rz_types.specs.Piece.{integer}
 use Rattle.rz_types.specs.Text.{bytes_of, PlainPart}
 use Rattle.rz_types.specs.Value.{symbol_number_of}
 

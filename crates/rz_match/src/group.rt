@@ -4,13 +4,14 @@ ghost use Rattle.rz_items.specs.Item.{plain_item, plain_items};
 ghost use Rattle.rz_match.specs.Matched.{group_for, numbers_for};
 ghost use Rattle.rz_types.specs.Field.{plain_number};
 ghost use Rattle.rz_types.specs.Shape.{numbers_of};
-ghost use Rattle.rz_types.specs.Spells.{integer};
+ghost use Rattle.rz_types.specs.Piece.{integer};
 
 use crate::fault::{mark_of, too_few, too_many, wrong_kind};
 use crate::number::number_for;
 use rz_core::{Facts, Fault, Mark, Stop};
 use rz_items::Item;
-use rz_types::{NumField, NumForm, Numbers, Radix, Symbols};
+use rz_rows::Numbers;
+use rz_types::{NumField, NumForm, Radix, Symbols};
 use std::alloc::Global;
 
 /// The numbers that an item, at this position in its list, gives to a point or a rectangle.

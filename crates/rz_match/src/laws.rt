@@ -5,7 +5,7 @@ ghost use Rattle.rz_core.specs.declared.fault.Fault.{Fault};
 ghost use Rattle.rz_core.specs.declared.fault.Mark.{Mark};
 ghost use Rattle.rz_items.specs.Item.{PlainItem};
 ghost use Rattle.rz_match.specs.Match.{IsMatch};
-ghost use Rattle.rz_fields.specs.declared.tree.Tree.{Tree};
+ghost use Rattle.rz_rows.specs.declared.tree.Tree.{Tree};
 ghost use Rattle.rz_types.specs.Field.{PlainBody};
 ghost use Rattle.rz_types.specs.Rules.{keeps_rules};
 

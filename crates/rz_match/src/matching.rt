@@ -9,9 +9,9 @@ ghost use Rattle.rz_items.specs.Places.{AreItemsWithin};
 ghost use Rattle.rz_match.specs.Line.{GivesLine};
 ghost use Rattle.rz_match.specs.Match.{IsMatch};
 ghost use Rattle.rz_match.specs.Matched.{case_matched, counted, item_for, matched, row_matched, rows_matched};
-ghost use Rattle.rz_fields.specs.declared.tree.Tree.{Tree as tree};
+ghost use Rattle.rz_rows.specs.declared.tree.Tree.{Tree as tree};
+ghost use Rattle.rz_rows.specs.Row.{IsRow};
 ghost use Rattle.rz_types.specs.Field.{plain_array, plain_body, plain_cases, plain_field, Switch};
-ghost use Rattle.rz_types.specs.Row.{IsRow};
 ghost use Rattle.rz_types.specs.Template.{template_of};
 
 use crate::fault::{mark_of, no_case, other_count, too_few, too_many, wrong_kind};
@@ -20,9 +20,8 @@ use crate::number::number_for;
 use crate::text::text_for;
 use rz_core::{Facts, Fault, Mark, Stop, Word};
 use rz_items::{Item, Items};
-use rz_types::{
-    ArrayField, Case, Field, Row, RowList, Template, Tree, rules_hold_within, takes_value,
-};
+use rz_rows::{Row, RowList, Tree};
+use rz_types::{ArrayField, Case, Field, Template, rules_hold_within, takes_value};
 use std::alloc::Global;
 
 /// The row of the items of a statement at this place under a template, where of the resource so much is known: one
@@ -31,13 +30,14 @@ use std::alloc::Global;
 /// fault from left to right is the answer, and the end of a list comes after its items: 206, an item of another kind
 /// (kept: its position in its list, from 1), at the item; 208, a missing item (kept: how many items the list has), at
 /// the place of the statement, or at the item in whose braces it is missing; 209, an item too many (kept: the same), at
-/// the first such item; and at the item 203, a name that is no symbol of the field nor `true` or `false` (kept: the
-/// name), 207, a value that isn't in the range of the field (kept: the value), 210, a name of no case of the switch
-/// (kept: the name), 211, a zero divisor, 215, a shift by a count outside 0 to 31 (kept: the count), 216, a text of more
-/// than one byte for a `char`, or one too long for a `pstring` or `wstring` without a size (kept: how many bytes it has),
-/// and 217, another number of rows than is stated (kept: both). Names of cases are the same in whatever case. Items as
-/// statements have them hold no `$$CountOf` and no data functions; of these the first would be 203, and the others 203 or
-/// 213. Matching goes as deep as arrays and switches stand in one another. (MPW Rez.)
+/// the first such item; and at the item 203, a name that is no symbol of the field nor `true` or `false`, or in a format
+/// one that is neither of these two (kept: the name), 207, a value that isn't in the range of the field (kept: the
+/// value), 210, a name of no case of the switch (kept: the name), 211, a zero divisor, 215, a shift by a count outside 0
+/// to 31 (kept: the count), 216, a text of more than one byte for a `char`, or one too long for a `pstring` or `wstring`
+/// without a size (kept: how many bytes it has), 217, another number of rows than is stated (kept: both), and 222, a
+/// format that its arguments don't fit. Names of cases are the same in whatever case. Items as statements have them hold
+/// no `$$CountOf` and no data functions; of these the first would be 203, and the others 203 or 213. Matching goes as
+/// deep as arrays and switches stand in one another. (MPW Rez.)
 pub fn match_items(
     alloc: Global,
     template: &Template,

@@ -18,14 +18,14 @@ use Rattle.rz_fields.specs.declared.field.NumForm.TheVariants.{Bits, Boolean, By
 use Rattle.rz_fields.specs.declared.field.Radix.{Radix}
 use Rattle.rz_fields.specs.declared.field.Radix.TheVariants.{Binary, Decimal, Hex, Literal, Octal, Plain}
 use Rattle.rz_fields.specs.declared.field.Symbol.{Symbol}
-use Rattle.rz_fields.specs.declared.tree.Tree.{Tree}
-use Rattle.rz_types.specs.Field.{case_and, field_and, no_cases, no_fields, Align, Array, Fill, Number, PlainBody, PlainCases, PlainField, PlainNumber, Points, Switch, Text}
+use Rattle.rz_rows.specs.declared.tree.Tree.{Tree}
+use Rattle.rz_rows.specs.Laid.{first_value, line_in, number_in, other_values, rows_in, text_in}
+use Rattle.rz_rows.specs.Row.{By, IsChoice, IsRow, IsValue}
+use Rattle.rz_rows.specs.Spells.{group_in, is_case}
+use Rattle.rz_types.specs.Field.{case_and, field_and, no_cases, no_fields, takes_value, Align, Array, Fill, Number, PlainBody, PlainCases, PlainField, PlainNumber, Points, Switch, Text}
 use Rattle.rz_types.specs.Kept.{AreCasesKept, AreKept, Differ, IsKept, IsKeptWithin}
-use Rattle.rz_types.specs.Laid.{first_value, line_in, number_in, other_values, rows_in, text_in}
-use Rattle.rz_types.specs.Row.{takes_value, By, IsChoice, IsRow, IsValue}
 use Rattle.rz_types.specs.Rules.{bad_width, case_names}
 use Rattle.rz_types.specs.Shape.{are_cases_shaped, are_shaped, is_none_or, is_own_name, is_shaped, is_well_shaped}
-use Rattle.rz_types.specs.Spells.{group_in, is_case}
 use Rattle.rz_types.specs.Value.{symbol_value}
 use Rattle.rz_types.specs.Walk.{names_of}
 use Rattle.rz_print.specs.Number.{by_decimal, by_form, by_hex, by_literal, by_radix, by_truth, by_value, is_literal_width, is_stored, named_or, number_shown, signed_number, symbol_for, truth}

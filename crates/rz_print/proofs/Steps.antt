@@ -5,11 +5,10 @@ use Rattle.rz_fields.proofs.Bodies.{body_next, cases_next}
 use Rattle.rz_fields.specs.declared.field.Case.{Case}
 use Rattle.rz_fields.specs.declared.field.Field.{Field}
 use Rattle.rz_fields.specs.declared.field.Field.TheViews.{out-Case}
-use Rattle.rz_fields.specs.declared.tree.Tree.{Tree}
-use Rattle.rz_types.specs.Field.{plain_body, plain_cases, plain_field, PlainBody, PlainCases}
-use Rattle.rz_types.specs.Laid.{first_value, line_in, other_values}
-use Rattle.rz_types.specs.Row.{takes_value}
-use Rattle.rz_types.specs.Spells.{is_case}
+use Rattle.rz_rows.specs.declared.tree.Tree.{Tree}
+use Rattle.rz_rows.specs.Laid.{first_value, line_in, other_values}
+use Rattle.rz_rows.specs.Spells.{is_case}
+use Rattle.rz_types.specs.Field.{plain_body, plain_cases, plain_field, takes_value, PlainBody, PlainCases}
 use Rattle.rz_print.specs.Print.{block, deeper, named_block, no_prints, Prints}
 use Rattle.rz_print.specs.Put.{comma_text, end_text, item_text, list_text, margin_text, rest_text, Puts}
 use Rattle.rz_print.specs.Shown.{case_print, field_print, print_if, row_prints, rows_prints}

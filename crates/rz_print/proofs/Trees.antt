@@ -4,13 +4,13 @@ use Rattle.std.specs.List.{AllByRecursion}
 use Rattle.std.specs.Str.{str_eq_ignore_ascii_case}
 use Rattle.rz_core.proofs.Folds.{same_lower}
 use Rattle.rz_core.specs.declared.resource.Word.{Word}
-use Rattle.rz_fields.specs.declared.tree.Tree.{Tree}
-use Rattle.rz_fields.specs.declared.tree.Tree.TheVariants as trees
+use Rattle.rz_rows.specs.declared.tree.Tree.{Tree}
+use Rattle.rz_rows.specs.declared.tree.Tree.TheVariants as trees
+use Rattle.rz_rows.specs.Laid.{first_value, line_in, line_of_tree, number_in, number_of_tree, other_values, rows_in, rows_of_tree, text_in, text_of_tree}
+use Rattle.rz_rows.specs.Row.{IsChoice, IsFront}
+use Rattle.rz_rows.specs.Spells.{choice_in, choice_of_tree, group_in, is_case, numbers_of_group}
 use Rattle.rz_types.specs.Field.{case_and, no_cases, PlainCases}
-use Rattle.rz_types.specs.Laid.{first_value, line_in, line_of_tree, number_in, number_of_tree, other_values, rows_in, rows_of_tree, text_in, text_of_tree}
-use Rattle.rz_types.specs.Row.{IsChoice, IsFront}
 use Rattle.rz_types.specs.Rules.{case_names}
-use Rattle.rz_types.specs.Spells.{choice_in, choice_of_tree, group_in, is_case, numbers_of_group}
 
 pub number_is : (n : ℕ) → number_in (Some (trees.Number n)) ≡ n
 number_is n = ap number_of_tree (trees.outs-Number n)

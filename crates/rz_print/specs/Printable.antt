@@ -2,11 +2,11 @@
 use Rattle.std.specs.Prelude.{◌≡◌, ℕ, ◌≤◌, ◌≤ℤ◌, ℤ, pos, Bool, true, false, codes, List, ◌∷◌, length, Option}
 use Rattle.std.specs.List.{AllByRecursion}
 use Rattle.rz_lex.specs.Printed.{is_word, AreBytes}
-use Rattle.rz_fields.specs.declared.tree.Tree.{Tree}
-use Rattle.rz_types.specs.Field.{case_and, field_and, no_cases, no_fields, Align, Array, Fill, Number, PlainBody, PlainCases, PlainField, Points, Switch, Text}
-use Rattle.rz_types.specs.Laid.{first_value, line_in, other_values, rows_in, text_in}
-use Rattle.rz_types.specs.Row.{takes_value, By}
-use Rattle.rz_types.specs.Spells.{is_case}
+use Rattle.rz_rows.specs.declared.tree.Tree.{Tree}
+use Rattle.rz_rows.specs.Laid.{first_value, line_in, other_values, rows_in, text_in}
+use Rattle.rz_rows.specs.Row.{By}
+use Rattle.rz_rows.specs.Spells.{is_case}
+use Rattle.rz_types.specs.Field.{case_and, field_and, no_cases, no_fields, takes_value, Align, Array, Fill, Number, PlainBody, PlainCases, PlainField, Points, Switch, Text}
 use Rattle.rz_print.specs.Print.{block, named_block, no_prints, pieces, print, single, single_written, Print, Prints}
 use Rattle.rz_print.specs.Written.{IsPut}
 

@@ -3,7 +3,7 @@ use Rattle.std.specs.Prelude.{◌≡◌, ℕ, ℤ, Bool, true, false, List, [], 
 use Rattle.rz_core.specs.Decimal.{signed_of}
 use Rattle.rz_core.specs.Quoted.{quoted}
 use Rattle.rz_lex.specs.Spelled.{digits_of}
-use Rattle.rz_fields.specs.declared.tree.Tree.{Tree}
+use Rattle.rz_rows.specs.declared.tree.Tree.{Tree}
 use Rattle.rz_types.specs.Field.{PlainBody}
 use Rattle.rz_print.specs.Print.{block, by_name, deeper, in_binary, in_decimal, in_group, in_hex, in_literal, in_octal, in_text, list_lines, margin, named_block, no_prints, piece_written, pieces, print, single, Print, Prints, Single}
 use Rattle.rz_print.specs.Shown.{row_prints}

@@ -1,11 +1,10 @@
 -- Rows as they are shown. (As MPW DeRez shows them.)
 use Rattle.std.specs.Prelude.{ℕ, zero, suc, ◌-◌, Bool, true, false, ◌||◌, if◌then◌else◌, List, [], ◌∷◌, map, Option}
 use Rattle.std.specs.List.{list_any}
-use Rattle.rz_fields.specs.declared.tree.Tree.{Tree}
-use Rattle.rz_types.specs.Field.{case_and, field_and, no_cases, no_fields, Align, Array, Fill, Number, PlainBody, PlainCases, PlainField, Points, Switch, Text}
-use Rattle.rz_types.specs.Laid.{first_value, line_in, number_in, other_values, rows_in, text_in}
-use Rattle.rz_types.specs.Row.{takes_value}
-use Rattle.rz_types.specs.Spells.{group_in, is_case}
+use Rattle.rz_rows.specs.declared.tree.Tree.{Tree}
+use Rattle.rz_rows.specs.Laid.{first_value, line_in, number_in, other_values, rows_in, text_in}
+use Rattle.rz_rows.specs.Spells.{group_in, is_case}
+use Rattle.rz_types.specs.Field.{case_and, field_and, no_cases, no_fields, takes_value, Align, Array, Fill, Number, PlainBody, PlainCases, PlainField, Points, Switch, Text}
 use Rattle.rz_print.specs.Number.{number_shown, signed_number}
 use Rattle.rz_print.specs.Print.{block, in_group, list_lines, named_block, no_prints, pieces, print, single, Print, Prints}
 use Rattle.rz_print.specs.Written.{lines_text}

@@ -5,9 +5,9 @@ ghost use Rattle.rz_print.specs.Print.{list_lines, Prints};
 ghost use Rattle.rz_print.specs.Printable.{AreGood, AreOfBytes, SparesTruth};
 ghost use Rattle.rz_print.specs.Shown.{row_prints, row_uses};
 ghost use Rattle.rz_print.specs.Written.{line_shapes, lines_text, Written};
-ghost use Rattle.rz_fields.specs.declared.tree.Tree.{Tree};
+ghost use Rattle.rz_rows.specs.declared.tree.Tree.{Tree};
+ghost use Rattle.rz_rows.specs.Row.{IsRow};
 ghost use Rattle.rz_types.specs.Field.{PlainBody};
-ghost use Rattle.rz_types.specs.Row.{IsRow};
 ghost use Rattle.rz_types.specs.Rules.{keeps_rules};
 ghost use Rattle.rz_types.specs.Shape.{is_well_shaped};
 

@@ -13,8 +13,9 @@ use crate::line::{deeper, write_close, write_comma, write_end, write_margin};
 use crate::number::{write_group, write_number};
 use crate::text::write_text;
 use rz_core::{Bytes, NoMemory};
-use rz_fields::values::{choice_in, group_in, line_in, next_value, number_in, rows_in, text_in};
-use rz_types::{Case, Field, Row, Tree, rules_hold_within, takes_value};
+use rz_rows::values::{choice_in, group_in, line_in, next_value, number_in, rows_in, text_in};
+use rz_rows::{Row, Tree};
+use rz_types::{Case, Field, rules_hold_within, takes_value};
 
 /// Appends the lines of a row's items, at a depth of so many levels: what stands between the braces of its statement.
 /// Each item is on a line of its own, the items of an array's rows and of a case one level deeper; every item but the

@@ -6,8 +6,9 @@ ghost use Rattle.rz_types.specs.Field.{plain_body, plain_cases, plain_field};
 
 use crate::Hidden;
 use rz_core::NoMemory;
-use rz_fields::values::{choice_in, line_in, next_value, rows_in};
-use rz_types::{Case, Field, Row, Tree, takes_value};
+use rz_rows::values::{choice_in, line_in, next_value, rows_in};
+use rz_rows::{Row, Tree};
+use rz_types::{Case, Field, takes_value};
 use std::alloc::Global;
 
 /// Whether a row chooses a case whose name is a live macro, itself or in the rows within it: then no `resource`

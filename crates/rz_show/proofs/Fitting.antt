@@ -1,26 +1,30 @@
 -- The items of a row that is shown fit the row.
-use Rattle.std.proofs.Common.{◌≡◌, inl, inr, ℕ, zero, suc, ◌-◌, ◌<◌, Bool, true, false, ◌&&◌, ◌||◌, List, [], ◌∷◌, ◌++◌, length, map, Option, Some, None, Ok, refl, sym, ap, subst, ◌∙◌, arith, append-nil}
+use Rattle.std.proofs.Common.{◌≡◌, inl, inr, ℕ, zero, suc, ◌-◌, ◌<◌, Bool, true, false, ◌&&◌, ◌||◌, List, [], ◌∷◌, ◌++◌, length, map, Option, Some, None, Ok, Err, refl, sym, ap, subst, ◌∙◌, arith, append-nil}
 use Rattle.std.specs.Prelude.{if◌then◌else◌, replicate}
-use Rattle.std.specs.List.{flat_map, AllByRecursion}
+use Rattle.std.specs.List.{AllByRecursion}
 use Rattle.std.specs.Str.{str_eq_ignore_ascii_case}
+use Rattle.std.specs.declared.result.Result.{Result}
 use Rattle.rz_core.proofs.Tests.{both, true_false}
+use Rattle.rz_core.specs.Stop.{◌>>=◌}
 use Rattle.rz_core.specs.declared.facts.Facts.{Facts}
+use Rattle.rz_core.specs.declared.fault.Fault.{Fault}
 use Rattle.rz_core.specs.declared.fault.Mark.{Mark}
 use Rattle.rz_core.specs.declared.resource.Word.{Word}
 use Rattle.rz_fields.specs.Text as parts
-use Rattle.rz_fields.specs.Text.{bytes_in}
-use Rattle.rz_fields.specs.declared.tree.Tree.{Tree}
-use Rattle.rz_fields.specs.declared.tree.Tree.TheVariants as trees
+use Rattle.rz_fields.specs.Text.{bytes_of}
+use Rattle.rz_rows.specs.declared.tree.Tree.{Tree}
+use Rattle.rz_rows.specs.declared.tree.Tree.TheVariants as trees
 use Rattle.rz_items.specs.Item as item
 use Rattle.rz_items.specs.Item.{items_of, PlainItem}
 use Rattle.rz_items.specs.Fits.{exceeds, list_of, AreNumbersOf, FitAll, Fits, IsCaseOf, IsItemOf, IsNumberOf, IsTextOf, NextFits, RowsFit, WithList, WithNamed}
-use Rattle.rz_types.specs.Field.{case_and, field_and, no_cases, no_fields, Align, Array, Fill, Number, PlainBody, PlainCases, PlainField, PlainText, Points, Switch, Text}
+use Rattle.rz_rows.specs.Laid.{first_value, line_in, number_in, other_values, rows_in, text_in}
+use Rattle.rz_rows.specs.Row.{By, IsChoice, IsFront, IsRow, IsStated, IsValue}
+use Rattle.rz_rows.specs.Spells.{choice_in, group_in, is_case}
+use Rattle.rz_types.specs.Field.{case_and, field_and, no_cases, no_fields, takes_value, Align, Array, Fill, Number, PlainBody, PlainCases, PlainField, PlainText, Points, Switch, Text}
 use Rattle.rz_types.specs.Kept.{AreCasesKept, AreKept, Differ, IsKept, IsKeptWithin}
-use Rattle.rz_types.specs.Laid.{first_value, line_in, number_in, other_values, rows_in, text_in}
-use Rattle.rz_types.specs.Row.{takes_value, By, IsChoice, IsFront, IsRow, IsStated, IsValue}
 use Rattle.rz_types.specs.Rules.{bad_width, case_names, has_values}
 use Rattle.rz_types.specs.Shape.{are_cases_shaped, are_shaped, is_none_or, is_own_name, is_shaped, is_well_shaped, numbers_of}
-use Rattle.rz_types.specs.Spells.{choice_in, group_in, integer, is_case}
+use Rattle.rz_types.specs.Piece.{integer}
 use Rattle.rz_types.specs.Walk.{names_of}
 use Rattle.rz_show.proofs.Items.{ArePrintedItems, IsPrintedItem, IsSingleItem}
 use Rattle.rz_print.specs.Number.{number_shown, signed_number}
@@ -58,6 +62,12 @@ first_print false here there one is printed = absurd (true_false (sym is))
 later_print : (test : Bool) (here there : Print) (one : PlainItem) → test ≡ false → IsPrintedItem (if test then here else there) one → IsPrintedItem there one
 later_print true here there one is printed = absurd (true_false is)
 later_print false here there one is printed = printed
+
+-- a byte more in front of bytes that are answered
+with_byte : (byte : ℕ) (front bytes : List ℕ) (answer : Result (List ℕ) Fault) → (answer >>= λ more. Ok (front ++ more)) ≡ Ok bytes
+    → (answer >>= λ more. Ok ((byte ∷ front) ++ more)) ≡ Ok (byte ∷ bytes)
+with_byte byte front bytes (Ok more) is = ap (λ (r : Result (List ℕ) Fault). r >>= λ all. Ok (byte ∷ all)) is
+with_byte byte front bytes (Err fault) is = ap (λ (r : Result (List ℕ) Fault). r >>= λ all. Ok (byte ∷ all)) is
 
 -- the items in front fit the row, and those behind are those of more
 pub record Front (Fit : List PlainItem → List Tree → Type 0) (row : List Tree) (more : Prints) (items : List PlainItem) : Type 0 where
@@ -126,15 +136,23 @@ module _ (known : Facts) where
 
   -- Texts.
 
-  joined : (size room : ℕ) (bytes : List ℕ)
-      → flat_map (bytes_in known) (map (λ (piece : List ℕ). parts.Plain piece) ((in_pieces size room bytes).first ∷ (in_pieces size room bytes).others)) ≡ bytes
-  joined size room [] = refl
-  joined size (suc room) (b ∷ bytes) = ap (λ (bs : List ℕ). b ∷ bs) (joined size room bytes)
-  joined size zero (b ∷ bytes) = ap (λ (bs : List ℕ). b ∷ bs) (joined size (size - 1) bytes)
+  -- the bytes of a text of these pieces
+  abbrev plain_bytes : Mark → List (List ℕ) → Result (List ℕ) Fault
+  plain_bytes mark pieces = bytes_of mark known (map (λ piece. parts.Plain piece) pieces)
+
+  joined : (mark : Mark) (size room : ℕ) (bytes : List ℕ) → plain_bytes mark ((in_pieces size room bytes).first ∷ (in_pieces size room bytes).others) ≡ Ok bytes
+  joined mark size room [] = refl
+  joined mark size (suc room) (b ∷ bytes) =
+      let pieces = in_pieces size room bytes in
+      with_byte b pieces.first bytes (plain_bytes mark pieces.others) (joined mark size room bytes)
+  joined mark size zero (b ∷ bytes) =
+      let pieces = in_pieces size (size - 1) bytes in
+      ap (λ (answer : Result (List ℕ) Fault). answer >>= λ all. Ok all)
+      (with_byte b pieces.first bytes (plain_bytes mark pieces.others) (joined mark size (size - 1) bytes))
 
   text_fits : (text : PlainText) (bytes : List ℕ) (one : PlainItem) → exceeds text bytes ≡ false → IsPrintedItem (text_print text.hex bytes) one → IsTextOf known text one bytes
   text_fits text bytes one short (mark, is) =
-      subst (λ (x : PlainItem). IsTextOf known text x bytes) (sym is) (ap (λ (bs : List ℕ). Ok bs) (joined (piece_size text.hex) (piece_size text.hex) bytes), short)
+      subst (λ (x : PlainItem). IsTextOf known text x bytes) (sym is) (joined mark (piece_size text.hex) (piece_size text.hex) bytes, short)
 
   -- Points.
 

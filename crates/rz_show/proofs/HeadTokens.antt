@@ -1,6 +1,6 @@
 -- The tokens of the head of a shown resource, as the pieces of a head.
-use Rattle.std.proofs.Common.{◌≡◌, ℕ, suc, ◌<◌, ◌^◌, ℤ, pos, negsuc, Bool, true, false, List, [], ◌∷◌, ◌++◌, map, Some, None, refl, sym, ap, subst, ◌∙◌, arith}
-use Rattle.std.specs.Prelude.{Option, if◌then◌else◌, ◌==◌, ◌&&◌, ◌||◌, ◌/◌, ◌%◌, nat_le, FitsSigned}
+use Rattle.std.proofs.Common.{◌≡◌, ℕ, suc, ◌<◌, ◌^◌, ℤ, pos, negsuc, Bool, true, false, List, [], ◌∷◌, ◌++◌, map, refl, sym, ap, subst, ◌∙◌, arith}
+use Rattle.std.specs.Prelude.{◌==◌, ◌&&◌, ◌||◌, ◌/◌, ◌%◌, nat_le, FitsSigned}
 use Rattle.std.specs.Int.{w16, w32}
 use Rattle.std.specs.List.{AllByRecursion}
 use Rattle.std.proofs.lemmas.Int.{int_wrap_fits}
@@ -19,9 +19,11 @@ use Rattle.rz_lex.specs.declared.token.Token.{Token}
 use Rattle.rz_brackets.specs.Pieces.{divides, has_divider, AreCut, Parted}
 use Rattle.rz_brackets.specs.Statements.{open_behind, open_behind_all}
 use Rattle.rz_brackets.specs.declared.pieces.Divider.TheVariants.{CloseParen, Comma}
-use Rattle.rz_data.specs.Head.{are_known, if_known, name_in, AreAttributes, Attribute, IsAttribute, IsRest, IsSaidFor, Set}
+use Rattle.rz_data.proofs.Plain.{plain_begins, plain_text}
+use Rattle.rz_data.specs.Head.{AreAttributes, Attribute, IsAttribute, IsRest, IsSaidFor, Set}
+use Rattle.rz_data.specs.Texts.{begins_text, starts_text}
 use Rattle.rz_data.specs.declared.head.Subject.TheVariants.{New}
-use Rattle.rz_fields.specs.Text.{part_in, parts_in, with_part, PlainPart}
+use Rattle.rz_fields.specs.declared.place.TextPlace.TheVariants as places
 use Rattle.rz_show.specs.Statement.{attribute_part, attributes_of, id_term, name_part, text_parts}
 use Rattle.rz_show.proofs.Shapes.{behind_commas, id_shapes, name_pieces, text_shapes}
 use Rattle.rz_show.proofs.Split.{front_and_back, none_left, one_and_more, shapes_in}
@@ -74,7 +76,7 @@ id_is_inner (negsuc n) = (refl, (refl, tt))
 -- an attribute and the token that it is
 pub record IsShownAttribute (a : Shape × Attribute) : Type 0 where
   pub inner : is_inner a.0 ≡ true
-  pub no_text : part_in a.0 ≡ None
+  pub no_text : starts_text a.0 ≡ false
   pub means : (token : Token) → token.shape ≡ a.0 → IsAttribute (token ∷ []) a.1
 
 pub record AreShownAttributes (attributes : List (Shape × Attribute)) : Type 0 where
@@ -83,7 +85,7 @@ pub record AreShownAttributes (attributes : List (Shape × Attribute)) : Type 0 
 shown_both : {xs ys : List (Shape × Attribute)} → AreShownAttributes xs → AreShownAttributes ys → AreShownAttributes (xs ++ ys)
 shown_both {xs} {ys} front back = record { each = all_both IsShownAttribute xs ys front.each back.each }
 
-shown_word : (attr : ℕ) (attribute : words.Attribute) → part_in (word_of (setting_word attribute)) ≡ None → ((token : Token) → token.shape ≡ word_of (setting_word attribute) → IsAttribute (token ∷ []) (Set (bit_of attribute)))
+shown_word : (attr : ℕ) (attribute : words.Attribute) → starts_text (word_of (setting_word attribute)) ≡ false → ((token : Token) → token.shape ≡ word_of (setting_word attribute) → IsAttribute (token ∷ []) (Set (bit_of attribute)))
     → AreShownAttributes (attribute_part attr attribute)
 shown_word attr attribute no_text means = by_test (AreShownAttributes (attribute_part attr attribute)) (attr / bit_of attribute % 2 == 1)
     (λ h. rw h (record { each = (record { inner = refl; no_text = no_text; means = means }, tt) }))
@@ -128,28 +130,10 @@ attribute_pieces (a ∷ attributes) shown (piece ∷ pieces) is =
       refl,
     )
 
--- texts of these pieces
-pub texts_again : (pieces : List (List ℕ)) (tokens : List Token) → shapes_in tokens ≡ text_shapes pieces → parts_in tokens ≡ Some (text_parts pieces)
-texts_again [] tokens is = ap parts_in (none_left tokens is)
-texts_again (piece ∷ pieces) tokens is =
-    let one = one_and_more tokens (shapes.Text piece) (text_shapes pieces) is in
-    ap parts_in one.are ∙ rw one.one_is (rw (texts_again pieces one.more one.more_are) refl)
-
--- each of them is quoted
-all_known : (pieces : List (List ℕ)) → are_known (text_parts pieces) ≡ true
-all_known [] = refl
-all_known (piece ∷ pieces) = all_known pieces
-
-name_again : (part : List ℕ) (name : List (List ℕ)) (piece : List Token) → shapes_in piece ≡ text_shapes (part ∷ name) → name_in piece ≡ Some (text_parts (part ∷ name))
-name_again part name [] is = absurd cc
-name_again part name (token ∷ piece) is =
-    ap if_known (texts_again (part ∷ name) (token ∷ piece) is)
-    ∙ ap (λ (b : Bool). if b then Some (text_parts (part ∷ name)) else None) (all_known (part ∷ name))
-
-no_name_piece : (a : Shape × Attribute) → IsShownAttribute a → (piece : List Token) → shapes_in piece ≡ a.0 ∷ [] → name_in piece ≡ None
+no_name_piece : (a : Shape × Attribute) → IsShownAttribute a → (piece : List Token) → shapes_in piece ≡ a.0 ∷ [] → begins_text piece ≡ false
 no_name_piece a shown piece is =
     let one = one_and_more piece a.0 [] is in
-    ap name_in one.are ∙ ap (λ (o : Option PlainPart). if_known (with_part o (parts_in one.more))) (ap part_in one.one_is ∙ shown.no_text)
+    ap begins_text one.are ∙ ap starts_text one.one_is ∙ shown.no_text
 
 pub rest_is : (name : List (List ℕ)) (attributes : List (Shape × Attribute)) → AllByRecursion IsShownAttribute attributes → (pieces : List (List Token))
     → map shapes_in pieces ≡ name_pieces name ++ map (λ a. a.0 ∷ []) attributes → IsRest pieces (name_part name) (map (λ a. a.1) attributes)
@@ -163,7 +147,7 @@ rest_is (part ∷ name) attributes shown [] is = absurd cc
 rest_is (part ∷ name) attributes shown (piece ∷ pieces) is =
     let first : shapes_in piece ≡ text_shapes (part ∷ name) = cc in
     let others : map shapes_in pieces ≡ map (λ a. a.0 ∷ []) attributes = cc in
-    rw (name_again part name piece first) (refl, attribute_pieces attributes shown pieces others)
+    rw (plain_begins part name piece first) (text_parts (part ∷ name), plain_text places.New part name piece first, attribute_pieces attributes shown pieces others, refl)
 
 -- the id
 pub id_is : (id : ℤ) → FitsSigned w16 id → (tokens : List Token) → shapes_in tokens ≡ id_shapes id → IsSaidFor New tokens (id_term id)

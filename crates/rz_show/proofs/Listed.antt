@@ -1,5 +1,5 @@
 -- The tokens of printed items are these items.
-use Rattle.std.proofs.Common.{◌≡◌, ℕ, suc, ℤ, pos, negsuc, List, [], ◌∷◌, ◌++◌, map, Option, Some, None, refl, sym, ap, subst, ◌∙◌}
+use Rattle.std.proofs.Common.{◌≡◌, ℕ, suc, ℤ, pos, negsuc, List, [], ◌∷◌, ◌++◌, map, Some, None, refl, sym, ap, subst, ◌∙◌}
 use Rattle.std.specs.Prelude.{Bool, true, false, if◌then◌else◌}
 use Rattle.std.proofs.lemmas.List.{append-nil}
 use Rattle.rz_brackets.specs.Bracket.{begins, opens, IsBracketed}
@@ -13,17 +13,20 @@ use Rattle.rz_expr.specs.Value.{reduced}
 use Rattle.rz_expr.specs.Words.{is_name, role_of}
 use Rattle.rz_expr.specs.declared.words.Role.{Role}
 use Rattle.rz_expr.specs.declared.words.Role.TheVariants as roles
-use Rattle.rz_fields.specs.Text.{part_in, parts_in, with_part, word_part, Plain, PlainPart}
+use Rattle.rz_data.proofs.OneText.{expression_apart}
+use Rattle.rz_data.proofs.Plain.{plain_begins, plain_text}
+use Rattle.rz_fields.specs.Text.{Plain, PlainPart}
+use Rattle.rz_fields.specs.Value.{is_item_expression}
+use Rattle.rz_fields.specs.declared.place.TextPlace.TheVariants as places
 use Rattle.rz_items.specs.Item as item
 use Rattle.rz_items.specs.Item.{items_of, PlainItem}
 use Rattle.rz_items.specs.Items.{cut, listed, name_before, name_in, named, no_more, one_more, simple, stripped, AreEach, AreItems, IsItem}
-use Rattle.rz_items.specs.Simple.{is_item_expression, IsSimpleBy}
+use Rattle.rz_items.specs.Simple.{IsSimpleBy}
 use Rattle.rz_lex.specs.Printed.{word_of}
 use Rattle.rz_lex.specs.declared.sign.Sign.TheVariants as signs
 use Rattle.rz_lex.specs.declared.token.Shape.{Shape}
 use Rattle.rz_lex.specs.declared.token.Shape.TheVariants as shapes
 use Rattle.rz_lex.specs.declared.token.Token.{Token}
-use Rattle.rz_show.proofs.HeadTokens.{texts_again}
 use Rattle.rz_show.proofs.Split.{front_and_back, none_left, one_and_more, shapes_in}
 use Rattle.rz_show.proofs.Items.{braced, list_shapes, print_shapes, signed_term, AreNamingPrints, ArePrintedItems, AreReadBack, AreTermItems, IsNaming, IsNamingPrint, IsNamingSingle, IsPrintedItem, IsTermItem}
 use Rattle.rz_print.specs.Print.{block, by_name, in_binary, in_decimal, in_group, in_hex, in_literal, in_octal, in_text, named_block, no_prints, pieces, print, single, Print, Prints, Single}
@@ -185,19 +188,18 @@ record IsTermHere (term : Term) (tokens : List Token) : Type 0 where
   is : IsItem tokens found
   meant : IsTermItem term found
 
--- a shape that is an operand, no text and no brace
+-- a shape that is an operand, and no brace
 record IsAlone (shape : Shape) (term : Term) : Type 0 where
   starts : start_of shape ≡ Operand term
-  no_text : part_in shape ≡ None
   opens_not : opens Curly shape ≡ false
   may : is_item_expression term ≡ true
 
 -- such a token as a simple item
-simple_of : (first : Token) (rest : List Token) (term : Term) → part_in first.shape ≡ None → opens Curly first.shape ≡ false → begins Curly rest ≡ false
+simple_of : (first : Token) (rest : List Token) (term : Term) → opens Curly first.shape ≡ false → begins Curly rest ≡ false
     → IsExpression (first ∷ rest) term → is_item_expression term ≡ true → IsItem (first ∷ rest) (item.Number term first.mark)
-simple_of first rest term no_text off behind is may =
+simple_of first rest term off behind is may =
     simple first rest (item.Number term first.mark) off (ap (λ (b : Bool). if b then name_in first.shape else None) behind)
-    (subst (λ (o : Option PlainPart). IsSimpleBy (with_part o (parts_in rest)) first.mark (first ∷ rest) (item.Number term first.mark)) (sym no_text) (term, (is, may), refl))
+    (subst (λ (b : Bool). IsSimpleBy b first.mark (first ∷ rest) (item.Number term first.mark)) (sym (expression_apart (first ∷ rest) term is)) (term, (is, may), refl))
 
 token_here : (shape : Shape) (term : Term) → IsAlone shape term → (tokens : List Token) → shapes_in tokens ≡ shape ∷ [] → IsTermHere term tokens
 token_here shape term so tokens is =
@@ -206,7 +208,7 @@ token_here shape term so tokens is =
     record {
       found = item.Number term one.one.mark;
       is = subst (λ (ts : List Token). IsItem ts (item.Number term one.one.mark)) (sym alone_is)
-          (simple_of one.one [] term (ap part_in one.one_is ∙ so.no_text) (ap (opens Curly) one.one_is ∙ so.opens_not) refl
+          (simple_of one.one [] term (ap (opens Curly) one.one_is ∙ so.opens_not) refl
           (tighter_than (operand (ap start_of one.one_is ∙ so.starts))) so.may);
       meant = (one.one.mark, refl);
     }
@@ -221,29 +223,24 @@ minus_here number tokens is =
     record {
       found = item.Number term minus.one.mark;
       is = subst (λ (ts : List Token). IsItem ts (item.Number term minus.one.mark)) (sym both)
-          (simple_of minus.one (one.one ∷ []) term (ap part_in minus.one_is) (ap (opens Curly) minus.one_is) (ap (opens Curly) one.one_is)
+          (simple_of minus.one (one.one ∷ []) term (ap (opens Curly) minus.one_is) (ap (opens Curly) one.one_is)
           (tighter_than (prefixed (ap start_of minus.one_is) (operand (ap start_of one.one_is)))) refl);
       meant = (minus.one.mark, refl);
     }
 
 number_alone : (number : ℕ) → IsAlone (shapes.Number number) (Constant (reduced (pos number)))
-number_alone number = record { starts = refl; no_text = refl; opens_not = refl; may = refl }
+number_alone number = record { starts = refl; opens_not = refl; may = refl }
 
 literal_alone : (bytes : List ℕ) → IsAlone (shapes.Literal bytes) (Constant (reduced (pos (bytes_number 0 bytes))))
-literal_alone bytes = record { starts = refl; no_text = refl; opens_not = refl; may = refl }
+literal_alone bytes = record { starts = refl; opens_not = refl; may = refl }
 
 name_starts : (role : Role) (name : List ℕ) → is_name role ≡ true → word_start role name ≡ Operand (Named name)
 name_starts roles.Label name is = refl
 name_starts roles.OtherName name is = refl
 name_starts role name is = absurd cc
 
-name_part : (role : Role) → is_name role ≡ true → word_part role ≡ None
-name_part roles.Label is = refl
-name_part roles.OtherName is = refl
-name_part role is = absurd cc
-
 name_alone : (name : List ℕ) → IsNaming name → IsAlone (word_of name) (Named name)
-name_alone name naming = record { starts = name_starts (role_of name) name naming; no_text = name_part (role_of name) naming; opens_not = refl; may = refl }
+name_alone name naming = record { starts = name_starts (role_of name) name naming; opens_not = refl; may = refl }
 
 number_here : (number : ℤ) (tokens : List Token) → shapes_in tokens ≡ print_shapes (single (in_decimal number)) → IsTermHere (signed_term number) tokens
 number_here (pos number) tokens is = token_here (shapes.Number number) (signed_term (pos number)) (number_alone number) tokens is
@@ -266,12 +263,13 @@ texts_here : (first : List ℕ) (others : List (List ℕ)) (tokens : List Token)
 texts_here first others tokens is =
     let one = one_and_more tokens (shapes.Text first) (map (λ piece. shapes.Text piece) others) is in
     let parts : List PlainPart = map (λ piece. Plain piece) (first ∷ others) in
-    let all : parts_in (one.one ∷ one.more) ≡ Some parts = texts_again (first ∷ others) (one.one ∷ one.more) (ap shapes_in (sym one.are) ∙ is) in
+    let all : shapes_in (one.one ∷ one.more) ≡ map (λ piece. shapes.Text piece) (first ∷ others) = ap shapes_in (sym one.are) ∙ is in
     record {
       start = one.one;
       is = subst (λ (ts : List Token). IsItem ts (item.Text parts one.one.mark)) (sym one.are)
           (simple one.one one.more (item.Text parts one.one.mark) (ap (opens Curly) one.one_is) (none_before one.one.shape first one.more one.one_is)
-          (subst (λ (o : Option (List PlainPart)). IsSimpleBy o one.one.mark (one.one ∷ one.more) (item.Text parts one.one.mark)) (sym all) refl));
+          (subst (λ (b : Bool). IsSimpleBy b one.one.mark (one.one ∷ one.more) (item.Text parts one.one.mark)) (sym (plain_begins first others (one.one ∷ one.more) all))
+          (parts, plain_text places.Item first others (one.one ∷ one.more) all, refl)));
     }
 
 pieces_read : (hex : Bool) (first : List ℕ) (others : List (List ℕ)) → IsRead (pieces hex first others)

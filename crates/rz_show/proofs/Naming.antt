@@ -12,13 +12,12 @@ use Rattle.rz_fields.specs.declared.field.NumForm.TheVariants.{Boolean, Char}
 use Rattle.rz_fields.specs.declared.field.Radix.{Radix}
 use Rattle.rz_fields.specs.declared.field.Radix.TheVariants.{Binary, Decimal, Hex, Literal, Octal, Plain}
 use Rattle.rz_fields.specs.declared.field.Symbol.{Symbol}
-use Rattle.rz_fields.specs.declared.tree.Tree.{Tree}
+use Rattle.rz_rows.specs.declared.tree.Tree.{Tree}
 use Rattle.rz_lex.specs.Lexeme.{is_lexed_word}
-use Rattle.rz_types.specs.Field.{case_and, field_and, no_cases, no_fields, Align, Array, Fill, Number, PlainBody, PlainCases, PlainField, PlainNumber, Points, Switch, Text}
-use Rattle.rz_types.specs.Laid.{first_value, line_in, number_in, other_values, rows_in}
-use Rattle.rz_types.specs.Row.{takes_value}
+use Rattle.rz_rows.specs.Laid.{first_value, line_in, number_in, other_values, rows_in}
+use Rattle.rz_rows.specs.Spells.{is_case}
+use Rattle.rz_types.specs.Field.{case_and, field_and, no_cases, no_fields, takes_value, Align, Array, Fill, Number, PlainBody, PlainCases, PlainField, PlainNumber, Points, Switch, Text}
 use Rattle.rz_types.specs.Shape.{are_cases_shaped, are_shaped, is_none_or, is_number_shaped, is_own_name, is_own_width, is_fixed_number, is_shaped, is_symbol_name, is_symbol_of}
-use Rattle.rz_types.specs.Spells.{is_case}
 use Rattle.rz_types.specs.Value.{symbol_value}
 use Rattle.rz_show.proofs.Items.{AreNamingPrints, IsNaming, IsNamingPrint, IsNamingSingle}
 use Rattle.rz_print.specs.Number.{by_form, by_literal, by_radix, by_truth, is_literal_width, is_stored, named_or, symbol_for, truth}

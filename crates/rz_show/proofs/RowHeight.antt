@@ -8,12 +8,11 @@ use Rattle.rz_fields.specs.declared.field.NumForm.TheVariants.{Boolean, Char}
 use Rattle.rz_fields.specs.declared.field.Radix.{Radix}
 use Rattle.rz_fields.specs.declared.field.Radix.TheVariants.{Binary, Decimal, Hex, Literal, Octal, Plain}
 use Rattle.rz_fields.specs.declared.field.Symbol.{Symbol}
-use Rattle.rz_fields.specs.declared.tree.Tree.{Tree}
-use Rattle.rz_types.specs.Field.{case_and, field_and, no_cases, no_fields, Align, Array, Fill, Number, PlainBody, PlainCases, PlainField, PlainNumber, Points, Switch, Text}
-use Rattle.rz_types.specs.Laid.{first_value, line_in, number_in, other_values, rows_in}
-use Rattle.rz_types.specs.Row.{takes_value}
+use Rattle.rz_rows.specs.declared.tree.Tree.{Tree}
+use Rattle.rz_rows.specs.Laid.{first_value, line_in, number_in, other_values, rows_in}
+use Rattle.rz_rows.specs.Spells.{is_case}
+use Rattle.rz_types.specs.Field.{case_and, field_and, no_cases, no_fields, takes_value, Align, Array, Fill, Number, PlainBody, PlainCases, PlainField, PlainNumber, Points, Switch, Text}
 use Rattle.rz_types.specs.Shape.{body_depth, cases_depth, field_depth}
-use Rattle.rz_types.specs.Spells.{is_case}
 use Rattle.rz_show.proofs.Height.{height, heights, single_height}
 use Rattle.rz_print.specs.Number.{by_form, by_literal, by_radix, by_truth, is_literal_width, named_or}
 use Rattle.rz_print.specs.Print.{no_prints, Print, Prints, Single}

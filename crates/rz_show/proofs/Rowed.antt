@@ -15,7 +15,7 @@ use Rattle.rz_core.specs.declared.facts.Facts.{Facts}
 use Rattle.rz_core.specs.declared.resource.Resource.{Resource}
 use Rattle.rz_expr.specs.Keyword.{is_keyword}
 use Rattle.rz_expr.specs.declared.keyword.Keyword.TheVariants as keywords
-use Rattle.rz_fields.specs.declared.tree.Tree.{Tree}
+use Rattle.rz_rows.specs.declared.tree.Tree.{Tree}
 use Rattle.rz_items.specs.Compile.{IsCompile}
 use Rattle.rz_items.specs.Fits.{Fits}
 use Rattle.rz_items.specs.Item.{PlainItem}

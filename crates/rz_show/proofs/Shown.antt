@@ -10,7 +10,7 @@ use Rattle.rz_core.specs.Decimal.{signed_of}
 use Rattle.rz_core.specs.Numbers.{be}
 use Rattle.rz_core.specs.Quoted.{literal_text}
 use Rattle.rz_core.specs.declared.resource.Resource.{Resource}
-use Rattle.rz_fields.specs.declared.tree.Tree.{Tree}
+use Rattle.rz_rows.specs.declared.tree.Tree.{Tree}
 use Rattle.rz_lex.specs.Joined.{joined}
 use Rattle.rz_lex.specs.Lines.{HasLines}
 use Rattle.rz_lex.specs.Page.{lines_from, page, AreInLine, StandsOnPage}
@@ -26,9 +26,9 @@ use Rattle.rz_print.specs.Shown.{row_prints, row_text, row_uses}
 use Rattle.rz_print.specs.Written as written
 use Rattle.rz_print.specs.Written.{line_shapes, lines_shapes, Written}
 use Rattle.rz_print.proofs.Widths.{fields_shaped}
+use Rattle.rz_rows.specs.Row.{IsRow}
 use Rattle.rz_types.specs.Field.{PlainBody}
 use Rattle.rz_types.specs.Kept.{IsKept}
-use Rattle.rz_types.specs.Row.{IsRow}
 use Rattle.rz_types.specs.Rules.{keeps_rules}
 use Rattle.rz_types.specs.Shape.{are_shaped, body_depth, deepest_body, is_well_shaped}
 use Rattle.rz_print.proofs.Inside.{inside}

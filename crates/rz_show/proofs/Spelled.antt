@@ -9,14 +9,15 @@ use Rattle.rz_expr.specs.Term.{Term}
 use Rattle.rz_fields.specs.declared.field.NumForm.{NumForm}
 use Rattle.rz_fields.specs.declared.field.TextForm.{TextForm}
 use Rattle.rz_fields.specs.declared.field.TextForm.TheVariants as forms
-use Rattle.rz_fields.specs.declared.tree.Tree.{Tree}
-use Rattle.rz_fields.specs.declared.tree.Tree.TheVariants as trees
+use Rattle.rz_rows.specs.declared.tree.Tree.{Tree}
+use Rattle.rz_rows.specs.declared.tree.Tree.TheVariants as trees
 use Rattle.rz_lex.specs.Printed as printed
 use Rattle.rz_items.specs.Fits.{exceeds}
-use Rattle.rz_types.specs.Field.{case_and, field_and, no_cases, no_fields, Align, Array, Fill, Number, PlainBody, PlainCases, PlainField, PlainText, Points, Switch, Text}
-use Rattle.rz_types.specs.Laid.{first_value, line_in, other_values, rows_in, text_in}
-use Rattle.rz_types.specs.Row.{takes_value, By}
-use Rattle.rz_types.specs.Spells.{at_front, behind, is_case, nothing_passed, put, sees, AreBytes, BodySpells, CaseSpells, FieldSpells, Inside, IsGrouped, IsNumber, IsPlainText, IsSize, IsText, Late, Passed, RowsSpell, Spells, When}
+use Rattle.rz_rows.specs.Laid.{first_value, line_in, other_values, rows_in, text_in}
+use Rattle.rz_rows.specs.Row.{By}
+use Rattle.rz_rows.specs.Spells.{is_case, put, sees, AreBytes, BodySpells, CaseSpells, FieldSpells, Inside, IsGrouped, IsNumber, IsPlainText, IsSize, IsText, Late, RowsSpell, Spells, When}
+use Rattle.rz_types.specs.Field.{case_and, field_and, no_cases, no_fields, takes_value, Align, Array, Fill, Number, PlainBody, PlainCases, PlainField, PlainText, Points, Switch, Text}
+use Rattle.rz_types.specs.Passed.{at_front, behind, nothing_passed, Passed}
 use Rattle.rz_types.specs.Stored.{is_too_long}
 use Rattle.rz_types.specs.Text.{PlainPart}
 use Rattle.rz_print.specs.Printable.{AreOfBytes, IsCaseOfBytes, IsOfBytes}
@@ -64,9 +65,9 @@ module _ (plain : Bool) where
   has_number passed form width None sight value bits is = (trees.Number is.0, is.1)
   has_number passed form width (Some term) sight value bits is = is.1
 
-  has_text : (form : TextForm) (known : Facts) (fixed : Option (List PlainPart)) (size : Option ℕ) (value : Option Tree) (bytes : List ℕ) → AreBytes plain form known fixed size value bytes → Has (is_none fixed) value
-  has_text form known None size value bytes are = (trees.Text bytes, are.0)
-  has_text form known (Some parts) size value bytes are = are.0
+  has_text : (form : TextForm) (known : Facts) (sight : Sight) (fixed : Option (List PlainPart)) (size : Option ℕ) (value : Option Tree) (bytes : List ℕ) → AreBytes plain form known sight fixed size value bytes → Has (is_none fixed) value
+  has_text form known sight None size value bytes are = (trees.Text bytes, are.0)
+  has_text form known sight (Some parts) size value bytes are = are.0
 
   -- no form is too long without bytes
   none_short : (form : TextForm) → is_too_long form None 0 ≡ false
@@ -75,28 +76,28 @@ module _ (plain : Bool) where
   none_short forms.WordLong = refl
   none_short forms.Zero = refl
 
-  bytes_short : (form : TextForm) (known : Facts) (fixed : Option (List PlainPart)) (size : Option ℕ) (value : Option Tree) (bytes : List ℕ) → AreBytes plain form known fixed size value bytes
+  bytes_short : (form : TextForm) (known : Facts) (sight : Sight) (fixed : Option (List PlainPart)) (size : Option ℕ) (value : Option Tree) (bytes : List ℕ) → AreBytes plain form known sight fixed size value bytes
       → is_too_long form None (length bytes) ≡ false → is_too_long form None (length (text_in value)) ≡ false
-  bytes_short form known None size value bytes are short =
+  bytes_short form known sight None size value bytes are short =
       ap (λ (o : Option Tree). is_too_long form None (length (text_in o))) are.0 ∙ ap (λ (bs : List ℕ). is_too_long form None (length bs)) (text_is bytes) ∙ short
-  bytes_short form known (Some parts) size value bytes are short = ap (λ (o : Option Tree). is_too_long form None (length (text_in o))) are.0 ∙ none_short form
+  bytes_short form known sight (Some parts) size value bytes are short = ap (λ (o : Option Tree). is_too_long form None (length (text_in o))) are.0 ∙ none_short form
 
-  size_short : (form : TextForm) (known : Facts) (fixed : Option (List PlainPart)) (sight : Sight) (term : Option Term) (size : Option ℕ) (value : Option Tree) (bytes : List ℕ)
-      → IsSize form sight term size → AreBytes plain form known fixed size value bytes → is_too_long form size (length bytes) ≡ false
+  size_short : (form : TextForm) (known : Facts) (sight : Sight) (fixed : Option (List PlainPart)) (term : Option Term) (size : Option ℕ) (value : Option Tree) (bytes : List ℕ)
+      → IsSize form sight term size → AreBytes plain form known sight fixed size value bytes → is_too_long form size (length bytes) ≡ false
       → (is_none term && is_too_long form None (length (text_in value))) ≡ false
-  size_short form known fixed sight None size value bytes is are short =
-      bytes_short form known fixed size value bytes are (subst (λ (o : Option ℕ). is_too_long form o (length bytes) ≡ false) is short)
-  size_short form known fixed sight (Some term) size value bytes is are short = refl
+  size_short form known sight fixed None size value bytes is are short =
+      bytes_short form known sight fixed size value bytes are (subst (λ (o : Option ℕ). is_too_long form o (length bytes) ≡ false) is short)
+  size_short form known sight fixed (Some term) size value bytes is are short = refl
 
   text_short : (text : PlainText) (known : Facts) (sight : Sight) (value : Option Tree) (bits : List Bool) → IsText plain text known sight value bits → exceeds text (text_in value) ≡ false
-  text_short text known sight value bits is = size_short text.form known text.fixed sight text.size is.size value is.bytes is.has_size is.are_bytes is.short
+  text_short text known sight value bits is = size_short text.form known sight text.fixed text.size is.size value is.bytes is.has_size is.are_bytes is.short
 
-  bytes_plain : (form : TextForm) (known : Facts) (fixed : Option (List PlainPart)) (size : Option ℕ) (value : Option Tree) (bytes : List ℕ) → AreBytes plain form known fixed size value bytes → plain ≡ true
+  bytes_plain : (form : TextForm) (known : Facts) (sight : Sight) (fixed : Option (List PlainPart)) (size : Option ℕ) (value : Option Tree) (bytes : List ℕ) → AreBytes plain form known sight fixed size value bytes → plain ≡ true
       → printed.AreBytes (text_in value)
-  bytes_plain form known None size value bytes are is =
+  bytes_plain form known sight None size value bytes are is =
       let so : IsPlainText form size bytes = subst (λ (b : Bool). When b (IsPlainText form size bytes)) is are.1 in
       subst (λ (o : Option Tree). printed.AreBytes (text_in o)) (sym are.0) (subst printed.AreBytes (sym (text_is bytes)) so.0)
-  bytes_plain form known (Some parts) size value bytes are is = subst (λ (o : Option Tree). printed.AreBytes (text_in o)) (sym are.0) tt
+  bytes_plain form known sight (Some parts) size value bytes are is = subst (λ (o : Option Tree). printed.AreBytes (text_in o)) (sym are.0) tt
 
   -- what is said of a value, and of a row
   record Fine (field : PlainField) (value : Option Tree) : Type 0 where
@@ -143,7 +144,7 @@ module _ (plain : Bool) where
         subst (Has (is_none number.fixed)) (sym (alone value it.0 it.1 it.4 it.6.0)) (has_number passed number.form number.width number.fixed (sees known all names at) it.0 it.5.bits it.5.stored)
     has_value (Text text) names passed value at late after late_after spells =
         let it = spells.1 in
-        subst (Has (is_none text.fixed)) (sym (alone value it.0 it.1 it.4 it.6.0)) (has_text text.form known text.fixed it.5.stored.size it.0 it.5.stored.bytes it.5.stored.are_bytes)
+        subst (Has (is_none text.fixed)) (sym (alone value it.0 it.1 it.4 it.6.0)) (has_text text.form known (sees known all names at) text.fixed it.5.stored.size it.0 it.5.stored.bytes it.5.stored.are_bytes)
     has_value (Points points) names passed value at late after late_after spells = has_group points.fixed value spells.0
     has_value (Fill unit count) names passed value at late after late_after spells = let it = spells.1 in alone value it.0 it.1 it.4 it.6.0 ∙ it.5.stored.0
     has_value (Align unit) names passed value at late after late_after spells = let it = spells.1 in alone value it.0 it.1 it.4 it.6.0 ∙ it.5.stored.0
@@ -167,7 +168,7 @@ module _ (plain : Bool) where
           let stored = it.5.stored in
           record {
             short = subst (λ (o : Option Tree). exceeds text (text_in o) ≡ false) same (text_short text known (sees known all names at) it.0 it.5.bits stored);
-            bytes = λ so. subst (λ (o : Option Tree). printed.AreBytes (text_in o)) same (bytes_plain text.form known text.fixed stored.size it.0 stored.bytes stored.are_bytes so);
+            bytes = λ so. subst (λ (o : Option Tree). printed.AreBytes (text_in o)) same (bytes_plain text.form known (sees known all names at) text.fixed stored.size it.0 stored.bytes stored.are_bytes so);
           }
       field_fine (Points points) names passed value at late after late_after spells = record { short = tt; bytes = λ so. tt }
       field_fine (Fill unit count) names passed value at late after late_after spells = record { short = tt; bytes = λ so. tt }

@@ -31,7 +31,7 @@ use Rattle.rz_types.specs.Field.{Number, PlainNumber}
 use Rattle.rz_types.specs.Range.{fits_number, is_between}
 use Rattle.rz_types.specs.Rules.{bad_width}
 use Rattle.rz_types.specs.Shape.{is_fixed_number, is_key_shaped, is_number_shaped, is_own_width, is_symbol_name, is_symbol_of}
-use Rattle.rz_types.specs.Spells.{integer}
+use Rattle.rz_types.specs.Piece.{integer}
 use Rattle.rz_types.specs.Stored.{stored_number}
 use Rattle.rz_types.specs.Value.{symbol_number_of, symbol_value, with_fault}
 use Rattle.rz_show.proofs.Items.{signed_term, AreTermItems, IsSingleItem, IsTermItem}

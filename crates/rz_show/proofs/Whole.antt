@@ -19,9 +19,10 @@ use Rattle.rz_lex.specs.declared.token.Token.{Token}
 use Rattle.rz_data.specs.Head.{Attribute}
 use Rattle.rz_brackets.specs.Limit.{counted, depth_limit, is_text, keeps_limits, row_behind, is_within_limits}
 use Rattle.rz_brackets.specs.Kind.{kind_in}
-use Rattle.rz_data.specs.Raw.{texts_in, IsRaw}
+use Rattle.rz_data.proofs.Plain.{plain_body}
+use Rattle.rz_data.specs.Raw.{IsRaw}
 use Rattle.rz_brackets.specs.Statements.{has_end, is_end, is_semicolon, open_behind, open_behind_all}
-use Rattle.rz_show.specs.Statement.{attribute_part, attributes_of, shown_raw, text_parts, IsWhole, IsWholeData}
+use Rattle.rz_show.specs.Statement.{attribute_part, attributes_of, shown_raw, IsWhole, IsWholeData}
 use Rattle.rz_show.specs.Showing.{IsStored}
 use Rattle.rz_show.proofs.Shapes.{behind_commas, data_shapes, head_pieces, id_shapes, name_pieces, text_shapes}
 use Rattle.rz_show.proofs.HeadTokens.{all_both, all_of, head_of, id_is, id_is_inner, inner_is_flat, is_flat, is_inner, no_paren, none_open, rest_is, shown_attributes, texts_are_inner, AreFlat, AreInner, ArePieces, IsShownAttribute}
@@ -151,16 +152,6 @@ pieces_are_flat (piece ∷ pieces) inner =
     subst (AllByRecursion (λ shape. is_flat shape ≡ true)) (sym (flat_map-cons (λ (piece : List Shape). shapes.Sign signs.Comma ∷ piece) piece pieces))
     (refl, all_both (λ shape. is_flat shape ≡ true) piece (behind_commas pieces) (inner_is_flat piece inner.0) (pieces_are_flat pieces inner.1))
 
--- the texts of a body, before the end of the statement
-body_texts : (pieces : List (List ℕ)) (texts : List Token) (end semicolon : Token) → shapes_in texts ≡ text_shapes pieces → end.shape ≡ shapes.Sign signs.CloseBrace → semicolon.shape ≡ shapes.Sign signs.Semicolon
-    → texts_in (texts ++ end ∷ semicolon ∷ []) ≡ Some (text_parts pieces)
-body_texts [] texts end semicolon is end_is semicolon_is =
-    ap (λ (x : List Token). texts_in (x ++ end ∷ semicolon ∷ [])) (none_left texts is) ∙ rw (end_is, semicolon_is) refl
-body_texts (piece ∷ pieces) texts end semicolon is end_is semicolon_is =
-    let one = one_and_more texts (shapes.Text piece) (text_shapes pieces) is in
-    ap (λ (x : List Token). texts_in (x ++ end ∷ semicolon ∷ [])) one.are
-    ∙ rw (one.one_is, body_texts pieces one.more end semicolon one.more_are end_is semicolon_is) refl
-
 module _ (r : Resource) (name bytes : List (List ℕ)) (stored : IsStored r)
     (word kind paren : Token) (id named : List Token) (close brace : Token) (texts : List Token) (end semicolon : Token)
     (word_is : word.shape ≡ word_of (codes "data")) (kind_is : kind.shape ≡ shapes.Literal (be 4 r.kind.code)) (paren_is : paren.shape ≡ shapes.Sign signs.OpenParen)
@@ -242,30 +233,28 @@ module _ (r : Resource) (name bytes : List (List ℕ)) (stored : IsStored r)
         word = word;
         kind = kind;
         behind = paren ∷ (id ++ (named ++ close ∷ brace ∷ body));
-        head = record { front = id ++ named; behind = brace ∷ body };
-        pieces = id ∷ head.others;
-        brace = brace;
-        body = body;
         are = refl;
         is_word = rw word_is refl;
         has_kind = ap kind_in kind_is ∙ kind_back r.kind.code stored.code;
-        in_brackets = record {
-          opener = paren;
-          rest = id ++ (named ++ close ∷ brace ∷ body);
-          are = refl;
-          opens = rw paren_is refl;
-          closes = record {
-            sign = close;
-            are = sym (append_assoc id named (close ∷ brace ∷ body));
-            first = no_paren (id ++ named) in_head;
-            divides = rw (close_is, none_open (id ++ named) in_head) refl;
+        headed = record {
+          parted = record { front = id ++ named; behind = brace ∷ body };
+          pieces = id ∷ head.others;
+          in_brackets = record {
+            opener = paren;
+            rest = id ++ (named ++ close ∷ brace ∷ body);
+            are = refl;
+            opens = rw paren_is refl;
+            closes = record {
+              sign = close;
+              are = sym (append_assoc id named (close ∷ brace ∷ body));
+              first = no_paren (id ++ named) in_head;
+              divides = rw (close_is, none_open (id ++ named) in_head) refl;
+            };
           };
+          are_cut = head.cut;
+          has_head = (id_is r.id stored.id id id_are, rest_is name (attributes_of r.attr) (shown_attributes r.attr stored.attr).each head.others head.are);
+          has_body = plain_body bytes texts brace end semicolon brace_is texts_are end_is semicolon_is;
         };
-        are_cut = head.cut;
-        has_head = (id_is r.id stored.id id id_are, rest_is name (attributes_of r.attr) (shown_attributes r.attr stored.attr).each head.others head.are);
-        closes = refl;
-        opens_body = rw brace_is refl;
-        texts = body_texts bytes texts end semicolon texts_are end_is semicolon_is;
       }
 
   pub is_whole : IsWhole (word ∷ kind ∷ paren ∷ (id ++ (named ++ close ∷ brace ∷ (texts ++ end ∷ semicolon ∷ [])))) (shown_raw r name bytes)

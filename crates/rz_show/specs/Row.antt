@@ -1,7 +1,7 @@
 -- Resources as `resource` statements. (As MPW DeRez shows them.)
 use Rattle.std.specs.Prelude.{ℕ, ℤ, Bool, List, ◌++◌, codes}
 use Rattle.rz_core.specs.declared.resource.Resource.{Resource}
-use Rattle.rz_fields.specs.declared.tree.Tree.{Tree}
+use Rattle.rz_rows.specs.declared.tree.Tree.{Tree}
 use Rattle.rz_print.specs.Shown.{row_text}
 use Rattle.rz_show.specs.Head.{head_text}
 use Rattle.rz_types.specs.Field.{PlainBody}

@@ -1,12 +1,12 @@
 -- Rows whose texts are no longer than they may be. (MPW Rez.)
 use Rattle.std.specs.Prelude.{◌≡◌, false, List, Option}
 use Rattle.std.specs.List.{AllByRecursion}
-use Rattle.rz_fields.specs.declared.tree.Tree.{Tree}
+use Rattle.rz_rows.specs.declared.tree.Tree.{Tree}
 use Rattle.rz_items.specs.Fits.{exceeds}
-use Rattle.rz_types.specs.Field.{case_and, field_and, no_cases, no_fields, Align, Array, Fill, Number, PlainBody, PlainCases, PlainField, Points, Switch, Text}
-use Rattle.rz_types.specs.Laid.{first_value, line_in, other_values, rows_in, text_in}
-use Rattle.rz_types.specs.Row.{takes_value, By}
-use Rattle.rz_types.specs.Spells.{is_case}
+use Rattle.rz_rows.specs.Laid.{first_value, line_in, other_values, rows_in, text_in}
+use Rattle.rz_rows.specs.Row.{By}
+use Rattle.rz_rows.specs.Spells.{is_case}
+use Rattle.rz_types.specs.Field.{case_and, field_and, no_cases, no_fields, takes_value, Align, Array, Fill, Number, PlainBody, PlainCases, PlainField, Points, Switch, Text}
 
 abbrev mutual
   -- the texts of the value that have no size are no longer than their length can say

@@ -2,15 +2,15 @@
 use Rattle.std.specs.Prelude.{◌≡◌, ℕ, ◌<◌, ◌^◌, FitsSigned, Bool, true, false, List, flat_map}
 use Rattle.std.specs.Int.{w16}
 use Rattle.rz_core.specs.declared.resource.Resource.{Resource}
-use Rattle.rz_fields.specs.declared.tree.Tree.{Tree}
+use Rattle.rz_rows.specs.declared.tree.Tree.{Tree}
 use Rattle.rz_lex.specs.Printed.{AreBytes}
 use Rattle.rz_print.specs.Printable.{AreOfBytes}
 use Rattle.rz_print.specs.Shown.{row_uses}
 use Rattle.rz_show.specs.Data.{resource_text}
 use Rattle.rz_show.specs.Row.{resource_row}
 use Rattle.rz_show.specs.Short.{AreShortTexts}
+use Rattle.rz_rows.specs.Row.{IsRow}
 use Rattle.rz_types.specs.Field.{PlainBody}
-use Rattle.rz_types.specs.Row.{IsRow}
 use Rattle.rz_types.specs.Rules.{keeps_rules}
 use Rattle.rz_types.specs.Shape.{is_well_shaped}
 

@@ -15,7 +15,7 @@ use Rattle.rz_expr.specs.declared.attribute.Attribute as words
 use Rattle.rz_expr.specs.declared.attribute.Attribute.TheVariants.{Changed, Locked, Preload, Protected, Purgeable, SystemHeap}
 use Rattle.rz_expr.specs.declared.expr.UnaryOp.TheVariants as one
 use Rattle.rz_fields.specs.Text.{Plain, PlainPart}
-use Rattle.rz_fields.specs.declared.tree.Tree.{Tree}
+use Rattle.rz_rows.specs.declared.tree.Tree.{Tree}
 use Rattle.rz_items.specs.Compile.{Compile, IsCompile}
 use Rattle.rz_items.specs.Fits.{Fits}
 use Rattle.rz_items.specs.Item.{PlainItem}

@@ -1,13 +1,13 @@
 ghost use Rattle.std.specs.Prelude.{ℕ, Bool, true, List};
 ghost use Rattle.std.specs.List.{AllByRecursion};
 ghost use Rattle.rz_core.specs.declared.facts.Facts.{Facts};
-ghost use Rattle.rz_fields.specs.declared.tree.Tree.{Tree};
+ghost use Rattle.rz_rows.specs.declared.tree.Tree.{Tree};
 ghost use Rattle.rz_print.specs.Printable.{AreOfBytes, SparesTruth};
 ghost use Rattle.rz_show.specs.Short.{AreShortTexts};
 ghost use Rattle.rz_show.specs.Showing.{showings_text, CanBeShown, Showing};
 ghost use Rattle.rz_show.specs.Statement.{IsPrintedAs};
+ghost use Rattle.rz_rows.specs.Spells.{Spells};
 ghost use Rattle.rz_types.specs.Field.{PlainBody};
-ghost use Rattle.rz_types.specs.Spells.{Spells};
 
 use rz_lex::{cut_back, lines_of_page};
 use rz_print::{printed_lines, printed_page, printed_rows};

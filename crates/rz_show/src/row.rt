@@ -8,7 +8,8 @@ ghost use Rattle.rz_types.specs.Shape.{is_well_shaped};
 use crate::head::append_head;
 use rz_core::{Bytes, NoMemory, Resource};
 use rz_print::{Hidden, write_row};
-use rz_types::{Field, Tree};
+use rz_rows::Tree;
+use rz_types::Field;
 
 /// Appends the `resource` statement of a resource that is a row of these fields, and an empty line. The first line is
 /// that of `show_bytes` with the word `resource`. Then come the lines of the row's items, one level deep. The bytes of

@@ -6,13 +6,13 @@ pub use Rattle.rz_brackets.specs.Bracket
 pub use Rattle.rz_brackets.specs.Kind
 pub use Rattle.rz_data.specs.Head
 pub use Rattle.rz_data.specs.Raw
-pub use Rattle.rz_data.specs.Closed
+pub use Rattle.rz_data.specs.Files
+pub use Rattle.rz_data.specs.Texts
 pub use Rattle.rz_items.specs.Item
 pub use Rattle.rz_items.specs.Simple
 pub use Rattle.rz_items.specs.Items
 pub use Rattle.rz_items.specs.Compile
 pub use Rattle.rz_items.specs.Places
-pub use Rattle.rz_lists.specs.Files
 pub use Rattle.rz_lists.specs.Brackets
 pub use Rattle.rz_lists.specs.Pick
 pub use Rattle.rz_lists.specs.Renaming

@@ -15,7 +15,7 @@ pub use rz_brackets::{
     Span, Spans, all_tokens_are_statements, limits_are_kept, one_cutting, pieces_are_cut,
     statements,
 };
-pub use rz_data::{AttrPart, AttrParts, HeadExpr, RawStmt, texts_are_closed};
+pub use rz_data::{AttrPart, AttrParts, HeadExpr, RawStmt, one_text};
 pub use rz_declare::{Bounds, DeclareStmt, Made, symbols_have_values, words_before_fields};
 pub use rz_items::{CompileStmt, Item, Items};
 pub use rz_lists::{

@@ -6,7 +6,7 @@ use Rattle.rz_brackets.specs.declared.pieces.Divider.TheVariants.{Case, Semicolo
 use Rattle.rz_brackets.proofs.Short.{cut_short, AreShort}
 use Rattle.rz_lex.specs.declared.token.Token.{Token}
 use Rattle.rz_declare.specs.Body.{cut, cut_cases, flat, key, IsArray, IsBody, IsField, IsSwitch}
-use Rattle.rz_flat.specs.FieldForm.{IsFlat}
+use Rattle.rz_declare.specs.Flat.{IsFlat}
 use Rattle.rz_flat.specs.Form.{body_form, case_form, cases_form, field_form}
 use Rattle.rz_declare.specs.Head.{ArrayFront}
 use Rattle.rz_declare.specs.Held.{held_array}

@@ -13,9 +13,7 @@ returns-in-Number c =
     (sym c.in-Number.is) c.read_number_field.ensures
 
 pub returns-in-Text : goal.returns-in-Text
-returns-in-Text c =
-    subst (λ (word : FieldWord). IfOk c.read_text_field.result (λ field. Decided (IsFieldOf word (held_front c.args.front.now)) (option_map field_form field)))
-    (sym c.in-Text.is) c.read_text_field.ensures
+returns-in-Text c field is = subst (λ (word : FieldWord). IsFieldOf word (held_front c.args.front.now) field) c.in-Text.is is
 
 pub returns-in-Points : goal.returns-in-Points
 returns-in-Points c =

@@ -10,7 +10,8 @@ use Rattle.rz_items.specs.Compile.{IsBody}
 use Rattle.rz_items.specs.Item.{plain_items}
 use Rattle.rz_items.specs.Items.{AreItems}
 use Rattle.rz_brackets.proofs.OneBracket.{never_within, same_within}
-use Rattle.rz_items.proofs.Answering.{body_decided, ok_so}
+use Rattle.rz_data.proofs.Answering.{ok_so}
+use Rattle.rz_items.proofs.Answering.{body_decided}
 use Rattle.rz_items.proofs.compile.read_body.Goals as goal
 
 pub returns-in_default : goal.returns-in_default

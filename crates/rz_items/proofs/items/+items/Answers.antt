@@ -13,8 +13,10 @@ use Rattle.rz_items.specs.Item.{plain_item, plain_items}
 use Rattle.rz_items.specs.Items.{cut, AreEach, IsItem}
 use Rattle.rz_items.specs.Simple.{IsSimple}
 use Rattle.rz_brackets.proofs.OneBracket.{never_within, same_within}
-use Rattle.rz_items.proofs.Answering.{no_items, ok_so}
-use Rattle.rz_items.proofs.Each.{cut_short, each_all, each_more, each_nowhere, leads_first, stripped_short, AreShort, Leads}
+use Rattle.rz_brackets.proofs.Short.{cut_short, AreShort}
+use Rattle.rz_data.proofs.Answering.{ok_so}
+use Rattle.rz_items.proofs.Answering.{no_items}
+use Rattle.rz_items.proofs.Each.{each_all, each_more, each_nowhere, leads_first, stripped_short, Leads}
 use Rattle.rz_items.proofs.First.{listed_here, named_here, simple_here}
 use Rattle.rz_items.proofs.items.+items.Goals as goal
 

@@ -1,6 +1,7 @@
 use Rattle.std.proofs.Common.{◌+◌, ◌*◌, drop, length, map}
 use Rattle.rz_items.specs.Item.{plain_items}
-use Rattle.rz_items.proofs.Each.{AreShort, Leads}
+use Rattle.rz_brackets.proofs.Short.{AreShort}
+use Rattle.rz_items.proofs.Each.{Leads}
 use Rattle.rz_items.proofs.items.+items.Given as goal
 
 abbrev pub decreases-read_items : goal.decreases-read_items

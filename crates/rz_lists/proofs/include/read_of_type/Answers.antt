@@ -1,7 +1,7 @@
 use Rattle.std.proofs.Common.{subst}
 use Rattle.rz_core.proofs.Tests.{none_some}
 use Rattle.rz_brackets.specs.Statements.{is_empty}
-use Rattle.rz_lists.proofs.Answering.{found_so}
+use Rattle.rz_data.proofs.Answering.{found_so}
 use Rattle.rz_lists.proofs.Parts.{of_type_after}
 use Rattle.rz_lists.proofs.Picks.{one_pick}
 use Rattle.rz_lists.specs.Include.{part_of}

@@ -1,5 +1,5 @@
 use Rattle.std.proofs.Common.{sym}
-use Rattle.rz_lists.proofs.Answering.{decided_so, found_so}
+use Rattle.rz_data.proofs.Answering.{decided_so, found_so}
 use Rattle.rz_lists.proofs.Parts.{of_type_back, of_type_forth, others_back, others_forth}
 use Rattle.rz_lists.specs.Include.{part_of, IsPart}
 use Rattle.rz_lists.specs.Steps.{IsOfType, IsOthers}

@@ -3,8 +3,8 @@ use Rattle.rz_core.proofs.Tests.{true_false}
 use Rattle.rz_core.specs.Decided.{Decided}
 use Rattle.rz_brackets.specs.Statements.{is_empty}
 use Rattle.rz_lists.specs.Read.{IsNamed}
-use Rattle.rz_lists.specs.Steps.{file_in}
-use Rattle.rz_lists.proofs.Answering.{ok_so}
+use Rattle.rz_data.specs.Files.{file_in}
+use Rattle.rz_data.proofs.Answering.{ok_so}
 use Rattle.rz_lists.proofs.Texts.{named_decided, named_so}
 use Rattle.rz_lists.proofs.read.read_named.Goals as goal
 

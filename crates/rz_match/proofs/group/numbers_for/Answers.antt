@@ -9,7 +9,7 @@ use Rattle.rz_match.specs.Matched.{number_for, numbers_for}
 use Rattle.rz_match.proofs.Steps.{no_field, no_item, one_more, one_stop, replicate_end, replicate_more, rest_at, rest_end, walked_through, Walked}
 use Rattle.rz_types.specs.Field.{PlainNumber}
 use Rattle.rz_types.specs.Shape.{numbers_of}
-use Rattle.rz_types.specs.Spells.{integer}
+use Rattle.rz_types.specs.Piece.{integer}
 use Rattle.rz_match.proofs.group.numbers_for.Goals as goal
 
 pub returns-in_default : goal.returns-in_default

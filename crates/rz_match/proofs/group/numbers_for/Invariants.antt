@@ -4,7 +4,7 @@ use Rattle.rz_items.specs.Item.{plain_items}
 use Rattle.rz_match.specs.Matched.{number_for, numbers_for}
 use Rattle.rz_match.proofs.Steps.{Walked}
 use Rattle.rz_types.specs.Shape.{numbers_of}
-use Rattle.rz_types.specs.Spells.{integer}
+use Rattle.rz_types.specs.Piece.{integer}
 use Rattle.rz_match.proofs.group.numbers_for.Given as goal
 
 abbrev pub invariant-loop-before : goal.invariant-loop-before

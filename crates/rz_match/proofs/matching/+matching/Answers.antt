@@ -9,7 +9,7 @@ use Rattle.rz_match.specs.Matched.{case_matched, item_for, named_matched, row_ma
 use Rattle.rz_match.proofs.Given.{array_is, array_refused, array_rows, braced, items_from, listed, named, row_given, row_refused}
 use Rattle.rz_match.proofs.Steps.{rows_behind}
 use Rattle.rz_fields.specs.declared.field.Field.TheViews.{out-ArrayField}
-use Rattle.rz_fields.specs.declared.tree.Tree.{Tree}
+use Rattle.rz_rows.specs.declared.tree.Tree.{Tree}
 use Rattle.rz_types.specs.Field.{plain_body, plain_cases, PlainField}
 use Rattle.rz_match.proofs.matching.+matching.Goals as goal
 

@@ -2,9 +2,9 @@ use Rattle.std.proofs.Common.{◌++◌, ℕ, List, drop, false, ap, sym, subst, 
 use Rattle.std.specs.Prelude.{option_map}
 use Rattle.std.specs.Str.{str_eq_ignore_ascii_case}
 use Rattle.rz_fields.specs.declared.field.Field.{Field}
-use Rattle.rz_fields.specs.declared.tree.Tree.{Tree}
+use Rattle.rz_rows.specs.declared.tree.Tree.{Tree}
+use Rattle.rz_rows.specs.Laid.{line_in}
 use Rattle.rz_types.specs.Field.{plain_body, plain_cases}
-use Rattle.rz_types.specs.Laid.{line_in}
 use Rattle.rz_print.specs.Hidden.{hides}
 use Rattle.rz_print.specs.Print.{deeper, Print}
 use Rattle.rz_print.specs.Printable.{HasWidths}
