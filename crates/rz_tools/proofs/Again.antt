@@ -18,7 +18,8 @@ use Rattle.rz_core.specs.declared.fault.Mark.{Mark}
 use Rattle.rz_core.specs.declared.moment.Moment.{Moment}
 use Rattle.rz_core.specs.declared.resource.Resource.{Resource}
 use Rattle.rz_expr.specs.Words.{is_name, role_of}
-use Rattle.rz_fields.specs.declared.tree.Tree.{Tree}
+use Rattle.rz_data.specs.Texts.{call_in}
+use Rattle.rz_rows.specs.declared.tree.Tree.{Tree}
 use Rattle.rz_fork.specs.Contents.{FitsFork}
 use Rattle.rz_items.specs.Item.{PlainItem}
 use Rattle.rz_lex.specs.Printed.{token_of, word_of}
@@ -45,6 +46,7 @@ use Rattle.rz_stmt.specs.Raw.{Raw}
 use Rattle.rz_stmt.specs.Statements.{AreStatements}
 use Rattle.rz_tools.specs.Again.{AreShort, HasMacros, MeanResources, MeansAgain, SparesWords}
 use Rattle.rz_tools.specs.DeRez.{ShowsEach}
+use Rattle.rz_tools.specs.Files.{items_read}
 use Rattle.rz_tools.specs.Resource.{no_type, IsMade, IsResource}
 use Rattle.rz_tools.specs.Shown.{facts_of, its_bytes, its_row, IsShownBy, Known, TellsRow}
 use Rattle.rz_set.specs.After.{forbidden}
@@ -53,13 +55,14 @@ use Rattle.rz_work.specs.Put.{list_with}
 use Rattle.rz_work.specs.Work.{list_behind, Work}
 use Rattle.rz_tools.specs.Step.{IsListBehind, Means, Steps}
 use Rattle.rz_set.specs.ResSet.{found}
+use Rattle.rz_rows.specs.Row.{IsRow}
+use Rattle.rz_rows.specs.Spells.{Spells}
 use Rattle.rz_types.specs.Field.{PlainBody}
-use Rattle.rz_types.specs.Row.{IsRow}
-use Rattle.rz_types.specs.Spells.{Spells}
 use Rattle.rz_table.specs.Table.{Declaration}
 use Rattle.rz_work.specs.ToolWords.{number_in, numbered, tool_in}
 use Rattle.rz_work.proofs.Named.{names_no_tool}
 use Rattle.rz_tools.proofs.PutOut.{lines_go, tokens_of, AreBare}
+use Rattle.rz_tools.proofs.Fileless.{compile_same, names_call_none, shown_call_none, CallsNone}
 use Rattle.rz_tools.proofs.Stepping.{changes}
 use Rattle.rz_core.proofs.Tests.{both, by_test}
 use Rattle.rz_tools.proofs.Values.{facts_again, resource_again}
@@ -126,6 +129,15 @@ module _ (is_macro : List ℕ → Bool) where
       let none = word_shown (λ word. tool_in (word_of word) ≡ None) word.bytes shown_tools (λ named bare. names_no_tool word.bytes named) is in
       rw none refl
   untold tool _ is = refl
+
+  call_none : (tokens : List Token) → AllByRecursion Passes (shapes_in tokens) → AllByRecursion CallsNone tokens
+  call_none [] are = tt
+  call_none (t ∷ tokens) are = (of_shape t.shape are.0, call_none tokens are.1)
+    where
+      of_shape : (shape : Shape) → Passes shape → call_in shape ≡ None
+      of_shape (shapes.Word word) is =
+          word_shown (λ word. call_in (word_of word) ≡ None) word.bytes shown_call_none (λ named bare. names_call_none word.bytes named) is
+      of_shape _ is = refl
 
   all_apart : (front back : List Shape) → AllByRecursion Passes (front ++ back) → AllByRecursion Passes front × AllByRecursion Passes back
   all_apart [] back are = (tt, are)
@@ -255,13 +267,13 @@ module _ (laws : Laws) (known : Known) (around : Around) (warnings : List Fault)
   unfolding work
   data_step front tokens r whole stored fits short new =
       let raw : Raw = shown_raw r whole.name whole.bytes in
-      let value = resource_again (mark_of tokens) around.setting r whole.name whole.bytes stored whole.whole_name whole.whole_bytes fits.name short in
+      let value = resource_again (mark_of tokens) around r whole.name whole.bytes stored whole.whole_name whole.whole_bytes fits.name short in
       inl (
         Data raw,
         Parses.statement whole.is.within (IsStatement.data_statement raw whole.is.is refl),
         (
           Ok (front ++ r ∷ []),
-          changes around.setting.tool front (λ list. list ≡ list_behind around.setting (mark_of tokens) front raw) (Ok (front ++ r ∷ [])) rez
+          changes around.setting.tool front (λ list. list ≡ list_behind around (mark_of tokens) front raw) (Ok (front ++ r ∷ [])) rez
               (sym (ap (λ o. o >>= list_with (mark_of tokens) around.setting.over front) value ∙ put_behind (mark_of tokens) around.setting.over front r new)),
           refl,
         ),
@@ -272,38 +284,41 @@ module _ (laws : Laws) (known : Known) (around : Around) (warnings : List Fault)
   known_there r = record { kind = r.kind; id = r.id; name = r.name; attr = r.attr; moment = around.setting.moment }
 
   row_made : (mark : Mark) (r : Resource) (body : PlainBody) (row : List Tree) (items : List PlainItem) → TellsRow known r body row
-      → ((facts : Facts) → Rattle.rz_items.specs.Fits.Fits facts body items row) → IsMade mark known.types items (record { kind = r.kind; id = r.id; name = r.name; attr = r.attr; moment = around.setting.moment }) (Ok r)
-  row_made mark r body row items tells fits =
+      → ((facts : Facts) → items_read around.paths around.files mark facts items ≡ Ok items) → ((facts : Facts) → Rattle.rz_items.specs.Fits.Fits facts body items row)
+      → IsMade around.paths around.files mark known.types items (record { kind = r.kind; id = r.id; name = r.name; attr = r.attr; moment = around.setting.moment }) (Ok r)
+  row_made mark r body row items tells same fits =
       let there : Facts = record { kind = r.kind; id = r.id; name = r.name; attr = r.attr; moment = around.setting.moment } in
       let spelled : Spells false there body row r.bytes =
       subst (λ (m : Moment). Spells false (record { kind = r.kind; id = r.id; name = r.name; attr = r.attr; moment = m }) body row r.bytes) (sym at)
       (laws.plain (facts_of known r) body row r.bytes tells.told.1) in
-      inl (r.bytes, inl (body, sym (ap (λ (o : Option PlainBody). ok_or o (no_type mark there)) tells.declared), inl (row, fits there, spelled)), refl)
+      inl (r.bytes, inl (body, sym (ap (λ (o : Option PlainBody). ok_or o (no_type mark there)) tells.declared), inl (items, sym (same there), inl (row, fits there, spelled))), refl)
 
   -- and that of a `resource` statement
   row_step : (front : List Resource) (tokens : List Token) (r : Resource) (body : PlainBody) (row : List Tree) → IsWholeRow tokens r body row → TellsRow known r body row
-      → IsStored r → FitsFork r → list_any (λ b. same_key b r) front ≡ false → OneStep front tokens r
+      → AllByRecursion (Passes known.is_macro) (shapes_in tokens) → IsStored r → FitsFork r → list_any (λ b. same_key b r) front ≡ false → OneStep front tokens r
   unfolding work
-  row_step front tokens r body row whole tells stored fits new =
+  row_step front tokens r body row whole tells words stored fits new =
       let one = shown_compile r whole.name whole.items in
       let facts = facts_again (mark_of tokens) around.setting r whole.name stored whole.whole_name fits.name in
-      let is : IsResource around.setting (mark_of tokens) known.types one (Ok r) = inl (_, sym facts, row_made (mark_of tokens) r body row whole.items tells whole.fits) in
+      let same : (facts : Facts) → items_read around.paths around.files (mark_of tokens) facts whole.items ≡ Ok whole.items =
+      λ facts. compile_same around.paths around.files (mark_of tokens) facts tokens one whole.is (call_none known.is_macro tokens words) in
+      let is : IsResource around (mark_of tokens) known.types one (Ok r) = inl (_, sym facts, row_made (mark_of tokens) r body row whole.items tells same whole.fits) in
       inl (
         Compiles one,
         Parses.statement whole.within (IsStatement.resource_statement one whole.is refl),
         (
           Ok (front ++ r ∷ []),
-          changes around.setting.tool front (IsListBehind around.setting (mark_of tokens) known.types front one) (Ok (front ++ r ∷ [])) rez
+          changes around.setting.tool front (IsListBehind around (mark_of tokens) known.types front one) (Ok (front ++ r ∷ [])) rez
               (inl (r, is, sym (put_behind (mark_of tokens) around.setting.over front r new))),
           refl,
         ),
       )
 
   one_step : (front : List Resource) (tokens : List Token) (r : Resource) (showing : Showing) → IsShownBy known r showing → IsWholeOf tokens showing
-      → IsStored r → FitsFork r → length r.bytes ≤ 16777212 → list_any (λ b. same_key b r) front ≡ false → OneStep front tokens r
-  one_step front tokens r showing (its_row body row tells is) whole stored fits short new =
-      row_step front tokens r body row (subst (IsWholeOf tokens) is whole) tells stored fits new
-  one_step front tokens r showing (its_bytes none is) whole stored fits short new =
+      → AllByRecursion (Passes known.is_macro) (shapes_in tokens) → IsStored r → FitsFork r → length r.bytes ≤ 16777212 → list_any (λ b. same_key b r) front ≡ false → OneStep front tokens r
+  one_step front tokens r showing (its_row body row tells is) whole words stored fits short new =
+      row_step front tokens r body row (subst (IsWholeOf tokens) is whole) tells words stored fits new
+  one_step front tokens r showing (its_bytes none is) whole words stored fits short new =
       data_step front tokens r (subst (IsWholeOf tokens) is whole) stored fits short new
 
 record HasStatements (known : Known) (list : List Resource) (tokens : List Token) : Type 0 where
@@ -340,7 +355,7 @@ module _ (laws : Laws) (known : Known) where
           work known.types warnings (front ++ r ∷ []),
           subst (λ (ts : List Token). Steps around (work known.types warnings front) ts (Ok (work known.types warnings (front ++ r ∷ []))))
               (sym (numbered_same known.is_macro around.setting.tool whole.0 parts.0))
-              (one_step laws known around warnings rez at front whole.0 r showing by.0 whole.3 fit.stored.0 fit.fits.0 fit.short.0 differ.0),
+              (one_step laws known around warnings rez at front whole.0 r showing by.0 whole.3 parts.0 fit.stored.0 fit.fits.0 fit.short.0 differ.0),
           subst (λ (l : List Resource). Means around (work known.types warnings (front ++ r ∷ [])) behind.statements (Ok (work known.types warnings l))) (append_assoc front (r ∷ []) rs)
               (behind.mean around warnings (front ++ r ∷ []) rez at differ.1),
         );

@@ -16,7 +16,7 @@ use Rattle.rz_tools.specs.DeRez.{ShowsEach}
 use Rattle.rz_tools.specs.Shown.{its_bytes, its_row, Known, TellsRow}
 use Rattle.rz_show.specs.Showing.{by_bytes, showing_text}
 use Rattle.rz_pre.specs.Live.{Live}
-use Rattle.rz_fields.specs.declared.tree.Tree.{Tree}
+use Rattle.rz_rows.specs.declared.tree.Tree.{Tree}
 use Rattle.rz_types.specs.Field.{PlainBody}
 use Rattle.rz_table.specs.Table.{found, Declaration}
 use Rattle.rz_answer.specs.Answer.{or_refused, written}

@@ -5,6 +5,8 @@ pub mod Beginning
 pub mod Compiling
 pub mod Stepping
 pub mod Resources
+pub mod Reading
+pub mod Fileless
 pub mod PutOut
 pub mod Values
 pub mod Again

@@ -47,13 +47,13 @@ use Rattle.rz_work.specs.declared.setting.Setting.{Setting}
 use Rattle.rz_items.specs.Item.{PlainItem}
 use Rattle.rz_layout.specs.Compiled.{IsCompiled}
 use Rattle.rz_match.specs.Match.{IsMatch}
-use Rattle.rz_fields.specs.declared.tree.Tree.{Tree}
+use Rattle.rz_rows.specs.declared.tree.Tree.{Tree}
+use Rattle.rz_rows.specs.Laid.{Refusal}
+use Rattle.rz_rows.specs.Spells.{Spells}
 use Rattle.rz_types.specs.Field.{PlainBody}
-use Rattle.rz_types.specs.Laid.{Refusal}
 use Rattle.rz_types.specs.Readable.{is_readable}
 use Rattle.rz_types.specs.Rules.{keeps_rules}
 use Rattle.rz_types.specs.Shape.{is_well_shaped}
-use Rattle.rz_types.specs.Spells.{Spells}
 use Rattle.rz_tools.proofs.Resources.{once_list}
 use Rattle.rz_core.proofs.Once.{err, ok, ok_or_err, once_is, once_then, same_err, same_ok, Once}
 
@@ -223,9 +223,9 @@ module _ (cutting : OneCutting) (statement_law : OneStatement) (matching : OneMa
   once_behind : (around : Around) (mark : Mark) (work : Work) (statement : Statement) → Once (IsBehind around mark work statement)
   once_behind around mark work Empty = once_is (Ok work)
   once_behind around mark work (Data raw) =
-      once_made around.setting work (λ list. list ≡ list_behind around.setting mark work.list raw) (once_is (list_behind around.setting mark work.list raw))
+      once_made around.setting work (λ list. list ≡ list_behind around mark work.list raw) (once_is (list_behind around mark work.list raw))
   once_behind around mark work (compiled_statement one) =
-      once_made around.setting work (IsListBehind around.setting mark work.types work.list one) (once_list matching spelling around.setting mark work.types work.list one)
+      once_made around.setting work (IsListBehind around mark work.types work.list one) (once_list matching spelling around mark work.types work.list one)
   once_behind around mark work (Lists one) =
       once_made around.setting work (λ list. list ≡ list_after around mark work.list one) (once_is (list_after around mark work.list one))
   once_behind around mark work (Declares one) = once_is (declared around.setting mark work one)

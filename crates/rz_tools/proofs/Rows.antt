@@ -11,7 +11,7 @@ use Rattle.rz_core.specs.declared.moment.Moment.{Moment}
 use Rattle.rz_core.specs.declared.resource.Resource.{Resource}
 use Rattle.rz_core.specs.declared.resource.Word.{Word}
 use Rattle.rz_core.specs.declared.stop.NoMemory.{NoMemory}
-use Rattle.rz_fields.specs.declared.tree.Tree.{Tree}
+use Rattle.rz_rows.specs.declared.tree.Tree.{Tree}
 use Rattle.rz_pre.specs.Reading.{is_among}
 use Rattle.rz_print.specs.Hidden.{hides}
 use Rattle.rz_print.specs.Shown.{row_uses}

@@ -10,7 +10,7 @@ use Rattle.rz_core.specs.declared.fault.Fault.{Fault}
 use Rattle.rz_core.specs.declared.fault.Mark.{Mark}
 use Rattle.rz_core.specs.declared.resource.Resource.{Resource}
 use Rattle.rz_lex.specs.declared.token.Token.{Token}
-use Rattle.rz_core.specs.Stop.{Gives, OnFault, ◌>>=◌}
+use Rattle.rz_core.specs.Stop.{OnFault}
 use Rattle.rz_core.specs.declared.stop.Stop.{Stop}
 use Rattle.rz_core.specs.declared.stop.Stop.TheVariants as stops
 use Rattle.rz_paths.specs.Halt.{halt_of}
@@ -23,7 +23,6 @@ use Rattle.rz_stmt.specs.Grammar.{mark_of, Compiles, Data, Declares, Empty, Gave
 use Rattle.rz_items.specs.Compile.{Compile}
 use Rattle.rz_lists.specs.Lists.{ListForm}
 use Rattle.rz_stmt.specs.Raw.{Raw}
-use Rattle.rz_work.specs.Data.{resource_of}
 use Rattle.rz_stmt.specs.Statements.{AreStatements}
 use Rattle.rz_statements.specs.Next.{BeginsWith}
 use Rattle.rz_lex.specs.Lexeme.{AreLexed}
@@ -33,7 +32,6 @@ use Rattle.rz_core.specs.Answers.{Then}
 use Rattle.rz_folder.specs.Folder.{Files}
 use Rattle.rz_work.specs.Around.{around, Around}
 use Rattle.rz_work.specs.Lists.{list_after}
-use Rattle.rz_work.specs.Put.{list_with}
 use Rattle.rz_work.specs.Work.{declared, halted, list_behind, with_list, Stepped, Went, Work}
 use Rattle.rz_tools.specs.Step.{tokens_at, Changes, IsBehind, IsListBehind, IsSpan, MakesList, Means, Steps, WarnedFault, Worked}
 use Rattle.rz_work.specs.declared.setting.Setting.{Setting}
@@ -158,17 +156,11 @@ pub changes : (tool : Tool) (list : List Resource) (answers : Result (List Resou
 changes tools.Rez list answers answer is so = so
 changes tools.DeRez list answers answer is so = absurd (cc is)
 
-pub rez_changes : (tool : Tool) (list : List Resource) (answers : Result (List Resource) Fault → Type 0) (result : Result (Unit {0}) (Stop Fault)) (after : List Resource)
-    → tool ≡ tools.Rez → Stepped answers result after → Stepped (Changes tool list answers) result after
-rez_changes tool list answers (Ok nothing) after is so = changes tool list answers (Ok after) is so
-rez_changes tool list answers (Err (stops.Refused fault)) after is so = changes tool list answers (Err fault) is so
-rez_changes tool list answers (Err stops.NoMemory) after is so = tt
-
-pub derez_changes : (tool : Tool) (list : List Resource) (answers : Result (List Resource) Fault → Type 0) → tool ≡ tools.DeRez → Changes tool list answers (Ok list)
+derez_changes : (tool : Tool) (list : List Resource) (answers : Result (List Resource) Fault → Type 0) → tool ≡ tools.DeRez → Changes tool list answers (Ok list)
 derez_changes tools.Rez list answers is = absurd (cc is)
 derez_changes tools.DeRez list answers is = refl
 
--- the same of a call that reads files, where they are told
+-- the same of a call that may read files, where they are told
 pub rez_went : (told : Option Files) (tool : Tool) (list : List Resource) (answers : Files → Result (List Resource) Fault → Type 0) (result : Result (Unit {0}) Halt) (after : List Resource)
     → tool ≡ tools.Rez → IfSome told (λ files. Went (answers files) result after) → IfSome told (λ files. Went (Changes tool list (answers files)) result after)
 rez_went None tool list answers result after is went = tt
@@ -181,12 +173,6 @@ pub derez_went : (told : Option Files) (tool : Tool) (list : List Resource) (ans
     → tool ≡ tools.DeRez → IfSome told (λ files. Changes tool list (answers files) (Ok list))
 derez_went None tool list answers is = tt
 derez_went (Some files) tool list answers is = derez_changes tool list (answers files) is
-
--- what a call that reads no file gave, as one that may
-went_of : {X : Type 0} (answers : Result X Fault → Type 0) (result : Result (Unit {0}) (Stop Fault)) (after : X) → Stepped answers result after → Went answers (halted result) after
-went_of answers (Ok nothing) after done = done
-went_of answers (Err (stops.Refused fault)) after done = done
-went_of answers (Err stops.NoMemory) after done = tt
 
 module _ (around : Around) (work : Work) (ts : List Token) where
   stopped : (stop : Stop Fault) → Gave (Err stop) (Parses ts) → Worked (Steps around work ts) (Err (halt_of stop)) work
@@ -225,7 +211,7 @@ module _ (around : Around) (work : Work) (ts : List Token) where
       (inl (Declares one, parsed, done ∙ ap (λ m. declared around.setting m work one) (sym same)), kept)
   declare_done one mark (Err stops.NoMemory) after parsed same done kept = tt
 
--- The same where the files are told, of what a call gave that reads no file.
+-- The same where the files are told.
 
 module _ (setting : Setting) (paths : List (List ℕ)) (work : Work) (ts : List Token) where
   pub nothing_told : (told : Option Files) → Parses ts (Ok Empty) → IfSome told (λ files. Worked (Steps (around setting paths files) work ts) (Ok tt) work)
@@ -238,52 +224,38 @@ module _ (setting : Setting) (paths : List (List ℕ)) (work : Work) (ts : List 
   stopped_told (Some files) stop given parsed is =
       subst (λ (r : Result (Unit {0}) Halt). Worked (Steps (around setting paths files) work ts) r work) (sym is) (stopped (around setting paths files) work ts stop parsed)
 
-  module _ (mark : Mark) (same : mark_of ts ≡ mark) (result : Result (Unit {0}) (Stop Fault)) (given : Result (Unit {0}) Halt) (is : given ≡ halted result) where
-    pub raw_told : (told : Option Files) (raw : Raw) (after : List Resource) → Parses ts (Ok (Data raw))
-        → Stepped (Changes setting.tool work.list (λ answer. answer ≡ list_behind setting mark work.list raw)) result after
-        → IfSome told (λ files. Worked (Steps (around setting paths files) work ts) given (record work { list = after }))
-    raw_told None raw after parsed done = tt
-    raw_told (Some files) raw after parsed done =
-        subst (λ (r : Result (Unit {0}) Halt). Worked (Steps (around setting paths files) work ts) r (record work { list = after })) (sym is)
-        (listed (around setting paths files) work ts (Data raw) mark (λ m answer. answer ≡ list_behind setting m work.list raw) parsed same refl (halted result) after
-        (went_of (Changes setting.tool work.list (λ answer. answer ≡ list_behind setting mark work.list raw)) result after done))
-
-    pub compiled_told : (told : Option Files) (one : Compile) (after : List Resource) → Parses ts (Ok (Compiles one))
-        → Stepped (Changes setting.tool work.list (IsListBehind setting mark work.types work.list one)) result after
-        → IfSome told (λ files. Worked (Steps (around setting paths files) work ts) given (record work { list = after }))
-    compiled_told None one after parsed done = tt
-    compiled_told (Some files) one after parsed done =
-        subst (λ (r : Result (Unit {0}) Halt). Worked (Steps (around setting paths files) work ts) r (record work { list = after })) (sym is)
-        (listed (around setting paths files) work ts (Compiles one) mark (λ m. IsListBehind setting m work.types work.list one) parsed same refl (halted result) after
-        (went_of (Changes setting.tool work.list (IsListBehind setting mark work.types work.list one)) result after done))
-
-    pub declared_told : (told : Option Files) (one : declare.Declare) (after : Work) → Parses ts (Ok (Declares one))
-        → Stepped (λ answer. answer ≡ declared setting mark work one) result after → OnFault result (λ fault. after.warnings ≡ work.warnings)
-        → IfSome told (λ files. Worked (Steps (around setting paths files) work ts) given after)
-    declared_told None one after parsed done kept = tt
-    declared_told (Some files) one after parsed done kept =
-        subst (λ (r : Result (Unit {0}) Halt). Worked (Steps (around setting paths files) work ts) r after) (sym is)
-        (declare_done (around setting paths files) work ts one mark result after parsed same done kept)
+  -- of what a call gave that reads no file
+  pub declared_told : (mark : Mark) → mark_of ts ≡ mark → (result : Result (Unit {0}) (Stop Fault)) (given : Result (Unit {0}) Halt) → given ≡ halted result
+      → (told : Option Files) (one : declare.Declare) (after : Work) → Parses ts (Ok (Declares one))
+      → Stepped (λ answer. answer ≡ declared setting mark work one) result after → OnFault result (λ fault. after.warnings ≡ work.warnings)
+      → IfSome told (λ files. Worked (Steps (around setting paths files) work ts) given after)
+  declared_told mark same result given is None one after parsed done kept = tt
+  declared_told mark same result given is (Some files) one after parsed done kept =
+      subst (λ (r : Result (Unit {0}) Halt). Worked (Steps (around setting paths files) work ts) r after) (sym is)
+      (declare_done (around setting paths files) work ts one mark result after parsed same done kept)
 
   -- and of one that may read files
-  pub lists_told : (told : Option Files) (mark : Mark) → mark_of ts ≡ mark → (one : ListForm) (result : Result (Unit {0}) Halt) (after : List Resource) → Parses ts (Ok (Lists one))
-      → IfSome told (λ files. Went (Changes setting.tool work.list (λ answer. answer ≡ list_after (around setting paths files) mark work.list one)) result after)
-      → IfSome told (λ files. Worked (Steps (around setting paths files) work ts) result (record work { list = after }))
-  lists_told None mark same one result after parsed done = tt
-  lists_told (Some files) mark same one result after parsed done =
-      listed (around setting paths files) work ts (Lists one) mark (λ m answer. answer ≡ list_after (around setting paths files) m work.list one) parsed same refl result after done
+  module _ (mark : Mark) (same : mark_of ts ≡ mark) (result : Result (Unit {0}) Halt) (after : List Resource) where
+    pub raw_told : (told : Option Files) (raw : Raw) → Parses ts (Ok (Data raw))
+        → IfSome told (λ files. Went (Changes setting.tool work.list (λ answer. answer ≡ list_behind (around setting paths files) mark work.list raw)) result after)
+        → IfSome told (λ files. Worked (Steps (around setting paths files) work ts) result (record work { list = after }))
+    raw_told None raw parsed done = tt
+    raw_told (Some files) raw parsed done =
+        listed (around setting paths files) work ts (Data raw) mark (λ m answer. answer ≡ list_behind (around setting paths files) m work.list raw) parsed same refl result after done
 
-module _ (setting : Setting) (mark : Mark) (list : List Resource) (raw : Raw) where
-  pub put_after : (resource : Resource) (result : Result (Unit {0}) (Stop Fault)) (after : List Resource) → resource_of setting mark raw ≡ Ok resource
-      → Stepped (λ answer. answer ≡ list_with mark setting.over list resource) result after
-      → Stepped (λ answer. answer ≡ list_behind setting mark list raw) result after
-  put_after resource (Ok nothing) after is done = done ∙ ap (λ (r : Result Resource Fault). r >>= list_with mark setting.over list) (sym is)
-  put_after resource (Err (stops.Refused fault)) after is done = done ∙ ap (λ (r : Result Resource Fault). r >>= list_with mark setting.over list) (sym is)
-  put_after resource (Err stops.NoMemory) after is done = tt
+    pub compiled_told : (told : Option Files) (one : Compile) → Parses ts (Ok (Compiles one))
+        → IfSome told (λ files. Went (Changes setting.tool work.list (IsListBehind (around setting paths files) mark work.types work.list one)) result after)
+        → IfSome told (λ files. Worked (Steps (around setting paths files) work ts) result (record work { list = after }))
+    compiled_told None one parsed done = tt
+    compiled_told (Some files) one parsed done =
+        listed (around setting paths files) work ts (Compiles one) mark (λ m. IsListBehind (around setting paths files) m work.types work.list one) parsed same refl result after done
 
-  pub no_resource : (stop : Stop Fault) → Gives (resource_of setting mark raw) (Err stop) → Stepped (λ answer. answer ≡ list_behind setting mark list raw) (Err stop) list
-  no_resource (stops.Refused fault) is = ap (λ (r : Result Resource Fault). r >>= list_with mark setting.over list) (sym is)
-  no_resource stops.NoMemory is = tt
+    pub lists_told : (told : Option Files) (one : ListForm) → Parses ts (Ok (Lists one))
+        → IfSome told (λ files. Went (Changes setting.tool work.list (λ answer. answer ≡ list_after (around setting paths files) mark work.list one)) result after)
+        → IfSome told (λ files. Worked (Steps (around setting paths files) work ts) result (record work { list = after }))
+    lists_told None one parsed done = tt
+    lists_told (Some files) one parsed done =
+        listed (around setting paths files) work ts (Lists one) mark (λ m answer. answer ≡ list_after (around setting paths files) m work.list one) parsed same refl result after done
 
 -- each token is where all are
 pub within_at : (files : ℕ) (tokens : List Token) (k : ℕ) (token : Token) → AreWithin files tokens → slice_get tokens k ≡ Some token → token.mark.file < files

@@ -1,11 +1,11 @@
 -- The values of a statement that is shown are those of its resource.
-use Rattle.std.proofs.Common.{◌≡◌, ℕ, ◌<◌, ◌≤◌, ℤ, pos, negsuc, Bool, true, false, List, [], ◌∷◌, map, length, Ok, Err, refl, ap, ◌∙◌, arith}
+use Rattle.std.proofs.Common.{◌≡◌, ℕ, ◌<◌, ◌≤◌, ℤ, pos, negsuc, Bool, true, false, List, [], ◌∷◌, ◌++◌, map, length, Ok, Err, refl, sym, ap, ◌∙◌, arith}
 use Rattle.std.specs.Prelude.{◌==◌, FitsSigned}
 use Rattle.std.specs.Int.{w16, w32}
 use Rattle.std.specs.List.{flat_map}
 use Rattle.std.proofs.lemmas.Bool.{agree_below_at, eqb-true, le-leb, le-ltb}
 use Rattle.std.proofs.lemmas.Int.{int_wrap_fits}
-use Rattle.std.proofs.lemmas.List.Folds.{flat_map-map}
+use Rattle.std.proofs.lemmas.List.Concat.{flat_map-cons}
 use Rattle.std.specs.declared.result.Result.{Result}
 use Rattle.rz_core.specs.Stop.{◌>>=◌}
 use Rattle.rz_core.specs.declared.facts.Facts.{Facts}
@@ -14,9 +14,13 @@ use Rattle.rz_core.specs.declared.fault.Mark.{Mark}
 use Rattle.rz_core.specs.declared.resource.Resource.{Resource}
 use Rattle.rz_show.specs.Showing.{IsStored}
 use Rattle.rz_show.specs.Statement.{attributes_of, id_term, name_part, shown_head, shown_raw, text_parts}
-use Rattle.rz_types.specs.Text.{bytes_in, bytes_of, Plain}
-use Rattle.rz_types.specs.Value.{number_of}
-use Rattle.rz_work.specs.Data.{contents_of, most_bytes, resource_of, short_bytes}
+use Rattle.rz_fields.specs.Text.{bytes_of, parts_bytes, parts_of, PlainPart}
+use Rattle.rz_fields.specs.Value.{field_sight, number_of}
+use Rattle.rz_folder.specs.Folder.{Files}
+use Rattle.rz_tools.proofs.Fileless.{pieces_read}
+use Rattle.rz_work.specs.Around.{Around}
+use Rattle.rz_work.specs.Data.{contents_of, most_bytes, short_bytes, with_bytes}
+use Rattle.rz_work.specs.Raw.{contents_read, resource_of}
 use Rattle.rz_work.specs.Head.{bits_behind_all, facts_of, head_facts, id_of, name_of, short_name}
 use Rattle.rz_work.specs.declared.setting.Setting.{Setting}
 
@@ -30,15 +34,23 @@ module _ (mark : Mark) where
   id_inside (negsuc n) fits = rw (le-leb n 32767 (omega (arith, fits))) refl
 
   pieces_again : (known : Facts) (pieces : List (List ℕ)) (whole : List ℕ) → flat_map (λ piece. piece) pieces ≡ whole → bytes_of mark known (text_parts pieces) ≡ Ok whole
-  pieces_again known pieces whole is = ap (λ (x : List ℕ). Ok x) (flat_map-map (bytes_in known) (λ (piece : List ℕ). Plain piece) pieces ∙ is)
+  pieces_again known pieces whole is = by pieces ∙ ap (λ (x : List ℕ). Ok x) is
+    where
+      by : (pieces : List (List ℕ)) → parts_bytes mark known (field_sight known []) (parts_of (text_parts pieces)) ≡ Ok (flat_map (λ piece. piece) pieces)
+      by [] = refl
+      by (piece ∷ pieces) =
+          ap (λ (r : Result (List ℕ) Fault). r >>= λ more. Ok (piece ++ more)) (by pieces) ∙ ap (λ (x : List ℕ). Ok x) (sym (flat_map-cons (λ piece. piece) piece pieces))
 
   name_value : (known : Facts) (pieces : List (List ℕ)) (name : List ℕ) → flat_map (λ piece. piece) pieces ≡ name → length name < 256 → name_of mark known (name_part pieces) ≡ Ok name
   name_value known [] name is short = ap (λ (x : List ℕ). Ok x) is
   name_value known (piece ∷ pieces) name is short =
       ap (λ o. o >>= short_name mark) (pieces_again known (piece ∷ pieces) name is) ∙ rw (le-ltb 255 (length name) (omega (arith, short))) refl
 
-  bytes_value : (known : Facts) (pieces : List (List ℕ)) (bytes : List ℕ) → flat_map (λ piece. piece) pieces ≡ bytes → length bytes ≤ most_bytes → contents_of mark known (text_parts pieces) ≡ Ok bytes
-  bytes_value known pieces bytes is short = ap (λ o. o >>= short_bytes mark) (pieces_again known pieces bytes is) ∙ rw (le-ltb most_bytes (length bytes) short) refl
+  bytes_value : (paths : List (List ℕ)) (files : Files) (known : Facts) (pieces : List (List ℕ)) (bytes : List ℕ) → flat_map (λ piece. piece) pieces ≡ bytes
+      → length bytes ≤ most_bytes → contents_read paths files mark known (text_parts pieces) ≡ Ok bytes
+  bytes_value paths files known pieces bytes is short =
+      ap (λ (r : Result (List PlainPart) Fault). r >>= contents_of mark known) (pieces_read paths files mark known pieces)
+      ∙ ap (λ (r : Result (List ℕ) Fault). r >>= short_bytes mark) (pieces_again known pieces bytes is) ∙ rw (le-ltb most_bytes (length bytes) short) refl
 
   is_byte : Result ℕ Fault → ℕ → Bool
   is_byte (Ok value) byte = value == byte
@@ -60,14 +72,10 @@ module _ (mark : Mark) where
       let known : Facts = head_facts setting r.kind.code in
       rw (id_value known r.id stored.id, id_inside r.id stored.id, name_value known name r.name name_is named, attributes_value known r.attr stored.attr) refl
 
-  pub resource_again : (setting : Setting) (r : Resource) (name bytes : List (List ℕ)) → IsStored r → flat_map (λ piece. piece) name ≡ r.name → flat_map (λ piece. piece) bytes ≡ r.bytes
-      → length r.name < 256 → length r.bytes ≤ most_bytes → resource_of setting mark (shown_raw r name bytes) ≡ Ok r
-  resource_again setting r name bytes stored name_is bytes_is named short =
-      let known : Facts = head_facts setting r.kind.code in
-      rw (
-        id_value known r.id stored.id,
-        id_inside r.id stored.id,
-        name_value known name r.name name_is named,
-        attributes_value known r.attr stored.attr,
-        bytes_value (record { kind = r.kind; id = r.id; name = r.name; attr = r.attr; moment = setting.moment }) bytes r.bytes bytes_is short,
-      ) refl
+  pub resource_again : (around : Around) (r : Resource) (name bytes : List (List ℕ)) → IsStored r → flat_map (λ piece. piece) name ≡ r.name → flat_map (λ piece. piece) bytes ≡ r.bytes
+      → length r.name < 256 → length r.bytes ≤ most_bytes → resource_of around mark (shown_raw r name bytes) ≡ Ok r
+  resource_again around r name bytes stored name_is bytes_is named short =
+      let known : Facts = record { kind = r.kind; id = r.id; name = r.name; attr = r.attr; moment = around.setting.moment } in
+      ap (λ (f : Result Facts Fault). f >>= λ known. contents_read around.paths around.files mark known (text_parts bytes) >>= λ bytes. Ok (with_bytes known bytes))
+      (facts_again around.setting r name stored name_is named)
+      ∙ ap (λ (c : Result (List ℕ) Fault). c >>= λ bytes. Ok (with_bytes known bytes)) (bytes_value around.paths around.files known bytes r.bytes bytes_is short)

@@ -1,3 +1,4 @@
+pub mod Files
 pub mod Resource
 pub mod Step
 pub mod Sources

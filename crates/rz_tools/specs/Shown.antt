@@ -3,7 +3,7 @@ use Rattle.std.specs.Prelude.{◌≡◌, ℕ, Bool, true, false, List, Some, opt
 use Rattle.rz_core.specs.declared.facts.Facts.{Facts}
 use Rattle.rz_core.specs.declared.moment.Moment.{Moment}
 use Rattle.rz_core.specs.declared.resource.Resource.{Resource}
-use Rattle.rz_fields.specs.declared.tree.Tree.{Tree}
+use Rattle.rz_rows.specs.declared.tree.Tree.{Tree}
 use Rattle.rz_print.specs.Shown.{row_uses}
 use Rattle.rz_show.specs.Showing.{by_bytes, by_row, showing_text, Showing}
 use Rattle.rz_types.specs.Field.{PlainBody}

@@ -28,9 +28,9 @@ Changes tools.Rez list answers answer = answers answer
 Changes tools.DeRez list answers answer = answer ≡ Ok list
 
 -- the list behind a `resource` statement on this line
-abbrev pub IsListBehind : Setting → Mark → List Declaration → List Resource → Compile → Result (List Resource) Fault → Type 0
-IsListBehind setting mark types list one =
-    Then (IsResource setting mark types one) (λ resource answer. answer ≡ list_with mark setting.over list resource)
+abbrev pub IsListBehind : Around → Mark → List Declaration → List Resource → Compile → Result (List Resource) Fault → Type 0
+IsListBehind around mark types list one =
+    Then (IsResource around mark types one) (λ resource answer. answer ≡ list_with mark around.setting.over list resource)
 
 -- what is made where a statement changes the list alone
 abbrev pub MakesList : Setting → Work → (Result (List Resource) Fault → Type 0) → Result Work Fault → Type 0
@@ -40,8 +40,8 @@ MakesList setting work answers answer =
 -- what is made behind a statement on this line
 abbrev pub IsBehind : Around → Mark → Work → Statement → Result Work Fault → Type 0
 IsBehind around mark work Empty = λ answer. answer ≡ Ok work
-IsBehind around mark work (Data raw) = MakesList around.setting work (λ list. list ≡ list_behind around.setting mark work.list raw)
-IsBehind around mark work (Compiles one) = MakesList around.setting work (IsListBehind around.setting mark work.types work.list one)
+IsBehind around mark work (Data raw) = MakesList around.setting work (λ list. list ≡ list_behind around mark work.list raw)
+IsBehind around mark work (Compiles one) = MakesList around.setting work (IsListBehind around mark work.types work.list one)
 IsBehind around mark work (Lists one) = MakesList around.setting work (λ list. list ≡ list_after around mark work.list one)
 IsBehind around mark work (Declares one) = λ answer. answer ≡ declared around.setting mark work one
 

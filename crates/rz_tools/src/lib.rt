@@ -12,6 +12,7 @@ mod base;
 mod bridge;
 mod chosen;
 mod derez;
+mod files;
 mod laws;
 mod output;
 mod program;

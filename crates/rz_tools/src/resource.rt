@@ -1,80 +1,76 @@
-ghost use Rattle.std.specs.Prelude.{◌≡◌, ◌<◌, ℕ, true, length, option_map, IfOk};
+ghost use Rattle.std.specs.Prelude.{◌≡◌, ◌<◌, ℕ, true, length, option_map, IfOk, IfSome};
 ghost use Rattle.rz_core.specs.Answers.{Meets};
 ghost use Rattle.rz_core.specs.Message.{IsNameable};
 ghost use Rattle.rz_core.specs.Stop.{OnFault};
+ghost use Rattle.rz_folder.specs.OnlyReads.{OnlyReads};
 ghost use Rattle.rz_items.specs.Compile.{compile_of};
 ghost use Rattle.rz_items.specs.Item.{plain_items};
 ghost use Rattle.rz_items.specs.Places.{AreItemsWithin};
 ghost use Rattle.rz_layout.specs.Compiled.{is_compile_fault};
 ghost use Rattle.rz_layout.specs.Fault.{refusal_of};
-ghost use Rattle.rz_tools.specs.Resource.{no_type, row_fault, AreBytes, AreItemBytes, IsMade, IsResource, IsSpelled};
-ghost use Rattle.rz_types.specs.Row.{IsRow};
+ghost use Rattle.rz_paths.specs.Halt.{IsReadFault, OnRefusal, Yields};
+ghost use Rattle.rz_work.specs.Around.{around};
+ghost use Rattle.rz_tools.specs.Resource.{no_type, row_fault, AreBytes, AreItemBytes, AreReadBytes, IsResource, IsSpelled};
+ghost use Rattle.rz_rows.specs.Row.{IsRow};
 ghost use Rattle.rz_table.specs.Table.{found};
 ghost use Rattle.rz_types.specs.Template.{template_of};
 ghost use Rattle.rz_table.specs.TypeTable.{table_of};
 
-use rz_core::{Bytes, Facts, Fault, Kept, Mark, Resource, Stop};
+use crate::files::read_items;
+use rz_core::{Bytes, Facts, Fault, FileNames, Kept, Mark, Resource, Stop};
+use rz_folder::Folder;
 use rz_layout::{LayFault, compile};
 use rz_match::match_items;
+use rz_paths::Halt;
+use rz_rows::Row;
 use rz_stmt::{CompileStmt, Items};
 use rz_table::TypeTable;
-use rz_types::{Row, Template};
+use rz_types::Template;
 use rz_work::{Setting, facts_of, with_bytes};
 use std::alloc::Global;
 
 /// The resource of a `resource` statement on this line: the values of its head; then 202 (kept: the type and the id)
-/// where no declaration is for it; then the row that its items fit; and the bytes that the row spells. The first fault
-/// is the answer; that of an item has the item's line. (MPW Rez.)
-pub fn resource_of_items(
+/// where no declaration is for it; then what the files give that its items name; then the row that its items fit; and
+/// the bytes that the row spells. The first fault is the answer; that of an item has the item's line. No file changes.
+/// (MPW Rez.)
+pub fn resource_of_items<F: Folder>(
     alloc: Global,
-    stmt: &CompileStmt,
+    folder: &mut F,
+    paths: &FileNames,
+    stmt: CompileStmt,
     mark: Mark,
     setting: Setting,
     types: &TypeTable,
-) -> Result<Resource, Stop<Fault>>
-    ensures resource { Meets result (IsResource setting mark (table_of types.now) (compile_of stmt.now)) }
+) -> Result<Resource, Halt>
+    ensures resource { IfSome (F.files folder.old) (λ files. Yields result (IsResource (around setting paths.now files) mark (table_of types.now) (compile_of stmt))) }
     ensures named { IfOk result (λ resource. length resource.name < 256) }
-    ensures nameable { (files : ℕ) → mark.file < files → AreItemsWithin files (plain_items stmt.now.items) → OnFault result (IsNameable files) }
+    ensures nameable { (files : ℕ) → mark.file < files → AreItemsWithin files (plain_items stmt.items) → OnRefusal result (IsNameable files) }
+    ensures reads { OnlyReads F.files F.read_faults F.write_faults folder.old folder.new (IsReadFault result) }
 {
-    match facts_of(alloc, stmt.kind, &stmt.head, mark, setting) {
-        Ok(known) => made_of(alloc, &stmt.items, mark, known, types),
-        Err(stop) => Err(stop),
-    }
-}
-
-/// The resource of which this is known, with the bytes of its items.
-fn made_of(
-    alloc: Global,
-    items: &Items,
-    mark: Mark,
-    known: Facts,
-    types: &TypeTable,
-) -> Result<Resource, Stop<Fault>>
-    requires named { length known.name < 256 }
-    ensures resource { Meets result (IsMade mark (table_of types.now) (plain_items items.now) known) }
-    ensures named { IfOk result (λ resource. length resource.name < 256) }
-    ensures nameable { (files : ℕ) → mark.file < files → AreItemsWithin files (plain_items items.now) → OnFault result (IsNameable files) }
-{
-    match bytes_of(alloc, items, mark, &known, types) {
+    let known = facts_of(alloc, stmt.kind, &stmt.head, mark, setting)?;
+    match bytes_of(alloc, folder, paths, stmt.items, mark, &known, types) {
         Ok(bytes) => Ok(with_bytes(known, bytes)),
-        Err(stop) => Err(stop),
+        Err(halt) => Err(halt),
     }
 }
 
 /// The bytes of items under the fields that are declared for the resource.
-fn bytes_of(
+fn bytes_of<F: Folder>(
     alloc: Global,
-    items: &Items,
+    folder: &mut F,
+    paths: &FileNames,
+    items: Items,
     mark: Mark,
     known: &Facts,
     types: &TypeTable,
-) -> Result<Bytes, Stop<Fault>>
-    ensures bytes { Meets result (AreBytes mark (table_of types.now) (plain_items items.now) known.now) }
-    ensures nameable { (files : ℕ) → mark.file < files → AreItemsWithin files (plain_items items.now) → OnFault result (IsNameable files) }
+) -> Result<Bytes, Halt>
+    ensures bytes { IfSome (F.files folder.old) (λ files. Yields result (AreBytes paths.now files mark (table_of types.now) (plain_items items) known.now)) }
+    ensures nameable { (files : ℕ) → mark.file < files → AreItemsWithin files (plain_items items) → OnRefusal result (IsNameable files) }
+    ensures reads { OnlyReads F.files F.read_faults F.write_faults folder.old folder.new (IsReadFault result) }
 {
     match template_for(types, known) {
-        Some(template) => bytes_under(alloc, items, mark, known, template),
-        None => Err(Stop::Refused(no_type(known, mark))),
+        Some(template) => bytes_read(alloc, folder, paths, items, mark, known, template),
+        None => Err(Halt::Refused(no_type(known, mark))),
     }
 }
 
@@ -84,6 +80,26 @@ fn template_for<'a>(types: &'a TypeTable, known: &Facts) -> Option<&'a Template>
         ≡ option_map (λ one. one.template) (found known.now.kind known.now.id (table_of types.now)) }
 {
     types.find(known.kind, known.id)
+}
+
+/// The bytes of items under the fields of a template, with what the files give that their texts name.
+fn bytes_read<F: Folder>(
+    alloc: Global,
+    folder: &mut F,
+    paths: &FileNames,
+    items: Items,
+    mark: Mark,
+    known: &Facts,
+    template: &Template,
+) -> Result<Bytes, Halt>
+    ensures bytes { IfSome (F.files folder.old) (λ files. Yields result (AreReadBytes paths.now files mark known.now (plain_items items) (template_of template.now))) }
+    ensures nameable { (files : ℕ) → mark.file < files → AreItemsWithin files (plain_items items) → OnRefusal result (IsNameable files) }
+    ensures reads { OnlyReads F.files F.read_faults F.write_faults folder.old folder.new (IsReadFault result) }
+{
+    match read_items(alloc, folder, paths, items, mark, known) {
+        Ok(items) => Ok(bytes_under(alloc, &items, mark, known, template)?),
+        Err(halt) => Err(halt),
+    }
 }
 
 /// The bytes of items under the fields of a template: those of the row that they fit.
@@ -128,7 +144,7 @@ fn row_fault(fault: LayFault, mark: Mark) -> Fault
     ensures fault { result ≡ row_fault mark (refusal_of fault) }
     ensures nameable { (files : ℕ) → mark.file < files → IsNameable files result }
 {
-    let kept = if fault.number == 211 {
+    let kept = if fault.number == 211 || fault.number == 222 {
         Kept::Nothing
     } else {
         Kept::Number(fault.value)

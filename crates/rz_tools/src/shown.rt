@@ -11,9 +11,10 @@ ghost use Rattle.rz_table.specs.TypeTable.{table_of};
 
 use rz_core::{Bytes, Facts, Moment, NoMemory, Resource, Words};
 use rz_print::{Hidden, uses_hidden};
+use rz_rows::Row;
 use rz_show::{show_resource, show_row};
 use rz_table::TypeTable;
-use rz_types::{Body, Row, Template};
+use rz_types::{Body, Template};
 use rz_unlay::{Reading, read};
 use std::alloc::Global;
 

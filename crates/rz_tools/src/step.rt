@@ -114,15 +114,20 @@ fn step_at<F: Folder>(
     let mark = tokens.at(span.start).mark;
     match parse(alloc, tokens, span) {
         Ok(Stmt::Empty) => Ok(()),
-        Ok(Stmt::Raw(raw)) => halted(put_raw(alloc, &raw, mark, setting, &mut work.resources)),
-        Ok(Stmt::Compile(stmt)) => halted(put_compiled(
+        Ok(Stmt::Raw(raw)) => {
+            let resources = &mut work.resources;
+            put_raw(alloc, folder, paths, raw, mark, setting, resources)
+        }
+        Ok(Stmt::Compile(stmt)) => put_compiled(
             alloc,
-            &stmt,
+            folder,
+            paths,
+            stmt,
             mark,
             setting,
             &work.types,
             &mut work.resources,
-        )),
+        ),
         Ok(Stmt::List(stmt)) => change_list(
             alloc,
             folder,
@@ -170,72 +175,88 @@ fn change_list<F: Folder>(
     }
 }
 
-/// What a `data` statement on this line does. For DeRez it does nothing.
-fn put_raw(
+/// What a `data` statement on this line does. For DeRez it does nothing, and reads no file.
+fn put_raw<F: Folder>(
     alloc: Global,
-    raw: &RawStmt,
+    folder: &mut F,
+    paths: &FileNames,
+    raw: RawStmt,
     mark: Mark,
     setting: Setting,
     resources: &mut ResSet,
-) -> Result<(), Stop<Fault>>
-    ensures put { Stepped (Changes setting.tool resources.old (λ answer. answer ≡ list_behind setting mark resources.old (raw_of raw.now))) result resources.new }
-    ensures nameable { (files : ℕ) → mark.file < files → OnFault result (IsNameable files) }
+) -> Result<(), Halt>
+    ensures put { IfSome (F.files folder.old) (λ files.
+        Went (Changes setting.tool resources.old (λ answer. answer ≡ list_behind (around setting paths.now files) mark resources.old (raw_of raw))) result resources.new) }
+    ensures nameable { (files : ℕ) → mark.file < files → OnRefusal result (IsNameable files) }
+    ensures reads { OnlyReads F.files F.read_faults F.write_faults folder.old folder.new (IsReadFault result) }
 {
     match setting.tool {
-        Tool::Rez => put_data(alloc, raw, mark, setting, resources),
+        Tool::Rez => put_data(alloc, folder, paths, raw, mark, setting, resources),
         Tool::DeRez => Ok(()),
     }
 }
 
 /// What a `data` statement on this line does for Rez.
-fn put_data(
+fn put_data<F: Folder>(
     alloc: Global,
-    raw: &RawStmt,
+    folder: &mut F,
+    paths: &FileNames,
+    raw: RawStmt,
     mark: Mark,
     setting: Setting,
     resources: &mut ResSet,
-) -> Result<(), Stop<Fault>>
-    ensures put { Stepped (λ answer. answer ≡ list_behind setting mark resources.old (raw_of raw.now)) result resources.new }
-    ensures nameable { (files : ℕ) → mark.file < files → OnFault result (IsNameable files) }
+) -> Result<(), Halt>
+    ensures put { IfSome (F.files folder.old) (λ files.
+        Went (λ answer. answer ≡ list_behind (around setting paths.now files) mark resources.old (raw_of raw)) result resources.new) }
+    ensures nameable { (files : ℕ) → mark.file < files → OnRefusal result (IsNameable files) }
+    ensures reads { OnlyReads F.files F.read_faults F.write_faults folder.old folder.new (IsReadFault result) }
 {
-    match resource_of(alloc, raw, mark, setting) {
-        Ok(resource) => put(resources, resource, setting.over, mark),
-        Err(stop) => Err(stop),
+    match resource_of(alloc, folder, paths, raw, mark, setting) {
+        Ok(resource) => halted(put(resources, resource, setting.over, mark)),
+        Err(halt) => Err(halt),
     }
 }
 
-/// What a `resource` statement on this line does. For DeRez it does nothing.
-fn put_compiled(
+/// What a `resource` statement on this line does. For DeRez it does nothing, and reads no file.
+fn put_compiled<F: Folder>(
     alloc: Global,
-    stmt: &CompileStmt,
+    folder: &mut F,
+    paths: &FileNames,
+    stmt: CompileStmt,
     mark: Mark,
     setting: Setting,
     types: &TypeTable,
     resources: &mut ResSet,
-) -> Result<(), Stop<Fault>>
-    ensures put { Stepped (Changes setting.tool resources.old (IsListBehind setting mark (table_of types.now) resources.old (compile_of stmt.now))) result resources.new }
-    ensures nameable { (files : ℕ) → mark.file < files → AreItemsWithin files (plain_items stmt.now.items) → OnFault result (IsNameable files) }
+) -> Result<(), Halt>
+    ensures put { IfSome (F.files folder.old) (λ files.
+        Went (Changes setting.tool resources.old (IsListBehind (around setting paths.now files) mark (table_of types.now) resources.old (compile_of stmt))) result resources.new) }
+    ensures nameable { (files : ℕ) → mark.file < files → AreItemsWithin files (plain_items stmt.items) → OnRefusal result (IsNameable files) }
+    ensures reads { OnlyReads F.files F.read_faults F.write_faults folder.old folder.new (IsReadFault result) }
 {
     match setting.tool {
-        Tool::Rez => put_items(alloc, stmt, mark, setting, types, resources),
+        Tool::Rez => put_items(alloc, folder, paths, stmt, mark, setting, types, resources),
         Tool::DeRez => Ok(()),
     }
 }
 
 /// What a `resource` statement on this line does for Rez.
-fn put_items(
+fn put_items<F: Folder>(
     alloc: Global,
-    stmt: &CompileStmt,
+    folder: &mut F,
+    paths: &FileNames,
+    stmt: CompileStmt,
     mark: Mark,
     setting: Setting,
     types: &TypeTable,
     resources: &mut ResSet,
-) -> Result<(), Stop<Fault>>
-    ensures put { Stepped (IsListBehind setting mark (table_of types.now) resources.old (compile_of stmt.now)) result resources.new }
-    ensures nameable { (files : ℕ) → mark.file < files → AreItemsWithin files (plain_items stmt.now.items) → OnFault result (IsNameable files) }
+) -> Result<(), Halt>
+    ensures put { IfSome (F.files folder.old) (λ files.
+        Went (IsListBehind (around setting paths.now files) mark (table_of types.now) resources.old (compile_of stmt)) result resources.new) }
+    ensures nameable { (files : ℕ) → mark.file < files → AreItemsWithin files (plain_items stmt.items) → OnRefusal result (IsNameable files) }
+    ensures reads { OnlyReads F.files F.read_faults F.write_faults folder.old folder.new (IsReadFault result) }
 {
-    match resource_of_items(alloc, stmt, mark, setting, types) {
-        Ok(resource) => put(resources, resource, setting.over, mark),
-        Err(stop) => Err(stop),
+    match resource_of_items(alloc, folder, paths, stmt, mark, setting, types) {
+        Ok(resource) => halted(put(resources, resource, setting.over, mark)),
+        Err(halt) => Err(halt),
     }
 }

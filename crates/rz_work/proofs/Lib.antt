@@ -5,3 +5,5 @@ pub mod Calls
 pub mod Puts
 pub mod Renamings
 pub mod Asked
+pub mod Turns
+pub mod TextsRead

@@ -11,3 +11,5 @@ pub mod Change
 pub mod Read
 pub mod Include
 pub mod Lists
+pub mod Texts
+pub mod Raw

@@ -16,14 +16,15 @@ use Rattle.rz_declare.specs.Constants as declare
 use Rattle.rz_types.specs.Field.{PlainBody}
 use Rattle.rz_table.specs.Table.{declared_behind, has_place, Declaration}
 use Rattle.rz_table.specs.declared.table.Scope.{Scope}
-use Rattle.rz_work.specs.Data.{resource_of}
+use Rattle.rz_work.specs.Around.{Around}
 use Rattle.rz_work.specs.Put.{list_with}
+use Rattle.rz_work.specs.Raw.{resource_of}
 use Rattle.rz_work.specs.Declare.{redeclared, scope_of, template_of}
 use Rattle.rz_work.specs.declared.setting.Setting.{Setting}
 
 -- the list behind a `data` statement on this line
-abbrev pub list_behind : Setting → Mark → List Resource → Raw → Result (List Resource) Fault
-list_behind setting mark list raw = resource_of setting mark raw >>= list_with mark setting.over list
+abbrev pub list_behind : Around → Mark → List Resource → Raw → Result (List Resource) Fault
+list_behind around mark list raw = resource_of around mark raw >>= list_with mark around.setting.over list
 
 -- What was made so far: the declarations of types, the resources, and what is to be warned of.
 pub record Work : Type 0 where

@@ -1,36 +1,16 @@
-ghost use Rattle.std.specs.Prelude.{◌≡◌, ◌<◌, ℕ, length, IfErr, IfOk};
+ghost use Rattle.std.specs.Prelude.{◌≡◌, ◌<◌, ℕ, IfErr};
 ghost use Rattle.rz_core.specs.Message.{IsNameable};
 ghost use Rattle.rz_core.specs.Stop.{Gives, OnFault};
-ghost use Rattle.rz_data.specs.Raw.{raw_of};
-ghost use Rattle.rz_work.specs.Data.{contents_of, resource_of, short_bytes, with_bytes};
-ghost use Rattle.rz_types.specs.Text.{plain_parts};
+ghost use Rattle.rz_fields.specs.Text.{plain_parts};
+ghost use Rattle.rz_work.specs.Data.{contents_of, short_bytes, with_bytes};
 
-use crate::head::{facts_of, keeps_number};
-use crate::setting::Setting;
+use crate::head::keeps_number;
 use rz_core::{Bytes, Facts, Fault, Mark, Resource, Stop};
-use rz_data::RawStmt;
-use rz_types::{Texts, text_of};
+use rz_fields::{Texts, text_of};
 use std::alloc::Global;
 
 /// The most bytes of a resource.
 const MOST_BYTES: u64 = 16_777_212;
-
-/// The resource of a `data` statement on this line: the values of its head, and then 301 for contents of more than
-/// 16,777,212 bytes. (MPW Rez.)
-pub fn resource_of(
-    alloc: Global,
-    raw: &RawStmt,
-    mark: Mark,
-    setting: Setting,
-) -> Result<Resource, Stop<Fault>>
-    ensures resource { Gives (resource_of setting mark (raw_of raw.now)) result }
-    ensures named { IfOk result (λ resource. length resource.name < 256) }
-    ensures nameable { (files : ℕ) → mark.file < files → OnFault result (IsNameable files) }
-{
-    let known = facts_of(alloc, raw.kind, &raw.head, mark, setting)?;
-    let bytes = contents_of(alloc, &raw.texts, mark, &known)?;
-    Ok(with_bytes(known, bytes))
-}
 
 /// The resource of which this is known, with these contents.
 pub fn with_bytes(known: Facts, bytes: Bytes) -> Resource
@@ -52,8 +32,8 @@ pub fn with_bytes(known: Facts, bytes: Bytes) -> Resource
     }
 }
 
-/// The contents that a text is.
-fn contents_of(
+/// The contents that a text is: 301 for more than 16,777,212 bytes.
+pub fn contents_of(
     alloc: Global,
     texts: &Texts,
     mark: Mark,

@@ -13,10 +13,11 @@ ghost use Rattle.rz_table.specs.TypeTable.{table_of};
 use crate::head::id_of;
 use crate::setting::Setting;
 use crate::work::Work;
+use rz_check::check;
 use rz_core::{Fault, Kept, Mark, OsType, Stop};
 use rz_declare::{Bounds, DeclareStmt, Made};
 use rz_table::{Scope, TypeTable};
-use rz_types::{Template, TypeFault, check};
+use rz_types::{Template, TypeFault};
 use std::alloc::Global;
 
 /// What a `type` statement on this line does. The ids of its scope and then that of the type that it copies are

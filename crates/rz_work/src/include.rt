@@ -61,7 +61,7 @@ pub fn include_resources<F: Folder>(
 }
 
 /// The resources of the file that a statement on this line names.
-fn list_named<F: Folder>(
+pub fn list_named<F: Folder>(
     alloc: Global,
     folder: &mut F,
     paths: &FileNames,

@@ -1,8 +1,10 @@
-//! What single statements do: the values of heads and picks, the resource of a `data` statement, the declaration of a
-//! `type` statement, a resource that is put into the list unless a protected one is in its place, the statements over lists
-//! of resources, and the words that name the tools. Each gives exactly what its definition says, or the first fault.
+//! What single statements do: the values of heads and picks, the files that texts name, the resource of a `data`
+//! statement, the declaration of a `type` statement, a resource that is put into the list unless a protected one is in its
+//! place, the statements over lists of resources, and the words that name the tools. Each gives exactly what its
+//! definition says, or the first fault.
 //! It rests on `rz_core`, `rz_folder`, `rz_lex`, `rz_expr`, `rz_paths`, `rz_pre`, `rz_fields`, `rz_types`, `rz_table`,
-//! `rz_data`, `rz_declare`, `rz_lists`, `rz_fork`, `rz_files`, `rz_set` and `rz_answer`, of which it needs warnings.
+//! `rz_check`, `rz_data`, `rz_declare`, `rz_lists`, `rz_fork`, `rz_files`, `rz_set` and `rz_answer`, of which it needs
+//! warnings.
 //! `step` of `rz_tools` calls it, one statement after the other.
 //! A new part of a head changes `head` and `renaming`; what holds for all statements `Setting`; a new warning is one more
 //! place that adds to `warnings` of `Work`; a new statement over lists is one more arm of `lists`.
@@ -16,17 +18,21 @@ mod include;
 mod lists;
 mod pick;
 mod putting;
+mod raw;
 mod read;
 mod renaming;
 mod setting;
+mod texts;
 mod tool_words;
 mod work;
 
-pub use data::{resource_of, with_bytes};
+pub use data::with_bytes;
 pub use declare::declare_type;
 pub use head::{facts_of, id_of, keeps_number};
 pub use lists::list_step;
 pub use putting::put;
+pub use raw::resource_of;
 pub use setting::Setting;
+pub use texts::read_texts;
 pub use tool_words::number_tool_words;
 pub use work::Work;

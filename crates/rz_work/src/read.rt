@@ -132,6 +132,16 @@ pub fn file_named<F: Folder>(
     read_file(alloc, folder, &names, mark, name)
 }
 
+/// What a call gives that reads no files, as that of one that does.
+pub fn bytes_halted(given: Result<Bytes, Stop<Fault>>) -> Result<Bytes, Halt>
+    ensures { result ≡ halted given }
+{
+    match given {
+        Ok(bytes) => Ok(bytes),
+        Err(stop) => Err(Halt::from(stop)),
+    }
+}
+
 /// The end of a call that reads no files, as that of one that does.
 pub fn halted(ended: Result<(), Stop<Fault>>) -> Result<(), Halt>
     ensures { result ≡ halted ended }

@@ -1,14 +1,17 @@
 use Rattle.std.proofs.Common.{◌≡◌}
-use Rattle.rz_stmt.specs.Raw.{raw_of}
+use Rattle.rz_data.specs.Raw.{raw_of}
+use Rattle.rz_work.specs.Around.{around}
 use Rattle.rz_work.specs.Work.{list_behind}
-use Rattle.rz_tools.proofs.Stepping.{derez_changes, rez_changes}
+use Rattle.rz_tools.proofs.Stepping.{derez_went, rez_went}
 use Rattle.rz_tools.proofs.step.put_raw.Goals as goal
 
 pub returns-in-Rez-clause-put : goal.returns-in-Rez-clause-put
-returns-in-Rez-clause-put c =
-    rez_changes c.args.setting.tool c.args.resources.now (λ answer. answer ≡ list_behind c.args.setting c.args.mark c.args.resources.now (raw_of c.args.raw.now))
+returns-in-Rez-clause-put g c =
+    rez_went (g.F.Folder.files c.args.folder.now) c.args.setting.tool c.args.resources.now
+    (λ files answer. answer ≡ list_behind (around c.args.setting c.args.paths.now files) c.args.mark c.args.resources.now (raw_of c.args.raw))
     c.put_data.result c.put_data.new.resources c.in-Rez.is c.put_data.ensures.put
 
 pub returns-in-DeRez-clause-put : goal.returns-in-DeRez-clause-put
-returns-in-DeRez-clause-put c =
-    derez_changes c.args.setting.tool c.args.resources.now (λ answer. answer ≡ list_behind c.args.setting c.args.mark c.args.resources.now (raw_of c.args.raw.now)) c.in-DeRez.is
+returns-in-DeRez-clause-put g c =
+    derez_went (g.F.Folder.files c.args.folder.now) c.args.setting.tool c.args.resources.now
+    (λ files answer. answer ≡ list_behind (around c.args.setting c.args.paths.now files) c.args.mark c.args.resources.now (raw_of c.args.raw)) c.in-DeRez.is
