@@ -5,11 +5,11 @@ usage: bench/lists.py [PROGRAM [SEED]]
 
 Files are made from the seed in a folder of their own, which is removed at the end, each in two sizes, of which the second
 is four times the first: forks of many resources, which are included, changed and begun with; a file that is read as one
-resource; and a fork of one file in BinHex and MacBinary, written by `bridge` and read again. Each run is done five times;
-printed are the median of the seconds, the peak memory, both for each byte that is read and written, and how much of both
-the second size takes in place of the first. What is written is compared, byte by byte, with what is made here; of the
-forms what is read again. The status is 1 where something differs, or where the second size takes more than five times
-the time or the memory of the first.
+resource, and one that a string names; and a fork of one file in BinHex and MacBinary, written by `bridge` and read
+again. Each run is done five times; printed are the median of the seconds, the peak memory, both for each byte that is
+read and written, and how much of both the second size takes in place of the first. What is written is compared, byte by
+byte, with what is made here; of the forms what is read again. The status is 1 where something differs, or where the
+second size takes more than five times the time or the memory of the first.
 """
 import os
 import random
@@ -59,6 +59,14 @@ def read(rng, size):
     return {"big": content, "one.r": b"read 'Big ' (0) \"big\";\n"}, ["rez", "one.r", "-o", "made"], "made", fork, 2 * size
 
 
+def named(rng, size):
+    """A file of so many bytes is named by a string, between two formats."""
+    content = rng.randbytes(size)
+    source = b"data 'Big ' (0) { $$Format(\"%d\", 1) $$Read(\"big\") $$Format(\"%s\", \"end\") };\n"
+    fork = fork_of([(b"Big ", 0, b"", 0, b"1" + content + b"end")])
+    return {"big": content, "one.r": source}, ["rez", "one.r", "-o", "made"], "made", fork, 2 * size
+
+
 def measures(program, rng, make, count):
     folder = tempfile.mkdtemp(prefix="rezkit-bench-")
     try:
@@ -94,7 +102,8 @@ def main():
     print("%-10s %9s %-5s %10s %8s %7s %8s %7s %10s" % ("kind", "count", "way", "bytes", "seconds", "MB/s", "peak MB", "/byte", "growth"))
     good = True
     kinds = [("included", measures, included, (675, 2_700)), ("renamed", measures, renamed, (675, 2_700)),
-             ("begun", measures, begun, (675, 2_700)), ("read", measures, read, (4_000_000, 16_000_000))]
+             ("begun", measures, begun, (675, 2_700)), ("read", measures, read, (4_000_000, 16_000_000)),
+             ("named", measures, named, (4_000_000, 16_000_000))]
     kinds += [(form, bridges, form, (4_000_000, 16_000_000)) for form in ("macbin", "hqx", "double")]
     for kind, measure, make, counts in kinds:
         before = {}
