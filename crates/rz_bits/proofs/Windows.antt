@@ -1,14 +1,14 @@
 -- Numbers and bytes at places among the bits of bytes.
-use Rattle.std.proofs.Common.{◌≡◌, ℕ, zero, suc, ◌+◌, ◌-◌, ◌*◌, ◌/◌, ◌%◌, ◌^◌, ◌<◌, ◌≤◌, ◌==◌, Bool, true, false, List, [], ◌∷◌, ◌++◌, length, take, drop, get_or, Option, Some, None, refl, sym, ap, subst, ◌∙◌, arith}
+use Rattle.std.proofs.Common.{◌≡◌, ℕ, zero, suc, ◌+◌, ◌-◌, ◌*◌, ◌/◌, ◌%◌, ◌^◌, ◌<◌, ◌≤◌, ◌==◌, Bool, true, false, List, [], ◌∷◌, ◌++◌, length, take, drop, get_or, Some, None, refl, sym, ap, subst, ◌∙◌, arith}
 use Rattle.std.specs.Prelude.{nat_le, if◌then◌else◌, option_map}
 use Rattle.std.proofs.lemmas.Bool.Decides.{nat_tests}
-use Rattle.std.proofs.lemmas.List.{append_assoc, length-append, length-take-le, length-drop, take_at, drop_at, take-append-drop, take-append-le, drop-append-le, drop-drop, drop-take, take-take, take_all, take_more}
+use Rattle.std.proofs.lemmas.List.{append_assoc, length-append, length-take-le, length-drop, take_at, drop_at, take-append-drop, take-append-le, drop-append-le, drop-drop, drop-take, take-take, take_more}
 use Rattle.std.proofs.lemmas.Nat.{pow-add, pow_pos, mul-add-lt, one_shl}
-use Rattle.std.proofs.Math.Nat.{mod-lt, mul-pos}
+use Rattle.std.proofs.Math.Nat.{mul-pos}
 use Rattle.std.proofs.Math.Pow.{pow_mono}
 use Rattle.std.proofs.Math.Seq.{take-add}
 use Rattle.rz_bits.specs.Bits.{bits_of, bytes_of, digit, front_bytes, number_bits, number_of}
-use Rattle.rz_bits.specs.View.{bits_at, bytes_at, number_at}
+use Rattle.rz_bits.specs.View.{bytes_at, number_at}
 use Rattle.rz_bits.proofs.Numbers.{length-number_bits, number_bits-add, number_bits-low, number_of-number_bits}
 use Rattle.rz_bits.proofs.Bytes.{bits_of-append, length-bits_of}
 

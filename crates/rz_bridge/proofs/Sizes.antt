@@ -1,8 +1,7 @@
 -- The lengths of the parts of a MacBinary.
-use Rattle.std.proofs.Common.{◌≡◌, ℕ, ◌+◌, ◌-◌, ◌*◌, ◌/◌, ◌%◌, ◌≤◌, if◌then◌else◌, List, [], ◌∷◌, ◌++◌, length, replicate, refl, ap, ◌∙◌, arith, length-append}
+use Rattle.std.proofs.Common.{◌≡◌, ℕ, ◌+◌, ◌-◌, ◌≤◌, List, length, replicate, arith, length-append}
 use Rattle.std.proofs.lemmas.List.{length-replicate}
-use Rattle.std.specs.Int.{cast_unsigned, w16}
-use Rattle.rz_core.specs.Numbers.{be, length-be_2, length-be_4}
+use Rattle.rz_core.specs.Numbers.{length-be_2, length-be_4}
 use Rattle.rz_bridge.specs.Places.{filled, with_filler}
 use Rattle.rz_bridge.specs.MacBinary.{macbin_names, macbin_place, macbin_lengths, macbin_versions, macbin_header}
 use Rattle.rz_bridge.specs.declared.file.MacFile.{MacFile}

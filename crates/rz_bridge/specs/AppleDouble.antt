@@ -1,6 +1,6 @@
 -- The form AppleDouble: the rules of a header file, what its entries say, and the one header file that is written.
 -- (RFC 1740.)
-use Rattle.std.specs.Prelude.{ℕ, false, ◌+◌, ◌*◌, ◌==◌, ◌&&◌, ◌||◌, not, nat_lt, Bool, if◌then◌else◌, List, [], ◌∷◌, ◌++◌, length, map, take, replicate}
+use Rattle.std.specs.Prelude.{ℕ, false, ◌+◌, ◌*◌, ◌==◌, ◌&&◌, ◌||◌, not, nat_lt, if◌then◌else◌, List, [], ◌∷◌, ◌++◌, length, map, take, replicate}
 use Rattle.std.specs.Int.{cast_unsigned, w16}
 use Rattle.std.specs.List.{find, flat_map}
 use Rattle.std.specs.declared.option.Option.{Option}

@@ -1,11 +1,10 @@
 -- The faults of AppleDouble and MacBinary, and what the writers refuse.
-use Rattle.std.specs.Prelude.{◌≡◌, true, ℕ, pos, ◌<◌, ◌||◌, nat_lt, Bool, if◌then◌else◌, List, [], ◌∷◌, length}
+use Rattle.std.specs.Prelude.{◌≡◌, true, ℕ, pos, ◌||◌, nat_lt, Bool, if◌then◌else◌, List, [], ◌∷◌, length}
 use Rattle.std.specs.declared.option.Option.{Option}
 use Rattle.std.specs.declared.option.Option.TheVariants.{Some, None}
 use Rattle.rz_core.specs.Lists.{first_of}
 use Rattle.rz_core.specs.Message.{is_fault}
 use Rattle.rz_core.specs.Numbers.{kept_length}
-use Rattle.rz_core.specs.declared.fault.Kept.{Kept}
 use Rattle.rz_core.specs.declared.fault.Kept.TheVariants as kept
 use Rattle.rz_bridge.specs.declared.fault.BridgeFault.{BridgeFault}
 use Rattle.rz_bridge.specs.declared.file.MacFile.{MacFile}

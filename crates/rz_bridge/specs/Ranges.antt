@@ -1,5 +1,5 @@
 -- The numbers of a file as the code holds them.
-use Rattle.std.specs.Prelude.{◌≡◌, ℕ, ◌^◌, ◌<◌, length, FitsSigned}
+use Rattle.std.specs.Prelude.{◌≡◌, ◌^◌, ◌<◌, length, FitsSigned}
 use Rattle.std.specs.Int.{w16}
 use Rattle.rz_bridge.specs.declared.file.Finder.{Finder}
 use Rattle.rz_bridge.specs.declared.file.MacFile.{MacFile}

@@ -3,7 +3,7 @@ use Rattle.std.specs.Prelude.{ℕ, ◌+◌, ◌-◌, ◌/◌, ◌%◌, ◌^◌, 
 use Rattle.std.specs.Str.{bytes_eq}
 use Rattle.rz_expr.specs.declared.words.FactWord.{FactWord}
 use Rattle.rz_expr.specs.declared.words.FactWord.TheVariants.{Id, Kind, Attributes, Year, Month, Day, Hour, Minute, Second, Weekday}
-use Rattle.rz_expr.specs.Environment.{Environment, Key, count_of, place_of, Sight}
+use Rattle.rz_expr.specs.Environment.{Key, count_of, place_of, Sight}
 
 -- the values of names in lower case
 abbrev pub place_of_name : List ℕ → Option ℤ

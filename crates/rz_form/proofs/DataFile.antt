@@ -1,8 +1,6 @@
 -- The name of a data file, from the parts of a path.
-use Rattle.std.proofs.Common.{◌≡◌, ◌≢◌, ℕ, ◌+◌, ◌<◌, ◌≤◌, List, [], ◌∷◌, ◌++◌, length, take, drop, get_or, MatchOption, Some, None, Ok, Err, IfOk, refl, sym, ap, subst, ◌∙◌, inl, inr, arith, take-append-drop, append_assoc, length-append, ◌⊎◌}
+use Rattle.std.proofs.Common.{◌≡◌, ◌≢◌, ℕ, ◌+◌, ◌<◌, ◌≤◌, List, [], ◌∷◌, ◌++◌, length, take, drop, get_or, Some, None, Ok, Err, IfOk, refl, sym, ap, subst, ◌∙◌, inl, inr, arith, take-append-drop, append_assoc, length-append, ◌⊎◌}
 use Rattle.std.specs.Prelude.{codes}
-use Rattle.std.specs.Borrow.{Bor}
-use Rattle.std.specs.declared.option.Option.{Option}
 use Rattle.std.specs.declared.result.Result.{Result}
 use Rattle.std.specs.Str.Pattern.{RFindsChar}
 use Rattle.std.proofs.lemmas.Str.Pattern.{NoCharPasses-char, drop_at_char}

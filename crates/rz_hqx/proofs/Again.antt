@@ -7,7 +7,7 @@ use Rattle.rz_bridge.specs.declared.file.MacFile.{MacFile}
 use Rattle.rz_hqx.specs.BinHex.{decoded_content, hqx_bytes, hqx_content, hqx_carried}
 use Rattle.rz_hqx.specs.Letters.{sixes, eights}
 use Rattle.rz_hqx.specs.Runs.{packed, unpacked}
-use Rattle.rz_hqx.specs.Text.{numbers_in, lines_of, text_of}
+use Rattle.rz_hqx.specs.Text.{numbers_in, text_of}
 use Rattle.rz_hqx.proofs.Fielded.{IsWritable, fields_again}
 use Rattle.rz_hqx.proofs.Sixes.{IsByte, eights_again, sixes_small}
 use Rattle.rz_hqx.proofs.Spoken.{body_with, body_is, numbers_read}

@@ -1,11 +1,11 @@
 -- A text that was written is read as its numbers.
-use Rattle.std.proofs.Common.{◌≡◌, ℕ, zero, suc, ◌+◌, ◌-◌, ◌%◌, ◌<◌, ◌≤◌, ◌==◌, ◌&&◌, not, nat_eq, if◌then◌else◌, Bool, true, false, List, [], ◌∷◌, ◌++◌, length, map, Option, Some, None, Ok, Err, Result, refl, sym, ap, subst, ◌∙◌, arith, append_assoc}
+use Rattle.std.proofs.Common.{◌≡◌, ℕ, ◌+◌, ◌-◌, ◌%◌, ◌≤◌, ◌==◌, ◌&&◌, not, nat_eq, if◌then◌else◌, Bool, true, false, List, [], ◌∷◌, ◌++◌, length, map, Option, Ok, Result, refl, sym, ap, ◌∙◌, arith, append_assoc}
 use Rattle.std.proofs.lemmas.List.{append-nil}
 use Rattle.std.specs.List.{AllByRecursion, starts_with}
 use Rattle.rz_bridge.specs.Faults.{fault}
 use Rattle.rz_bridge.specs.declared.fault.BridgeFault.{BridgeFault}
 use Rattle.rz_hqx.specs.Letters.{letter, number_of}
-use Rattle.rz_hqx.specs.Text.{head, is_line_end, is_blank, behind_line, behind_head, body_of, with_number, numbers_behind, numbers_in, gap_at, in_lines, head_line, lines_of}
+use Rattle.rz_hqx.specs.Text.{head, is_line_end, is_blank, behind_line, behind_head, body_of, with_number, numbers_behind, numbers_in, gap_at, in_lines, lines_of}
 use Rattle.rz_hqx.proofs.Sixes.{IsSix, IsLetter, letter_read}
 
 -- a gap passes unread

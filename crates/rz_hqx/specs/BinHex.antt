@@ -1,6 +1,6 @@
 -- The form BinHex 4.0: what the text, its codes and its fields say, the first broken rule, and the one text that is
 -- written. (RFC 1741.)
-use Rattle.std.specs.Prelude.{ℕ, pos, false, ◌+◌, ◌-◌, ◌*◌, ◌^◌, ◌<◌, ◌==◌, ◌||◌, not, nat_lt, if◌then◌else◌, List, [], ◌∷◌, ◌++◌, length, replicate, Option, Ok, Err}
+use Rattle.std.specs.Prelude.{ℕ, pos, false, ◌+◌, ◌-◌, ◌^◌, ◌<◌, ◌==◌, ◌||◌, not, nat_lt, List, [], ◌∷◌, ◌++◌, length, replicate, Option}
 use Rattle.std.specs.declared.result.Result.{Result}
 use Rattle.rz_core.specs.Lists.{first_of, unless_fault}
 use Rattle.rz_core.specs.Numbers.{be}

@@ -11,7 +11,7 @@ use Rattle.std.specs.declared.result.Result.{Result}
 use Rattle.rz_core.specs.declared.fault.Fault.{Fault}
 use Rattle.rz_core.specs.declared.fault.Mark.{Mark}
 use Rattle.rz_lex.specs.Classes.{is_blank, is_hex_digit, is_letter, is_quote, is_word_byte}
-use Rattle.rz_lex.specs.Cover.{after_part, bytes_of, text_of, Parts}
+use Rattle.rz_lex.specs.Cover.{bytes_of, text_of}
 use Rattle.rz_lex.specs.Cover as cover
 use Rattle.rz_lex.specs.Cutting.{after_blanks, Leads}
 use Rattle.rz_lex.specs.Extent.{are_word_bytes, closes, closes_behind, ends_dollar, ends_dollar_word, is_empty, is_lexeme}

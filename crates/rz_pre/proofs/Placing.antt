@@ -4,7 +4,6 @@ use Rattle.std.specs.Prelude.{if◌then◌else◌, option_map}
 use Rattle.std.specs.List.{AllByRecursion}
 use Rattle.std.specs.declared.result.Result.{Result}
 use Rattle.rz_lex.specs.Within.{AreWithin}
-use Rattle.rz_core.specs.Message.{is_between}
 use Rattle.rz_core.specs.Message as message
 use Rattle.rz_core.specs.Stop.{OnFault}
 use Rattle.rz_core.specs.declared.fault.Fault.{Fault}

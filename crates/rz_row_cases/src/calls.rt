@@ -3,12 +3,13 @@ ghost use Rattle.std.specs.Prelude.{◌≡◌};
 use crate::made::{declaration, fields_in, fields_of};
 use crate::rows::{Head, row_read, row_shown, rows_counted};
 use rz_cases::{CaseFault, expanded};
+use rz_check::check;
 use rz_core::{Bytes, Kept, Stop, Word, Words};
 use rz_fields::Field;
 use rz_print::Hidden;
 use rz_stmt::{Bounds, Made};
 use rz_table::{Scope, TypeTable};
-use rz_types::{Template, TypeFault, check};
+use rz_types::{Template, TypeFault};
 use std::alloc::Global;
 use std::test::Fail;
 

@@ -1,7 +1,7 @@
 //! Tests of types and rows: which rules fields break, which declaration is found, what bytes tell under a declaration,
-//! that what is read is compiled to the bytes again, and how it is shown. It rests on `rz_table`, `rz_layout`, `rz_unlay`,
-//! `rz_print`, `rz_show`, crates below them, `rz_stmt` and `rz_cases`, and has no code that ships. It changes with what
-//! these promise.
+//! that what is read is compiled to the bytes again, and how it is shown. It rests on `rz_table`, `rz_check`,
+//! `rz_layout`, `rz_unlay`, `rz_print`, `rz_show`, crates below them, `rz_stmt` and `rz_cases`, and has no code that
+//! ships. It changes with what these promise.
 #![tactic(auto)]
 
 #[cfg(test)]

@@ -5,10 +5,11 @@ ghost use Rattle.rz_lex.specs.Lexeme.{AreLexed};
 ghost use Rattle.rz_types.specs.Field.{plain_body};
 ghost use Rattle.rz_types.specs.Shape.{is_well_shaped};
 
+use rz_check::check;
 use rz_core::{Bytes, Mark};
 use rz_lex::{RawLine, Tokens, cut, tokens_are_lexed};
 use rz_stmt::{DeclareStmt, Made, Span, Stmt, parse};
-use rz_types::{Body, Template, check};
+use rz_types::{Body, Template};
 use std::alloc::Global;
 use std::test::Fail;
 

@@ -1,5 +1,5 @@
 ghost use Rattle.std.specs.Prelude.{IfOk, IfSome};
-ghost use Rattle.rz_types.specs.Row.{IsRow};
+ghost use Rattle.rz_rows.specs.Row.{IsRow};
 ghost use Rattle.rz_types.specs.Template.{template_of};
 
 use crate::made::template_of;
@@ -8,8 +8,9 @@ use rz_cases::CaseFault;
 use rz_core::{Attr, Bytes, Facts, Moment, OsType, Resource, Stop};
 use rz_layout::compile;
 use rz_print::{Hidden, uses_hidden, write_row};
+use rz_rows::{Row, Tree};
 use rz_show::show_row as show_statement;
-use rz_types::{Row, Template, Tree, is_readable};
+use rz_types::{Template, is_readable};
 use rz_unlay::{Reading, read};
 use std::alloc::Global;
 use std::test::Fail;

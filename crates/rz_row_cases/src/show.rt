@@ -1,5 +1,5 @@
 use rz_core::{Bytes, write_decimal, write_quoted};
-use rz_types::{Numbers, Row, Tree};
+use rz_rows::{Numbers, Row, Tree};
 use std::alloc::{AllocFailed, Global};
 use std::test::Fail;
 

@@ -1,5 +1,5 @@
 -- Tokens as pieces and as one store of bytes.
-use Rattle.std.specs.Prelude.{ℕ, zero, ◌+◌, List, [], ◌∷◌, ◌++◌, drop, length, map, take}
+use Rattle.std.specs.Prelude.{ℕ, zero, ◌+◌, List, [], ◌∷◌, ◌++◌, drop, map, take}
 use Rattle.std.specs.List.{AllByRecursion}
 use Rattle.rz_lex.specs.declared.token.Token.{Token}
 use Rattle.rz_tokens.specs.Piece.{held_of, mark_of, piece_of, shape_of, size_of, IsShort}

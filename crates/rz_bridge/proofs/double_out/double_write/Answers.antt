@@ -1,4 +1,4 @@
-use Rattle.std.proofs.Common.{◌≡◌, ◌<◌, ◌^◌, ℕ, List, length, ap, sym, subst, ◌∙◌, arith}
+use Rattle.std.proofs.Common.{◌<◌, ◌^◌, ℕ, List, length, ap, sym, subst, ◌∙◌}
 use Rattle.rz_bridge.specs.AppleDouble.{double_content}
 use Rattle.rz_bridge.proofs.HeaderFile.{double_again, double_short}
 use Rattle.rz_bridge.proofs.double_out.double_write.Goals as goal

@@ -1,4 +1,4 @@
-use Rattle.std.proofs.Common.{◌≡◌, ◌<◌, ◌^◌, ℕ, List, length, ap, sym, subst, ◌∙◌, arith}
+use Rattle.std.proofs.Common.{◌<◌, ◌^◌, ℕ, List, length, ap, sym, subst, ◌∙◌}
 use Rattle.rz_bridge.specs.MacBinary.{macbin_content}
 use Rattle.rz_bridge.proofs.Image.{IsWritable, macbin_again, macbin_short}
 use Rattle.rz_bridge.proofs.macbin_out.macbin_write.Goals as goal

@@ -1,6 +1,6 @@
-use Rattle.std.proofs.Common.{◌≡◌, ◌<◌, ◌^◌, List, ℕ, length, Ok, ap, sym, subst, ◌∙◌}
+use Rattle.std.proofs.Common.{◌<◌, ◌^◌, List, ℕ, length, ap, sym, subst, ◌∙◌}
 use Rattle.std.specs.List.{AllByRecursion}
-use Rattle.rz_hqx.specs.BinHex.{hqx_content, hqx_bytes}
+use Rattle.rz_hqx.specs.BinHex.{hqx_content}
 use Rattle.rz_hqx.specs.Runs.{packed}
 use Rattle.rz_hqx.specs.Text.{text_of}
 use Rattle.rz_hqx.proofs.Again.{hqx_again}

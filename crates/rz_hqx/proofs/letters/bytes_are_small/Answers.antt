@@ -1,4 +1,4 @@
-use Rattle.std.proofs.Common.{ℕ, zero, suc, ◌<◌, List, [], ◌∷◌, get_or, arith}
+use Rattle.std.proofs.Common.{ℕ, suc, ◌<◌, List, [], ◌∷◌, get_or, arith}
 use Rattle.std.specs.List.{AllByRecursion}
 use Rattle.rz_hqx.proofs.letters.bytes_are_small.Goals as goal
 

@@ -1,4 +1,4 @@
-use Rattle.std.proofs.Common.{◌≡◌, ◌≤◌, true, length}
+use Rattle.std.proofs.Common.{◌≡◌, ◌≤◌, length}
 use Rattle.rz_hqx.specs.Text.{behind_line}
 use Rattle.rz_hqx.proofs.text.behind_line.Given as goal
 
