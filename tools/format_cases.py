@@ -243,6 +243,10 @@ def resources():
     fork = image(list_)
     file = [("one.rsrc", fork)]
     rez("resource: by its id", "data 'Test' (2) { $$Resource(\"one.rsrc\", 'Test', 128) };\n", one(b"\1\2", ident=2), files=file)
+    alone = [("one.rsrc", one(b"\1\2", ident=128))]
+    for asked, leaves, err in ((128, one(b"\1\2", ident=2), ""), (129, None, "1: error 218 NoSuchResource: 'Test' 129")):
+        rez("resource: %d of a fork of one" % asked, "data 'Test' (2) { $$Resource(\"one.rsrc\", 'Test', %d) };\n" % asked,
+            leaves, err, files=alone)
     data("resource: by its name", "$$Resource(\"one.rsrc\", 'Test', \"one\")", b"\1\2", files=file)
     data("resource: the first of a name", "$$Resource(\"one.rsrc\", 'Test', \"two\")", b"b", files=file)
     data("resource: a name by a format", "$$Resource(\"one.rsrc\", 'Test', $$Format(\"t%s\", \"wo\"))", b"b", files=file)
