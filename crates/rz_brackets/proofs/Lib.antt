@@ -6,3 +6,4 @@ pub mod Fronts
 pub mod Slices
 pub mod Parts
 pub mod Short
+pub mod EveryBracket

@@ -71,12 +71,12 @@ module _ (divider : Divider) where
 
 -- Some pieces there are.
 
-data FirstSign (divider : Divider) (depth : ℕ) (tokens : List Token) : Type 0 where
+pub data FirstSign (divider : Divider) (depth : ℕ) (tokens : List Token) : Type 0 where
   found : (front behind : List Token) (sign : Token) → tokens ≡ front ++ sign ∷ behind → has_divider divider depth front ≡ false
       → divides_at divider (open_behind_all front depth) sign ≡ true → FirstSign divider depth tokens
   nowhere : has_divider divider depth tokens ≡ false → FirstSign divider depth tokens
 
-first_sign : (divider : Divider) (depth : ℕ) (tokens : List Token) → FirstSign divider depth tokens
+pub first_sign : (divider : Divider) (depth : ℕ) (tokens : List Token) → FirstSign divider depth tokens
 first_sign divider depth [] = nowhere refl
 first_sign divider depth (token ∷ tokens) = by_test (FirstSign divider depth (token ∷ tokens)) (divides_at divider depth token)
     (λ here. found [] tokens token refl refl here)

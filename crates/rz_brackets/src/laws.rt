@@ -1,4 +1,5 @@
-ghost use Rattle.std.specs.Prelude.{◌≡◌, ◌↔◌, true, List};
+ghost use Rattle.std.specs.Prelude.{◌≡◌, ◌↔◌, true, List, Option};
+ghost use Rattle.rz_core.specs.Decided.{Decided};
 ghost use Rattle.rz_lex.specs.declared.token.Token.{Token};
 ghost use Rattle.rz_brackets.specs.Bracket.{IsBracketed};
 ghost use Rattle.rz_brackets.specs.Limit.{is_within_limits, KeepsLimits};
@@ -30,4 +31,11 @@ pub fn pieces_are_cut()
         → IsParted divider tokens parted → IsParted divider tokens other → parted ≡ other }
     ensures within { (bracket : Bracket) (tokens : List Token) (parted other : Parted)
         → IsBracketed bracket tokens parted → IsBracketed bracket tokens other → parted ≡ other }
+{}
+
+/// A law, with nothing to run: of all tokens it is decided what stands before the first such token outside brackets, and
+/// what behind it, and what stands in brackets at their front, and behind them: there is such a thing, or none.
+pub fn partings_are_decided()
+    ensures first { (divider : Divider) (tokens : List Token) → (answer : Option Parted) × Decided (IsParted divider tokens) answer }
+    ensures within { (bracket : Bracket) (tokens : List Token) → (answer : Option Parted) × Decided (IsBracketed bracket tokens) answer }
 {}

@@ -16,7 +16,7 @@ mod span;
 pub use bracket::{Bracket, begins, bracketed};
 pub use cutting::{is_empty_statement, is_end, is_semicolon, one_cutting, open_behind, statements};
 pub use kind::kind_in;
-pub use laws::{all_tokens_are_statements, limits_are_kept, pieces_are_cut};
+pub use laws::{all_tokens_are_statements, limits_are_kept, partings_are_decided, pieces_are_cut};
 pub use limit::is_within_limits;
 pub use pieces::{Divider, Split, pieces_by, split_at};
 pub use span::{Span, Spans};

@@ -9,3 +9,5 @@ pub mod Shaped
 pub mod Bodies
 pub mod Built
 pub mod Plain
+pub mod EveryText
+pub mod EveryData

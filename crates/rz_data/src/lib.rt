@@ -17,6 +17,6 @@ mod texts;
 
 pub use files::{behind_texts, file_in, whole_file};
 pub use head::{AttrPart, AttrParts, HeadExpr, Subject, read_head, read_head_for, read_said};
-pub use laws::{one_data, one_text};
+pub use laws::{data_statements_are_decided, one_data, one_text, texts_are_decided};
 pub use raw::{RawStmt, read_raw};
 pub use texts::{TextCall, begins_text, text_at};

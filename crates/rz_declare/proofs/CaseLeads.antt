@@ -17,7 +17,7 @@ CaseLeads all rest so_far = Leads no_cases with_case AreEachCase all rest so_far
 pub cases_first : (all : List (List Token)) → CaseLeads all all []
 cases_first all = leads_first no_cases with_case AreEachCase all
 
-case_split : (piece : List Token) (pieces : List (List Token)) (cases : CasesForm) → AreEachCase (piece ∷ pieces) cases
+pub case_split : (piece : List Token) (pieces : List (List Token)) (cases : CasesForm) → AreEachCase (piece ∷ pieces) cases
     → (one : CaseForm) × (others : CasesForm) × IsCase piece one × AreEachCase pieces others
 case_split piece pieces cases (case_more same rest front row others begins is are) =
     (record { name = front.name; row = row }, others, (front, row, begins, is, refl), are)

@@ -15,10 +15,10 @@ pub fields_first : (in_case : Bool) (all : List (List Token)) → FieldLeads in_
 fields_first in_case all = leads_first no_fields field_and (AreFields in_case) all
 
 -- behind an empty piece, and behind a field
-skip_split : (in_case : Bool) (pieces : List (List Token)) (body : BodyForm) → AreFields in_case ([] ∷ pieces) body → AreFields in_case pieces body
+pub skip_split : (in_case : Bool) (pieces : List (List Token)) (body : BodyForm) → AreFields in_case ([] ∷ pieces) body → AreFields in_case pieces body
 skip_split in_case pieces body (empty same others all are) = are
 
-field_split : (in_case : Bool) (token : Token) (tokens : List Token) (pieces : List (List Token)) (body : BodyForm) → AreFields in_case ((token ∷ tokens) ∷ pieces) body
+pub field_split : (in_case : Bool) (token : Token) (tokens : List Token) (pieces : List (List Token)) (body : BodyForm) → AreFields in_case ((token ∷ tokens) ∷ pieces) body
     → (field : FieldForm) × (others : BodyForm) × IsField in_case (token ∷ tokens) field × AreFields in_case pieces others
 field_split in_case token tokens pieces body (more same first rest behind field others is are) = (field, others, is, are)
 

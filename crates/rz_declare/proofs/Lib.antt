@@ -12,6 +12,10 @@ pub mod GoOn
 pub mod GoWrong
 pub mod GoBack
 pub mod OneDeclare
+pub mod EveryFlat
+pub mod EveryHead
+pub mod EveryBody
+pub mod EveryDeclare
 pub mod CanSay
 pub mod Bodies
 pub mod ShapedValue

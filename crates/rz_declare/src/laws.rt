@@ -1,4 +1,5 @@
-ghost use Rattle.std.specs.Prelude.{◌≡◌, ◌↔◌, true, Bool, ℤ, List, Err, Ok};
+ghost use Rattle.std.specs.Prelude.{◌≡◌, ◌↔◌, true, Bool, ℤ, List, Err, Ok, Option};
+ghost use Rattle.rz_core.specs.Decided.{Decided};
 ghost use Rattle.rz_core.specs.declared.fault.Fault.{Fault};
 ghost use Rattle.rz_core.specs.declared.fault.Mark.{Mark};
 ghost use Rattle.rz_lex.specs.Lexeme.{AreLexed};
@@ -12,8 +13,10 @@ ghost use Rattle.rz_declare.specs.GoOn.{GoWrong, HaveValues};
 ghost use Rattle.rz_declare.specs.Shaped.{IsShapedMade};
 ghost use Rattle.rz_declare.specs.Values.{values_of};
 
-use rz_brackets::pieces_are_cut;
-use rz_expr::one_expression;
+use rz_brackets::{partings_are_decided, pieces_are_cut};
+use rz_data::texts_are_decided;
+use rz_expr::{expressions_are_decided, one_expression};
+use rz_flat::flat_fields_are_decided;
 
 /// A law, with nothing to run: tokens are one `type` statement at most.
 pub fn one_declare()
@@ -21,6 +24,18 @@ pub fn one_declare()
 {
     one_expression();
     pieces_are_cut();
+}
+
+/// A law, with nothing to run: of all tokens it is decided which `type` statement they are: there is one that they are,
+/// or none.
+pub fn type_statements_are_decided()
+    ensures { (tokens : List Token) → (answer : Option DeclareForm) × Decided (IsDeclare tokens) answer }
+{
+    one_expression();
+    expressions_are_decided();
+    partings_are_decided();
+    texts_are_decided();
+    flat_fields_are_decided();
 }
 
 /// A law, with nothing to run: symbols have these values exactly where there are as many as names; each has its

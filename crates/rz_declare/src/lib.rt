@@ -19,7 +19,9 @@ mod values;
 
 pub use constants::{Bounds, DeclareStmt, Made, value_declare};
 pub use declare::read_declare;
-pub use laws::{declarations_are_shaped, one_declare, symbols_have_values};
+pub use laws::{
+    declarations_are_shaped, one_declare, symbols_have_values, type_statements_are_decided,
+};
 pub use rz_flat::{
     ArrayExpr, CaseExpr, CaseExprs, DeclareExpr, FieldExpr, FieldExprs, MadeExpr, Named, Names,
     NumberExpr, ScopeExpr, Width, words_before_fields,

@@ -13,3 +13,4 @@ pub mod Spelled
 pub mod Nameless
 pub mod ByLength
 pub mod OneTerm
+pub mod EveryExpression

@@ -1,5 +1,6 @@
-ghost use Rattle.std.specs.Prelude.{◌≡◌, ◌↔◌, ℕ, ℤ, Bool, List, Ok, Err, Some, true};
+ghost use Rattle.std.specs.Prelude.{◌≡◌, ◌↔◌, ℕ, ℤ, Bool, List, MatchOption, Ok, Err, Option, Some, true};
 ghost use Rattle.std.specs.Str.{str_eq_ignore_ascii_case};
+ghost use Rattle.rz_core.specs.Decided.{Decided};
 ghost use Rattle.rz_lex.specs.declared.token.Token.{Token};
 ghost use Rattle.rz_expr.specs.declared.attribute.Attribute.{Attribute};
 ghost use Rattle.rz_expr.specs.declared.attribute.AttributeWord.{AttributeWord};
@@ -23,6 +24,17 @@ pub fn one_expression()
         → LongestExpression tokens rest term → LongestExpression tokens left other → (rest ≡ left) × (term ≡ other) }
     ensures not_none { (tokens rest : List Token) (term : Term)
         → LongestExpression tokens rest term → NoExpression tokens → ⊥ }
+{}
+
+/// A law, with nothing to run: of all tokens it is decided which expression they are. A term is the
+/// expression that they are, or none is, and there is one such answer. So it is of the fronts of the tokens: one is
+/// the longest expression that begins them, or none is an expression.
+pub fn expressions_are_decided()
+    ensures some { (tokens : List Token) → (answer : Option Term) × Decided (IsExpression tokens) answer }
+    ensures one { (tokens : List Token) (answer other : Option Term)
+        → Decided (IsExpression tokens) answer → Decided (IsExpression tokens) other → answer ≡ other }
+    ensures longest { (tokens : List Token) → (answer : Option (Term × List Token))
+        × MatchOption answer (NoExpression tokens) (λ found. LongestExpression tokens found.1 found.0) }
 {}
 
 /// A law, with nothing to run: what is a value in one sight is the value in every sight in which all is

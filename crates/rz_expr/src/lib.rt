@@ -26,7 +26,8 @@ pub use env::{Env, predefined};
 pub use expr::{BinaryOp, Expr, UnaryOp};
 pub use keyword::{Keyword, is_keyword, keyword_in, keyword_named, keyword_of, spelling};
 pub use laws::{
-    attribute_words_are_spelled, faults_stay, keywords_are_spelled, one_expression, values_stay,
+    attribute_words_are_spelled, expressions_are_decided, faults_stay, keywords_are_spelled,
+    one_expression, values_stay,
 };
 pub use read::{ReadExpr, read_expr, read_whole};
 pub use value::{EvalFault, Unvalued, eval, signed, value_in};

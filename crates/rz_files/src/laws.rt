@@ -4,8 +4,8 @@ ghost use Rattle.rz_bridge.specs.declared.file.MacFile.{MacFile};
 ghost use Rattle.rz_form.specs.declared.form.Form.{Form};
 ghost use Rattle.rz_files.specs.Names.{Named, TakesName};
 
-use rz_form::one_parting;
-use rz_source::one_text;
+use rz_form::{every_path_is_parted, one_parting};
+use rz_source::{every_source_is_read, one_text};
 
 /// A law, with nothing to run: a file takes one name from a path, or is refused with one fault.
 pub fn one_taken_name()
@@ -21,4 +21,15 @@ pub fn one_named_file()
         → Named form path file one → Named form path file other → one ≡ other }
 {
     one_taken_name();
+}
+
+/// A law, with nothing to run: each path gives a name, or is refused with a fault, and so is each file that is written
+/// to it in a form.
+pub fn every_file_is_named()
+    ensures name { (path : List ℕ) → (answer : Result (List ℕ) Fault) × TakesName path answer }
+    ensures file { (form : Form) (path : List ℕ) (file : MacFile) → (answer : Result MacFile Fault) × Named form path file answer }
+{
+    every_path_is_parted();
+    every_source_is_read();
+    one_text();
 }

@@ -1,5 +1,7 @@
 -- Pieces, one more at a time.
 use Rattle.std.proofs.Common.{◌≡◌, List, [], ◌∷◌, ◌++◌, refl, sym, ap, subst, ◌∙◌}
+use Rattle.std.proofs.Math.Decide.{map_dec}
+use Rattle.rz_core.proofs.EveryCut.{both}
 use Rattle.rz_lex.specs.declared.token.Token.{Token}
 use Rattle.rz_flat.specs.Each.{AreEach}
 
@@ -80,3 +82,15 @@ pub one_each : {X : Type 0} (Is : List Token → X → Type 0) → ((piece : Lis
 one_each Is one [] a b is also = is ∙ sym also
 one_each Is one (piece ∷ pieces) a b is also =
     is.4 ∙ (λ i. one piece is.0 also.0 is.2 also.2 i ∷ one_each Is one pieces is.1 also.1 is.3 also.3 i) ∙ sym also.4
+
+-- and it is decided whether there is one, where it is decided of each piece
+pub are_each : {X : Type 0} (Is : List Token → X → Type 0) → ((piece : List Token) → Dec ((item : X) × Is piece item)) → (pieces : List (List Token))
+    → Dec ((items : List X) × AreEach Is pieces items)
+are_each Is each [] = yes ([], refl)
+are_each {X} Is each (piece ∷ pieces) = map_dec to from (both (each piece) (are_each Is each pieces))
+  where
+    to : ((item : X) × Is piece item) × ((items : List X) × AreEach Is pieces items) → (items : List X) × AreEach Is (piece ∷ pieces) items
+    to (first, others) = (first.0 ∷ others.0, (first.0, others.0, first.1, others.1, refl))
+
+    from : (items : List X) × AreEach Is (piece ∷ pieces) items → ((item : X) × Is piece item) × ((items : List X) × AreEach Is pieces items)
+    from h = ((h.1.0, h.1.2), (h.1.1, h.1.3))

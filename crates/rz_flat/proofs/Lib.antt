@@ -14,3 +14,9 @@ pub mod ShapedNumber
 pub mod ShapedField
 pub mod Level
 pub mod LevelField
+pub mod EveryTerm
+pub mod EveryValue
+pub mod EverySymbol
+pub mod EveryNumber
+pub mod EveryField
+pub mod EveryKey

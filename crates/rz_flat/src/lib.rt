@@ -25,6 +25,6 @@ pub use form::{
     NumberExpr, ScopeExpr, Width,
 };
 pub use key::read_key;
-pub use laws::words_before_fields;
+pub use laws::{flat_fields_are_decided, words_before_fields};
 pub use symbols::name_in;
 pub use value::{is_equals, read_expression};

@@ -28,3 +28,13 @@ pub fn one_data_file()
 pub fn one_parting()
     ensures { (path folder last twin behind : List ℕ) → IsParted path folder last → IsParted path twin behind → (folder ≡ twin) × (last ≡ behind) }
 {}
+
+/// A law, with nothing to run: each path parts into a folder part and a last name.
+pub fn every_path_is_parted()
+    ensures { (path : List ℕ) → (folder last : List ℕ) × IsParted path folder last }
+{}
+
+/// A law, with nothing to run: each header file of AppleDouble has a data file.
+pub fn every_header_has_a_data_file()
+    ensures { (header : List ℕ) → (name : List ℕ) × IsDataFile header name }
+{}

@@ -13,4 +13,7 @@ mod laws;
 pub use content::{read_form, write_form};
 pub use data_file::{data_file_name, last_name};
 pub use form::{Form, form_of};
-pub use laws::{one_data_file, one_parting, written_forms_are_found};
+pub use laws::{
+    every_header_has_a_data_file, every_path_is_parted, one_data_file, one_parting,
+    written_forms_are_found,
+};

@@ -17,7 +17,7 @@ pub leads_first : (all : List (List Token)) → Leads all all []
 leads_first all = record { forth = λ more are. are; back = λ items are. (items, are) }
 
 -- the first piece and the others
-each_split : (piece : List Token) (pieces : List (List Token)) (items : List PlainItem) → AreEach (piece ∷ pieces) items
+pub each_split : (piece : List Token) (pieces : List (List Token)) (items : List PlainItem) → AreEach (piece ∷ pieces) items
     → (one : PlainItem) × (others : List PlainItem) × IsItem piece one × AreEach pieces others
 each_split piece pieces items (one_more same rest one others is each) = (one, others, is, each)
 

@@ -5,3 +5,5 @@ pub mod Each
 pub mod Answering
 pub mod OneCompile
 pub mod Within
+pub mod EveryItem
+pub mod EveryCompile

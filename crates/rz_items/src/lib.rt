@@ -14,4 +14,4 @@ mod simple;
 
 pub use compile::{CompileStmt, read_compile};
 pub use item::{Item, Items};
-pub use laws::{items_are_within, one_compile};
+pub use laws::{items_are_within, one_compile, resource_statements_are_decided};

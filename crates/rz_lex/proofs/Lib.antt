@@ -23,3 +23,5 @@ pub mod Nameable
 pub mod Only
 pub mod Pages
 pub mod Shapes
+pub mod EveryLine
+pub mod EveryLex

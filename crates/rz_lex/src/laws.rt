@@ -10,12 +10,14 @@ ghost use Rattle.rz_lex.specs.Digits.{number_value};
 ghost use Rattle.rz_lex.specs.Extent.{are_word_bytes};
 ghost use Rattle.rz_lex.specs.Hex.{hex_value};
 ghost use Rattle.rz_lex.specs.Joined.{joined};
+ghost use Rattle.rz_lex.specs.Lexed.{Lexes, LexFails};
 ghost use Rattle.rz_lex.specs.Lexeme.{AreLexed};
 ghost use Rattle.rz_lex.specs.Lines.{HasLines};
 ghost use Rattle.rz_lex.specs.Page.{lines_from, page, StandsOnPage};
 ghost use Rattle.rz_lex.specs.Printed.{begins_word, goes_on, is_word, token_of, word_of, AreBytes};
 ghost use Rattle.rz_lex.specs.Sign.{sign_text};
 ghost use Rattle.rz_lex.specs.Spelled.{digits_of, SpellsBytes};
+ghost use Rattle.rz_lex.specs.declared.joined.Placed.{Placed};
 ghost use Rattle.rz_lex.specs.declared.sign.Sign.{Sign};
 ghost use Rattle.rz_lex.specs.declared.token.Shape.TheVariants as shapes;
 ghost use Rattle.rz_lex.specs.declared.token.Token.{Token};
@@ -29,6 +31,18 @@ pub fn one_cut()
         → Refuses mark line fault → Refuses mark line other → fault ≡ other }
     ensures not_both { (mark : Mark) (line : List ℕ) (tokens : List Token) (fault : Fault)
         → Cuts mark line tokens → Refuses mark line fault → ⊥ }
+{}
+
+/// A law, with nothing to run: each line has a list of tokens or a first fault.
+pub fn every_line_is_cut()
+    ensures { (mark : Mark) (line : List ℕ)
+        → ((tokens : List Token) × Cuts mark line tokens) ⊎ ((fault : Fault) × Refuses mark line fault) }
+{}
+
+/// A law, with nothing to run: each text has a list of tokens or a first fault.
+pub fn every_text_is_lexed()
+    ensures { (file : ℕ) (text : List Placed)
+        → ((tokens : List Token) × Lexes file text tokens) ⊎ ((fault : Fault) × LexFails file text fault) }
 {}
 
 /// A law, with nothing to run: the tokens of a line are words of at most 255 bytes, numbers below 2^32,

@@ -1,6 +1,6 @@
 //! Text as the tools read it: the logical lines of a source, and the tokens of a line. `next_line`, `cut` and
 //! `lex` give exactly the lines and the tokens of the definitions, or the first fault. The laws say that there is
-//! one answer at most, and that tokens that are written are cut again as they were.
+//! exactly one answer, and that tokens that are written are cut again as they were.
 //! It rests on `rz_core` and `memchr`.
 //! A new kind of token changes `token` and its definitions, `rz_tokens`, which stores tokens, and
 //! docs/LANGUAGE.md.
@@ -27,7 +27,9 @@ pub use classes::{is_blank, is_digit, is_hex_digit, is_letter, is_quote, is_word
 pub use cover::{one_cover, parts_of_language};
 pub use cutting::cut;
 pub use joined::{Placed, Position};
-pub use laws::{cut_back, lines_of_page, one_cut, tokens_are_lexed};
+pub use laws::{
+    cut_back, every_line_is_cut, every_text_is_lexed, lines_of_page, one_cut, tokens_are_lexed,
+};
 pub use lexed::{lex, one_lex};
 pub use lines::{every_text_has_lines, next_line, one_list_of_lines};
 pub use raw_line::RawLine;

@@ -6,3 +6,5 @@ pub mod Parts
 pub mod Apart
 pub mod One
 pub mod Listed
+pub mod EveryPick
+pub mod EveryList

@@ -1,4 +1,5 @@
-ghost use Rattle.std.specs.Prelude.{◌≡◌, List};
+ghost use Rattle.std.specs.Prelude.{◌≡◌, List, Option};
+ghost use Rattle.rz_core.specs.Decided.{Decided};
 ghost use Rattle.rz_lex.specs.declared.token.Token.{Token};
 ghost use Rattle.rz_lists.specs.Change.{Change, IsChange};
 ghost use Rattle.rz_lists.specs.Delete.{Delete, IsDelete};
@@ -6,7 +7,8 @@ ghost use Rattle.rz_lists.specs.Include.{Include, IsInclude};
 ghost use Rattle.rz_lists.specs.Lists.{word_of, BeginsWith, IsListed, ListForm};
 ghost use Rattle.rz_lists.specs.Read.{IsRead, Read};
 
-use rz_brackets::pieces_are_cut;
+use rz_brackets::{partings_are_decided, pieces_are_cut};
+use rz_data::{data_statements_are_decided, texts_are_decided};
 use rz_expr::{keywords_are_spelled, one_expression};
 
 /// A law, with nothing to run: tokens are one `include` statement at most.
@@ -51,4 +53,15 @@ pub fn one_list()
     one_change();
     one_delete();
     keywords_are_spelled();
+}
+
+/// A law, with nothing to run: of all tokens it is decided which statement over lists of resources they are: there is one
+/// that they are, or none.
+pub fn list_statements_are_decided()
+    ensures { (tokens : List Token) → (answer : Option ListForm) × Decided (IsListed tokens) answer }
+{
+    one_expression();
+    partings_are_decided();
+    texts_are_decided();
+    data_statements_are_decided();
 }

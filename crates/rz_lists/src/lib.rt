@@ -19,7 +19,9 @@ mod renaming;
 pub use change::{ChangeStmt, read_change};
 pub use delete::{DeleteStmt, read_delete};
 pub use include::{IncludePart, IncludeStmt, read_include};
-pub use laws::{one_change, one_delete, one_include, one_list, one_read};
+pub use laws::{
+    list_statements_are_decided, one_change, one_delete, one_include, one_list, one_read,
+};
 pub use lists::{ListStmt, read_list};
 pub use pick::PickExpr;
 pub use read::{ReadStmt, read_read};

@@ -12,5 +12,5 @@ mod matching;
 mod number;
 mod text;
 
-pub use laws::one_match;
+pub use laws::{matched_rows_are_rows, one_match};
 pub use matching::match_items;

@@ -12,6 +12,9 @@ pub mod Asking
 pub mod Computing
 pub mod Numbering
 pub mod OneCondition
+pub mod EveryExpansion
+pub mod EveryCondition
+pub mod EveryAct
 pub mod Going
 pub mod Names
 pub mod OneProgram
@@ -21,5 +24,6 @@ pub mod Chosen
 pub mod Numbers
 pub mod Lexing
 pub mod LastOne
+pub mod EveryProgram
 pub mod Unclosed
 pub mod Freeing

@@ -8,16 +8,17 @@ ghost use Rattle.rz_pre.specs.Groups.{is_group, lines_of, lines_unclosed, waitin
 ghost use Rattle.rz_pre.specs.Live.{live_in, Live, Row};
 ghost use Rattle.rz_lex.specs.declared.raw_line.RawLine.{RawLine};
 ghost use Rattle.rz_core.specs.Answers.{Then};
-ghost use Rattle.rz_pre.specs.Line.{is_kept};
+ghost use Rattle.rz_pre.specs.Line.{is_kept, Does};
+ghost use Rattle.rz_pre.specs.declared.act.Act.{Act};
 ghost use Rattle.rz_pre.specs.declared.conditional.Open.{Open};
 ghost use Rattle.rz_pre.specs.Program.{fails, innermost, open_if, start, Failure, IncludedGoes, LinesGo, ProgramGoes, State};
 ghost use Rattle.rz_pre.specs.Unfolding.{behind_all, outcome, EachActs, Entry, ProgramUnfolds};
 ghost use Rattle.rz_pre.specs.declared.condition.Tool.{Tool};
 ghost use Rattle.rz_pre.specs.declared.program.Def.{Def};
 
-use rz_expr::one_expression;
-use rz_lex::{one_cut, one_list_of_lines};
-use rz_source::one_text;
+use rz_expr::{expressions_are_decided, one_expression};
+use rz_lex::{every_line_is_cut, every_text_has_lines, one_cut, one_list_of_lines};
+use rz_source::{every_source_is_read, one_text};
 
 /// A law, with nothing to run: the named files mean at most one program or one first fault.
 pub fn one_program()
@@ -28,6 +29,18 @@ pub fn one_program()
     one_list_of_lines();
     one_expression();
     one_text();
+}
+
+/// A law, with nothing to run: the named files mean a program or have a first fault, whatever stands in them.
+pub fn every_program_has_an_answer()
+    ensures { (files : Files) (tool : Tool) (names paths : List (List ℕ)) (defs : List Def)
+        → (answer : Result State Failure) × ProgramGoes files tool names paths defs answer }
+{
+    every_line_is_cut();
+    every_text_has_lines();
+    one_expression();
+    expressions_are_decided();
+    every_source_is_read();
 }
 
 /// A law, with nothing to run: what the named files mean is given by one list of entries, in which each line
@@ -57,6 +70,17 @@ pub fn every_token_expands()
     ensures { (rows : List Row) (shape : Shape)
         → (out : List Shape) × (work : ℕ) × Expansion (live_in rows) shape out work }
 {}
+
+/// A law, with nothing to run: whatever macros are held, and whatever conditional stands around it, each line does
+/// something, or has a first fault.
+pub fn every_line_acts()
+    ensures { (rows : List Row) (tool : Tool) (around : Option Open) (line : RawLine)
+        → (answer : Result Act Fault) × Does (live_in rows) tool around line answer }
+{
+    every_line_is_cut();
+    one_expression();
+    expressions_are_decided();
+}
 
 /// A law, with nothing to run: of lines in groups that are read, of each conditional the chosen part is read,
 /// the first one whose test holds, else that of `#else`, and nothing of the others, whatever stands around

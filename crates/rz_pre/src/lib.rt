@@ -21,8 +21,9 @@ mod unfolding;
 
 pub use condition::Tool;
 pub use laws::{
-    chosen_parts, every_token_expands, last_definition, live_names_are_free, one_expansion,
-    one_list_of_entries, one_program, unclosed_conditional,
+    chosen_parts, every_line_acts, every_program_has_an_answer, every_token_expands,
+    last_definition, live_names_are_free, one_expansion, one_list_of_entries, one_program,
+    unclosed_conditional,
 };
 pub use program::{Def, Defs, PreFault, Program};
 pub use unfolding::preprocess;

@@ -1,3 +1,4 @@
 pub mod Turned
 pub mod Shorter
 pub mod Hashes
+pub mod EverySource

@@ -1,4 +1,4 @@
-ghost use Rattle.std.specs.Prelude.{◌≡◌, ◌≢◌, ◌↔◌, ℕ, true, false, List, [], ◌∷◌, ◌++◌, Some};
+ghost use Rattle.std.specs.Prelude.{◌≡◌, ◌≢◌, ◌↔◌, ◌⊎◌, ℕ, true, false, List, [], ◌∷◌, ◌++◌, Some};
 ghost use Rattle.rz_lex.specs.Classes.{AreBlanks, is_blank, is_word_byte};
 ghost use Rattle.rz_lex.specs.Extent.{are_word_bytes};
 ghost use Rattle.rz_lex.specs.Printed.{begins_word};
@@ -11,6 +11,11 @@ pub fn one_text()
     ensures text { (source text other : List ℕ) → IsTextOf source text → IsTextOf source other → text ≡ other }
     ensures fault { (source : List ℕ) (offset other : ℕ) → IsBadAt source offset → IsBadAt source other → offset ≡ other }
     ensures not_both { (source text : List ℕ) (offset : ℕ) → IsTextOf source text → IsBadAt source offset → ⊥ }
+{}
+
+/// A law, with nothing to run: each source has a text, or a first fault.
+pub fn every_source_is_read()
+    ensures { (source : List ℕ) → ((text : List ℕ) × IsTextOf source text) ⊎ ((offset : ℕ) × IsBadAt source offset) }
 {}
 
 /// A law, with nothing to run: a text stands behind the `#` of a line exactly where the line is blanks, `#` and

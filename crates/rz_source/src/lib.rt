@@ -9,5 +9,5 @@ mod laws;
 mod source;
 
 pub use directive::{Directive, directive_in, directive_text, has_parameters};
-pub use laws::{directives_are_lines, one_text};
+pub use laws::{directives_are_lines, every_source_is_read, one_text};
 pub use source::{BadText, to_mac_roman};

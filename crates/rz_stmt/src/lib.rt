@@ -10,7 +10,7 @@ mod grammar;
 mod laws;
 
 pub use grammar::{Stmt, parse};
-pub use laws::one_statement;
+pub use laws::{every_statement_is_parsed, one_statement};
 pub use rz_brackets::{
     Span, Spans, all_tokens_are_statements, limits_are_kept, one_cutting, pieces_are_cut,
     statements,

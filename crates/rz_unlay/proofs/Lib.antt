@@ -26,5 +26,6 @@ pub mod Fitting
 pub mod KeySteps
 pub mod EndSteps
 pub mod Tells
+pub mod EveryRow
 mod Examples
 pub mod SpelledShort

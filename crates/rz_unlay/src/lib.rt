@@ -16,7 +16,7 @@ mod resource;
 mod row;
 mod spelled;
 
-pub use found::{one_plain_row, plain_rows_are_read};
+pub use found::{one_plain_row, plain_rows_are_read, told_rows_are_decided};
 pub use resource::{Reading, read};
 pub use spelled::{
     plain_rows_are_spelled, read_rows_are_plain, spelled_bytes_are_few, spelled_rows_are_rows,

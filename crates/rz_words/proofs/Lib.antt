@@ -7,3 +7,5 @@ pub mod Items
 pub mod Alone
 pub mod Once
 pub mod Lexed
+pub mod EveryValue
+pub mod EveryCommand

@@ -18,7 +18,7 @@ use Rattle.rz_words.specs.declared.name.CommandName.{CommandName}
 use Rattle.rz_words.specs.declared.name.CommandName.TheVariants as names
 use Rattle.rz_form.specs.declared.form.Form.{Form}
 use Rattle.rz_words.specs.Command.{derez_asked, file_item, flag_of, is_file, name_of, rez_asked, switch_item, switch_of, value_item, wanted_by, AreItems, Asked, Begins, Bridge, BridgeAsked, Creator, Define, DeRez, DeRezAsked, File, From, Help, Into, IsBridgeAsked, IsCommand, IsItem, IsMisplaced, IsValue, Item, Kind, On, Only, Rez, RezAsked, Skip, Version, Wanted, Wants}
-use Rattle.rz_words.specs.Definition.{nowhere, Defines, HasNoSign, IsName, IsText, Undefines}
+use Rattle.rz_words.specs.Definition.{nowhere, Defines, IsName, IsText, Undefines}
 use Rattle.rz_words.specs.Kind.{kind_of, IsKind}
 use Rattle.rz_words.specs.declared.flag.Flag.{Flag}
 use Rattle.rz_words.specs.declared.flag.Flag.TheVariants as flags
@@ -27,7 +27,7 @@ use Rattle.rz_words.specs.Definition.Defines.{alone, with_text}
 use Rattle.rz_words.specs.Item.{asked, Answers, AreRead}
 use Rattle.rz_words.specs.declared.command.Command.{Command}
 use Rattle.rz_words.specs.declared.read.UsageFault.{UsageFault}
-use Rattle.rz_words.proofs.Splits.{has_sign}
+use Rattle.rz_words.proofs.Splits.{has_sign, one_split}
 use Rattle.rz_words.proofs.Found.{differ}
 use Rattle.rz_words.proofs.Words.{head, same_front, shape_of, some, switch_no_file, tail, Words}
 
@@ -40,21 +40,6 @@ module _ (one_text : (source text others : List ℕ) → IsTextOf source text �
   same_text : (text : List ℕ) (tokens others : List Token) → IsText text tokens → IsText text others → tokens ≡ others
   same_text text tokens others is too =
       one_cut nowhere too.bytes tokens others (subst (λ (b : List ℕ). Cuts nowhere b tokens) (one_text (mark ++ text) is.bytes too.bytes is.roman too.roman) is.cut) too.cut
-
-  no_sign_ahead : (b : ℕ) (name text rest : List ℕ) → 61 ∷ text ≡ b ∷ rest → HasNoSign (b ∷ name) → ⊥
-  no_sign_ahead b name text rest is lacks = lacks 0 (omega arith) (cc is)
-
-  behind_first : (b : ℕ) (name : List ℕ) → HasNoSign (b ∷ name) → HasNoSign name
-  behind_first b name lacks i within = lacks (suc i) (omega (arith, within))
-
-  one_split : (name other text behind : List ℕ) → HasNoSign name → HasNoSign other → name ++ 61 ∷ text ≡ other ++ 61 ∷ behind → (name ≡ other) × (text ≡ behind)
-  one_split [] [] text behind lacks lacks_too is = (refl, cc is)
-  one_split [] (b ∷ other) text behind lacks lacks_too is = absurd (no_sign_ahead b other text (other ++ 61 ∷ behind) is lacks_too)
-  one_split (a ∷ name) [] text behind lacks lacks_too is = absurd (no_sign_ahead a name behind (name ++ 61 ∷ text) (sym is) lacks)
-  one_split (a ∷ name) (b ∷ other) text behind lacks lacks_too is =
-      let rest = one_split name other text behind (behind_first a name lacks) (behind_first b other lacks_too) (cc is) in
-      let first : a ≡ b = cc is in
-      ((λ i. first i ∷ rest.0 i), rest.1)
 
   same_define : (value : List ℕ) (def also : Def) → Defines value def → Defines value also → def ≡ also
   same_define value def also (alone lacks it) (alone lacks_too it_too) =

@@ -1,5 +1,5 @@
 -- Where a definition is split.
-use Rattle.std.proofs.Common.{◌≡◌, ℕ, List, [], ◌∷◌, ◌++◌, length, get_or, Some, None, refl, sym, ap, subst, ◌∙◌, arith, length-append}
+use Rattle.std.proofs.Common.{◌≡◌, ℕ, suc, List, [], ◌∷◌, ◌++◌, length, get_or, Some, None, refl, sym, ap, subst, ◌∙◌, arith, length-append}
 use Rattle.std.specs.Borrow.{Bor}
 use Rattle.std.specs.Prelude.{Option, MatchOption}
 use Rattle.std.proofs.lemmas.Str.Pattern.{split_after, split_parts, IsSplitOnceResult}
@@ -16,6 +16,22 @@ pub has_sign : (value front behind : List ℕ) → value ≡ front ++ 61 ∷ beh
 has_sign value front behind is lacks =
     lacks (length front) (omega (arith, ap (λ (bs : List ℕ). length bs) is, length-append front (61 ∷ behind)))
     (ap (λ (bs : List ℕ). get_or bs (length front) 0) is ∙ at_end front behind 61)
+
+-- bytes are split at their first `=` in one way
+no_sign_ahead : (b : ℕ) (name text rest : List ℕ) → 61 ∷ text ≡ b ∷ rest → HasNoSign (b ∷ name) → ⊥
+no_sign_ahead b name text rest is lacks = lacks 0 (omega arith) (cc is)
+
+behind_first : (b : ℕ) (name : List ℕ) → HasNoSign (b ∷ name) → HasNoSign name
+behind_first b name lacks i within = lacks (suc i) (omega (arith, within))
+
+pub one_split : (name other text behind : List ℕ) → HasNoSign name → HasNoSign other → name ++ 61 ∷ text ≡ other ++ 61 ∷ behind → (name ≡ other) × (text ≡ behind)
+one_split [] [] text behind lacks lacks_too is = (refl, cc is)
+one_split [] (b ∷ other) text behind lacks lacks_too is = absurd (no_sign_ahead b other text (other ++ 61 ∷ behind) is lacks_too)
+one_split (a ∷ name) [] text behind lacks lacks_too is = absurd (no_sign_ahead a name behind (name ++ 61 ∷ text) (sym is) lacks)
+one_split (a ∷ name) (b ∷ other) text behind lacks lacks_too is =
+    let rest = one_split name other text behind (behind_first a name lacks) (behind_first b other lacks_too) (cc is) in
+    let first : a ≡ b = cc is in
+    ((λ i. first i ∷ rest.0 i), rest.1)
 
 module _ (value : List ℕ) (result : Option (Bor (List ℕ) × Bor (List ℕ))) (splits : IsSplitOnceResult 61 value result) where
   -- it is split into these

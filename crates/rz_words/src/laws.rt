@@ -1,10 +1,10 @@
-ghost use Rattle.std.specs.Prelude.{◌≡◌, ℕ, List};
+ghost use Rattle.std.specs.Prelude.{◌≡◌, ◌⊎◌, ℕ, List};
 ghost use Rattle.rz_pre.specs.Lexed.{HaveLexedTexts};
 ghost use Rattle.rz_words.specs.Definition.{AreFree};
 ghost use Rattle.rz_words.specs.Command.{Asked, DeRez, DeRezAsked, IsCommand, IsMisplaced, Rez, RezAsked};
 
-use rz_lex::{one_cut, tokens_are_lexed};
-use rz_source::one_text;
+use rz_lex::{cut_back, every_line_is_cut, one_cut, tokens_are_lexed};
+use rz_source::{every_source_is_read, one_text};
 
 /// A law, with nothing to run: words are one command at most, and where they are none, one position at most is
 /// one past their longest front that begins a command.
@@ -15,6 +15,18 @@ pub fn one_command()
 {
     one_cut();
     one_text();
+}
+
+/// A law, with nothing to run: all words are a command, or some position is one past their longest front that
+/// begins one.
+pub fn every_list_of_words_is_read()
+    ensures { (words : List (List ℕ)) → ((asked : Asked) × IsCommand words asked) ⊎ ((position : ℕ) × IsMisplaced words position) }
+{
+    one_text();
+    every_source_is_read();
+    one_cut();
+    every_line_is_cut();
+    cut_back();
 }
 
 /// A law, with nothing to run: what the words of a command define as texts are tokens that lines can be cut into.

@@ -19,5 +19,7 @@ mod roman;
 mod wanted;
 
 pub use command::{BridgeWords, Command, DeRezWords, Kinds, RezWords};
-pub use laws::{definitions_are_free, definitions_are_lexed, one_command};
+pub use laws::{
+    definitions_are_free, definitions_are_lexed, every_list_of_words_is_read, one_command,
+};
 pub use read::{UsageFault, read_words};
