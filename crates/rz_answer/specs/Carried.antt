@@ -59,3 +59,18 @@ abbrev pub IsAnswered : Outcome → Type 0
 IsAnswered ReadFault = ⊥
 IsAnswered NoMemory = ⊥
 IsAnswered other = Unit {0}
+
+-- A run that met neither want of memory nor a fault of files.
+
+abbrev pub IsUnhindered : Outcome → Type 0
+IsUnhindered Done = Unit {0}
+IsUnhindered (Usage fault) = Unit {0}
+IsUnhindered (Refused fault) = Unit {0}
+IsUnhindered other = ⊥
+
+-- it ends exactly with its answer: with this outcome, these files written and no others changed, and these texts
+pub record EndsWith (answer : Answer) (before after : World) (result : Outcome) : Type 0 where
+  pub outcome : result ≡ answer.outcome
+  pub files : IfSome before.files (λ files. after.files ≡ Some (files_after answer.writes files))
+  pub out : IfSome before.out (λ out. after.out ≡ Some (out ++ answer.out))
+  pub err : Says answer.err before.err after.err before.err_faults after.err_faults

@@ -21,8 +21,8 @@ use Rattle.rz_types.specs.Field.{PlainBody}
 use Rattle.rz_table.specs.Table.{found, Declaration}
 use Rattle.rz_answer.specs.Answer.{or_refused, written}
 use Rattle.rz_tools.specs.Program.{command, Answers}
-use Rattle.rz_tools.specs.Base.{base_in, base_of, new_base, or_empty}
-use Rattle.rz_tools.specs.Output.{IsOutput}
+use Rattle.rz_output.specs.Base.{base_in, base_of, new_base, or_empty}
+use Rattle.rz_output.specs.Output.{IsOutput}
 use Rattle.rz_tools.specs.Rez.{around_of, BeginsWith, Compiles}
 use Rattle.rz_tools.specs.Sources.{compiled}
 use Rattle.rz_answer.specs.Warning.{said_beside}

@@ -14,7 +14,7 @@ use Rattle.rz_pre.specs.Program.{State}
 use Rattle.rz_pre.specs.Reading.{IsProgram}
 use Rattle.rz_pre.specs.declared.program.Program.{Program}
 use Rattle.rz_words.specs.Command.{RezAsked}
-use Rattle.rz_tools.specs.Base.{base_of, Base}
+use Rattle.rz_output.specs.Base.{base_of, Base}
 use Rattle.rz_tools.specs.Rez.{around_of, BeginsWith, HasOutput, IsMadeBehind, IsMadeOf}
 use Rattle.rz_tools.specs.Sources.{Compiled, HasWork}
 use Rattle.rz_tools.proofs.Sourced.{made_so, stops_so}

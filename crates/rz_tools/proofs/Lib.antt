@@ -1,7 +1,5 @@
-pub mod Limits
 pub mod OneAnswer
 pub mod Sourced
-pub mod Beginning
 pub mod Compiling
 pub mod Stepping
 pub mod Resources
@@ -11,7 +9,6 @@ pub mod PutOut
 pub mod Values
 pub mod Again
 pub mod Planned
-pub mod Bridging
 pub mod Lists
 pub mod Typing
 pub mod Showing
@@ -21,3 +18,8 @@ pub mod Reserved
 pub mod CompiledAgain
 pub mod Spared
 pub mod Rows
+pub mod EveryResource
+pub mod EveryMeaning
+pub mod EveryText
+pub mod EveryAnswer
+pub mod Complete

@@ -28,9 +28,9 @@ use Rattle.rz_form.specs.declared.form.Form.TheVariants as forms
 use Rattle.rz_fork.specs.Contents.{Fork}
 use Rattle.rz_tools.specs.Chosen.{chosen}
 use Rattle.rz_tools.specs.DeRez.{derez_around, known_by, HasFileText, HasForkText, HasText, Shows, ShowsEach, TypesAre}
-use Rattle.rz_tools.specs.Base.{attributes_asked, base_of, or_empty, Base}
-use Rattle.rz_tools.specs.Bridge.{bridged, one as one_write, two as two_writes, AreWrites, Bridges, HasBeside, IsRead, IsWrittenAs}
-use Rattle.rz_tools.specs.Output.{file_of, form_asked, list_fork, IsFileOf, IsOutput}
+use Rattle.rz_output.specs.Base.{attributes_asked, base_of, or_empty, Base}
+use Rattle.rz_output.specs.Bridge.{bridged, one as one_write, two as two_writes, AreWrites, Bridges, HasBeside, IsRead, IsWrittenAs}
+use Rattle.rz_output.specs.Output.{file_of, form_asked, list_fork, IsFileOf, IsOutput}
 use Rattle.rz_tools.specs.Rez.{around_of, BeginsWith, Compiles, HasOutput, IsMadeBehind, IsMadeOf}
 use Rattle.rz_tools.specs.Shown.{facts_of, its_bytes, its_row, IsShownBy, Known, Shown, TellsRow}
 use Rattle.rz_show.specs.Showing.{by_row, showing_text, Showing}

@@ -30,19 +30,7 @@ use Rattle.rz_rows.specs.Laid.{Refusal}
 use Rattle.rz_types.specs.Field.{PlainBody}
 use Rattle.rz_table.specs.Table.{Declaration}
 
--- One call behind another.
-
-module _ {X Y F : Type 0} (first : Result X F → Type 0) (next : X → Result Y F → Type 0) where
-  pub then_meets : (x : X) → first (Ok x) → (result : Result Y (Stop F)) → Meets result (next x) → Meets result (Then first next)
-  then_meets x is (Ok y) so = inl (x, is, so)
-  then_meets x is (Err (Refused fault)) so = inl (x, is, so)
-  then_meets x is (Err NoMemory) so = tt
-
-  pub then_stops : (stop : Stop F) → Meets {X = X} (Err stop) first → Meets {X = Y} (Err stop) (Then first next)
-  then_stops (Refused fault) is = inr (fault, is, refl)
-  then_stops NoMemory is = tt
-
--- The same where the second may read files.
+-- One call behind another, of which the second may read files.
 
 module _ {X Y : Type 0} (first : Result X Fault → Type 0) (next : X → Result Y Fault → Type 0) where
   pub then_yields : (x : X) → first (Ok x) → (result : Result Y Halt) → Yields result (next x) → Yields result (Then first next)

@@ -5,7 +5,6 @@ use Rattle.std.specs.Str.{str_to_ascii_lowercase}
 use Rattle.std.specs.declared.option.Option.{Option}
 use Rattle.std.specs.declared.result.Result.{Result}
 use Rattle.rz_core.specs.Answers.{Meets, Then}
-use Rattle.rz_core.specs.Stop.{Gives}
 use Rattle.rz_core.specs.declared.fault.Fault.{Fault}
 use Rattle.rz_core.specs.declared.stop.Stop.{Stop}
 use Rattle.rz_core.specs.declared.stop.Stop.TheVariants.{Refused, NoMemory}
@@ -125,11 +124,6 @@ beside compiled answers (Ok bytes) result meets says =
 beside compiled answers (Err (Refused fault)) result meets says =
     made_so (λ answer. answer ≡ said_beside compiled.files compiled.work.warnings (Err fault)) (SaidBeside compiled answers) (λ answer is. (Err fault, meets, is)) result says
 beside compiled answers (Err NoMemory) result meets says = subst (λ (r : Result Made Stopped). MadeSo r (SaidBeside compiled answers)) (sym says) tt
-
-pub gives_meets : {X F : Type 0} (answer other : Result X F) → answer ≡ other → (result : Result X (Stop F)) → Gives answer result → Meets result (λ given. given ≡ other)
-gives_meets answer other same (Ok value) is = sym is ∙ same
-gives_meets answer other same (Err (Refused fault)) is = sym is ∙ same
-gives_meets answer other same (Err NoMemory) is = tt
 
 -- One part behind another, of calls that give what is made.
 

@@ -19,13 +19,13 @@ use Rattle.rz_pre.specs.declared.condition.Tool.TheVariants as tools
 use Rattle.rz_show.specs.Statement.{shown_words}
 use Rattle.rz_stmt.specs.Statements.{AreStatements}
 use Rattle.rz_work.specs.Data.{most_bytes}
-use Rattle.rz_tools.specs.Base.{new_base}
+use Rattle.rz_output.specs.Base.{new_base}
 use Rattle.rz_tools.specs.DeRez.{known_by, TypesAre}
 use Rattle.rz_tools.specs.Step.{Means}
 use Rattle.rz_work.specs.Around.{Around}
 use Rattle.rz_answer.specs.Answer.{or_refused, written}
 use Rattle.rz_tools.specs.Program.{Answers}
-use Rattle.rz_tools.specs.Output.{IsOutput}
+use Rattle.rz_output.specs.Output.{IsOutput}
 use Rattle.rz_tools.specs.Shown.{Known}
 use Rattle.rz_answer.specs.Warning.{said_beside}
 use Rattle.rz_tools.specs.Sources.{Compiled}

@@ -5,10 +5,7 @@ pub mod Sources
 pub mod Shown
 pub mod Chosen
 pub mod Held
-pub mod Base
-pub mod Output
 pub mod Rez
 pub mod DeRez
-pub mod Bridge
 pub mod Again
 pub mod Program

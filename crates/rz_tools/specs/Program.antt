@@ -4,7 +4,7 @@ use Rattle.rz_core.specs.declared.moment.Moment.{Moment}
 use Rattle.rz_folder.specs.Folder.{Files}
 use Rattle.rz_words.specs.Command.{Asked, Rez, DeRez, Bridge, Help, Version, IsCommand, IsMisplaced}
 use Rattle.rz_answer.specs.Answer.{misused, shown, Answer}
-use Rattle.rz_tools.specs.Bridge.{AnswersBridge}
+use Rattle.rz_output.specs.Bridge.{AnswersBridge}
 use Rattle.rz_tools.specs.DeRez.{AnswersDeRez}
 use Rattle.rz_answer.specs.Help.{help_text, version_text}
 use Rattle.rz_tools.specs.Rez.{AnswersRez}
@@ -22,3 +22,8 @@ AnswersTo Version files moment answer = answer ≡ shown (record { bytes = versi
 pub data Answers (words : List (List ℕ)) (files : Files) (moment : Moment) (answer : Answer) : Type 0 where
   command : (asked : Asked) → IsCommand words asked → AnswersTo asked files moment answer → Answers words files moment answer
   misplaced : (position : ℕ) → IsMisplaced words position → answer ≡ misused position → Answers words files moment answer
+
+-- this is the answer to a list of words: there is no other
+pub record IsOnlyAnswer (words : List (List ℕ)) (files : Files) (moment : Moment) (answer : Answer) : Type 0 where
+  pub answers : Answers words files moment answer
+  pub only : (other : Answer) → Answers words files moment other → other ≡ answer

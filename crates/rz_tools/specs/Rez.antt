@@ -11,8 +11,8 @@ use Rattle.rz_words.specs.Command.{RezAsked}
 use Rattle.rz_answer.specs.Answer.{Answer, Answered, Failing, Making, written}
 use Rattle.rz_work.specs.Around.{Around}
 use Rattle.rz_work.specs.declared.setting.Setting.{Setting}
-use Rattle.rz_tools.specs.Base.{base_of, Base}
-use Rattle.rz_tools.specs.Output.{IsOutput}
+use Rattle.rz_output.specs.Base.{base_of, Base}
+use Rattle.rz_output.specs.Output.{IsOutput}
 use Rattle.rz_tools.specs.Sources.{Compiled, HasWork, IsProgramOf, SaidBeside}
 
 -- what holds for all statements: what the words ask for, the moment and the files

@@ -9,12 +9,12 @@ ghost use Rattle.rz_tools.specs.Program.{Answers};
 ghost use Rattle.rz_answer.specs.WellFormed.{AreWritable, IsWellFormed};
 ghost use Rattle.rz_answer.specs.declared.made.Unanswered.TheVariants.{NoMemory as no_memory, ReadFault};
 
-use crate::bridge::plan_bridge;
 use crate::derez::plan_derez;
 use crate::rez::plan_rez;
 use rz_answer::{Outcome, Plan, Unanswered, help_text, version_text};
 use rz_core::{Moment, Stop};
 use rz_folder::Folder;
+use rz_output::plan_bridge;
 use rz_words::{Command, definitions_are_lexed, one_command, read_words};
 use std::alloc::Global;
 

@@ -16,17 +16,20 @@ ghost use Rattle.rz_pre.specs.Definitions.{AreFree};
 ghost use Rattle.rz_pre.specs.declared.program.Def.{Def};
 ghost use Rattle.rz_tools.specs.Program.{Answers};
 
+use rz_brackets::all_tokens_are_statements;
 use rz_expr::{attribute_words_are_spelled, keywords_are_spelled};
-use rz_files::one_named_file;
+use rz_files::{every_file_is_named, one_named_file};
 use rz_fork::admitted_forks_fit;
-use rz_form::one_data_file;
+use rz_form::{every_header_has_a_data_file, one_data_file};
 use rz_layout::one_spelling;
-use rz_match::one_match;
-use rz_pre::{live_names_are_free, one_program};
+use rz_match::{matched_rows_are_rows, one_match};
+use rz_pre::{every_program_has_an_answer, live_names_are_free, one_program};
 use rz_show::{shown_text, spelled_texts};
-use rz_stmt::{one_cutting, one_statement};
-use rz_unlay::{one_plain_row, plain_rows_are_spelled, spelled_rows_are_rows};
-use rz_words::{definitions_are_free, one_command};
+use rz_stmt::{every_statement_is_parsed, one_cutting, one_statement};
+use rz_unlay::{
+    one_plain_row, plain_rows_are_spelled, spelled_rows_are_rows, told_rows_are_decided,
+};
+use rz_words::{definitions_are_free, every_list_of_words_is_read, one_command};
 
 /// A law, with nothing to run: words have one answer at most, where each name holds the same and at the same
 /// moment.
@@ -43,6 +46,24 @@ pub fn one_answer()
     one_named_file();
     one_data_file();
     one_command();
+}
+
+/// A law, with nothing to run: words have an answer, whatever each name holds and at whatever moment; [`one_answer`] says
+/// that they have no other.
+pub fn every_answer()
+    ensures { (words : List (List ℕ)) (files : Files) (moment : Moment) → (answer : Answer) × Answers words files moment answer }
+{
+    every_list_of_words_is_read();
+    every_program_has_an_answer();
+    all_tokens_are_statements();
+    every_statement_is_parsed();
+    one_match();
+    matched_rows_are_rows();
+    one_spelling();
+    told_rows_are_decided();
+    one_plain_row();
+    every_file_is_named();
+    every_header_has_a_data_file();
 }
 
 /// A law, with nothing to run: no reserved word is a macro behind sources, if the definitions before them are of none: so

@@ -1,20 +1,18 @@
 //! The commands of rezkit: what the words ask for, and the run that does it. `run` carries out the answer to
-//! these words (`specs/Program.antt`), and words have one answer at most. What `derez` shows of a fork means again to
+//! these words (`specs/Program.antt`), and words have exactly one answer. What `derez` shows of a fork means again to
 //! `rez` the resources that it shows, if each has at most 16,777,212 bytes.
-//! It rests on all crates below it: of `rz_answer` it has how an answer is carried out, and of `rz_work` what single
-//! statements do. The folder, the streams and the moment are arguments of `run`.
-//! A new command is a module beside `rez`, `derez` and `bridge`, and a case of `answer` and of the answers in `specs`; a
-//! new statement is a case of `step`; another form of a resource's text is `shown`. docs/PROOFS.md lists the promises.
+//! It rests on all crates below it: of `rz_answer` it has how an answer is carried out, of `rz_work` what single
+//! statements do, and of `rz_output` what is written. The folder, the streams and the moment are arguments of `run`.
+//! A new command is a module beside `rez` and `derez`, or in `rz_output` as `bridge` is, and a case of `answer` and of the
+//! answers in `specs`; a new statement is a case of `step`; another form of a resource's text is `shown`. docs/PROOFS.md
+//! lists the promises.
 #![tactic(auto)]
 
 mod answer;
-mod base;
-mod bridge;
 mod chosen;
 mod derez;
 mod files;
 mod laws;
-mod output;
 mod program;
 mod resource;
 mod rez;
@@ -22,7 +20,9 @@ mod shown;
 mod sources;
 mod step;
 
-pub use laws::{one_answer, shown_forks_are_compiled_again, shown_forks_are_read_again};
+pub use laws::{
+    every_answer, one_answer, shown_forks_are_compiled_again, shown_forks_are_read_again,
+};
 pub use program::run;
 pub use rz_answer::{Outcome, answers_are_carried_out};
 pub use rz_words::UsageFault;

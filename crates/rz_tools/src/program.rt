@@ -2,14 +2,16 @@ ghost use Rattle.std.specs.Prelude.{◌≡◌, ◌⊎◌, ℕ, List, map, IfSome
 ghost use Rattle.std.specs.String.{string_bytes};
 ghost use Rattle.rz_tools.specs.Again.{ShowsAgain};
 ghost use Rattle.rz_answer.specs.Answer.{Answer};
-ghost use Rattle.rz_tools.specs.Program.{Answers};
-ghost use Rattle.rz_answer.specs.Carried.{CarriesOut, IsAnswered};
+ghost use Rattle.rz_tools.specs.Program.{Answers, IsOnlyAnswer};
+ghost use Rattle.rz_answer.specs.Carried.{CarriesOut, EndsWith, IsAnswered, IsUnhindered};
 ghost use Rattle.rz_answer.specs.World.{world};
 ghost use Rattle.rz_answer.specs.WellFormed.{IsWellFormed};
 ghost use Rattle.rz_words.specs.Command.{DeRez, DeRezAsked, IsCommand, IsMisplaced};
 
 use crate::answer::answer;
-use crate::laws::{one_answer, reserved_words_are_spared, shown_forks_are_read_again};
+use crate::laws::{
+    every_answer, one_answer, reserved_words_are_spared, shown_forks_are_read_again,
+};
 use rz_answer::{NO_MEMORY, Outcome, READ_FAULT, Unanswered, carry_out, put_line};
 use rz_core::Moment;
 use rz_folder::{Folder, Sink};
@@ -19,7 +21,7 @@ use std::alloc::Global;
 /// Does all that the program does. `words` are the words after the program's name.
 ///
 /// The run carries out the answer to the words: its outcome, the files, and what `out` and `err` get are the
-/// answer's. Words have one answer at most ([`one_answer`]). Usage comes exactly where the words are no command, and
+/// answer's. Words have exactly one answer ([`every_answer`], [`one_answer`]). Usage comes exactly where the words are no command, and
 /// Refused only with the first fault. ReadFault and WriteFault come only where a read, or a write of the folder or of
 /// `out`, failed in this call. After Usage, Refused, ReadFault and NoMemory the folder is as before and `out` has got
 /// nothing; after WriteFault the writes before the one that failed are done, and all else is as before. After `derez`
@@ -42,6 +44,13 @@ pub fn run<F: Folder, O: Sink, E: Sink>(
         → CarriesOut wanted (world F.files F.read_faults F.write_faults O.written O.faults E.written E.faults folder.old out.old err.old)
         (world F.files F.read_faults F.write_faults O.written O.faults E.written E.faults folder.new out.new err.new) result) }
 
+    // Where the folder tells its files, the words have exactly one answer, and a run that meets neither want of memory nor a
+    // fault of files ends with it.
+    ensures complete { IfSome (F.files folder.old) (λ files. (answer : Answer) × IsOnlyAnswer (map string_bytes words.now) files moment answer
+        × (IsUnhindered result → EndsWith answer
+        (world F.files F.read_faults F.write_faults O.written O.faults E.written E.faults folder.old out.old err.old)
+        (world F.files F.read_faults F.write_faults O.written O.faults E.written E.faults folder.new out.new err.new) result)) }
+
     // Usage comes exactly where the words are no command.
     ensures usage { (position : ℕ) → result ≡ Outcome.Usage (record { position = position }) → IsMisplaced (map string_bytes words.now) position }
     ensures every_usage { (position : ℕ) → IsMisplaced (map string_bytes words.now) position
@@ -52,6 +61,7 @@ pub fn run<F: Folder, O: Sink, E: Sink>(
         → IfSome (F.files folder.old) (λ files. IfSome (O.written out.old) (λ before. ShowsAgain moment asked files before (O.written out.new))) }
 {
     one_answer();
+    every_answer();
     one_command();
     shown_forks_are_read_again();
     reserved_words_are_spared();

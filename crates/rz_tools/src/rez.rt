@@ -15,16 +15,15 @@ ghost use Rattle.rz_pre.specs.Reading.{IsProgram};
 ghost use Rattle.rz_set.specs.ResSet.{AreNamed};
 ghost use Rattle.rz_words.specs.Item.{rez};
 ghost use Rattle.rz_core.specs.declared.resource.Resource.{Resource};
-ghost use Rattle.rz_tools.specs.Base.{base_with, begun_of};
+ghost use Rattle.rz_output.specs.Base.{base_with, begun_of};
 ghost use Rattle.rz_tools.specs.Held.{compiled_of};
 ghost use Rattle.rz_tools.specs.Rez.{AnswersRez, Compiles, HasOutput, IsMadeBehind, IsMadeOf};
 
-use crate::base::{Base, Beginning, read_base};
-use crate::output::write_output;
 use crate::sources::{Compiled, compile_program, read_program};
 use rz_answer::{Made, Plan, Stopped, Unanswered, say_beside};
 use rz_core::{Bytes, Moment};
 use rz_folder::Folder;
+use rz_output::{Base, Beginning, read_base, write_output};
 use rz_paths::Halt;
 use rz_pre::{Program, Tool};
 use rz_words::RezWords;

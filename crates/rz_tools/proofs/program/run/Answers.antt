@@ -2,6 +2,8 @@ use Rattle.std.proofs.Common.{ap, map, refl, Err}
 use Rattle.std.specs.String.{string_bytes}
 use Rattle.rz_answer.specs.Answer.{misused}
 use Rattle.rz_answer.specs.Plan.{answer_of}
+use Rattle.rz_answer.specs.declared.outcome.Outcome.TheVariants.{ReadFault, NoMemory}
+use Rattle.rz_tools.proofs.Complete.{complete, hindered}
 use Rattle.rz_tools.proofs.Running.{carried_from, every, or_else, stays_usage, usage_of}
 use Rattle.rz_tools.proofs.ShownAgain.{shows_again}
 use Rattle.rz_tools.proofs.program.run.Goals as goal
@@ -17,6 +19,12 @@ returns-in-Ok-clause-carried g c = (
 pub returns-in-Ok-clause-every : goal.returns-in-Ok-clause-every
 returns-in-Ok-clause-every g c =
     every c.one_answer.ensures (map string_bytes c.args.words.now) c.args.moment _ _ (answer_of c.in-Ok.plan) c.carry_out.result
+    (carried_from (answer_of c.in-Ok.plan) _ c.carry_out.result _ _ _ _ _ _ _ _ _ _ c.in-Ok.ensures.reads.unchanged c.in-Ok.ensures.reads.counted c.in-Ok.ensures.reads.other_count c.carry_out.ensures.carried)
+    (g.F.Folder.files c.args.folder.now) (λ is. c.in-Ok.ensures.answered)
+
+pub returns-in-Ok-clause-complete : goal.returns-in-Ok-clause-complete
+returns-in-Ok-clause-complete g c =
+    complete c.one_answer.ensures c.every_answer.ensures (map string_bytes c.args.words.now) c.args.moment _ _ c.carry_out.result (answer_of c.in-Ok.plan) c.in-Ok.ensures.well_formed
     (carried_from (answer_of c.in-Ok.plan) _ c.carry_out.result _ _ _ _ _ _ _ _ _ _ c.in-Ok.ensures.reads.unchanged c.in-Ok.ensures.reads.counted c.in-Ok.ensures.reads.other_count c.carry_out.ensures.carried)
     (g.F.Folder.files c.args.folder.now) (λ is. c.in-Ok.ensures.answered)
 
@@ -55,3 +63,11 @@ returns-in-Err-NoMemory-clause-carried g c = (
   record { ends = record { files = c.in-Err-NoMemory.ensures.reads.unchanged; out = refl }; says = c.put_line-in-Err-NoMemory.ensures },
   λ never. absurd never,
 )
+
+pub returns-in-Err-ReadFault-clause-complete : goal.returns-in-Err-ReadFault-clause-complete
+returns-in-Err-ReadFault-clause-complete g c =
+    hindered c.one_answer.ensures c.every_answer.ensures (map string_bytes c.args.words.now) c.args.moment _ _ ReadFault (λ free. free) (g.F.Folder.files c.args.folder.now)
+
+pub returns-in-Err-NoMemory-clause-complete : goal.returns-in-Err-NoMemory-clause-complete
+returns-in-Err-NoMemory-clause-complete g c =
+    hindered c.one_answer.ensures c.every_answer.ensures (map string_bytes c.args.words.now) c.args.moment _ _ NoMemory (λ free. free) (g.F.Folder.files c.args.folder.now)

@@ -7,7 +7,7 @@ use Rattle.rz_words.specs.Item.{rez}
 use Rattle.rz_answer.specs.Made.{MadeSo}
 use Rattle.rz_answer.specs.declared.made.Stopped.TheVariants.{Refused}
 use Rattle.rz_core.specs.declared.fault.Fault.{Fault}
-use Rattle.rz_tools.specs.Base.{base_of, begun_of, BeginsSo}
+use Rattle.rz_output.specs.Base.{base_of, begun_of, BeginsSo}
 use Rattle.rz_tools.specs.Rez.{IsMadeBehind, IsMadeOf}
 use Rattle.rz_tools.proofs.Compiling.{begun_made, not_begun, still_told}
 use Rattle.rz_tools.proofs.rez.compile_from_base.Goals as goal

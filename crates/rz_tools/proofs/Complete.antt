@@ -1,0 +1,85 @@
+-- A run ends with the one answer to its words.
+use Rattle.std.proofs.Common.{◌≡◌, ℕ, List, [], ◌++◌, Some, None, sym, ap, subst, ◌∙◌}
+use Rattle.std.specs.Prelude.{IfSome}
+use Rattle.std.specs.declared.option.Option.{Option}
+use Rattle.std.proofs.lemmas.List.{append-nil}
+use Rattle.rz_core.specs.declared.moment.Moment.{Moment}
+use Rattle.rz_folder.specs.Folder.{Files}
+use Rattle.rz_answer.specs.Answer.{files_after, Answer, Write}
+use Rattle.rz_answer.specs.Carried.{CarriesOut, EndsWith, IsAnswered, IsUnhindered, IsUntouched}
+use Rattle.rz_answer.specs.WellFormed.{FitsOutcome, IsWellFormed}
+use Rattle.rz_answer.specs.World.{Says, World}
+use Rattle.rz_answer.specs.declared.outcome.Outcome.{Outcome}
+use Rattle.rz_answer.specs.declared.outcome.Outcome.TheVariants.{Done, Usage, Refused, ReadFault, WriteFault, NoMemory}
+use Rattle.rz_tools.proofs.Running.{OneAnswer}
+use Rattle.rz_tools.specs.Program.{Answers, IsOnlyAnswer}
+
+abbrev pub EveryAnswer : Type 0
+EveryAnswer = (words : List (List ℕ)) (files : Files) (moment : Moment) → (answer : Answer) × Answers words files moment answer
+
+-- Nothing is written.
+
+none_written : (files left : Option Files) (writes : List Write) → writes ≡ [] → left ≡ files → IfSome files (λ files. left ≡ Some (files_after writes files))
+none_written None left writes none same = tt
+none_written (Some files) left writes none same = same ∙ ap (λ (ws : List Write). Some (files_after ws files)) (sym none)
+
+none_put : (out left : Option (List ℕ)) (text : List ℕ) → text ≡ [] → left ≡ out → IfSome out (λ out. left ≡ Some (out ++ text))
+none_put None left text none same = tt
+none_put (Some out) left text none same =
+    same ∙ ap (λ (bytes : List ℕ). Some bytes) (sym (append-nil out)) ∙ ap (λ (bytes : List ℕ). Some (out ++ bytes)) (sym none)
+
+-- The answer that was carried out.
+
+module _ (done : Answer) (before after : World) where
+  module _ (result : Outcome) (ends : done.outcome ≡ result) (left : IsUntouched before after) where
+    unwritten : done.writes ≡ [] → done.out ≡ [] → Says done.err before.err after.err before.err_faults after.err_faults → EndsWith done before after result
+    unwritten no_writes no_out says = record {
+      outcome = sym ends;
+      files = none_written before.files after.files done.writes no_writes left.files;
+      out = none_put before.out after.out done.out no_out left.out;
+      err = says;
+    }
+
+  ends_with : (result : Outcome) → IsWellFormed done → IsUnhindered result → CarriesOut done before after result → EndsWith done before after result
+  ends_with Done fits free carried = record { outcome = sym carried.ends.0; files = carried.ends.1.files; out = carried.ends.1.out; err = carried.says }
+  ends_with (Usage fault) fits free carried =
+      let is = subst (λ (o : Outcome). FitsOutcome o done) carried.ends.0 fits in
+      unwritten (Usage fault) carried.ends.0 carried.ends.1 (ap (λ (a : Answer). a.writes) is) (ap (λ (a : Answer). a.out) is) carried.says
+  ends_with (Refused fault) fits free carried =
+      let is = subst (λ (o : Outcome). FitsOutcome o done) carried.ends.0 fits in
+      unwritten (Refused fault) carried.ends.0 carried.ends.1 (ap (λ (a : Answer). a.writes) is.1) (ap (λ (a : Answer). a.out) is.1) carried.says
+  ends_with ReadFault fits free carried = absurd free
+  ends_with WriteFault fits free carried = absurd free
+  ends_with NoMemory fits free carried = absurd free
+
+answered : (result : Outcome) → IsUnhindered result → IsAnswered result
+answered Done free = free
+answered (Usage fault) free = free
+answered (Refused fault) free = free
+answered ReadFault free = free
+answered WriteFault free = absurd free
+answered NoMemory free = free
+
+module _ (one : OneAnswer) (every : EveryAnswer) (words : List (List ℕ)) (moment : Moment) where
+  only : (files : Files) → IsOnlyAnswer words files moment (every words files moment).0
+  only files = record {
+    answers = (every words files moment).1;
+    only = λ other is. one words files moment other (every words files moment).0 is (every words files moment).1;
+  }
+
+  module _ (before after : World) (result : Outcome) where
+    abbrev IsComplete : Files → Type 0
+    IsComplete files = (answer : Answer) × IsOnlyAnswer words files moment answer × (IsUnhindered result → EndsWith answer before after result)
+
+    pub complete : (done : Answer) → IsWellFormed done → CarriesOut done before after result → (files : Option Files)
+        → (IsAnswered result → IfSome files (λ files. Answers words files moment done)) → IfSome files IsComplete
+    complete done fits carried None answers = tt
+    complete done fits carried (Some files) answers = (
+      (every words files moment).0,
+      only files,
+      λ free. subst (λ (a : Answer). EndsWith a before after result) ((only files).only done (answers (answered result free))) (ends_with done before after result fits free carried),
+    )
+
+    pub hindered : (IsUnhindered result → ⊥) → (files : Option Files) → IfSome files IsComplete
+    hindered not None = tt
+    hindered not (Some files) = ((every words files moment).0, only files, λ free. absurd (not free))

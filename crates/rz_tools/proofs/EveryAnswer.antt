@@ -1,0 +1,140 @@
+-- Words have an answer.
+use Rattle.std.proofs.Common.{◌≡◌, ◌⊎◌, inl, inr, ℕ, List, [], ◌∷◌, Option, Some, None, Ok, Err, refl}
+use Rattle.std.specs.FinMap as finite
+use Rattle.std.specs.declared.result.Result.{Result}
+use Rattle.rz_answer.specs.Answer.{misused, or_refused, shown, written, Answer, Write}
+use Rattle.rz_answer.specs.Help.{help_text, version_text}
+use Rattle.rz_bridge.specs.declared.file.MacFile.{MacFile}
+use Rattle.rz_core.proofs.EveryCut.{is_nothing}
+use Rattle.rz_core.proofs.Has.{has_is, has_then, Has}
+use Rattle.rz_core.specs.Answers.{Then}
+use Rattle.rz_core.specs.declared.fault.Fault.{Fault}
+use Rattle.rz_core.specs.declared.moment.Moment.{Moment}
+use Rattle.rz_core.specs.declared.resource.Resource.{Resource}
+use Rattle.rz_files.specs.Contents.{file_in, form_or}
+use Rattle.rz_files.specs.Names.{Named}
+use Rattle.rz_files.specs.Written.{written_as}
+use Rattle.rz_folder.specs.Folder.{Files}
+use Rattle.rz_form.specs.DataFile.{IsDataFile}
+use Rattle.rz_form.specs.declared.form.Form.{Form}
+use Rattle.rz_form.specs.declared.form.Form.TheVariants as forms
+use Rattle.rz_paths.specs.Names.{missing_file}
+use Rattle.rz_pre.specs.Program.{ProgramGoes, State}
+use Rattle.rz_pre.specs.declared.condition.Tool.{Tool}
+use Rattle.rz_pre.specs.declared.program.Def.{Def}
+use Rattle.rz_tools.proofs.EveryMeaning.{has_beside, has_unsaid}
+use Rattle.rz_tools.proofs.EveryText.{has_file_text, Tells}
+use Rattle.rz_output.specs.Base.{attributes_asked, base_of, or_empty, Base}
+use Rattle.rz_output.specs.Bridge.{bridged, one, two, AreWrites, Bridges, HasBeside, IsRead, IsWrittenAs}
+use Rattle.rz_tools.specs.DeRez.{derez_around, known_by, HasFileText, HasText, Shows, TypesAre}
+use Rattle.rz_output.specs.Output.{file_of, form_asked, list_fork, IsFileOf, IsOutput}
+use Rattle.rz_tools.specs.Program.{command, misplaced, Answers, AnswersTo}
+use Rattle.rz_tools.specs.Rez.{around_of, BeginsWith, Compiles, HasOutput, IsMadeBehind, IsMadeOf}
+use Rattle.rz_tools.specs.Sources.{HasWork, IsProgramOf}
+use Rattle.rz_work.specs.Around.{Around}
+use Rattle.rz_words.specs.Command.{Asked, Bridge, BridgeAsked, DeRez, DeRezAsked, Help, IsCommand, IsMisplaced, Rez, RezAsked, Version}
+
+module _ (name : (form : Form) (path : List ℕ) (file : MacFile) → Has (Named form path file)) where
+  has_output : (asked : RezAsked) (moment : Moment) (base : Base) (list : List Resource) → Has (IsOutput asked moment base list)
+  has_output asked moment base list =
+      has_then (λ fork. fork ≡ list_fork (attributes_asked asked base) base.fork.reserved list) (IsFileOf asked moment base)
+      (has_is (list_fork (attributes_asked asked base) base.fork.reserved list))
+      (λ fork is. has_then (Named (form_asked asked base) asked.output (file_of asked moment base.file fork))
+      (λ file bytes. bytes ≡ written_as (form_asked asked base) file)
+      (name (form_asked asked base) asked.output (file_of asked moment base.file fork))
+      (λ file named. has_is (written_as (form_asked asked base) file)))
+
+  -- What `bridge` reads and writes.
+
+  module _ (data_file : (header : List ℕ) → (name : List ℕ) × IsDataFile header name) (asked : BridgeAsked) (files : Files) where
+    has_data : (form : Form) (header : List ℕ) → (bytes : List ℕ) × HasBeside form header files bytes
+    has_data forms.AppleDouble header = let beside = data_file header in (or_empty (finite.get files beside.0), (beside.0, beside.1, refl))
+    has_data forms.Raw header = ([], refl)
+    has_data forms.MacBinary header = ([], refl)
+    has_data forms.BinHex header = ([], refl)
+
+    has_file : (entry : Option (List ℕ)) → Has (IsRead asked files entry)
+    has_file None = has_is (Err (missing_file None asked.file))
+    has_file (Some bytes) =
+        let beside = has_data (form_or asked.from bytes) asked.file in
+        (file_in None asked.from bytes beside.0, (beside.0, beside.1, refl))
+
+    is_double : (form : Form) → Dec (form ≡ forms.AppleDouble)
+    is_double forms.AppleDouble = yes refl
+    is_double forms.Raw = no (λ is. cc is)
+    is_double forms.MacBinary = no (λ is. cc is)
+    is_double forms.BinHex = no (λ is. cc is)
+
+    has_writes : (file : MacFile) (bytes : List ℕ) → (writes : List Write) × AreWrites asked file bytes writes
+    has_writes file bytes = by (is_double asked.to) (is_nothing file.data_fork)
+      where
+        by : Dec (asked.to ≡ forms.AppleDouble) → Dec (file.data_fork ≡ []) → (writes : List Write) × AreWrites asked file bytes writes
+        by (no other) nothing = (record { name = asked.output; bytes = bytes } ∷ [], one (inl other) refl)
+        by (yes double) (yes nothing) = (record { name = asked.output; bytes = bytes } ∷ [], one (inr nothing) refl)
+        by (yes double) (no something) =
+            let beside = data_file asked.output in (
+              record { name = beside.0; bytes = file.data_fork } ∷ record { name = asked.output; bytes = bytes } ∷ [],
+              two beside.0 double something beside.1 refl,
+            )
+
+    has_written : (file : MacFile) → Has (IsWrittenAs asked file)
+    has_written file =
+        has_then (λ bytes. bytes ≡ written_as asked.to file) (λ bytes answer. (writes : List Write) × AreWrites asked file bytes writes × (answer ≡ Ok writes))
+        (has_is (written_as asked.to file))
+        (λ bytes is. let made = has_writes file bytes in (Ok made.0, (made.0, made.1, refl)))
+
+    has_bridged : Has (Bridges asked files)
+    has_bridged =
+        has_then (IsRead asked files (finite.get files asked.file)) (λ file. Then (Named asked.to asked.output file) (IsWrittenAs asked)) (has_file (finite.get files asked.file))
+        (λ file is. has_then (Named asked.to asked.output file) (IsWrittenAs asked) (name asked.to asked.output file) (λ named so. has_written named))
+
+  -- What `rez` and `derez` mean.
+
+  module _ (programs : (files : Files) (tool : Tool) (names paths : List (List ℕ)) (defs : List Def) → Has (ProgramGoes files tool names paths defs))
+      (works : (around : Around) (list : List Resource) (program : State) → Has (HasWork around list program)) (tells : Tells) where
+    has_program : (around : Around) (names paths : List (List ℕ)) (defs : List Def) → Has (IsProgramOf around names paths defs)
+    has_program around names paths defs =
+        has_unsaid (ProgramGoes around.files around.setting.tool names paths defs) (programs around.files around.setting.tool names paths defs)
+
+    has_begun : (program : State) (base : Result Base Fault) → Has (BeginsWith program base)
+    has_begun program (Ok base) = has_is (Ok base)
+    has_begun program (Err fault) = has_is (Err (record { fault = fault; files = program.files; said = [] }))
+
+    has_made_of : (moment : Moment) (asked : RezAsked) (files : Files) (program : State) → Has (IsMadeOf moment asked files program)
+    has_made_of moment asked files program =
+        has_then (BeginsWith program (base_of asked files)) (IsMadeBehind moment asked files program) (has_begun program (base_of asked files))
+        (λ base is. has_then (HasWork (around_of moment asked files) base.fork.list program) (HasOutput moment asked base)
+        (works (around_of moment asked files) base.fork.list program)
+        (λ made so. has_beside made (IsOutput asked moment base made.work.list) (has_output asked moment base made.work.list)))
+
+    has_rez : (moment : Moment) (asked : RezAsked) (files : Files) → Has (Compiles moment asked files)
+    has_rez moment asked files =
+        has_then (IsProgramOf (around_of moment asked files) asked.files asked.paths asked.defs) (IsMadeOf moment asked files)
+        (has_program (around_of moment asked files) asked.files asked.paths asked.defs) (λ program is. has_made_of moment asked files program)
+
+    has_types : (moment : Moment) (asked : DeRezAsked) (files : Files) → Has (TypesAre moment asked files)
+    has_types moment asked files =
+        has_then (IsProgramOf (derez_around moment asked files) asked.files asked.paths asked.defs) (HasWork (derez_around moment asked files) [])
+        (has_program (derez_around moment asked files) asked.files asked.paths asked.defs) (λ program is. works (derez_around moment asked files) [] program)
+
+    has_shows : (moment : Moment) (asked : DeRezAsked) (files : Files) → Has (Shows moment asked files)
+    has_shows moment asked files =
+        has_then (TypesAre moment asked files) (HasText moment asked files) (has_types moment asked files)
+        (λ made is. has_beside made (HasFileText (known_by moment made) asked (finite.get files asked.file))
+        (has_file_text tells (known_by moment made) asked (finite.get files asked.file)))
+
+    module _ (data_file : (header : List ℕ) → (name : List ℕ) × IsDataFile header name) where
+      has_answer : (asked : Asked) (files : Files) (moment : Moment) → (answer : Answer) × AnswersTo asked files moment answer
+      has_answer (Rez asked) files moment = let made = has_rez moment asked files in (or_refused (written asked.output) made.0, (made.0, made.1, refl))
+      has_answer (DeRez asked) files moment = let made = has_shows moment asked files in (or_refused shown made.0, (made.0, made.1, refl))
+      has_answer (Bridge asked) files moment = let made = has_bridged data_file asked files in (bridged made.0, (made.0, made.1, refl))
+      has_answer Help files moment = (shown (record { bytes = help_text; said = [] }), refl)
+      has_answer Version files moment = (shown (record { bytes = version_text; said = [] }), refl)
+
+      pub every_answer : ((words : List (List ℕ)) → ((asked : Asked) × IsCommand words asked) ⊎ ((position : ℕ) × IsMisplaced words position))
+          → (words : List (List ℕ)) (files : Files) (moment : Moment) → (answer : Answer) × Answers words files moment answer
+      every_answer commands words files moment = by (commands words)
+        where
+          by : ((asked : Asked) × IsCommand words asked) ⊎ ((position : ℕ) × IsMisplaced words position) → (answer : Answer) × Answers words files moment answer
+          by (inl (asked, is)) = let answers = has_answer asked files moment in (answers.0, command asked is answers.1)
+          by (inr (position, is)) = (misused position, misplaced position is refl)

@@ -1,0 +1,103 @@
+-- The statements of a program make something, or have a fault.
+use Rattle.std.proofs.Common.{◌≡◌, ℕ, List, [], ◌∷◌, map, inl, inr, Ok, Err, refl, sym, subst}
+use Rattle.std.specs.declared.result.Result.{Result}
+use Rattle.rz_core.proofs.Has.{has_is, has_then, Has}
+use Rattle.rz_core.proofs.Once.{ok_or_err, same_ok}
+use Rattle.rz_core.specs.Answers.{Then}
+use Rattle.rz_core.specs.declared.fault.Fault.{Fault}
+use Rattle.rz_core.specs.declared.fault.Mark.{Mark}
+use Rattle.rz_core.specs.declared.resource.Resource.{Resource}
+use Rattle.rz_items.specs.Compile.{Compile}
+use Rattle.rz_lex.specs.declared.token.Token.{Token}
+use Rattle.rz_pre.specs.Program.{Failure, State}
+use Rattle.rz_pre.specs.declared.condition.Tool.{Tool}
+use Rattle.rz_pre.specs.declared.condition.Tool.TheVariants as tools
+use Rattle.rz_stmt.specs.Grammar.{mark_of, Compiles, Data, Declares, Empty, Lists, Parses, Statement}
+use Rattle.rz_stmt.specs.Statements.{AreStatements}
+use Rattle.rz_table.specs.Table.{Declaration}
+use Rattle.rz_answer.specs.Warning.{said_beside, warning_lines}
+use Rattle.rz_tools.proofs.EveryResource.{declared_kept, AreKept}
+use Rattle.rz_tools.specs.Sources.{compiled, Compiled, HasWork, InProgram, SaidBeside, Unsaid}
+use Rattle.rz_tools.specs.Step.{Changes, IsBehind, IsListBehind, MakesList, Means, Steps, WarnedFault, WithWarnings}
+use Rattle.rz_work.specs.Around.{Around}
+use Rattle.rz_work.specs.Lists.{list_after}
+use Rattle.rz_work.specs.ToolWords.{numbered}
+use Rattle.rz_work.specs.Work.{begun, declared, list_behind, with_list, Work}
+use Rattle.rz_work.specs.declared.setting.Setting.{Setting}
+
+-- An answer, and what is said with it.
+
+pub has_unsaid : {X : Type 0} (answers : Result X Failure → Type 0) → Has answers → Has (Unsaid answers)
+has_unsaid answers (Ok value, is) = (Ok value, is)
+has_unsaid answers (Err failure, is) = (Err (record { fault = failure.fault; files = failure.files; said = [] }), (is, refl))
+
+has_warned : {X : Type 0} (warnings : List Fault) (answers : Result X Fault → Type 0) → Has answers → Has (WithWarnings warnings answers)
+has_warned warnings answers (Ok value, is) = (Ok value, is)
+has_warned warnings answers (Err fault, is) = (Err (record { fault = fault; warnings = warnings }), (is, refl))
+
+has_in : (program : State) (answers : Result Work WarnedFault → Type 0) → Has answers → Has (InProgram program answers)
+has_in program answers (Ok work, is) = (Ok (compiled program work), (work, is, refl))
+has_in program answers (Err stopped, is) =
+    (Err (record { fault = stopped.fault; files = program.files; said = warning_lines program.files stopped.warnings }), (stopped, is, refl))
+
+pub has_beside : (made : Compiled) (answers : Result (List ℕ) Fault → Type 0) → Has answers → Has (SaidBeside made answers)
+has_beside made answers (output, is) = (said_beside made.files made.work.warnings output, (output, is, refl))
+
+-- A statement.
+
+has_changes : (tool : Tool) (list : List Resource) (answers : Result (List Resource) Fault → Type 0) → Has answers → Has (Changes tool list answers)
+has_changes tools.Rez list answers has = has
+has_changes tools.DeRez list answers has = has_is (Ok list)
+
+has_list_made : (setting : Setting) (work : Work) (answers : Result (List Resource) Fault → Type 0) → Has answers → Has (MakesList setting work answers)
+has_list_made setting work answers has =
+    let changes = has_changes setting.tool work.list answers has in
+    (with_list work changes.0, (changes.0, changes.1, refl))
+
+-- what changes the list alone leaves the declarations as they are
+list_kept : (work next : Work) (list : Result (List Resource) Fault) → Ok next ≡ with_list work list → AreKept work.types → AreKept next.types
+list_kept work next (Ok list) is kept = subst (λ (w : Work). AreKept w.types) (sym (same_ok {F = Fault} next (record work { list = list }) is)) kept
+list_kept work next (Err fault) is kept = absurd (ok_or_err {F = Fault} next fault is)
+
+behind_kept : (around : Around) (mark : Mark) (work : Work) (statement : Statement) (next : Work) → IsBehind around mark work statement (Ok next) → AreKept work.types → AreKept next.types
+behind_kept around mark work Empty next is kept = subst (λ (w : Work). AreKept w.types) (sym (same_ok {F = Fault} next work is)) kept
+behind_kept around mark work (Data raw) next is kept = list_kept work next is.0 is.2 kept
+behind_kept around mark work (Compiles one) next is kept = list_kept work next is.0 is.2 kept
+behind_kept around mark work (Lists one) next is kept = list_kept work next is.0 is.2 kept
+behind_kept around mark work (Declares one) next is kept = declared_kept around.setting mark work one next kept (sym is)
+
+steps_kept : (around : Around) (work : Work) (tokens : List Token) (next : Work) → Steps around work tokens (Ok next) → AreKept work.types → AreKept next.types
+steps_kept around work tokens next (inl (statement, parses, is)) kept = behind_kept around (mark_of tokens) work statement next is kept
+steps_kept around work tokens next (inr (fault, parses, is)) kept = absurd (ok_or_err {F = Fault} next fault is)
+
+-- All statements.
+
+module _ (parsed : (tokens : List Token) → Has (Parses tokens)) (parted : (tokens : List Token) → (statements : List (List Token)) × AreStatements tokens statements)
+    (resources : (around : Around) (mark : Mark) (types : List Declaration) → AreKept types → (list : List Resource) (one : Compile) → Has (IsListBehind around mark types list one)) where
+  has_behind : (around : Around) (mark : Mark) (work : Work) → AreKept work.types → (statement : Statement) → Has (IsBehind around mark work statement)
+  has_behind around mark work kept Empty = has_is (Ok work)
+  has_behind around mark work kept (Data raw) =
+      has_list_made around.setting work (λ list. list ≡ list_behind around mark work.list raw) (has_is (list_behind around mark work.list raw))
+  has_behind around mark work kept (Compiles one) =
+      has_list_made around.setting work (IsListBehind around mark work.types work.list one) (resources around mark work.types kept work.list one)
+  has_behind around mark work kept (Lists one) =
+      has_list_made around.setting work (λ list. list ≡ list_after around mark work.list one) (has_is (list_after around mark work.list one))
+  has_behind around mark work kept (Declares one) = has_is (declared around.setting mark work one)
+
+  has_step : (around : Around) (work : Work) → AreKept work.types → (tokens : List Token) → Has (Steps around work tokens)
+  has_step around work kept tokens =
+      has_warned work.warnings (Then (Parses tokens) (IsBehind around (mark_of tokens) work))
+      (has_then (Parses tokens) (IsBehind around (mark_of tokens) work) (parsed tokens) (λ statement is. has_behind around (mark_of tokens) work kept statement))
+
+  has_meaning : (around : Around) (work : Work) → AreKept work.types → (statements : List (List Token)) → Has (Means around work statements)
+  has_meaning around work kept [] = has_is (Ok work)
+  has_meaning around work kept (tokens ∷ statements) =
+      has_then (Steps around work (map (numbered around.setting.tool) tokens)) (λ next. Means around next statements)
+      (has_step around work kept (map (numbered around.setting.tool) tokens))
+      (λ next is. has_meaning around next (steps_kept around work (map (numbered around.setting.tool) tokens) next is kept) statements)
+
+  pub has_work : (around : Around) (list : List Resource) (program : State) → Has (HasWork around list program)
+  has_work around list program =
+      let statements = parted program.tokens in
+      let made = has_in program (Means around (begun list) statements.0) (has_meaning around (begun list) tt statements.0) in
+      (made.0, (statements.0, statements.1, made.1))

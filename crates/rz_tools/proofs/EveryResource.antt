@@ -1,0 +1,162 @@
+-- A `resource` statement has a resource or a fault, where the fields of all declarations keep the rules, and a `type`
+-- statement leaves them so.
+use Rattle.std.proofs.Common.{◌≡◌, ℤ, Bool, true, false, List, [], ◌∷◌, ◌++◌, Option, Some, None, Ok, Err, refl, sym, ap, subst, ◌∙◌}
+use Rattle.std.specs.Prelude.{if◌then◌else◌, option_map, IfSome}
+use Rattle.std.specs.List.{AllByRecursion}
+use Rattle.std.specs.Option.{is_none, ok_or}
+use Rattle.std.specs.declared.result.Result.{Result}
+use Rattle.rz_core.proofs.Has.{has_is, has_then, Has}
+use Rattle.rz_core.proofs.Once.{ok_or_err, same_ok}
+use Rattle.rz_core.specs.Lists.{or_else, unless_fault}
+use Rattle.rz_core.specs.Stop.{◌>>=◌}
+use Rattle.rz_core.specs.declared.facts.Facts.{Facts}
+use Rattle.rz_core.specs.declared.fault.Fault.{Fault}
+use Rattle.rz_core.specs.declared.fault.Mark.{Mark}
+use Rattle.rz_core.specs.declared.resource.OsType.{OsType}
+use Rattle.rz_core.specs.declared.resource.Resource.{Resource}
+use Rattle.rz_declare.specs.Constants.{CopyOf, Declare, Fields, PlainMade}
+use Rattle.rz_items.specs.Compile.{Compile}
+use Rattle.rz_items.specs.Item.{PlainItem}
+use Rattle.rz_layout.specs.Compiled.{IsCompiled}
+use Rattle.rz_match.specs.Match.{IsMatch}
+use Rattle.rz_rows.specs.Row.{IsRow}
+use Rattle.rz_rows.specs.declared.tree.Tree.{Tree}
+use Rattle.rz_table.specs.Table.{asked, copied, found, is_any, is_for, is_id, is_range_of, last_such, no_such_type, stands_at, without, Declaration}
+use Rattle.rz_tools.specs.Files.{items_read}
+use Rattle.rz_tools.specs.Resource.{fields_for, no_type, row_fault, AreBytes, AreItemBytes, AreReadBytes, IsMade, IsResource, IsSpelled}
+use Rattle.rz_tools.specs.Step.{IsListBehind}
+use Rattle.rz_types.specs.Field.{PlainBody}
+use Rattle.rz_types.specs.Rules.{broken, checked, keeps_rules}
+use Rattle.rz_types.specs.declared.rules.TypeFault.{TypeFault}
+use Rattle.rz_work.specs.Around.{Around}
+use Rattle.rz_work.specs.Data.{with_bytes}
+use Rattle.rz_work.specs.Declare.{copied_id, on_line, scope_of, template_of}
+use Rattle.rz_work.specs.Head.{facts_of}
+use Rattle.rz_work.specs.Put.{list_with}
+use Rattle.rz_work.specs.Work.{declared, with_type, Work}
+use Rattle.rz_work.specs.declared.setting.Setting.{Setting}
+
+-- the fields of the declaration keep the rules
+abbrev pub IsKept : Declaration → Type 0
+IsKept one = keeps_rules one.template ≡ true
+
+abbrev pub AreKept : List Declaration → Type 0
+AreKept types = AllByRecursion IsKept types
+
+-- What is found.
+
+module _ {A : Type 0} (P : A → Type 0) where
+  last_so : (test : A → Bool) (xs : List A) → AllByRecursion P xs → IfSome (last_such test xs) P
+  last_so test [] all = tt
+  last_so test (x ∷ xs) all = by (last_such test xs) (last_so test xs all.1) (test x)
+    where
+      by : (last : Option A) → IfSome last P → (passes : Bool) → IfSome (or_else last (if passes then Some x else None)) P
+      by (Some y) is passes = is
+      by None is true = all.0
+      by None is false = tt
+
+  either_so : (one other : Option A) → IfSome one P → IfSome other P → IfSome (or_else one other) P
+  either_so None other is also = also
+  either_so (Some x) other is also = is
+
+  without_so : (test : A → Bool) (xs : List A) → AllByRecursion P xs → AllByRecursion P (without test xs)
+  without_so test [] all = tt
+  without_so test (x ∷ xs) all = by (test x) (without_so test xs all.1)
+    where
+      by : (passes : Bool) → AllByRecursion P (without test xs) → AllByRecursion P (if passes then xs else x ∷ without test xs)
+      by true others = all.1
+      by false others = (all.0, others)
+
+  behind_so : (xs : List A) (x : A) → AllByRecursion P xs → P x → AllByRecursion P (xs ++ x ∷ [])
+  behind_so [] x all is = (is, tt)
+  behind_so (y ∷ ys) x all is = (all.0, behind_so ys x all.1 is)
+
+found_kept : (kind : OsType) (id : ℤ) (types : List Declaration) → AreKept types → IfSome (found kind id types) IsKept
+found_kept kind id types kept =
+    either_so IsKept (last_such (is_for kind (is_id id)) types) (or_else (last_such (is_for kind (is_range_of id)) types) (last_such (is_for kind is_any) types))
+    (last_so IsKept (is_for kind (is_id id)) types kept)
+    (either_so IsKept (last_such (is_for kind (is_range_of id)) types) (last_such (is_for kind is_any) types)
+    (last_so IsKept (is_for kind (is_range_of id)) types kept)
+    (last_so IsKept (is_for kind is_any) types kept))
+
+asked_kept : (kind : OsType) (id : Option ℤ) (types : List Declaration) → AreKept types → IfSome (asked kind id types) IsKept
+asked_kept kind (Some id) types kept = found_kept kind id types kept
+asked_kept kind None types kept = last_so IsKept (is_for kind is_any) types kept
+
+template_kept : {F : Type 0} (one : Option Declaration) (fault : F) (body : PlainBody) → IfSome one IsKept
+    → ok_or (option_map (λ one. one.template) one) fault ≡ Ok body → keeps_rules body ≡ true
+template_kept {F} None fault body kept is = absurd (ok_or_err {F = F} body fault (sym is))
+template_kept {F} (Some one) fault body kept is = ap keeps_rules (sym (same_ok {F = F} one.template body is)) ∙ kept
+
+-- The resource.
+
+module _ (matching : (known : Facts) (place : Mark) (body : PlainBody) (items : List PlainItem) → keeps_rules body ≡ true → Has (IsMatch known place body items))
+    (rows : (known : Facts) (place : Mark) (body : PlainBody) (items : List PlainItem) (row : List Tree) → IsMatch known place body items (Ok row) → IsRow body row)
+    (spelling : (known : Facts) (body : PlainBody) (row : List Tree) → keeps_rules body ≡ true → IsRow body row → Has (IsCompiled known body row)) where
+  has_spelled : (mark : Mark) (known : Facts) (body : PlainBody) (row : List Tree) → Has (IsCompiled known body row) → Has (IsSpelled mark known body row)
+  has_spelled mark known body row (Ok bytes, is) = (Ok bytes, is)
+  has_spelled mark known body row (Err refused, is) = (Err (row_fault mark refused), (refused, is, refl))
+
+  has_bytes : (mark : Mark) (known : Facts) (items : List PlainItem) (body : PlainBody) → keeps_rules body ≡ true → Has (AreItemBytes mark known items body)
+  has_bytes mark known items body kept =
+      has_then (IsMatch known mark body items) (IsSpelled mark known body) (matching known mark body items kept)
+      (λ row is. has_spelled mark known body row (spelling known body row kept (rows known mark body items row is)))
+
+  module _ (around : Around) (mark : Mark) (types : List Declaration) (kept : AreKept types) where
+    has_read : (known : Facts) (items : List PlainItem) (body : PlainBody) → keeps_rules body ≡ true
+        → Has (AreReadBytes around.paths around.files mark known items body)
+    has_read known items body own =
+        has_then (λ answer. answer ≡ items_read around.paths around.files mark known items) (λ items. AreItemBytes mark known items body)
+        (has_is (items_read around.paths around.files mark known items)) (λ items is. has_bytes mark known items body own)
+
+    has_declared : (items : List PlainItem) (known : Facts) → Has (AreBytes around.paths around.files mark types items known)
+    has_declared items known =
+        has_then (λ answer. answer ≡ fields_for mark types known) (AreReadBytes around.paths around.files mark known items) (has_is (fields_for mark types known))
+        (λ body is. has_read known items body
+        (template_kept (found known.kind known.id types) (no_type mark known) body (found_kept known.kind known.id types kept) (sym is)))
+
+    has_made : (items : List PlainItem) (known : Facts) → Has (IsMade around.paths around.files mark types items known)
+    has_made items known =
+        has_then (AreBytes around.paths around.files mark types items known) (λ bytes answer. answer ≡ Ok (with_bytes known bytes)) (has_declared items known)
+        (λ bytes is. has_is (Ok (with_bytes known bytes)))
+
+    has_resource : (one : Compile) → Has (IsResource around mark types one)
+    has_resource one =
+        has_then (λ answer. answer ≡ facts_of around.setting mark one.kind one.head) (IsMade around.paths around.files mark types one.items)
+        (has_is (facts_of around.setting mark one.kind one.head)) (λ known is. has_made one.items known)
+
+    pub has_list : (list : List Resource) (one : Compile) → Has (IsListBehind around mark types list one)
+    has_list list one =
+        has_then (IsResource around mark types one) (λ resource answer. answer ≡ list_with mark around.setting.over list resource) (has_resource one)
+        (λ resource is. has_is (list_with mark around.setting.over list resource))
+
+-- The declaration.
+
+bound : {X Y F : Type 0} (first : Result X F) (next : X → Result Y F) (y : Y) → first >>= next ≡ Ok y → (x : X) × (first ≡ Ok x) × (next x ≡ Ok y)
+bound (Ok x) next y is = (x, refl, is)
+bound {Y = Y} {F = F} (Err f) next y is = absurd (ok_or_err {X = Y} {F = F} y f (sym is))
+
+on_line_so : {X : Type 0} (mark : Mark) (given : Result X TypeFault) (x : X) → on_line mark given ≡ Ok x → given ≡ Ok x
+on_line_so mark (Ok y) x is = ap (λ z. Ok z) (same_ok {F = Fault} y x is)
+on_line_so {X} mark (Err fault) x is = absurd (ok_or_err {X = X} {F = Fault} x _ (sym is))
+
+checked_kept : (body other : PlainBody) (fault : Option TypeFault) → broken body ≡ fault → unless_fault fault body ≡ Ok other → keeps_rules other ≡ true
+checked_kept body other None none is = ap keeps_rules (sym (same_ok {F = TypeFault} body other is)) ∙ ap is_none none
+checked_kept body other (Some fault) some is = absurd (ok_or_err {F = TypeFault} other fault (sym is))
+
+made_kept : (mark : Mark) (types : List Declaration) → AreKept types → (made : PlainMade) (body : PlainBody) → template_of mark types made ≡ Ok body → keeps_rules body ≡ true
+made_kept mark types kept (Fields own) body is = checked_kept own body (broken own) refl (on_line_so mark (checked own) body is)
+made_kept mark types kept (CopyOf kind id) body is =
+    let asks = bound (copied_id mark id) (λ id. on_line mark (copied (record { code = kind }) id types)) body is in
+    template_kept (asked (record { code = kind }) asks.0 types) (no_such_type (record { code = kind }) asks.0) body (asked_kept (record { code = kind }) asks.0 types kept)
+    (on_line_so mark (copied (record { code = kind }) asks.0 types) body asks.2)
+
+-- what a `type` statement leaves
+pub declared_kept : (setting : Setting) (mark : Mark) (work : Work) (one : Declare) (next : Work) → AreKept work.types → declared setting mark work one ≡ Ok next → AreKept next.types
+declared_kept setting mark work one next kept is =
+    let scoped = bound (scope_of mark one.bounds)
+    (λ scope. template_of mark work.types one.made >>= (λ template. Ok (with_type setting mark work (record { code = one.kind }) scope template))) next is in
+    let made = bound (template_of mark work.types one.made) (λ template. Ok (with_type setting mark work (record { code = one.kind }) scoped.0 template)) next scoped.2 in
+    subst (λ (w : Work). AreKept w.types) (same_ok {F = Fault} (with_type setting mark work (record { code = one.kind }) scoped.0 made.0) next made.2)
+    (behind_so IsKept (without (stands_at (record { code = one.kind }) scoped.0) work.types) (record { kind = record { code = one.kind }; scope = scoped.0; template = made.0 })
+    (without_so IsKept (stands_at (record { code = one.kind }) scoped.0) work.types kept) (made_kept mark work.types kept one.made made.0 made.1))
