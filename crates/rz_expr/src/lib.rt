@@ -1,7 +1,7 @@
 //! Expressions: what a word may be, their grammar, and their values in an environment. `role_of`, `read_expr`,
 //! `read_whole` and `eval` give exactly their definitions, and tokens are one expression at most.
 //! It rests on `rz_core` and `rz_lex`.
-//! Reserved words are one table (`keyword`), the words of attributes another (`attribute`), which `rz_data` reads
+//! Reserved words are one table (`keyword`), the words of attributes another (`attribute`), which `rz_stmt_data` reads
 //! and `rz_show` writes. A new operator changes the grammar and the values, here and in docs/LANGUAGE.md.
 #![tactic(auto)]
 

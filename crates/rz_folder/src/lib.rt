@@ -3,7 +3,7 @@
 //! `RealFolder` and `RealSink` are the host's: what the host's calls do is trusted and tested, not proved.
 //! `replace` writes a regular file so that it is replaced whole or stays as it was; `temporary` names the file
 //! that it fills.
-//! A change there changes the tests in `rz_host_cases`, and what README.md says of a write that fails.
+//! A change there changes the tests in `rz_test_host`, and what README.md says of a write that fails.
 #![tactic(auto)]
 
 mod folder;

@@ -11,9 +11,9 @@ use Rattle.rz_layout.specs.Compiled.{is_compile_fault, IsCompiled, MeetsLaid}
 use Rattle.rz_layout.specs.Fault.{refusal_of}
 use Rattle.rz_layout.specs.Laid.{GivesLaid}
 use Rattle.rz_layout.specs.declared.fault.LayFault.{LayFault}
-use Rattle.rz_rows.specs.declared.tree.Tree.{Tree}
-use Rattle.rz_rows.specs.Laid.{laid, Refusal}
-use Rattle.rz_rows.specs.Row.{IsRow}
+use Rattle.rz_types_fields.specs.declared.tree.Tree.{Tree}
+use Rattle.rz_types_fields.specs.Laid.{laid, Refusal}
+use Rattle.rz_types_fields.specs.Row.{IsRow}
 use Rattle.rz_types.specs.Field.{PlainBody}
 use Rattle.rz_types.specs.Kept.{IsKept}
 use Rattle.rz_layout.proofs.Complete.{complete}

@@ -12,7 +12,7 @@ use Rattle.rz_expr.specs.Environment.{count_key, place_key, place_of, predefined
 use Rattle.rz_expr.specs.Value.{reduced}
 use Rattle.rz_layout.specs.Names.{counted_behind, known}
 use Rattle.rz_layout.specs.declared.names.Counted.{Counted}
-use Rattle.rz_rows.specs.Laid.{with_count}
+use Rattle.rz_types_fields.specs.Laid.{with_count}
 use Rattle.rz_types.specs.Passed.{outside}
 
 -- Names in whatever case.

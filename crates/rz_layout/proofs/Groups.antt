@@ -10,8 +10,8 @@ use Rattle.rz_bits.specs.Bits.{number_bits}
 use Rattle.rz_expr.specs.Environment.{Environment}
 use Rattle.rz_layout.specs.Laid.{Lays}
 use Rattle.rz_layout.specs.declared.fault.LayFault.{LayFault}
-use Rattle.rz_rows.specs.declared.tree.Tree.TheVariants as trees
-use Rattle.rz_rows.specs.Laid.{in_order, lay, takes_one, with_bits, Draft, Refusal}
+use Rattle.rz_types_fields.specs.declared.tree.Tree.TheVariants as trees
+use Rattle.rz_types_fields.specs.Laid.{in_order, lay, takes_one, with_bits, Draft, Refusal}
 use Rattle.rz_types.specs.Piece.{free_integer}
 use Rattle.rz_layout.proofs.Trees.{number_is}
 

@@ -17,14 +17,14 @@ use Rattle.rz_expr.specs.declared.value.EvalFault.TheVariants.{BadShift, DataWid
 use Rattle.rz_bits.specs.Bits.{bytes_of, number_bits}
 use Rattle.rz_bits.specs.BitBuf.{filled}
 use Rattle.rz_layout.specs.Compiled.{is_compile_fault}
-use Rattle.rz_fields.specs.Place.{may_say, may_stand}
-use Rattle.rz_fields.specs.declared.field.NumForm.{NumForm}
-use Rattle.rz_fields.specs.declared.field.Symbol.{Symbol}
-use Rattle.rz_fields.specs.declared.field.TextForm.{TextForm}
-use Rattle.rz_fields.specs.declared.place.TextPlace.TheVariants as places
-use Rattle.rz_rows.specs.declared.tree.Tree.{Tree}
-use Rattle.rz_rows.specs.Laid.{bad_length, bad_size, behind_refusal, body_laid, bytes_given, bytes_laid, case_laid, counted, field_laid, first_value, in_order, joined, laid, lay, line_in, nothing_laid, number_given, one_more, other_values, piece_laid, refusal, refusal_in, rows_in, rows_laid, size_in, takes_one, text_refusal, too_long, unless, unvalued, valued, value_in, with_bits, Draft, Refusal}
-use Rattle.rz_rows.specs.Spells.{is_case, most_bits, nowhere, values_for}
+use Rattle.rz_types_fields.specs.Place.{may_say, may_stand}
+use Rattle.rz_types_fields.specs.declared.field.NumForm.{NumForm}
+use Rattle.rz_types_fields.specs.declared.field.Symbol.{Symbol}
+use Rattle.rz_types_fields.specs.declared.field.TextForm.{TextForm}
+use Rattle.rz_types_fields.specs.declared.place.TextPlace.TheVariants as places
+use Rattle.rz_types_fields.specs.declared.tree.Tree.{Tree}
+use Rattle.rz_types_fields.specs.Laid.{bad_length, bad_size, behind_refusal, body_laid, bytes_given, bytes_laid, case_laid, counted, field_laid, first_value, in_order, joined, laid, lay, line_in, nothing_laid, number_given, one_more, other_values, piece_laid, refusal, refusal_in, rows_in, rows_laid, size_in, takes_one, text_refusal, too_long, unless, unvalued, valued, value_in, with_bits, Draft, Refusal}
+use Rattle.rz_types_fields.specs.Spells.{is_case, most_bits, nowhere, values_for}
 use Rattle.rz_types.specs.Field.{case_and, field_and, no_cases, no_fields, takes_value, Align, Array, Fill, Number, PlainBody, PlainCases, PlainField, PlainNumber, PlainText, Points, Switch, Text}
 use Rattle.rz_types.specs.Kept.{AreCasesKept, AreKept, IsKept, IsKeptWithin}
 use Rattle.rz_types.specs.Names.{GivesCounts, GivesPredefined}

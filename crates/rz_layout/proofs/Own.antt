@@ -13,9 +13,9 @@ use Rattle.rz_expr.proofs.Cases.{same_value}
 use Rattle.rz_expr.specs.Environment.{count_key, count_of, place_key, place_of, Environment, Key}
 use Rattle.rz_expr.specs.Term.{BitsAt, Constant, FactOf, Named, OfOne, OfTwo, RowsOf, Term}
 use Rattle.rz_expr.specs.Value.{known_value, number_at, operate, operate_one, value_of}
-use Rattle.rz_rows.specs.declared.tree.Tree.{Tree}
-use Rattle.rz_rows.specs.Laid.{counted, first_value, other_values, rows_in, with_count, with_field}
-use Rattle.rz_rows.specs.Spells.{IsCounted, Within}
+use Rattle.rz_types_fields.specs.declared.tree.Tree.{Tree}
+use Rattle.rz_types_fields.specs.Laid.{counted, first_value, other_values, rows_in, with_count, with_field}
+use Rattle.rz_types_fields.specs.Spells.{IsCounted, Within}
 use Rattle.rz_types.specs.Field.{field_and, no_fields, takes_value, Align, Array, Fill, Number, PlainBody, PlainField, Points, Switch, Text}
 use Rattle.rz_types.specs.Kept.{Differ}
 use Rattle.rz_types.specs.Names.{GivesCounts, GivesPredefined}

@@ -6,8 +6,8 @@ use Rattle.rz_core.specs.Stop.{◌>>=◌}
 use Rattle.rz_bits.specs.Bits.{bits_of}
 use Rattle.rz_layout.specs.Laid.{text_put}
 use Rattle.rz_layout.specs.Text.{stored_length}
-use Rattle.rz_fields.specs.declared.field.TextForm.{TextForm}
-use Rattle.rz_rows.specs.Laid.{text_refusal, with_bits, Draft, Refusal}
+use Rattle.rz_types_fields.specs.declared.field.TextForm.{TextForm}
+use Rattle.rz_types_fields.specs.Laid.{text_refusal, with_bits, Draft, Refusal}
 use Rattle.rz_types.specs.Stored.{stored_text}
 use Rattle.rz_layout.proofs.Stores.{bits_stored}
 

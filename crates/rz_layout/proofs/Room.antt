@@ -8,8 +8,8 @@ use Rattle.std.proofs.lemmas.List.{length-append}
 use Rattle.rz_bits.specs.Bits.{number_bits}
 use Rattle.rz_layout.specs.Laid.{HasRoom, Lays}
 use Rattle.rz_layout.specs.declared.fault.LayFault.{LayFault}
-use Rattle.rz_rows.specs.Laid.{one_more, too_long, with_bits, Draft, Refusal}
-use Rattle.rz_rows.specs.Spells.{most_bits}
+use Rattle.rz_types_fields.specs.Laid.{one_more, too_long, with_bits, Draft, Refusal}
+use Rattle.rz_types_fields.specs.Spells.{most_bits}
 
 pub length_number : (width number : ℕ) → length (number_bits width number) ≡ width
 unfolding number_bits

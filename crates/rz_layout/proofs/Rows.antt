@@ -3,11 +3,11 @@ use Rattle.std.proofs.Common.{◌≡◌, inl, inr, Bool, true, false, List, Opti
 use Rattle.std.specs.List.{AllByRecursion}
 use Rattle.std.specs.Str.{str_eq_ignore_ascii_case}
 use Rattle.rz_core.specs.declared.resource.Word.{Word}
-use Rattle.rz_rows.specs.declared.tree.Tree.{Tree}
-use Rattle.rz_rows.specs.declared.tree.Tree.TheVariants as trees
-use Rattle.rz_rows.specs.Laid.{first_value, other_values}
-use Rattle.rz_rows.specs.Row.{IsChoice, IsFront}
-use Rattle.rz_rows.specs.Spells.{is_case, put}
+use Rattle.rz_types_fields.specs.declared.tree.Tree.{Tree}
+use Rattle.rz_types_fields.specs.declared.tree.Tree.TheVariants as trees
+use Rattle.rz_types_fields.specs.Laid.{first_value, other_values}
+use Rattle.rz_types_fields.specs.Row.{IsChoice, IsFront}
+use Rattle.rz_types_fields.specs.Spells.{is_case, put}
 use Rattle.rz_types.specs.Field.{case_and, no_cases, PlainCases}
 use Rattle.rz_types.specs.Rules.{case_names}
 use Rattle.rz_layout.proofs.Own.{same_name}

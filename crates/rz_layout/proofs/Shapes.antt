@@ -10,13 +10,13 @@ use Rattle.rz_core.proofs.Tests.{both, true_false}
 use Rattle.rz_core.specs.declared.resource.Word.{Word}
 use Rattle.rz_expr.specs.Term.{Term}
 use Rattle.rz_layout.specs.Sound.{AreSound, IsCaseSound, IsGroupBy, IsSound, IsWidth}
-use Rattle.rz_fields.specs.declared.field.NumForm.{NumForm}
-use Rattle.rz_fields.specs.declared.field.NumForm.TheVariants.{Bits, Boolean, Byte, Char, Integer, Longint}
-use Rattle.rz_rows.specs.declared.tree.Tree.{Tree}
-use Rattle.rz_rows.specs.declared.tree.Tree.TheVariants as trees
-use Rattle.rz_rows.specs.Laid.{first_value, line_in, other_values, rows_in}
-use Rattle.rz_rows.specs.Row.{IsChoice, IsRow, IsValue}
-use Rattle.rz_rows.specs.Spells.{group_in, is_case}
+use Rattle.rz_types_fields.specs.declared.field.NumForm.{NumForm}
+use Rattle.rz_types_fields.specs.declared.field.NumForm.TheVariants.{Bits, Boolean, Byte, Char, Integer, Longint}
+use Rattle.rz_types_fields.specs.declared.tree.Tree.{Tree}
+use Rattle.rz_types_fields.specs.declared.tree.Tree.TheVariants as trees
+use Rattle.rz_types_fields.specs.Laid.{first_value, line_in, other_values, rows_in}
+use Rattle.rz_types_fields.specs.Row.{IsChoice, IsRow, IsValue}
+use Rattle.rz_types_fields.specs.Spells.{group_in, is_case}
 use Rattle.rz_types.specs.Field.{case_and, field_and, no_cases, no_fields, takes_value, Align, Array, Fill, Number, PlainBody, PlainCases, PlainField, PlainNumber, PlainPoints, Points, Switch, Text}
 use Rattle.rz_types.specs.Kept.{AreCasesKept, AreKept, Differ, IsKept, IsKeptWithin}
 use Rattle.rz_types.specs.Range.{is_between}

@@ -12,11 +12,11 @@ use Rattle.rz_expr.specs.Environment.{Environment}
 use Rattle.rz_expr.specs.Term.{Term}
 use Rattle.rz_bits.specs.Bits.{bits_of, bytes_of}
 use Rattle.rz_bits.specs.BitBuf.{filled, missing, zeros}
-use Rattle.rz_rows.specs.declared.tree.Tree.{Tree}
-use Rattle.rz_rows.specs.declared.tree.Tree.TheVariants as trees
-use Rattle.rz_rows.specs.Laid.{body_laid, case_laid, counted, field_laid, first_value, laid, line_in, nothing_laid, other_values, pieces_laid, rows_in, rows_laid, takes_one, Draft}
-use Rattle.rz_rows.specs.Row.{By, IsChoice, IsRow, IsValue}
-use Rattle.rz_rows.specs.Spells.{group_in, is_case, put, values_for, BodySpells, CaseSpells, FieldSpells, Inside, IsCounted, IsGrouped, IsGroupedFor, Late, PiecesSpell, RowsSpell, Spells}
+use Rattle.rz_types_fields.specs.declared.tree.Tree.{Tree}
+use Rattle.rz_types_fields.specs.declared.tree.Tree.TheVariants as trees
+use Rattle.rz_types_fields.specs.Laid.{body_laid, case_laid, counted, field_laid, first_value, laid, line_in, nothing_laid, other_values, pieces_laid, rows_in, rows_laid, takes_one, Draft}
+use Rattle.rz_types_fields.specs.Row.{By, IsChoice, IsRow, IsValue}
+use Rattle.rz_types_fields.specs.Spells.{group_in, is_case, put, values_for, BodySpells, CaseSpells, FieldSpells, Inside, IsCounted, IsGrouped, IsGroupedFor, Late, PiecesSpell, RowsSpell, Spells}
 use Rattle.rz_types.specs.Field.{case_and, field_and, no_cases, no_fields, takes_value, Align, Array, Fill, Number, PlainBody, PlainCases, PlainField, PlainNumber, PlainPoints, PlainText, Points, Switch, Text}
 use Rattle.rz_types.specs.Kept.{AreCasesKept, AreKept, Differ, IsKept, IsKeptWithin}
 use Rattle.rz_types.specs.Rules.{case_names}

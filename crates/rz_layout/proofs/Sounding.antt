@@ -12,13 +12,13 @@ use Rattle.rz_expr.specs.Term.{Term}
 use Rattle.rz_expr.specs.Value.{value_of}
 use Rattle.rz_expr.specs.declared.value.EvalFault.{EvalFault}
 use Rattle.rz_bits.specs.Bits.{bits_of, number_bits}
-use Rattle.rz_fields.specs.declared.field.NumForm.{NumForm}
-use Rattle.rz_fields.specs.declared.field.TextForm.{TextForm}
-use Rattle.rz_fields.specs.declared.field.TextForm.TheVariants as forms
-use Rattle.rz_rows.specs.declared.tree.Tree.{Tree}
-use Rattle.rz_rows.specs.declared.tree.Tree.TheVariants as trees
-use Rattle.rz_rows.specs.Laid.{bad_length, bad_size, behind_refusal, bytes_given, bytes_laid, first_value, fixed_number, in_order, joined, lay, number_given, number_in, one_more, other_values, piece_laid, refusal, size_in, takes_one, text_in, text_laid, text_refusal, too_long, unless, unvalued, valued, value_in, with_bits, Draft, Refusal}
-use Rattle.rz_rows.specs.Spells.{is_late_size, is_one_late, marks, most_bits, nowhere, put, AreBytes, InOrder, IsNumber, IsSize, IsStored, IsText, Late, PieceSpells, RowSpells, Then}
+use Rattle.rz_types_fields.specs.declared.field.NumForm.{NumForm}
+use Rattle.rz_types_fields.specs.declared.field.TextForm.{TextForm}
+use Rattle.rz_types_fields.specs.declared.field.TextForm.TheVariants as forms
+use Rattle.rz_types_fields.specs.declared.tree.Tree.{Tree}
+use Rattle.rz_types_fields.specs.declared.tree.Tree.TheVariants as trees
+use Rattle.rz_types_fields.specs.Laid.{bad_length, bad_size, behind_refusal, bytes_given, bytes_laid, first_value, fixed_number, in_order, joined, lay, number_given, number_in, one_more, other_values, piece_laid, refusal, size_in, takes_one, text_in, text_laid, text_refusal, too_long, unless, unvalued, valued, value_in, with_bits, Draft, Refusal}
+use Rattle.rz_types_fields.specs.Spells.{is_late_size, is_one_late, marks, most_bits, nowhere, put, AreBytes, InOrder, IsNumber, IsSize, IsStored, IsText, Late, PieceSpells, RowSpells, Then}
 use Rattle.rz_types.specs.Field.{PlainText}
 use Rattle.rz_types.specs.Range.{fits_number, may_be_size}
 use Rattle.rz_types.specs.Passed.{behind_piece, Names, Passed}

@@ -11,11 +11,11 @@ use Rattle.rz_expr.specs.Environment.{Environment, Sight}
 use Rattle.rz_expr.specs.Term.{Term}
 use Rattle.rz_expr.specs.Value.{value_of}
 use Rattle.rz_bits.specs.Bits.{bits_of, number_bits}
-use Rattle.rz_fields.specs.declared.field.NumForm.{NumForm}
-use Rattle.rz_fields.specs.declared.field.TextForm.{TextForm}
-use Rattle.rz_rows.specs.declared.tree.Tree.{Tree}
-use Rattle.rz_rows.specs.Laid.{bad_size, behind_refusal, bytes_given, bytes_laid, first_value, in_order, joined, lay, number_given, number_in, one_more, other_values, piece_laid, refusal, refusal_in, size_in, text_in, takes_one, text_laid, then_laid, unless, unvalued, valued, value_in, with_bits, Draft, Refusal}
-use Rattle.rz_rows.specs.Spells.{most_bits, nowhere, put, AreBytes, InOrder, IsGrouped, IsNumber, IsSize, IsStored, IsText, Late, PieceSpells}
+use Rattle.rz_types_fields.specs.declared.field.NumForm.{NumForm}
+use Rattle.rz_types_fields.specs.declared.field.TextForm.{TextForm}
+use Rattle.rz_types_fields.specs.declared.tree.Tree.{Tree}
+use Rattle.rz_types_fields.specs.Laid.{bad_size, behind_refusal, bytes_given, bytes_laid, first_value, in_order, joined, lay, number_given, number_in, one_more, other_values, piece_laid, refusal, refusal_in, size_in, text_in, takes_one, text_laid, then_laid, unless, unvalued, valued, value_in, with_bits, Draft, Refusal}
+use Rattle.rz_types_fields.specs.Spells.{most_bits, nowhere, put, AreBytes, InOrder, IsGrouped, IsNumber, IsSize, IsStored, IsText, Late, PieceSpells}
 use Rattle.rz_types.specs.Field.{PlainText}
 use Rattle.rz_types.specs.Range.{fits_number}
 use Rattle.rz_types.specs.Passed.{behind_piece, Passed}

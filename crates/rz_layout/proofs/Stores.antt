@@ -5,8 +5,8 @@ use Rattle.std.proofs.lemmas.List.{append_assoc, append-nil, drop_more, length-a
 use Rattle.rz_bits.specs.Bits.{bits_of, number_bits}
 use Rattle.rz_bits.specs.BitBuf.{zeros}
 use Rattle.rz_layout.specs.Text.{sized_length, stored_length}
-use Rattle.rz_fields.specs.declared.field.TextForm.{TextForm}
-use Rattle.rz_fields.specs.declared.field.TextForm.TheVariants as forms
+use Rattle.rz_types_fields.specs.declared.field.TextForm.{TextForm}
+use Rattle.rz_types_fields.specs.declared.field.TextForm.TheVariants as forms
 use Rattle.rz_types.specs.Stored.{before_zero, sized, stored_text, to_size}
 use Rattle.rz_layout.proofs.Room.{length_number}
 

@@ -1,10 +1,10 @@
 -- What the values of rows are.
 use Rattle.std.proofs.Common.{◌≡◌, ℕ, List, Some, ap}
 use Rattle.rz_core.specs.declared.resource.Word.{Word}
-use Rattle.rz_rows.specs.declared.tree.Tree.{Tree}
-use Rattle.rz_rows.specs.declared.tree.Tree.TheVariants as trees
-use Rattle.rz_rows.specs.Laid.{line_in, line_of_tree, number_in, number_of_tree, rows_in, rows_of_tree, text_in, text_of_tree}
-use Rattle.rz_rows.specs.Spells.{choice_in, choice_of_tree, group_in, numbers_of_group}
+use Rattle.rz_types_fields.specs.declared.tree.Tree.{Tree}
+use Rattle.rz_types_fields.specs.declared.tree.Tree.TheVariants as trees
+use Rattle.rz_types_fields.specs.Laid.{line_in, line_of_tree, number_in, number_of_tree, rows_in, rows_of_tree, text_in, text_of_tree}
+use Rattle.rz_types_fields.specs.Spells.{choice_in, choice_of_tree, group_in, numbers_of_group}
 
 pub number_is : (n : ℕ) → number_in (Some (trees.Number n)) ≡ n
 number_is n = ap number_of_tree (trees.outs-Number n)

@@ -6,9 +6,9 @@ use Rattle.rz_core.specs.declared.stop.Stop.{Stop}
 use Rattle.rz_core.specs.declared.stop.Stop.TheVariants.{NoMemory, Refused}
 use Rattle.rz_layout.specs.Fault.{refusal_of}
 use Rattle.rz_layout.specs.declared.fault.LayFault.{LayFault}
-use Rattle.rz_rows.specs.declared.tree.Tree.{Tree}
-use Rattle.rz_rows.specs.Laid.{Refusal, Refuses}
-use Rattle.rz_rows.specs.Spells.{Spells}
+use Rattle.rz_types_fields.specs.declared.tree.Tree.{Tree}
+use Rattle.rz_types_fields.specs.Laid.{Refusal, Refuses}
+use Rattle.rz_types_fields.specs.Spells.{Spells}
 use Rattle.rz_types.specs.Field.{PlainBody}
 
 -- the bytes that a row spells, or its refusal

@@ -9,10 +9,10 @@ use Rattle.rz_layout.specs.declared.laid.Laid.{Laid}
 use Rattle.rz_core.specs.Stop.{◌>>=◌}
 use Rattle.rz_core.specs.declared.facts.Facts.{Facts}
 use Rattle.rz_expr.specs.Environment.{Environment}
-use Rattle.rz_fields.specs.declared.field.TextForm.{TextForm}
-use Rattle.rz_rows.specs.declared.tree.Tree.{Tree}
-use Rattle.rz_rows.specs.Laid.{bytes_given, bytes_laid, too_long, with_bits, Draft, Refusal}
-use Rattle.rz_rows.specs.Spells.{most_bits}
+use Rattle.rz_types_fields.specs.declared.field.TextForm.{TextForm}
+use Rattle.rz_types_fields.specs.declared.tree.Tree.{Tree}
+use Rattle.rz_types_fields.specs.Laid.{bytes_given, bytes_laid, too_long, with_bits, Draft, Refusal}
+use Rattle.rz_types_fields.specs.Spells.{most_bits}
 use Rattle.rz_types.specs.Field.{PlainText}
 
 abbrev pub draft_of : Laid → Draft

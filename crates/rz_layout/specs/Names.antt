@@ -2,7 +2,7 @@
 use Rattle.std.specs.Prelude.{◌≡◌, List, [], ◌∷◌, ◌++◌, Some}
 use Rattle.rz_expr.specs.Environment.{Environment}
 use Rattle.rz_layout.specs.declared.names.Counted.{Counted}
-use Rattle.rz_rows.specs.Laid.{with_count}
+use Rattle.rz_types_fields.specs.Laid.{with_count}
 use Rattle.rz_types.specs.Passed.{outside}
 
 -- behind what names have outside, the numbers of rows of arrays, the oldest first: the newest of a name counts

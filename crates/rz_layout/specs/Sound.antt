@@ -2,9 +2,9 @@
 use Rattle.std.specs.Prelude.{◌≡◌, ◌<◌, ◌≤ℤ◌, ℤ, pos, Bool, true, List, length, Option, None, Some}
 use Rattle.std.specs.List.{AllByRecursion}
 use Rattle.rz_expr.specs.Term.{Term}
-use Rattle.rz_rows.specs.declared.tree.Tree.{Tree}
-use Rattle.rz_rows.specs.Laid.{first_value, line_in, other_values, rows_in}
-use Rattle.rz_rows.specs.Spells.{group_in, is_case}
+use Rattle.rz_types_fields.specs.declared.tree.Tree.{Tree}
+use Rattle.rz_types_fields.specs.Laid.{first_value, line_in, other_values, rows_in}
+use Rattle.rz_types_fields.specs.Spells.{group_in, is_case}
 use Rattle.rz_types.specs.Field.{case_and, field_and, no_cases, no_fields, takes_value, Align, Array, Fill, Number, PlainBody, PlainCases, PlainField, PlainPoints, Points, Switch, Text}
 use Rattle.rz_types.specs.Shape.{numbers_of}
 

@@ -1,7 +1,7 @@
 -- How long the stored forms of texts are.
 use Rattle.std.specs.Prelude.{ℕ, ◌+◌, Option, None, Some}
-use Rattle.rz_fields.specs.declared.field.TextForm.{TextForm}
-use Rattle.rz_fields.specs.declared.field.TextForm.TheVariants.{Open, Pascal, WordLong, Zero}
+use Rattle.rz_types_fields.specs.declared.field.TextForm.{TextForm}
+use Rattle.rz_types_fields.specs.declared.field.TextForm.TheVariants.{Open, Pascal, WordLong, Zero}
 use Rattle.rz_types.specs.Stored.{before_zero}
 
 -- the bytes that a size leaves or fills to

@@ -1,7 +1,7 @@
 ghost use Rattle.std.specs.Prelude.{◌≡◌};
 ghost use Rattle.rz_expr.specs.Unvalued.{fault_of};
 ghost use Rattle.rz_layout.specs.Fault.{refusal_of};
-ghost use Rattle.rz_rows.specs.Laid.{value_refusal};
+ghost use Rattle.rz_types_fields.specs.Laid.{value_refusal};
 
 use rz_expr::Unvalued;
 

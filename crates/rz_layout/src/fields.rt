@@ -6,9 +6,9 @@ ghost use Rattle.rz_layout.specs.Names.{known};
 ghost use Rattle.rz_layout.specs.Sound.{AreSound, IsCaseSound, IsSound};
 ghost use Rattle.rz_core.specs.Stop.{OnFault};
 ghost use Rattle.std.specs.List.{AllByRecursion};
-ghost use Rattle.rz_rows.specs.Laid.{body_laid, case_laid, counted, field_laid, laid, rows_laid, Refusal};
-ghost use Rattle.rz_rows.specs.Row.{IsRow};
-ghost use Rattle.rz_rows.specs.Spells.{most_bits};
+ghost use Rattle.rz_types_fields.specs.Laid.{body_laid, case_laid, counted, field_laid, laid, rows_laid, Refusal};
+ghost use Rattle.rz_types_fields.specs.Row.{IsRow};
+ghost use Rattle.rz_types_fields.specs.Spells.{most_bits};
 ghost use Rattle.rz_types.specs.Field.{plain_body, plain_cases, plain_field};
 ghost use Rattle.rz_types.specs.Template.{template_of};
 
@@ -23,11 +23,11 @@ use rz_bits::{
     numbers_are_written_back,
 };
 use rz_core::{Bytes, Facts, Stop};
-use rz_rows::values::{choice_in, line_in, next_value, rows_in};
-use rz_rows::{Row, Tree};
 use rz_types::{
     Case, Field, Template, field_expressions_have_values, rules_hold_within, takes_value,
 };
+use rz_types_fields::values::{choice_in, line_in, next_value, rows_in};
+use rz_types_fields::{Row, Tree};
 use std::alloc::Global;
 
 /// The bytes that a row spells under a template, for a resource of which so much is known; there is one such list of

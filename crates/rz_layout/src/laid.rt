@@ -2,8 +2,8 @@ ghost use Rattle.std.specs.Prelude.{IfOk, ◌≡◌, ◌<◌, ◌≤◌, ◌^◌
 ghost use Rattle.rz_bits.specs.BitBuf.{missing, zeros};
 ghost use Rattle.rz_bits.specs.Bits.{number_bits};
 ghost use Rattle.rz_layout.specs.Laid.{draft_of, HasRoom, Lays};
-ghost use Rattle.rz_rows.specs.Laid.{in_bytes, nothing_laid, one_more, with_bits};
-ghost use Rattle.rz_rows.specs.Spells.{most_bits};
+ghost use Rattle.rz_types_fields.specs.Laid.{in_bytes, nothing_laid, one_more, with_bits};
+ghost use Rattle.rz_types_fields.specs.Spells.{most_bits};
 
 use crate::LayFault;
 use crate::store::push_zeros;

@@ -2,9 +2,9 @@ ghost use Rattle.std.specs.Prelude.{◌≡◌, true, ℕ, List};
 ghost use Rattle.std.specs.declared.result.Result.{Result};
 ghost use Rattle.rz_core.specs.declared.facts.Facts.{Facts};
 ghost use Rattle.rz_layout.specs.Compiled.{IsCompiled};
-ghost use Rattle.rz_rows.specs.declared.tree.Tree.{Tree};
-ghost use Rattle.rz_rows.specs.Laid.{Refusal};
-ghost use Rattle.rz_rows.specs.Row.{IsRow};
+ghost use Rattle.rz_types_fields.specs.declared.tree.Tree.{Tree};
+ghost use Rattle.rz_types_fields.specs.Laid.{Refusal};
+ghost use Rattle.rz_types_fields.specs.Row.{IsRow};
 ghost use Rattle.rz_types.specs.Field.{PlainBody};
 ghost use Rattle.rz_types.specs.Rules.{keeps_rules};
 

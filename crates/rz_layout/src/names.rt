@@ -3,15 +3,15 @@ ghost use Rattle.std.proofs.Common.{rules};
 ghost use Rattle.rz_expr.specs.Environment.{count_key};
 ghost use Rattle.rz_expr.specs.Value.{reduced};
 ghost use Rattle.rz_layout.specs.Names.{known, Grew};
-ghost use Rattle.rz_rows.specs.Laid.{counted, rows_in, with_count, with_field};
+ghost use Rattle.rz_types_fields.specs.Laid.{counted, rows_in, with_count, with_field};
 ghost use Rattle.rz_types.specs.Field.{plain_body, plain_field};
 ghost use Rattle.rz_types.specs.Value.{names_sight};
 
 use rz_core::{Facts, NoMemory, Word};
 use rz_expr::{Env, FactWord, predefined, signed};
-use rz_rows::Tree;
-use rz_rows::values::{next_value, rows_in};
 use rz_types::{Field, fact_of, takes_value};
+use rz_types_fields::Tree;
+use rz_types_fields::values::{next_value, rows_in};
 
 /// The number of rows of an array of a body that is open.
 #[derive(Clone, Copy, Debug)]

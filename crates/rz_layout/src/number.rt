@@ -4,8 +4,8 @@ ghost use Rattle.rz_layout.specs.Laid.{draft_of, GivesLaid, Lays};
 ghost use Rattle.rz_layout.specs.Sound.{IsWidth};
 ghost use Rattle.rz_types.specs.Field.{plain_number};
 ghost use Rattle.rz_layout.specs.Names.{known};
-ghost use Rattle.rz_rows.specs.Laid.{fixed_number, lay, number_given, value_in};
-ghost use Rattle.rz_rows.specs.Spells.{most_bits};
+ghost use Rattle.rz_types_fields.specs.Laid.{fixed_number, lay, number_given, value_in};
+ghost use Rattle.rz_types_fields.specs.Spells.{most_bits};
 ghost use Rattle.rz_types.specs.Piece.{OneNumber};
 
 use crate::LayFault;
@@ -14,9 +14,9 @@ use crate::laid::Laid;
 use crate::names::NamesEnv;
 use rz_core::Stop;
 use rz_expr::{Expr, value_in};
-use rz_rows::Tree;
-use rz_rows::values::number_in;
 use rz_types::{NumField, NumForm, fits_number, stored_number};
+use rz_types_fields::Tree;
+use rz_types_fields::values::number_in;
 
 /// Lays a number: that of the row, or the value of its expression.
 pub fn lay_number(

@@ -3,9 +3,9 @@ ghost use Rattle.rz_expr.specs.Term.{term_of};
 ghost use Rattle.rz_layout.specs.Laid.{draft_of, Lays};
 ghost use Rattle.rz_layout.specs.Names.{known};
 ghost use Rattle.rz_layout.specs.Sound.{IsGroupOf};
-ghost use Rattle.rz_rows.specs.declared.tree.Tree.TheVariants as trees;
-ghost use Rattle.rz_rows.specs.Laid.{field_laid, in_order, lay, takes_one};
-ghost use Rattle.rz_rows.specs.Spells.{most_bits};
+ghost use Rattle.rz_types_fields.specs.declared.tree.Tree.TheVariants as trees;
+ghost use Rattle.rz_types_fields.specs.Laid.{field_laid, in_order, lay, takes_one};
+ghost use Rattle.rz_types_fields.specs.Spells.{most_bits};
 ghost use Rattle.rz_types.specs.Field.{plain_points};
 ghost use Rattle.rz_types.specs.Field.{Points};
 ghost use Rattle.rz_types.specs.Piece.{fixed_integer, free_integer};
@@ -16,9 +16,9 @@ use crate::names::NamesEnv;
 use crate::number::fixed_number;
 use rz_core::Stop;
 use rz_expr::Expr;
-use rz_rows::Tree;
-use rz_rows::values::group_in;
 use rz_types::{NumForm, PointField};
+use rz_types_fields::Tree;
+use rz_types_fields::values::group_in;
 
 /// Lays the numbers of a point or a rectangle: those of the row, or the values of its expressions.
 pub fn lay_points(

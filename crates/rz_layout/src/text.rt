@@ -4,8 +4,8 @@ ghost use Rattle.rz_layout.specs.Laid.{draft_of, sized_put, text_put, GivesLaid,
 ghost use Rattle.rz_layout.specs.Fault.{refusal_of};
 ghost use Rattle.rz_layout.specs.Names.{known};
 ghost use Rattle.rz_layout.specs.Text.{sized_length, stored_length};
-ghost use Rattle.rz_rows.specs.Laid.{fixed_bytes, joined, lay, refusal, size_in, text_refusal};
-ghost use Rattle.rz_rows.specs.Spells.{most_bits, nowhere};
+ghost use Rattle.rz_types_fields.specs.Laid.{fixed_bytes, joined, lay, refusal, size_in, text_refusal};
+ghost use Rattle.rz_types_fields.specs.Spells.{most_bits, nowhere};
 ghost use Rattle.rz_types.specs.Field.{plain_text};
 ghost use Rattle.rz_types.specs.Piece.{OneText};
 ghost use Rattle.rz_types.specs.Stored.{before_zero};
@@ -20,9 +20,9 @@ use crate::push::push_text;
 use crate::valued::unvalued_in;
 use rz_core::{Bytes, Kept, Mark, Stop};
 use rz_expr::Expr;
-use rz_rows::Tree;
-use rz_rows::values::text_in;
 use rz_types::{TextField, TextForm, Texts, is_too_long, may_be_size, text_seen};
+use rz_types_fields::Tree;
+use rz_types_fields::values::text_in;
 use std::alloc::Global;
 
 /// Lays a text: the bytes of the row, or those of its fixed parts, in its stored form.

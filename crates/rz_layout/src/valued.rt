@@ -3,15 +3,15 @@ ghost use Rattle.rz_core.specs.Lists.{first_of};
 ghost use Rattle.rz_expr.specs.Term.{term_of};
 ghost use Rattle.rz_layout.specs.Fault.{refusal_of};
 ghost use Rattle.rz_layout.specs.Names.{known};
-ghost use Rattle.rz_rows.specs.Laid.{unvalued};
+ghost use Rattle.rz_types_fields.specs.Laid.{unvalued};
 ghost use Rattle.rz_types.specs.Text.{argument_terms, arguments_of, part_terms, plain_argument, plain_arguments, plain_part, plain_parts, terms_in, text_terms};
 
 use crate::LayFault;
 use crate::fault::value_fault;
 use crate::names::NamesEnv;
 use rz_expr::{Expr, value_in};
-use rz_fields::{FormatArg, FormatArgs};
 use rz_types::{TextPart, Texts};
+use rz_types_fields::{FormatArg, FormatArgs};
 
 /// Why the first number in the formats of a text that has no value has none.
 #[cycle(valued)]

@@ -29,10 +29,10 @@ use Rattle.rz_pre.specs.declared.program.PreFault.TheVariants as prefaults
 use Rattle.rz_pre.specs.declared.program.Program.{Program}
 use Rattle.rz_pre.specs.declared.reading.Reading.{Reading}
 use Rattle.rz_lex.specs.declared.token.Token.{Token}
-use Rattle.rz_paths.specs.Halt.{halt_of, IsReadFault, IsUnrefused}
-use Rattle.rz_paths.specs.Names.{file_of, missing_file, names_of, utf8_name}
-use Rattle.rz_paths.specs.declared.halt.Halt.{Halt}
-use Rattle.rz_paths.specs.declared.halt.Halt.TheVariants as halts
+use Rattle.rz_folder_paths.specs.Halt.{halt_of, IsReadFault, IsUnrefused}
+use Rattle.rz_folder_paths.specs.Names.{file_of, missing_file, names_of, utf8_name}
+use Rattle.rz_folder_paths.specs.declared.halt.Halt.{Halt}
+use Rattle.rz_folder_paths.specs.declared.halt.Halt.TheVariants as halts
 use Rattle.rz_pre.specs.declared.act.Act.TheVariants as acts
 use Rattle.rz_pre.specs.declared.act.Act.{Act}
 use Rattle.rz_pre.specs.declared.condition.Tool.{Tool}

@@ -13,9 +13,9 @@ use Rattle.rz_lex.specs.declared.raw_line.RawLine.{RawLine}
 use Rattle.rz_lex.specs.declared.token.Shape.{Shape}
 use Rattle.rz_lex.specs.declared.token.Shape.TheVariants as shapes
 use Rattle.rz_lex.specs.declared.token.Token.{Token}
-use Rattle.rz_source.specs.Directive.{behind_hash, directive_in, has_parameters, unblanked}
-use Rattle.rz_source.specs.declared.directive.Directive.{Directive}
-use Rattle.rz_source.specs.declared.directive.Directive.TheVariants as directives
+use Rattle.rz_pre_source.specs.Directive.{behind_hash, directive_in, has_parameters, unblanked}
+use Rattle.rz_pre_source.specs.declared.directive.Directive.{Directive}
+use Rattle.rz_pre_source.specs.declared.directive.Directive.TheVariants as directives
 use Rattle.rz_pre.specs.Expand.{bare, more, nothing, replaced, Expansion, Expansions}
 use Rattle.rz_pre.specs.Expanded.{ExpandInto}
 use Rattle.rz_pre.specs.Lexed.{AreLexedShapes, HaveLexedTexts, IsLexed}

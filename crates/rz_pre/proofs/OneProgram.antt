@@ -12,19 +12,19 @@ use Rattle.rz_lex.specs.declared.joined.Placed.{Placed}
 use Rattle.rz_lex.specs.declared.raw_line.RawLine.{RawLine}
 use Rattle.rz_lex.specs.declared.token.Token.{Token}
 use Rattle.rz_pre.specs.Line.{Acts, Does, Directs, HasCondition, IsComputed, IsCut, IsReplaced, Obeys, PutsOut, Says, Turns, WhereKept, behind_first, is_kept, open_part}
-use Rattle.rz_source.specs.Directive.{behind_hash, directive_in, unblanked}
+use Rattle.rz_pre_source.specs.Directive.{behind_hash, directive_in, unblanked}
 use Rattle.rz_pre.specs.Live.{Live}
-use Rattle.rz_paths.specs.Names.{file_of, missing_file, names_of, utf8_name}
+use Rattle.rz_folder_paths.specs.Names.{file_of, missing_file, names_of, utf8_name}
 use Rattle.rz_pre.specs.Program.{bad_text, innermost, Enters, Follows, HasText, IncludedGoes, Includes, LineGoes, LinesGo, NamedGoes, NamesGo, Opens, OpensAs, State, TextGoes, WithFiles, levels_below}
-use Rattle.rz_source.specs.Source.{IsBadAt, IsTextOf}
+use Rattle.rz_pre_source.specs.Source.{IsBadAt, IsTextOf}
 use Rattle.rz_pre.specs.declared.act.Act.{Act}
 use Rattle.rz_pre.specs.declared.act.Act.TheVariants as acts
 use Rattle.rz_pre.specs.declared.condition.Tool.{Tool}
 use Rattle.rz_pre.specs.declared.conditional.Open.{Open}
 use Rattle.rz_pre.specs.declared.conditional.Part.{Part}
 use Rattle.rz_pre.specs.declared.conditional.Part.TheVariants.{Chosen, Past, Waiting}
-use Rattle.rz_source.specs.declared.directive.Directive.{Directive}
-use Rattle.rz_source.specs.declared.directive.Directive.TheVariants as directives
+use Rattle.rz_pre_source.specs.declared.directive.Directive.{Directive}
+use Rattle.rz_pre_source.specs.declared.directive.Directive.TheVariants as directives
 use Rattle.rz_pre.proofs.OneCondition.{condition_or_fault, one_condition, one_condition_fault, OneTerm}
 use Rattle.rz_pre.proofs.Replaced.{line_or_fault, one_fault, one_line}
 

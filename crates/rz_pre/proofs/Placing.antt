@@ -19,24 +19,24 @@ use Rattle.rz_lex.specs.declared.token.Token.{Token}
 use Rattle.rz_core.specs.Answers.{Meets}
 use Rattle.rz_pre.specs.Condition.{Tells}
 use Rattle.rz_pre.specs.Condition as condition
-use Rattle.rz_source.specs.Directive.{behind_hash, directive_in, has_parameters, unblanked}
+use Rattle.rz_pre_source.specs.Directive.{behind_hash, directive_in, has_parameters, unblanked}
 use Rattle.rz_pre.specs.Expanded.{too_long, ExpandInto, FirstTooLong}
 use Rattle.rz_pre.specs.Line.{Acts, Directs, Does, IsComputed, IsReplaced, Obeys, PutsOut, Says, Turns, WhereKept, behind_first, defined, ended, free_word, included, is_kept, open_part, or_bad, otherwise, passed_over, simple, tested, text_in, undefined, word_in}
 use Rattle.rz_pre.specs.Live.{Live}
 use Rattle.rz_pre.specs.Placed.{AreOn, AreOpenIn, IsSourceFault, OnRefused, PutsOn}
 use Rattle.rz_pre.specs.Program.{opens_after, state_after, State}
-use Rattle.rz_paths.specs.Halt.{halt_of, IsUnrefused}
+use Rattle.rz_folder_paths.specs.Halt.{halt_of, IsUnrefused}
 use Rattle.rz_pre.specs.Reading.{Steps}
-use Rattle.rz_paths.specs.declared.halt.Halt.{Halt}
-use Rattle.rz_paths.specs.declared.halt.Halt.TheVariants as halts
+use Rattle.rz_folder_paths.specs.declared.halt.Halt.{Halt}
+use Rattle.rz_folder_paths.specs.declared.halt.Halt.TheVariants as halts
 use Rattle.rz_pre.specs.declared.act.Act.{Act}
 use Rattle.rz_pre.specs.declared.act.Act.TheVariants as acts
 use Rattle.rz_pre.specs.declared.condition.Tool.{Tool}
 use Rattle.rz_pre.specs.declared.conditional.Open.{Open}
 use Rattle.rz_pre.specs.declared.conditional.Part.{Part}
 use Rattle.rz_pre.specs.declared.conditional.Part.TheVariants.{Chosen, Past, Waiting}
-use Rattle.rz_source.specs.declared.directive.Directive.{Directive}
-use Rattle.rz_source.specs.declared.directive.Directive.TheVariants as directives
+use Rattle.rz_pre_source.specs.declared.directive.Directive.{Directive}
+use Rattle.rz_pre_source.specs.declared.directive.Directive.TheVariants as directives
 
 pub all_append : {A : Type 0} (P : A → Type 0) (xs ys : List A) → AllByRecursion P xs → AllByRecursion P ys → AllByRecursion P (xs ++ ys)
 all_append P [] ys all more = more

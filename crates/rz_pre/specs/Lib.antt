@@ -8,7 +8,4 @@ pub mod Line
 pub mod Program
 pub mod Reading
 pub mod Placed
-pub mod Unfolding
-pub mod Groups
 pub mod Lexed
-pub mod Definitions

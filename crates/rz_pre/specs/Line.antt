@@ -15,7 +15,7 @@ use Rattle.rz_expr.specs.Value.{is_zero}
 use Rattle.rz_expr.specs.Words.{is_label, role_of}
 use Rattle.rz_core.specs.Answers.{Then}
 use Rattle.rz_pre.specs.Condition.{is_known, ConditionFails, IsCondition}
-use Rattle.rz_source.specs.Directive.{behind_hash, directive_in, has_parameters, unblanked}
+use Rattle.rz_pre_source.specs.Directive.{behind_hash, directive_in, has_parameters, unblanked}
 use Rattle.rz_pre.specs.Expanded.{ExpandInto, FirstTooLong}
 use Rattle.rz_pre.specs.Live.{Live}
 use Rattle.rz_pre.specs.declared.act.Act.{Act}
@@ -24,8 +24,8 @@ use Rattle.rz_pre.specs.declared.condition.Tool.{Tool}
 use Rattle.rz_pre.specs.declared.conditional.Open.{Open}
 use Rattle.rz_pre.specs.declared.conditional.Part.{Part}
 use Rattle.rz_pre.specs.declared.conditional.Part.TheVariants.{Chosen, Past, Waiting}
-use Rattle.rz_source.specs.declared.directive.Directive.{Directive}
-use Rattle.rz_source.specs.declared.directive.Directive.TheVariants as directives
+use Rattle.rz_pre_source.specs.declared.directive.Directive.{Directive}
+use Rattle.rz_pre_source.specs.declared.directive.Directive.TheVariants as directives
 
 -- Answers of what stands below.
 

@@ -13,8 +13,8 @@ use Rattle.rz_pre.specs.declared.conditional.Open.{Open}
 use Rattle.rz_pre.specs.declared.program.PreFault.{PreFault}
 use Rattle.rz_pre.specs.declared.program.PreFault.TheVariants as prefaults
 use Rattle.rz_pre.specs.declared.program.Program.{Program}
-use Rattle.rz_paths.specs.declared.halt.Halt.{Halt}
-use Rattle.rz_paths.specs.declared.halt.Halt.TheVariants as halts
+use Rattle.rz_folder_paths.specs.declared.halt.Halt.{Halt}
+use Rattle.rz_folder_paths.specs.declared.halt.Halt.TheVariants as halts
 use Rattle.rz_pre.specs.declared.reading.Reading.{Reading}
 
 -- the tokens stand on one line

@@ -11,10 +11,10 @@ use Rattle.rz_lex.specs.Lines.{HasLines}
 use Rattle.rz_lex.specs.declared.raw_line.RawLine.{RawLine}
 use Rattle.rz_lex.specs.declared.token.Token.{Token}
 use Rattle.rz_core.specs.Answers.{Then}
-use Rattle.rz_paths.specs.Names.{file_of, missing_file, names_of, utf8_name}
+use Rattle.rz_folder_paths.specs.Names.{file_of, missing_file, names_of, utf8_name}
 use Rattle.rz_pre.specs.Line.{Does}
 use Rattle.rz_pre.specs.Live.{put, shapes_of, Live}
-use Rattle.rz_source.specs.Source.{IsBadAt, IsTextOf}
+use Rattle.rz_pre_source.specs.Source.{IsBadAt, IsTextOf}
 use Rattle.rz_pre.specs.declared.act.Act.{Act}
 use Rattle.rz_pre.specs.declared.act.Act.TheVariants.{Begin, End, Include, Put, Set, Turn}
 use Rattle.rz_pre.specs.declared.condition.Tool.{Tool}

@@ -7,9 +7,9 @@ use Rattle.rz_core.specs.declared.resource.Word.{Word}
 use Rattle.rz_core.specs.declared.stop.Stop.{Stop}
 use Rattle.rz_core.specs.declared.stop.Stop.TheVariants as stops
 use Rattle.rz_lex.specs.declared.raw_line.RawLine.{RawLine}
-use Rattle.rz_paths.specs.Halt.{IsReadFault}
-use Rattle.rz_paths.specs.declared.halt.Halt.{Halt}
-use Rattle.rz_paths.specs.declared.halt.Halt.TheVariants.{NoMemory, ReadFault, Refused}
+use Rattle.rz_folder_paths.specs.Halt.{IsReadFault}
+use Rattle.rz_folder_paths.specs.declared.halt.Halt.{Halt}
+use Rattle.rz_folder_paths.specs.declared.halt.Halt.TheVariants.{NoMemory, ReadFault, Refused}
 use Rattle.rz_pre.specs.Line.{Does}
 use Rattle.rz_pre.specs.Live.{live_in}
 use Rattle.rz_pre.specs.Macros.{rows_of}

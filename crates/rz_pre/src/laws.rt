@@ -1,24 +1,15 @@
-ghost use Rattle.std.specs.Prelude.{◌≡◌, ◌↔◌, ◌⊎◌, ◌∷◌, ◌++◌, ℕ, true, false, List, Ok, Option, None, Result, reverse};
-ghost use Rattle.rz_core.specs.declared.fault.Fault.{Fault};
+ghost use Rattle.std.specs.Prelude.{◌≡◌, ℕ, List, Result};
 ghost use Rattle.rz_folder.specs.Folder.{Files};
 ghost use Rattle.rz_lex.specs.declared.token.Shape.{Shape};
-ghost use Rattle.rz_pre.specs.Definitions.{definitions, AreFree, IsFreeName, LeavesName};
 ghost use Rattle.rz_pre.specs.Expand.{Expansion};
-ghost use Rattle.rz_pre.specs.Groups.{is_group, lines_of, lines_unclosed, waiting, Choice, Done, Group, GroupGoes, Others};
-ghost use Rattle.rz_pre.specs.Live.{live_in, Live, Row};
-ghost use Rattle.rz_lex.specs.declared.raw_line.RawLine.{RawLine};
-ghost use Rattle.rz_core.specs.Answers.{Then};
-ghost use Rattle.rz_pre.specs.Line.{is_kept, Does};
-ghost use Rattle.rz_pre.specs.declared.act.Act.{Act};
-ghost use Rattle.rz_pre.specs.declared.conditional.Open.{Open};
-ghost use Rattle.rz_pre.specs.Program.{fails, innermost, open_if, start, Failure, IncludedGoes, LinesGo, ProgramGoes, State};
-ghost use Rattle.rz_pre.specs.Unfolding.{behind_all, outcome, EachActs, Entry, ProgramUnfolds};
+ghost use Rattle.rz_pre.specs.Live.{Live};
+ghost use Rattle.rz_pre.specs.Program.{Failure, ProgramGoes, State};
 ghost use Rattle.rz_pre.specs.declared.condition.Tool.{Tool};
 ghost use Rattle.rz_pre.specs.declared.program.Def.{Def};
 
-use rz_expr::{expressions_are_decided, one_expression};
-use rz_lex::{every_line_is_cut, every_text_has_lines, one_cut, one_list_of_lines};
-use rz_source::{every_source_is_read, one_text};
+use rz_expr::one_expression;
+use rz_lex::{one_cut, one_list_of_lines};
+use rz_pre_source::one_text;
 
 /// A law, with nothing to run: the named files mean at most one program or one first fault.
 pub fn one_program()
@@ -31,109 +22,10 @@ pub fn one_program()
     one_text();
 }
 
-/// A law, with nothing to run: the named files mean a program or have a first fault, whatever stands in them.
-pub fn every_program_has_an_answer()
-    ensures { (files : Files) (tool : Tool) (names paths : List (List ℕ)) (defs : List Def)
-        → (answer : Result State Failure) × ProgramGoes files tool names paths defs answer }
-{
-    every_line_is_cut();
-    every_text_has_lines();
-    one_expression();
-    expressions_are_decided();
-    every_source_is_read();
-}
-
-/// A law, with nothing to run: what the named files mean is given by one list of entries, in which each line
-/// does what it does under what is live behind the entries before it, and what is read of an included file
-/// stands directly behind the line that includes it. The tokens, the definitions and the opened files are those
-/// that the entries give from the first to the last; a fault is the first one, and stands behind them.
-pub fn one_list_of_entries()
-    ensures entries { (files : Files) (tool : Tool) (names paths : List (List ℕ)) (defs : List Def) (answer : Result State Failure)
-        → ProgramGoes files tool names paths defs answer
-        → (entries : List Entry) × (fault : Option Fault) × ProgramUnfolds files tool names paths defs entries fault
-        × EachActs tool entries (start defs) × (answer ≡ outcome entries fault (start defs)) }
-    ensures program { (files : Files) (tool : Tool) (names paths : List (List ℕ)) (defs : List Def) (entries : List Entry) (fault : Option Fault)
-        → ProgramUnfolds files tool names paths defs entries fault
-        → ProgramGoes files tool names paths defs (outcome entries fault (start defs)) }
-{}
-
 /// A law, with nothing to run: a token has at most one expansion, with one number of tokens that are handled
 /// for it.
 #[tactic(auto, using(crate::proofs::One::one_expansion))]
 pub fn one_expansion()
     ensures { (live : Live) (shape : Shape) (one other : List Shape) (work count : ℕ)
         → Expansion live shape one work → Expansion live shape other count → (one ≡ other) × (work ≡ count) }
-{}
-
-/// A law, with nothing to run: whatever macros are held, each token has an expansion.
-pub fn every_token_expands()
-    ensures { (rows : List Row) (shape : Shape)
-        → (out : List Shape) × (work : ℕ) × Expansion (live_in rows) shape out work }
-{}
-
-/// A law, with nothing to run: whatever macros are held, and whatever conditional stands around it, each line does
-/// something, or has a first fault.
-pub fn every_line_acts()
-    ensures { (rows : List Row) (tool : Tool) (around : Option Open) (line : RawLine)
-        → (answer : Result Act Fault) × Does (live_in rows) tool around line answer }
-{
-    every_line_is_cut();
-    one_expression();
-    expressions_are_decided();
-}
-
-/// A law, with nothing to run: of lines in groups that are read, of each conditional the chosen part is read,
-/// the first one whose test holds, else that of `#else`, and nothing of the others, whatever stands around
-/// them and whatever lines follow; and of lines in groups that aren't read, nothing is.
-pub fn chosen_parts()
-    ensures read { (tool : Tool) (files : Files) (paths : List (List ℕ)) (levels : ℕ) (group : Group) (rest : List RawLine) (ending : Option Fault)
-        (opens : List Open) (s : State) (answer : Result State Failure)
-        → is_group group ≡ true → is_kept (innermost opens) ≡ true
-        → Then (GroupGoes (IncludedGoes tool files paths levels) tool group s) (λ t. LinesGo (IncludedGoes tool files paths levels) tool rest ending opens t) answer
-        ↔ LinesGo (IncludedGoes tool files paths levels) tool (lines_of group rest) ending opens s answer }
-    ensures passed { (tool : Tool) (files : Files) (paths : List (List ℕ)) (levels : ℕ) (group : Group) (rest : List RawLine) (ending : Option Fault)
-        (opens : List Open) (s : State) (answer : Result State Failure)
-        → is_group group ≡ true → is_kept (innermost opens) ≡ false
-        → LinesGo (IncludedGoes tool files paths levels) tool rest ending opens s answer
-        ↔ LinesGo (IncludedGoes tool files paths levels) tool (lines_of group rest) ending opens s answer }
-{}
-
-/// A law, with nothing to run: behind some entries of a program a name stands for what the last of its
-/// definitions gives it, of the words or of a line before, or for itself where that one undefines it or none
-/// is of that name. So what is live is always a finite list of rows, and each token has an expansion: where one
-/// is refused as too long, it has an expansion, for which more tokens are handled.
-pub fn last_definition()
-    ensures decides { (defs : List Def) (entries : List Entry) (name : List ℕ) (front rear : List Row) (body : Option (List Shape))
-        → definitions defs entries ≡ front ++ (name, body) ∷ rear → LeavesName name rear
-        → (behind_all entries (start defs)).live name ≡ body }
-    ensures itself { (defs : List Def) (entries : List Entry) (name : List ℕ)
-        → LeavesName name (definitions defs entries) → (behind_all entries (start defs)).live name ≡ None }
-    ensures finite { (defs : List Def) (entries : List Entry)
-        → (behind_all entries (start defs)).live ≡ live_in (reverse (definitions defs entries)) }
-    ensures expands { (defs : List Def) (entries : List Entry) (shape : Shape)
-        → (out : List Shape) × (work : ℕ) × Expansion (behind_all entries (start defs)).live shape out work }
-{}
-
-/// A law, with nothing to run: behind a program no reserved word is live, if the words define none: a name that is live
-/// is, in lower case, a word that isn't reserved.
-pub fn live_names_are_free()
-    ensures { (files : Files) (tool : Tool) (names paths : List (List ℕ)) (defs : List Def) (state : State) → AreFree defs
-        → ProgramGoes files tool names paths defs (Ok state) → (name : List ℕ) → (state.live name ≡ None) ⊎ IsFreeName name }
-{}
-
-/// A law, with nothing to run: a conditional whose `#endif` is missing where the file ends is read as one that
-/// has it, and then is 105 with the mark of the line that begins it; and where the lines around it aren't read,
-/// it is 105 alone.
-pub fn unclosed_conditional()
-    ensures read { (tool : Tool) (files : Files) (paths : List (List ℕ)) (levels : ℕ) (test : RawLine) (first : Group) (others : Others)
-        (opens : List Open) (s : State) (answer : Result State Failure)
-        → is_group (Choice test first others Done) ≡ true → is_kept (innermost opens) ≡ true
-        → Then (GroupGoes (IncludedGoes tool files paths levels) tool (Choice test first others Done) s)
-        (λ t answer. answer ≡ fails (open_if (waiting test.mark)) t) answer
-        ↔ LinesGo (IncludedGoes tool files paths levels) tool (test ∷ lines_of first (lines_unclosed others)) None opens s answer }
-    ensures passed { (tool : Tool) (files : Files) (paths : List (List ℕ)) (levels : ℕ) (test : RawLine) (first : Group) (others : Others)
-        (opens : List Open) (s : State) (answer : Result State Failure)
-        → is_group (Choice test first others Done) ≡ true → is_kept (innermost opens) ≡ false
-        → (answer ≡ fails (open_if (waiting test.mark)) s)
-        ↔ LinesGo (IncludedGoes tool files paths levels) tool (test ∷ lines_of first (lines_unclosed others)) None opens s answer }
 {}

@@ -1,8 +1,9 @@
 //! Sources as one program: included files, conditionals and macros. Over a folder that tells its files,
 //! `preprocess` gives exactly the program that the named files mean, or the first fault, and there is one of them
 //! at most. Over every folder no file changes, and each mark is of an opened file.
-//! It rests on `rz_core`, `rz_folder`, `rz_paths`, `rz_lex`, `rz_expr`, `rz_source`, `rz_tokens` and `indexmap`.
-//! What a program means is `specs/Program.antt`; a new directive changes `line`, and `directive` of `rz_source`.
+//! It rests on `rz_core`, `rz_folder`, `rz_folder_paths`, `rz_lex`, `rz_expr`, `rz_pre_source`, `rz_pre_tokens` and `indexmap`.
+//! What a program means is `specs/Program.antt`; a new directive changes `line`, and `directive` of `rz_pre_source`. The
+//! laws above it, in the words of the language, stand in `rz_pre_laws`.
 #![tactic(auto)]
 
 mod act;
@@ -20,10 +21,6 @@ mod reading;
 mod unfolding;
 
 pub use condition::Tool;
-pub use laws::{
-    chosen_parts, every_line_acts, every_program_has_an_answer, every_token_expands,
-    last_definition, live_names_are_free, one_expansion, one_list_of_entries, one_program,
-    unclosed_conditional,
-};
+pub use laws::{one_expansion, one_program};
 pub use program::{Def, Defs, PreFault, Program};
 pub use unfolding::preprocess;

@@ -3,7 +3,7 @@ ghost use Rattle.rz_core.specs.Stop.{OnFault};
 ghost use Rattle.rz_pre.specs.Placed.{IsSourceFault};
 ghost use Rattle.rz_core.specs.declared.fault.Fault.{Fault};
 ghost use Rattle.rz_core.specs.Answers.{Meets};
-ghost use Rattle.rz_source.specs.Directive.{directive_in, unblanked};
+ghost use Rattle.rz_pre_source.specs.Directive.{directive_in, unblanked};
 ghost use Rattle.rz_pre.specs.Line.{bad_directive, behind_first, defined, directive_word, ended, free_word, included, is_kept, open_part, or_bad, otherwise, part_of, passed_over, simple, stray, tested, undefined, Directs, Does, HasCondition, IsCut, IsReplaced, Obeys, PutsOut, Says, Turns};
 ghost use Rattle.rz_pre.specs.Live.{live_in};
 ghost use Rattle.rz_pre.specs.Macros.{rows_of};
@@ -17,7 +17,7 @@ use crate::macros::Macros;
 use rz_core::{Bytes, Fault, Kept, Mark, NoMemory, Stop, Word};
 use rz_expr::role_of;
 use rz_lex::{RawLine, Shape, Token, Tokens, cut};
-use rz_source::{Directive, directive_in, directive_text, has_parameters};
+use rz_pre_source::{Directive, directive_in, directive_text, has_parameters};
 use std::alloc::Global;
 
 /// What a logical line does, where this is the innermost conditional around it. A line that is no directive

@@ -6,15 +6,15 @@ ghost use Rattle.rz_folder.specs.OnlyReads.{OnlyReads};
 ghost use Rattle.rz_core.specs.Answers.{Meets};
 ghost use Rattle.rz_pre.specs.Lexed.{IsLexedReading};
 ghost use Rattle.rz_pre.specs.Program.{bad_text, HasText, Opens};
-ghost use Rattle.rz_paths.specs.Halt.{IsReadFault};
-ghost use Rattle.rz_paths.specs.Names.{missing_file};
+ghost use Rattle.rz_folder_paths.specs.Halt.{IsReadFault};
+ghost use Rattle.rz_folder_paths.specs.Names.{missing_file};
 ghost use Rattle.rz_pre.specs.Reading.{state_of, together, Leaves};
 
 use crate::reading::Reading;
 use rz_core::{Bytes, Fault, FileNames, Kept, Mark, Stop};
 use rz_folder::Folder;
-use rz_paths::{Halt, find, missing_file};
-use rz_source::to_mac_roman;
+use rz_folder_paths::{Halt, find, missing_file};
+use rz_pre_source::to_mac_roman;
 use std::alloc::Global;
 
 /// Opens the file that stands under the first of these names: the text of its source in Mac Roman. Where none

@@ -3,7 +3,7 @@ ghost use Rattle.rz_pre.specs.declared.program.PreFault.TheVariants.{NoMemory as
 
 use rz_core::{Fault, FileNames, Listing, NoMemory, Word, Words};
 use rz_lex::Tokens;
-use rz_tokens::TokenStore;
+use rz_pre_tokens::TokenStore;
 
 /// A definition of the words: `-d name=text` or `-u name`.
 #[derive(Debug, Drop)]

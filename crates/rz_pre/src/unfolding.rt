@@ -8,7 +8,7 @@ ghost use Rattle.rz_folder.specs.OnlyReads.{OnlyReads};
 ghost use Rattle.rz_pre.specs.Placed.{AreOpenIn, IsPlaced, IsSourceFault, OnRefused, StandsInFiles};
 ghost use Rattle.rz_pre.specs.Program.{ends, live_after, open_if, start, too_deep, Enters, Failure, IncludedGoes, NamedGoes, NamesGo, ProgramGoes, State, TextGoes};
 ghost use Rattle.rz_pre.specs.Reading.{alone, state_of, together, Finishes, Gave, IsProgram, IsQuiet, Leaves, Matches};
-ghost use Rattle.rz_paths.specs.Halt.{IsReadFault};
+ghost use Rattle.rz_folder_paths.specs.Halt.{IsReadFault};
 ghost use Rattle.rz_pre.specs.declared.program.PreFault.TheVariants.{ReadFault};
 
 use crate::condition::Tool;
@@ -21,8 +21,8 @@ use crate::program::{Defs, PreFault, Program};
 use crate::reading::{Reading, step};
 use rz_core::{Bytes, Fault, FileNames, Kept, Mark, NoMemory};
 use rz_folder::Folder;
+use rz_folder_paths::{Halt, names_of};
 use rz_lex::{Position, every_text_has_lines, next_line, tokens_are_lexed};
-use rz_paths::{Halt, names_of};
 use std::alloc::Global;
 
 /// How many levels deep a file on level 1 may include files.

@@ -1,7 +1,11 @@
+pub mod Written
+pub mod Print
+pub mod Number
+pub mod Shown
+pub mod Printable
+pub mod Put
+pub mod Hidden
 pub mod Head
 pub mod Data
-pub mod Row
-pub mod Short
+pub mod Resource
 pub mod Showing
-pub mod Page
-pub mod Statement

@@ -8,14 +8,14 @@ use Rattle.rz_core.specs.Decided.{Decided}
 use Rattle.rz_core.specs.Stop.{◌>>=◌}
 use Rattle.rz_core.specs.declared.fault.Fault.{Fault}
 use Rattle.rz_lex.specs.declared.token.Token.{Token}
-use Rattle.rz_brackets.specs.Limit.{is_within_limits}
-use Rattle.rz_brackets.specs.Statements.{is_empty}
-use Rattle.rz_data.specs.Raw.{IsRaw, Raw}
-use Rattle.rz_declare.specs.Constants.{declared}
-use Rattle.rz_declare.specs.Declare.{IsDeclare}
-use Rattle.rz_flat.specs.Form.{DeclareForm}
-use Rattle.rz_items.specs.Compile.{Compile, IsCompile}
-use Rattle.rz_lists.specs.Lists.{IsListed, ListForm}
+use Rattle.rz_stmt_brackets.specs.Limit.{is_within_limits}
+use Rattle.rz_stmt_brackets.specs.Statements.{is_empty}
+use Rattle.rz_stmt_data.specs.Raw.{IsRaw, Raw}
+use Rattle.rz_stmt_type.specs.Constants.{declared}
+use Rattle.rz_stmt_type.specs.Declare.{IsDeclare}
+use Rattle.rz_stmt_fields.specs.Form.{DeclareForm}
+use Rattle.rz_stmt_items.specs.Compile.{Compile, IsCompile}
+use Rattle.rz_stmt_lists.specs.Lists.{IsListed, ListForm}
 use Rattle.rz_stmt.specs.Grammar.{alone, beyond, data_statement, list_statement, mark_of, none, resource_statement, statement, syntax, too_deep, type_statement, Compiles, Data, Declares, Empty, IsStatement, Lists, Parses, Statement}
 
 abbrev HasStatement : List Token → Type 0

@@ -8,14 +8,14 @@ use Rattle.rz_core.specs.declared.fault.Fault.{Fault}
 use Rattle.rz_lex.specs.declared.token.Shape.{Shape}
 use Rattle.rz_lex.specs.declared.token.Shape.TheVariants as shapes
 use Rattle.rz_lex.specs.declared.token.Token.{Token}
-use Rattle.rz_brackets.specs.Statements.{is_empty, is_semicolon}
-use Rattle.rz_data.specs.Raw.{IsRaw, Raw}
-use Rattle.rz_items.specs.Compile.{Compile, IsCompile}
-use Rattle.rz_lists.proofs.Listed.{one_beginning}
-use Rattle.rz_lists.specs.Lists.{word_of, BeginsWith, Changes, Deletes, Includes, IsListed, ListForm, Reads}
-use Rattle.rz_declare.specs.Constants.{declared}
-use Rattle.rz_declare.specs.Declare.{IsDeclare}
-use Rattle.rz_flat.specs.Form.{DeclareForm}
+use Rattle.rz_stmt_brackets.specs.Statements.{is_empty, is_semicolon}
+use Rattle.rz_stmt_data.specs.Raw.{IsRaw, Raw}
+use Rattle.rz_stmt_items.specs.Compile.{Compile, IsCompile}
+use Rattle.rz_stmt_lists.proofs.Listed.{one_beginning}
+use Rattle.rz_stmt_lists.specs.Lists.{word_of, BeginsWith, Changes, Deletes, Includes, IsListed, ListForm, Reads}
+use Rattle.rz_stmt_type.specs.Constants.{declared}
+use Rattle.rz_stmt_type.specs.Declare.{IsDeclare}
+use Rattle.rz_stmt_fields.specs.Form.{DeclareForm}
 use Rattle.rz_expr.specs.Keyword.{is_keyword, keyword_of, spelling}
 use Rattle.rz_expr.specs.declared.keyword.Keyword.{Keyword}
 use Rattle.rz_expr.specs.declared.keyword.Keyword.TheVariants as keywords

@@ -7,16 +7,16 @@ use Rattle.rz_core.specs.declared.stop.Stop.{Stop}
 use Rattle.rz_core.specs.declared.stop.Stop.TheVariants.{NoMemory, Refused}
 use Rattle.rz_lex.specs.declared.token.Token.{Token}
 use Rattle.rz_core.specs.Stop.{◌>>=◌, Gives}
-use Rattle.rz_declare.specs.Constants.{declare_of, declared, Declare}
-use Rattle.rz_declare.specs.Declare.{IsDeclare}
-use Rattle.rz_flat.specs.Form.{DeclareForm}
-use Rattle.rz_declare.specs.declared.constants.DeclareStmt.{DeclareStmt}
+use Rattle.rz_stmt_type.specs.Constants.{declare_of, declared, Declare}
+use Rattle.rz_stmt_type.specs.Declare.{IsDeclare}
+use Rattle.rz_stmt_fields.specs.Form.{DeclareForm}
+use Rattle.rz_stmt_type.specs.declared.constants.DeclareStmt.{DeclareStmt}
 use Rattle.rz_stmt.specs.Grammar.{alone, data_statement, list_statement, mark_of, none, resource_statement, statement, statement_of, syntax, type_statement, Compiled, Declared, Declares, Gave, IsStatement, Listed, Parses, Statement}
-use Rattle.rz_brackets.specs.Limit.{is_within_limits}
-use Rattle.rz_data.specs.Raw.{IsRaw, Raw}
-use Rattle.rz_items.specs.Compile.{Compile, IsCompile}
-use Rattle.rz_lists.specs.Lists.{IsListed, ListForm}
-use Rattle.rz_brackets.specs.Statements.{is_empty}
+use Rattle.rz_stmt_brackets.specs.Limit.{is_within_limits}
+use Rattle.rz_stmt_data.specs.Raw.{IsRaw, Raw}
+use Rattle.rz_stmt_items.specs.Compile.{Compile, IsCompile}
+use Rattle.rz_stmt_lists.specs.Lists.{IsListed, ListForm}
+use Rattle.rz_stmt_brackets.specs.Statements.{is_empty}
 use Rattle.rz_stmt.specs.declared.grammar.Stmt.{Stmt}
 
 abbrev declare_fault : Mark → DeclareForm → Result Statement Fault

@@ -8,16 +8,16 @@ use Rattle.rz_core.specs.declared.fault.Mark.{Mark}
 use Rattle.rz_core.specs.declared.stop.Stop.{Stop}
 use Rattle.rz_core.specs.declared.stop.Stop.TheVariants.{Refused, NoMemory}
 use Rattle.rz_lex.specs.declared.token.Token.{Token}
-use Rattle.rz_declare.specs.Constants.{declare_of, declared, Declare}
-use Rattle.rz_declare.specs.Declare.{IsDeclare}
-use Rattle.rz_flat.specs.Form.{DeclareForm}
-use Rattle.rz_declare.specs.Shaped.{IsShapedMade}
-use Rattle.rz_items.specs.Compile.{compile_of, Compile, IsCompile}
-use Rattle.rz_items.specs.Places.{AreItemsWithin}
-use Rattle.rz_lists.specs.Lists.{list_of, IsListed, ListForm}
-use Rattle.rz_brackets.specs.Limit.{is_within_limits}
-use Rattle.rz_data.specs.Raw.{raw_of, IsRaw, Raw}
-use Rattle.rz_brackets.specs.Statements.{is_empty}
+use Rattle.rz_stmt_type.specs.Constants.{declare_of, declared, Declare}
+use Rattle.rz_stmt_type.specs.Declare.{IsDeclare}
+use Rattle.rz_stmt_fields.specs.Form.{DeclareForm}
+use Rattle.rz_stmt_type.specs.Shaped.{IsShapedMade}
+use Rattle.rz_stmt_items.specs.Compile.{compile_of, Compile, IsCompile}
+use Rattle.rz_stmt_items.specs.Places.{AreItemsWithin}
+use Rattle.rz_stmt_lists.specs.Lists.{list_of, IsListed, ListForm}
+use Rattle.rz_stmt_brackets.specs.Limit.{is_within_limits}
+use Rattle.rz_stmt_data.specs.Raw.{raw_of, IsRaw, Raw}
+use Rattle.rz_stmt_brackets.specs.Statements.{is_empty}
 use Rattle.rz_stmt.specs.declared.grammar.Stmt.{Stmt}
 use Rattle.rz_stmt.specs.declared.grammar.Stmt.TheVariants as forms
 

@@ -3,17 +3,17 @@ ghost use Rattle.rz_lex.specs.Within.{AreWithin};
 ghost use Rattle.rz_core.specs.Message.{IsNameable};
 ghost use Rattle.rz_core.specs.Stop.{OnFault};
 ghost use Rattle.rz_lex.specs.Lexeme.{AreLexed};
-ghost use Rattle.rz_brackets.specs.Limit.{is_within_limits};
+ghost use Rattle.rz_stmt_brackets.specs.Limit.{is_within_limits};
 ghost use Rattle.rz_stmt.specs.Grammar.{Compiled, Declared, Gave, IsPlacedStatement, IsShapedStatement, Listed, Parses, statement_of};
 ghost use Rattle.rz_core.specs.declared.fault.Kept.TheVariants.{Nothing};
 
-use rz_brackets::{Span, is_empty_statement, is_within_limits};
 use rz_core::{Fault, Kept, Mark, Stop};
-use rz_data::{RawStmt, read_raw};
-use rz_declare::{DeclareStmt, declarations_are_shaped, read_declare, value_declare};
-use rz_items::{CompileStmt, items_are_within, read_compile};
 use rz_lex::{Token, Tokens};
-use rz_lists::{ListStmt, read_list};
+use rz_stmt_brackets::{Span, is_empty_statement, is_within_limits};
+use rz_stmt_data::{RawStmt, read_raw};
+use rz_stmt_items::{CompileStmt, items_are_within, read_compile};
+use rz_stmt_lists::{ListStmt, read_list};
+use rz_stmt_type::{DeclareStmt, declarations_are_shaped, read_declare, value_declare};
 use std::alloc::Global;
 
 /// A statement. (MPW Rez.)

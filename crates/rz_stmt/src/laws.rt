@@ -3,11 +3,11 @@ ghost use Rattle.rz_core.specs.declared.fault.Fault.{Fault};
 ghost use Rattle.rz_lex.specs.declared.token.Token.{Token};
 ghost use Rattle.rz_stmt.specs.Grammar.{Parses, Statement};
 
-use rz_data::{data_statements_are_decided, one_data};
-use rz_declare::{one_declare, type_statements_are_decided};
 use rz_expr::keywords_are_spelled;
-use rz_items::{one_compile, resource_statements_are_decided};
-use rz_lists::{list_statements_are_decided, one_list};
+use rz_stmt_data::{data_statements_are_decided, one_data};
+use rz_stmt_items::{one_compile, resource_statements_are_decided};
+use rz_stmt_lists::{list_statements_are_decided, one_list};
+use rz_stmt_type::{one_declare, type_statements_are_decided};
 
 /// A law, with nothing to run: tokens are one statement at most, or have one fault, and never both.
 pub fn one_statement()

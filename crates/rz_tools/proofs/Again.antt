@@ -9,7 +9,7 @@ use Rattle.std.proofs.lemmas.Bool.Decides.{nat_tests}
 use Rattle.std.proofs.lemmas.List.{append-nil}
 use Rattle.std.proofs.lemmas.List.Concat.{flat_map-cons}
 use Rattle.std.proofs.lemmas.Slice.Eq.{bytes_eq-Decides}
-use Rattle.rz_show.proofs.Split.{shapes_in}
+use Rattle.rz_show_laws.proofs.Split.{shapes_in}
 use Rattle.rz_core.specs.Resources.{id_bits, put, same_key, KeysDiffer}
 use Rattle.rz_core.specs.Stop.{◌>>=◌}
 use Rattle.rz_core.specs.declared.facts.Facts.{Facts}
@@ -18,10 +18,10 @@ use Rattle.rz_core.specs.declared.fault.Mark.{Mark}
 use Rattle.rz_core.specs.declared.moment.Moment.{Moment}
 use Rattle.rz_core.specs.declared.resource.Resource.{Resource}
 use Rattle.rz_expr.specs.Words.{is_name, role_of}
-use Rattle.rz_data.specs.Texts.{call_in}
-use Rattle.rz_rows.specs.declared.tree.Tree.{Tree}
+use Rattle.rz_stmt_data.specs.Texts.{call_in}
+use Rattle.rz_types_fields.specs.declared.tree.Tree.{Tree}
 use Rattle.rz_fork.specs.Contents.{FitsFork}
-use Rattle.rz_items.specs.Item.{PlainItem}
+use Rattle.rz_stmt_items.specs.Item.{PlainItem}
 use Rattle.rz_lex.specs.Printed.{token_of, word_of}
 use Rattle.rz_lex.specs.declared.raw_line.RawLine.{RawLine}
 use Rattle.rz_lex.specs.declared.token.Shape.{Shape}
@@ -30,17 +30,18 @@ use Rattle.rz_lex.specs.declared.token.Token.{Token}
 use Rattle.rz_pre.specs.Live.{body_of, Live}
 use Rattle.rz_pre.specs.declared.condition.Tool.{Tool}
 use Rattle.rz_pre.specs.declared.condition.Tool.TheVariants as tools
-use Rattle.rz_paths.specs.Names.{file_of}
+use Rattle.rz_folder_paths.specs.Names.{file_of}
 use Rattle.rz_pre.specs.Program.{levels_below, IncludedGoes, State}
-use Rattle.rz_print.specs.Printable.{AreOfBytes, SparesTruth}
+use Rattle.rz_show.specs.Printable.{AreOfBytes, SparesTruth}
 use Rattle.rz_show.specs.Data.{statement_text}
 use Rattle.rz_show.specs.Head.{head_text}
-use Rattle.rz_show.specs.Page.{AreCut}
-use Rattle.rz_show.specs.Row.{row_statement}
-use Rattle.rz_show.specs.Short.{AreShortTexts}
-use Rattle.rz_show.specs.Showing.{by_bytes, by_row, showing_text, showings_text, CanBeShown, IsStored, Showing}
-use Rattle.rz_show.specs.Statement.{is_shown, shown_compile, shown_raw, shown_words, AreWhole, IsPrintedAs, IsWholeData, IsWholeOf, IsWholeRow}
-use Rattle.rz_source.specs.Source.{mark, IsTextOf, IsUnmarked}
+use Rattle.rz_show_laws.specs.Page.{AreCut}
+use Rattle.rz_show.specs.Resource.{row_statement}
+use Rattle.rz_show_laws.specs.Short.{AreShortTexts}
+use Rattle.rz_show.specs.Showing.{by_bytes, by_row, showing_text, showings_text, Showing}
+use Rattle.rz_show_laws.specs.Showable.{CanBeShown, IsStored}
+use Rattle.rz_show_laws.specs.Statement.{is_shown, shown_compile, shown_raw, shown_words, AreWhole, IsPrintedAs, IsWholeData, IsWholeOf, IsWholeRow}
+use Rattle.rz_pre_source.specs.Source.{mark, IsTextOf, IsUnmarked}
 use Rattle.rz_stmt.specs.Grammar.{mark_of, Compiles, Data, IsStatement, Parses}
 use Rattle.rz_stmt.specs.Raw.{Raw}
 use Rattle.rz_stmt.specs.Statements.{AreStatements}
@@ -50,17 +51,17 @@ use Rattle.rz_tools.specs.Files.{items_read}
 use Rattle.rz_tools.specs.Resource.{no_type, IsMade, IsResource}
 use Rattle.rz_tools.specs.Shown.{facts_of, its_bytes, its_row, IsShownBy, Known, TellsRow}
 use Rattle.rz_set.specs.After.{forbidden}
-use Rattle.rz_work.specs.Around.{Around}
-use Rattle.rz_work.specs.Put.{list_with}
-use Rattle.rz_work.specs.Work.{list_behind, Work}
+use Rattle.rz_tools_work.specs.Around.{Around}
+use Rattle.rz_tools_work.specs.Put.{list_with}
+use Rattle.rz_tools_work.specs.Work.{list_behind, Work}
 use Rattle.rz_tools.specs.Step.{IsListBehind, Means, Steps}
 use Rattle.rz_set.specs.ResSet.{found}
-use Rattle.rz_rows.specs.Row.{IsRow}
-use Rattle.rz_rows.specs.Spells.{Spells}
+use Rattle.rz_types_fields.specs.Row.{IsRow}
+use Rattle.rz_types_fields.specs.Spells.{Spells}
 use Rattle.rz_types.specs.Field.{PlainBody}
-use Rattle.rz_table.specs.Table.{Declaration}
-use Rattle.rz_work.specs.ToolWords.{number_in, numbered, tool_in}
-use Rattle.rz_work.proofs.Named.{names_no_tool}
+use Rattle.rz_types_table.specs.Table.{Declaration}
+use Rattle.rz_tools_work.specs.ToolWords.{number_in, numbered, tool_in}
+use Rattle.rz_tools_work.proofs.Named.{names_no_tool}
 use Rattle.rz_tools.proofs.PutOut.{lines_go, tokens_of, AreBare}
 use Rattle.rz_tools.proofs.Fileless.{compile_same, names_call_none, shown_call_none, CallsNone}
 use Rattle.rz_tools.proofs.Stepping.{changes}
@@ -284,7 +285,7 @@ module _ (laws : Laws) (known : Known) (around : Around) (warnings : List Fault)
   known_there r = record { kind = r.kind; id = r.id; name = r.name; attr = r.attr; moment = around.setting.moment }
 
   row_made : (mark : Mark) (r : Resource) (body : PlainBody) (row : List Tree) (items : List PlainItem) → TellsRow known r body row
-      → ((facts : Facts) → items_read around.paths around.files mark facts items ≡ Ok items) → ((facts : Facts) → Rattle.rz_items.specs.Fits.Fits facts body items row)
+      → ((facts : Facts) → items_read around.paths around.files mark facts items ≡ Ok items) → ((facts : Facts) → Rattle.rz_stmt_items.specs.Fits.Fits facts body items row)
       → IsMade around.paths around.files mark known.types items (record { kind = r.kind; id = r.id; name = r.name; attr = r.attr; moment = around.setting.moment }) (Ok r)
   row_made mark r body row items tells same fits =
       let there : Facts = record { kind = r.kind; id = r.id; name = r.name; attr = r.attr; moment = around.setting.moment } in
@@ -361,7 +362,7 @@ module _ (laws : Laws) (known : Known) where
         );
       }
     where
-      statement_of : (showing : Showing) (tokens : List Token) → IsWholeOf tokens showing → Rattle.rz_brackets.specs.Statements.IsStatement tokens
+      statement_of : (showing : Showing) (tokens : List Token) → IsWholeOf tokens showing → Rattle.rz_stmt_brackets.specs.Statements.IsStatement tokens
       statement_of (by_bytes resource) tokens whole = whole.is.statement
       statement_of (by_row resource body row) tokens whole = whole.statement
 

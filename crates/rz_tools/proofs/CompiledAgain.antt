@@ -10,23 +10,23 @@ use Rattle.rz_core.specs.declared.resource.Resource.{Resource}
 use Rattle.rz_folder.specs.Folder.{Files}
 use Rattle.rz_pre.specs.Program.{NamesGo, State, start}
 use Rattle.rz_pre.specs.declared.condition.Tool.TheVariants as tools
-use Rattle.rz_words.specs.Command.{IsCommand, Rez, RezAsked}
+use Rattle.rz_tools_args.specs.Command.{IsCommand, Rez, RezAsked}
 use Rattle.rz_tools.specs.Again.{MeansAgain}
 use Rattle.rz_tools.specs.DeRez.{ShowsEach}
 use Rattle.rz_tools.specs.Shown.{its_bytes, its_row, Known, TellsRow}
 use Rattle.rz_show.specs.Showing.{by_bytes, showing_text}
 use Rattle.rz_pre.specs.Live.{Live}
-use Rattle.rz_rows.specs.declared.tree.Tree.{Tree}
+use Rattle.rz_types_fields.specs.declared.tree.Tree.{Tree}
 use Rattle.rz_types.specs.Field.{PlainBody}
-use Rattle.rz_table.specs.Table.{found, Declaration}
-use Rattle.rz_answer.specs.Answer.{or_refused, written}
+use Rattle.rz_types_table.specs.Table.{found, Declaration}
+use Rattle.rz_tools_answer.specs.Answer.{or_refused, written}
 use Rattle.rz_tools.specs.Program.{command, Answers}
-use Rattle.rz_output.specs.Base.{base_in, base_of, new_base, or_empty}
-use Rattle.rz_output.specs.Output.{IsOutput}
+use Rattle.rz_tools_output.specs.Base.{base_in, base_of, new_base, or_empty}
+use Rattle.rz_tools_output.specs.Output.{IsOutput}
 use Rattle.rz_tools.specs.Rez.{around_of, BeginsWith, Compiles}
 use Rattle.rz_tools.specs.Sources.{compiled}
-use Rattle.rz_answer.specs.Warning.{said_beside}
-use Rattle.rz_work.specs.Work.{Work}
+use Rattle.rz_tools_answer.specs.Warning.{said_beside}
+use Rattle.rz_tools_work.specs.Work.{Work}
 
 -- what is known where no types are declared and these are the macros
 abbrev pub bare_known : Live → Moment → Known

@@ -2,19 +2,19 @@
 use Rattle.std.proofs.Common.{◌≡◌, inl, inr, ℕ, List, [], Option, Some, None, Ok, Err, refl, sym, subst}
 use Rattle.std.specs.Prelude.{IfSome}
 use Rattle.std.specs.declared.result.Result.{Result}
-use Rattle.rz_answer.specs.Answer.{Failing}
-use Rattle.rz_answer.specs.Made.{MadeSo, StopsSo}
-use Rattle.rz_answer.specs.declared.made.Made.{Made}
-use Rattle.rz_answer.specs.declared.made.Stopped.{Stopped}
-use Rattle.rz_answer.specs.declared.made.Stopped.TheVariants as stops
+use Rattle.rz_tools_answer.specs.Answer.{Failing}
+use Rattle.rz_tools_answer.specs.Made.{MadeSo, StopsSo}
+use Rattle.rz_tools_answer.specs.declared.made.Made.{Made}
+use Rattle.rz_tools_answer.specs.declared.made.Stopped.{Stopped}
+use Rattle.rz_tools_answer.specs.declared.made.Stopped.TheVariants as stops
 use Rattle.rz_core.specs.declared.fault.Fault.{Fault}
 use Rattle.rz_core.specs.declared.moment.Moment.{Moment}
 use Rattle.rz_folder.specs.Folder.{Files}
 use Rattle.rz_pre.specs.Program.{State}
 use Rattle.rz_pre.specs.Reading.{IsProgram}
 use Rattle.rz_pre.specs.declared.program.Program.{Program}
-use Rattle.rz_words.specs.Command.{RezAsked}
-use Rattle.rz_output.specs.Base.{base_of, Base}
+use Rattle.rz_tools_args.specs.Command.{RezAsked}
+use Rattle.rz_tools_output.specs.Base.{base_of, Base}
 use Rattle.rz_tools.specs.Rez.{around_of, BeginsWith, HasOutput, IsMadeBehind, IsMadeOf}
 use Rattle.rz_tools.specs.Sources.{Compiled, HasWork}
 use Rattle.rz_tools.proofs.Sourced.{made_so, stops_so}

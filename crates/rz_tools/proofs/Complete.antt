@@ -5,12 +5,12 @@ use Rattle.std.specs.declared.option.Option.{Option}
 use Rattle.std.proofs.lemmas.List.{append-nil}
 use Rattle.rz_core.specs.declared.moment.Moment.{Moment}
 use Rattle.rz_folder.specs.Folder.{Files}
-use Rattle.rz_answer.specs.Answer.{files_after, Answer, Write}
-use Rattle.rz_answer.specs.Carried.{CarriesOut, EndsWith, IsAnswered, IsUnhindered, IsUntouched}
-use Rattle.rz_answer.specs.WellFormed.{FitsOutcome, IsWellFormed}
-use Rattle.rz_answer.specs.World.{Says, World}
-use Rattle.rz_answer.specs.declared.outcome.Outcome.{Outcome}
-use Rattle.rz_answer.specs.declared.outcome.Outcome.TheVariants.{Done, Usage, Refused, ReadFault, WriteFault, NoMemory}
+use Rattle.rz_tools_answer.specs.Answer.{files_after, Answer, Write}
+use Rattle.rz_tools_answer.specs.Carried.{CarriesOut, EndsWith, IsAnswered, IsUnhindered, IsUntouched}
+use Rattle.rz_tools_answer.specs.WellFormed.{FitsOutcome, IsWellFormed}
+use Rattle.rz_tools_answer.specs.World.{Says, World}
+use Rattle.rz_tools_answer.specs.declared.outcome.Outcome.{Outcome}
+use Rattle.rz_tools_answer.specs.declared.outcome.Outcome.TheVariants.{Done, Usage, Refused, ReadFault, WriteFault, NoMemory}
 use Rattle.rz_tools.proofs.Running.{OneAnswer}
 use Rattle.rz_tools.specs.Program.{Answers, IsOnlyAnswer}
 

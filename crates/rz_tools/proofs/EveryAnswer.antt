@@ -2,8 +2,8 @@
 use Rattle.std.proofs.Common.{◌≡◌, ◌⊎◌, inl, inr, ℕ, List, [], ◌∷◌, Option, Some, None, Ok, Err, refl}
 use Rattle.std.specs.FinMap as finite
 use Rattle.std.specs.declared.result.Result.{Result}
-use Rattle.rz_answer.specs.Answer.{misused, or_refused, shown, written, Answer, Write}
-use Rattle.rz_answer.specs.Help.{help_text, version_text}
+use Rattle.rz_tools_answer.specs.Answer.{misused, or_refused, shown, written, Answer, Write}
+use Rattle.rz_tools_answer.specs.Help.{help_text, version_text}
 use Rattle.rz_bridge.specs.declared.file.MacFile.{MacFile}
 use Rattle.rz_core.proofs.EveryCut.{is_nothing}
 use Rattle.rz_core.proofs.Has.{has_is, has_then, Has}
@@ -11,28 +11,28 @@ use Rattle.rz_core.specs.Answers.{Then}
 use Rattle.rz_core.specs.declared.fault.Fault.{Fault}
 use Rattle.rz_core.specs.declared.moment.Moment.{Moment}
 use Rattle.rz_core.specs.declared.resource.Resource.{Resource}
-use Rattle.rz_files.specs.Contents.{file_in, form_or}
-use Rattle.rz_files.specs.Names.{Named}
-use Rattle.rz_files.specs.Written.{written_as}
+use Rattle.rz_bridge_files.specs.Contents.{file_in, form_or}
+use Rattle.rz_bridge_files.specs.Names.{Named}
+use Rattle.rz_bridge_files.specs.Written.{written_as}
 use Rattle.rz_folder.specs.Folder.{Files}
-use Rattle.rz_form.specs.DataFile.{IsDataFile}
-use Rattle.rz_form.specs.declared.form.Form.{Form}
-use Rattle.rz_form.specs.declared.form.Form.TheVariants as forms
-use Rattle.rz_paths.specs.Names.{missing_file}
+use Rattle.rz_bridge_form.specs.DataFile.{IsDataFile}
+use Rattle.rz_bridge_form.specs.declared.form.Form.{Form}
+use Rattle.rz_bridge_form.specs.declared.form.Form.TheVariants as forms
+use Rattle.rz_folder_paths.specs.Names.{missing_file}
 use Rattle.rz_pre.specs.Program.{ProgramGoes, State}
 use Rattle.rz_pre.specs.declared.condition.Tool.{Tool}
 use Rattle.rz_pre.specs.declared.program.Def.{Def}
 use Rattle.rz_tools.proofs.EveryMeaning.{has_beside, has_unsaid}
 use Rattle.rz_tools.proofs.EveryText.{has_file_text, Tells}
-use Rattle.rz_output.specs.Base.{attributes_asked, base_of, or_empty, Base}
-use Rattle.rz_output.specs.Bridge.{bridged, one, two, AreWrites, Bridges, HasBeside, IsRead, IsWrittenAs}
+use Rattle.rz_tools_output.specs.Base.{attributes_asked, base_of, or_empty, Base}
+use Rattle.rz_tools_output.specs.Bridge.{bridged, one, two, AreWrites, Bridges, HasBeside, IsRead, IsWrittenAs}
 use Rattle.rz_tools.specs.DeRez.{derez_around, known_by, HasFileText, HasText, Shows, TypesAre}
-use Rattle.rz_output.specs.Output.{file_of, form_asked, list_fork, IsFileOf, IsOutput}
+use Rattle.rz_tools_output.specs.Output.{file_of, form_asked, list_fork, IsFileOf, IsOutput}
 use Rattle.rz_tools.specs.Program.{command, misplaced, Answers, AnswersTo}
 use Rattle.rz_tools.specs.Rez.{around_of, BeginsWith, Compiles, HasOutput, IsMadeBehind, IsMadeOf}
 use Rattle.rz_tools.specs.Sources.{HasWork, IsProgramOf}
-use Rattle.rz_work.specs.Around.{Around}
-use Rattle.rz_words.specs.Command.{Asked, Bridge, BridgeAsked, DeRez, DeRezAsked, Help, IsCommand, IsMisplaced, Rez, RezAsked, Version}
+use Rattle.rz_tools_work.specs.Around.{Around}
+use Rattle.rz_tools_args.specs.Command.{Asked, Bridge, BridgeAsked, DeRez, DeRezAsked, Help, IsCommand, IsMisplaced, Rez, RezAsked, Version}
 
 module _ (name : (form : Form) (path : List ℕ) (file : MacFile) → Has (Named form path file)) where
   has_output : (asked : RezAsked) (moment : Moment) (base : Base) (list : List Resource) → Has (IsOutput asked moment base list)

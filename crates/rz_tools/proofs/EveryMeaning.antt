@@ -7,23 +7,23 @@ use Rattle.rz_core.specs.Answers.{Then}
 use Rattle.rz_core.specs.declared.fault.Fault.{Fault}
 use Rattle.rz_core.specs.declared.fault.Mark.{Mark}
 use Rattle.rz_core.specs.declared.resource.Resource.{Resource}
-use Rattle.rz_items.specs.Compile.{Compile}
+use Rattle.rz_stmt_items.specs.Compile.{Compile}
 use Rattle.rz_lex.specs.declared.token.Token.{Token}
 use Rattle.rz_pre.specs.Program.{Failure, State}
 use Rattle.rz_pre.specs.declared.condition.Tool.{Tool}
 use Rattle.rz_pre.specs.declared.condition.Tool.TheVariants as tools
 use Rattle.rz_stmt.specs.Grammar.{mark_of, Compiles, Data, Declares, Empty, Lists, Parses, Statement}
 use Rattle.rz_stmt.specs.Statements.{AreStatements}
-use Rattle.rz_table.specs.Table.{Declaration}
-use Rattle.rz_answer.specs.Warning.{said_beside, warning_lines}
+use Rattle.rz_types_table.specs.Table.{Declaration}
+use Rattle.rz_tools_answer.specs.Warning.{said_beside, warning_lines}
 use Rattle.rz_tools.proofs.EveryResource.{declared_kept, AreKept}
 use Rattle.rz_tools.specs.Sources.{compiled, Compiled, HasWork, InProgram, SaidBeside, Unsaid}
 use Rattle.rz_tools.specs.Step.{Changes, IsBehind, IsListBehind, MakesList, Means, Steps, WarnedFault, WithWarnings}
-use Rattle.rz_work.specs.Around.{Around}
-use Rattle.rz_work.specs.Lists.{list_after}
-use Rattle.rz_work.specs.ToolWords.{numbered}
-use Rattle.rz_work.specs.Work.{begun, declared, list_behind, with_list, Work}
-use Rattle.rz_work.specs.declared.setting.Setting.{Setting}
+use Rattle.rz_tools_work.specs.Around.{Around}
+use Rattle.rz_tools_work.specs.Lists.{list_after}
+use Rattle.rz_tools_work.specs.ToolWords.{numbered}
+use Rattle.rz_tools_work.specs.Work.{begun, declared, list_behind, with_list, Work}
+use Rattle.rz_tools_work.specs.declared.setting.Setting.{Setting}
 
 -- An answer, and what is said with it.
 

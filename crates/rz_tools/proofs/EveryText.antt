@@ -8,13 +8,13 @@ use Rattle.rz_core.specs.Decided.{Decided}
 use Rattle.rz_core.specs.declared.facts.Facts.{Facts}
 use Rattle.rz_core.specs.declared.fault.Fault.{Fault}
 use Rattle.rz_core.specs.declared.resource.Resource.{Resource}
-use Rattle.rz_files.specs.Contents.{fork_in}
+use Rattle.rz_bridge_files.specs.Contents.{fork_in}
 use Rattle.rz_fork.specs.Contents.{Fork}
-use Rattle.rz_paths.specs.Names.{missing_file}
-use Rattle.rz_print.specs.Shown.{row_uses}
-use Rattle.rz_rows.specs.declared.tree.Tree.{Tree}
+use Rattle.rz_folder_paths.specs.Names.{missing_file}
+use Rattle.rz_show.specs.Shown.{row_uses}
+use Rattle.rz_types_fields.specs.declared.tree.Tree.{Tree}
 use Rattle.rz_show.specs.Showing.{by_bytes, by_row, showing_text, Showing}
-use Rattle.rz_table.specs.Table.{found}
+use Rattle.rz_types_table.specs.Table.{found}
 use Rattle.rz_tools.specs.Chosen.{chosen}
 use Rattle.rz_tools.specs.DeRez.{HasFileText, HasForkText, ShowsEach}
 use Rattle.rz_tools.specs.Shown.{facts_of, its_bytes, its_row, IsShownBy, Known, Shown, TellsRow}
@@ -22,7 +22,7 @@ use Rattle.rz_types.specs.Field.{PlainBody}
 use Rattle.rz_types.specs.Rules.{keeps_rules}
 use Rattle.rz_types.specs.Shape.{is_well_shaped}
 use Rattle.rz_unlay.specs.Reading.{IsTold}
-use Rattle.rz_words.specs.Command.{DeRezAsked}
+use Rattle.rz_tools_args.specs.Command.{DeRezAsked}
 
 -- of bytes it is decided which row they tell, and there is one at most
 pub record Tells : Type 0 where

@@ -3,35 +3,35 @@ use Rattle.std.proofs.Common.{◌≡◌, ℕ, Bool, true, false, if◌then◌els
 use Rattle.std.specs.Prelude.{codes}
 use Rattle.std.specs.List.{AllByRecursion}
 use Rattle.std.specs.declared.result.Result.{Result}
-use Rattle.rz_brackets.proofs.Parts.{after_each, cut_each, within_each}
-use Rattle.rz_brackets.specs.declared.bracket.Bracket.TheVariants.{Curly, Round}
-use Rattle.rz_brackets.specs.declared.pieces.Divider.TheVariants.{Separator}
+use Rattle.rz_stmt_brackets.proofs.Parts.{after_each, cut_each, within_each}
+use Rattle.rz_stmt_brackets.specs.declared.bracket.Bracket.TheVariants.{Curly, Round}
+use Rattle.rz_stmt_brackets.specs.declared.pieces.Divider.TheVariants.{Separator}
 use Rattle.rz_core.specs.Stop.{◌>>=◌}
 use Rattle.rz_core.specs.declared.facts.Facts.{Facts}
 use Rattle.rz_core.specs.declared.fault.Fault.{Fault}
 use Rattle.rz_core.specs.declared.fault.Mark.{Mark}
-use Rattle.rz_data.specs.Texts.{alone, begins_text, call_in, called, no_part, one_part, part_in, word_call, word_part, AreParts, IsFront}
-use Rattle.rz_data.specs.declared.texts.TextCall.{TextCall}
+use Rattle.rz_stmt_data.specs.Texts.{alone, begins_text, call_in, called, no_part, one_part, part_in, word_call, word_part, AreParts, IsFront}
+use Rattle.rz_stmt_data.specs.declared.texts.TextCall.{TextCall}
 use Rattle.rz_expr.specs.Keyword.{keyword_of}
 use Rattle.rz_expr.specs.Words.{is_name, is_other_name, keyword_role, plain_role, role_of}
 use Rattle.rz_expr.specs.declared.keyword.Keyword.{Keyword}
 use Rattle.rz_expr.specs.declared.words.Role.{Role}
 use Rattle.rz_expr.specs.declared.words.Role.TheVariants as roles
 use Rattle.rz_expr.specs.declared.words.TextWord.TheVariants as words
-use Rattle.rz_fields.specs.Text.{Plain, PlainPart}
+use Rattle.rz_types_fields.specs.Text.{Plain, PlainPart}
 use Rattle.rz_folder.specs.Folder.{Files}
-use Rattle.rz_items.specs.Compile.{Compile, IsCompile}
-use Rattle.rz_items.specs.Item as plain
-use Rattle.rz_items.specs.Item.{items_of, more, PlainItem, PlainItems}
-use Rattle.rz_items.specs.Items.{cut, listed, named, no_more, one_more, simple, stripped, AreEach, AreItems, IsItem}
-use Rattle.rz_items.specs.Simple.{IsSimpleBy}
+use Rattle.rz_stmt_items.specs.Compile.{Compile, IsCompile}
+use Rattle.rz_stmt_items.specs.Item as plain
+use Rattle.rz_stmt_items.specs.Item.{items_of, more, PlainItem, PlainItems}
+use Rattle.rz_stmt_items.specs.Items.{cut, listed, named, no_more, one_more, simple, stripped, AreEach, AreItems, IsItem}
+use Rattle.rz_stmt_items.specs.Simple.{IsSimpleBy}
 use Rattle.rz_lex.specs.Printed.{word_of}
 use Rattle.rz_lex.specs.declared.token.Shape.{Shape}
 use Rattle.rz_lex.specs.declared.token.Shape.TheVariants as shapes
 use Rattle.rz_lex.specs.declared.token.Token.{Token}
-use Rattle.rz_show.specs.Statement.{shown_words, text_parts}
+use Rattle.rz_show_laws.specs.Statement.{shown_words, text_parts}
 use Rattle.rz_tools.specs.Files.{inner_read, item_read, items_read}
-use Rattle.rz_work.specs.Texts.{part_read, texts_read}
+use Rattle.rz_tools_work.specs.Texts.{part_read, texts_read}
 
 -- no token is the name of a function that is a text
 abbrev pub CallsNone : Token → Type 0

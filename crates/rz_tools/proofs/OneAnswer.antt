@@ -9,47 +9,47 @@ use Rattle.rz_core.specs.declared.moment.Moment.{Moment}
 use Rattle.rz_core.specs.declared.resource.Resource.{Resource}
 use Rattle.rz_folder.specs.Folder.{Files}
 use Rattle.rz_lex.specs.declared.token.Token.{Token}
-use Rattle.rz_paths.specs.Names.{missing_file}
+use Rattle.rz_folder_paths.specs.Names.{missing_file}
 use Rattle.rz_pre.specs.Program.{Failure, ProgramGoes, State}
 use Rattle.rz_pre.specs.declared.condition.Tool.{Tool}
 use Rattle.rz_pre.specs.declared.condition.Tool.TheVariants as tools
 use Rattle.rz_pre.specs.declared.program.Def.{Def}
 use Rattle.rz_stmt.specs.Statements.{AreStatements}
-use Rattle.rz_words.specs.Command.{Asked, BridgeAsked, DeRezAsked, Rez, DeRez, Bridge, Help, Version, IsCommand, IsMisplaced, RezAsked}
-use Rattle.rz_answer.specs.Answer.{misused, or_refused, shown, written, Answer, Write}
+use Rattle.rz_tools_args.specs.Command.{Asked, BridgeAsked, DeRezAsked, Rez, DeRez, Bridge, Help, Version, IsCommand, IsMisplaced, RezAsked}
+use Rattle.rz_tools_answer.specs.Answer.{misused, or_refused, shown, written, Answer, Write}
 use Rattle.rz_tools.specs.Program.{Answers, AnswersTo, command, misplaced}
 use Rattle.rz_bridge.specs.declared.file.MacFile.{MacFile}
-use Rattle.rz_files.specs.Contents.{file_in, fork_in, form_or}
-use Rattle.rz_files.specs.Names.{Named}
-use Rattle.rz_form.specs.DataFile.{IsDataFile}
-use Rattle.rz_files.specs.Written.{written_as}
-use Rattle.rz_form.specs.declared.form.Form.{Form}
-use Rattle.rz_form.specs.declared.form.Form.TheVariants as forms
+use Rattle.rz_bridge_files.specs.Contents.{file_in, fork_in, form_or}
+use Rattle.rz_bridge_files.specs.Names.{Named}
+use Rattle.rz_bridge_form.specs.DataFile.{IsDataFile}
+use Rattle.rz_bridge_files.specs.Written.{written_as}
+use Rattle.rz_bridge_form.specs.declared.form.Form.{Form}
+use Rattle.rz_bridge_form.specs.declared.form.Form.TheVariants as forms
 use Rattle.rz_fork.specs.Contents.{Fork}
 use Rattle.rz_tools.specs.Chosen.{chosen}
 use Rattle.rz_tools.specs.DeRez.{derez_around, known_by, HasFileText, HasForkText, HasText, Shows, ShowsEach, TypesAre}
-use Rattle.rz_output.specs.Base.{attributes_asked, base_of, or_empty, Base}
-use Rattle.rz_output.specs.Bridge.{bridged, one as one_write, two as two_writes, AreWrites, Bridges, HasBeside, IsRead, IsWrittenAs}
-use Rattle.rz_output.specs.Output.{file_of, form_asked, list_fork, IsFileOf, IsOutput}
+use Rattle.rz_tools_output.specs.Base.{attributes_asked, base_of, or_empty, Base}
+use Rattle.rz_tools_output.specs.Bridge.{bridged, one as one_write, two as two_writes, AreWrites, Bridges, HasBeside, IsRead, IsWrittenAs}
+use Rattle.rz_tools_output.specs.Output.{file_of, form_asked, list_fork, IsFileOf, IsOutput}
 use Rattle.rz_tools.specs.Rez.{around_of, BeginsWith, Compiles, HasOutput, IsMadeBehind, IsMadeOf}
 use Rattle.rz_tools.specs.Shown.{facts_of, its_bytes, its_row, IsShownBy, Known, Shown, TellsRow}
 use Rattle.rz_show.specs.Showing.{by_row, showing_text, Showing}
 use Rattle.rz_tools.specs.Sources.{compiled, AreCompiled, Compiled, HasWork, InProgram, IsProgramOf, SaidBeside, Unsaid}
-use Rattle.rz_answer.specs.Warning.{said_beside, warning_lines}
-use Rattle.rz_work.specs.Around.{Around}
-use Rattle.rz_work.specs.Lists.{list_after}
-use Rattle.rz_work.specs.Work.{begun, declared, list_behind, with_list, Work}
+use Rattle.rz_tools_answer.specs.Warning.{said_beside, warning_lines}
+use Rattle.rz_tools_work.specs.Around.{Around}
+use Rattle.rz_tools_work.specs.Lists.{list_after}
+use Rattle.rz_tools_work.specs.Work.{begun, declared, list_behind, with_list, Work}
 use Rattle.rz_tools.specs.Step.{Changes, IsBehind, IsListBehind, MakesList, Means, Steps, WarnedFault, WithWarnings}
 use Rattle.rz_stmt.specs.Grammar.{mark_of, Compiles as compiled_statement, Data, Declares, Empty, Lists, Parses, Statement}
 use Rattle.rz_core.specs.Answers.{Then}
-use Rattle.rz_work.specs.ToolWords.{numbered}
-use Rattle.rz_work.specs.declared.setting.Setting.{Setting}
-use Rattle.rz_items.specs.Item.{PlainItem}
+use Rattle.rz_tools_work.specs.ToolWords.{numbered}
+use Rattle.rz_tools_work.specs.declared.setting.Setting.{Setting}
+use Rattle.rz_stmt_items.specs.Item.{PlainItem}
 use Rattle.rz_layout.specs.Compiled.{IsCompiled}
-use Rattle.rz_match.specs.Match.{IsMatch}
-use Rattle.rz_rows.specs.declared.tree.Tree.{Tree}
-use Rattle.rz_rows.specs.Laid.{Refusal}
-use Rattle.rz_rows.specs.Spells.{Spells}
+use Rattle.rz_stmt_items.specs.Match.{IsMatch}
+use Rattle.rz_types_fields.specs.declared.tree.Tree.{Tree}
+use Rattle.rz_types_fields.specs.Laid.{Refusal}
+use Rattle.rz_types_fields.specs.Spells.{Spells}
 use Rattle.rz_types.specs.Field.{PlainBody}
 use Rattle.rz_types.specs.Readable.{is_readable}
 use Rattle.rz_types.specs.Rules.{keeps_rules}

@@ -6,17 +6,17 @@ use Rattle.std.specs.declared.option.Option.{Option}
 use Rattle.std.specs.declared.result.Result.{Result}
 use Rattle.rz_core.specs.declared.moment.Moment.{Moment}
 use Rattle.rz_folder.specs.Folder.{Files}
-use Rattle.rz_words.specs.Command.{Asked, DeRez, DeRezAsked, IsCommand, IsMisplaced}
+use Rattle.rz_tools_args.specs.Command.{Asked, DeRez, DeRezAsked, IsCommand, IsMisplaced}
 use Rattle.rz_tools.specs.Again.{HoldsFile}
 use Rattle.rz_tools.specs.Program.{command, misplaced, Answers, AnswersTo}
-use Rattle.rz_answer.specs.Answer.{misused, Answer, Answered, Failing, Making}
-use Rattle.rz_answer.specs.Made.{MadeSo}
-use Rattle.rz_answer.specs.Plan.{answer_of, EndsIn}
-use Rattle.rz_answer.specs.declared.outcome.Outcome.TheVariants.{Done}
-use Rattle.rz_answer.specs.declared.plan.Plan.{Plan}
-use Rattle.rz_answer.specs.declared.made.Unanswered.{Unanswered}
-use Rattle.rz_answer.specs.declared.made.Stopped.{Stopped}
-use Rattle.rz_answer.specs.declared.made.Stopped.TheVariants as stops
+use Rattle.rz_tools_answer.specs.Answer.{misused, Answer, Answered, Failing, Making}
+use Rattle.rz_tools_answer.specs.Made.{MadeSo}
+use Rattle.rz_tools_answer.specs.Plan.{answer_of, EndsIn}
+use Rattle.rz_tools_answer.specs.declared.outcome.Outcome.TheVariants.{Done}
+use Rattle.rz_tools_answer.specs.declared.plan.Plan.{Plan}
+use Rattle.rz_tools_answer.specs.declared.made.Unanswered.{Unanswered}
+use Rattle.rz_tools_answer.specs.declared.made.Stopped.{Stopped}
+use Rattle.rz_tools_answer.specs.declared.made.Stopped.TheVariants as stops
 
 module _ (done : Making → Answer) (Makes : Files → Result Making Failing → Type 0) (answer : Answer) where
   pub made : (before : Option Files) (making : Making) → answer ≡ done making → IfSome before (λ files. Makes files (Ok making))

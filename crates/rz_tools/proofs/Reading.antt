@@ -7,15 +7,15 @@ use Rattle.rz_core.specs.declared.fault.Fault.{Fault}
 use Rattle.rz_core.specs.declared.fault.Mark.{Mark}
 use Rattle.rz_core.specs.declared.resource.Word.{Word}
 use Rattle.rz_folder.specs.Folder.{Files}
-use Rattle.rz_items.proofs.Mirror.{list_is, named_is}
-use Rattle.rz_items.specs.Item as plain
-use Rattle.rz_items.specs.Item.{items_of, more, plain_item, plain_items, PlainItem, PlainItems}
-use Rattle.rz_items.specs.Places.{AreInside, AreItemsWithin, IsItemWithin}
-use Rattle.rz_items.specs.declared.item.Item.{Item}
-use Rattle.rz_items.specs.declared.item.Item.TheVariants as items
-use Rattle.rz_paths.specs.Halt.{Yields}
-use Rattle.rz_paths.specs.declared.halt.Halt.{Halt}
-use Rattle.rz_paths.specs.declared.halt.Halt.TheVariants.{NoMemory, ReadFault, Refused}
+use Rattle.rz_stmt_items.proofs.Mirror.{list_is, named_is}
+use Rattle.rz_stmt_items.specs.Item as plain
+use Rattle.rz_stmt_items.specs.Item.{items_of, more, plain_item, plain_items, PlainItem, PlainItems}
+use Rattle.rz_stmt_items.specs.Places.{AreInside, AreItemsWithin, IsItemWithin}
+use Rattle.rz_stmt_items.specs.declared.item.Item.{Item}
+use Rattle.rz_stmt_items.specs.declared.item.Item.TheVariants as items
+use Rattle.rz_folder_paths.specs.Halt.{Yields}
+use Rattle.rz_folder_paths.specs.declared.halt.Halt.{Halt}
+use Rattle.rz_folder_paths.specs.declared.halt.Halt.TheVariants.{NoMemory, ReadFault, Refused}
 use Rattle.rz_tools.specs.Files.{inner_read, item_given, item_read, items_given, items_read}
 
 -- a call that stops where another stopped, of what else is answered

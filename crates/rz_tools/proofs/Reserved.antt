@@ -14,9 +14,9 @@ use Rattle.rz_expr.specs.declared.attribute.AttributeWord.{AttributeWord}
 use Rattle.rz_expr.specs.declared.keyword.Keyword.{Keyword}
 use Rattle.rz_expr.specs.declared.keyword.Keyword.TheVariants as keywords
 use Rattle.rz_expr.specs.declared.words.Role.TheVariants.{OtherName}
-use Rattle.rz_pre.specs.Definitions.{IsFree, IsFreeName}
+use Rattle.rz_pre_laws.specs.Definitions.{IsFree, IsFreeName}
 use Rattle.rz_pre.specs.Live.{Live}
-use Rattle.rz_show.specs.Statement.{shown_words}
+use Rattle.rz_show_laws.specs.Statement.{shown_words}
 use Rattle.rz_tools.specs.Again.{SparesWords}
 
 -- The laws of the tables of words.

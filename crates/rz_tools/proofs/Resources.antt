@@ -9,26 +9,26 @@ use Rattle.rz_core.specs.declared.fault.Mark.{Mark}
 use Rattle.rz_core.specs.declared.resource.Resource.{Resource}
 use Rattle.rz_core.specs.declared.stop.Stop.{Stop}
 use Rattle.rz_core.specs.declared.stop.Stop.TheVariants.{NoMemory, Refused}
-use Rattle.rz_items.specs.Compile.{Compile}
-use Rattle.rz_items.specs.Item.{PlainItem}
+use Rattle.rz_stmt_items.specs.Compile.{Compile}
+use Rattle.rz_stmt_items.specs.Item.{PlainItem}
 use Rattle.rz_layout.specs.Compiled.{IsCompiled}
-use Rattle.rz_match.specs.Match.{IsMatch}
-use Rattle.rz_work.specs.Data.{with_bytes}
-use Rattle.rz_work.specs.Head.{facts_of}
-use Rattle.rz_paths.specs.Halt.{halt_of, Yields}
-use Rattle.rz_paths.specs.declared.halt.Halt.{Halt}
-use Rattle.rz_paths.specs.declared.halt.Halt.TheVariants as halts
+use Rattle.rz_stmt_items.specs.Match.{IsMatch}
+use Rattle.rz_tools_work.specs.Data.{with_bytes}
+use Rattle.rz_tools_work.specs.Head.{facts_of}
+use Rattle.rz_folder_paths.specs.Halt.{halt_of, Yields}
+use Rattle.rz_folder_paths.specs.declared.halt.Halt.{Halt}
+use Rattle.rz_folder_paths.specs.declared.halt.Halt.TheVariants as halts
 use Rattle.rz_tools.specs.Files.{items_read}
 use Rattle.rz_tools.specs.Resource.{fields_for, row_fault, AreBytes, AreItemBytes, AreReadBytes, IsMade, IsResource, IsSpelled}
-use Rattle.rz_work.proofs.Calls.{went_as}
-use Rattle.rz_work.specs.Around.{Around}
-use Rattle.rz_work.specs.Put.{list_with}
-use Rattle.rz_work.specs.Work.{halted, Stepped, Went}
+use Rattle.rz_tools_work.proofs.Calls.{went_as}
+use Rattle.rz_tools_work.specs.Around.{Around}
+use Rattle.rz_tools_work.specs.Put.{list_with}
+use Rattle.rz_tools_work.specs.Work.{halted, Stepped, Went}
 use Rattle.rz_tools.specs.Step.{IsListBehind}
-use Rattle.rz_rows.specs.declared.tree.Tree.{Tree}
-use Rattle.rz_rows.specs.Laid.{Refusal}
+use Rattle.rz_types_fields.specs.declared.tree.Tree.{Tree}
+use Rattle.rz_types_fields.specs.Laid.{Refusal}
 use Rattle.rz_types.specs.Field.{PlainBody}
-use Rattle.rz_table.specs.Table.{Declaration}
+use Rattle.rz_types_table.specs.Table.{Declaration}
 
 -- One call behind another, of which the second may read files.
 

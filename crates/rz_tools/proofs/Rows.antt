@@ -11,20 +11,20 @@ use Rattle.rz_core.specs.declared.moment.Moment.{Moment}
 use Rattle.rz_core.specs.declared.resource.Resource.{Resource}
 use Rattle.rz_core.specs.declared.resource.Word.{Word}
 use Rattle.rz_core.specs.declared.stop.NoMemory.{NoMemory}
-use Rattle.rz_rows.specs.declared.tree.Tree.{Tree}
+use Rattle.rz_types_fields.specs.declared.tree.Tree.{Tree}
 use Rattle.rz_pre.specs.Reading.{is_among}
-use Rattle.rz_print.specs.Hidden.{hides}
-use Rattle.rz_print.specs.Shown.{row_uses}
-use Rattle.rz_print.specs.declared.hidden.Hidden.{Hidden}
+use Rattle.rz_show.specs.Hidden.{hides}
+use Rattle.rz_show.specs.Shown.{row_uses}
+use Rattle.rz_show.specs.declared.hidden.Hidden.{Hidden}
 use Rattle.rz_show.specs.Data.{resource_text}
-use Rattle.rz_show.specs.Row.{resource_row}
+use Rattle.rz_show.specs.Resource.{resource_row}
 use Rattle.rz_show.specs.Showing.{by_bytes, by_row}
 use Rattle.rz_tools.specs.Held.{macros_held}
 use Rattle.rz_tools.specs.Shown.{facts_of, its_bytes, its_row, Known, Shown, TellsRow}
 use Rattle.rz_types.specs.Field.{PlainBody}
 use Rattle.rz_types.specs.Rules.{keeps_rules}
 use Rattle.rz_types.specs.Shape.{is_well_shaped}
-use Rattle.rz_table.specs.Table.{found, Declaration}
+use Rattle.rz_types_table.specs.Table.{found, Declaration}
 use Rattle.rz_unlay.specs.Reading.{row_in, IsTold}
 use Rattle.rz_unlay.specs.declared.resource.Reading.{Reading}
 

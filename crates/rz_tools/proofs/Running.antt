@@ -5,14 +5,14 @@ use Rattle.std.specs.declared.option.Option.{Option}
 use Rattle.rz_core.specs.declared.moment.Moment.{Moment}
 use Rattle.rz_folder.specs.Counts.{Rose}
 use Rattle.rz_folder.specs.Folder.{Files}
-use Rattle.rz_words.specs.declared.read.UsageFault.{UsageFault}
-use Rattle.rz_answer.specs.Answer.{Answer, Write}
-use Rattle.rz_answer.specs.Carried.{at_file, at_text, CarriesOut, Ends, IsAnswered, IsPartlyWritten, IsUntouched}
+use Rattle.rz_tools_args.specs.declared.read.UsageFault.{UsageFault}
+use Rattle.rz_tools_answer.specs.Answer.{Answer, Write}
+use Rattle.rz_tools_answer.specs.Carried.{at_file, at_text, CarriesOut, Ends, IsAnswered, IsPartlyWritten, IsUntouched}
 use Rattle.rz_tools.specs.Program.{Answers}
-use Rattle.rz_answer.specs.World.{World}
-use Rattle.rz_answer.specs.declared.outcome.Outcome.{Outcome}
-use Rattle.rz_answer.specs.declared.outcome.Outcome.TheVariants.{Done, Usage, Refused, ReadFault, WriteFault, NoMemory}
-use Rattle.rz_answer.proofs.Carried.{carried_too}
+use Rattle.rz_tools_answer.specs.World.{World}
+use Rattle.rz_tools_answer.specs.declared.outcome.Outcome.{Outcome}
+use Rattle.rz_tools_answer.specs.declared.outcome.Outcome.TheVariants.{Done, Usage, Refused, ReadFault, WriteFault, NoMemory}
+use Rattle.rz_tools_answer.proofs.Carried.{carried_too}
 
 -- Files were read before, which may have failed.
 

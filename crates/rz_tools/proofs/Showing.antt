@@ -13,20 +13,20 @@ use Rattle.rz_folder.specs.Folder.{Files, Reads}
 use Rattle.rz_folder.specs.declared.folder.Read.TheVariants as reads
 use Rattle.rz_bridge.specs.declared.file.MacFile.{MacFile}
 use Rattle.rz_core.specs.Stop.{◌>>=◌, Gives}
-use Rattle.rz_files.specs.Contents.{admit_fork, file_in, fork_in, GivesFork, IsFile}
+use Rattle.rz_bridge_files.specs.Contents.{admit_fork, file_in, fork_in, GivesFork, IsFile}
 use Rattle.rz_fork.specs.Contents.{Fork}
 use Rattle.rz_fork.specs.declared.read.ForkList.{ForkList}
-use Rattle.rz_form.specs.declared.form.Form.{Form}
-use Rattle.rz_paths.specs.Names.{missing_file}
+use Rattle.rz_bridge_form.specs.declared.form.Form.{Form}
+use Rattle.rz_folder_paths.specs.Names.{missing_file}
 use Rattle.rz_tools.specs.Again.{HoldsFile}
 use Rattle.rz_tools.specs.Chosen.{chosen}
 use Rattle.rz_tools.specs.DeRez.{known_by, HasFileText, HasForkText, HasText, ShowsEach}
-use Rattle.rz_answer.specs.Made.{MadeSo, SaysBeside}
+use Rattle.rz_tools_answer.specs.Made.{MadeSo, SaysBeside}
 use Rattle.rz_tools.specs.Shown.{Known}
 use Rattle.rz_tools.specs.Sources.{Compiled}
-use Rattle.rz_answer.specs.declared.made.Made.{Made}
-use Rattle.rz_answer.specs.declared.made.Stopped.{Stopped}
-use Rattle.rz_words.specs.Command.{DeRezAsked}
+use Rattle.rz_tools_answer.specs.declared.made.Made.{Made}
+use Rattle.rz_tools_answer.specs.declared.made.Stopped.{Stopped}
+use Rattle.rz_tools_args.specs.Command.{DeRezAsked}
 use Rattle.rz_tools.proofs.Sourced.{beside}
 
 meets_so : {X F : Type 0} (A B : Result X F → Type 0) → ((answer : Result X F) → A answer → B answer) → (result : Result X (Stop F)) → Meets result A → Meets result B

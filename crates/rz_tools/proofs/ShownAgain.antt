@@ -9,27 +9,27 @@ use Rattle.rz_core.specs.declared.resource.OsType.{OsType}
 use Rattle.rz_folder.specs.Folder.{Files}
 use Rattle.rz_bridge.specs.declared.file.MacFile.{MacFile}
 use Rattle.rz_core.specs.Stop.{◌>>=◌}
-use Rattle.rz_files.specs.Contents.{admit_fork, file_in, fork_in, IsFile}
-use Rattle.rz_files.specs.Faults.{or_torn}
+use Rattle.rz_bridge_files.specs.Contents.{admit_fork, file_in, fork_in, IsFile}
+use Rattle.rz_bridge_files.specs.Faults.{or_torn}
 use Rattle.rz_fork.specs.Admit.{admitted}
-use Rattle.rz_form.specs.declared.form.Form.{Form}
+use Rattle.rz_bridge_form.specs.declared.form.Form.{Form}
 use Rattle.rz_fork.specs.Contents.{Fork}
 use Rattle.rz_fork.specs.declared.fault.ForkFault.{ForkFault}
-use Rattle.rz_words.specs.Command.{Asked, DeRez, DeRezAsked, IsCommand}
+use Rattle.rz_tools_args.specs.Command.{Asked, DeRez, DeRezAsked, IsCommand}
 use Rattle.rz_tools.specs.Again.{AreShort, HoldsFile, MeansAgain, ShowsAgain, SparesWords}
-use Rattle.rz_answer.specs.Answer.{Answer, Failing, Making}
+use Rattle.rz_tools_answer.specs.Answer.{Answer, Failing, Making}
 use Rattle.rz_tools.specs.Chosen.{chosen}
 use Rattle.rz_tools.specs.DeRez.{derez_around, known_by, AnswersDeRez, HasFileText, HasForkText, ShowsEach, TypesAre}
 use Rattle.rz_tools.specs.Sources.{AreCompiled, Compiled}
-use Rattle.rz_work.specs.Around.{Around}
-use Rattle.rz_pre.specs.Definitions.{AreFree}
+use Rattle.rz_tools_work.specs.Around.{Around}
+use Rattle.rz_pre_laws.specs.Definitions.{AreFree}
 use Rattle.rz_pre.specs.declared.program.Def.{Def}
 use Rattle.rz_tools.specs.Program.{command, misplaced, Answers, AnswersTo}
-use Rattle.rz_answer.specs.Carried.{CarriesOut}
+use Rattle.rz_tools_answer.specs.Carried.{CarriesOut}
 use Rattle.rz_tools.specs.Shown.{Known}
-use Rattle.rz_answer.specs.World.{World}
-use Rattle.rz_answer.specs.declared.outcome.Outcome.{Outcome}
-use Rattle.rz_answer.specs.declared.outcome.Outcome.TheVariants.{Done, Refused}
+use Rattle.rz_tools_answer.specs.World.{World}
+use Rattle.rz_tools_answer.specs.declared.outcome.Outcome.{Outcome}
+use Rattle.rz_tools_answer.specs.declared.outcome.Outcome.TheVariants.{Done, Refused}
 use Rattle.rz_tools.proofs.OneAnswer.{OneCommand}
 
 -- the law of the text of a fork

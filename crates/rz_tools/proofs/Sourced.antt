@@ -15,22 +15,22 @@ use Rattle.rz_pre.specs.Reading.{IsProgram}
 use Rattle.rz_pre.specs.declared.program.Def.{Def}
 use Rattle.rz_pre.specs.declared.program.Program.{Program}
 use Rattle.rz_stmt.specs.Statements.{AreStatements}
-use Rattle.rz_answer.specs.Answer.{Failing, Making}
+use Rattle.rz_tools_answer.specs.Answer.{Failing, Making}
 use Rattle.rz_tools.specs.Held.{macros_held, CompiledSo, ReadSo}
-use Rattle.rz_answer.specs.Made.{MadeSo, Refuses, SaysBeside, StopsSo}
+use Rattle.rz_tools_answer.specs.Made.{MadeSo, Refuses, SaysBeside, StopsSo}
 use Rattle.rz_tools.specs.Sources as sources
-use Rattle.rz_answer.specs.Warning.{said_beside, warning_lines, AreWarnings}
+use Rattle.rz_tools_answer.specs.Warning.{said_beside, warning_lines, AreWarnings}
 use Rattle.rz_tools.specs.Sources.{HasWork, SaidBeside, Unsaid}
 use Rattle.rz_core.specs.declared.resource.Resource.{Resource}
 use Rattle.rz_pre.specs.declared.condition.Tool.{Tool}
-use Rattle.rz_paths.specs.declared.halt.Halt.TheVariants as halts
-use Rattle.rz_work.specs.Around.{around, Around}
-use Rattle.rz_work.specs.declared.setting.Setting.{Setting}
-use Rattle.rz_work.specs.Work.{begun, Work}
+use Rattle.rz_folder_paths.specs.declared.halt.Halt.TheVariants as halts
+use Rattle.rz_tools_work.specs.Around.{around, Around}
+use Rattle.rz_tools_work.specs.declared.setting.Setting.{Setting}
+use Rattle.rz_tools_work.specs.Work.{begun, Work}
 use Rattle.rz_tools.specs.Step.{Means, Worked}
-use Rattle.rz_answer.specs.declared.made.Made.{Made}
-use Rattle.rz_answer.specs.declared.made.Stopped.{Stopped}
-use Rattle.rz_answer.specs.declared.made.Stopped.TheVariants as stops
+use Rattle.rz_tools_answer.specs.declared.made.Made.{Made}
+use Rattle.rz_tools_answer.specs.declared.made.Stopped.{Stopped}
+use Rattle.rz_tools_answer.specs.declared.made.Stopped.TheVariants as stops
 use Rattle.rz_tools.specs.declared.sources.Compiled.{Compiled}
 
 -- What is made so is made otherwise too, where each such answer is one of the others.

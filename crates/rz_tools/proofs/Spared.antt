@@ -2,14 +2,14 @@
 use Rattle.std.proofs.Common.{◌≡◌, ◌⊎◌, inl, inr, ℕ, List, Ok, Err, None, sym, subst}
 use Rattle.std.specs.declared.result.Result.{Result}
 use Rattle.rz_folder.specs.Folder.{Files}
-use Rattle.rz_pre.specs.Definitions.{AreFree, IsFreeName}
+use Rattle.rz_pre_laws.specs.Definitions.{AreFree, IsFreeName}
 use Rattle.rz_pre.specs.Program.{ProgramGoes, State}
 use Rattle.rz_pre.specs.declared.condition.Tool.{Tool}
 use Rattle.rz_pre.specs.declared.program.Def.{Def}
 use Rattle.rz_tools.specs.Again.{SparesWords}
-use Rattle.rz_answer.specs.Answer.{Failing}
+use Rattle.rz_tools_answer.specs.Answer.{Failing}
 use Rattle.rz_tools.specs.Sources.{AreCompiled, Compiled}
-use Rattle.rz_work.specs.Around.{Around}
+use Rattle.rz_tools_work.specs.Around.{Around}
 use Rattle.rz_tools.proofs.Reserved.{words_spared, AttributesAreSpelled, KeywordsAreSpelled}
 
 -- the law of what is live behind a program

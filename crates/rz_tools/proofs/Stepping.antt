@@ -13,28 +13,28 @@ use Rattle.rz_lex.specs.declared.token.Token.{Token}
 use Rattle.rz_core.specs.Stop.{OnFault}
 use Rattle.rz_core.specs.declared.stop.Stop.{Stop}
 use Rattle.rz_core.specs.declared.stop.Stop.TheVariants as stops
-use Rattle.rz_paths.specs.Halt.{halt_of}
-use Rattle.rz_paths.specs.declared.halt.Halt.{Halt}
-use Rattle.rz_paths.specs.declared.halt.Halt.TheVariants.{NoMemory, ReadFault, Refused}
+use Rattle.rz_folder_paths.specs.Halt.{halt_of}
+use Rattle.rz_folder_paths.specs.declared.halt.Halt.{Halt}
+use Rattle.rz_folder_paths.specs.declared.halt.Halt.TheVariants.{NoMemory, ReadFault, Refused}
 use Rattle.rz_pre.specs.declared.condition.Tool.{Tool}
 use Rattle.rz_pre.specs.declared.condition.Tool.TheVariants as tools
 use Rattle.rz_stmt.specs.Constants as declare
 use Rattle.rz_stmt.specs.Grammar.{mark_of, Compiles, Data, Declares, Empty, Gave, Lists, Parses, Statement}
-use Rattle.rz_items.specs.Compile.{Compile}
-use Rattle.rz_lists.specs.Lists.{ListForm}
+use Rattle.rz_stmt_items.specs.Compile.{Compile}
+use Rattle.rz_stmt_lists.specs.Lists.{ListForm}
 use Rattle.rz_stmt.specs.Raw.{Raw}
 use Rattle.rz_stmt.specs.Statements.{AreStatements}
-use Rattle.rz_statements.specs.Next.{BeginsWith}
+use Rattle.rz_stmt.specs.Next.{BeginsWith}
 use Rattle.rz_lex.specs.Lexeme.{AreLexed}
-use Rattle.rz_work.specs.ToolWords.{numbered}
-use Rattle.rz_brackets.specs.declared.span.Span.{Span}
+use Rattle.rz_tools_work.specs.ToolWords.{numbered}
+use Rattle.rz_stmt_brackets.specs.declared.span.Span.{Span}
 use Rattle.rz_core.specs.Answers.{Then}
 use Rattle.rz_folder.specs.Folder.{Files}
-use Rattle.rz_work.specs.Around.{around, Around}
-use Rattle.rz_work.specs.Lists.{list_after}
-use Rattle.rz_work.specs.Work.{declared, halted, list_behind, with_list, Stepped, Went, Work}
+use Rattle.rz_tools_work.specs.Around.{around, Around}
+use Rattle.rz_tools_work.specs.Lists.{list_after}
+use Rattle.rz_tools_work.specs.Work.{declared, halted, list_behind, with_list, Stepped, Went, Work}
 use Rattle.rz_tools.specs.Step.{tokens_at, Changes, IsBehind, IsListBehind, IsSpan, MakesList, Means, Steps, WarnedFault, Worked}
-use Rattle.rz_work.specs.declared.setting.Setting.{Setting}
+use Rattle.rz_tools_work.specs.declared.setting.Setting.{Setting}
 
 -- whatever the rest of the statements means after this, all mean so
 abbrev pub LeadsTo : Around → Work → List (List Token) → List (List Token) → Work → Type 0

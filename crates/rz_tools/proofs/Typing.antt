@@ -10,14 +10,14 @@ use Rattle.rz_pre.specs.Program.{ProgramGoes, State}
 use Rattle.rz_pre.specs.Reading.{IsProgram}
 use Rattle.rz_pre.specs.declared.condition.Tool.TheVariants as tools
 use Rattle.rz_pre.specs.declared.program.Program.{Program}
-use Rattle.rz_answer.specs.declared.made.Stopped.{Stopped}
-use Rattle.rz_answer.specs.declared.made.Stopped.TheVariants as stops
+use Rattle.rz_tools_answer.specs.declared.made.Stopped.{Stopped}
+use Rattle.rz_tools_answer.specs.declared.made.Stopped.TheVariants as stops
 use Rattle.rz_tools.specs.DeRez.{derez_around, derez_setting, TypesAre}
 use Rattle.rz_tools.specs.Held.{CompiledSo, ReadSo}
 use Rattle.rz_tools.specs.Sources.{HasWork, IsProgramOf, Unsaid}
 use Rattle.rz_tools.specs.declared.sources.Compiled.{Compiled}
-use Rattle.rz_work.specs.Around.{around}
-use Rattle.rz_words.specs.Command.{DeRezAsked}
+use Rattle.rz_tools_work.specs.Around.{around}
+use Rattle.rz_tools_args.specs.Command.{DeRezAsked}
 
 module _ (moment : Moment) (asked : DeRezAsked) where
   -- what the statements of the program made

@@ -12,17 +12,17 @@ use Rattle.rz_core.specs.declared.facts.Facts.{Facts}
 use Rattle.rz_core.specs.declared.fault.Fault.{Fault}
 use Rattle.rz_core.specs.declared.fault.Mark.{Mark}
 use Rattle.rz_core.specs.declared.resource.Resource.{Resource}
-use Rattle.rz_show.specs.Showing.{IsStored}
-use Rattle.rz_show.specs.Statement.{attributes_of, id_term, name_part, shown_head, shown_raw, text_parts}
-use Rattle.rz_fields.specs.Text.{bytes_of, parts_bytes, parts_of, PlainPart}
-use Rattle.rz_fields.specs.Value.{field_sight, number_of}
+use Rattle.rz_show_laws.specs.Showable.{IsStored}
+use Rattle.rz_show_laws.specs.Statement.{attributes_of, id_term, name_part, shown_head, shown_raw, text_parts}
+use Rattle.rz_types_fields.specs.Text.{bytes_of, parts_bytes, parts_of, PlainPart}
+use Rattle.rz_types_fields.specs.Value.{field_sight, number_of}
 use Rattle.rz_folder.specs.Folder.{Files}
 use Rattle.rz_tools.proofs.Fileless.{pieces_read}
-use Rattle.rz_work.specs.Around.{Around}
-use Rattle.rz_work.specs.Data.{contents_of, most_bytes, short_bytes, with_bytes}
-use Rattle.rz_work.specs.Raw.{contents_read, resource_of}
-use Rattle.rz_work.specs.Head.{bits_behind_all, facts_of, head_facts, id_of, name_of, short_name}
-use Rattle.rz_work.specs.declared.setting.Setting.{Setting}
+use Rattle.rz_tools_work.specs.Around.{Around}
+use Rattle.rz_tools_work.specs.Data.{contents_of, most_bytes, short_bytes, with_bytes}
+use Rattle.rz_tools_work.specs.Raw.{contents_read, resource_of}
+use Rattle.rz_tools_work.specs.Head.{bits_behind_all, facts_of, head_facts, id_of, name_of, short_name}
+use Rattle.rz_tools_work.specs.declared.setting.Setting.{Setting}
 
 module _ (mark : Mark) where
   id_value : (known : Facts) (id : ℤ) → FitsSigned w16 id → number_of mark known (id_term id) ≡ Ok id

@@ -9,28 +9,28 @@ use Rattle.rz_core.specs.declared.moment.Moment.{Moment}
 use Rattle.rz_core.specs.declared.resource.Resource.{Resource}
 use Rattle.rz_folder.specs.Folder.{Files}
 use Rattle.rz_bridge.specs.declared.file.MacFile.{MacFile}
-use Rattle.rz_files.specs.Contents.{file_in, fork_in, IsFile}
-use Rattle.rz_form.specs.declared.form.Form.{Form}
+use Rattle.rz_bridge_files.specs.Contents.{file_in, fork_in, IsFile}
+use Rattle.rz_bridge_form.specs.declared.form.Form.{Form}
 use Rattle.rz_fork.specs.Contents.{Fork}
 use Rattle.rz_lex.specs.declared.token.Token.{Token}
 use Rattle.rz_pre.specs.Live.{Live}
 use Rattle.rz_pre.specs.Program.{NamedGoes, State}
 use Rattle.rz_pre.specs.declared.condition.Tool.TheVariants as tools
-use Rattle.rz_show.specs.Statement.{shown_words}
+use Rattle.rz_show_laws.specs.Statement.{shown_words}
 use Rattle.rz_stmt.specs.Statements.{AreStatements}
-use Rattle.rz_work.specs.Data.{most_bytes}
-use Rattle.rz_output.specs.Base.{new_base}
+use Rattle.rz_tools_work.specs.Data.{most_bytes}
+use Rattle.rz_tools_output.specs.Base.{new_base}
 use Rattle.rz_tools.specs.DeRez.{known_by, TypesAre}
 use Rattle.rz_tools.specs.Step.{Means}
-use Rattle.rz_work.specs.Around.{Around}
-use Rattle.rz_answer.specs.Answer.{or_refused, written}
+use Rattle.rz_tools_work.specs.Around.{Around}
+use Rattle.rz_tools_answer.specs.Answer.{or_refused, written}
 use Rattle.rz_tools.specs.Program.{Answers}
-use Rattle.rz_output.specs.Output.{IsOutput}
+use Rattle.rz_tools_output.specs.Output.{IsOutput}
 use Rattle.rz_tools.specs.Shown.{Known}
-use Rattle.rz_answer.specs.Warning.{said_beside}
+use Rattle.rz_tools_answer.specs.Warning.{said_beside}
 use Rattle.rz_tools.specs.Sources.{Compiled}
 use Rattle.rz_tools.specs.Chosen.{chosen}
-use Rattle.rz_words.specs.Command.{DeRezAsked, IsCommand, Rez, RezAsked}
+use Rattle.rz_tools_args.specs.Command.{DeRezAsked, IsCommand, Rez, RezAsked}
 
 -- the words of statements and attributes are no macros, nor are `true` and `false`: they are reserved
 abbrev pub SparesWords : (List ℕ → Bool) → Type 0

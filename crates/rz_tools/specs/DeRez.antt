@@ -7,17 +7,17 @@ use Rattle.rz_core.specs.declared.fault.Fault.{Fault}
 use Rattle.rz_core.specs.declared.moment.Moment.{Moment}
 use Rattle.rz_core.specs.declared.resource.Resource.{Resource}
 use Rattle.rz_folder.specs.Folder.{Files}
-use Rattle.rz_files.specs.Contents.{fork_in}
+use Rattle.rz_bridge_files.specs.Contents.{fork_in}
 use Rattle.rz_fork.specs.Contents.{Fork}
-use Rattle.rz_paths.specs.Names.{missing_file}
+use Rattle.rz_folder_paths.specs.Names.{missing_file}
 use Rattle.rz_pre.specs.declared.condition.Tool.TheVariants as tools
-use Rattle.rz_answer.specs.Answer.{Answer, Answered, Failing, Making, shown}
+use Rattle.rz_tools_answer.specs.Answer.{Answer, Answered, Failing, Making, shown}
 use Rattle.rz_tools.specs.Chosen.{chosen}
 use Rattle.rz_tools.specs.Shown.{Known, Shown}
 use Rattle.rz_tools.specs.Sources.{AreCompiled, Compiled, SaidBeside}
-use Rattle.rz_work.specs.Around.{Around}
-use Rattle.rz_work.specs.declared.setting.Setting.{Setting}
-use Rattle.rz_words.specs.Command.{DeRezAsked}
+use Rattle.rz_tools_work.specs.Around.{Around}
+use Rattle.rz_tools_work.specs.declared.setting.Setting.{Setting}
+use Rattle.rz_tools_args.specs.Command.{DeRezAsked}
 
 -- the text shows each of these resources, one behind the other
 abbrev pub ShowsEach : Known → List Resource → List ℕ → Type 0

@@ -7,9 +7,9 @@ use Rattle.rz_core.specs.declared.facts.Facts.{Facts}
 use Rattle.rz_core.specs.declared.fault.Fault.{Fault}
 use Rattle.rz_core.specs.declared.fault.Mark.{Mark}
 use Rattle.rz_folder.specs.Folder.{Files}
-use Rattle.rz_items.specs.Item.{more, none, plain_item, plain_items, Braced, Named, Number, PlainItem, PlainItems, Text}
-use Rattle.rz_items.specs.declared.item.Item.{Item}
-use Rattle.rz_work.specs.Texts.{texts_read}
+use Rattle.rz_stmt_items.specs.Item.{more, none, plain_item, plain_items, Braced, Named, Number, PlainItem, PlainItems, Text}
+use Rattle.rz_stmt_items.specs.declared.item.Item.{Item}
+use Rattle.rz_tools_work.specs.Texts.{texts_read}
 
 module _ (paths : List (List ℕ)) (files : Files) (mark : Mark) (known : Facts) where
   abbrev mutual

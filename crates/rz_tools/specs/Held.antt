@@ -6,17 +6,17 @@ use Rattle.rz_core.specs.declared.resource.Word.{Word}
 use Rattle.rz_pre.specs.Program.{State}
 use Rattle.rz_pre.specs.Reading.{is_among, IsProgram}
 use Rattle.rz_pre.specs.declared.program.Program.{Program}
-use Rattle.rz_print.specs.Hidden.{hides}
-use Rattle.rz_answer.specs.Answer.{Failing}
-use Rattle.rz_answer.specs.Made.{NamesFault, SaysBefore, StopsSo}
+use Rattle.rz_show.specs.Hidden.{hides}
+use Rattle.rz_tools_answer.specs.Answer.{Failing}
+use Rattle.rz_tools_answer.specs.Made.{NamesFault, SaysBefore, StopsSo}
 use Rattle.rz_tools.specs.Shown as shown
 use Rattle.rz_tools.specs.Sources as sources
-use Rattle.rz_answer.specs.Warning.{AreWarnings}
-use Rattle.rz_answer.specs.declared.made.Stopped.{Stopped}
+use Rattle.rz_tools_answer.specs.Warning.{AreWarnings}
+use Rattle.rz_tools_answer.specs.declared.made.Stopped.{Stopped}
 use Rattle.rz_tools.specs.declared.shown.Known.{Known}
 use Rattle.rz_tools.specs.declared.sources.Compiled.{Compiled}
-use Rattle.rz_work.specs.Held.{work_of}
-use Rattle.rz_table.specs.TypeTable.{table_of}
+use Rattle.rz_tools_work.specs.Held.{work_of}
+use Rattle.rz_types_table.specs.TypeTable.{table_of}
 
 -- a name, in whatever case, is one of these in lower case
 abbrev pub macros_held : List Word → List ℕ → Bool

@@ -2,11 +2,11 @@
 use Rattle.std.specs.Prelude.{◌≡◌, ℕ, List, []}
 use Rattle.rz_core.specs.declared.moment.Moment.{Moment}
 use Rattle.rz_folder.specs.Folder.{Files}
-use Rattle.rz_words.specs.Command.{Asked, Rez, DeRez, Bridge, Help, Version, IsCommand, IsMisplaced}
-use Rattle.rz_answer.specs.Answer.{misused, shown, Answer}
-use Rattle.rz_output.specs.Bridge.{AnswersBridge}
+use Rattle.rz_tools_args.specs.Command.{Asked, Rez, DeRez, Bridge, Help, Version, IsCommand, IsMisplaced}
+use Rattle.rz_tools_answer.specs.Answer.{misused, shown, Answer}
+use Rattle.rz_tools_output.specs.Bridge.{AnswersBridge}
 use Rattle.rz_tools.specs.DeRez.{AnswersDeRez}
-use Rattle.rz_answer.specs.Help.{help_text, version_text}
+use Rattle.rz_tools_answer.specs.Help.{help_text, version_text}
 use Rattle.rz_tools.specs.Rez.{AnswersRez}
 
 -- the answer to a command, where each name holds this, at this moment; each command is one case

@@ -11,18 +11,18 @@ use Rattle.rz_core.specs.declared.fault.Kept.TheVariants as kept
 use Rattle.rz_core.specs.declared.fault.Mark.{Mark}
 use Rattle.rz_core.specs.declared.resource.Resource.{Resource}
 use Rattle.rz_folder.specs.Folder.{Files}
-use Rattle.rz_items.specs.Compile.{Compile}
-use Rattle.rz_items.specs.Item.{PlainItem}
+use Rattle.rz_stmt_items.specs.Compile.{Compile}
+use Rattle.rz_stmt_items.specs.Item.{PlainItem}
 use Rattle.rz_layout.specs.Compiled.{IsCompiled}
-use Rattle.rz_match.specs.Match.{IsMatch}
+use Rattle.rz_stmt_items.specs.Match.{IsMatch}
 use Rattle.rz_tools.specs.Files.{items_read}
-use Rattle.rz_work.specs.Around.{Around}
-use Rattle.rz_work.specs.Data.{with_bytes}
-use Rattle.rz_work.specs.Head.{facts_of}
-use Rattle.rz_rows.specs.declared.tree.Tree.{Tree}
-use Rattle.rz_rows.specs.Laid.{Refusal}
+use Rattle.rz_tools_work.specs.Around.{Around}
+use Rattle.rz_tools_work.specs.Data.{with_bytes}
+use Rattle.rz_tools_work.specs.Head.{facts_of}
+use Rattle.rz_types_fields.specs.declared.tree.Tree.{Tree}
+use Rattle.rz_types_fields.specs.Laid.{Refusal}
 use Rattle.rz_types.specs.Field.{PlainBody}
-use Rattle.rz_table.specs.Table.{found, Declaration}
+use Rattle.rz_types_table.specs.Table.{found, Declaration}
 
 -- 202 for a resource whose type and id no declaration is for
 abbrev pub no_type : Mark → Facts → Fault

@@ -7,12 +7,12 @@ use Rattle.rz_core.specs.declared.moment.Moment.{Moment}
 use Rattle.rz_folder.specs.Folder.{Files}
 use Rattle.rz_pre.specs.Program.{State}
 use Rattle.rz_pre.specs.declared.condition.Tool.TheVariants as tools
-use Rattle.rz_words.specs.Command.{RezAsked}
-use Rattle.rz_answer.specs.Answer.{Answer, Answered, Failing, Making, written}
-use Rattle.rz_work.specs.Around.{Around}
-use Rattle.rz_work.specs.declared.setting.Setting.{Setting}
-use Rattle.rz_output.specs.Base.{base_of, Base}
-use Rattle.rz_output.specs.Output.{IsOutput}
+use Rattle.rz_tools_args.specs.Command.{RezAsked}
+use Rattle.rz_tools_answer.specs.Answer.{Answer, Answered, Failing, Making, written}
+use Rattle.rz_tools_work.specs.Around.{Around}
+use Rattle.rz_tools_work.specs.declared.setting.Setting.{Setting}
+use Rattle.rz_tools_output.specs.Base.{base_of, Base}
+use Rattle.rz_tools_output.specs.Output.{IsOutput}
 use Rattle.rz_tools.specs.Sources.{Compiled, HasWork, IsProgramOf, SaidBeside}
 
 -- what holds for all statements: what the words ask for, the moment and the files

@@ -3,13 +3,13 @@ use Rattle.std.specs.Prelude.{◌≡◌, ℕ, Bool, true, false, List, Some, opt
 use Rattle.rz_core.specs.declared.facts.Facts.{Facts}
 use Rattle.rz_core.specs.declared.moment.Moment.{Moment}
 use Rattle.rz_core.specs.declared.resource.Resource.{Resource}
-use Rattle.rz_rows.specs.declared.tree.Tree.{Tree}
-use Rattle.rz_print.specs.Shown.{row_uses}
+use Rattle.rz_types_fields.specs.declared.tree.Tree.{Tree}
+use Rattle.rz_show.specs.Shown.{row_uses}
 use Rattle.rz_show.specs.Showing.{by_bytes, by_row, showing_text, Showing}
 use Rattle.rz_types.specs.Field.{PlainBody}
 use Rattle.rz_types.specs.Rules.{keeps_rules}
 use Rattle.rz_types.specs.Shape.{is_well_shaped}
-use Rattle.rz_table.specs.Table.{found, Declaration}
+use Rattle.rz_types_table.specs.Table.{found, Declaration}
 use Rattle.rz_unlay.specs.Reading.{IsTold}
 
 -- what is known where resources are shown: the declarations, which names, in whatever case, are macros, and the moment

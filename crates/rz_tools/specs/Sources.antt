@@ -8,11 +8,11 @@ use Rattle.rz_lex.specs.declared.token.Token.{Token}
 use Rattle.rz_pre.specs.Program.{Failure, ProgramGoes, State}
 use Rattle.rz_pre.specs.declared.program.Def.{Def}
 use Rattle.rz_stmt.specs.Statements.{AreStatements}
-use Rattle.rz_answer.specs.Answer.{Failing, Making}
-use Rattle.rz_work.specs.Around.{Around}
-use Rattle.rz_work.specs.Work.{begun, Work}
+use Rattle.rz_tools_answer.specs.Answer.{Failing, Making}
+use Rattle.rz_tools_work.specs.Around.{Around}
+use Rattle.rz_tools_work.specs.Work.{begun, Work}
 use Rattle.rz_tools.specs.Step.{Means, WarnedFault}
-use Rattle.rz_answer.specs.Warning.{said_beside, warning_lines}
+use Rattle.rz_tools_answer.specs.Warning.{said_beside, warning_lines}
 use Rattle.rz_core.specs.declared.resource.Resource.{Resource}
 
 -- what the statements of sources made, which names, in whatever case, are macros behind them, and the files that were opened

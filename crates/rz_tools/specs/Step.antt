@@ -5,21 +5,21 @@ use Rattle.rz_core.specs.Answers.{Then}
 use Rattle.rz_core.specs.declared.fault.Fault.{Fault}
 use Rattle.rz_core.specs.declared.fault.Mark.{Mark}
 use Rattle.rz_core.specs.declared.resource.Resource.{Resource}
-use Rattle.rz_brackets.specs.declared.span.Span.{Span}
-use Rattle.rz_items.specs.Compile.{Compile}
+use Rattle.rz_stmt_brackets.specs.declared.span.Span.{Span}
+use Rattle.rz_stmt_items.specs.Compile.{Compile}
 use Rattle.rz_lex.specs.declared.token.Token.{Token}
-use Rattle.rz_paths.specs.declared.halt.Halt.{Halt}
-use Rattle.rz_paths.specs.declared.halt.Halt.TheVariants.{NoMemory, ReadFault, Refused}
+use Rattle.rz_folder_paths.specs.declared.halt.Halt.{Halt}
+use Rattle.rz_folder_paths.specs.declared.halt.Halt.TheVariants.{NoMemory, ReadFault, Refused}
 use Rattle.rz_pre.specs.declared.condition.Tool.{Tool}
 use Rattle.rz_pre.specs.declared.condition.Tool.TheVariants as tools
 use Rattle.rz_stmt.specs.Grammar.{mark_of, Compiles, Data, Declares, Empty, Lists, Parses, Statement}
-use Rattle.rz_table.specs.Table.{Declaration}
-use Rattle.rz_work.specs.Around.{Around}
-use Rattle.rz_work.specs.Lists.{list_after}
-use Rattle.rz_work.specs.Put.{list_with}
-use Rattle.rz_work.specs.ToolWords.{numbered}
-use Rattle.rz_work.specs.Work.{declared, list_behind, with_list, Work}
-use Rattle.rz_work.specs.declared.setting.Setting.{Setting}
+use Rattle.rz_types_table.specs.Table.{Declaration}
+use Rattle.rz_tools_work.specs.Around.{Around}
+use Rattle.rz_tools_work.specs.Lists.{list_after}
+use Rattle.rz_tools_work.specs.Put.{list_with}
+use Rattle.rz_tools_work.specs.ToolWords.{numbered}
+use Rattle.rz_tools_work.specs.Work.{declared, list_behind, with_list, Work}
+use Rattle.rz_tools_work.specs.declared.setting.Setting.{Setting}
 use Rattle.rz_tools.specs.Resource.{IsResource}
 
 -- what a statement other than `type` does to the list: DeRez leaves it as it is

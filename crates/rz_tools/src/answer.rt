@@ -2,20 +2,20 @@ ghost use Rattle.std.specs.Prelude.{◌≡◌, ◌⊎◌, ℕ, List, map, IfOk, 
 ghost use Rattle.std.specs.String.{string_bytes};
 ghost use Rattle.std.specs.FinMap as finite;
 ghost use Rattle.rz_folder.specs.OnlyReads.{OnlyReads};
-ghost use Rattle.rz_words.specs.Command.{DeRez, DeRezAsked, IsCommand, IsMisplaced};
+ghost use Rattle.rz_tools_args.specs.Command.{DeRez, DeRezAsked, IsCommand, IsMisplaced};
 ghost use Rattle.rz_tools.specs.Again.{HoldsFile};
-ghost use Rattle.rz_answer.specs.Plan.{answer_of};
+ghost use Rattle.rz_tools_answer.specs.Plan.{answer_of};
 ghost use Rattle.rz_tools.specs.Program.{Answers};
-ghost use Rattle.rz_answer.specs.WellFormed.{AreWritable, IsWellFormed};
-ghost use Rattle.rz_answer.specs.declared.made.Unanswered.TheVariants.{NoMemory as no_memory, ReadFault};
+ghost use Rattle.rz_tools_answer.specs.WellFormed.{AreWritable, IsWellFormed};
+ghost use Rattle.rz_tools_answer.specs.declared.made.Unanswered.TheVariants.{NoMemory as no_memory, ReadFault};
 
 use crate::derez::plan_derez;
 use crate::rez::plan_rez;
-use rz_answer::{Outcome, Plan, Unanswered, help_text, version_text};
 use rz_core::{Moment, Stop};
 use rz_folder::Folder;
-use rz_output::plan_bridge;
-use rz_words::{Command, definitions_are_lexed, one_command, read_words};
+use rz_tools_answer::{Outcome, Plan, Unanswered, help_text, version_text};
+use rz_tools_args::{Command, definitions_are_lexed, one_command, read_words};
+use rz_tools_output::plan_bridge;
 use std::alloc::Global;
 
 /// The answer to words, with nothing of it carried out. All files that it needs are read, and all memory is taken.

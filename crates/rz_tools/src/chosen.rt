@@ -2,7 +2,7 @@ ghost use Rattle.std.specs.Prelude.{◌≡◌};
 ghost use Rattle.rz_tools.specs.Chosen.{is_chosen, is_in};
 
 use rz_core::OsType;
-use rz_words::Kinds;
+use rz_tools_args::Kinds;
 
 /// Whether resources of a type are shown: it is one of the types of `-only`, where there are any, and none of those of
 /// `-skip`.

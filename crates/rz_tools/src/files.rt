@@ -1,16 +1,16 @@
 ghost use Rattle.std.specs.Prelude.{◌≡◌, ◌<◌, ℕ, IfSome, IfOk};
 ghost use Rattle.rz_core.specs.Message.{IsNameable};
 ghost use Rattle.rz_folder.specs.OnlyReads.{OnlyReads};
-ghost use Rattle.rz_items.specs.Item.{plain_item, plain_items};
-ghost use Rattle.rz_items.specs.Places.{AreItemsWithin, IsItemWithin};
-ghost use Rattle.rz_paths.specs.Halt.{IsReadFault, OnRefusal, Yields};
+ghost use Rattle.rz_stmt_items.specs.Item.{plain_item, plain_items};
+ghost use Rattle.rz_stmt_items.specs.Places.{AreItemsWithin, IsItemWithin};
+ghost use Rattle.rz_folder_paths.specs.Halt.{IsReadFault, OnRefusal, Yields};
 ghost use Rattle.rz_tools.specs.Files.{item_given, item_read, items_given, items_read};
 
 use rz_core::{Facts, FileNames, Mark};
 use rz_folder::Folder;
-use rz_items::{Item, Items};
-use rz_paths::Halt;
-use rz_work::read_texts;
+use rz_folder_paths::Halt;
+use rz_stmt_items::{Item, Items};
+use rz_tools_work::read_texts;
 use std::alloc::Global;
 
 /// Items in which what the files give that their texts name has taken the place of the parts that name them, from left to

@@ -4,32 +4,33 @@ ghost use Rattle.rz_folder.specs.Folder.{Files};
 ghost use Rattle.rz_fork.specs.Admit.{admitted};
 ghost use Rattle.rz_fork.specs.Contents.{Fork};
 ghost use Rattle.rz_core.specs.declared.resource.OsType.{OsType};
-ghost use Rattle.rz_files.specs.Contents.{IsFile};
+ghost use Rattle.rz_bridge_files.specs.Contents.{IsFile};
 ghost use Rattle.rz_tools.specs.Again.{AreShort, CompilesAlone, MeansAgain, SparesWords};
-ghost use Rattle.rz_answer.specs.Answer.{Answer};
+ghost use Rattle.rz_tools_answer.specs.Answer.{Answer};
 ghost use Rattle.rz_tools.specs.Chosen.{chosen};
 ghost use Rattle.rz_tools.specs.DeRez.{ShowsEach};
 ghost use Rattle.rz_tools.specs.Shown.{Known};
 ghost use Rattle.rz_tools.specs.Sources.{AreCompiled, Compiled};
-ghost use Rattle.rz_work.specs.Around.{Around};
-ghost use Rattle.rz_pre.specs.Definitions.{AreFree};
+ghost use Rattle.rz_tools_work.specs.Around.{Around};
+ghost use Rattle.rz_pre_laws.specs.Definitions.{AreFree};
 ghost use Rattle.rz_pre.specs.declared.program.Def.{Def};
 ghost use Rattle.rz_tools.specs.Program.{Answers};
 
-use rz_brackets::all_tokens_are_statements;
+use rz_bridge_files::{every_file_is_named, one_named_file};
+use rz_bridge_form::{every_header_has_a_data_file, one_data_file};
 use rz_expr::{attribute_words_are_spelled, keywords_are_spelled};
-use rz_files::{every_file_is_named, one_named_file};
 use rz_fork::admitted_forks_fit;
-use rz_form::{every_header_has_a_data_file, one_data_file};
 use rz_layout::one_spelling;
-use rz_match::{matched_rows_are_rows, one_match};
-use rz_pre::{every_program_has_an_answer, live_names_are_free, one_program};
-use rz_show::{shown_text, spelled_texts};
+use rz_pre::one_program;
+use rz_pre_laws::{every_program_has_an_answer, live_names_are_free};
+use rz_show_laws::{shown_text, spelled_texts};
 use rz_stmt::{every_statement_is_parsed, one_cutting, one_statement};
+use rz_stmt_brackets::all_tokens_are_statements;
+use rz_stmt_items::{matched_rows_are_rows, one_match};
+use rz_tools_args::{definitions_are_free, every_list_of_words_is_read, one_command};
 use rz_unlay::{
     one_plain_row, plain_rows_are_spelled, spelled_rows_are_rows, told_rows_are_decided,
 };
-use rz_words::{definitions_are_free, every_list_of_words_is_read, one_command};
 
 /// A law, with nothing to run: words have one answer at most, where each name holds the same and at the same
 /// moment.

@@ -1,21 +1,21 @@
 ghost use Rattle.std.specs.Prelude.{◌≡◌, ◌⊎◌, ℕ, List, map, IfSome};
 ghost use Rattle.std.specs.String.{string_bytes};
 ghost use Rattle.rz_tools.specs.Again.{ShowsAgain};
-ghost use Rattle.rz_answer.specs.Answer.{Answer};
+ghost use Rattle.rz_tools_answer.specs.Answer.{Answer};
 ghost use Rattle.rz_tools.specs.Program.{Answers, IsOnlyAnswer};
-ghost use Rattle.rz_answer.specs.Carried.{CarriesOut, EndsWith, IsAnswered, IsUnhindered};
-ghost use Rattle.rz_answer.specs.World.{world};
-ghost use Rattle.rz_answer.specs.WellFormed.{IsWellFormed};
-ghost use Rattle.rz_words.specs.Command.{DeRez, DeRezAsked, IsCommand, IsMisplaced};
+ghost use Rattle.rz_tools_answer.specs.Carried.{CarriesOut, EndsWith, IsAnswered, IsUnhindered};
+ghost use Rattle.rz_tools_answer.specs.World.{world};
+ghost use Rattle.rz_tools_answer.specs.WellFormed.{IsWellFormed};
+ghost use Rattle.rz_tools_args.specs.Command.{DeRez, DeRezAsked, IsCommand, IsMisplaced};
 
 use crate::answer::answer;
 use crate::laws::{
     every_answer, one_answer, reserved_words_are_spared, shown_forks_are_read_again,
 };
-use rz_answer::{NO_MEMORY, Outcome, READ_FAULT, Unanswered, carry_out, put_line};
 use rz_core::Moment;
 use rz_folder::{Folder, Sink};
-use rz_words::{definitions_are_free, one_command};
+use rz_tools_answer::{NO_MEMORY, Outcome, READ_FAULT, Unanswered, carry_out, put_line};
+use rz_tools_args::{definitions_are_free, one_command};
 use std::alloc::Global;
 
 /// Does all that the program does. `words` are the words after the program's name.

@@ -1,10 +1,10 @@
 ghost use Rattle.std.specs.Prelude.{◌≡◌, ◌≤◌, [], ◌<◌, ◌^◌, List, length, IfSome, IfOk, Err};
-ghost use Rattle.rz_answer.specs.Made.{IsNamed, MadeSo, SaysWarnings};
-ghost use Rattle.rz_answer.specs.Plan.{answer_of, IsNoUsage};
-ghost use Rattle.rz_answer.specs.Warning.{AreWarnings};
-ghost use Rattle.rz_answer.specs.WellFormed.{AreWritable, IsWellFormed};
-ghost use Rattle.rz_answer.specs.declared.made.Stopped.TheVariants.{ReadFault};
-ghost use Rattle.rz_answer.specs.declared.made.Unanswered.TheVariants.{ReadFault as unread};
+ghost use Rattle.rz_tools_answer.specs.Made.{IsNamed, MadeSo, SaysWarnings};
+ghost use Rattle.rz_tools_answer.specs.Plan.{answer_of, IsNoUsage};
+ghost use Rattle.rz_tools_answer.specs.Warning.{AreWarnings};
+ghost use Rattle.rz_tools_answer.specs.WellFormed.{AreWritable, IsWellFormed};
+ghost use Rattle.rz_tools_answer.specs.declared.made.Stopped.TheVariants.{ReadFault};
+ghost use Rattle.rz_tools_answer.specs.declared.made.Unanswered.TheVariants.{ReadFault as unread};
 ghost use Rattle.rz_core.specs.Resources.{KeysDiffer};
 ghost use Rattle.rz_folder.specs.OnlyReads.{OnlyReads};
 ghost use Rattle.rz_lex.specs.Lexeme.{AreLexed};
@@ -13,21 +13,21 @@ ghost use Rattle.rz_pre.specs.Lexed.{HaveLexedTexts};
 ghost use Rattle.rz_pre.specs.Program.{State};
 ghost use Rattle.rz_pre.specs.Reading.{IsProgram};
 ghost use Rattle.rz_set.specs.ResSet.{AreNamed};
-ghost use Rattle.rz_words.specs.Item.{rez};
+ghost use Rattle.rz_tools_args.specs.Item.{rez};
 ghost use Rattle.rz_core.specs.declared.resource.Resource.{Resource};
-ghost use Rattle.rz_output.specs.Base.{base_with, begun_of};
+ghost use Rattle.rz_tools_output.specs.Base.{base_with, begun_of};
 ghost use Rattle.rz_tools.specs.Held.{compiled_of};
 ghost use Rattle.rz_tools.specs.Rez.{AnswersRez, Compiles, HasOutput, IsMadeBehind, IsMadeOf};
 
 use crate::sources::{Compiled, compile_program, read_program};
-use rz_answer::{Made, Plan, Stopped, Unanswered, say_beside};
 use rz_core::{Bytes, Moment};
 use rz_folder::Folder;
-use rz_output::{Base, Beginning, read_base, write_output};
-use rz_paths::Halt;
+use rz_folder_paths::Halt;
 use rz_pre::{Program, Tool};
-use rz_words::RezWords;
-use rz_work::{Setting, Work};
+use rz_tools_answer::{Made, Plan, Stopped, Unanswered, say_beside};
+use rz_tools_args::RezWords;
+use rz_tools_output::{Base, Beginning, read_base, write_output};
+use rz_tools_work::{Setting, Work};
 use std::alloc::Global;
 
 /// The answer to the words of `rez`: the sources that they name are compiled into a resource fork, behind what there is to begin

@@ -1,20 +1,19 @@
 ghost use Rattle.std.specs.Prelude.{◌≡◌, ◌++◌, ℕ, if◌then◌else◌, List, Some, None, option_map, IfOk, OnOk};
 ghost use Rattle.rz_core.specs.Decided.{Decided};
-ghost use Rattle.rz_print.specs.Hidden.{hides};
-ghost use Rattle.rz_print.specs.Shown.{row_uses};
+ghost use Rattle.rz_show.specs.Hidden.{hides};
+ghost use Rattle.rz_show.specs.Shown.{row_uses};
 ghost use Rattle.rz_tools.specs.Held.{known_of, macros_held};
 ghost use Rattle.rz_tools.specs.Shown.{facts_of, Known as KnownOf, Shown, TellsRow};
 ghost use Rattle.rz_types.specs.Field.{plain_body};
-ghost use Rattle.rz_table.specs.Table.{found};
+ghost use Rattle.rz_types_table.specs.Table.{found};
 ghost use Rattle.rz_types.specs.Template.{template_of};
-ghost use Rattle.rz_table.specs.TypeTable.{table_of};
+ghost use Rattle.rz_types_table.specs.TypeTable.{table_of};
 
 use rz_core::{Bytes, Facts, Moment, NoMemory, Resource, Words};
-use rz_print::{Hidden, uses_hidden};
-use rz_rows::Row;
-use rz_show::{show_resource, show_row};
-use rz_table::TypeTable;
+use rz_show::{Hidden, show_resource, show_row, uses_hidden};
 use rz_types::{Body, Template};
+use rz_types_fields::Row;
+use rz_types_table::TypeTable;
 use rz_unlay::{Reading, read};
 use std::alloc::Global;
 

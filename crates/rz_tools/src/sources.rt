@@ -1,6 +1,6 @@
 ghost use Rattle.std.specs.Prelude.{◌≡◌, [], length, Err, IfErr, IfOk, IfSome};
-ghost use Rattle.rz_answer.specs.Made.{NamesFault, SaysBefore};
-ghost use Rattle.rz_answer.specs.declared.made.Stopped.TheVariants.{ReadFault};
+ghost use Rattle.rz_tools_answer.specs.Made.{NamesFault, SaysBefore};
+ghost use Rattle.rz_tools_answer.specs.declared.made.Stopped.TheVariants.{ReadFault};
 ghost use Rattle.rz_core.specs.Resources.{KeysDiffer};
 ghost use Rattle.rz_folder.specs.OnlyReads.{OnlyReads};
 ghost use Rattle.rz_lex.specs.Lexeme.{AreLexed};
@@ -9,18 +9,18 @@ ghost use Rattle.rz_pre.specs.Lexed.{HaveLexedTexts};
 ghost use Rattle.rz_pre.specs.Program.{ProgramGoes, State};
 ghost use Rattle.rz_pre.specs.Reading.{IsProgram};
 ghost use Rattle.rz_set.specs.ResSet.{AreNamed};
-ghost use Rattle.rz_work.specs.Around.{around};
+ghost use Rattle.rz_tools_work.specs.Around.{around};
 ghost use Rattle.rz_tools.specs.Held.{AreNameable, CompiledSo, ReadSo};
 ghost use Rattle.rz_tools.specs.Sources.{HasWork, Unsaid};
 
 use crate::step::compile_statements;
-use rz_answer::{Stopped, refusal};
 use rz_core::{Bytes, FileNames, Resources, Words};
 use rz_folder::Folder;
-use rz_paths::Halt;
+use rz_folder_paths::Halt;
 use rz_pre::{Defs, PreFault, Program, Tool, preprocess};
 use rz_stmt::all_tokens_are_statements;
-use rz_work::{Setting, Work};
+use rz_tools_answer::{Stopped, refusal};
+use rz_tools_work::{Setting, Work};
 use std::alloc::Global;
 
 /// What sources mean.

@@ -7,9 +7,9 @@ use Rattle.std.proofs.lemmas.Bool.Decides.{nat_tests}
 use Rattle.rz_core.proofs.Lists.{or_else_none}
 use Rattle.rz_core.proofs.Tests.{or_false}
 use Rattle.rz_core.specs.declared.resource.Word.{Word}
-use Rattle.rz_fields.specs.Field.{case_and, field_and, no_cases, no_fields, Align, Array, Fill, Number, PlainBody, PlainCases, PlainField, Points, Switch, Text}
-use Rattle.rz_fields.specs.Width.{case_keys}
-use Rattle.rz_fields.specs.declared.keys.CaseKey.{CaseKey}
+use Rattle.rz_types_fields.specs.Field.{case_and, field_and, no_cases, no_fields, Align, Array, Fill, Number, PlainBody, PlainCases, PlainField, Points, Switch, Text}
+use Rattle.rz_types_fields.specs.Width.{case_keys}
+use Rattle.rz_types_fields.specs.declared.keys.CaseKey.{CaseKey}
 use Rattle.rz_types.specs.Kept.{AreCasesApart, AreKeysApart, AreKeysApartIn, IsApartFrom, StandApart}
 use Rattle.rz_types.specs.Rules.{broken, broken_at, differ, found_if, has_other_place, has_other_width, has_same_bits, key_rule, keeps_rules, name_fault, KeepAll}
 use Rattle.rz_types.specs.Walk.{all_fields, behind_case, case_steps, names_of, own_names, steps, steps_within, within}

@@ -8,8 +8,8 @@ use Rattle.rz_core.specs.declared.resource.Word.{Word}
 use Rattle.rz_expr.specs.Environment.{Environment}
 use Rattle.rz_expr.specs.Term.{BitsAt, Constant, FactOf, Named, OfOne, OfTwo, RowsOf, Term}
 use Rattle.rz_expr.specs.Value.{value_of}
-use Rattle.rz_fields.specs.Value.{is_field_expression, is_fixed_expression, names_sight, IsArithmetic}
-use Rattle.rz_fields.proofs.Arithmetic.{sight_sound, sound, KnowsArrays}
+use Rattle.rz_types_fields.specs.Value.{is_field_expression, is_fixed_expression, names_sight, IsArithmetic}
+use Rattle.rz_types_fields.proofs.Arithmetic.{sight_sound, sound, KnowsArrays}
 use Rattle.rz_types.specs.Names.{GivesCounts, GivesPredefined}
 use Rattle.rz_types.specs.Rules.{unknown_array}
 use Rattle.rz_types.specs.Walk.{is_among}

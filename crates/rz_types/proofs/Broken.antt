@@ -3,7 +3,7 @@ use Rattle.std.proofs.Common.{◌≡◌, List, [], ◌∷◌, ◌++◌, map, Opt
 use Rattle.std.specs.Prelude.{◌↔◌, ◌⊎◌}
 use Rattle.rz_core.specs.Lists.{first_of, or_else}
 use Rattle.rz_core.proofs.Lists.{or_else_none}
-use Rattle.rz_fields.specs.Field.{PlainBody}
+use Rattle.rz_types_fields.specs.Field.{PlainBody}
 use Rattle.rz_types.specs.Rules.{broken, broken_at, unknown_at, BreaksFirst, BreaksNone, IsFirstBroken, KeepAll}
 use Rattle.rz_types.specs.Walk.{walk, Step}
 use Rattle.rz_types.specs.declared.rules.TypeFault.{TypeFault}

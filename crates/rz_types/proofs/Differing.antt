@@ -8,7 +8,7 @@ use Rattle.rz_core.proofs.Lists.{or_else_none}
 use Rattle.rz_core.proofs.Tests.{or_false}
 use Rattle.rz_core.specs.Lists.{first_in}
 use Rattle.rz_core.specs.declared.resource.Word.{Word}
-use Rattle.rz_fields.specs.Field.{field_and, no_fields, Align, Array, Fill, Number, PlainBody, PlainCases, PlainField, Points, Switch, Text}
+use Rattle.rz_types_fields.specs.Field.{field_and, no_fields, Align, Array, Fill, Number, PlainBody, PlainCases, PlainField, Points, Switch, Text}
 use Rattle.rz_types.specs.Kept.{Differ}
 use Rattle.rz_types.specs.Rules.{array_twice, bad_place, bad_width, broken_at, case_names, case_twice, found_if, name_fault, no_values, repeated, repeats, width_fault, KeepAll}
 use Rattle.rz_types.specs.Walk.{is_among, names_of, own_names, steps, steps_within, within, Step}

@@ -5,12 +5,12 @@ use Rattle.rz_expr.specs.Environment.{count_key}
 use Rattle.rz_expr.specs.Constant.{constant_sight}
 use Rattle.rz_expr.specs.Term.{Constant, OfTwo, RowsOf, Term}
 use Rattle.rz_expr.specs.declared.expr.BinaryOp.TheVariants as two
-use Rattle.rz_fields.specs.Field.{field_and, no_fields, Align, Array, Number, PlainField, Text}
-use Rattle.rz_fields.specs.Solve.{solved_count}
-use Rattle.rz_fields.specs.Text as parts
-use Rattle.rz_fields.specs.declared.field.NumForm.TheVariants as forms
-use Rattle.rz_fields.specs.declared.field.Radix.TheVariants as radixes
-use Rattle.rz_fields.specs.declared.field.TextForm.TheVariants as texts
+use Rattle.rz_types_fields.specs.Field.{field_and, no_fields, Align, Array, Number, PlainField, Text}
+use Rattle.rz_types_fields.specs.Solve.{solved_count}
+use Rattle.rz_types_fields.specs.Text as parts
+use Rattle.rz_types_fields.specs.declared.field.NumForm.TheVariants as forms
+use Rattle.rz_types_fields.specs.declared.field.Radix.TheVariants as radixes
+use Rattle.rz_types_fields.specs.declared.field.TextForm.TheVariants as texts
 use Rattle.rz_types.specs.Readable.{is_readable}
 
 abbrev less_one : List ℕ → Term

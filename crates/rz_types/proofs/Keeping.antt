@@ -5,9 +5,9 @@ use Rattle.std.specs.List.{flat_map}
 use Rattle.std.specs.Option.{is_none, option_to_list}
 use Rattle.rz_core.proofs.Lists.{or_else_none}
 use Rattle.rz_core.specs.declared.resource.Word.{Word}
-use Rattle.rz_fields.specs.Field.{case_and, field_and, no_cases, no_fields, Align, Array, Fill, Number, PlainBody, PlainCases, PlainField, Points, Switch, Text}
-use Rattle.rz_fields.specs.Width.{case_keys}
-use Rattle.rz_fields.specs.declared.keys.CaseKey.{CaseKey}
+use Rattle.rz_types_fields.specs.Field.{case_and, field_and, no_cases, no_fields, Align, Array, Fill, Number, PlainBody, PlainCases, PlainField, Points, Switch, Text}
+use Rattle.rz_types_fields.specs.Width.{case_keys}
+use Rattle.rz_types_fields.specs.declared.keys.CaseKey.{CaseKey}
 use Rattle.rz_types.specs.Kept.{AreCasesKept, AreKept, IsKept, IsKeptWithin}
 use Rattle.rz_types.specs.Rules.{array_twice, bad_place, bad_width, broken, broken_at, has_values, keeps_rules, no_values, unknown_at, unknown_fault, unknown_in, width_fault, KeepAll}
 use Rattle.rz_types.specs.Walk.{all_fields, behind_case, case_steps, names_of, own_names, steps, steps_within, walk, within, Step}

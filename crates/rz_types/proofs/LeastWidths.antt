@@ -2,7 +2,7 @@
 use Rattle.std.proofs.Common.{◌≡◌, ℕ, min, Option, Some, None, refl, arith}
 use Rattle.std.specs.Prelude.{option_map}
 use Rattle.std.specs.Option.{unwrap_or}
-use Rattle.rz_fields.specs.Width.{capped}
+use Rattle.rz_types_fields.specs.Width.{capped}
 
 cut_capped : (n : ℕ) → min (min n 134217697) 8 ≡ min n 8
 cut_capped n = omega arith

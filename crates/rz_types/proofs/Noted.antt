@@ -6,12 +6,12 @@ use Rattle.std.proofs.Math.Seq.{take-append_seam}
 use Rattle.rz_expr.specs.Environment.{Key}
 use Rattle.rz_expr.specs.Term.{term_of}
 use Rattle.rz_expr.specs.declared.expr.Expr.{Expr}
-use Rattle.rz_fields.specs.Field.{plain_body, plain_field, PlainBody}
-use Rattle.rz_fields.specs.Shape.{numbers_of}
-use Rattle.rz_fields.specs.Passed.{at_front, behind, behind_pieces, declares, is_known, nothing_passed, states, told_by, Names, Passed}
-use Rattle.rz_fields.specs.Piece.{fixed_integer, free_integer, Piece}
-use Rattle.rz_fields.specs.declared.field.Field.{Field}
-use Rattle.rz_fields.proofs.Bodies.{body_next}
+use Rattle.rz_types_fields.specs.Field.{plain_body, plain_field, PlainBody}
+use Rattle.rz_types_fields.specs.Shape.{numbers_of}
+use Rattle.rz_types_fields.specs.Passed.{at_front, behind, behind_pieces, declares, is_known, nothing_passed, states, told_by, Names, Passed}
+use Rattle.rz_types_fields.specs.Piece.{fixed_integer, free_integer, Piece}
+use Rattle.rz_types_fields.specs.declared.field.Field.{Field}
+use Rattle.rz_types_fields.proofs.Bodies.{body_next}
 use Rattle.rz_types.specs.Notes.{known, noted, noted_all, passed, Grew}
 use Rattle.rz_types.specs.Readable.{are_pieces_read, are_read, is_number_read, is_read, is_readable}
 use Rattle.rz_types.specs.declared.passed.Note.{Note}

@@ -4,9 +4,9 @@ use Rattle.std.specs.List.{list_all}
 use Rattle.std.proofs.lemmas.List.{drop_more}
 use Rattle.rz_core.specs.Lists.{first_of, or_else}
 use Rattle.rz_expr.specs.Term.{Term}
-use Rattle.rz_fields.specs.Text.{argument_terms, arguments_of, part_terms, plain_argument, plain_arguments, plain_part, plain_parts, terms_in, text_terms}
-use Rattle.rz_fields.specs.declared.text.FormatArg.{FormatArg}
-use Rattle.rz_fields.specs.declared.text.TextPart.{TextPart}
+use Rattle.rz_types_fields.specs.Text.{argument_terms, arguments_of, part_terms, plain_argument, plain_arguments, plain_part, plain_parts, terms_in, text_terms}
+use Rattle.rz_types_fields.specs.declared.text.FormatArg.{FormatArg}
+use Rattle.rz_types_fields.specs.declared.text.TextPart.{TextPart}
 use Rattle.rz_types.proofs.Firsts.{all_append, first_append}
 
 pub text_next : (parts : List TextPart) (i : ℕ) (part : TextPart) → i < length parts → part ≡ get_or parts i part

@@ -5,10 +5,10 @@ use Rattle.std.specs.List.{list_all}
 use Rattle.rz_core.specs.declared.resource.Word.{Word}
 use Rattle.rz_expr.specs.Environment.{count_key, Key}
 use Rattle.rz_expr.specs.Term.{Term}
-use Rattle.rz_fields.specs.Field.{case_and, field_and, no_cases, no_fields, Align, Array, Fill, Number, PlainBody, PlainCases, PlainField, PlainText, Points, Switch, Text}
-use Rattle.rz_fields.specs.Solve.{has_key}
-use Rattle.rz_fields.specs.Passed.{at_front, behind, behind_piece, behind_pieces, declares, gives_key, is_known, states, told_by, Names, Passed}
-use Rattle.rz_fields.specs.Piece.{pieces_of, terms_of_text, Filler, OneNumber, OneText, Piece, Zeros}
+use Rattle.rz_types_fields.specs.Field.{case_and, field_and, no_cases, no_fields, Align, Array, Fill, Number, PlainBody, PlainCases, PlainField, PlainText, Points, Switch, Text}
+use Rattle.rz_types_fields.specs.Solve.{has_key}
+use Rattle.rz_types_fields.specs.Passed.{at_front, behind, behind_piece, behind_pieces, declares, gives_key, is_known, states, told_by, Names, Passed}
+use Rattle.rz_types_fields.specs.Piece.{pieces_of, terms_of_text, Filler, OneNumber, OneText, Piece, Zeros}
 use Rattle.rz_types.specs.Readable.{all_known, are_cases_read, are_pieces_read, are_read, ends_at_end, is_count_known, is_number_read, is_piece_read, is_read, is_text_read, least_widths, rows_end, tells_one, text_ends}
 
 -- the same names are known

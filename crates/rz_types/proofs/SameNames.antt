@@ -8,8 +8,8 @@ use Rattle.std.proofs.lemmas.Str.Ascii.{lowercase-lowercase}
 use Rattle.rz_core.proofs.Tests.{and_so}
 use Rattle.rz_expr.proofs.Cases.{same_value}
 use Rattle.rz_expr.specs.Environment.{count_of, place_key, place_of, predefined, Key}
-use Rattle.rz_fields.specs.Solve.{is_same_key, is_same_name}
-use Rattle.rz_fields.specs.Passed.{is_known, nothing_passed}
+use Rattle.rz_types_fields.specs.Solve.{is_same_key, is_same_name}
+use Rattle.rz_types_fields.specs.Passed.{is_known, nothing_passed}
 
 -- Names.
 

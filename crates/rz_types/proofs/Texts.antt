@@ -13,13 +13,13 @@ use Rattle.rz_expr.specs.Term.{Term}
 use Rattle.rz_expr.specs.Value.{value_of}
 use Rattle.rz_expr.specs.declared.value.EvalFault.{EvalFault}
 use Rattle.rz_expr.specs.declared.value.EvalFault.TheVariants.{BadShift, DataWidth, LaterData, UnknownName, ZeroDivisor}
-use Rattle.rz_formats.specs.Format.{formatted}
-use Rattle.rz_formats.specs.declared.format.Argument.{Argument}
-use Rattle.rz_formats.specs.declared.format.Argument.TheVariants as values
-use Rattle.rz_fields.specs.Place.{may_have, may_have_argument, may_have_arguments, may_have_parts, may_say, may_stand}
-use Rattle.rz_fields.specs.Text.{argument_and, argument_terms, argument_value, argument_values, bytes_seen, format_bytes, no_arguments, no_parts, or_bad_format, part_and, part_bytes, part_terms, parts_bytes, parts_of, parts_terms, terms_in, text_terms, DateFact, FileBytes, FileResource, Format, NameFact, Number, Plain, PlainArgument, PlainArguments, PlainPart, PlainParts, Text, TimeFact, VersionFact}
-use Rattle.rz_fields.specs.Value.{with_fault, IsArithmetic}
-use Rattle.rz_fields.specs.declared.place.TextPlace.{TextPlace}
+use Rattle.rz_types_format.specs.Format.{formatted}
+use Rattle.rz_types_format.specs.declared.format.Argument.{Argument}
+use Rattle.rz_types_format.specs.declared.format.Argument.TheVariants as values
+use Rattle.rz_types_fields.specs.Place.{may_have, may_have_argument, may_have_arguments, may_have_parts, may_say, may_stand}
+use Rattle.rz_types_fields.specs.Text.{argument_and, argument_terms, argument_value, argument_values, bytes_seen, format_bytes, no_arguments, no_parts, or_bad_format, part_and, part_bytes, part_terms, parts_bytes, parts_of, parts_terms, terms_in, text_terms, DateFact, FileBytes, FileResource, Format, NameFact, Number, Plain, PlainArgument, PlainArguments, PlainPart, PlainParts, Text, TimeFact, VersionFact}
+use Rattle.rz_types_fields.specs.Value.{with_fault, IsArithmetic}
+use Rattle.rz_types_fields.specs.declared.place.TextPlace.{TextPlace}
 
 -- what holds of each in two lists
 pub each_append : {A : Type 0} (P : A → Type 0) (xs ys : List A) → AllByRecursion P (xs ++ ys) → AllByRecursion P xs × AllByRecursion P ys

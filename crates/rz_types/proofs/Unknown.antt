@@ -6,9 +6,9 @@ use Rattle.std.proofs.lemmas.Bool.{and_parts}
 use Rattle.rz_core.specs.Lists.{or_else}
 use Rattle.rz_expr.specs.Environment.{count_key, place_key, Key}
 use Rattle.rz_expr.specs.Term.{BitsAt, Constant, FactOf, Named, OfOne, OfTwo, RowsOf, Term}
-use Rattle.rz_fields.specs.Field.{PlainBody}
-use Rattle.rz_fields.specs.Solve.{can_solve, has_key, is_same_key}
-use Rattle.rz_fields.specs.Passed.{declares, is_known, Names, Passed}
+use Rattle.rz_types_fields.specs.Field.{PlainBody}
+use Rattle.rz_types_fields.specs.Solve.{can_solve, has_key, is_same_key}
+use Rattle.rz_types_fields.specs.Passed.{declares, is_known, Names, Passed}
 use Rattle.rz_types.specs.Notes.{first_unknown, if_unknown}
 use Rattle.rz_types.specs.Readable.{all_known, is_number_read, tells, tells_one}
 use Rattle.rz_types.proofs.SameNames.{key_is, key_itself}

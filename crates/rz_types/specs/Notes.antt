@@ -3,9 +3,9 @@ use Rattle.std.specs.Prelude.{◌≡◌, false, ◌||◌, if◌then◌else◌, L
 use Rattle.rz_core.specs.Lists.{or_else}
 use Rattle.rz_expr.specs.Environment.{count_key, place_key, Key}
 use Rattle.rz_expr.specs.Term.{BitsAt, Constant, FactOf, Named, OfOne, OfTwo, RowsOf, Term}
-use Rattle.rz_fields.specs.Field.{plain_body}
-use Rattle.rz_fields.specs.Solve.{is_same_key}
-use Rattle.rz_fields.specs.Passed.{counts_rows, declares, is_known, nothing_passed, states, Names, Passed}
+use Rattle.rz_types_fields.specs.Field.{plain_body}
+use Rattle.rz_types_fields.specs.Solve.{is_same_key}
+use Rattle.rz_types_fields.specs.Passed.{counts_rows, declares, is_known, nothing_passed, states, Names, Passed}
 use Rattle.rz_types.specs.NameKey.{key_of}
 use Rattle.rz_types.specs.declared.passed.Note.{Note}
 use Rattle.rz_types.specs.declared.passed.Note.TheVariants.{Array, Front, Told}

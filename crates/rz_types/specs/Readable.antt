@@ -6,14 +6,14 @@ use Rattle.std.specs.Option.{is_some, unwrap_or}
 use Rattle.rz_core.specs.declared.resource.Word.{Word}
 use Rattle.rz_expr.specs.Environment.{count_key, place_key, Key}
 use Rattle.rz_expr.specs.Term.{BitsAt, Constant, FactOf, Named, OfOne, OfTwo, RowsOf, Term}
-use Rattle.rz_fields.specs.Field.{case_and, field_and, no_cases, no_fields, Align, Array, Fill, Number, PlainBody, PlainCases, PlainField, PlainText, Points, Switch, Text}
-use Rattle.rz_fields.specs.Shape.{numbers_of}
-use Rattle.rz_fields.specs.Solve.{can_solve, is_same_key}
-use Rattle.rz_fields.specs.Passed.{at_front, behind, behind_piece, declares, is_known, nothing_passed, Names, Passed}
-use Rattle.rz_fields.specs.Piece.{pieces_of, terms_of_text, Filler, OneNumber, OneText, Piece, Zeros}
-use Rattle.rz_fields.specs.Width.{fixed_widths, text_width}
-use Rattle.rz_fields.specs.declared.field.TextForm.{TextForm}
-use Rattle.rz_fields.specs.declared.field.TextForm.TheVariants as texts
+use Rattle.rz_types_fields.specs.Field.{case_and, field_and, no_cases, no_fields, Align, Array, Fill, Number, PlainBody, PlainCases, PlainField, PlainText, Points, Switch, Text}
+use Rattle.rz_types_fields.specs.Shape.{numbers_of}
+use Rattle.rz_types_fields.specs.Solve.{can_solve, is_same_key}
+use Rattle.rz_types_fields.specs.Passed.{at_front, behind, behind_piece, declares, is_known, nothing_passed, Names, Passed}
+use Rattle.rz_types_fields.specs.Piece.{pieces_of, terms_of_text, Filler, OneNumber, OneText, Piece, Zeros}
+use Rattle.rz_types_fields.specs.Width.{fixed_widths, text_width}
+use Rattle.rz_types_fields.specs.declared.field.TextForm.{TextForm}
+use Rattle.rz_types_fields.specs.declared.field.TextForm.TheVariants as texts
 
 -- The least width, in bits.
 

@@ -2,7 +2,7 @@
 use Rattle.std.specs.Prelude.{Ok, Err}
 use Rattle.std.specs.declared.result.Result.{Result}
 use Rattle.rz_core.specs.declared.stop.Stop.{Stop}
-use Rattle.rz_fields.specs.Field.{plain_body, PlainBody}
+use Rattle.rz_types_fields.specs.Field.{plain_body, PlainBody}
 use Rattle.rz_types.specs.declared.template.Template.{Template}
 
 abbrev pub template_of : Template → PlainBody

@@ -2,13 +2,13 @@ ghost use Rattle.std.specs.Prelude.{◌≡◌, ◌↔◌, true, List, None, Some
 ghost use Rattle.rz_core.specs.declared.facts.Facts.{Facts};
 ghost use Rattle.rz_expr.specs.Term.{Term};
 ghost use Rattle.rz_expr.specs.Value.{value_of};
-ghost use Rattle.rz_fields.specs.Field.{PlainBody};
+ghost use Rattle.rz_types_fields.specs.Field.{PlainBody};
 ghost use Rattle.rz_types.specs.Kept.{AreKeysApart, IsKept};
 ghost use Rattle.rz_types.specs.Rules.{broken, keeps_rules, BreaksNone, IsFirstBroken};
 ghost use Rattle.rz_types.specs.declared.rules.TypeFault.{TypeFault};
 ghost use Rattle.rz_core.specs.declared.resource.Word.{Word};
 ghost use Rattle.rz_expr.specs.Environment.{Environment};
-ghost use Rattle.rz_fields.specs.Value.{is_field_expression, is_fixed_expression, names_sight, IsArithmetic};
+ghost use Rattle.rz_types_fields.specs.Value.{is_field_expression, is_fixed_expression, names_sight, IsArithmetic};
 ghost use Rattle.rz_types.specs.Rules.{unknown_array};
 ghost use Rattle.rz_types.specs.Names.{GivesCounts, GivesPredefined};
 

@@ -1,9 +1,9 @@
 //! Type declarations: templates, which keep the rules, and which of them can be read. A body is a template exactly where
-//! it breaks no rule, as `check` of `rz_check` finds out; a template can be read exactly where its bytes say where each
-//! field ends. What it rests on of fields is handed on. In which declaration a type is found stands in `rz_table`.
-//! It rests on `rz_core`, `rz_formats`, `rz_expr` and `rz_fields`.
-//! A new rule changes the definitions of the rules and the walk, `specs/Kept`, and the code in `rz_check`; a new kind of
-//! field, `least`, `readable` and each rule that speaks of it, beside what `rz_fields` says; a new kind of name,
+//! it breaks no rule, as `check` of `rz_types_check` finds out; a template can be read exactly where its bytes say where each
+//! field ends. What it rests on of fields is handed on. In which declaration a type is found stands in `rz_types_table`.
+//! It rests on `rz_core`, `rz_types_format`, `rz_expr` and `rz_types_fields`.
+//! A new rule changes the definitions of the rules and the walk, `specs/Kept`, and the code in `rz_types_check`; a new kind of
+//! field, `least`, `readable` and each rule that speaks of it, beside what `rz_types_fields` says; a new kind of name,
 //! `KeyRef`, `Note` and what they mean.
 #![tactic(auto)]
 
@@ -20,7 +20,7 @@ pub use laws::{
 };
 pub use readable::{is_body_readable, is_readable};
 pub use rules::TypeFault;
-pub use rz_fields::{
+pub use rz_types_fields::{
     ArrayField, Body, Case, Cases, Exprs, Field, FieldEnv, NumField, NumForm, PointField, Radix,
     Symbol, Symbols, TextField, TextForm, TextPart, Texts, constant_value, fact_of, fits_number,
     is_field_expression, is_fixed_expression, is_head_expression, is_too_long, may_be_size,

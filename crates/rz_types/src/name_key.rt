@@ -1,8 +1,8 @@
 ghost use Rattle.std.specs.Prelude.{◌≡◌, ◌||◌, ◌&&◌, not, if◌then◌else◌};
 ghost use Rattle.rz_expr.specs.Term.{term_of};
-ghost use Rattle.rz_fields.specs.Field.{plain_body, plain_field};
-ghost use Rattle.rz_fields.specs.Solve.{can_solve, has_key, is_same_key, undoes_left, undoes_one, undoes_right};
-ghost use Rattle.rz_fields.specs.Passed.{counts_rows, declares, gives_count, gives_key, is_known, nothing_passed, states, states_key};
+ghost use Rattle.rz_types_fields.specs.Field.{plain_body, plain_field};
+ghost use Rattle.rz_types_fields.specs.Solve.{can_solve, has_key, is_same_key, undoes_left, undoes_one, undoes_right};
+ghost use Rattle.rz_types_fields.specs.Passed.{counts_rows, declares, gives_count, gives_key, is_known, nothing_passed, states, states_key};
 ghost use Rattle.rz_types.specs.NameKey.{key_of};
 
 use crate::Field;

@@ -2,9 +2,9 @@ ghost use Rattle.std.specs.Prelude.{◌≡◌, ◌||◌, Bool, option_map};
 ghost use Rattle.std.specs.List.{list_all};
 ghost use Rattle.std.specs.Option.{option_to_list, unwrap_or};
 ghost use Rattle.rz_expr.specs.Term.{term_of};
-ghost use Rattle.rz_fields.specs.Field.{plain_text};
-ghost use Rattle.rz_fields.specs.Piece.{fixed_terms, terms_of_text};
-ghost use Rattle.rz_fields.specs.Text.{argument_terms, arguments_of, part_terms, plain_argument, plain_arguments, plain_part, plain_parts, terms_in, text_terms};
+ghost use Rattle.rz_types_fields.specs.Field.{plain_text};
+ghost use Rattle.rz_types_fields.specs.Piece.{fixed_terms, terms_of_text};
+ghost use Rattle.rz_types_fields.specs.Text.{argument_terms, arguments_of, part_terms, plain_argument, plain_arguments, plain_part, plain_parts, terms_in, text_terms};
 ghost use Rattle.rz_types.specs.NameKey.{key_of};
 ghost use Rattle.rz_types.specs.Notes.{first_unknown, if_unknown, known, noted};
 ghost use Rattle.rz_types.specs.Readable.{all_known};
@@ -13,7 +13,7 @@ use crate::name_key::{KeyRef, counts_rows, declares, is_predefined, is_same_key,
 use crate::{Field, TextField, TextPart, Texts};
 use rz_core::Word;
 use rz_expr::Expr;
-use rz_fields::{FormatArg, FormatArgs};
+use rz_types_fields::{FormatArg, FormatArgs};
 
 /// What the fields before one tell of names.
 #[derive(Clone, Copy)]

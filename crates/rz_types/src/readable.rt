@@ -1,9 +1,9 @@
 ghost use Rattle.std.specs.Prelude.{◌≡◌, ◌≤◌, ◌||◌, IfOk, OnOk, true, false, length, drop, map, option_map, Bool};
 ghost use Rattle.rz_expr.specs.Term.{term_of};
-ghost use Rattle.rz_fields.specs.Field.{plain_array, plain_body, plain_cases, plain_field, plain_points, plain_text, Points};
-ghost use Rattle.rz_fields.specs.Solve.{is_same_key};
-ghost use Rattle.rz_fields.specs.Passed.{at_front, behind, behind_pieces, gives_count, is_known, told_by};
-ghost use Rattle.rz_fields.specs.Piece.{fixed_integer};
+ghost use Rattle.rz_types_fields.specs.Field.{plain_array, plain_body, plain_cases, plain_field, plain_points, plain_text, Points};
+ghost use Rattle.rz_types_fields.specs.Solve.{is_same_key};
+ghost use Rattle.rz_types_fields.specs.Passed.{at_front, behind, behind_pieces, gives_count, is_known, told_by};
+ghost use Rattle.rz_types_fields.specs.Piece.{fixed_integer};
 ghost use Rattle.rz_types.specs.NameKey.{key_of};
 ghost use Rattle.rz_types.specs.Notes.{known, passed, Grew};
 ghost use Rattle.rz_types.specs.Readable.{are_cases_read, are_pieces_read, are_read, ends_at_end, is_count_known, is_number_read, is_read, is_readable, is_text_read, rows_end, tells, text_ends};
@@ -15,7 +15,7 @@ use crate::passed::{Note, all_known, all_known_in_text, first_unknown, is_known}
 use crate::{ArrayField, Case, Exprs, Field, PointField, Template, TextField, TextForm};
 use rz_core::{NoMemory, Word};
 use rz_expr::Expr;
-use rz_fields::fixed_widths;
+use rz_types_fields::fixed_widths;
 use std::alloc::Global;
 
 /// Whether a resource of this declaration can be read: exactly where its bytes say where each field ends, and how many

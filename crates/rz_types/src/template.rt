@@ -1,6 +1,6 @@
 ghost use Rattle.std.specs.Prelude.{◌≡◌, true};
-ghost use Rattle.rz_fields.specs.Field.{plain_body};
-ghost use Rattle.rz_fields.specs.Shape.{is_well_shaped};
+ghost use Rattle.rz_types_fields.specs.Field.{plain_body};
+ghost use Rattle.rz_types_fields.specs.Shape.{is_well_shaped};
 ghost use Rattle.rz_types.specs.Readable.{is_readable};
 ghost use Rattle.rz_types.specs.Rules.{keeps_rules};
 

@@ -3,10 +3,10 @@ use Rattle.std.proofs.Common.{◌≡◌, ◌⊎◌, inl, inr, ℕ, ◌+◌, ◌<
 use Rattle.std.specs.Prelude.{nat_le, nat_lt, if◌then◌else◌}
 use Rattle.std.proofs.lemmas.Bool.Decides.{leb_tells}
 use Rattle.rz_bits.specs.Bits.{number_of}
-use Rattle.rz_rows.specs.Spells.{values_in}
+use Rattle.rz_types_fields.specs.Spells.{values_in}
 use Rattle.rz_unlay.specs.Cursor.{ended, line_of, Line}
-use Rattle.rz_pieces.specs.Pieces.{Found}
-use Rattle.rz_pieces.specs.Few.{few}
+use Rattle.rz_unlay_pieces.specs.Pieces.{Found}
+use Rattle.rz_unlay_pieces.specs.Few.{few}
 use Rattle.rz_unlay.specs.Few.{line_count}
 use Rattle.rz_unlay.specs.Rows.{is_end}
 use Rattle.rz_unlay.proofs.FewValues.{first_within, is_over, some_same}

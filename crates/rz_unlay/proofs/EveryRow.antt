@@ -7,8 +7,8 @@ use Rattle.rz_core.proofs.EveryCut.{both}
 use Rattle.rz_core.proofs.Tests.{by_test, true_false}
 use Rattle.rz_core.specs.Decided.{Decided}
 use Rattle.rz_core.specs.declared.facts.Facts.{Facts}
-use Rattle.rz_rows.specs.declared.tree.Tree.{Tree}
-use Rattle.rz_rows.specs.Spells.{Spells}
+use Rattle.rz_types_fields.specs.declared.tree.Tree.{Tree}
+use Rattle.rz_types_fields.specs.Spells.{Spells}
 use Rattle.rz_types.specs.Field.{PlainBody}
 use Rattle.rz_types.specs.Readable.{is_readable}
 use Rattle.rz_unlay.proofs.ReadsBits.{each_small}

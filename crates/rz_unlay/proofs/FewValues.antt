@@ -6,16 +6,16 @@ use Rattle.std.proofs.lemmas.Bool.Decides.{leb_tells}
 use Rattle.std.proofs.lemmas.List.{length-append, length-map}
 use Rattle.std.proofs.lemmas.List.Sums.{sum_by-cons, sum_by_push, sum-map}
 use Rattle.rz_core.specs.declared.resource.Word.{Word}
-use Rattle.rz_rows.specs.declared.tree.Tree.{Tree}
-use Rattle.rz_rows.specs.declared.tree.Tree.TheFolds.{fold-roll-Tree}
-use Rattle.rz_rows.specs.declared.tree.Tree.TheOpen.{Tree-F}
-use Rattle.rz_rows.specs.declared.tree.Tree.TheVariants as trees
-use Rattle.rz_rows.specs.declared.tree.Tree.TheVariants.{rolls-Choice, rolls-Rows}
-use Rattle.rz_rows.specs.Spells.{count_in, count_step, put, values_in}
-use Rattle.rz_pieces.specs.Pieces.{with_value, Found}
+use Rattle.rz_types_fields.specs.declared.tree.Tree.{Tree}
+use Rattle.rz_types_fields.specs.declared.tree.Tree.TheFolds.{fold-roll-Tree}
+use Rattle.rz_types_fields.specs.declared.tree.Tree.TheOpen.{Tree-F}
+use Rattle.rz_types_fields.specs.declared.tree.Tree.TheVariants as trees
+use Rattle.rz_types_fields.specs.declared.tree.Tree.TheVariants.{rolls-Choice, rolls-Rows}
+use Rattle.rz_types_fields.specs.Spells.{count_in, count_step, put, values_in}
+use Rattle.rz_unlay_pieces.specs.Pieces.{with_value, Found}
 use Rattle.rz_unlay.specs.Cursor.{Line, Lines}
 use Rattle.rz_unlay.specs.Rows.{pushed}
-use Rattle.rz_pieces.specs.Few.{few, value_count}
+use Rattle.rz_unlay_pieces.specs.Few.{few, value_count}
 use Rattle.rz_unlay.specs.Few.{found_count, line_count, lines_count, rows_count}
 
 -- How many values there are.

@@ -8,23 +8,23 @@ use Rattle.std.proofs.lemmas.List.{append-nil}
 use Rattle.rz_core.specs.declared.facts.Facts.{Facts}
 use Rattle.rz_core.specs.declared.resource.Word.{Word}
 use Rattle.rz_expr.specs.Environment.{Environment}
-use Rattle.rz_fields.specs.declared.field.Case.{Case}
-use Rattle.rz_fields.specs.declared.field.Field.TheViews.{out-Case}
-use Rattle.rz_fields.specs.declared.field.Field.{Field}
-use Rattle.rz_fields.proofs.Bodies.{body_end, body_next, cases_end, cases_next}
-use Rattle.rz_rows.specs.declared.tree.Tree.{Tree}
-use Rattle.rz_rows.specs.declared.tree.Tree.TheVariants as trees
-use Rattle.rz_rows.specs.Spells.{values_in}
+use Rattle.rz_types_fields.specs.declared.field.Case.{Case}
+use Rattle.rz_types_fields.specs.declared.field.Field.TheViews.{out-Case}
+use Rattle.rz_types_fields.specs.declared.field.Field.{Field}
+use Rattle.rz_types_fields.proofs.Bodies.{body_end, body_next, cases_end, cases_next}
+use Rattle.rz_types_fields.specs.declared.tree.Tree.{Tree}
+use Rattle.rz_types_fields.specs.declared.tree.Tree.TheVariants as trees
+use Rattle.rz_types_fields.specs.Spells.{values_in}
 use Rattle.rz_types.specs.Field.{plain_body, plain_cases, plain_field, PlainBody, PlainCases}
 use Rattle.rz_types.specs.Width.{capped, case_keys}
 use Rattle.rz_unlay.specs.Came.{chosen, found_of, line_in, row_at}
 use Rattle.rz_unlay.specs.Cursor.{body_found, case_found, field_found, has_keys, line_of, rows_at, rows_by, rows_while, up_to_end, Line, Lines}
-use Rattle.rz_pieces.specs.Pieces.{claim_count, names_inside, with_value, Found, Step}
-use Rattle.rz_pieces.specs.Few.{few, step_count, value_count}
+use Rattle.rz_unlay_pieces.specs.Pieces.{claim_count, names_inside, with_value, Found, Step}
+use Rattle.rz_unlay_pieces.specs.Few.{few, step_count, value_count}
 use Rattle.rz_unlay.specs.Few.{found_count, line_count, lines_count}
-use Rattle.rz_pieces.specs.Fits.{AreFit, CasesFit, Fits}
+use Rattle.rz_unlay_pieces.specs.Fits.{AreFit, CasesFit, Fits}
 use Rattle.rz_unlay.specs.declared.came.RowCame.{RowCame}
-use Rattle.rz_pieces.specs.declared.names.Note.{Note}
+use Rattle.rz_unlay_pieces.specs.declared.names.Note.{Note}
 use Rattle.rz_unlay.specs.Rows.{pushed, stop_at}
 use Rattle.rz_unlay.proofs.FewValues.{count_choice, count_rows, few_fits, first_within, line_behind, no_line, no_more, none_behind, some_behind, some_same, value_behind, value_less}
 

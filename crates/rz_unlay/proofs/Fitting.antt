@@ -7,9 +7,9 @@ use Rattle.std.specs.List.{list_all, AllByRecursion}
 use Rattle.rz_core.proofs.Tests.{both, true_false}
 use Rattle.rz_core.specs.declared.resource.Word.{Word}
 use Rattle.rz_expr.specs.Term.{Term}
-use Rattle.rz_fields.specs.declared.field.NumForm.{NumForm}
-use Rattle.rz_fields.specs.declared.field.NumForm.TheVariants.{Bits, Boolean, Byte, Char, Integer, Longint}
-use Rattle.rz_fields.specs.declared.field.Symbol.{Symbol}
+use Rattle.rz_types_fields.specs.declared.field.NumForm.{NumForm}
+use Rattle.rz_types_fields.specs.declared.field.NumForm.TheVariants.{Bits, Boolean, Byte, Char, Integer, Longint}
+use Rattle.rz_types_fields.specs.declared.field.Symbol.{Symbol}
 use Rattle.rz_types.specs.Field.{case_and, field_and, no_cases, no_fields, Align, Array, Fill, Number, PlainBody, PlainCases, PlainField, PlainNumber, Points, Switch, Text}
 use Rattle.rz_types.specs.Kept.{AreCasesKept, AreKept, IsKept, IsKeptWithin}
 use Rattle.rz_types.specs.Range.{is_between}
@@ -17,7 +17,7 @@ use Rattle.rz_types.specs.Rules.{bad_width, may_be_width, unless}
 use Rattle.rz_types.specs.Shape.{are_cases_shaped, are_fixed_points, are_shaped, is_empty, is_fixed_number, is_key_shaped, is_none_or, is_number_shaped, is_own_name, is_own_width, is_shaped, is_symbol_of, is_unit, is_well_shaped, numbers_of}
 use Rattle.rz_types.specs.Value.{is_fixed_expression}
 use Rattle.rz_types.specs.Walk.{names_of}
-use Rattle.rz_pieces.specs.Fits.{AreFit, CasesFit, Fits, FixedFits, PointsFit}
+use Rattle.rz_unlay_pieces.specs.Fits.{AreFit, CasesFit, Fits, FixedFits, PointsFit}
 
 -- Widths and units.
 

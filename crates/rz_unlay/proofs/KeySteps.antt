@@ -1,10 +1,10 @@
 -- Keys of a case, one field more at a time.
 use Rattle.std.proofs.Common.{◌≡◌, ℕ, ◌+◌, ◌<◌, ◌≤◌, ◌&&◌, Bool, true, false, List, [], ◌∷◌, ◌++◌, length, get_or, drop, Option, refl, sym, ap, ◌∙◌}
 use Rattle.std.specs.Prelude.{option_map}
-use Rattle.rz_fields.specs.declared.field.Field.{Field}
-use Rattle.rz_fields.specs.declared.keys.CaseKey.{CaseKey}
-use Rattle.rz_fields.proofs.Bodies.{body_end, body_next}
-use Rattle.rz_fields.proofs.Capped.{keys_same, plus_capped}
+use Rattle.rz_types_fields.specs.declared.field.Field.{Field}
+use Rattle.rz_types_fields.specs.declared.keys.CaseKey.{CaseKey}
+use Rattle.rz_types_fields.proofs.Bodies.{body_end, body_next}
+use Rattle.rz_types_fields.proofs.Capped.{keys_same, plus_capped}
 use Rattle.rz_types.specs.Field.{plain_body, plain_field, PlainBody}
 use Rattle.rz_types.specs.Width.{capped, field_key, fixed_width, keys_from, plus}
 use Rattle.rz_unlay.specs.Cursor.{has_key_at, has_keys}

@@ -5,12 +5,12 @@ use Rattle.rz_core.specs.declared.resource.Word.{Word}
 use Rattle.rz_expr.specs.Environment.{Environment, Sight}
 use Rattle.rz_expr.specs.Term.{Term}
 use Rattle.rz_bits.specs.Bits.{bits_of}
-use Rattle.rz_fields.specs.declared.field.NumForm.{NumForm}
-use Rattle.rz_fields.specs.declared.field.TextForm.{TextForm}
-use Rattle.rz_rows.specs.declared.tree.Tree.{Tree}
-use Rattle.rz_rows.specs.declared.tree.Tree.TheVariants as trees
-use Rattle.rz_rows.specs.Row.{By}
-use Rattle.rz_rows.specs.Spells.{is_case, sees, values_for, AreBytes, BodySpells, CaseSpells, FieldSpells, Inside, InOrder, IsNumber, IsStored, IsText, Late, PieceSpells, PiecesSpell, RowsSpell, Spells}
+use Rattle.rz_types_fields.specs.declared.field.NumForm.{NumForm}
+use Rattle.rz_types_fields.specs.declared.field.TextForm.{TextForm}
+use Rattle.rz_types_fields.specs.declared.tree.Tree.{Tree}
+use Rattle.rz_types_fields.specs.declared.tree.Tree.TheVariants as trees
+use Rattle.rz_types_fields.specs.Row.{By}
+use Rattle.rz_types_fields.specs.Spells.{is_case, sees, values_for, AreBytes, BodySpells, CaseSpells, FieldSpells, Inside, InOrder, IsNumber, IsStored, IsText, Late, PieceSpells, PiecesSpell, RowsSpell, Spells}
 use Rattle.rz_types.specs.Field.{case_and, field_and, no_cases, no_fields, Align, Array, Fill, Number, PlainBody, PlainCases, PlainField, PlainText, Points, Switch, Text}
 use Rattle.rz_types.specs.Passed.{at_front, behind, behind_piece, nothing_passed, Passed}
 use Rattle.rz_types.specs.Piece.{pieces_of, Filler, OneNumber, OneText, Piece, Zeros}

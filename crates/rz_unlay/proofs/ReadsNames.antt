@@ -16,15 +16,15 @@ use Rattle.rz_expr.specs.Environment.{count_key, count_of, place_key, place_of, 
 use Rattle.rz_expr.specs.Term.{BitsAt, Constant, FactOf, Named, OfOne, OfTwo, RowsOf, Term}
 use Rattle.rz_expr.specs.Value.{known_value, number_at as value_at, operate, operate_one, value_of}
 use Rattle.rz_bits.specs.Bits.{number_bits, number_of}
-use Rattle.rz_fields.specs.declared.field.NumForm.{NumForm}
-use Rattle.rz_rows.specs.declared.tree.Tree.{Tree}
-use Rattle.rz_rows.specs.Spells.{BodySpells, IsCounted, IsNumber, Within}
+use Rattle.rz_types_fields.specs.declared.field.NumForm.{NumForm}
+use Rattle.rz_types_fields.specs.declared.tree.Tree.{Tree}
+use Rattle.rz_types_fields.specs.Spells.{BodySpells, IsCounted, IsNumber, Within}
 use Rattle.rz_types.specs.Field.{field_and, no_fields, Align, Array, Fill, Number, PlainBody, Points, Switch, Text}
 use Rattle.rz_types.specs.Readable.{all_known, is_number_read, tells, tells_one}
 use Rattle.rz_types.specs.Solve.{can_solve, has_key, in_64_bits, is_same_key, is_same_name, solve, solved_count, undo_left, undo_one, undo_right, AreSolved, IsSolvedTo, SolvesBack}
 use Rattle.rz_types.specs.Passed.{at_front, behind, declares, gives_count, is_known, nothing_passed, outside, states, told_by, Names, Passed}
 use Rattle.rz_types.specs.Value.{names_sight}
-use Rattle.rz_pieces.specs.Pieces.{names_inside, number_step, stated_in, Step}
+use Rattle.rz_unlay_pieces.specs.Pieces.{names_inside, number_step, stated_in, Step}
 use Rattle.rz_unlay.proofs.ReadsTests.{some_is}
 use Rattle.rz_unlay.proofs.ReadsNumber.{number_goes}
 use Rattle.rz_unlay.proofs.Sees.{both_true, Covers}

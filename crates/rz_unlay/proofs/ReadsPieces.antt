@@ -7,15 +7,15 @@ use Rattle.rz_expr.specs.Environment.{Environment, IsPartOf}
 use Rattle.rz_expr.specs.Term.{Term}
 use Rattle.rz_bits.specs.Bits.{bits_of, bytes_of, number_bits, number_of}
 use Rattle.rz_bits.specs.BitBuf.{missing, zeros}
-use Rattle.rz_rows.specs.declared.tree.Tree.{Tree}
-use Rattle.rz_rows.specs.declared.tree.Tree.TheVariants as trees
-use Rattle.rz_rows.specs.Spells.{group_in, numbers_of_group, put, values_for, FieldSpells, InOrder, IsGrouped, PieceSpells}
+use Rattle.rz_types_fields.specs.declared.tree.Tree.{Tree}
+use Rattle.rz_types_fields.specs.declared.tree.Tree.TheVariants as trees
+use Rattle.rz_types_fields.specs.Spells.{group_in, numbers_of_group, put, values_for, FieldSpells, InOrder, IsGrouped, PieceSpells}
 use Rattle.rz_types.specs.Field.{Align, Fill, Number, PlainBody, PlainNumber, PlainPoints, PlainText, Points, Text}
 use Rattle.rz_types.specs.Readable.{are_pieces_read, is_number_read, is_read, is_text_read}
 use Rattle.rz_types.specs.Passed.{behind, behind_piece, behind_pieces, Passed}
 use Rattle.rz_types.specs.Piece.{fixed_integer, free_integer, integers, Filler, OneNumber, OneText, Piece, Zeros}
 use Rattle.rz_types.specs.Shape.{numbers_of}
-use Rattle.rz_pieces.specs.Pieces.{field_of_pieces, first_of_row, grouped, number_of_value, numbers_of_values, piece_step, pieces_found, with_value, zeros_step, Found, Step}
+use Rattle.rz_unlay_pieces.specs.Pieces.{field_of_pieces, first_of_row, grouped, number_of_value, numbers_of_values, piece_step, pieces_found, with_value, zeros_step, Found, Step}
 use Rattle.rz_unlay.proofs.ReadsBits.{length_zeros, zeros_found}
 use Rattle.rz_unlay.proofs.ReadsNames.{folded, number_steps, Knows, Steps}
 use Rattle.rz_unlay.proofs.ReadsText.{text_steps, EndsAt}

@@ -6,14 +6,14 @@ use Rattle.std.specs.Ordering.{int_eq}
 use Rattle.std.proofs.lemmas.Bool.Decides.{Decides-int_eq, nat_tests}
 use Rattle.rz_core.specs.declared.resource.Word.{Word}
 use Rattle.rz_expr.specs.Environment.{count_key, Environment, IsPartOf, Key}
-use Rattle.rz_rows.specs.declared.tree.Tree.{Tree}
-use Rattle.rz_rows.specs.Row.{IsStated}
-use Rattle.rz_rows.specs.Spells.{IsCounted, RowSpells, RowsSpell}
+use Rattle.rz_types_fields.specs.declared.tree.Tree.{Tree}
+use Rattle.rz_types_fields.specs.Row.{IsStated}
+use Rattle.rz_types_fields.specs.Spells.{IsCounted, RowSpells, RowsSpell}
 use Rattle.rz_types.specs.Field.{PlainBody}
 use Rattle.rz_types.specs.Readable.{ends_at_end, is_count_known, least_widths, rows_end}
 use Rattle.rz_types.specs.Passed.{gives_count, is_known, Passed}
 use Rattle.rz_types.specs.Width.{fixed_widths}
-use Rattle.rz_pieces.specs.Pieces.{also_count, claim_count, count_claimed, known_count}
+use Rattle.rz_unlay_pieces.specs.Pieces.{also_count, claim_count, count_claimed, known_count}
 use Rattle.rz_unlay.specs.Cursor.{count_known, rows_at, rows_by, rows_while, up_to_end, Line}
 use Rattle.rz_unlay.proofs.ReadsNames.{count_same, counted_at, folded, is_lower, known_same, lower_own, Knows}
 use Rattle.rz_unlay.proofs.ReadsTests.{below, not_below, some_is, there_is}

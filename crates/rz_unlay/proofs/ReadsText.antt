@@ -12,12 +12,12 @@ use Rattle.rz_expr.specs.Environment.{Environment, IsPartOf, Sight}
 use Rattle.rz_expr.specs.Term.{Term}
 use Rattle.rz_expr.specs.Value.{value_of}
 use Rattle.rz_bits.specs.Bits.{bits_of, bytes_of, number_bits, number_of}
-use Rattle.rz_fields.specs.declared.field.TextForm.{TextForm}
-use Rattle.rz_fields.specs.declared.field.TextForm.TheVariants as texts
-use Rattle.rz_rows.specs.declared.tree.Tree.{Tree}
-use Rattle.rz_rows.specs.declared.tree.Tree.TheVariants as trees
-use Rattle.rz_rows.specs.Spells.{nowhere, IsPlainText, IsSize, IsText}
-use Rattle.rz_rows.specs.Spells as spells
+use Rattle.rz_types_fields.specs.declared.field.TextForm.{TextForm}
+use Rattle.rz_types_fields.specs.declared.field.TextForm.TheVariants as texts
+use Rattle.rz_types_fields.specs.declared.tree.Tree.{Tree}
+use Rattle.rz_types_fields.specs.declared.tree.Tree.TheVariants as trees
+use Rattle.rz_types_fields.specs.Spells.{nowhere, IsPlainText, IsSize, IsText}
+use Rattle.rz_types_fields.specs.Spells as spells
 use Rattle.rz_types.specs.Field.{PlainBody, PlainText}
 use Rattle.rz_types.specs.Range.{may_be_size}
 use Rattle.rz_types.specs.Readable.{all_known, is_text_read, text_ends}
@@ -28,7 +28,7 @@ use Rattle.rz_types.specs.Text.{text_terms, PlainPart}
 use Rattle.rz_types.specs.Value.{names_sight}
 use Rattle.rz_types.specs.Width.{fixed_widths, sized_bytes}
 use Rattle.rz_bits.specs.View.{bytes_at}
-use Rattle.rz_pieces.specs.Pieces.{bytes_left, fixed_read, same_bytes, size_found, size_read, stored_size, text_read, text_size, text_step, up_to_zero}
+use Rattle.rz_unlay_pieces.specs.Pieces.{bytes_left, fixed_read, same_bytes, size_found, size_read, stored_size, text_read, text_size, text_step, up_to_zero}
 use Rattle.rz_types.proofs.Texts.{bytes_kept, Keeps}
 use Rattle.rz_unlay.proofs.ReadsBits.{all_append, bits_there, each_small, front_there, length_bits, length_number, number_append, number_found, reduced_are, reduced_bits, take_are, zero_there, zeros_are, AreBytes}
 use Rattle.rz_unlay.proofs.ReadsNames.{folded, known_lower, lower, seen, Knows}

@@ -14,13 +14,13 @@ use Rattle.rz_expr.specs.Environment.{Environment}
 use Rattle.rz_expr.specs.Term.{BitsAt, Constant, FactOf, Named, OfOne, OfTwo, RowsOf, Term}
 use Rattle.rz_expr.specs.Value.{known_value, operate, operate_one, value_of}
 use Rattle.rz_expr.specs.declared.value.EvalFault.{EvalFault}
-use Rattle.rz_fields.specs.declared.field.NumForm.{NumForm}
-use Rattle.rz_fields.specs.declared.field.NumForm.TheVariants as forms
-use Rattle.rz_fields.specs.declared.field.TextForm.{TextForm}
-use Rattle.rz_fields.specs.declared.field.TextForm.TheVariants as texts
-use Rattle.rz_rows.specs.declared.tree.Tree.{Tree}
-use Rattle.rz_rows.specs.Row.{By, IsStated}
-use Rattle.rz_rows.specs.Spells.{is_case, put, values_for, BodySpells, CaseSpells, FieldSpells, InOrder, IsNumber, IsSize, PieceSpells, RowSpells, RowsSpell}
+use Rattle.rz_types_fields.specs.declared.field.NumForm.{NumForm}
+use Rattle.rz_types_fields.specs.declared.field.NumForm.TheVariants as forms
+use Rattle.rz_types_fields.specs.declared.field.TextForm.{TextForm}
+use Rattle.rz_types_fields.specs.declared.field.TextForm.TheVariants as texts
+use Rattle.rz_types_fields.specs.declared.tree.Tree.{Tree}
+use Rattle.rz_types_fields.specs.Row.{By, IsStated}
+use Rattle.rz_types_fields.specs.Spells.{is_case, put, values_for, BodySpells, CaseSpells, FieldSpells, InOrder, IsNumber, IsSize, PieceSpells, RowSpells, RowsSpell}
 use Rattle.rz_types.specs.Field.{case_and, field_and, no_cases, no_fields, Align, Array, Fill, Number, PlainBody, PlainCases, PlainField, Points, Switch, Text}
 use Rattle.rz_types.specs.Readable.{least_case, least_of, least_rows, least_text, least_width, least_widths}
 use Rattle.rz_types.specs.Shape.{are_cases_shaped, are_fixed_points, are_shaped, is_none_or, is_own_name, is_shaped, numbers_of}

@@ -13,11 +13,11 @@ use Rattle.rz_expr.specs.Environment.{Environment, Key}
 use Rattle.rz_bits.specs.Bits.{bits_of, number_bits, number_of}
 use Rattle.rz_bits.specs.BitBuf.{filled, missing, zeros}
 use Rattle.rz_unlay.specs.Cursor.{body_found, case_found, count_known, ended, field_found, has_keys, line_of, reading, rows_by, Line, Lines}
-use Rattle.rz_pieces.specs.Pieces.{claim_count, names_inside, with_value, Found, Step}
-use Rattle.rz_rows.specs.declared.tree.Tree.{Tree}
-use Rattle.rz_rows.specs.declared.tree.Tree.TheVariants as trees
-use Rattle.rz_rows.specs.Row.{By}
-use Rattle.rz_rows.specs.Spells.{choice_of_tree, is_case, most_bits, put, values_in, BodySpells, CaseSpells, FieldSpells, Inside, Late, Spells}
+use Rattle.rz_unlay_pieces.specs.Pieces.{claim_count, names_inside, with_value, Found, Step}
+use Rattle.rz_types_fields.specs.declared.tree.Tree.{Tree}
+use Rattle.rz_types_fields.specs.declared.tree.Tree.TheVariants as trees
+use Rattle.rz_types_fields.specs.Row.{By}
+use Rattle.rz_types_fields.specs.Spells.{choice_of_tree, is_case, most_bits, put, values_in, BodySpells, CaseSpells, FieldSpells, Inside, Late, Spells}
 use Rattle.rz_types.specs.Field.{case_and, field_and, no_cases, no_fields, Align, Array, Fill, Number, PlainBody, PlainCases, PlainField, Points, Switch, Text}
 use Rattle.rz_types.specs.Kept.{AreCasesKept, AreKept, Differ, IsKept, IsKeptWithin}
 use Rattle.rz_types.specs.Readable.{are_cases_read, are_read, is_read, is_readable, rows_end}

@@ -11,12 +11,12 @@ use Rattle.rz_expr.specs.Term.{BitsAt, Constant, FactOf, Named, OfOne, OfTwo, Ro
 use Rattle.rz_expr.specs.Value.{value_of}
 use Rattle.rz_expr.specs.declared.value.EvalFault.{EvalFault}
 use Rattle.rz_bits.specs.Bits.{number_bits, number_of}
-use Rattle.rz_pieces.specs.Pieces.{also, is_stored, number_step, solve_all, solve_key, Step}
+use Rattle.rz_unlay_pieces.specs.Pieces.{also, is_stored, number_step, solve_all, solve_key, Step}
 use Rattle.rz_bits.specs.View.{bits_at, number_at}
-use Rattle.rz_fields.specs.declared.field.NumForm.{NumForm}
-use Rattle.rz_rows.specs.declared.tree.Tree.{Tree}
-use Rattle.rz_rows.specs.declared.tree.Tree.TheVariants as trees
-use Rattle.rz_rows.specs.Spells.{IsNumber}
+use Rattle.rz_types_fields.specs.declared.field.NumForm.{NumForm}
+use Rattle.rz_types_fields.specs.declared.tree.Tree.{Tree}
+use Rattle.rz_types_fields.specs.declared.tree.Tree.TheVariants as trees
+use Rattle.rz_types_fields.specs.Spells.{IsNumber}
 use Rattle.rz_types.specs.Field.{PlainBody}
 use Rattle.rz_types.specs.Range.{fits_number}
 use Rattle.rz_types.specs.Readable.{all_known, is_number_read, tells_one}

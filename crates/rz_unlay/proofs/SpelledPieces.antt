@@ -8,13 +8,13 @@ use Rattle.rz_expr.specs.Term.{Term}
 use Rattle.rz_expr.specs.Value.{value_of}
 use Rattle.rz_bits.specs.Bits.{bits_of, bytes_of, number_bits, number_of}
 use Rattle.rz_bits.specs.BitBuf.{missing}
-use Rattle.rz_pieces.specs.Pieces.{field_of_pieces, first_of_row, grouped, number_of_value, numbers_of_values, is_stored, number_step, piece_step, pieces_found, solve_all, value_of_field, with_value, Found, Step}
+use Rattle.rz_unlay_pieces.specs.Pieces.{field_of_pieces, first_of_row, grouped, number_of_value, numbers_of_values, is_stored, number_step, piece_step, pieces_found, solve_all, value_of_field, with_value, Found, Step}
 use Rattle.rz_bits.specs.View.{number_at}
-use Rattle.rz_fields.specs.declared.field.NumForm.{NumForm}
-use Rattle.rz_fields.specs.declared.field.NumForm.TheVariants.{Integer}
-use Rattle.rz_rows.specs.declared.tree.Tree.{Tree}
-use Rattle.rz_rows.specs.declared.tree.Tree.TheVariants as trees
-use Rattle.rz_rows.specs.Spells.{group_in, is_late_size, is_one_late, marks, most_bits, numbers_of_group, put, values_for, InOrder, IsGrouped, IsGroupedFor, IsStored, Late, PieceSpells, PiecesSpell, RowSpells, Then}
+use Rattle.rz_types_fields.specs.declared.field.NumForm.{NumForm}
+use Rattle.rz_types_fields.specs.declared.field.NumForm.TheVariants.{Integer}
+use Rattle.rz_types_fields.specs.declared.tree.Tree.{Tree}
+use Rattle.rz_types_fields.specs.declared.tree.Tree.TheVariants as trees
+use Rattle.rz_types_fields.specs.Spells.{group_in, is_late_size, is_one_late, marks, most_bits, numbers_of_group, put, values_for, InOrder, IsGrouped, IsGroupedFor, IsStored, Late, PieceSpells, PiecesSpell, RowSpells, Then}
 use Rattle.rz_types.specs.Field.{PlainBody, PlainField}
 use Rattle.rz_types.specs.Readable.{are_pieces_read, is_piece_read}
 use Rattle.rz_types.specs.Shape.{numbers_of}

@@ -9,11 +9,11 @@ use Rattle.rz_core.specs.Lists.{or_else}
 use Rattle.rz_core.specs.declared.facts.Facts.{Facts}
 use Rattle.rz_core.specs.declared.resource.Word.{Word}
 use Rattle.rz_expr.specs.Environment.{count_key, count_of, place_of, Environment, Key}
-use Rattle.rz_pieces.specs.Pieces.{also_count, claim_count, count_claimed, known_count, names_inside, stated_in, stated_value}
+use Rattle.rz_unlay_pieces.specs.Pieces.{also_count, claim_count, count_claimed, known_count, names_inside, stated_in, stated_value}
 use Rattle.rz_unlay.specs.Cursor.{count_known, rows_at, rows_by, rows_while, up_to_end, Line, Lines}
-use Rattle.rz_rows.specs.declared.tree.Tree.{Tree}
-use Rattle.rz_rows.specs.Row.{IsStated}
-use Rattle.rz_rows.specs.Spells.{BodySpells, Inside, IsCounted, Late, RowSpells, RowsSpell, Within}
+use Rattle.rz_types_fields.specs.declared.tree.Tree.{Tree}
+use Rattle.rz_types_fields.specs.Row.{IsStated}
+use Rattle.rz_types_fields.specs.Spells.{BodySpells, Inside, IsCounted, Late, RowSpells, RowsSpell, Within}
 use Rattle.rz_types.specs.Field.{field_and, no_fields, Align, Array, Fill, Number, PlainBody, Points, Switch, Text}
 use Rattle.rz_types.specs.Passed.{at_front, declares, gives_count, is_known, states, states_count, Passed}
 use Rattle.rz_types.specs.Width.{fixed_widths}

@@ -8,17 +8,17 @@ use Rattle.rz_core.specs.declared.resource.Word.{Word}
 use Rattle.rz_expr.specs.Environment.{Environment, Sight}
 use Rattle.rz_expr.specs.Term.{Term}
 use Rattle.rz_bits.specs.Bits.{bits_of}
-use Rattle.rz_fields.specs.declared.field.NumForm.{NumForm}
-use Rattle.rz_rows.specs.declared.tree.Tree.{out-Tree, Tree}
-use Rattle.rz_rows.specs.declared.tree.Tree.TheVariants as trees
-use Rattle.rz_rows.specs.Row.{By, IsChoice, IsFront, IsRow, IsValue}
-use Rattle.rz_rows.specs.Spells.{group_in, is_case, numbers_of_group, put, sees, AreBytes, BodySpells, CaseSpells, FieldSpells, Inside, InOrder, IsGrouped, IsNumber, IsStored, IsText, Late, PieceSpells, RowsSpell, RowSpells, Spells}
+use Rattle.rz_types_fields.specs.declared.field.NumForm.{NumForm}
+use Rattle.rz_types_fields.specs.declared.tree.Tree.{out-Tree, Tree}
+use Rattle.rz_types_fields.specs.declared.tree.Tree.TheVariants as trees
+use Rattle.rz_types_fields.specs.Row.{By, IsChoice, IsFront, IsRow, IsValue}
+use Rattle.rz_types_fields.specs.Spells.{group_in, is_case, numbers_of_group, put, sees, AreBytes, BodySpells, CaseSpells, FieldSpells, Inside, InOrder, IsGrouped, IsNumber, IsStored, IsText, Late, PieceSpells, RowsSpell, RowSpells, Spells}
 use Rattle.rz_types.specs.Field.{case_and, field_and, no_cases, no_fields, takes_value, Align, Array, Fill, Number, PlainBody, PlainCases, PlainField, PlainPoints, PlainText, Points, Switch, Text}
 use Rattle.rz_types.specs.Shape.{numbers_of}
 use Rattle.rz_types.specs.Passed.{at_front, behind, behind_piece, nothing_passed, Passed}
 use Rattle.rz_types.specs.Piece.{free_integer, integers, Filler, OneNumber, OneText, Piece, Zeros}
 use Rattle.rz_types.specs.Text.{PlainPart}
-use Rattle.rz_pieces.specs.Pieces.{number_of_value}
+use Rattle.rz_unlay_pieces.specs.Pieces.{number_of_value}
 
 -- a value where one is taken, and else none
 abbrev Takes : Bool → (Tree → Type 0) → Option Tree → Type 0

@@ -5,10 +5,10 @@ use Rattle.rz_core.specs.declared.resource.Word.{Word}
 use Rattle.rz_expr.specs.Environment.{Environment}
 use Rattle.rz_bits.specs.Bits.{bits_of}
 use Rattle.rz_bits.specs.BitBuf.{missing}
-use Rattle.rz_rows.specs.declared.tree.Tree.{Tree}
-use Rattle.rz_rows.specs.declared.tree.Tree.TheVariants as trees
-use Rattle.rz_rows.specs.Row.{By}
-use Rattle.rz_rows.specs.Spells.{is_case, most_bits, values_for, BodySpells, CaseSpells, FieldSpells, Inside, InOrder, Late, PieceSpells, RowsSpell, Spells}
+use Rattle.rz_types_fields.specs.declared.tree.Tree.{Tree}
+use Rattle.rz_types_fields.specs.declared.tree.Tree.TheVariants as trees
+use Rattle.rz_types_fields.specs.Row.{By}
+use Rattle.rz_types_fields.specs.Spells.{is_case, most_bits, values_for, BodySpells, CaseSpells, FieldSpells, Inside, InOrder, Late, PieceSpells, RowsSpell, Spells}
 use Rattle.rz_types.specs.Field.{case_and, field_and, no_cases, no_fields, Align, Array, Fill, Number, PlainBody, PlainCases, PlainField, Points, Switch, Text}
 use Rattle.rz_types.specs.Passed.{at_front, behind, behind_piece, nothing_passed, Passed}
 use Rattle.rz_types.specs.Piece.{pieces_of, Piece}

@@ -14,13 +14,13 @@ use Rattle.rz_expr.specs.Value.{value_of}
 use Rattle.rz_expr.specs.declared.value.EvalFault.{EvalFault}
 use Rattle.rz_bits.specs.Bits.{bits_of, bytes_of, front_bytes, number_bits, number_of}
 use Rattle.rz_bits.specs.BitBuf.{zeros}
-use Rattle.rz_pieces.specs.Pieces.{before_zeros, fixed_read, one_byte_size, or_none, plain_text, same_bytes, size_found, size_read, stored_size, text_read, text_size, text_step, trimmed, two_byte_size, up_to_zero, zeros_step, Step}
+use Rattle.rz_unlay_pieces.specs.Pieces.{before_zeros, fixed_read, one_byte_size, or_none, plain_text, same_bytes, size_found, size_read, stored_size, text_read, text_size, text_step, trimmed, two_byte_size, up_to_zero, zeros_step, Step}
 use Rattle.rz_bits.specs.View.{bits_at, bytes_at, number_at}
-use Rattle.rz_fields.specs.declared.field.TextForm.{TextForm}
-use Rattle.rz_fields.specs.declared.field.TextForm.TheVariants as texts
-use Rattle.rz_rows.specs.declared.tree.Tree.{Tree}
-use Rattle.rz_rows.specs.declared.tree.Tree.TheVariants as trees
-use Rattle.rz_rows.specs.Spells.{nowhere, AreBytes, IsPlainText, IsSize, IsText}
+use Rattle.rz_types_fields.specs.declared.field.TextForm.{TextForm}
+use Rattle.rz_types_fields.specs.declared.field.TextForm.TheVariants as texts
+use Rattle.rz_types_fields.specs.declared.tree.Tree.{Tree}
+use Rattle.rz_types_fields.specs.declared.tree.Tree.TheVariants as trees
+use Rattle.rz_types_fields.specs.Spells.{nowhere, AreBytes, IsPlainText, IsSize, IsText}
 use Rattle.rz_types.specs.Field.{PlainBody, PlainText}
 use Rattle.rz_types.specs.Range.{may_be_size}
 use Rattle.rz_types.specs.Passed.{declares, is_known, Passed}

@@ -1,8 +1,8 @@
 -- What is read is what bytes tell.
 use Rattle.std.proofs.Common.{◌≡◌, ℕ, true, List, Option, Some, None, ◌∙◌}
 use Rattle.rz_core.specs.declared.facts.Facts.{Facts}
-use Rattle.rz_rows.specs.declared.tree.Tree.{Tree}
-use Rattle.rz_rows.specs.Spells.{Spells}
+use Rattle.rz_types_fields.specs.declared.tree.Tree.{Tree}
+use Rattle.rz_types_fields.specs.Spells.{Spells}
 use Rattle.rz_types.specs.Field.{PlainBody}
 use Rattle.rz_unlay.specs.Cursor.{reading}
 use Rattle.rz_unlay.specs.Reading.{IsTold}

@@ -4,7 +4,7 @@ use Rattle.std.specs.Prelude.{if◌then◌else◌, option_and_then}
 use Rattle.std.proofs.lemmas.Bool.Decides.{nat_tests}
 use Rattle.rz_expr.specs.Environment.{count_key, count_of, place_key, place_of, Environment, IsPartOf, Key}
 use Rattle.rz_expr.specs.Term.{BitsAt, Constant, FactOf, Named, OfOne, OfTwo, RowsOf, Term}
-use Rattle.rz_pieces.specs.Pieces.{also, solve_all, solve_key}
+use Rattle.rz_unlay_pieces.specs.Pieces.{also, solve_all, solve_key}
 use Rattle.rz_types.specs.Solve.{has_key, is_same_key, is_same_name}
 use Rattle.rz_types.specs.Passed.{Names}
 use Rattle.rz_unlay.proofs.Sees.{both_true, Covers}

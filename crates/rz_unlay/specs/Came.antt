@@ -3,14 +3,14 @@ use Rattle.std.specs.Prelude.{ℕ, Bool, List, Option, Some, option_map}
 use Rattle.rz_core.specs.declared.facts.Facts.{Facts}
 use Rattle.rz_core.specs.declared.resource.Word.{Word}
 use Rattle.rz_expr.specs.Environment.{Environment}
-use Rattle.rz_rows.specs.declared.tree.Tree.TheVariants as trees
+use Rattle.rz_types_fields.specs.declared.tree.Tree.TheVariants as trees
 use Rattle.rz_types.specs.Field.{PlainBody}
 use Rattle.rz_unlay.specs.Cursor.{body_found, line_of, Line, Lines}
-use Rattle.rz_pieces.specs.Pieces.{names_inside, Found, Step}
-use Rattle.rz_pieces.specs.Names.{known}
+use Rattle.rz_unlay_pieces.specs.Pieces.{names_inside, Found, Step}
+use Rattle.rz_unlay_pieces.specs.Names.{known}
 use Rattle.rz_unlay.specs.declared.came.RowCame.{RowCame}
 use Rattle.rz_unlay.specs.declared.came.RowsCame.{RowsCame}
-use Rattle.rz_pieces.specs.declared.names.Note.{Note}
+use Rattle.rz_unlay_pieces.specs.declared.names.Note.{Note}
 
 -- the row of a body, where so much is known behind it
 abbrev pub found_of : List Note → RowCame → Found

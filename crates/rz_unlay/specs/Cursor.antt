@@ -5,15 +5,15 @@ use Rattle.rz_core.specs.declared.facts.Facts.{Facts}
 use Rattle.rz_core.specs.declared.resource.Word.{Word}
 use Rattle.rz_expr.specs.Environment.{Environment}
 use Rattle.rz_bits.specs.Bits.{bits_of, number_of}
-use Rattle.rz_fields.specs.declared.keys.CaseKey.{CaseKey}
-use Rattle.rz_rows.specs.declared.tree.Tree.{Tree}
-use Rattle.rz_rows.specs.declared.tree.Tree.TheVariants as trees
-use Rattle.rz_rows.specs.Spells.{values_in}
+use Rattle.rz_types_fields.specs.declared.keys.CaseKey.{CaseKey}
+use Rattle.rz_types_fields.specs.declared.tree.Tree.{Tree}
+use Rattle.rz_types_fields.specs.declared.tree.Tree.TheVariants as trees
+use Rattle.rz_types_fields.specs.Spells.{values_in}
 use Rattle.rz_types.specs.Field.{case_and, field_and, no_cases, no_fields, Align, Array, Fill, Number, PlainBody, PlainCases, PlainField, Points, Switch, Text}
 use Rattle.rz_types.specs.Passed.{outside}
 use Rattle.rz_types.specs.Width.{case_keys, fixed_widths}
 use Rattle.rz_bits.specs.View.{number_at}
-use Rattle.rz_pieces.specs.Pieces.{claim_count, field_of_pieces, known_count, names_inside, with_value, Found, Step}
+use Rattle.rz_unlay_pieces.specs.Pieces.{claim_count, field_of_pieces, known_count, names_inside, with_value, Found, Step}
 
 -- Rows.
 

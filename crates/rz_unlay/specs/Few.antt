@@ -1,9 +1,9 @@
 -- How many values the rows that are read have.
 use Rattle.std.specs.Prelude.{ℕ, ◌+◌, List, length}
 use Rattle.std.specs.List.{sum_by}
-use Rattle.rz_rows.specs.declared.tree.Tree.{Tree}
-use Rattle.rz_rows.specs.Spells.{values_in}
-use Rattle.rz_pieces.specs.Pieces.{Found}
+use Rattle.rz_types_fields.specs.declared.tree.Tree.{Tree}
+use Rattle.rz_types_fields.specs.Spells.{values_in}
+use Rattle.rz_unlay_pieces.specs.Pieces.{Found}
 use Rattle.rz_unlay.specs.Cursor.{Line, Lines}
 
 -- rows count their values, and each row one more

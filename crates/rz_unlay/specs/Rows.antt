@@ -1,7 +1,7 @@
 -- Rows as they are read.
 use Rattle.std.specs.Prelude.{ℕ, ◌+◌, ◌-◌, ◌==◌, nat_lt, Bool, ◌&&◌, if◌then◌else◌, List, [], ◌∷◌, ◌++◌, length, drop, Option, Some, None}
 use Rattle.rz_bits.specs.Bits.{number_of}
-use Rattle.rz_rows.specs.declared.tree.Tree.{Tree}
+use Rattle.rz_types_fields.specs.declared.tree.Tree.{Tree}
 
 -- a row with one value more, where there is one
 abbrev pub pushed : List Tree → Option Tree → List Tree

@@ -1,4 +1,4 @@
-use rz_rows::{Row, RowList};
+use rz_types_fields::{Row, RowList};
 
 /// The row of a body.
 #[derive(Debug, Drop)]

@@ -3,10 +3,10 @@ ghost use Rattle.rz_bits.specs.View.{seen};
 ghost use Rattle.rz_types.specs.Field.{plain_body, plain_field, plain_number};
 ghost use Rattle.rz_types.specs.Width.{capped, case_keys, field_key, number_key, plus};
 ghost use Rattle.rz_unlay.specs.Cursor.{has_bits, has_keys, key_at};
-ghost use Rattle.rz_pieces.specs.Fits.{AreFit, Fits};
+ghost use Rattle.rz_unlay_pieces.specs.Fits.{AreFit, Fits};
 
 use rz_bits::BitView;
-use rz_fields::{Field, NumField, fixed_width, key_bits};
+use rz_types_fields::{Field, NumField, fixed_width, key_bits};
 
 /// One bit more than the most bits of a resource.
 const MOST_BITS: u64 = 134_217_697;
@@ -54,7 +54,7 @@ fn has_number_key(view: &BitView<'_>, number: &NumField, before: Option<u64>, at
 }
 
 /// The number in the bits of a key behind so many others.
-#[tactic(auto, using(rz_pieces::proofs::PieceSteps::seen_length))]
+#[tactic(auto, using(rz_unlay_pieces::proofs::PieceSteps::seen_length))]
 fn key_at(view: &BitView<'_>, width: u8, before: Option<u64>, at: u32) -> Option<u32>
     requires width { width ≤ 32 }
     requires at { at ≤ length (seen view.now) }

@@ -1,23 +1,22 @@
 ghost use Rattle.std.specs.Prelude.{◌≡◌, ◌+◌, ◌≤◌, pos, suc, length, drop, IfOk, IfSome, OnOk, option_map};
 ghost use Rattle.rz_bits.specs.View.{seen};
-ghost use Rattle.rz_rows.specs.Spells.{values_in};
+ghost use Rattle.rz_types_fields.specs.Spells.{values_in};
 ghost use Rattle.rz_types.specs.Field.{plain_array, plain_body, plain_case, plain_cases, plain_field};
 ghost use Rattle.rz_unlay.specs.Came.{chosen, found_of, line_in, lines_in, row_at};
-ghost use Rattle.rz_pieces.specs.Came.{met_of};
+ghost use Rattle.rz_unlay_pieces.specs.Came.{met_of};
 ghost use Rattle.rz_unlay.specs.Cursor.{body_found, case_found, count_known, field_found, rows_at, rows_by, rows_while};
-ghost use Rattle.rz_pieces.specs.Few.{few, step_count, value_count};
+ghost use Rattle.rz_unlay_pieces.specs.Few.{few, step_count, value_count};
 ghost use Rattle.rz_unlay.specs.Few.{found_count, line_count, lines_count, rows_count};
-ghost use Rattle.rz_pieces.specs.Fits.{AreFit, CasesFit, Fits};
-ghost use Rattle.rz_pieces.specs.Names.{known, Grew};
+ghost use Rattle.rz_unlay_pieces.specs.Fits.{AreFit, CasesFit, Fits};
+ghost use Rattle.rz_unlay_pieces.specs.Names.{known, Grew};
 ghost use Rattle.rz_unlay.specs.Rows.{pushed, stop_at};
 
 use crate::came::{RowCame, RowsCame};
 use crate::cases::has_keys;
 use rz_bits::BitView;
 use rz_core::{Facts, NoMemory, Word};
-use rz_fields::{ArrayField, Case, Field, fixed_widths};
-use rz_pieces::{Met, Note, claim_count, enter, read_pieces, rows_of, spend};
-use rz_rows::{Row, RowList, Tree};
+use rz_types_fields::{ArrayField, Case, Field, Row, RowList, Tree, fixed_widths};
+use rz_unlay_pieces::{Met, Note, claim_count, enter, read_pieces, rows_of, spend};
 use std::alloc::Global;
 
 /// Reads the row of a body, with at most so many values: what is learnt of the names of its own is forgotten behind it.

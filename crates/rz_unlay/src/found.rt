@@ -1,8 +1,8 @@
 ghost use Rattle.std.specs.Prelude.{◌≡◌, true, ℕ, List, Option, Some};
 ghost use Rattle.rz_core.specs.Decided.{Decided};
 ghost use Rattle.rz_core.specs.declared.facts.Facts.{Facts};
-ghost use Rattle.rz_rows.specs.declared.tree.Tree.{Tree};
-ghost use Rattle.rz_rows.specs.Spells.{Spells};
+ghost use Rattle.rz_types_fields.specs.declared.tree.Tree.{Tree};
+ghost use Rattle.rz_types_fields.specs.Spells.{Spells};
 ghost use Rattle.rz_types.specs.Field.{PlainBody};
 ghost use Rattle.rz_types.specs.Readable.{is_readable};
 ghost use Rattle.rz_types.specs.Rules.{keeps_rules};

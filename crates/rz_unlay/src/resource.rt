@@ -1,8 +1,8 @@
 ghost use Rattle.std.specs.Prelude.{◌≡◌, false, IfOk, IfSome, List, Some};
 ghost use Rattle.rz_core.specs.Decided.{Decided};
-ghost use Rattle.rz_rows.specs.declared.tree.Tree.{Tree};
-ghost use Rattle.rz_rows.specs.Row.{IsRow};
-ghost use Rattle.rz_rows.specs.Spells.{Spells};
+ghost use Rattle.rz_types_fields.specs.declared.tree.Tree.{Tree};
+ghost use Rattle.rz_types_fields.specs.Row.{IsRow};
+ghost use Rattle.rz_types_fields.specs.Spells.{Spells};
 ghost use Rattle.rz_types.specs.Template.{template_of};
 ghost use Rattle.rz_unlay.specs.Reading.{row_in, IsTold};
 
@@ -12,8 +12,8 @@ use crate::spelled::{
     plain_rows_are_spelled, read_rows_are_plain, spelled_bytes_are_few, spelled_rows_are_rows,
 };
 use rz_core::{Facts, NoMemory};
-use rz_rows::Row;
 use rz_types::{Template, is_readable};
+use rz_types_fields::Row;
 use std::alloc::Global;
 
 /// The most bytes of a resource.

@@ -9,9 +9,8 @@ ghost use Rattle.rz_unlay.specs.Rows.{is_end};
 use crate::fields::read_body;
 use rz_bits::BitView;
 use rz_core::{Facts, NoMemory};
-use rz_fields::Body;
-use rz_rows::Row;
 use rz_types::rules_hold_within;
+use rz_types_fields::{Body, Row};
 use std::alloc::Global;
 
 /// The most values that a row has.

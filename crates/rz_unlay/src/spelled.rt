@@ -1,8 +1,8 @@
 ghost use Rattle.std.specs.Prelude.{◌≡◌, ◌≤◌, ◌<◌, Bool, false, true, ℕ, length, List, slice_index, Some};
 ghost use Rattle.rz_core.specs.declared.facts.Facts.{Facts};
-ghost use Rattle.rz_rows.specs.declared.tree.Tree.{Tree};
-ghost use Rattle.rz_rows.specs.Row.{IsRow};
-ghost use Rattle.rz_rows.specs.Spells.{Spells};
+ghost use Rattle.rz_types_fields.specs.declared.tree.Tree.{Tree};
+ghost use Rattle.rz_types_fields.specs.Row.{IsRow};
+ghost use Rattle.rz_types_fields.specs.Spells.{Spells};
 ghost use Rattle.rz_types.specs.Field.{PlainBody};
 ghost use Rattle.rz_types.specs.Readable.{is_readable};
 ghost use Rattle.rz_types.specs.Rules.{keeps_rules};

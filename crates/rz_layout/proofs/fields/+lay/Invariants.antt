@@ -4,8 +4,8 @@ use Rattle.std.specs.Prelude.{option_map}
 use Rattle.rz_layout.specs.Laid.{draft_of}
 use Rattle.rz_layout.specs.Names.{known}
 use Rattle.rz_layout.specs.Sound.{AreSound, IsCaseSound}
-use Rattle.rz_rows.specs.Laid.{body_laid, case_laid, counted, rows_laid}
-use Rattle.rz_rows.specs.Spells.{most_bits}
+use Rattle.rz_types_fields.specs.Laid.{body_laid, case_laid, counted, rows_laid}
+use Rattle.rz_types_fields.specs.Spells.{most_bits}
 use Rattle.rz_types.specs.Field.{plain_body, plain_cases}
 use Rattle.rz_layout.proofs.fields.+lay.Given as goal
 

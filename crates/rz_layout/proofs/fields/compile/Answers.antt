@@ -1,8 +1,8 @@
 use Rattle.std.proofs.Common.{List, ap, subst, sym, ◌∙◌}
 use Rattle.rz_layout.specs.Laid.{GivesLaid}
 use Rattle.rz_layout.specs.Sound.{AreSound}
-use Rattle.rz_rows.specs.declared.tree.Tree.{Tree}
-use Rattle.rz_rows.specs.Laid.{laid}
+use Rattle.rz_types_fields.specs.declared.tree.Tree.{Tree}
+use Rattle.rz_types_fields.specs.Laid.{laid}
 use Rattle.rz_types.specs.Field.{plain_body, PlainBody}
 use Rattle.rz_types.specs.Template.{template_of}
 use Rattle.rz_layout.proofs.Answering.{compiled, every_answer, known_number}

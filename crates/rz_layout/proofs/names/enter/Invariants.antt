@@ -1,6 +1,6 @@
 use Rattle.std.proofs.Common.{◌≡◌, drop}
 use Rattle.rz_layout.specs.Names.{known, Grew}
-use Rattle.rz_rows.specs.Laid.{counted}
+use Rattle.rz_types_fields.specs.Laid.{counted}
 use Rattle.rz_types.specs.Field.{plain_body}
 use Rattle.rz_layout.proofs.names.enter.Given as goal
 

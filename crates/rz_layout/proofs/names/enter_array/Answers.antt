@@ -1,7 +1,7 @@
 use Rattle.std.proofs.Common.{Option, sym, ap, ◌∙◌}
 use Rattle.rz_core.specs.declared.resource.Word.{Word}
 use Rattle.rz_layout.specs.Names.{known}
-use Rattle.rz_rows.specs.Laid.{with_count}
+use Rattle.rz_types_fields.specs.Laid.{with_count}
 use Rattle.rz_layout.proofs.Counts.{known_more}
 use Rattle.rz_layout.proofs.names.enter_array.Goals as goal
 

@@ -2,8 +2,8 @@ use Rattle.std.proofs.Common.{◌≡◌, ◌≤◌, [], length, drop, map}
 use Rattle.rz_expr.specs.Term.{term_of}
 use Rattle.rz_layout.specs.Laid.{draft_of}
 use Rattle.rz_layout.specs.Names.{known}
-use Rattle.rz_rows.specs.Laid.{in_order, lay, takes_one}
-use Rattle.rz_rows.specs.Spells.{most_bits}
+use Rattle.rz_types_fields.specs.Laid.{in_order, lay, takes_one}
+use Rattle.rz_types_fields.specs.Spells.{most_bits}
 use Rattle.rz_types.specs.Piece.{fixed_integer}
 use Rattle.rz_layout.proofs.points.lay_fixed.Given as goal
 

@@ -2,9 +2,9 @@ use Rattle.std.proofs.Common.{◌≡◌, ◌≤◌, length, drop, map}
 use Rattle.std.specs.Prelude.{replicate}
 use Rattle.rz_layout.specs.Laid.{draft_of}
 use Rattle.rz_layout.specs.Names.{known}
-use Rattle.rz_rows.specs.declared.tree.Tree.TheVariants as trees
-use Rattle.rz_rows.specs.Laid.{in_order, lay, takes_one}
-use Rattle.rz_rows.specs.Spells.{most_bits}
+use Rattle.rz_types_fields.specs.declared.tree.Tree.TheVariants as trees
+use Rattle.rz_types_fields.specs.Laid.{in_order, lay, takes_one}
+use Rattle.rz_types_fields.specs.Spells.{most_bits}
 use Rattle.rz_types.specs.Piece.{free_integer}
 use Rattle.rz_layout.proofs.points.lay_group.Given as goal
 

@@ -1,7 +1,7 @@
 use Rattle.std.proofs.Common.{◌≡◌, ◌*◌, ◌++◌, [], ◌∷◌, ℕ, Option, length, sym, ap, ◌∙◌, arith}
 use Rattle.rz_bits.specs.Bits.{bits_of}
 use Rattle.rz_layout.specs.Text.{sized_length}
-use Rattle.rz_fields.specs.declared.field.TextForm.{TextForm}
+use Rattle.rz_types_fields.specs.declared.field.TextForm.{TextForm}
 use Rattle.rz_types.specs.Stored.{before_zero, stored_text, to_size}
 use Rattle.rz_layout.proofs.Room.{length_number}
 use Rattle.rz_layout.proofs.Stores.{length_to_size, on_ok, pascal_room, room_after, word_room, zero_end, zero_room}

@@ -1,8 +1,8 @@
 use Rattle.std.proofs.Common.{Option, sym, ap, subst}
 use Rattle.rz_layout.specs.Laid.{GivesLaid}
 use Rattle.rz_layout.specs.Names.{known}
-use Rattle.rz_rows.specs.Laid.{behind_refusal, joined, Refusal}
-use Rattle.rz_rows.specs.Spells.{nowhere}
+use Rattle.rz_types_fields.specs.Laid.{behind_refusal, joined, Refusal}
+use Rattle.rz_types_fields.specs.Spells.{nowhere}
 use Rattle.rz_types.specs.Text.{bytes_seen, plain_parts}
 use Rattle.rz_types.specs.Value.{names_sight}
 use Rattle.rz_layout.proofs.text.fixed_bytes.Goals as goal

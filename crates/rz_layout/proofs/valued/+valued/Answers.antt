@@ -1,10 +1,10 @@
 use Rattle.std.proofs.Common.{◌+◌, List, drop, map, ap, ◌∙◌}
 use Rattle.rz_core.specs.Lists.{first_of}
 use Rattle.rz_layout.specs.Names.{known}
-use Rattle.rz_fields.specs.Text.{argument_terms, arguments_of, part_terms, plain_argument, plain_arguments, plain_part, plain_parts, terms_in, text_terms}
-use Rattle.rz_fields.specs.declared.text.FormatArg.{FormatArg}
-use Rattle.rz_fields.specs.declared.text.TextPart.{TextPart}
-use Rattle.rz_rows.specs.Laid.{unvalued}
+use Rattle.rz_types_fields.specs.Text.{argument_terms, arguments_of, part_terms, plain_argument, plain_arguments, plain_part, plain_parts, terms_in, text_terms}
+use Rattle.rz_types_fields.specs.declared.text.FormatArg.{FormatArg}
+use Rattle.rz_types_fields.specs.declared.text.TextPart.{TextPart}
+use Rattle.rz_types_fields.specs.Laid.{unvalued}
 use Rattle.rz_types.proofs.Parts.{arguments_next, found_here, found_later, text_next}
 use Rattle.rz_layout.proofs.valued.+valued.Goals as goal
 

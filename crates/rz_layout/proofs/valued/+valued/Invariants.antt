@@ -1,7 +1,7 @@
 use Rattle.std.proofs.Common.{◌≡◌, drop, map}
 use Rattle.rz_core.specs.Lists.{first_of}
 use Rattle.rz_layout.specs.Names.{known}
-use Rattle.rz_rows.specs.Laid.{unvalued}
+use Rattle.rz_types_fields.specs.Laid.{unvalued}
 use Rattle.rz_types.specs.Text.{argument_terms, arguments_of, plain_arguments, plain_parts, text_terms}
 use Rattle.rz_layout.proofs.valued.+valued.Given as goal
 

@@ -12,7 +12,7 @@ use Rattle.rz_pre.specs.Placed.{IsPlaced}
 use Rattle.rz_pre.proofs.Placing.{open_more, steps_files, steps_open, steps_within, within_more}
 use Rattle.rz_folder.proofs.Reading.{reads_on}
 use Rattle.rz_pre.proofs.Lexing.{steps_lexed}
-use Rattle.rz_paths.proofs.Found.{if_some}
+use Rattle.rz_folder_paths.proofs.Found.{if_some}
 use Rattle.rz_pre.proofs.unfolding.+read_file.Goals as goal
 use Rattle.rz_pre.proofs.unfolding.+read_file.Goals.{in-Some-2+in_ok-source+in_ok-read_file, in_default-2}
 

@@ -1,9 +1,9 @@
 use Rattle.std.proofs.Common.{Some}
-use Rattle.rz_paths.specs.Names.{missing_file, names_of, utf8_name}
+use Rattle.rz_folder_paths.specs.Names.{missing_file, names_of, utf8_name}
 use Rattle.rz_pre.specs.Program.{Enters, Opens}
 use Rattle.rz_pre.specs.Reading.{state_of, together}
 use Rattle.rz_pre.proofs.Going.{at_some, enters_from, leaves_so}
-use Rattle.rz_paths.proofs.Found.{if_some}
+use Rattle.rz_folder_paths.proofs.Found.{if_some}
 use Rattle.rz_pre.proofs.unfolding.open_included.Goals as goal
 
 pub returns-clause-opened : goal.returns-clause-opened

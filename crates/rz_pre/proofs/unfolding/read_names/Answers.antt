@@ -5,7 +5,7 @@ use Rattle.std.proofs.lemmas.Result.{err_from_is_err_and}
 use Rattle.rz_folder.proofs.Reading.{reads_on}
 use Rattle.rz_pre.specs.Reading.{state_of}
 use Rattle.rz_pre.proofs.Going.{at_some, left_in_named, on_named, NamesLead}
-use Rattle.rz_paths.proofs.Found.{drop_at, if_some}
+use Rattle.rz_folder_paths.proofs.Found.{drop_at, if_some}
 use Rattle.rz_pre.proofs.unfolding.read_names.Goals as goal
 
 pub returns-in_err-read_named-clause-read : goal.returns-in_err-read_named-clause-read

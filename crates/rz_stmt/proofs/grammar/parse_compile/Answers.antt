@@ -1,5 +1,5 @@
 use Rattle.std.proofs.Common.{inl, inr, refl}
-use Rattle.rz_items.specs.Compile.{compile_of}
+use Rattle.rz_stmt_items.specs.Compile.{compile_of}
 use Rattle.rz_stmt.proofs.Parsed.{gave_so}
 use Rattle.rz_stmt.specs.Grammar.{Compiled, Declared}
 use Rattle.rz_stmt.proofs.grammar.parse_compile.Goals as goal

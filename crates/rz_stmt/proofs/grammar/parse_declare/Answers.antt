@@ -1,5 +1,5 @@
-use Rattle.rz_declare.specs.Constants.{declare_of}
-use Rattle.rz_flat.specs.Form.{declare_form}
+use Rattle.rz_stmt_type.specs.Constants.{declare_of}
+use Rattle.rz_stmt_fields.specs.Form.{declare_form}
 use Rattle.rz_stmt.proofs.Parsed.{faulty, valued}
 use Rattle.rz_stmt.proofs.grammar.parse_declare.Goals as goal
 

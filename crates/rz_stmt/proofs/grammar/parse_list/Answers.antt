@@ -1,5 +1,5 @@
 use Rattle.std.proofs.Common.{inl, inr, refl}
-use Rattle.rz_lists.specs.Lists.{list_of}
+use Rattle.rz_stmt_lists.specs.Lists.{list_of}
 use Rattle.rz_stmt.proofs.Parsed.{gave_so}
 use Rattle.rz_stmt.specs.Grammar.{Compiled, Listed}
 use Rattle.rz_stmt.proofs.grammar.parse_list.Goals as goal

@@ -1,12 +1,12 @@
 use Rattle.std.proofs.Common.{ℕ, List, [], inr, map, ap, sym, subst, ◌∙◌}
 use Rattle.std.specs.String.{string_bytes}
-use Rattle.rz_answer.specs.Answer.{shown, Answer}
-use Rattle.rz_answer.specs.WellFormed.{IsWellFormed}
-use Rattle.rz_answer.specs.declared.outcome.Outcome.TheVariants.{Usage}
-use Rattle.rz_words.specs.Command.{Bridge, Rez, DeRez, Help, Version}
-use Rattle.rz_words.specs.Item.{bridge, derez, rez}
+use Rattle.rz_tools_answer.specs.Answer.{shown, Answer}
+use Rattle.rz_tools_answer.specs.WellFormed.{IsWellFormed}
+use Rattle.rz_tools_answer.specs.declared.outcome.Outcome.TheVariants.{Usage}
+use Rattle.rz_tools_args.specs.Command.{Bridge, Rez, DeRez, Help, Version}
+use Rattle.rz_tools_args.specs.Item.{bridge, derez, rez}
 use Rattle.rz_tools.proofs.Planned.{as_command, as_misused, as_told, held_asked}
-use Rattle.rz_answer.proofs.Warnings.{no_lines}
+use Rattle.rz_tools_answer.proofs.Warnings.{no_lines}
 use Rattle.rz_tools.proofs.answer.answer.Goals as goal
 
 pub plan_rez-requires : goal.plan_rez-requires

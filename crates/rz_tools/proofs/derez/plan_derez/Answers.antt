@@ -1,7 +1,7 @@
-use Rattle.rz_words.specs.Item.{derez}
-use Rattle.rz_answer.specs.Answer.{shown}
+use Rattle.rz_tools_args.specs.Item.{derez}
+use Rattle.rz_tools_answer.specs.Answer.{shown}
 use Rattle.rz_tools.specs.DeRez.{Shows}
-use Rattle.rz_answer.specs.Made.{making_of}
+use Rattle.rz_tools_answer.specs.Made.{making_of}
 use Rattle.rz_tools.proofs.Planned.{made, or_stopped}
 use Rattle.rz_tools.proofs.derez.plan_derez.Goals as goal
 

@@ -3,11 +3,11 @@ use Rattle.std.specs.FinMap as map
 use Rattle.std.specs.Prelude.{IfOk, IfSome}
 use Rattle.std.specs.String.{string_bytes}
 use Rattle.rz_folder.specs.Folder.{Files}
-use Rattle.rz_words.specs.Item.{derez}
+use Rattle.rz_tools_args.specs.Item.{derez}
 use Rattle.rz_tools.specs.Again.{HoldsFile}
 use Rattle.rz_tools.specs.DeRez.{HasText, TypesAre}
 use Rattle.rz_tools.specs.Held.{compiled_of}
-use Rattle.rz_answer.specs.Made.{MadeSo}
+use Rattle.rz_tools_answer.specs.Made.{MadeSo}
 use Rattle.rz_tools.proofs.Sourced.{then_made, then_stopped}
 use Rattle.rz_tools.proofs.derez.read_and_show.Goals as goal
 

@@ -1,7 +1,7 @@
 use Rattle.std.proofs.Common.{None, subst}
 use Rattle.rz_core.specs.Answers.{Meets}
-use Rattle.rz_files.specs.Contents.{fork_in}
-use Rattle.rz_words.specs.Item.{derez}
+use Rattle.rz_bridge_files.specs.Contents.{fork_in}
+use Rattle.rz_tools_args.specs.Item.{derez}
 use Rattle.rz_tools.specs.DeRez.{HasForkText}
 use Rattle.rz_tools.specs.Again.{HoldsFile}
 use Rattle.rz_tools.specs.Shown.{Known}

@@ -1,10 +1,10 @@
 use Rattle.std.proofs.Common.{◌≡◌, List, [], ◌∷◌, ◌++◌, Ok, Err, sym, ap, subst, ◌∙◌, append_assoc}
 use Rattle.std.proofs.lemmas.List.{map-append, nil_from_length}
 use Rattle.rz_folder.proofs.Reading.{reads_on}
-use Rattle.rz_items.specs.Item.{plain_item, plain_items}
-use Rattle.rz_items.specs.Places.{AreItemsWithin}
-use Rattle.rz_items.specs.declared.item.Item.{Item}
-use Rattle.rz_paths.proofs.Found.{if_some}
+use Rattle.rz_stmt_items.specs.Item.{plain_item, plain_items}
+use Rattle.rz_stmt_items.specs.Places.{AreItemsWithin}
+use Rattle.rz_stmt_items.specs.declared.item.Item.{Item}
+use Rattle.rz_folder_paths.proofs.Found.{if_some}
 use Rattle.rz_pre.proofs.Going.{at_some}
 use Rattle.rz_tools.specs.Files.{item_given, item_read, items_given, items_read}
 use Rattle.rz_tools.proofs.Reading.{all_made, halt_so, list_read, list_within, named_read, named_within, one_fault, one_made, within_more, Leads}

@@ -1,8 +1,8 @@
 use Rattle.std.proofs.Common.{◌≡◌, ◌++◌, ℕ, Some}
 use Rattle.rz_folder.specs.Folder.{Files}
 use Rattle.rz_folder.specs.OnlyReads.{OnlyReads}
-use Rattle.rz_items.specs.Item.{plain_items}
-use Rattle.rz_items.specs.Places.{AreItemsWithin}
+use Rattle.rz_stmt_items.specs.Item.{plain_items}
+use Rattle.rz_stmt_items.specs.Places.{AreItemsWithin}
 use Rattle.rz_tools.proofs.Reading.{Leads}
 use Rattle.rz_tools.proofs.files.+files.Given as goal
 

@@ -1,8 +1,8 @@
 use Rattle.std.proofs.Common.{ap, map, refl, Err}
 use Rattle.std.specs.String.{string_bytes}
-use Rattle.rz_answer.specs.Answer.{misused}
-use Rattle.rz_answer.specs.Plan.{answer_of}
-use Rattle.rz_answer.specs.declared.outcome.Outcome.TheVariants.{ReadFault, NoMemory}
+use Rattle.rz_tools_answer.specs.Answer.{misused}
+use Rattle.rz_tools_answer.specs.Plan.{answer_of}
+use Rattle.rz_tools_answer.specs.declared.outcome.Outcome.TheVariants.{ReadFault, NoMemory}
 use Rattle.rz_tools.proofs.Complete.{complete, hindered}
 use Rattle.rz_tools.proofs.Running.{carried_from, every, or_else, stays_usage, usage_of}
 use Rattle.rz_tools.proofs.ShownAgain.{shows_again}

@@ -1,11 +1,11 @@
 use Rattle.std.proofs.Common.{◌≡◌, Option, ap}
 use Rattle.std.specs.Option.{ok_or}
 use Rattle.std.proofs.lemmas.Option.{IfSome_then}
-use Rattle.rz_items.specs.Item.{plain_items}
+use Rattle.rz_stmt_items.specs.Item.{plain_items}
 use Rattle.rz_tools.specs.Resource.{fields_for, no_type, AreReadBytes}
 use Rattle.rz_types.specs.Field.{PlainBody}
 use Rattle.rz_types.specs.Template.{template_of}
-use Rattle.rz_table.specs.TypeTable.{table_of}
+use Rattle.rz_types_table.specs.TypeTable.{table_of}
 use Rattle.rz_tools.proofs.Resources.{then_yields}
 use Rattle.rz_tools.proofs.resource.bytes_of.Goals as goal
 

@@ -2,13 +2,13 @@ use Rattle.std.proofs.Common.{◌≡◌, ℕ, List, Ok}
 use Rattle.std.proofs.lemmas.Option.{IfSome_then}
 use Rattle.std.proofs.lemmas.Result.{err_from_is_err_and}
 use Rattle.rz_core.specs.Message.{IsNameable}
-use Rattle.rz_items.specs.Item.{plain_items}
-use Rattle.rz_paths.proofs.Found.{if_some}
+use Rattle.rz_stmt_items.specs.Item.{plain_items}
+use Rattle.rz_folder_paths.proofs.Found.{if_some}
 use Rattle.rz_pre.proofs.Going.{at_some}
 use Rattle.rz_tools.specs.Files.{items_given, items_read}
 use Rattle.rz_tools.specs.Resource.{AreItemBytes}
 use Rattle.rz_types.specs.Template.{template_of}
-use Rattle.rz_work.proofs.Calls.{refuses_so}
+use Rattle.rz_tools_work.proofs.Calls.{refuses_so}
 use Rattle.rz_tools.proofs.Reading.{halt_so}
 use Rattle.rz_tools.proofs.Resources.{meets_yields, then_halts, then_yields}
 use Rattle.rz_tools.proofs.resource.bytes_read.Goals as goal

@@ -2,13 +2,13 @@ use Rattle.std.proofs.Common.{◌≡◌, Ok, Err, sym, ap}
 use Rattle.std.proofs.lemmas.Option.{IfSome_then}
 use Rattle.std.proofs.lemmas.Result.{err_from_is_err_and}
 use Rattle.rz_core.specs.declared.resource.Resource.{Resource}
-use Rattle.rz_data.specs.Head.{head_of}
-use Rattle.rz_items.specs.Item.{plain_items}
-use Rattle.rz_paths.proofs.Found.{if_some}
-use Rattle.rz_work.specs.Data.{with_bytes}
-use Rattle.rz_work.specs.Head.{facts_of}
+use Rattle.rz_stmt_data.specs.Head.{head_of}
+use Rattle.rz_stmt_items.specs.Item.{plain_items}
+use Rattle.rz_folder_paths.proofs.Found.{if_some}
+use Rattle.rz_tools_work.specs.Data.{with_bytes}
+use Rattle.rz_tools_work.specs.Head.{facts_of}
 use Rattle.rz_tools.specs.Resource.{AreBytes, IsMade}
-use Rattle.rz_table.specs.TypeTable.{table_of}
+use Rattle.rz_types_table.specs.TypeTable.{table_of}
 use Rattle.rz_tools.proofs.Resources.{gives_halt, then_halts, then_yields}
 use Rattle.rz_tools.proofs.resource.resource_of_items.Goals as goal
 

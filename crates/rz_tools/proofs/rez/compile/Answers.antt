@@ -1,7 +1,7 @@
 use Rattle.rz_pre.specs.Reading.{IsProgram}
 use Rattle.rz_pre.specs.Program.{State}
-use Rattle.rz_words.specs.Item.{rez}
-use Rattle.rz_answer.specs.Made.{MadeSo}
+use Rattle.rz_tools_args.specs.Item.{rez}
+use Rattle.rz_tools_answer.specs.Made.{MadeSo}
 use Rattle.rz_tools.specs.Rez.{around_of, IsMadeOf}
 use Rattle.rz_tools.specs.Sources.{IsProgramOf}
 use Rattle.rz_tools.proofs.Compiling.{still_told}

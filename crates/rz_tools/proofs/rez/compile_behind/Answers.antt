@@ -1,5 +1,5 @@
-use Rattle.rz_words.specs.Item.{rez}
-use Rattle.rz_output.specs.Base.{begun_of}
+use Rattle.rz_tools_args.specs.Item.{rez}
+use Rattle.rz_tools_output.specs.Base.{begun_of}
 use Rattle.rz_tools.specs.Held.{compiled_of}
 use Rattle.rz_tools.proofs.Compiling.{work_stopped, work_written}
 use Rattle.rz_tools.proofs.rez.compile_behind.Goals as goal

@@ -1,13 +1,13 @@
 use Rattle.std.proofs.Common.{[], length, Err, sym, subst}
 use Rattle.std.specs.Prelude.{IfSome}
-use Rattle.rz_paths.specs.declared.halt.Halt.{Halt}
+use Rattle.rz_folder_paths.specs.declared.halt.Halt.{Halt}
 use Rattle.rz_pre.specs.Program.{State}
 use Rattle.rz_pre.specs.Reading.{IsProgram}
-use Rattle.rz_words.specs.Item.{rez}
-use Rattle.rz_answer.specs.Made.{MadeSo}
-use Rattle.rz_answer.specs.declared.made.Stopped.TheVariants.{Refused}
+use Rattle.rz_tools_args.specs.Item.{rez}
+use Rattle.rz_tools_answer.specs.Made.{MadeSo}
+use Rattle.rz_tools_answer.specs.declared.made.Stopped.TheVariants.{Refused}
 use Rattle.rz_core.specs.declared.fault.Fault.{Fault}
-use Rattle.rz_output.specs.Base.{base_of, begun_of, BeginsSo}
+use Rattle.rz_tools_output.specs.Base.{base_of, begun_of, BeginsSo}
 use Rattle.rz_tools.specs.Rez.{IsMadeBehind, IsMadeOf}
 use Rattle.rz_tools.proofs.Compiling.{begun_made, not_begun, still_told}
 use Rattle.rz_tools.proofs.rez.compile_from_base.Goals as goal

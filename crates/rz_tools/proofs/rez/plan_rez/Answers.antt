@@ -1,7 +1,7 @@
-use Rattle.rz_answer.specs.Answer.{written}
-use Rattle.rz_answer.specs.Made.{making_of}
+use Rattle.rz_tools_answer.specs.Answer.{written}
+use Rattle.rz_tools_answer.specs.Made.{making_of}
 use Rattle.rz_tools.specs.Rez.{Compiles}
-use Rattle.rz_words.specs.Item.{rez}
+use Rattle.rz_tools_args.specs.Item.{rez}
 use Rattle.rz_tools.proofs.Planned.{made, or_stopped}
 use Rattle.rz_tools.proofs.rez.plan_rez.Goals as goal
 

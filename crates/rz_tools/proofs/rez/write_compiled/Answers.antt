@@ -1,10 +1,10 @@
 use Rattle.std.proofs.Common.{List, subst}
 use Rattle.rz_core.specs.Answers.{Meets}
 use Rattle.rz_core.specs.declared.resource.Resource.{Resource}
-use Rattle.rz_words.specs.Item.{rez}
-use Rattle.rz_output.specs.Base.{base_with}
+use Rattle.rz_tools_args.specs.Item.{rez}
+use Rattle.rz_tools_output.specs.Base.{base_with}
 use Rattle.rz_tools.specs.Held.{compiled_of}
-use Rattle.rz_output.specs.Output.{IsOutput}
+use Rattle.rz_tools_output.specs.Output.{IsOutput}
 use Rattle.rz_tools.proofs.Sourced.{beside}
 use Rattle.rz_tools.proofs.rez.write_compiled.Goals as goal
 

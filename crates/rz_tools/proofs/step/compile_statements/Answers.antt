@@ -4,8 +4,8 @@ use Rattle.rz_folder.proofs.Reading.{reads_on}
 use Rattle.rz_lex.specs.Lexeme.{AreLexed}
 use Rattle.rz_lex.specs.Within.{AreWithin}
 use Rattle.rz_lex.specs.declared.token.Token.{Token}
-use Rattle.rz_statements.specs.Next.{BeginsWith}
-use Rattle.rz_work.specs.Held.{work_of}
+use Rattle.rz_stmt.specs.Next.{BeginsWith}
+use Rattle.rz_tools_work.specs.Held.{work_of}
 use Rattle.rz_tools.proofs.Stepping.{leads_on, leads_to_stop, lexed_parts, within_parts}
 use Rattle.rz_tools.proofs.step.compile_statements.Goals as goal
 

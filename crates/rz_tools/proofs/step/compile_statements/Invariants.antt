@@ -1,9 +1,9 @@
 use Rattle.std.proofs.Common.{ℕ, length}
-use Rattle.rz_answer.specs.Warning.{AreWarnings}
+use Rattle.rz_tools_answer.specs.Warning.{AreWarnings}
 use Rattle.rz_folder.specs.OnlyReads.{OnlyReads}
 use Rattle.rz_lex.specs.Lexeme.{AreLexed}
 use Rattle.rz_lex.specs.Within.{AreWithin}
-use Rattle.rz_work.specs.Held.{work_of}
+use Rattle.rz_tools_work.specs.Held.{work_of}
 use Rattle.rz_tools.proofs.Stepping.{LeadsIn}
 use Rattle.rz_tools.proofs.step.compile_statements.Given as goal
 

@@ -1,7 +1,7 @@
 use Rattle.std.proofs.Common.{◌≡◌}
-use Rattle.rz_data.specs.Raw.{raw_of}
-use Rattle.rz_work.specs.Around.{around}
-use Rattle.rz_work.specs.Work.{list_behind}
+use Rattle.rz_stmt_data.specs.Raw.{raw_of}
+use Rattle.rz_tools_work.specs.Around.{around}
+use Rattle.rz_tools_work.specs.Work.{list_behind}
 use Rattle.rz_tools.proofs.Stepping.{derez_went, rez_went}
 use Rattle.rz_tools.proofs.step.put_raw.Goals as goal
 

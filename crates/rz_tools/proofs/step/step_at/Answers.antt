@@ -1,8 +1,8 @@
-use Rattle.rz_items.specs.Compile.{compile_of}
-use Rattle.rz_lists.specs.Lists.{list_of}
+use Rattle.rz_stmt_items.specs.Compile.{compile_of}
+use Rattle.rz_stmt_lists.specs.Lists.{list_of}
 use Rattle.rz_stmt.specs.Constants.{declare_of}
 use Rattle.rz_stmt.specs.Raw.{raw_of}
-use Rattle.rz_work.specs.Held.{work_of}
+use Rattle.rz_tools_work.specs.Held.{work_of}
 use Rattle.rz_tools.specs.Step.{tokens_at}
 use Rattle.rz_tools.proofs.Stepping.{compiled_told, declared_told, first_mark, lists_told, raw_told, stopped_told, within_at}
 use Rattle.rz_tools.proofs.step.step_at.Goals as goal

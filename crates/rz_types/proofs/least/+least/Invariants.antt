@@ -1,5 +1,5 @@
 use Rattle.std.proofs.Common.{◌≡◌, ◌+◌, ◌≤◌, drop, min}
-use Rattle.rz_fields.specs.Field.{plain_body, plain_cases}
+use Rattle.rz_types_fields.specs.Field.{plain_body, plain_cases}
 use Rattle.rz_types.specs.Readable.{least_case, least_widths}
 use Rattle.rz_types.proofs.LeastWidths.{least_or}
 use Rattle.rz_types.proofs.least.+least.Given as goal

@@ -1,6 +1,6 @@
 use Rattle.std.proofs.Common.{◌≡◌, drop}
-use Rattle.rz_fields.specs.Field.{plain_body}
-use Rattle.rz_fields.specs.Passed.{states}
+use Rattle.rz_types_fields.specs.Field.{plain_body}
+use Rattle.rz_types_fields.specs.Passed.{states}
 use Rattle.rz_types.specs.NameKey.{key_of}
 use Rattle.rz_types.proofs.name_key.states.Given as goal
 

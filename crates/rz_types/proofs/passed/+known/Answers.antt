@@ -1,8 +1,8 @@
 use Rattle.std.proofs.Common.{◌+◌, List, drop, ap, ◌∙◌}
 use Rattle.std.specs.List.{list_all}
-use Rattle.rz_fields.specs.Text.{argument_terms, arguments_of, part_terms, plain_argument, plain_arguments, plain_part, plain_parts, terms_in, text_terms}
-use Rattle.rz_fields.specs.declared.text.FormatArg.{FormatArg}
-use Rattle.rz_fields.specs.declared.text.TextPart.{TextPart}
+use Rattle.rz_types_fields.specs.Text.{argument_terms, arguments_of, part_terms, plain_argument, plain_arguments, plain_part, plain_parts, terms_in, text_terms}
+use Rattle.rz_types_fields.specs.declared.text.FormatArg.{FormatArg}
+use Rattle.rz_types_fields.specs.declared.text.TextPart.{TextPart}
 use Rattle.rz_types.specs.Notes.{known}
 use Rattle.rz_types.specs.Readable.{all_known}
 use Rattle.rz_types.proofs.Parts.{arguments_next, fails_here, holds_later, text_next}

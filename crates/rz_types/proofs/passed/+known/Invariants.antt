@@ -1,6 +1,6 @@
 use Rattle.std.proofs.Common.{◌≡◌, drop}
 use Rattle.std.specs.List.{list_all}
-use Rattle.rz_fields.specs.Text.{argument_terms, arguments_of, plain_arguments, plain_parts, text_terms}
+use Rattle.rz_types_fields.specs.Text.{argument_terms, arguments_of, plain_arguments, plain_parts, text_terms}
 use Rattle.rz_types.specs.Notes.{known}
 use Rattle.rz_types.specs.Readable.{all_known}
 use Rattle.rz_types.proofs.passed.+known.Given as goal

@@ -1,6 +1,6 @@
 use Rattle.std.proofs.Common.{◌≡◌, ◌+◌, ℕ, List, true, refl, drop, ap, ◌∙◌, rules, arith}
-use Rattle.rz_fields.specs.Field.{plain_body, plain_field}
-use Rattle.rz_fields.specs.declared.field.Field.{Field}
+use Rattle.rz_types_fields.specs.Field.{plain_body, plain_field}
+use Rattle.rz_types_fields.specs.declared.field.Field.{Field}
 use Rattle.rz_types.specs.Notes.{passed}
 use Rattle.rz_types.specs.Readable.{is_read}
 use Rattle.rz_types.proofs.Noted.{field_read, grew_more, row_read}

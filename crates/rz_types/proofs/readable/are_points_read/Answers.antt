@@ -2,9 +2,9 @@ use Rattle.std.proofs.Common.{List, Option, map, sym, ap, ◌∙◌}
 use Rattle.std.specs.Prelude.{option_map}
 use Rattle.rz_expr.specs.Term.{term_of}
 use Rattle.rz_expr.specs.declared.expr.Expr.{Expr}
-use Rattle.rz_fields.specs.Field.{plain_body}
-use Rattle.rz_fields.specs.Passed.{behind_pieces, is_known}
-use Rattle.rz_fields.specs.Piece.{integers}
+use Rattle.rz_types_fields.specs.Field.{plain_body}
+use Rattle.rz_types_fields.specs.Passed.{behind_pieces, is_known}
+use Rattle.rz_types_fields.specs.Piece.{integers}
 use Rattle.rz_types.specs.Notes.{passed}
 use Rattle.rz_types.specs.Readable.{are_pieces_read}
 use Rattle.rz_types.proofs.Noted.{free_known, free_read}

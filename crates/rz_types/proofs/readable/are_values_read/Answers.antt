@@ -1,8 +1,8 @@
 use Rattle.std.proofs.Common.{◌≡◌, ◌≤◌, List, true, length, sym, ap, ◌∙◌, rules, arith}
 use Rattle.std.proofs.lemmas.List.{drop_all}
 use Rattle.rz_expr.specs.declared.expr.Expr.{Expr}
-use Rattle.rz_fields.specs.Field.{plain_body}
-use Rattle.rz_fields.specs.Passed.{behind_pieces, is_known}
+use Rattle.rz_types_fields.specs.Field.{plain_body}
+use Rattle.rz_types_fields.specs.Passed.{behind_pieces, is_known}
 use Rattle.rz_types.specs.Notes.{passed}
 use Rattle.rz_types.proofs.Noted.{grew_more, number_known, number_read, pieces_with}
 use Rattle.rz_types.proofs.readable.are_values_read.Goals as goal

@@ -1,7 +1,7 @@
 use Rattle.std.proofs.Common.{List, sym, ap, ◌∙◌}
 use Rattle.std.specs.Prelude.{option_map}
 use Rattle.rz_expr.specs.Term.{term_of}
-use Rattle.rz_fields.specs.Field.{plain_body}
+use Rattle.rz_types_fields.specs.Field.{plain_body}
 use Rattle.rz_types.specs.NameKey.{key_of}
 use Rattle.rz_types.specs.Notes.{first_unknown, known, passed}
 use Rattle.rz_types.specs.declared.passed.Note.{Note}

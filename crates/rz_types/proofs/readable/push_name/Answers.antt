@@ -1,6 +1,6 @@
 use Rattle.std.proofs.Common.{Option, ◌||◌, sym, ap, ◌∙◌}
 use Rattle.rz_core.specs.declared.resource.Word.{Word}
-use Rattle.rz_fields.specs.Passed.{gives_count, Names}
+use Rattle.rz_types_fields.specs.Passed.{gives_count, Names}
 use Rattle.rz_types.specs.Notes.{known}
 use Rattle.rz_types.proofs.Noted.{known_more}
 use Rattle.rz_types.proofs.readable.push_name.Goals as goal

@@ -1,13 +1,13 @@
 use Rattle.std.proofs.Common.{◌≡◌, ◌+◌, ◌-◌, ◌≤◌, suc, drop, length}
 use Rattle.rz_bits.specs.View.{seen}
-use Rattle.rz_rows.specs.Spells.{values_in}
+use Rattle.rz_types_fields.specs.Spells.{values_in}
 use Rattle.rz_types.specs.Field.{plain_body, plain_cases}
 use Rattle.rz_unlay.specs.Came.{row_at}
 use Rattle.rz_unlay.specs.Cursor.{body_found, case_found, rows_at, rows_while}
-use Rattle.rz_pieces.specs.Few.{few}
+use Rattle.rz_unlay_pieces.specs.Few.{few}
 use Rattle.rz_unlay.specs.Few.{found_count, lines_count, rows_count}
-use Rattle.rz_pieces.specs.Fits.{AreFit, CasesFit}
-use Rattle.rz_pieces.specs.Names.{known, Grew}
+use Rattle.rz_unlay_pieces.specs.Fits.{AreFit, CasesFit}
+use Rattle.rz_unlay_pieces.specs.Names.{known, Grew}
 use Rattle.rz_unlay.proofs.FieldSteps.{with_lines, with_row}
 use Rattle.rz_unlay.proofs.fields.+read.Given as goal
 

@@ -1,16 +1,16 @@
 use Rattle.std.proofs.Common.{◌≤◌, Bool, List, IfSome, length, sym, ap, ◌∙◌, subst}
 use Rattle.std.specs.Prelude.{option_map}
 use Rattle.rz_bits.specs.View.{seen}
-use Rattle.rz_fields.specs.declared.field.Field.{Field}
+use Rattle.rz_types_fields.specs.declared.field.Field.{Field}
 use Rattle.rz_types.specs.Field.{plain_body}
 use Rattle.rz_types.specs.Passed.{outside}
 use Rattle.rz_unlay.specs.Came.{line_in, row_at}
 use Rattle.rz_unlay.specs.Cursor.{body_found, ended}
-use Rattle.rz_pieces.specs.Pieces.{names_inside}
-use Rattle.rz_pieces.specs.Few.{few}
+use Rattle.rz_unlay_pieces.specs.Pieces.{names_inside}
+use Rattle.rz_unlay_pieces.specs.Few.{few}
 use Rattle.rz_unlay.specs.Few.{line_count}
-use Rattle.rz_pieces.specs.Names.{known}
-use Rattle.rz_pieces.specs.Fits.{AreFit}
+use Rattle.rz_unlay_pieces.specs.Names.{known}
+use Rattle.rz_unlay_pieces.specs.Fits.{AreFit}
 use Rattle.rz_unlay.proofs.EndSteps.{ended_so, none_ended}
 use Rattle.rz_unlay.proofs.Fitting.{template_fits}
 use Rattle.rz_unlay.proofs.row.read_row.Goals as goal

@@ -1,4 +1,4 @@
-use Rattle.rz_table.specs.TypeTable.{table_of}
+use Rattle.rz_types_table.specs.TypeTable.{table_of}
 use Rattle.rz_tools.proofs.Rows.{known_so}
 use Rattle.rz_tools.proofs.shown.Known.of.Goals as goal
 

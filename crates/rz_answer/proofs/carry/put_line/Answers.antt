@@ -1,5 +1,0 @@
-use Rattle.rz_answer.proofs.Said.{said}
-use Rattle.rz_answer.proofs.carry.put_line.Goals as goal
-
-pub returns-then-not-is_empty : goal.returns-then-not-is_empty
-returns-then-not-is_empty g c = said _ _ _ _ _ c.put.result c.put.ensures.told c.put.ensures.cause

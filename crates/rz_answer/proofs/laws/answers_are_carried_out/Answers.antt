@@ -1,5 +1,0 @@
-use Rattle.rz_answer.proofs.Complete.{complete}
-use Rattle.rz_answer.proofs.laws.answers_are_carried_out.Goals as goal
-
-pub returns : goal.returns
-returns c = complete

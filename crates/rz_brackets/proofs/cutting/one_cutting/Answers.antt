@@ -1,5 +1,0 @@
-use Rattle.rz_brackets.proofs.Cut.{one_way}
-use Rattle.rz_brackets.proofs.cutting.one_cutting.Goals as goal
-
-pub returns : goal.returns
-returns c = one_way

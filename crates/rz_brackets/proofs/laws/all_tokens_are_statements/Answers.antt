@@ -1,6 +1,0 @@
-use Rattle.std.proofs.Common.{length, arith}
-use Rattle.rz_brackets.proofs.Cut.{some_way}
-use Rattle.rz_brackets.proofs.laws.all_tokens_are_statements.Goals as goal
-
-pub returns : goal.returns
-returns c tokens = some_way (length tokens) tokens (omega arith)

@@ -1,0 +1,143 @@
+ghost use Rattle.std.specs.Prelude.{◌≡◌, ℕ, ◌<◌, ◌≤◌, ◌^◌, [], length, IfOk};
+ghost use Rattle.std.specs.List.{AllByRecursion};
+ghost use Rattle.rz_core.specs.Message.{IsMarked, IsNameable};
+ghost use Rattle.rz_core.specs.Resources.{KeysDiffer};
+ghost use Rattle.rz_core.specs.Stop.{Gives, OnFault};
+ghost use Rattle.rz_fork.specs.Contents.{FitsFork};
+ghost use Rattle.rz_fork.specs.Image.{AreNamed};
+ghost use Rattle.rz_bridge_form.specs.Forms.{content_of};
+ghost use Rattle.rz_bridge_files.specs.Contents.{admit_fork, file_in, fork_in, form_or, GivesFork, IsFile};
+ghost use Rattle.rz_bridge_files.specs.Faults.{or_broken};
+
+use crate::fault::{fork_fault, form_fault};
+use rz_bridge::MacFile;
+use rz_bridge_form::{Form, form_of, read_form};
+use rz_core::{Bytes, Fault, Mark, Stop};
+use rz_fork::{ForkList, read_fork};
+use std::alloc::Global;
+
+/// The file in these bytes, fewer than 2^32, and in the data file beside them, which AppleDouble alone has; read in
+/// the form that is given, else in the one that [`form_of`] tells. A raw file is all of the bytes as they are, which
+/// takes no memory for them.
+///
+/// Refused at the mark with the first rule of its form that the file breaks: 421 to 427 of AppleDouble and MacBinary,
+/// 441 to 447 of BinHex. (RFC 1740, 1741; MacBinary II.)
+pub fn file_in(
+    alloc: Global,
+    form: Option<Form>,
+    bytes: Bytes,
+    data_file: Bytes,
+    mark: Option<Mark>,
+) -> Result<MacFile, Stop<Fault>>
+    requires { length bytes < 2 ^ 32 }
+    ensures file { Gives (file_in mark form bytes data_file) result }
+    ensures res_fork { IfOk result (λ file. IsFile file.res_fork) }
+    ensures nameable { (files : ℕ) → IsMarked files mark → OnFault result (IsNameable files) }
+{
+    let form = form_or(form, bytes.as_slice());
+    let file = content_of(alloc, form, bytes, data_file, mark)?;
+    is_file(file.res_fork.as_slice());
+    Ok(file)
+}
+
+/// The form that is given, else the one that the bytes have.
+fn form_or(form: Option<Form>, bytes: &[u8]) -> Form
+    ensures { result ≡ form_or form bytes.now }
+{
+    match form {
+        Some(form) => form,
+        None => form_of(bytes),
+    }
+}
+
+/// What bytes of a form hold. Those of a raw file become its resource fork.
+fn content_of(
+    alloc: Global,
+    form: Form,
+    bytes: Bytes,
+    data_file: Bytes,
+    mark: Option<Mark>,
+) -> Result<MacFile, Stop<Fault>>
+    requires { length bytes < 2 ^ 32 }
+    ensures file { Gives (or_broken mark (content_of form bytes data_file)) result }
+    ensures res_fork { IfOk result (λ file. length file.res_fork < 2 ^ 32) }
+    ensures nameable { (files : ℕ) → IsMarked files mark → OnFault result (IsNameable files) }
+{
+    if matches!(form, Form::Raw) {
+        let file = read_as(alloc, form, &[], &[], mark)?;
+        return Ok(MacFile {
+            res_fork: bytes,
+            ..file
+        });
+    }
+    read_as(alloc, form, bytes.as_slice(), data_file.as_slice(), mark)
+}
+
+/// What bytes of a form hold, copied.
+fn read_as(
+    alloc: Global,
+    form: Form,
+    bytes: &[u8],
+    data_file: &[u8],
+    mark: Option<Mark>,
+) -> Result<MacFile, Stop<Fault>>
+    requires { length bytes.now < 2 ^ 32 }
+    ensures file { Gives (or_broken mark (content_of form bytes.now data_file.now)) result }
+    ensures res_fork { IfOk result (λ file. length file.res_fork < 2 ^ 32) }
+    ensures nameable { (files : ℕ) → IsMarked files mark → OnFault result (IsNameable files) }
+{
+    match read_form(alloc, form, bytes, data_file) {
+        Ok(file) => Ok(file),
+        Err(Stop::Refused(fault)) => Err(Stop::Refused(form_fault(fault, mark))),
+        Err(Stop::NoMemory) => Err(Stop::NoMemory),
+    }
+}
+
+/// A law, which reads the bytes and does nothing with them.
+fn is_file(bytes: &[u8])
+    requires { length bytes.now < 2 ^ 32 }
+    ensures { IsFile bytes.now }
+{
+    let _count = bytes.len();
+}
+
+/// The resources of a fork, of fewer than 2^32 bytes.
+///
+/// Refused at the mark with the first rule that the fork breaks, 401 to 410, as [`read_fork`] says. (Inside Macintosh:
+/// More Macintosh Toolbox, Resource Manager, resource file format.)
+pub fn admit_fork(alloc: Global, fork: &[u8], mark: Option<Mark>) -> Result<ForkList, Stop<Fault>>
+    requires { length fork.now < 2 ^ 32 }
+    ensures fork { GivesFork (admit_fork mark fork.now) result }
+    ensures keys { IfOk result (λ fork. KeysDiffer [] fork.list) }
+    ensures bytes { IfOk result (λ fork. AllByRecursion FitsFork fork.list) }
+    ensures names { IfOk result (λ fork. AreNamed fork.list) }
+    ensures room { IfOk result (λ fork. length fork.reserved ≤ 240) }
+    ensures nameable { (files : ℕ) → IsMarked files mark → OnFault result (IsNameable files) }
+{
+    match read_fork(alloc, fork) {
+        Ok(fork) => Ok(fork),
+        Err(Stop::Refused(fault)) => Err(Stop::Refused(fork_fault(fault, mark))),
+        Err(Stop::NoMemory) => Err(Stop::NoMemory),
+    }
+}
+
+/// The resources of the file in these bytes, fewer than 2^32, as [`file_in`] reads it; nothing is asked of its data
+/// fork.
+///
+/// Refused at the mark as by [`file_in`], and then as by [`admit_fork`].
+pub fn fork_in(
+    alloc: Global,
+    form: Option<Form>,
+    bytes: Bytes,
+    mark: Option<Mark>,
+) -> Result<ForkList, Stop<Fault>>
+    requires { length bytes < 2 ^ 32 }
+    ensures fork { GivesFork (fork_in mark form bytes) result }
+    ensures keys { IfOk result (λ fork. KeysDiffer [] fork.list) }
+    ensures bytes { IfOk result (λ fork. AllByRecursion FitsFork fork.list) }
+    ensures names { IfOk result (λ fork. AreNamed fork.list) }
+    ensures nameable { (files : ℕ) → IsMarked files mark → OnFault result (IsNameable files) }
+{
+    let file = file_in(alloc, form, bytes, Bytes::new(alloc), mark)?;
+    admit_fork(alloc, file.res_fork.as_slice(), mark)
+}

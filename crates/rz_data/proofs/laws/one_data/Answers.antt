@@ -1,5 +1,0 @@
-use Rattle.rz_data.proofs.OneData.{one_raw}
-use Rattle.rz_data.proofs.laws.one_data.Goals as goal
-
-pub returns : goal.returns
-returns c = one_raw c.one_expression.ensures.expression c.pieces_are_cut.ensures.one c.pieces_are_cut.ensures.within

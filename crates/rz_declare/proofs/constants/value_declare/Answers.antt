@@ -1,6 +1,0 @@
-use Rattle.rz_flat.specs.Form.{declare_form}
-use Rattle.rz_declare.proofs.CanSay.{say_result}
-use Rattle.rz_declare.proofs.constants.value_declare.Goals as goal
-
-pub returns-clause-nameable : goal.returns-clause-nameable
-returns-clause-nameable c files within = say_result files c.args.mark within (declare_form c.args.stmt) c.value_parts.result c.value_parts.ensures

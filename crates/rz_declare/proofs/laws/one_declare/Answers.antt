@@ -1,5 +1,0 @@
-use Rattle.rz_declare.proofs.OneDeclare.{one_type_statement}
-use Rattle.rz_declare.proofs.laws.one_declare.Goals as goal
-
-pub returns : goal.returns
-returns c = one_type_statement c.one_expression.ensures.expression c.pieces_are_cut.ensures.one c.pieces_are_cut.ensures.within

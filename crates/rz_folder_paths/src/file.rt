@@ -1,0 +1,73 @@
+ghost use Rattle.std.specs.Prelude.{◌≡◌, ℕ, ◌<◌, ◌^◌, length, IfOk, IfSome, option_map};
+ghost use Rattle.rz_core.specs.Message.{IsMarked, IsNameable};
+ghost use Rattle.rz_folder.specs.OnlyReads.{OnlyReads};
+ghost use Rattle.rz_folder_paths.specs.Halt.{IsReadFault, IsUnrefused, OnRefusal, Yields};
+ghost use Rattle.rz_folder_paths.specs.Names.{bytes_of, file_of, missing_file};
+
+use crate::halt::Halt;
+use rz_core::{Bytes, Fault, FileNames, Kept, Mark, NoMemory};
+use rz_folder::{Folder, Read};
+use std::alloc::Global;
+
+/// The first of these names under which a file stands, and its bytes, fewer than 2^32. `None` comes where no file
+/// stands under any of them. No file changes.
+///
+/// A read fault comes only where the folder's count of read faults rose.
+pub fn find<'a, F: Folder>(
+    alloc: Global,
+    folder: &mut F,
+    names: &'a FileNames,
+) -> Result<Option<(&'a str, Bytes)>, Halt>
+    ensures found { IfSome (F.files folder.old) (λ files. IfOk result (λ found.
+        option_map (λ found. (found.0.now, found.1)) found ≡ file_of files names.now)) }
+    ensures short { IfOk result (λ found. IfSome found (λ found. length found.1 < 2 ^ 32)) }
+    ensures reads { OnlyReads F.files F.read_faults F.write_faults folder.old folder.new (IsReadFault result) }
+    ensures no_rule { IsUnrefused result }
+{
+    let mut k = 0;
+    while k < names.len() {
+        let name = names.at(k);
+        match folder.read(alloc, name) {
+            Read::Bytes(bytes) => return Ok(Some((name, bytes))),
+            Read::Missing => k += 1,
+            Read::Failed => return Err(Halt::ReadFault),
+            Read::NoMemory => return Err(Halt::NoMemory),
+        }
+    }
+    Ok(None)
+}
+
+/// The bytes of the first file that stands under one of these names, fewer than 2^32. No file changes.
+///
+/// Refused with 101 where no file stands under any of them, at the mark, keeping the name that is given for it. A
+/// read fault comes only where the folder's count of read faults rose. (MPW Rez.)
+pub fn read_file<F: Folder>(
+    alloc: Global,
+    folder: &mut F,
+    names: &FileNames,
+    mark: Mark,
+    kept: &[u8],
+) -> Result<Bytes, Halt>
+    ensures read { IfSome (F.files folder.old) (λ files.
+        Yields result (λ answer. answer ≡ bytes_of files names.now (missing_file (Some mark) kept.now))) }
+    ensures short { IfOk result (λ bytes. length bytes < 2 ^ 32) }
+    ensures nameable { (files : ℕ) → mark.file < files → OnRefusal result (IsNameable files) }
+    ensures reads { OnlyReads F.files F.read_faults F.write_faults folder.old folder.new (IsReadFault result) }
+{
+    match find(alloc, folder, names)? {
+        Some((_, bytes)) => Ok(bytes),
+        None => Err(Halt::Refused(missing_file(alloc, Some(mark), kept)?)),
+    }
+}
+
+/// 101 for a name, with the mark of the line that names it, where there is one.
+pub fn missing_file(alloc: Global, mark: Option<Mark>, name: &[u8]) -> Result<Fault, NoMemory>
+    ensures fault { IfOk result (λ fault. fault ≡ missing_file mark name.now) }
+    ensures nameable { (files : ℕ) → IsMarked files mark → IfOk result (IsNameable files) }
+{
+    Ok(Fault {
+        number: 101,
+        mark,
+        kept: Kept::Name(Bytes::of(alloc, name)?),
+    })
+}

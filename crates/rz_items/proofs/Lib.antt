@@ -1,9 +1,0 @@
-pub mod Alone
-pub mod Mirror
-pub mod First
-pub mod Each
-pub mod Answering
-pub mod OneCompile
-pub mod Within
-pub mod EveryItem
-pub mod EveryCompile

@@ -1,5 +1,0 @@
-use Rattle.rz_items.proofs.Within.{compile_within}
-use Rattle.rz_items.proofs.laws.items_are_within.Goals as goal
-
-pub returns : goal.returns
-returns c = compile_within

@@ -1,5 +1,0 @@
-use Rattle.rz_items.proofs.OneCompile.{one_compiled}
-use Rattle.rz_items.proofs.laws.one_compile.Goals as goal
-
-pub returns : goal.returns
-returns c = one_compiled c.one_expression.ensures.expression c.pieces_are_cut.ensures.one c.pieces_are_cut.ensures.within

@@ -1,5 +1,0 @@
-use Rattle.rz_pre.proofs.Freeing.{program_free}
-use Rattle.rz_pre.proofs.laws.live_names_are_free.Goals as goal
-
-pub returns : goal.returns
-returns c = program_free

@@ -1,0 +1,10 @@
+pub mod Chosen
+pub mod EveryAct
+pub mod EveryCondition
+pub mod EveryExpansion
+pub mod EveryProgram
+pub mod Expands
+pub mod Freeing
+pub mod LastOne
+pub mod Unclosed
+pub mod Unfolded

@@ -1,0 +1,3 @@
+pub mod Definitions
+pub mod Groups
+pub mod Unfolding

@@ -1,0 +1,104 @@
+-- Numbers and items as they are shown: examples that compute.
+use Rattle.std.proofs.Common.{◌≡◌, refl, ℕ, pos, negsuc, Bool, List, [], ◌∷◌, None, true, false}
+use Rattle.std.specs.Prelude.{codes, ℤ}
+use Rattle.rz_core.specs.Decimal.{decimal_of}
+use Rattle.std.specs.Fmt.{digits}
+use Rattle.std.specs.Int.{int_wrap}
+use Rattle.rz_core.specs.Numbers.{be}
+use Rattle.rz_types_fields.specs.declared.field.NumForm.{NumForm}
+use Rattle.rz_types_fields.specs.declared.field.NumForm.TheVariants as forms
+use Rattle.rz_types_fields.specs.declared.field.Radix.{Radix}
+use Rattle.rz_types_fields.specs.declared.field.Radix.TheVariants as radixes
+use Rattle.rz_types_fields.specs.declared.field.Symbol.{Symbol}
+use Rattle.rz_types.specs.Field.{PlainNumber}
+use Rattle.rz_show.specs.Number.{by_value, number_shown}
+use Rattle.rz_show.specs.Print.{block, by_name, in_binary, in_decimal, in_group, in_hex, in_literal, in_octal, in_text, list_lines, named_block, no_prints, pieces, print, single, single_written}
+use Rattle.rz_show.specs.Shown.{text_print}
+use Rattle.rz_show.specs.Written.{a_hex_text, line_text, lines_text, octal_count, written_text}
+
+abbrev field : NumForm → ℤ → Bool → Radix → List Symbol → PlainNumber
+field form width unsigned radix symbols = record { form = form; width = width; unsigned = unsigned; radix = radix; symbols = symbols; fixed = None; key = false }
+
+abbrev symbol : List ℕ → ℤ → Symbol
+symbol name value = record { name = record { bytes = name }; value = value }
+
+-- no name is a live macro
+abbrev none : List ℕ → Bool
+none name = false
+
+abbrev all : List ℕ → Bool
+all name = true
+
+byte_255 : by_value (field forms.Byte (pos 8) false radixes.Plain []) 255 ≡ in_decimal (negsuc 0)
+byte_255 = refl
+
+unsigned_255 : by_value (field forms.Byte (pos 8) true radixes.Plain []) 255 ≡ in_decimal (pos 255)
+unsigned_255 = refl
+
+least_long : by_value (field forms.Longint (pos 32) false radixes.Decimal []) 2147483648 ≡ in_decimal (negsuc 2147483647)
+least_long = refl
+
+three_bits : by_value (field forms.Bits (pos 3) false radixes.Plain []) 5 ≡ in_decimal (negsuc 2)
+three_bits = refl
+
+unsigned_hex : by_value (field forms.Bits (pos 5) true radixes.Hex []) 30 ≡ in_hex 2 30
+unsigned_hex = refl
+
+a_truth : by_value (field forms.Boolean (pos 1) false radixes.Hex []) 1 ≡ by_name (codes "true")
+a_truth = refl
+
+a_char : by_value (field forms.Char (pos 8) false radixes.Hex []) 65 ≡ in_text (65 ∷ [])
+a_char = refl
+
+hex_word : line_text (single_written (in_hex 3 171)) ≡ codes "0x0AB"
+hex_word = refl
+
+octal_word : line_text (single_written (in_octal 64)) ≡ codes "0100"
+unfolding octal_count
+octal_word = refl
+
+octal_zero : line_text (single_written (in_octal 0)) ≡ codes "0"
+unfolding octal_count
+octal_zero = refl
+
+binary_word : line_text (single_written (in_binary 5 6)) ≡ codes "0B00110"
+binary_word = refl
+
+first_symbol : number_shown none (field forms.Byte (pos 8) false radixes.Hex (symbol (codes "on") (pos 1) ∷ symbol (codes "ON") (pos 2) ∷ symbol (codes "full") (negsuc 0) ∷ [])) 255 ≡ by_name (codes "full")
+unfolding int_wrap
+first_symbol = refl
+
+later_symbol_of_a_name : number_shown none (field forms.Byte (pos 8) false radixes.Hex (symbol (codes "on") (pos 1) ∷ symbol (codes "ON") (pos 2) ∷ [])) 2 ≡ in_hex 2 2
+unfolding int_wrap
+later_symbol_of_a_name = refl
+
+hidden_symbol : number_shown all (field forms.Byte (pos 8) false radixes.Hex (symbol (codes "on") (pos 1) ∷ [])) 1 ≡ in_hex 2 1
+unfolding int_wrap
+hidden_symbol = refl
+
+hex_piece : written_text (a_hex_text (1 ∷ 2 ∷ 3 ∷ [])) ≡ codes "$\"0102 03\""
+hex_piece = refl
+
+empty_piece : lines_text (list_lines 1 (print (text_print true []) no_prints)) ≡ codes "    $\"\"\n"
+empty_piece = refl
+
+strings : lines_text (list_lines 1 (print (block (print (text_print false (codes "A")) (print (text_print false (codes "BC")) no_prints))) no_prints))
+    ≡ codes "    {\n        \"A\",\n        \"BC\"\n    }\n"
+strings = refl
+
+case_of_two : lines_text (list_lines 1 (print (single (in_group (pos 1 ∷ negsuc 1 ∷ []))) (print (named_block (codes "Button") (print (single (by_name (codes "on"))) no_prints)) no_prints)))
+    ≡ codes "    {1, -2},\n    Button {\n        on\n    }\n"
+unfolding decimal_of digits
+case_of_two = refl
+
+two_pieces : text_print true (0 ∷ 1 ∷ 2 ∷ 3 ∷ 4 ∷ 5 ∷ 6 ∷ 7 ∷ 8 ∷ 9 ∷ 10 ∷ 11 ∷ 12 ∷ 13 ∷ 14 ∷ 15 ∷ 16 ∷ [])
+    ≡ pieces true (0 ∷ 1 ∷ 2 ∷ 3 ∷ 4 ∷ 5 ∷ 6 ∷ 7 ∷ 8 ∷ 9 ∷ 10 ∷ 11 ∷ 12 ∷ 13 ∷ 14 ∷ 15 ∷ []) ((16 ∷ []) ∷ [])
+two_pieces = refl
+
+one_piece : text_print true (0 ∷ 1 ∷ 2 ∷ 3 ∷ 4 ∷ 5 ∷ 6 ∷ 7 ∷ 8 ∷ 9 ∷ 10 ∷ 11 ∷ 12 ∷ 13 ∷ 14 ∷ 15 ∷ [])
+    ≡ pieces true (0 ∷ 1 ∷ 2 ∷ 3 ∷ 4 ∷ 5 ∷ 6 ∷ 7 ∷ 8 ∷ 9 ∷ 10 ∷ 11 ∷ 12 ∷ 13 ∷ 14 ∷ 15 ∷ []) []
+one_piece = refl
+
+literal : by_value (field forms.Longint (pos 32) false radixes.Literal []) 1413829460 ≡ in_literal (84 ∷ 69 ∷ 83 ∷ 84 ∷ [])
+unfolding be
+literal = refl

@@ -1,0 +1,4 @@
+pub mod Page
+pub mod Short
+pub mod Statement
+pub mod Showable

@@ -1,0 +1,73 @@
+ghost use Rattle.std.specs.Prelude.{◌≡◌, ◌++◌, true, false, ℕ, List, Bool, map};
+ghost use Rattle.rz_lex.specs.declared.token.Shape.{Shape};
+ghost use Rattle.rz_show_laws.specs.Page.{AreCutBack, ArePrinted, IsPage};
+ghost use Rattle.rz_show.specs.Print.{list_lines, Prints};
+ghost use Rattle.rz_show.specs.Printable.{AreGood, AreOfBytes, SparesTruth};
+ghost use Rattle.rz_show.specs.Shown.{row_prints, row_uses};
+ghost use Rattle.rz_show.specs.Written.{line_shapes, lines_text, Written};
+ghost use Rattle.rz_types_fields.specs.declared.tree.Tree.{Tree};
+ghost use Rattle.rz_types_fields.specs.Row.{IsRow};
+ghost use Rattle.rz_types.specs.Field.{PlainBody};
+ghost use Rattle.rz_types.specs.Rules.{keeps_rules};
+ghost use Rattle.rz_types.specs.Shape.{is_well_shaped};
+ghost use Rattle.std.specs.List.{AllByRecursion};
+ghost use Rattle.rz_core.specs.declared.facts.Facts.{Facts};
+ghost use Rattle.rz_show_laws.specs.Short.{AreShortTexts};
+ghost use Rattle.rz_show.specs.Showing.{showings_text, Showing};
+ghost use Rattle.rz_show_laws.specs.Showable.{CanBeShown};
+ghost use Rattle.rz_show_laws.specs.Statement.{IsPrintedAs};
+ghost use Rattle.rz_types_fields.specs.Spells.{Spells};
+
+use rz_lex::{cut_back, lines_of_page};
+use rz_types::rules_hold_within;
+
+/// A law, with nothing to run: the items that are shown of a row, in front of others, may be written, and no word of
+/// them is a live macro. The row is one of fields that are well shaped and keep the rules; its texts are bytes;
+/// no case that it chooses has the name of a live macro, and `true` and `false` are none.
+pub fn printed_rows()
+    ensures { (hidden : List ℕ → Bool) (body : PlainBody) (row : List Tree) (more : Prints) → SparesTruth hidden
+        → is_well_shaped body ≡ true → keeps_rules body ≡ true → IsRow body row → AreOfBytes body row
+        → row_uses hidden body row ≡ false → AreGood hidden more → AreGood hidden (row_prints hidden body row more) }
+{
+    rules_hold_within();
+}
+
+/// A law, with nothing to run: the lines of such items are cut into the tokens that are meant, wherever they stand, and
+/// no live macro expands one of them.
+pub fn printed_lines()
+    ensures { (hidden : List ℕ → Bool) (depth : ℕ) (items : Prints) → AreGood hidden items → AreCutBack hidden (list_lines depth items) }
+{
+    cut_back();
+}
+
+/// A law, with nothing to run: lines that are cut into the tokens that are meant, in front of a page, are a page with it.
+pub fn printed_page()
+    ensures { (lines : List (List Written)) (text : List ℕ) (more : List (List Shape)) → ArePrinted lines → IsPage text more
+        → IsPage (lines_text lines ++ text) (map line_shapes lines ++ more) }
+{}
+
+/// A law, with nothing to run: the text of resources, each shown by its bytes or by a row of its type's fields, is lines
+/// that are cut into tokens, wherever it stands. Their words are those of statements, of attributes and of truth, and
+/// names that are no live macros. Tokens like these, whatever lines they stand on, are statements, one for each resource,
+/// within the limits of statements: the `data` statement with its type, id, name, attributes and bytes, or the `resource`
+/// statement with its type, id, name, attributes and items that fit the row. `true` and `false` are no live macros.
+pub fn shown_text()
+    ensures { (hidden : List ℕ → Bool) (list : List Showing) → SparesTruth hidden → AllByRecursion (CanBeShown hidden) list
+        → IsPrintedAs hidden (showings_text hidden list) list }
+{
+    cut_back();
+    lines_of_page();
+    rules_hold_within();
+    printed_rows();
+    printed_lines();
+    printed_page();
+}
+
+/// A law, with nothing to run: of a row that spells bytes no text without a size is longer than its length can say; and
+/// of one that spells them plainly the texts are bytes.
+pub fn spelled_texts()
+    ensures short { (plain : Bool) (known : Facts) (body : PlainBody) (row : List Tree) (bytes : List ℕ) → Spells plain known body row bytes
+        → AreShortTexts body row }
+    ensures bytes { (known : Facts) (body : PlainBody) (row : List Tree) (bytes : List ℕ) → Spells true known body row bytes
+        → AreOfBytes body row }
+{}

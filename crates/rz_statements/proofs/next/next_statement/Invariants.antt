@@ -1,9 +1,0 @@
-use Rattle.std.proofs.Common.{length}
-use Rattle.rz_statements.proofs.First.{IsOpen}
-use Rattle.rz_statements.proofs.next.next_statement.Given as goal
-
-abbrev pub invariant-loop-tokens : goal.invariant-loop-tokens
-invariant-loop-tokens l = IsOpen l.initial.reader l.tokens l.reader l.depth
-
-abbrev pub decreases-loop-tokens : goal.decreases-loop-tokens
-decreases-loop-tokens l = length l.reader

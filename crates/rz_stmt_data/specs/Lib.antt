@@ -1,0 +1,11 @@
+pub mod Files
+pub mod Texts
+pub mod Head
+pub mod Raw
+pub mod Steps
+pub use Rattle.rz_stmt_brackets.specs.Statements
+pub use Rattle.rz_stmt_brackets.specs.Pieces
+pub use Rattle.rz_stmt_brackets.specs.Bracket
+pub use Rattle.rz_stmt_brackets.specs.Kind
+pub use Rattle.rz_types_fields.specs.Place
+pub use Rattle.rz_types_fields.specs.Text

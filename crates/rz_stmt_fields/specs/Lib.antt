@@ -1,0 +1,15 @@
+pub mod Each
+pub mod Form
+pub mod FieldValue
+pub mod FieldWord
+pub mod FieldFront
+pub mod Symbols
+pub mod Held
+pub mod NumberField
+pub mod FieldForm
+pub mod Key
+pub use Rattle.rz_stmt_brackets.specs.Pieces
+pub use Rattle.rz_stmt_brackets.specs.Bracket
+pub use Rattle.rz_types_fields.specs.Text
+pub use Rattle.rz_types_fields.specs.Value
+pub use Rattle.rz_types_fields.specs.Range

@@ -1,0 +1,70 @@
+use Rattle.std.proofs.Common.{◌≡◌, suc, ◌+◌, ◌-◌, ◌<◌, List, drop, length, Err, sym, ap, subst, ◌∙◌, arith}
+use Rattle.std.proofs.lemmas.List.{length-map}
+use Rattle.std.specs.declared.result.Result.{Result}
+use Rattle.rz_core.specs.Stop.{Gives}
+use Rattle.rz_core.specs.declared.fault.Fault.{Fault}
+use Rattle.rz_stmt_items.specs.Item.{plain_item, plain_items, PlainItem}
+use Rattle.rz_stmt_items.specs.Line.{line_of}
+use Rattle.rz_stmt_items.specs.Matched.{case_matched, item_for, named_matched, row_matched, rows_matched}
+use Rattle.rz_stmt_items.proofs.Given.{array_is, array_refused, array_rows, braced, items_from, listed, named, row_given, row_refused}
+use Rattle.rz_stmt_items.proofs.Steps.{rows_behind}
+use Rattle.rz_types_fields.specs.declared.field.Field.TheViews.{out-ArrayField}
+use Rattle.rz_types_fields.specs.declared.tree.Tree.{Tree}
+use Rattle.rz_types.specs.Field.{plain_body, plain_cases, PlainField}
+use Rattle.rz_stmt_items.proofs.matching.+matching.Goals as goal
+
+pub array_for-returns-in-Ok : goal.array_for-returns-in-Ok
+array_for-returns-in-Ok t c =
+    let array = out-ArrayField c.args.array.now in
+    let is = ap plain_item c.in-List.is ∙ braced c.in-List.items c.in-List.mark in
+    let given = (λ i. rows_matched (row_matched c.args.facts.now (plain_body (sym c.as_slice.ensures i)) c.in-List.mark (plain_items (sym c.as_slice-in-List.ensures i)))
+    (length-map (sym c.as_slice-in-List.ensures i) plain_item i) 0 (plain_items (sym c.as_slice-in-List.ensures i))) ∙ c.in-Ok.ensures in
+    subst (λ (r : Result Tree Fault). Gives r c.counted.result)
+    (sym ((λ i. item_for c.args.facts.now (array_is c.args.array.now i) c.args.position (plain_item c.args.item.now))
+    ∙ array_rows c.args.facts.now array.name array.count (plain_body array.row) c.args.position (plain_item c.args.item.now) (plain_items c.in-List.items) c.in-List.mark is c.in-Ok.rows given))
+    c.counted.ensures
+
+pub array_for-returns-in-Err : goal.array_for-returns-in-Err
+array_for-returns-in-Err t c =
+    let array = out-ArrayField c.args.array.now in
+    let is = ap plain_item c.in-List.is ∙ braced c.in-List.items c.in-List.mark in
+    let same : rows_matched (row_matched c.args.facts.now (plain_body array.row) c.in-List.mark (plain_items c.in-List.items)) (length (plain_items c.in-List.items)) 0 (plain_items c.in-List.items)
+    ≡ rows_matched (row_matched c.args.facts.now (plain_body c.as_slice.result.now) c.in-List.mark (plain_items c.as_slice-in-List.result.now)) (length c.as_slice-in-List.result.now) 0
+    (plain_items c.as_slice-in-List.result.now) =
+    (λ i. rows_matched (row_matched c.args.facts.now (plain_body (sym c.as_slice.ensures i)) c.in-List.mark (plain_items (sym c.as_slice-in-List.ensures i)))
+    (length-map (sym c.as_slice-in-List.ensures i) plain_item i) 0 (plain_items (sym c.as_slice-in-List.ensures i))) in
+    subst (λ (field : PlainField). Gives (item_for c.args.facts.now field c.args.position (plain_item c.args.item.now)) (Err c.in-Err.stop)) (sym (array_is c.args.array.now))
+    (array_refused c.args.facts.now array.name array.count (plain_body array.row) c.args.position (plain_item c.args.item.now) (plain_items c.in-List.items) c.in-List.mark is c.in-Err.stop
+    (subst (λ (r : Result (List (List Tree)) Fault). Gives r (Err c.in-Err.stop)) (sym same) c.in-Err.ensures))
+
+pub choice_for-returns-in-Named : goal.choice_for-returns-in-Named
+choice_for-returns-in-Named t c =
+    let is = ap plain_item c.in-Named.is ∙ named c.in-Named.name c.in-Named.items c.in-Named.mark in
+    let same = ap plain_items c.as_slice.ensures ∙ sym (listed (plain_items c.in-Named.items)) in
+    subst (λ (item : PlainItem). Gives (named_matched c.args.position item (case_matched c.args.facts.now (plain_cases c.args.cases.now))) c.case_for.result) (sym is)
+    (subst (λ (xs : List PlainItem). Gives (case_matched c.args.facts.now (plain_cases c.args.cases.now) c.in-Named.mark c.in-Named.name.bytes xs) c.case_for.result) same
+    c.case_for.ensures)
+
+pub rows_for-returns-in-Err : goal.rows_for-returns-in-Err
+rows_for-returns-in-Err t c =
+    let items = plain_items c.args.items.now in
+    let row = row_matched c.args.facts.now (plain_body c.args.fields.now) c.args.place items in
+    let within : c.loop-turn.before < length c.args.items.now = omega (arith, c.if-before-items.false) in
+    let one : length c.args.items.now - c.loop-turn._turn ≡ suc (length c.args.items.now - (c.loop-turn._turn + 1)) = omega (arith, c.loop-turn-test.true) in
+    let first = items_from c.args.items.now c.loop-turn.before within in
+    row_refused row (rows_matched row (length c.args.items.now) 0 items) c.loop-turn.rows (length c.args.items.now - c.loop-turn._turn) (length c.args.items.now - (c.loop-turn._turn + 1))
+    c.loop-turn.before one (plain_items (drop c.loop-turn.before c.args.items.now)) first.0 (plain_items (drop (c.loop-turn.before + 1) c.args.items.now)) first.1 c.loop-turn.invariant
+    c.args.items.now c.in-Err.stop c.in-Err.ensures
+
+pub rows_for-loop-turn-preserved : goal.rows_for-loop-turn-preserved
+rows_for-loop-turn-preserved t c =
+    let items = plain_items c.args.items.now in
+    let row = row_matched c.args.facts.now (plain_body c.args.fields.now) c.args.place items in
+    let within : c.loop-turn.before < length c.args.items.now = omega (arith, c.if-before-items.false) in
+    let one : length c.args.items.now - c.loop-turn._turn ≡ suc (length c.args.items.now - (c.loop-turn._turn + 1)) = omega (arith, c.loop-turn-test.true) in
+    let first = items_from c.args.items.now c.loop-turn.before within in
+    subst (λ (rows : List (List Tree)). rows_behind rows (rows_matched row (length c.args.items.now - (c.loop-turn._turn + 1)) c.in-Ok.line.before
+    (plain_items (drop c.in-Ok.line.before c.args.items.now))) ≡ rows_matched row (length c.args.items.now) 0 items) (sym c.in_ok-push-in-Ok.ensures.ok)
+    (row_given row (rows_matched row (length c.args.items.now) 0 items) c.loop-turn.rows (length c.args.items.now - c.loop-turn._turn) (length c.args.items.now - (c.loop-turn._turn + 1))
+    c.loop-turn.before one (plain_items (drop c.loop-turn.before c.args.items.now)) first.0 (plain_items (drop (c.loop-turn.before + 1) c.args.items.now)) first.1 c.loop-turn.invariant
+    (line_of c.args.items.now c.in-Ok.line) c.in-Ok.ensures)

@@ -1,0 +1,11 @@
+pub mod Item
+pub mod Simple
+pub mod Items
+pub mod Places
+pub mod Compile
+pub mod Steps
+pub mod Fits
+pub mod Unfit
+pub mod Match
+pub mod Matched
+pub mod Line

@@ -1,0 +1,134 @@
+ghost use Rattle.std.specs.Prelude.{◌≡◌, ◌≤◌, IfOk, length, map, option_map, take};
+ghost use Rattle.rz_core.specs.Decided.{Decided};
+ghost use Rattle.rz_stmt_items.specs.Item.{items_of, plain_item, plain_items, Braced, Named};
+ghost use Rattle.rz_stmt_items.specs.Items.{name_before, name_in, stripped, AreBraced, AreItems, IsItem};
+
+use crate::item::{Item, Items};
+use crate::simple::read_simple;
+use rz_core::{Mark, NoMemory, Word};
+use rz_expr::role_of;
+use rz_lex::{Shape, Token};
+use rz_stmt_brackets::{Bracket, Divider, begins, bracketed, pieces_by};
+use std::alloc::Global;
+
+/// The items that the tokens are.
+#[cycle(items)]
+pub fn read_items(alloc: Global, tokens: &[Token]) -> Result<Option<Items>, NoMemory>
+    ensures { IfOk result (λ items. Decided (AreItems tokens.now) (option_map plain_items items)) }
+{
+    let pieces = pieces_by(alloc, tokens, Divider::Separator)?;
+    let mut items = Items::with_capacity(alloc, pieces.len())?;
+    for piece in stripped(&pieces) {
+        let Some(item) = read_item(alloc, piece)? else {
+            return Ok(None);
+        };
+        items.push(item)?;
+    }
+    Ok(Some(items))
+}
+
+/// The item that the tokens are.
+#[cycle(items)]
+fn read_item(alloc: Global, tokens: &[Token]) -> Result<Option<Item>, NoMemory>
+    ensures { IfOk result (λ item. Decided (IsItem tokens.now) (option_map plain_item item)) }
+{
+    let Some((first, behind)) = tokens.split_first() else {
+        return Ok(None);
+    };
+    if begins(tokens, Bracket::Curly) {
+        return Ok(listed(read_braced(alloc, tokens)?, first.mark));
+    }
+    match name_before(&first.shape, behind) {
+        Some(name) => {
+            let name = name.copy(alloc)?;
+            Ok(named(name, read_braced(alloc, behind)?, first.mark))
+        }
+        None => read_simple(alloc, first.mark, tokens),
+    }
+}
+
+/// The items in braces that the tokens are.
+#[cycle(items)]
+fn read_braced(alloc: Global, tokens: &[Token]) -> Result<Option<Items>, NoMemory>
+    ensures { IfOk result (λ items. Decided (AreBraced tokens.now) (option_map plain_items items)) }
+{
+    let Some(split) = bracketed(tokens, Bracket::Curly) else {
+        return Ok(None);
+    };
+    if split.behind.is_empty() {
+        read_items(alloc, split.front)
+    } else {
+        Ok(None)
+    }
+}
+
+/// Items in braces, as an item.
+fn listed(items: Option<Items>, mark: Mark) -> Option<Item>
+    ensures { option_map plain_item result ≡ option_map (λ items. Braced (items_of items) mark) (option_map plain_items items) }
+{
+    match items {
+        Some(items) => Some(Item::List(items, mark)),
+        None => None,
+    }
+}
+
+/// A name with items in braces behind it, as an item.
+fn named(name: Word, items: Option<Items>, mark: Mark) -> Option<Item>
+    ensures { option_map plain_item result ≡ option_map (λ items. Named name.bytes (items_of items) mark) (option_map plain_items items) }
+{
+    match items {
+        Some(items) => Some(Item::Named(name, items, mark)),
+        None => None,
+    }
+}
+
+/// The name that stands before items in braces.
+fn name_before<'a>(shape: &'a Shape, behind: &[Token]) -> Option<&'a Word>
+    ensures { option_map (λ name. name.now.bytes) result ≡ name_before shape.now behind.now }
+{
+    if begins(behind, Bracket::Curly) {
+        name_in(shape)
+    } else {
+        None
+    }
+}
+
+/// The name that a token is: that of a label, or of what is none.
+fn name_in(shape: &Shape) -> Option<&Word>
+    ensures { option_map (λ name. name.now.bytes) result ≡ name_in shape.now }
+{
+    match shape {
+        Shape::Word(word) => {
+            if role_of(word).is_name() {
+                Some(word)
+            } else {
+                None
+            }
+        }
+        _ => None,
+    }
+}
+
+/// The pieces without the last of them, where that is empty.
+fn stripped<'a, 'b>(pieces: &'b [&'a [Token]]) -> &'b [&'a [Token]]
+    ensures { map (λ piece. piece.now) result.now ≡ stripped (map (λ piece. piece.now) pieces.now) }
+{
+    pieces.split_at(kept(pieces)).0
+}
+
+/// How many pieces there are without the last of them, where that is empty.
+fn kept(pieces: &[&[Token]]) -> usize
+    ensures kept { map (λ piece. piece.now) (take result pieces.now) ≡ stripped (map (λ piece. piece.now) pieces.now) }
+    ensures within { result ≤ length pieces.now }
+{
+    match pieces.split_last() {
+        Some((last, before)) => {
+            if last.is_empty() {
+                before.len()
+            } else {
+                pieces.len()
+            }
+        }
+        None => 0,
+    }
+}

@@ -1,0 +1,58 @@
+ghost use Rattle.std.specs.Prelude.{◌≡◌, IfOk, option_map};
+ghost use Rattle.rz_core.specs.Decided.{Decided};
+ghost use Rattle.rz_stmt_lists.specs.Change.{change_of, IsChange};
+
+use crate::brackets::maybe_bracketed;
+use crate::pick::{PickExpr, read_picked};
+use crate::renaming::read_renaming;
+use rz_core::{NoMemory, OsType};
+use rz_expr::{Keyword, is_keyword, one_expression};
+use rz_lex::Token;
+use rz_stmt_brackets::{kind_in, pieces_are_cut};
+use rz_stmt_data::HeadExpr;
+use std::alloc::Global;
+
+/// A `change` statement. (MPW Rez.)
+#[derive(Debug, Drop)]
+pub struct ChangeStmt {
+    /// The type.
+    pub kind: OsType,
+    /// Which resources of the type change.
+    pub pick: PickExpr,
+    /// The type that they get.
+    pub new_kind: OsType,
+    /// The head that the one that is picked gets.
+    pub head: Option<HeadExpr>,
+}
+
+/// The `change` statement that the tokens are, where they are one. (MPW Rez.)
+pub fn read_change(alloc: Global, tokens: &[Token]) -> Result<Option<ChangeStmt>, NoMemory>
+    ensures { IfOk result (λ stmt. Decided (IsChange tokens.now) (option_map change_of stmt)) }
+{
+    one_expression();
+    pieces_are_cut();
+    let [word, kind, behind @ ..] = tokens else {
+        return Ok(None);
+    };
+    if !is_keyword(word, Keyword::Change) {
+        return Ok(None);
+    }
+    let Some(code) = kind_in(kind) else {
+        return Ok(None);
+    };
+    let Some(maybe) = maybe_bracketed(behind) else {
+        return Ok(None);
+    };
+    let Some(pick) = read_picked(alloc, maybe.inside)? else {
+        return Ok(None);
+    };
+    match read_renaming(alloc, Keyword::To, &pick, maybe.behind)? {
+        Some(new) => Ok(Some(ChangeStmt {
+            kind: OsType { code },
+            pick,
+            new_kind: new.kind,
+            head: new.head,
+        })),
+        None => Ok(None),
+    }
+}

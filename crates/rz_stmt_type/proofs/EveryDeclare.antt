@@ -1,0 +1,218 @@
+-- Of all tokens it is decided which `type` statement they are.
+use Rattle.std.proofs.Common.{◌≡◌, ℕ, Bool, true, false, List, [], ◌∷◌, Option, Some, None, refl, sym, ap, subst, ◌∙◌}
+use Rattle.std.proofs.Math.Decide.{map_dec}
+use Rattle.rz_core.proofs.EveryCut.{all_three, answer_of, both, is_true, some_of}
+use Rattle.rz_core.specs.Decided.{Decided}
+use Rattle.rz_stmt_brackets.specs.Bracket.{begins, IsBracketed}
+use Rattle.rz_stmt_brackets.specs.Kind.{kind_in}
+use Rattle.rz_stmt_brackets.specs.Pieces.{AreCut, Parted}
+use Rattle.rz_stmt_brackets.specs.Statements.{is_empty}
+use Rattle.rz_stmt_brackets.specs.declared.bracket.Bracket.TheVariants.{Curly, Round}
+use Rattle.rz_stmt_brackets.specs.declared.pieces.Divider.TheVariants.{Colon}
+use Rattle.rz_stmt_data.proofs.EveryData.{same_tokens}
+use Rattle.rz_stmt_data.specs.Texts.{IsText}
+use Rattle.rz_stmt_type.proofs.EveryBody.{has_body, HasBody}
+use Rattle.rz_stmt_type.proofs.EveryFlat.{of_brackets, of_pieces, Decides}
+use Rattle.rz_stmt_type.proofs.MadeSo.{any_back, any_forth, copy_back, copy_forth, fields_back, fields_forth, ids_back, ids_forth}
+use Rattle.rz_stmt_type.specs.Declare.{AreIds, IsDeclare, IsMade, IsScope, IsScoped}
+use Rattle.rz_stmt_type.specs.DeclareSteps.{AreScoped, IsCopy, IsCopyId, IsCopyIdBy}
+use Rattle.rz_expr.proofs.OneTerm.{OneExpression}
+use Rattle.rz_expr.specs.Constant.{IsConstant}
+use Rattle.rz_expr.specs.Keyword.{is_keyword}
+use Rattle.rz_expr.specs.Term.{Term}
+use Rattle.rz_expr.specs.declared.keyword.Keyword.TheVariants as keywords
+use Rattle.rz_types_fields.specs.declared.place.TextPlace.{TextPlace}
+use Rattle.rz_stmt_fields.proofs.EveryTerm.{EveryExpression, EveryWithin}
+use Rattle.rz_stmt_fields.proofs.EveryValue.{has_constant, HasTerm}
+use Rattle.rz_stmt_fields.specs.FieldForm.{IsFieldFront}
+use Rattle.rz_stmt_fields.specs.FieldFront.{IsFront}
+use Rattle.rz_stmt_fields.specs.FieldValue.{IsFieldExpression}
+use Rattle.rz_stmt_fields.specs.FieldWord.{FieldFront}
+use Rattle.rz_stmt_fields.specs.Form.{Any, CopyOf, DeclareForm, FieldForm, Fields, MadeForm, One, ScopeForm, Two}
+use Rattle.rz_stmt_fields.specs.Key.{IsKey}
+use Rattle.rz_lex.specs.declared.token.Token.{Token}
+
+no_tokens : (x y : Token) (us : List Token) → [] ≡ x ∷ y ∷ us → ⊥
+no_tokens x y us is = cc is
+
+one_token : (a x y : Token) (us : List Token) → a ∷ [] ≡ x ∷ y ∷ us → ⊥
+one_token a x y us is = cc is
+
+abbrev HasScope : List Token → Type 0
+HasScope tokens = (scope : ScopeForm) × IsScope tokens scope
+
+abbrev HasIds : List (List Token) → Type 0
+HasIds pieces = (scope : ScopeForm) × AreIds pieces scope
+
+abbrev HasCopyIdBy : Bool → List Token → Type 0
+HasCopyIdBy ends tokens = (id : Option Term) × IsCopyIdBy ends tokens id
+
+abbrev HasCopyId : List Token → Type 0
+HasCopyId tokens = (id : Option Term) × IsCopyId tokens id
+
+abbrev HasCopy : List Token → Type 0
+HasCopy tokens = (made : MadeForm) × IsCopy tokens made
+
+abbrev HasMade : List Token → Type 0
+HasMade tokens = (made : MadeForm) × IsMade tokens made
+
+abbrev HasScoped : List Token → Type 0
+HasScoped tokens = (parts : ScopeForm × MadeForm) × AreScoped tokens parts
+
+abbrev HasDeclare : List Token → Type 0
+HasDeclare tokens = (form : DeclareForm) × IsDeclare tokens form
+
+-- an id, or fields, and the `;` that ends the statement
+abbrev IdAndEnd : Parted → Type 0
+IdAndEnd parted = (is_empty parted.behind ≡ true) × HasTerm IsConstant parted.front
+
+abbrev FieldsAndEnd : Parted → Type 0
+FieldsAndEnd parted = (is_empty parted.behind ≡ true) × HasBody false parted.front
+
+module _ (one : OneExpression) (expression : EveryExpression) (within : EveryWithin) where
+  -- Ids.
+
+  has_ids : (pieces : List (List Token)) → Dec (HasIds pieces)
+  has_ids [] = no (λ h. h.1)
+  has_ids (id ∷ []) = map_dec to from (has_constant one expression id)
+    where
+      to : HasTerm IsConstant id → HasIds (id ∷ [])
+      to h = (One h.0, (h.0, h.1, refl))
+
+      from : HasIds (id ∷ []) → HasTerm IsConstant id
+      from h = (h.1.0, h.1.1)
+  has_ids (first ∷ last ∷ []) = map_dec to from (both (has_constant one expression first) (has_constant one expression last))
+    where
+      to : HasTerm IsConstant first × HasTerm IsConstant last → HasIds (first ∷ last ∷ [])
+      to (a, b) = (Two a.0 b.0, (a.0, b.0, a.1, b.1, refl))
+
+      from : HasIds (first ∷ last ∷ []) → HasTerm IsConstant first × HasTerm IsConstant last
+      from h = ((h.1.0, h.1.2), (h.1.1, h.1.3))
+  has_ids (first ∷ last ∷ other ∷ others) = no (λ h. h.1)
+
+  has_scope : (tokens : List Token) → Dec (HasScope tokens)
+  has_scope tokens = map_dec to from (of_pieces Colon tokens HasIds (λ pieces are. has_ids pieces))
+    where
+      to : (pieces : List (List Token)) × AreCut Colon tokens pieces × HasIds pieces → HasScope tokens
+      to (pieces, are, ids) = (ids.0, (pieces, are, ids.1))
+
+      from : HasScope tokens → (pieces : List (List Token)) × AreCut Colon tokens pieces × HasIds pieces
+      from h = (h.1.0, h.1.1, (h.0, h.1.2))
+
+  -- Copies.
+
+  copy_id_by : (ends : Bool) (tokens : List Token) → Dec (HasCopyIdBy ends tokens)
+  copy_id_by true tokens = yes (None, refl)
+  copy_id_by false tokens =
+      map_dec to from (of_brackets within Round tokens IdAndEnd (λ parted brackets. both (is_true (is_empty parted.behind)) (has_constant one expression parted.front)))
+    where
+      to : (parted : Parted) × IsBracketed Round tokens parted × IdAndEnd parted → HasCopyIdBy false tokens
+      to (parted, brackets, (ends, id)) = (Some id.0, (parted, id.0, brackets, ends, id.1, refl))
+
+      from : HasCopyIdBy false tokens → (parted : Parted) × IsBracketed Round tokens parted × IdAndEnd parted
+      from h = (h.1.0, h.1.2, (h.1.3, (h.1.1, h.1.4)))
+
+  has_copy : (tokens : List Token) → Dec (HasCopy tokens)
+  has_copy [] = no (λ h. no_tokens h.1.word h.1.kind h.1.behind h.1.are)
+  has_copy (token ∷ []) = no (λ h. one_token token h.1.word h.1.kind h.1.behind h.1.are)
+  has_copy (word ∷ kind ∷ behind) =
+      map_dec to from (all_three (is_true (is_keyword keywords.As word.shape)) (some_of (kind_in kind.shape)) (copy_id_by (is_empty behind) behind))
+    where
+      to : (is_keyword keywords.As word.shape ≡ true) × ((code : ℕ) × (kind_in kind.shape ≡ Some code)) × HasCopyId behind → HasCopy (word ∷ kind ∷ behind)
+      to (is, code, id) = (
+        CopyOf code.0 id.0,
+        record {
+          word = word;
+          kind = kind;
+          behind = behind;
+          code = code.0;
+          id = id.0;
+          are = refl;
+          is_word = is;
+          has_kind = code.1;
+          has_id = id.1;
+          made_so = refl;
+        },
+      )
+
+      from : HasCopy (word ∷ kind ∷ behind) → (is_keyword keywords.As word.shape ≡ true) × ((code : ℕ) × (kind_in kind.shape ≡ Some code)) × HasCopyId behind
+      from h =
+          let same = same_tokens word kind h.1.word h.1.kind behind h.1.behind h.1.are in (
+            ap (λ (t : Token). is_keyword keywords.As t.shape) same.0 ∙ h.1.is_word,
+            (h.1.code, ap (λ (t : Token). kind_in t.shape) same.1 ∙ h.1.has_kind),
+            (h.1.id, subst (λ (ts : List Token). IsCopyId ts h.1.id) (sym same.2) h.1.has_id),
+          )
+
+  module _ (text : (place : TextPlace) → Decides (IsText place)) (front : Decides IsFront)
+      (field : (front : FieldFront) → (answer : Option FieldForm) × Decided (IsFieldFront front) answer) (keys : Decides IsKey)
+      (size : Decides IsFieldExpression) where
+    -- What the type is.
+
+    has_made : (tokens : List Token) → Dec (HasMade tokens)
+    has_made tokens = by (begins Curly tokens) refl
+      where
+        by : (curly : Bool) → begins Curly tokens ≡ curly → Dec (HasMade tokens)
+        by true begin =
+            map_dec to from (of_brackets within Curly tokens FieldsAndEnd
+            (λ parted brackets. both (is_true (is_empty parted.behind)) (has_body one expression within text front field keys size false parted.front)))
+          where
+            to : (parted : Parted) × IsBracketed Curly tokens parted × FieldsAndEnd parted → HasMade tokens
+            to (parted, brackets, (ends, body)) = (Fields body.0, fields_forth tokens (Fields body.0) (parted, body.0, brackets, ends, body.1, refl))
+
+            from : HasMade tokens → (parted : Parted) × IsBracketed Curly tokens parted × FieldsAndEnd parted
+            from h = let it = fields_back tokens begin h.0 h.1 in (it.0, it.2, (it.3, (it.1, it.4)))
+        by false begin = map_dec to from (has_copy tokens)
+          where
+            to : HasCopy tokens → HasMade tokens
+            to h = (h.0, copy_forth tokens h.0 h.1)
+
+            from : HasMade tokens → HasCopy tokens
+            from h = (h.0, copy_back tokens begin h.0 h.1)
+
+    -- For which ids.
+
+    has_scoped : (tokens : List Token) → Dec (HasScoped tokens)
+    has_scoped tokens = by (begins Round tokens) refl
+      where
+        by : (round : Bool) → begins Round tokens ≡ round → Dec (HasScoped tokens)
+        by true begin =
+            map_dec to from (of_brackets within Round tokens (λ parted. HasScope parted.front × HasMade parted.behind)
+            (λ parted brackets. both (has_scope parted.front) (has_made parted.behind)))
+          where
+            to : (parted : Parted) × IsBracketed Round tokens parted × (HasScope parted.front × HasMade parted.behind) → HasScoped tokens
+            to (parted, brackets, (scope, made)) =
+                ((scope.0, made.0), ids_forth tokens (scope.0, made.0) (parted, scope.0, made.0, brackets, scope.1, made.1, refl))
+
+            from : HasScoped tokens → (parted : Parted) × IsBracketed Round tokens parted × (HasScope parted.front × HasMade parted.behind)
+            from h = let it = ids_back tokens begin h.0 h.1 in (it.0, it.3, ((it.1, it.4), (it.2, it.5)))
+        by false begin = map_dec to from (has_made tokens)
+          where
+            to : HasMade tokens → HasScoped tokens
+            to made = ((Any, made.0), any_forth tokens (Any, made.0) (made.0, made.1, refl))
+
+            from : HasScoped tokens → HasMade tokens
+            from h = let it = any_back tokens begin h.0 h.1 in (it.0, it.1)
+
+    -- The statement.
+
+    has_declare : (tokens : List Token) → Dec (HasDeclare tokens)
+    has_declare [] = no (λ h. no_tokens h.1.word h.1.kind h.1.behind h.1.are)
+    has_declare (token ∷ []) = no (λ h. one_token token h.1.word h.1.kind h.1.behind h.1.are)
+    has_declare (word ∷ kind ∷ behind) = map_dec to from (all_three (is_true (is_keyword keywords.Kind word.shape)) (some_of (kind_in kind.shape)) (has_scoped behind))
+      where
+        to : (is_keyword keywords.Kind word.shape ≡ true) × ((code : ℕ) × (kind_in kind.shape ≡ Some code)) × HasScoped behind → HasDeclare (word ∷ kind ∷ behind)
+        to (is, code, scoped) = (
+          record { kind = code.0; scope = scoped.0.0; made = scoped.0.1 },
+          record { word = word; kind = kind; behind = behind; are = refl; is_word = is; has_kind = code.1; scoped = scoped.1 },
+        )
+
+        from : HasDeclare (word ∷ kind ∷ behind) → (is_keyword keywords.Kind word.shape ≡ true) × ((code : ℕ) × (kind_in kind.shape ≡ Some code)) × HasScoped behind
+        from h =
+            let same = same_tokens word kind h.1.word h.1.kind behind h.1.behind h.1.are in (
+              ap (λ (t : Token). is_keyword keywords.Kind t.shape) same.0 ∙ h.1.is_word,
+              (h.0.kind, ap (λ (t : Token). kind_in t.shape) same.1 ∙ h.1.has_kind),
+              ((h.0.scope, h.0.made), subst (λ (ts : List Token). IsScoped ts h.0.scope h.0.made) (sym same.2) h.1.scoped),
+            )
+
+    pub every_declare : (tokens : List Token) → (answer : Option DeclareForm) × Decided (IsDeclare tokens) answer
+    every_declare tokens = answer_of (IsDeclare tokens) (has_declare tokens)

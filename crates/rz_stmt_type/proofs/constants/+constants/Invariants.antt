@@ -1,0 +1,18 @@
+use Rattle.std.proofs.Common.{◌≡◌, ◌++◌, map}
+use Rattle.rz_stmt_type.specs.Constants.{body_value, cases_value}
+use Rattle.rz_stmt_fields.specs.Form.{body_form, cases_form}
+use Rattle.rz_types_fields.specs.Field.{field_and, plain_case, plain_field}
+use Rattle.rz_stmt_type.proofs.Bodies.{so_far, with_case}
+use Rattle.rz_stmt_type.proofs.constants.+constants.Given as goal
+
+abbrev pub invariant-value_body-loop-field : goal.invariant-value_body-loop-field
+invariant-value_body-loop-field l = record {
+  done : body_value l.mark (body_form l.fn.fields) ≡ so_far field_and (map plain_field l.body) (body_value l.mark (body_form l.field-iterator.rest.items));
+  rest : l.fn.fields ≡ l.yielded ++ l.field-iterator.rest.items;
+}
+
+abbrev pub invariant-value_cases-loop-case : goal.invariant-value_cases-loop-case
+invariant-value_cases-loop-case l = record {
+  done : cases_value l.mark (cases_form l.fn.cases) ≡ so_far with_case (map plain_case l.made) (cases_value l.mark (cases_form l.case-iterator.rest.items));
+  rest : l.fn.cases ≡ l.yielded ++ l.case-iterator.rest.items;
+}

@@ -1,5 +1,0 @@
-use Rattle.rz_table.proofs.Places.{others}
-use Rattle.rz_table.proofs.laws.others_are_found_as_before.Goals as goal
-
-pub returns : goal.returns
-returns c = others

@@ -1,5 +1,0 @@
-use Rattle.rz_table.proofs.Places.{stay_different}
-use Rattle.rz_table.proofs.laws.places_stay_different.Goals as goal
-
-pub returns : goal.returns
-returns c = stay_different

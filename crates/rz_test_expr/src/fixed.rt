@@ -1,0 +1,117 @@
+ghost use Rattle.std.specs.Prelude.{◌≡◌, ◌+◌, ◌^◌, ◌<◌, ◌≤◌, pos, ◌+ℤ◌, option_map};
+ghost use Rattle.std.specs.Str.{str_eq_ignore_ascii_case};
+ghost use Rattle.std.proofs.Common.{rules};
+ghost use Rattle.rz_test_expr.specs.Fixed.{bits_of, fixed_bits, fixed_sight, natural_bits};
+
+use rz_core::Word;
+use rz_expr::{Env, FactWord};
+
+/// The bits that are there, the first of them highest: the bytes A5, 7F, 80 and 3C.
+const BITS: u64 = 0xA57F_803C;
+
+/// What expressions see in tests: some names and arrays, 32 bits, and each fact by its position among the
+/// facts.
+pub struct Fixed;
+
+impl Env for Fixed {
+    ghost view = { λ _. fixed_sight };
+
+    ghost belongs = { λ _ finished. finished ≡ fixed_sight };
+
+    fn place(&self, name: &Word) -> Option<i32> {
+        let name = name.bytes.as_slice();
+        if is(b"start", name) {
+            Some(0)
+        } else if is(b"here", name) {
+            Some(8)
+        } else if is(b"far", name) {
+            Some(i32::MAX)
+        } else if is(b"low", name) {
+            Some(i32::MIN)
+        } else if is(b"true", name) {
+            Some(1)
+        } else if is(b"false", name) {
+            Some(0)
+        } else if is(b"locked", name) {
+            Some(16)
+        } else {
+            None
+        }
+    }
+
+    fn count(&self, name: &Word) -> Option<i32> {
+        let name = name.bytes.as_slice();
+        if is(b"rows", name) {
+            Some(5)
+        } else if is(b"true", name) {
+            Some(7)
+        } else {
+            None
+        }
+    }
+
+    fn bits(&self, name: &Word, start: i32, width: i32) -> Option<u32> {
+        match self.place(name) {
+            Some(place) => bits_at(first_bit(place, start), width),
+            None => None,
+        }
+    }
+
+    fn fact(&self, which: FactWord) -> i32 {
+        match which {
+            FactWord::Id => 1,
+            FactWord::Kind => 2,
+            FactWord::Attributes => 3,
+            FactWord::Year => 4,
+            FactWord::Month => 5,
+            FactWord::Day => 6,
+            FactWord::Hour => 7,
+            FactWord::Minute => 8,
+            FactWord::Second => 9,
+            FactWord::Weekday => 10,
+        }
+    }
+
+    ghost law = { Prim.search rules };
+}
+
+/// The first bit, so far after a place.
+fn first_bit(place: i32, start: i32) -> i64
+    ensures { result ≡ place +ℤ start }
+{
+    i64::from(place) + i64::from(start)
+}
+
+/// The number in so many bits from a bit on, where they are there.
+fn bits_at(first: i64, width: i32) -> Option<u32>
+    ensures { option_map (λ number. pos number) result ≡ fixed_bits first width }
+{
+    if first < 0 {
+        return None;
+    }
+    natural_bits(first.unsigned_abs(), u64::from(width.unsigned_abs()))
+}
+
+fn natural_bits(first: u64, width: u64) -> Option<u32>
+    requires { first + width < 2 ^ 64 }
+    ensures { option_map (λ number. pos number) result ≡ natural_bits first width }
+{
+    if first + width > 32 {
+        return None;
+    }
+    Some(bits_of(first, width))
+}
+
+fn bits_of(first: u64, width: u64) -> u32
+    requires { first + width ≤ 32 }
+    ensures { result ≡ bits_of first width }
+{
+    (BITS / 2_u64.pow((32 - first - width) as u32) % 2_u64.pow(width as u32)) as u32
+}
+
+/// Whether a name is this word, in whatever case.
+fn is(word: &[u8], name: &[u8]) -> bool
+    ensures { result ≡ str_eq_ignore_ascii_case name.now word.now }
+{
+    name.eq_ignore_ascii_case(word)
+}

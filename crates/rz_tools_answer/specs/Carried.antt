@@ -1,0 +1,76 @@
+-- How a run ends that carries out an answer, and what it leaves.
+use Rattle.std.specs.Prelude.{◌≡◌, ℕ, ◌++◌, List, ◌∷◌, IfSome, IsSomeAnd}
+use Rattle.std.specs.declared.option.Option.TheVariants.{Some}
+use Rattle.std.specs.FinMap as map
+use Rattle.rz_tools_answer.specs.Answer.{files_after, Answer, Write}
+use Rattle.rz_tools_answer.specs.Message.{no_memory_line, read_fault_line, write_fault_line}
+use Rattle.rz_tools_answer.specs.World.{GotFront, ReadFailed, Says, World, WriteFailed}
+use Rattle.rz_tools_answer.specs.declared.outcome.Outcome.{Outcome}
+use Rattle.rz_tools_answer.specs.declared.outcome.Outcome.TheVariants.{Done, Usage, Refused, ReadFault, WriteFault, NoMemory}
+
+-- What an outcome leaves.
+
+-- nothing is written
+pub record IsUntouched (before after : World) : Type 0 where
+  pub files : after.files ≡ before.files
+  pub out : after.out ≡ before.out
+
+-- each file is written, and the text
+pub record IsWritten (writes : List Write) (text : List ℕ) (before after : World) : Type 0 where
+  pub files : IfSome before.files (λ files. after.files ≡ Some (files_after writes files))
+  pub out : IfSome before.out (λ out. after.out ≡ Some (out ++ text))
+
+-- the write of one file failed: those before it are written, its name may hold anything, and all else is as before
+pub record IsCutAt (done : List Write) (one : Write) (before after : World) : Type 0 where
+  pub files : IfSome before.files (λ files. IsSomeAnd after.files (λ left. map.remove left one.name ≡ map.remove (files_after done files) one.name))
+  pub out : after.out ≡ before.out
+
+-- a write failed: of one of the files, or, after all of them, of the text, of which the output then has a front
+pub data IsPartlyWritten (writes : List Write) (text : List ℕ) (before after : World) : Type 0 where
+  at_file : (done : List Write) (one : Write) (rest : List Write) → writes ≡ done ++ one ∷ rest → IsCutAt done one before after
+      → IsPartlyWritten writes text before after
+  at_text : IfSome before.files (λ files. after.files ≡ Some (files_after writes files)) → IfSome before.out (λ out. GotFront text out after.out)
+      → IsPartlyWritten writes text before after
+
+-- How a run ends that carries out this answer, why, and what it leaves.
+abbrev pub Ends : Answer → World → World → Outcome → Type 0
+Ends answer before after Done = (answer.outcome ≡ Done) × IsWritten answer.writes answer.out before after
+Ends answer before after (Usage fault) = (answer.outcome ≡ Usage fault) × IsUntouched before after
+Ends answer before after (Refused fault) = (answer.outcome ≡ Refused fault) × IsUntouched before after
+Ends answer before after ReadFault = ReadFailed before after × IsUntouched before after
+Ends answer before after WriteFault = (answer.outcome ≡ Done) × WriteFailed before after × IsPartlyWritten answer.writes answer.out before after
+Ends answer before after NoMemory = IsUntouched before after
+
+-- what is said: the answer's text, after it the line of a write fault; or the line of a read fault or of no memory alone
+abbrev pub said_of : Answer → Outcome → List ℕ
+said_of answer WriteFault = answer.err ++ write_fault_line
+said_of answer ReadFault = read_fault_line
+said_of answer NoMemory = no_memory_line
+said_of answer other = answer.err
+
+-- A run that carries out an answer. It ends as the answer does, but for want of memory, a failed read, or a failed write
+-- where the answer is Done.
+pub record CarriesOut (answer : Answer) (before after : World) (result : Outcome) : Type 0 where
+  pub ends : Ends answer before after result
+  pub says : Says (said_of answer result) before.err after.err before.err_faults after.err_faults
+
+-- the run ended as its answer does, or a write of it failed
+abbrev pub IsAnswered : Outcome → Type 0
+IsAnswered ReadFault = ⊥
+IsAnswered NoMemory = ⊥
+IsAnswered other = Unit {0}
+
+-- A run that met neither want of memory nor a fault of files.
+
+abbrev pub IsUnhindered : Outcome → Type 0
+IsUnhindered Done = Unit {0}
+IsUnhindered (Usage fault) = Unit {0}
+IsUnhindered (Refused fault) = Unit {0}
+IsUnhindered other = ⊥
+
+-- it ends exactly with its answer: with this outcome, these files written and no others changed, and these texts
+pub record EndsWith (answer : Answer) (before after : World) (result : Outcome) : Type 0 where
+  pub outcome : result ≡ answer.outcome
+  pub files : IfSome before.files (λ files. after.files ≡ Some (files_after answer.writes files))
+  pub out : IfSome before.out (λ out. after.out ≡ Some (out ++ answer.out))
+  pub err : Says answer.err before.err after.err before.err_faults after.err_faults

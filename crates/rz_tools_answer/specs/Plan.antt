@@ -1,0 +1,50 @@
+-- The answer that the code holds, and what its calls leave while they carry it out.
+use Rattle.std.specs.Prelude.{◌≡◌, ◌++◌, List, ◌∷◌, map, IfSome, IsSomeAnd}
+use Rattle.std.specs.String.{string_bytes}
+use Rattle.std.specs.declared.option.Option.{Option}
+use Rattle.std.specs.declared.option.Option.TheVariants.{Some}
+use Rattle.std.specs.FinMap as finite
+use Rattle.rz_folder.specs.Folder.{Files}
+use Rattle.rz_folder.specs.declared.folder.Written.{Written}
+use Rattle.rz_folder.specs.declared.folder.Written.TheVariants as ends
+use Rattle.rz_tools_answer.specs.Answer as answer
+use Rattle.rz_tools_answer.specs.Answer.{files_after, refused, Answer}
+use Rattle.rz_tools_answer.specs.declared.made.Stopped.{Stopped}
+use Rattle.rz_tools_answer.specs.declared.made.Stopped.TheVariants as stops
+use Rattle.rz_tools_answer.specs.declared.outcome.Outcome.{Outcome}
+use Rattle.rz_tools_answer.specs.declared.outcome.Outcome.TheVariants.{Done, Refused}
+use Rattle.rz_tools_answer.specs.declared.plan.Plan.{Plan}
+use Rattle.rz_tools_answer.specs.declared.plan.Write.{Write}
+
+abbrev pub write_of : Write → answer.Write
+write_of write = record { name = string_bytes write.name; bytes = write.bytes }
+
+abbrev pub answer_of : Plan → Answer
+answer_of plan = record { outcome = plan.outcome; writes = map write_of plan.writes; out = plan.out; err = plan.err }
+
+-- the write of one file failed, where those before it were written
+abbrev pub FailsAt : List answer.Write → answer.Write → Option Files → Option Files → Type 0
+FailsAt done one before after =
+    IfSome before (λ files. IsSomeAnd after (λ left. finite.remove left one.name ≡ finite.remove (files_after done files) one.name))
+
+-- the files are written one after the other, or up to one of them, whose write failed
+abbrev pub WritesEach : List answer.Write → Option Files → Option Files → Written → Type 0
+WritesEach writes before after ends.Done = IfSome before (λ files. after ≡ Some (files_after writes files))
+WritesEach writes before after ends.Failed =
+    (done : List answer.Write) × (one : answer.Write) × (rest : List answer.Write) × (writes ≡ done ++ one ∷ rest) × FailsAt done one before after
+
+-- the answer that a command has that was stopped by this, where it has one
+abbrev pub EndsIn : Stopped → Answer → Type 0
+EndsIn (stops.Refused fault files said) answer = answer ≡ refused (record { fault = fault; files = files; said = said })
+EndsIn stops.ReadFault answer = ⊥
+EndsIn stops.NoMemory answer = ⊥
+
+-- the outcome is Done or Refused
+abbrev pub IsNoUsage : Outcome → Type 0
+IsNoUsage Done = Unit {0}
+IsNoUsage (Refused fault) = Unit {0}
+IsNoUsage other = ⊥
+
+abbrev pub IsRefused : Outcome → Type 0
+IsRefused (Refused fault) = Unit {0}
+IsRefused other = ⊥

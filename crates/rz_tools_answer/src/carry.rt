@@ -1,0 +1,108 @@
+ghost use Rattle.std.specs.Prelude.{◌≡◌, ◌≤◌, ◌⊎◌, ◌++◌, [], map, take};
+ghost use Rattle.rz_folder.specs.Counts.{Rose};
+ghost use Rattle.rz_folder.specs.Sink.{Puts};
+ghost use Rattle.rz_tools_answer.specs.Plan.{answer_of, write_of, WritesEach};
+ghost use Rattle.rz_tools_answer.specs.Carried.{CarriesOut};
+ghost use Rattle.rz_tools_answer.specs.World.{world, Says};
+ghost use Rattle.rz_tools_answer.specs.Message.{write_fault_line};
+ghost use Rattle.rz_tools_answer.specs.WellFormed.{AreWritable, IsWellFormed};
+
+use crate::message::WRITE_FAULT;
+use crate::outcome::Outcome;
+use crate::plan::{Plan, Writes};
+use rz_folder::{Folder, Put, Sink, Written};
+
+/// Carries out an answer: writes the files, then the text of the output, and says its text.
+pub fn carry_out<F: Folder, O: Sink, E: Sink>(
+    plan: Plan,
+    folder: &mut F,
+    out: &mut O,
+    err: &mut E,
+) -> Outcome
+    requires well_formed { IsWellFormed (answer_of plan) }
+    requires writable { AreWritable (answer_of plan).writes }
+    ensures carried { CarriesOut (answer_of plan) (world F.files F.read_faults F.write_faults O.written O.faults E.written E.faults folder.old out.old err.old)
+        (world F.files F.read_faults F.write_faults O.written O.faults E.written E.faults folder.new out.new err.new) result }
+    ensures ended { (result ≡ plan.outcome) ⊎ (result ≡ Outcome.WriteFault) }
+{
+    let Plan {
+        outcome,
+        writes,
+        out: text,
+        err: said,
+    } = plan;
+    match write_all(&writes, folder) {
+        Written::Done => match put_text(text.as_slice(), out) {
+            Put::Done => {
+                put_line(said.as_slice(), err);
+                outcome
+            }
+            Put::Failed => say_write_fault(said.as_slice(), err),
+        },
+        Written::Failed => say_write_fault(said.as_slice(), err),
+    }
+}
+
+/// Says that a write failed, after what is said in any case.
+fn say_write_fault<E: Sink>(said: &[u8], err: &mut E) -> Outcome
+    ensures outcome { result ≡ Outcome.WriteFault }
+    ensures says { Says (said.now ++ write_fault_line) (E.written err.old) (E.written err.new) (E.faults err.old) (E.faults err.new) }
+{
+    put_lines(said, WRITE_FAULT, err);
+    Outcome::WriteFault
+}
+
+/// Writes files one after the other, up to one whose write fails.
+fn write_all<F: Folder>(writes: &Writes, folder: &mut F) -> Written
+    requires { AreWritable (map write_of writes.now) }
+    ensures told { WritesEach (map write_of writes.now) (F.files folder.old) (F.files folder.new) result }
+    ensures nothing { map write_of writes.now ≡ [] → (result ≡ Written.Done) × (F.files folder.new ≡ F.files folder.old) }
+    ensures counted { F.write_faults folder.old ≤ F.write_faults folder.new }
+    ensures cause { result ≡ Written.Failed → Rose (F.write_faults folder.old) (F.write_faults folder.new) }
+    ensures other_count { F.read_faults folder.new ≡ F.read_faults folder.old }
+{
+    for write in writes.as_slice() {
+        match folder.write(&write.name, write.bytes.as_slice()) {
+            Written::Done => {}
+            Written::Failed => return Written::Failed,
+        }
+    }
+    Written::Done
+}
+
+/// Puts the text of the output, where it isn't empty.
+fn put_text<O: Sink>(text: &[u8], out: &mut O) -> Put
+    ensures told { Puts text.now (O.written out.old) (O.written out.new) result }
+    ensures nothing { text.now ≡ [] → (result ≡ Put.Done) × (O.written out.new ≡ O.written out.old) }
+    ensures cause { result ≡ Put.Failed → Rose (O.faults out.old) (O.faults out.new) }
+{
+    if text.is_empty() {
+        Put::Done
+    } else {
+        out.put(text)
+    }
+}
+
+/// Puts lines and then a line. A failure changes nothing here, for there is no other place to report it to; after
+/// it nothing more is put.
+fn put_lines<E: Sink>(lines: &[u8], line: &[u8], err: &mut E)
+    ensures { Says (lines.now ++ line.now) (E.written err.old) (E.written err.new) (E.faults err.old) (E.faults err.new) }
+{
+    if lines.is_empty() {
+        put_line(line, err);
+    } else {
+        match err.put(lines) {
+            Put::Done => put_line(line, err),
+            Put::Failed => {}
+        }
+    }
+}
+
+/// Puts a line, where it isn't empty.
+pub fn put_line<E: Sink>(line: &[u8], err: &mut E)
+    ensures { Says line.now (E.written err.old) (E.written err.new) (E.faults err.old) (E.faults err.new) }
+{
+    if !line.is_empty() {
+        let _ = err.put(line);
+    }
+}

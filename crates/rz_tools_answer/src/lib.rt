@@ -1,0 +1,25 @@
+//! How a run ends, what it writes and what it says: outcomes and their lines, warnings, answers before they are carried
+//! out, and `carry_out`, which carries one out exactly as `specs/Carried.antt` says.
+//! It rests on `rz_core`, `rz_folder` and `rz_tools_args`, whose faults of usage are said here. The commands make the
+//! answers, in `rz_tools`.
+//! A new outcome changes `Outcome`, its line in `specs/Message.antt`, and `Ends` and `said_of` of `specs/Carried.antt`;
+//! a new option or command the help text; a new warning its number in `specs/Warning.antt`.
+#![tactic(auto)]
+
+mod carry;
+mod help;
+mod laws;
+mod made;
+mod message;
+mod outcome;
+mod plan;
+mod warning;
+
+pub use carry::{carry_out, put_line};
+pub use help::{help_text, version_text};
+pub use laws::answers_are_carried_out;
+pub use made::{Made, Stopped, Unanswered};
+pub use message::{NO_MEMORY, READ_FAULT, WRITE_FAULT, usage_line};
+pub use outcome::Outcome;
+pub use plan::{Plan, Write, Writes};
+pub use warning::{Faults, refusal, say_beside};

@@ -1,0 +1,64 @@
+ghost use Rattle.std.specs.Prelude.{◌≡◌, length, Err, IfOk, Ok};
+ghost use Rattle.rz_core.specs.Message.{IsNameable};
+ghost use Rattle.rz_core.specs.Stop.{OnFault};
+ghost use Rattle.rz_tools_answer.specs.Made.{IsNamed, NamesFault, Refuses, SaysBefore, SaysBeside, SaysWarnings};
+ghost use Rattle.rz_tools_answer.specs.Warning.{warning_lines, AreWarnings};
+ghost use Rattle.rz_tools_answer.specs.declared.made.Stopped.TheVariants.{ReadFault};
+
+use crate::made::{Made, Stopped};
+use rz_core::{Bytes, Fault, FileNames, Listing, NoMemory, Stop, write_fault};
+use std::alloc::Global;
+
+/// A list of faults.
+pub type Faults = Listing<Fault>;
+
+/// What a command makes, with the lines of the warnings, or the refusal behind them.
+pub fn say_beside(
+    alloc: Global,
+    output: Result<Bytes, Stop<Fault>>,
+    warnings: &Faults,
+    files: FileNames,
+) -> Result<Made, Stopped>
+    requires fault { OnFault output (IsNameable (length files)) }
+    requires warnings { AreWarnings (length files) warnings.now }
+    ensures said { SaysBeside files warnings.now output result }
+    ensures bytes { IfOk result (λ made. output ≡ Ok made.bytes) }
+    ensures nameable { IsNamed result }
+    ensures warned { SaysWarnings result }
+    ensures quiet { result ≡ Err ReadFault → ⊥ }
+{
+    match output {
+        Ok(bytes) => {
+            let said = warning_lines(alloc, warnings, &files)?;
+            Ok(Made { bytes, said })
+        }
+        Err(Stop::Refused(fault)) => Err(refusal(alloc, fault, warnings, files)),
+        Err(Stop::NoMemory) => Err(Stopped::NoMemory),
+    }
+}
+
+/// The refusal with a fault, behind the lines of the warnings.
+pub fn refusal(alloc: Global, fault: Fault, warnings: &Faults, files: FileNames) -> Stopped
+    requires fault { IsNameable (length files) fault }
+    requires warnings { AreWarnings (length files) warnings.now }
+    ensures refused { Refuses fault files (warning_lines files warnings.now) result }
+    ensures nameable { NamesFault result }
+    ensures warned { SaysBefore result }
+{
+    match warning_lines(alloc, warnings, &files) {
+        Ok(said) => Stopped::Refused(fault, files, said),
+        Err(NoMemory) => Stopped::NoMemory,
+    }
+}
+
+/// The lines of warnings.
+fn warning_lines(alloc: Global, warnings: &Faults, files: &FileNames) -> Result<Bytes, NoMemory>
+    requires { AreWarnings (length files.now) warnings.now }
+    ensures { IfOk result (λ lines. lines ≡ warning_lines files.now warnings.now) }
+{
+    let mut lines = Bytes::new(alloc);
+    for warning in warnings.as_slice() {
+        write_fault(warning, files, &mut lines)?;
+    }
+    Ok(lines)
+}

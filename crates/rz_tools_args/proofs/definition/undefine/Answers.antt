@@ -1,0 +1,6 @@
+use Rattle.rz_tools_args.specs.Definition.{IsName}
+use Rattle.rz_tools_args.proofs.Found.{none_so}
+use Rattle.rz_tools_args.proofs.definition.undefine.Goals as goal
+
+pub returns-in-None : goal.returns-in-None
+returns-in-None c def is = none_so (IsName c.args.value.now) _ c.in_ok-name.ensures c.in-None.is def.name is.0

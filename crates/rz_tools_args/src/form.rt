@@ -1,0 +1,21 @@
+ghost use Rattle.std.specs.Prelude.{◌≡◌};
+ghost use Rattle.rz_tools_args.specs.Command.{form_named};
+
+use rz_bridge_form::Form;
+
+/// The form that a word names.
+pub fn form_named(word: &str) -> Option<Form>
+    ensures { result ≡ form_named word.now }
+{
+    if word == "raw" {
+        Some(Form::Raw)
+    } else if word == "double" {
+        Some(Form::AppleDouble)
+    } else if word == "macbin" {
+        Some(Form::MacBinary)
+    } else if word == "hqx" {
+        Some(Form::BinHex)
+    } else {
+        None
+    }
+}

@@ -1,0 +1,44 @@
+ghost use Rattle.std.specs.Prelude.{◌≡◌, ◌⊎◌, ℕ, List};
+ghost use Rattle.rz_pre.specs.Lexed.{HaveLexedTexts};
+ghost use Rattle.rz_tools_args.specs.Definition.{AreFree};
+ghost use Rattle.rz_tools_args.specs.Command.{Asked, DeRez, DeRezAsked, IsCommand, IsMisplaced, Rez, RezAsked};
+
+use rz_lex::{cut_back, every_line_is_cut, one_cut, tokens_are_lexed};
+use rz_pre_source::{every_source_is_read, one_text};
+
+/// A law, with nothing to run: words are one command at most, and where they are none, one position at most is
+/// one past their longest front that begins a command.
+pub fn one_command()
+    ensures command { (words : List (List ℕ)) (asked others : Asked) → IsCommand words asked → IsCommand words others → asked ≡ others }
+    ensures position { (words : List (List ℕ)) (position another : ℕ)
+        → IsMisplaced words position → IsMisplaced words another → position ≡ another }
+{
+    one_cut();
+    one_text();
+}
+
+/// A law, with nothing to run: all words are a command, or some position is one past their longest front that
+/// begins one.
+pub fn every_list_of_words_is_read()
+    ensures { (words : List (List ℕ)) → ((asked : Asked) × IsCommand words asked) ⊎ ((position : ℕ) × IsMisplaced words position) }
+{
+    one_text();
+    every_source_is_read();
+    one_cut();
+    every_line_is_cut();
+    cut_back();
+}
+
+/// A law, with nothing to run: what the words of a command define as texts are tokens that lines can be cut into.
+pub fn definitions_are_lexed()
+    ensures rez { (words : List (List ℕ)) (asked : RezAsked) → IsCommand words (Rez asked) → HaveLexedTexts asked.defs }
+    ensures derez { (words : List (List ℕ)) (asked : DeRezAsked) → IsCommand words (DeRez asked) → HaveLexedTexts asked.defs }
+{
+    tokens_are_lexed();
+}
+
+/// A law, with nothing to run: what the words of a command define or undefine is no reserved word.
+pub fn definitions_are_free()
+    ensures rez { (words : List (List ℕ)) (asked : RezAsked) → IsCommand words (Rez asked) → AreFree asked.defs }
+    ensures derez { (words : List (List ℕ)) (asked : DeRezAsked) → IsCommand words (DeRez asked) → AreFree asked.defs }
+{}

@@ -1,0 +1,177 @@
+ghost use Rattle.std.specs.Prelude.{◌≡◌, ◌<◌, ◌≤◌, ◌^◌, [], ℕ, length, IfOk, IfSome};
+ghost use Rattle.rz_core.specs.Message.{IsNameable};
+ghost use Rattle.rz_core.specs.Resources.{KeysDiffer};
+ghost use Rattle.rz_core.specs.Stop.{OnFault};
+ghost use Rattle.rz_folder.specs.OnlyReads.{OnlyReads};
+ghost use Rattle.rz_fork.specs.Code.{held_by};
+ghost use Rattle.rz_folder_paths.specs.Halt.{IsReadFault, OnRefusal};
+ghost use Rattle.rz_set.specs.ResSet.{AreNamed};
+ghost use Rattle.rz_tools_args.specs.Item.{rez};
+ghost use Rattle.rz_tools_output.specs.Base.{base_in, base_of, begun_of, begun_with, new_base, read_only, BeginsSo, GivesBase};
+
+use rz_bridge::{Finder, MacFile};
+use rz_bridge_files::{admit_fork, file_in};
+use rz_bridge_form::{Form, form_of};
+use rz_core::{Bytes, Fault, Kept, OsType, Resources, Stop};
+use rz_folder::{Folder, Read};
+use rz_folder_paths::Halt;
+use rz_fork::ForkList;
+use rz_tools_args::RezWords;
+use std::alloc::Global;
+
+/// The attribute bit of a map that may be read only.
+pub const READ_ONLY: u16 = 0x80;
+
+/// The type of applications, `APPL`.
+const APPLICATION: OsType = OsType { code: 0x4150_504C };
+
+/// The creator of a file that has none, `????`.
+const UNKNOWN: OsType = OsType { code: 0x3F3F_3F3F };
+
+/// What `rez` begins with, beside the resources.
+#[derive(Drop)]
+pub struct Base {
+    /// The form of the file.
+    pub form: Form,
+    /// The fields of the file.
+    pub file: MacFile,
+    /// The attributes of the fork's map.
+    pub attributes: u16,
+    /// The reserved bytes of the fork.
+    pub reserved: Bytes,
+}
+
+/// What `rez` begins with.
+#[derive(Drop)]
+pub struct Beginning {
+    /// The form, the fields and what else the fork has.
+    pub base: Base,
+    /// The resources.
+    pub list: Resources,
+}
+
+/// What these words of `rez` begin with: with `-a` what the file of the output's name holds, in the form that its bytes have,
+/// where a missing file counts as one of no bytes; else a new file. Refused with the first broken rule of the form, then of
+/// the fork, then 220 (kept: the attributes) where the fork may be read only; none has a mark. (MPW Rez.)
+pub fn read_base<F: Folder>(
+    alloc: Global,
+    folder: &mut F,
+    words: &RezWords<'_>,
+) -> Result<Beginning, Halt>
+    ensures base { IfSome (F.files folder.old) (λ files. BeginsSo (base_of (rez words.now) files) result) }
+    ensures keys { IfOk result (λ begun. KeysDiffer [] begun.list) }
+    ensures named { IfOk result (λ begun. AreNamed begun.list) }
+    ensures room { IfOk result (λ begun. length begun.base.reserved ≤ 240) }
+    ensures nameable { (files : ℕ) → OnRefusal result (IsNameable files) }
+    ensures reads { OnlyReads F.files F.read_faults F.write_faults folder.old folder.new (IsReadFault result) }
+{
+    if !words.append {
+        return Ok(new_file(alloc));
+    }
+    match folder.read(alloc, words.output) {
+        Read::Bytes(bytes) => begin_in(alloc, bytes),
+        Read::Missing => begin_in(alloc, Bytes::new(alloc)),
+        Read::Failed => Err(Halt::ReadFault),
+        Read::NoMemory => Err(Halt::NoMemory),
+    }
+}
+
+/// A new file, and no resources.
+fn new_file(alloc: Global) -> Beginning
+    ensures base { begun_of result ≡ new_base }
+    ensures none { result.list ≡ [] }
+{
+    Beginning {
+        base: Base {
+            form: Form::Raw,
+            file: MacFile {
+                name: Bytes::new(alloc),
+                finder: Finder {
+                    kind: APPLICATION,
+                    creator: UNKNOWN,
+                    flags: 0,
+                    vertical: 0,
+                    horizontal: 0,
+                    folder: 0,
+                    extra: [0; 16],
+                },
+                locked: false,
+                created: 0,
+                modified: 0,
+                data_fork: Bytes::new(alloc),
+                res_fork: Bytes::new(alloc),
+            },
+            attributes: 0,
+            reserved: Bytes::new(alloc),
+        },
+        list: Resources::new(alloc),
+    }
+}
+
+/// What bytes hold to begin with, of a call that reads files.
+fn begin_in(alloc: Global, bytes: Bytes) -> Result<Beginning, Halt>
+    requires { length bytes < 2 ^ 32 }
+    ensures base { BeginsSo (base_in bytes) result }
+    ensures keys { IfOk result (λ begun. KeysDiffer [] begun.list) }
+    ensures named { IfOk result (λ begun. AreNamed begun.list) }
+    ensures room { IfOk result (λ begun. length begun.base.reserved ≤ 240) }
+    ensures nameable { (files : ℕ) → OnRefusal result (IsNameable files) }
+    ensures unread { IsReadFault result → ⊥ }
+{
+    match base_in(alloc, bytes) {
+        Ok(begun) => Ok(begun),
+        Err(stop) => Err(Halt::from(stop)),
+    }
+}
+
+/// What bytes hold to begin with.
+fn base_in(alloc: Global, bytes: Bytes) -> Result<Beginning, Stop<Fault>>
+    requires { length bytes < 2 ^ 32 }
+    ensures base { GivesBase (base_in bytes) result }
+    ensures keys { IfOk result (λ begun. KeysDiffer [] begun.list) }
+    ensures named { IfOk result (λ begun. AreNamed begun.list) }
+    ensures room { IfOk result (λ begun. length begun.base.reserved ≤ 240) }
+    ensures nameable { (files : ℕ) → OnFault result (IsNameable files) }
+{
+    let form = form_of(bytes.as_slice());
+    let file = file_in(alloc, None, bytes, Bytes::new(alloc), None)?;
+    let fork = admit_fork(alloc, file.res_fork.as_slice(), None)?;
+    begun_with(form, file, fork)
+}
+
+/// A file of a form and its fork, or 220.
+fn begun_with(form: Form, file: MacFile, fork: ForkList) -> Result<Beginning, Stop<Fault>>
+    requires keys { KeysDiffer [] fork.list }
+    requires named { AreNamed fork.list }
+    requires room { length fork.reserved ≤ 240 }
+    ensures base { GivesBase (begun_with form file (held_by fork)) result }
+    ensures keys { IfOk result (λ begun. KeysDiffer [] begun.list) }
+    ensures named { IfOk result (λ begun. AreNamed begun.list) }
+    ensures room { IfOk result (λ begun. length begun.base.reserved ≤ 240) }
+    ensures nameable { (files : ℕ) → OnFault result (IsNameable files) }
+{
+    if fork.attributes & READ_ONLY != 0 {
+        return Err(Stop::Refused(read_only(fork.attributes)));
+    }
+    Ok(Beginning {
+        base: Base {
+            form,
+            file,
+            attributes: fork.attributes,
+            reserved: fork.reserved,
+        },
+        list: fork.list,
+    })
+}
+
+/// 220, with the attributes.
+fn read_only(attributes: u16) -> Fault
+    ensures fault { result ≡ read_only attributes }
+    ensures nameable { (files : ℕ) → IsNameable files result }
+{
+    Fault {
+        number: 220,
+        mark: None,
+        kept: Kept::Number(i64::from(attributes)),
+    }
+}

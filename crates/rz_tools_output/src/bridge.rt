@@ -1,0 +1,176 @@
+ghost use Rattle.std.specs.Prelude.{◌≡◌, ◌<◌, ◌≤◌, ◌^◌, ℕ, [], length, map, Err, IfOk, IfSome};
+ghost use Rattle.std.specs.FinMap as finite;
+ghost use Rattle.std.specs.String.{string_bytes};
+ghost use Rattle.rz_tools_answer.specs.Plan.{answer_of, write_of, IsNoUsage};
+ghost use Rattle.rz_tools_answer.specs.WellFormed.{AreWritable, IsWellFormed};
+ghost use Rattle.rz_tools_answer.specs.declared.made.Unanswered.TheVariants.{ReadFault as unread};
+ghost use Rattle.rz_core.specs.Answers.{Meets, Then};
+ghost use Rattle.rz_core.specs.Message.{IsNameable};
+ghost use Rattle.rz_core.specs.Stop.{OnFault};
+ghost use Rattle.rz_bridge_files.specs.Names.{Named};
+ghost use Rattle.rz_folder.specs.OnlyReads.{OnlyReads};
+ghost use Rattle.rz_folder_paths.specs.Halt.{IsReadFault, IsUnrefused, OnRefusal, Yields};
+ghost use Rattle.rz_tools_args.specs.Item.{bridge};
+ghost use Rattle.rz_tools_output.specs.Bridge.{writes_of, AnswersBridge, AreWrites, Bridges, HasBeside, IsHeld, IsRead, IsWrittenAs};
+
+use rz_bridge::MacFile;
+use rz_bridge_files::{file_in, named, write_as};
+use rz_bridge_form::{Form, data_file_name, form_of};
+use rz_core::{Bytes, Fault, FileNames, NoMemory, Stop};
+use rz_folder::{Folder, Read};
+use rz_folder_paths::{Halt, missing_file};
+use rz_tools_answer::{Plan, Stopped, Unanswered, Write, Writes};
+use rz_tools_args::BridgeWords;
+use std::alloc::Global;
+
+/// The answer to the words of `bridge`: what the file holds in one form, which is to be written in another. The file is read
+/// first, and of AppleDouble then the data file beside it. Where the file has no name it takes the last name of the output. Of
+/// AppleDouble the data file is written first, where the data fork isn't empty, and then the header file.
+///
+/// Refused, without a mark, with 101 where no file has the name, then with the first rule of its form that the file breaks, as
+/// [`file_in`] says, then with 425 where the name that it takes isn't Mac Roman, and then with 425 or 428 as [`write_as`] says.
+/// (RFC 1740; RFC 1741.)
+pub fn plan_bridge<F: Folder>(
+    alloc: Global,
+    folder: &mut F,
+    words: &BridgeWords<'_>,
+) -> Result<Plan, Unanswered>
+    ensures answered { IfSome (F.files folder.old) (λ files. IfOk result (λ plan. AnswersBridge (bridge words.now) files (answer_of plan))) }
+    ensures well_formed { IfOk result (λ plan. IsWellFormed (answer_of plan)) }
+    ensures writable { IfOk result (λ plan. AreWritable (answer_of plan).writes) }
+    ensures no_usage { IfOk result (λ plan. IsNoUsage plan.outcome) }
+    ensures reads { OnlyReads F.files F.read_faults F.write_faults folder.old folder.new (result ≡ Err unread) }
+{
+    match bridge_file(alloc, folder, words) {
+        Ok(writes) => Ok(Plan::writing(alloc, writes)),
+        Err(Halt::Refused(fault)) => Plan::stopped(
+            alloc,
+            Stopped::Refused(fault, FileNames::new(alloc), Bytes::new(alloc)),
+        ),
+        Err(Halt::ReadFault) => Err(Unanswered::ReadFault),
+        Err(Halt::NoMemory) => Err(Unanswered::NoMemory),
+    }
+}
+
+/// What is to be written.
+fn bridge_file<F: Folder>(
+    alloc: Global,
+    folder: &mut F,
+    words: &BridgeWords<'_>,
+) -> Result<Writes, Halt>
+    ensures writes { IfSome (F.files folder.old) (λ files. Yields (writes_of result) (Bridges (bridge words.now) files)) }
+    ensures writable { IfOk result (λ writes. AreWritable (map write_of writes)) }
+    ensures nameable { (files : ℕ) → OnRefusal result (IsNameable files) }
+    ensures reads { OnlyReads F.files F.read_faults F.write_faults folder.old folder.new (IsReadFault result) }
+{
+    match read_whole(alloc, folder, words) {
+        Ok(file) => Ok(written_as(alloc, words, file)?),
+        Err(halt) => Err(halt),
+    }
+}
+
+/// What the file holds, with the data file of AppleDouble beside it.
+fn read_whole<F: Folder>(
+    alloc: Global,
+    folder: &mut F,
+    words: &BridgeWords<'_>,
+) -> Result<MacFile, Halt>
+    ensures file { IfSome (F.files folder.old) (λ files. Yields result (IsRead (bridge words.now) files (finite.get files (string_bytes words.now.file)))) }
+    ensures short { IfOk result (λ file. length file.res_fork < 2 ^ 32) }
+    ensures nameable { (files : ℕ) → OnRefusal result (IsNameable files) }
+    ensures reads { OnlyReads F.files F.read_faults F.write_faults folder.old folder.new (IsReadFault result) }
+{
+    let name = words.file.as_str();
+    match folder.read(alloc, name) {
+        Read::Bytes(bytes) => read_held(alloc, folder, words, bytes),
+        Read::Missing => Err(Halt::Refused(missing_file(alloc, None, name.as_bytes())?)),
+        Read::Failed => Err(Halt::ReadFault),
+        Read::NoMemory => Err(Halt::NoMemory),
+    }
+}
+
+/// What bytes hold, with the data file of AppleDouble beside the file.
+fn read_held<F: Folder>(
+    alloc: Global,
+    folder: &mut F,
+    words: &BridgeWords<'_>,
+    bytes: Bytes,
+) -> Result<MacFile, Halt>
+    requires { length bytes < 2 ^ 32 }
+    ensures file { IfSome (F.files folder.old) (λ files. Yields result (IsHeld (bridge words.now) files bytes)) }
+    ensures short { IfOk result (λ file. length file.res_fork < 2 ^ 32) }
+    ensures nameable { (files : ℕ) → OnRefusal result (IsNameable files) }
+    ensures reads { OnlyReads F.files F.read_faults F.write_faults folder.old folder.new (IsReadFault result) }
+{
+    let form = words.from.unwrap_or(form_of(bytes.as_slice()));
+    match read_beside(alloc, folder, form, words.file.as_str()) {
+        Ok(data_file) => Ok(file_in(alloc, words.from, bytes, data_file, None)?),
+        Err(halt) => Err(halt),
+    }
+}
+
+/// The data file beside a header file of AppleDouble; it is empty where there is none, and no other form has one.
+fn read_beside<F: Folder>(
+    alloc: Global,
+    folder: &mut F,
+    form: Form,
+    header: &str,
+) -> Result<Bytes, Halt>
+    ensures data_file { IfSome (F.files folder.old) (λ files. IfOk result (HasBeside form header.now files)) }
+    ensures unrefused { IsUnrefused result }
+    ensures reads { OnlyReads F.files F.read_faults F.write_faults folder.old folder.new (IsReadFault result) }
+{
+    if !matches!(form, Form::AppleDouble) {
+        return Ok(Bytes::new(alloc));
+    }
+    let name = data_file_name(alloc, header)?;
+    match folder.read(alloc, name.as_str()) {
+        Read::Bytes(bytes) => Ok(bytes),
+        Read::Missing => Ok(Bytes::new(alloc)),
+        Read::Failed => Err(Halt::ReadFault),
+        Read::NoMemory => Err(Halt::NoMemory),
+    }
+}
+
+/// What is to be written of a file, which takes a name where it has none.
+fn written_as(alloc: Global, words: &BridgeWords<'_>, file: MacFile) -> Result<Writes, Stop<Fault>>
+    requires { length file.res_fork < 2 ^ 32 }
+    ensures writes { Meets (writes_of result) (Then (Named words.now.to words.now.output.now file) (IsWrittenAs (bridge words.now))) }
+    ensures writable { IfOk result (λ writes. AreWritable (map write_of writes)) }
+    ensures nameable { (files : ℕ) → OnFault result (IsNameable files) }
+{
+    let file = named(alloc, words.to, words.output, file)?;
+    let bytes = write_as(alloc, words.to, &file)?;
+    Ok(listed(alloc, words, file, bytes)?)
+}
+
+/// The writes of a file and of the bytes of its form: of AppleDouble the data file comes first, where the data fork isn't
+/// empty.
+fn listed(
+    alloc: Global,
+    words: &BridgeWords<'_>,
+    file: MacFile,
+    bytes: Bytes,
+) -> Result<Writes, NoMemory>
+    requires short { length bytes < 2 ^ 32 }
+    requires data_fork { words.now.to ≡ Form.AppleDouble → length file.data_fork ≤ 33554432 }
+    ensures writes { IfOk result (λ writes. AreWrites (bridge words.now) file bytes (map write_of writes)) }
+    ensures writable { IfOk result (λ writes. AreWritable (map write_of writes)) }
+{
+    let mut writes = Writes::new(alloc);
+    let header = Write {
+        name: words.output.to_string(alloc)?,
+        bytes,
+    };
+    if !matches!(words.to, Form::AppleDouble) || file.data_fork.is_empty() {
+        writes.push(header)?;
+        return Ok(writes);
+    }
+    let data_file = Write {
+        name: data_file_name(alloc, words.output)?,
+        bytes: file.data_fork,
+    };
+    writes.push(data_file)?;
+    writes.push(header)?;
+    Ok(writes)
+}

@@ -1,0 +1,148 @@
+ghost use Rattle.std.specs.Prelude.{◌≡◌, ◌≤◌, ◌<◌, ◌^◌, [], ℕ, List, length, IfOk};
+ghost use Rattle.rz_core.specs.Answers.{Meets};
+ghost use Rattle.rz_core.specs.Message.{IsNameable};
+ghost use Rattle.rz_core.specs.Resources.{KeysDiffer};
+ghost use Rattle.rz_core.specs.Stop.{Gives, OnFault};
+ghost use Rattle.rz_core.specs.declared.resource.Resource.{Resource as ResourceOf};
+ghost use Rattle.rz_bridge_files.specs.Written.{written_as};
+ghost use Rattle.rz_fork.specs.Image.{AreNamed};
+ghost use Rattle.rz_tools_args.specs.Item.{rez};
+ghost use Rattle.rz_tools_output.specs.Base.{attributes_asked, base_with};
+ghost use Rattle.rz_tools_output.specs.Output.{file_of, list_fork, mac_time, past_limit, IsFileOf, IsLimit, IsOutput};
+
+use crate::base::{Base, READ_ONLY};
+use rz_bridge::{Finder, MacFile};
+use rz_bridge_files::{named, write_as};
+use rz_bridge_form::Form;
+use rz_core::{Bytes, Fault, Kept, Moment, Resources, Stop};
+use rz_fork::{LimitFault, write_fork};
+use rz_tools_args::RezWords;
+use std::alloc::Global;
+
+/// The file that these words of `rez` write of the resources: their fork with the attributes and the reserved bytes to begin
+/// with, with `-ro` read only, in the form that the words ask for or that of the file to begin with. Refused with the first
+/// limit that the fork passes (302, 303, 304); in another form than raw then 425 where the file has no name and takes one
+/// from the output that isn't Mac Roman, and then 425 or 428, as the form's writer refuses. (MPW Rez; RFC 1740; RFC 1741.)
+pub fn write_output(
+    alloc: Global,
+    words: &RezWords<'_>,
+    base: Base,
+    list: &Resources,
+    moment: Moment,
+) -> Result<Bytes, Stop<Fault>>
+    requires keys { KeysDiffer [] list.now }
+    requires named { AreNamed list.now }
+    requires room { length base.reserved ≤ 240 }
+    ensures output { (others : List ResourceOf) → Meets result (IsOutput (rez words.now) moment (base_with base others) list.now) }
+    ensures nameable { (files : ℕ) → OnFault result (IsNameable files) }
+    ensures short { IfOk result (λ bytes. length bytes < 2 ^ 32) }
+{
+    let attributes = attributes_asked(words, &base);
+    match write_list(alloc, list, attributes, base.reserved.as_slice()) {
+        Ok(fork) => write_file(alloc, words, base, fork, moment),
+        Err(stop) => Err(stop),
+    }
+}
+
+/// The attributes of the map that is written.
+fn attributes_asked(words: &RezWords<'_>, base: &Base) -> u16
+    ensures { (others : List ResourceOf) → result ≡ attributes_asked (rez words.now) (base_with base.now others) }
+{
+    if words.read_only {
+        base.attributes | READ_ONLY
+    } else {
+        base.attributes
+    }
+}
+
+/// The file of a fork.
+fn write_file(
+    alloc: Global,
+    words: &RezWords<'_>,
+    base: Base,
+    fork: Bytes,
+    moment: Moment,
+) -> Result<Bytes, Stop<Fault>>
+    requires { length fork < 2 ^ 32 }
+    ensures output { (others : List ResourceOf) → Meets result (IsFileOf (rez words.now) moment (base_with base others) fork) }
+    ensures nameable { (files : ℕ) → OnFault result (IsNameable files) }
+    ensures short { IfOk result (λ bytes. length bytes < 2 ^ 32) }
+{
+    let form = words.form.unwrap_or(base.form);
+    let file = file_of(words, base.file, fork, moment);
+    let named = named(alloc, form, words.output, file)?;
+    written_as(alloc, form, named)
+}
+
+/// What is written of a file in a form. A raw file is its resource fork, which takes no memory.
+fn written_as(alloc: Global, form: Form, file: MacFile) -> Result<Bytes, Stop<Fault>>
+    requires { length file.res_fork < 2 ^ 32 }
+    ensures bytes { Gives (written_as form file) result }
+    ensures nameable { (files : ℕ) → OnFault result (IsNameable files) }
+    ensures short { IfOk result (λ bytes. length bytes < 2 ^ 32) }
+{
+    match form {
+        Form::Raw => Ok(file.res_fork),
+        _ => write_as(alloc, form, &file),
+    }
+}
+
+/// The file of a fork, with its other fields from one to begin with.
+fn file_of(words: &RezWords<'_>, file: MacFile, fork: Bytes, moment: Moment) -> MacFile
+    ensures { result ≡ file_of (rez words.now) moment file fork }
+{
+    let now = now_of(moment);
+    MacFile {
+        finder: Finder {
+            kind: words.kind.unwrap_or(file.finder.kind),
+            creator: words.creator.unwrap_or(file.finder.creator),
+            ..file.finder
+        },
+        created: if file.created == 0 { now } else { file.created },
+        modified: now,
+        res_fork: fork,
+        ..file
+    }
+}
+
+/// The seconds of a moment since the first of 1904.
+fn now_of(moment: Moment) -> u32
+    ensures { result ≡ mac_time moment }
+{
+    moment.mac_time()
+}
+
+/// The fork of a list of resources.
+#[tactic(auto, unfolding(crate::specs::Output::list_fork))]
+fn write_list(
+    alloc: Global,
+    list: &Resources,
+    attributes: u16,
+    reserved: &[u8],
+) -> Result<Bytes, Stop<Fault>>
+    requires keys { KeysDiffer [] list.now }
+    requires named { AreNamed list.now }
+    requires room { length reserved.now ≤ 240 }
+    ensures fork { Gives (list_fork attributes reserved.now list.now) result }
+    ensures nameable { (files : ℕ) → OnFault result (IsNameable files) }
+    ensures short { IfOk result (λ fork. length fork < 2 ^ 32) }
+{
+    match write_fork(alloc, list, attributes, reserved) {
+        Ok(fork) => Ok(fork),
+        Err(Stop::Refused(fault)) => Err(Stop::Refused(past_limit(fault))),
+        Err(Stop::NoMemory) => Err(Stop::NoMemory),
+    }
+}
+
+/// The fault of a length that is past its limit.
+fn past_limit(fault: LimitFault) -> Fault
+    requires { IsLimit fault }
+    ensures fault { result ≡ past_limit fault }
+    ensures nameable { (files : ℕ) → IsNameable files result }
+{
+    Fault {
+        number: fault.number,
+        mark: None,
+        kept: Kept::Number(fault.length as i64),
+    }
+}

@@ -1,0 +1,148 @@
+ghost use Rattle.std.specs.Prelude.{◌≡◌, ◌<◌, ℕ, IfOk, Some};
+ghost use Rattle.rz_core.specs.Message.{IsNameable};
+ghost use Rattle.rz_core.specs.Stop.{Gives, OnFault};
+ghost use Rattle.rz_stmt_lists.specs.Change.{change_of};
+ghost use Rattle.rz_stmt_lists.specs.Delete.{delete_of};
+ghost use Rattle.rz_stmt_lists.specs.Pick.{pick_of};
+ghost use Rattle.rz_set.specs.After.{HasShortName};
+ghost use Rattle.rz_set.specs.Change.{MayHaveId};
+ghost use Rattle.rz_tools_work.specs.Change.{change_said, list_changed, list_changing, list_deleting, list_without, not_appending, pick_to_change};
+ghost use Rattle.rz_tools_work.specs.Work.{Stepped};
+
+use crate::pick::{pick_said, sought_by};
+use crate::putting::on_line;
+use crate::renaming::{Renamed, chosen_in_set, new_head};
+use crate::setting::Setting;
+use rz_core::{Fault, Kept, Mark, OsType, Stop};
+use rz_set::{Pick, ResSet};
+use rz_stmt_lists::{ChangeStmt, DeleteStmt, PickExpr};
+use std::alloc::Global;
+
+/// Does what a `change` statement on this line says: the resources of the list that its pick chooses come under a new type
+/// and, where one is chosen, under its head, each in its place; another resource that has the new type and id is taken
+/// out. The first fault is the answer: 205 where the list isn't that of a file that is appended to; of the ids of the pick
+/// 211, 215 and 204; 218 for a pick by id or name that chooses none; the faults of the head, as `new_head` says; and 219
+/// for a protected resource that would be changed or taken out, where protected ones aren't given up (kept: its type and
+/// id). (MPW Rez.)
+pub fn change_resources(
+    alloc: Global,
+    stmt: &ChangeStmt,
+    mark: Mark,
+    setting: Setting,
+    resources: &mut ResSet,
+) -> Result<(), Stop<Fault>>
+    ensures changed { Stepped (λ answer. answer ≡ list_changing setting mark resources.old (change_of stmt.now)) result resources.new }
+    ensures nameable { (files : ℕ) → mark.file < files → OnFault result (IsNameable files) }
+{
+    match change_said(alloc, stmt, mark, setting, resources) {
+        Ok(said) => change_chosen(alloc, stmt.kind, &said, mark, setting, resources),
+        Err(stop) => Err(stop),
+    }
+}
+
+/// The pick of a `change` statement, and what the resources become that it chooses.
+fn change_said(
+    alloc: Global,
+    stmt: &ChangeStmt,
+    mark: Mark,
+    setting: Setting,
+    list: &ResSet,
+) -> Result<Renamed, Stop<Fault>>
+    ensures said { Gives (change_said setting mark list.now (change_of stmt.now)) result }
+    ensures short { IfOk result (λ said. HasShortName (Some said.head)) }
+    ensures id { IfOk result (λ said. MayHaveId said.pick said.head) }
+    ensures nameable { (files : ℕ) → mark.file < files → OnFault result (IsNameable files) }
+{
+    let pick = pick_to_change(alloc, stmt.kind, &stmt.pick, mark, setting)?;
+    let one = match chosen_in_set(alloc, list, stmt.kind, &pick, mark) {
+        Ok(one) => one,
+        Err(stop) => return Err(stop),
+    };
+    let head = new_head(alloc, stmt.new_kind, one, &stmt.head, mark, setting)?;
+    Ok(Renamed { pick, head })
+}
+
+/// Changes the resources of a type that are chosen.
+fn change_chosen(
+    alloc: Global,
+    kind: OsType,
+    said: &Renamed,
+    mark: Mark,
+    setting: Setting,
+    resources: &mut ResSet,
+) -> Result<(), Stop<Fault>>
+    requires short { HasShortName (Some said.now.head) }
+    requires id { MayHaveId said.now.pick said.now.head }
+    ensures changed { Stepped (λ answer. answer ≡ list_changed setting mark resources.old kind said.now) result resources.new }
+    ensures nameable { (files : ℕ) → mark.file < files → OnFault result (IsNameable files) }
+{
+    let sought = sought_by(alloc, kind, &said.pick)?;
+    let left = resources.change(kind, &said.pick, &said.head, setting.over);
+    on_line(left, mark, sought)
+}
+
+/// Does what a `delete` statement on this line says: the resources of the list that its pick chooses are taken out. The
+/// first fault is the answer: 205 where the list isn't that of a file that is appended to; of the ids of the pick 211, 215
+/// and 204; 218 for a pick by id or name that chooses none; and 219 for a protected resource, where protected ones aren't
+/// given up (kept: its type and id). (MPW Rez.)
+pub fn delete_resources(
+    alloc: Global,
+    stmt: &DeleteStmt,
+    mark: Mark,
+    setting: Setting,
+    resources: &mut ResSet,
+) -> Result<(), Stop<Fault>>
+    ensures deleted { Stepped (λ answer. answer ≡ list_deleting setting mark resources.old (delete_of stmt.now)) result resources.new }
+    ensures nameable { (files : ℕ) → mark.file < files → OnFault result (IsNameable files) }
+{
+    match pick_to_change(alloc, stmt.kind, &stmt.pick, mark, setting) {
+        Ok(pick) => delete_picked(alloc, stmt.kind, &pick, mark, setting, resources),
+        Err(stop) => Err(stop),
+    }
+}
+
+/// Takes the resources of a type out that a pick chooses.
+fn delete_picked(
+    alloc: Global,
+    kind: OsType,
+    pick: &Pick,
+    mark: Mark,
+    setting: Setting,
+    resources: &mut ResSet,
+) -> Result<(), Stop<Fault>>
+    ensures deleted { Stepped (λ answer. answer ≡ list_without setting mark resources.old kind pick.now) result resources.new }
+    ensures nameable { (files : ℕ) → mark.file < files → OnFault result (IsNameable files) }
+{
+    let sought = sought_by(alloc, kind, pick)?;
+    let left = resources.remove(kind, pick, setting.over);
+    on_line(left, mark, sought)
+}
+
+/// The pick of a statement that changes or deletes, which is for a file that is appended to alone: 205.
+fn pick_to_change(
+    alloc: Global,
+    kind: OsType,
+    pick: &PickExpr,
+    mark: Mark,
+    setting: Setting,
+) -> Result<Pick, Stop<Fault>>
+    ensures pick { Gives (pick_to_change setting mark kind.code (pick_of pick.now)) result }
+    ensures nameable { (files : ℕ) → mark.file < files → OnFault result (IsNameable files) }
+{
+    if !setting.append {
+        return Err(Stop::Refused(not_appending(mark)));
+    }
+    pick_said(alloc, kind, pick, mark, setting)
+}
+
+/// 205.
+fn not_appending(mark: Mark) -> Fault
+    ensures fault { result ≡ not_appending mark }
+    ensures nameable { (files : ℕ) → mark.file < files → IsNameable files result }
+{
+    Fault {
+        number: 205,
+        mark: Some(mark),
+        kept: Kept::Nothing,
+    }
+}

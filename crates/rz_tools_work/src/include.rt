@@ -1,0 +1,192 @@
+ghost use Rattle.std.specs.Prelude.{◌≡◌, ◌<◌, ◌^◌, [], ℕ, length, None, Some, IfOk, IfSome};
+ghost use Rattle.rz_core.specs.Message.{IsNameable};
+ghost use Rattle.rz_core.specs.Stop.{Gives, OnFault};
+ghost use Rattle.rz_folder.specs.OnlyReads.{OnlyReads};
+ghost use Rattle.rz_stmt_lists.specs.Include.{include_of, part_of};
+ghost use Rattle.rz_folder_paths.specs.Halt.{IsReadFault, OnRefusal, Yields};
+ghost use Rattle.rz_set.specs.After.{HasShortName};
+ghost use Rattle.rz_set.specs.ResSet.{AreNamed};
+ghost use Rattle.rz_tools_work.specs.Around.{around};
+ghost use Rattle.rz_tools_work.specs.Include.{all_of, asked_by, asked_for, included, list_in, list_including, list_named, list_with_asked};
+ghost use Rattle.rz_tools_work.specs.Work.{Stepped, Went};
+
+use crate::pick::{pick_said, sought_by};
+use crate::putting::on_line;
+use crate::read::{file_named, halted};
+use crate::renaming::{chosen_in_list, new_head};
+use crate::setting::Setting;
+use rz_bridge_files::fork_in;
+use rz_core::{Bytes, Fault, FileNames, Kept, Mark, NoMemory, OsType, Resources, Stop};
+use rz_folder::Folder;
+use rz_folder_paths::Halt;
+use rz_set::{Choice, Head, Pick, ResSet};
+use rz_stmt_lists::{IncludePart, IncludeStmt};
+use std::alloc::Global;
+
+/// What an `include` statement asks for.
+#[derive(Debug, Drop)]
+pub struct Asked {
+    /// Which resources of the file.
+    pub choice: Choice,
+    /// What they become, if they don't stay as they are.
+    pub head: Option<Head>,
+    /// What a fault keeps where there is no such resource.
+    pub sought: Kept,
+}
+
+/// Does what an `include` statement on this line says: resources of the fork of a file of whatever form are put into the
+/// list, all of them, all but those of a type, or those that its pick chooses, under a new type and, where one is chosen,
+/// under its head. The first fault is the answer: 101 where the file stands neither under its name nor behind a path
+/// (kept: the name); the first rule that the form or the fork breaks; of the ids of the pick 211, 215 and 204; 218 for a
+/// pick by id or name that chooses none; the faults of the head, as `new_head` says; and 219 for a protected resource that
+/// would be replaced, where protected ones aren't given up (kept: its type and id). No file changes. (MPW Rez.)
+pub fn include_resources<F: Folder>(
+    alloc: Global,
+    folder: &mut F,
+    paths: &FileNames,
+    stmt: &IncludeStmt,
+    mark: Mark,
+    setting: Setting,
+    resources: &mut ResSet,
+) -> Result<(), Halt>
+    ensures included { IfSome (F.files folder.old) (λ files.
+        Went (λ answer. answer ≡ list_including (around setting paths.now files) mark resources.old (include_of stmt.now)) result resources.new) }
+    ensures nameable { (files : ℕ) → mark.file < files → OnRefusal result (IsNameable files) }
+    ensures reads { OnlyReads F.files F.read_faults F.write_faults folder.old folder.new (IsReadFault result) }
+{
+    match list_named(alloc, folder, paths, stmt.file.as_slice(), mark) {
+        Ok(source) => halted(include_part(alloc, &source, &stmt.part, mark, setting, resources)),
+        Err(halt) => Err(halt),
+    }
+}
+
+/// The resources of the file that a statement on this line names.
+pub fn list_named<F: Folder>(
+    alloc: Global,
+    folder: &mut F,
+    paths: &FileNames,
+    name: &[u8],
+    mark: Mark,
+) -> Result<Resources, Halt>
+    ensures list { IfSome (F.files folder.old) (λ files. Yields result (λ answer. answer ≡ list_named paths.now files mark name.now)) }
+    ensures named { IfOk result AreNamed }
+    ensures nameable { (files : ℕ) → mark.file < files → OnRefusal result (IsNameable files) }
+    ensures reads { OnlyReads F.files F.read_faults F.write_faults folder.old folder.new (IsReadFault result) }
+{
+    match file_named(alloc, folder, paths, name, mark) {
+        Ok(bytes) => list_in(alloc, bytes, mark),
+        Err(halt) => Err(halt),
+    }
+}
+
+/// The resources of the file in these bytes.
+fn list_in(alloc: Global, bytes: Bytes, mark: Mark) -> Result<Resources, Halt>
+    requires short { length bytes < 2 ^ 32 }
+    ensures list { Yields result (λ answer. answer ≡ list_in mark bytes) }
+    ensures named { IfOk result AreNamed }
+    ensures nameable { (files : ℕ) → mark.file < files → OnRefusal result (IsNameable files) }
+    ensures unread { IsReadFault result → ⊥ }
+{
+    match fork_in(alloc, None, bytes, Some(mark)) {
+        Ok(fork) => Ok(fork.list),
+        Err(stop) => Err(Halt::from(stop)),
+    }
+}
+
+/// Puts the resources of another list that a part means into the list.
+fn include_part(
+    alloc: Global,
+    source: &Resources,
+    part: &IncludePart,
+    mark: Mark,
+    setting: Setting,
+    resources: &mut ResSet,
+) -> Result<(), Stop<Fault>>
+    requires named { AreNamed source.now }
+    ensures included { Stepped (λ answer. answer ≡ included setting mark resources.old (part_of part.now) source.now) result resources.new }
+    ensures nameable { (files : ℕ) → mark.file < files → OnFault result (IsNameable files) }
+{
+    match asked_by(alloc, source, part, mark, setting) {
+        Ok(asked) => include_asked(source, asked, mark, setting, resources),
+        Err(stop) => Err(stop),
+    }
+}
+
+/// Puts the resources of another list that are asked for into the list.
+fn include_asked(
+    source: &Resources,
+    asked: Asked,
+    mark: Mark,
+    setting: Setting,
+    resources: &mut ResSet,
+) -> Result<(), Stop<Fault>>
+    requires named { AreNamed source.now }
+    requires short { HasShortName asked.head }
+    ensures included { Stepped (λ answer. answer ≡ list_with_asked setting mark resources.old source.now asked) result resources.new }
+    ensures nameable { (files : ℕ) → mark.file < files → OnFault result (IsNameable files) }
+{
+    let Asked {
+        choice,
+        head,
+        sought,
+    } = asked;
+    let left = resources.include(source, &choice, head.as_ref(), setting.over);
+    on_line(left, mark, sought)
+}
+
+/// What a part asks for of another list.
+fn asked_by(
+    alloc: Global,
+    source: &Resources,
+    part: &IncludePart,
+    mark: Mark,
+    setting: Setting,
+) -> Result<Asked, Stop<Fault>>
+    ensures asked { Gives (asked_by setting mark source.now (part_of part.now)) result }
+    ensures short { IfOk result (λ asked. HasShortName asked.head) }
+    ensures nameable { (files : ℕ) → mark.file < files → OnFault result (IsNameable files) }
+{
+    match part {
+        IncludePart::All => Ok(all_of(Choice::All)),
+        IncludePart::Not(kind) => Ok(all_of(Choice::Except(*kind))),
+        IncludePart::Chosen(kind, pick) => {
+            let pick = pick_said(alloc, *kind, pick, mark, setting)?;
+            Ok(asked_for(alloc, *kind, pick, None)?)
+        }
+        IncludePart::Renamed(kind, pick, new_kind, head) => {
+            let pick = pick_said(alloc, *kind, pick, mark, setting)?;
+            let one = match chosen_in_list(alloc, source.as_slice(), *kind, &pick, mark) {
+                Ok(one) => one,
+                Err(stop) => return Err(stop),
+            };
+            let head = match new_head(alloc, *new_kind, one, head, mark, setting) {
+                Ok(head) => head,
+                Err(stop) => return Err(stop),
+            };
+            Ok(asked_for(alloc, *kind, pick, Some(head))?)
+        }
+    }
+}
+
+/// Resources as they are, whichever there are.
+fn all_of(choice: Choice) -> Asked
+    ensures { result ≡ all_of choice }
+{
+    Asked {
+        choice,
+        head: None,
+        sought: Kept::Nothing,
+    }
+}
+
+/// The resources of a type that a pick chooses, under a head.
+fn asked_for(alloc: Global, kind: OsType, pick: Pick, head: Option<Head>) -> Result<Asked, NoMemory>
+    ensures { IfOk result (λ asked. asked ≡ asked_for kind pick head) }
+{
+    let sought = sought_by(alloc, kind, &pick)?;
+    Ok(Asked {
+        choice: Choice::Chosen(kind, pick),
+        head,
+        sought,
+    })
+}

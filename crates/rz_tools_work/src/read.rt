@@ -1,0 +1,153 @@
+ghost use Rattle.std.specs.Prelude.{◌≡◌, ◌<◌, ◌^◌, ℕ, length, IfOk, IfSome};
+ghost use Rattle.rz_core.specs.Message.{IsNameable};
+ghost use Rattle.rz_folder.specs.OnlyReads.{OnlyReads};
+ghost use Rattle.rz_stmt_lists.specs.Read.{read_of};
+ghost use Rattle.rz_folder_paths.specs.Halt.{IsReadFault, OnRefusal, Yields};
+ghost use Rattle.rz_tools_work.specs.Around.{around};
+ghost use Rattle.rz_tools_work.specs.Data.{short_bytes};
+ghost use Rattle.rz_tools_work.specs.Read.{contents_named, file_named, list_reading, resource_read, with_file};
+ghost use Rattle.rz_tools_work.specs.Work.{halted, Went};
+
+use crate::data::{short_bytes, with_bytes};
+use crate::head::facts_of;
+use crate::putting::put;
+use crate::setting::Setting;
+use rz_core::{Bytes, Facts, Fault, FileNames, Mark, Resource, Stop};
+use rz_folder::Folder;
+use rz_folder_paths::{Halt, names_of, read_file};
+use rz_set::ResSet;
+use rz_stmt_lists::ReadStmt;
+use std::alloc::Global;
+
+/// Does what a `read` statement on this line says: the whole file, as it is, becomes a resource with this head, and is put
+/// into the list. The first fault is the answer: those of the head, as `facts_of` says; 101 where the file stands neither
+/// under its name nor behind a path (kept: the name); 301 for more than 16,777,212 bytes; and 219 for a protected resource
+/// with its type and id, where protected ones aren't given up. No file changes. (MPW Rez.)
+pub fn read_resource<F: Folder>(
+    alloc: Global,
+    folder: &mut F,
+    paths: &FileNames,
+    stmt: &ReadStmt,
+    mark: Mark,
+    setting: Setting,
+    resources: &mut ResSet,
+) -> Result<(), Halt>
+    ensures read { IfSome (F.files folder.old) (λ files.
+        Went (λ answer. answer ≡ list_reading (around setting paths.now files) mark resources.old (read_of stmt.now)) result resources.new) }
+    ensures nameable { (files : ℕ) → mark.file < files → OnRefusal result (IsNameable files) }
+    ensures reads { OnlyReads F.files F.read_faults F.write_faults folder.old folder.new (IsReadFault result) }
+{
+    match resource_read(alloc, folder, paths, stmt, mark, setting) {
+        Ok(resource) => halted(put(resources, resource, setting.over, mark)),
+        Err(halt) => Err(halt),
+    }
+}
+
+/// The resource that a `read` statement on this line makes.
+fn resource_read<F: Folder>(
+    alloc: Global,
+    folder: &mut F,
+    paths: &FileNames,
+    stmt: &ReadStmt,
+    mark: Mark,
+    setting: Setting,
+) -> Result<Resource, Halt>
+    ensures read { IfSome (F.files folder.old) (λ files. Yields result (λ answer. answer ≡ resource_read (around setting paths.now files) mark (read_of stmt.now))) }
+    ensures named { IfOk result (λ resource. length resource.name < 256) }
+    ensures nameable { (files : ℕ) → mark.file < files → OnRefusal result (IsNameable files) }
+    ensures reads { OnlyReads F.files F.read_faults F.write_faults folder.old folder.new (IsReadFault result) }
+{
+    match facts_of(alloc, stmt.kind, &stmt.head, mark, setting) {
+        Ok(known) => with_file(alloc, folder, paths, known, stmt.file.as_slice(), mark),
+        Err(stop) => Err(Halt::from(stop)),
+    }
+}
+
+/// The resource of which this is known, with the contents of a file.
+fn with_file<F: Folder>(
+    alloc: Global,
+    folder: &mut F,
+    paths: &FileNames,
+    known: Facts,
+    name: &[u8],
+    mark: Mark,
+) -> Result<Resource, Halt>
+    requires named { length known.name < 256 }
+    ensures read { IfSome (F.files folder.old) (λ files. Yields result (λ answer. answer ≡ with_file paths.now files mark name.now known)) }
+    ensures named { IfOk result (λ resource. length resource.name < 256) }
+    ensures nameable { (files : ℕ) → mark.file < files → OnRefusal result (IsNameable files) }
+    ensures reads { OnlyReads F.files F.read_faults F.write_faults folder.old folder.new (IsReadFault result) }
+{
+    match contents_named(alloc, folder, paths, name, mark) {
+        Ok(bytes) => Ok(with_bytes(known, bytes)),
+        Err(halt) => Err(halt),
+    }
+}
+
+/// The contents of a file, as many as a resource may have: 301.
+fn contents_named<F: Folder>(
+    alloc: Global,
+    folder: &mut F,
+    paths: &FileNames,
+    name: &[u8],
+    mark: Mark,
+) -> Result<Bytes, Halt>
+    ensures read { IfSome (F.files folder.old) (λ files. Yields result (λ answer. answer ≡ contents_named paths.now files mark name.now)) }
+    ensures nameable { (files : ℕ) → mark.file < files → OnRefusal result (IsNameable files) }
+    ensures reads { OnlyReads F.files F.read_faults F.write_faults folder.old folder.new (IsReadFault result) }
+{
+    match file_named(alloc, folder, paths, name, mark) {
+        Ok(bytes) => short_contents(bytes, mark),
+        Err(halt) => Err(halt),
+    }
+}
+
+/// Contents, as many as a resource may have: 301.
+fn short_contents(bytes: Bytes, mark: Mark) -> Result<Bytes, Halt>
+    ensures bytes { Yields result (λ answer. answer ≡ short_bytes mark bytes) }
+    ensures nameable { (files : ℕ) → mark.file < files → OnRefusal result (IsNameable files) }
+    ensures unread { IsReadFault result → ⊥ }
+{
+    match short_bytes(bytes, mark) {
+        Ok(bytes) => Ok(bytes),
+        Err(fault) => Err(Halt::Refused(fault)),
+    }
+}
+
+/// The bytes of the file that a statement on this line names, fewer than 2^32: its name is tried as it stands and then
+/// behind each path. 101 where there is none (kept: the name). No file changes. (MPW Rez.)
+pub fn file_named<F: Folder>(
+    alloc: Global,
+    folder: &mut F,
+    paths: &FileNames,
+    name: &[u8],
+    mark: Mark,
+) -> Result<Bytes, Halt>
+    ensures read { IfSome (F.files folder.old) (λ files. Yields result (λ answer. answer ≡ file_named paths.now files mark name.now)) }
+    ensures short { IfOk result (λ bytes. length bytes < 2 ^ 32) }
+    ensures nameable { (files : ℕ) → mark.file < files → OnRefusal result (IsNameable files) }
+    ensures reads { OnlyReads F.files F.read_faults F.write_faults folder.old folder.new (IsReadFault result) }
+{
+    let names = names_of(alloc, paths, name)?;
+    read_file(alloc, folder, &names, mark, name)
+}
+
+/// What a call gives that reads no files, as that of one that does.
+pub fn bytes_halted(given: Result<Bytes, Stop<Fault>>) -> Result<Bytes, Halt>
+    ensures { result ≡ halted given }
+{
+    match given {
+        Ok(bytes) => Ok(bytes),
+        Err(stop) => Err(Halt::from(stop)),
+    }
+}
+
+/// The end of a call that reads no files, as that of one that does.
+pub fn halted(ended: Result<(), Stop<Fault>>) -> Result<(), Halt>
+    ensures { result ≡ halted ended }
+{
+    match ended {
+        Ok(()) => Ok(()),
+        Err(stop) => Err(Halt::from(stop)),
+    }
+}

@@ -1,0 +1,13 @@
+//! The check of type declarations: `check` walks over the fields of a body, depth first, and gives its template, or
+//! exactly the first rule that it breaks. What the rules are, and what holds of a template that keeps them, is defined
+//! in `rz_types`.
+//! It rests on `rz_core`, `rz_expr`, `rz_types_fields` and `rz_types`.
+//! A new rule changes the definitions of `rz_types`, and here `rules`, where a field or a case is met, or `named`, which
+//! finds the arrays that expressions name; another order of the walk changes `walk` and `specs/Walked`.
+#![tactic(auto)]
+
+mod named;
+mod rules;
+mod walk;
+
+pub use rules::check;

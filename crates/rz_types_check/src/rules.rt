@@ -1,0 +1,342 @@
+ghost use Rattle.std.specs.Prelude.{IfOk, ◌≡◌, map, option_map, true};
+ghost use Rattle.rz_core.specs.Stop.{Gives};
+ghost use Rattle.rz_core.specs.Lists.{or_else};
+ghost use Rattle.rz_types_fields.specs.Field.{plain_body, plain_cases, plain_field, plain_text};
+ghost use Rattle.rz_types_fields.specs.Shape.{is_well_shaped};
+ghost use Rattle.rz_types.specs.Rules.{array_twice, bad_case, bad_place, bad_rows, bad_size, bad_width, case_names, checked, differ, has_other_place, has_other_width, has_same_bits, has_values, key_rule, may_be_count, may_be_rows, may_be_width, name_fault, no_values, repeated, unknown_fault, unless, width_fault};
+ghost use Rattle.rz_types.specs.Template.{plain_templates};
+ghost use Rattle.rz_types.specs.Walk.{is_among};
+ghost use Rattle.std.specs.List.{list_any};
+
+use crate::walk::check_fields;
+use rz_core::{Kept, NoMemory, Stop, Word};
+use rz_expr::constant_of;
+use rz_types::{Template, TypeFault, is_body_readable};
+use rz_types_fields::{Body, Case, CaseKey, Field, NumForm, TextField, may_be_size, takes_value};
+use std::alloc::Global;
+
+/// The most units of a `fill`.
+const MOST_UNITS: i32 = 16_777_212;
+
+/// The most that a fault keeps of a position.
+pub const MOST_KEPT: u64 = 9_223_372_036_854_775_807;
+
+/// The most rows that may be stated of an array.
+const MOST_ROWS: i32 = 1_048_576;
+
+/// The template of a body, or the first rule that it breaks. A walk goes over the fields depth first; a field's own
+/// rules come before those of the fields within it, those of a case behind its fields. 231: an array has the name of one
+/// before it (kept: the name). 232: two cases of a switch have one name (kept: the later's). 233: a case hasn't exactly
+/// one key; 234: the keys of a switch have different widths; 235: the fields before a key haven't all a fixed width, or
+/// the keys stand at different distances; 236: two keys have the same bits (kept of each: the name of the case; the field
+/// is the switch). 237: the rows of an array take no value (kept: the position of the field). 238: the width of a
+/// `bitstring` outside 1 to 32, the count of an array outside 0 to 1,048,576, the count of a `fill` outside 0 to
+/// 16,777,212, or a constant size of a text that its type can't have (kept: the value): a `string` has a size from 0 on, a
+/// `pstring` from 0 to 255, a `wstring` from 0 to 65,535, a `cstring` from 1 on; a size that is no constant, or a constant
+/// without a value, breaks no rule. Behind the walk 212: the first array that an expression names and that is none of its
+/// own body and of those around (kept: the name); the size of a text comes before the formats in it. Names are the same in whatever case. The body has the shape of a
+/// declaration: the width of a type that has its own, two or four fixed numbers of points, units that there are, arrays
+/// and switches at most 60 deep in one another, and so on. The walk goes as deep as these stand in one another. (MPW Rez.)
+pub fn check(alloc: Global, body: Body) -> Result<Template, Stop<TypeFault>>
+    requires { is_well_shaped (plain_body body) ≡ true }
+    ensures { Gives (checked (plain_body body)) (plain_templates result) }
+{
+    match check_fields(alloc, body.as_slice()) {
+        Ok(()) => {
+            let readable = is_body_readable(alloc, body.as_slice())?;
+            Ok(Template::of(body, readable))
+        }
+        Err(stop) => Err(stop),
+    }
+}
+
+/// The first rule that a field at this position breaks itself, behind arrays of these names.
+pub fn broken_field(
+    alloc: Global,
+    position: u64,
+    before: &[&Word],
+    field: &Field,
+) -> Result<Option<TypeFault>, NoMemory>
+    ensures { IfOk result (λ fault. fault ≡ or_else (bad_place position (map (λ name. name.now) before.now) (plain_field field.now))
+        (option_map (width_fault position) (bad_width (plain_field field.now)))) }
+{
+    match bad_place(alloc, position, before, field)? {
+        Some(fault) => Ok(Some(fault)),
+        None => match bad_width(field) {
+            Some(value) => Ok(Some(width_fault(position, value))),
+            None => Ok(None),
+        },
+    }
+}
+
+/// What is wrong with a field where it stands, beside its widths.
+fn bad_place(
+    alloc: Global,
+    position: u64,
+    before: &[&Word],
+    field: &Field,
+) -> Result<Option<TypeFault>, NoMemory>
+    ensures { IfOk result (λ fault. fault ≡ bad_place position (map (λ name. name.now) before.now) (plain_field field.now)) }
+{
+    match field {
+        Field::Array(array) => match array_twice(alloc, position, before, &array.name)? {
+            Some(fault) => Ok(Some(fault)),
+            None => Ok(no_values(position, array.row.as_slice())),
+        },
+        Field::Switch(cases) => case_twice(alloc, position, cases.as_slice()),
+        _ => Ok(None),
+    }
+}
+
+/// 231 for an array whose name one before it has.
+fn array_twice(
+    alloc: Global,
+    position: u64,
+    before: &[&Word],
+    name: &Option<Word>,
+) -> Result<Option<TypeFault>, NoMemory>
+    ensures { IfOk result (λ fault. fault ≡ array_twice position (map (λ name. name.now) before.now) name.now) }
+{
+    let Some(name) = name else {
+        return Ok(None);
+    };
+    if is_among(name.bytes.as_slice(), before) {
+        Ok(Some(name_fault(alloc, 231, position, name)?))
+    } else {
+        Ok(None)
+    }
+}
+
+/// 237 for an array whose rows take no value.
+fn no_values(position: u64, row: &[Field]) -> Option<TypeFault>
+    ensures { result ≡ no_values position (plain_body row.now) }
+{
+    if has_values(row) {
+        return None;
+    }
+    let position = position.min(MOST_KEPT);
+    Some(TypeFault {
+        number: 237,
+        field: position,
+        kept: Kept::Number(position as i64),
+    })
+}
+
+/// Whether a row of these fields takes one value at least.
+fn has_values(row: &[Field]) -> bool
+    ensures { result ≡ has_values (plain_body row.now) }
+{
+    for field in row {
+        if takes_value(field) {
+            return true;
+        }
+    }
+    false
+}
+
+/// 232 for a switch of which two cases have one name.
+fn case_twice(alloc: Global, position: u64, cases: &[Case]) -> Result<Option<TypeFault>, NoMemory>
+    ensures { IfOk result (λ fault. fault ≡ option_map (name_fault 232 position) (repeated (case_names (plain_cases cases.now)))) }
+{
+    match repeated(alloc, cases)? {
+        Some(name) => Ok(Some(name_fault(alloc, 232, position, name)?)),
+        None => Ok(None),
+    }
+}
+
+/// The first case name that stands before it too.
+fn repeated<'a>(alloc: Global, cases: &'a [Case]) -> Result<Option<&'a Word>, NoMemory>
+    ensures { IfOk result (λ name. option_map (λ name. name.now) name ≡ repeated (case_names (plain_cases cases.now))) }
+{
+    let mut before = Vec::new(alloc);
+    for case in cases {
+        if is_among(case.name.bytes.as_slice(), &before) {
+            return Ok(Some(&case.name));
+        }
+        before.push(&case.name)?;
+    }
+    Ok(None)
+}
+
+/// Whether a name is one of these, in whatever case.
+pub fn is_among(name: &[u8], names: &[&Word]) -> bool
+    ensures { result ≡ is_among name.now (map (λ name. name.now) names.now) }
+{
+    for one in names {
+        if one.is(name) {
+            return true;
+        }
+    }
+    false
+}
+
+/// The first rule that a case of the switch at this position breaks, by its keys, behind cases with those keys.
+pub fn broken_behind(
+    alloc: Global,
+    position: u64,
+    name: &Word,
+    keys: &[CaseKey],
+    before: &[CaseKey],
+) -> Result<Option<TypeFault>, NoMemory>
+    ensures { IfOk result (λ fault. fault ≡ bad_case position name.now keys.now before.now) }
+{
+    match key_rule(keys, before) {
+        Some(number) => Ok(Some(name_fault(alloc, number, position, name)?)),
+        None => Ok(None),
+    }
+}
+
+/// The number of the first rule that the keys of a case break, behind these.
+fn key_rule(keys: &[CaseKey], before: &[CaseKey]) -> Option<u16>
+    ensures { result ≡ key_rule keys.now before.now }
+{
+    let [key] = keys else {
+        return Some(233);
+    };
+    if has_other_width(key, before) {
+        Some(234)
+    } else if key.distance.is_none() || has_other_place(key, before) {
+        Some(235)
+    } else if has_same_bits(key, before) {
+        Some(236)
+    } else {
+        None
+    }
+}
+
+/// Whether one of the keys has another width.
+fn has_other_width(key: &CaseKey, before: &[CaseKey]) -> bool
+    ensures { result ≡ list_any (has_other_width key.now) before.now }
+{
+    for one in before {
+        if key.width != one.width {
+            return true;
+        }
+    }
+    false
+}
+
+/// Whether one of the keys stands at another distance.
+fn has_other_place(key: &CaseKey, before: &[CaseKey]) -> bool
+    ensures { result ≡ list_any (has_other_place key.now) before.now }
+{
+    for one in before {
+        if differ(key.distance, one.distance) {
+            return true;
+        }
+    }
+    false
+}
+
+fn differ(one: Option<u64>, other: Option<u64>) -> bool
+    ensures { result ≡ differ one other }
+{
+    match (one, other) {
+        (Some(one), Some(other)) => one != other,
+        _ => true,
+    }
+}
+
+/// Whether one of the keys has the same bits.
+fn has_same_bits(key: &CaseKey, before: &[CaseKey]) -> bool
+    ensures { result ≡ list_any (has_same_bits key.now) before.now }
+{
+    for one in before {
+        if key.bits == one.bits {
+            return true;
+        }
+    }
+    false
+}
+
+/// A fault of a field at this position that keeps a name.
+fn name_fault(alloc: Global, number: u16, position: u64, name: &Word) -> Result<TypeFault, NoMemory>
+    ensures { IfOk result (λ fault. fault ≡ name_fault number position name.now) }
+{
+    Ok(TypeFault {
+        number,
+        field: position.min(MOST_KEPT),
+        kept: Kept::Name(name.copy(alloc)?.bytes),
+    })
+}
+
+/// 212 for an array that a field at this position can't name.
+pub fn unknown_fault(alloc: Global, position: u64, name: &Word) -> Result<TypeFault, NoMemory>
+    ensures { IfOk result (λ fault. fault ≡ unknown_fault position name.now.bytes) }
+{
+    name_fault(alloc, 212, position, name)
+}
+
+/// 238 for a field at this position.
+fn width_fault(position: u64, value: i32) -> TypeFault
+    ensures { result ≡ width_fault position value }
+{
+    TypeFault {
+        number: 238,
+        field: position.min(MOST_KEPT),
+        kept: Kept::Number(i64::from(value)),
+    }
+}
+
+/// The width, the count or the constant size of a field, where it can't be.
+fn bad_width(field: &Field) -> Option<i32>
+    ensures { result ≡ bad_width (plain_field field.now) }
+{
+    match field {
+        Field::Num(number) => unless(may_be_width(number.form, number.width), number.width),
+        Field::Text(text) => bad_size(text),
+        Field::Fill(_, count) => unless(may_be_count(*count), *count),
+        Field::Array(array) => bad_rows(array.count),
+        Field::Points(_) | Field::Align(_) | Field::Switch(_) => None,
+    }
+}
+
+/// The stated number of rows, where it can't be.
+fn bad_rows(count: Option<i32>) -> Option<i32>
+    ensures { result ≡ bad_rows count }
+{
+    match count {
+        Some(count) => unless(may_be_rows(count), count),
+        None => None,
+    }
+}
+
+/// A value that can't be.
+fn unless(allowed: bool, value: i32) -> Option<i32>
+    ensures { result ≡ unless allowed value }
+{
+    if allowed { None } else { Some(value) }
+}
+
+fn bad_size(text: &TextField) -> Option<i32>
+    ensures { result ≡ bad_size (plain_text text.now).form (plain_text text.now).size }
+{
+    let Some(size) = &text.size else {
+        return None;
+    };
+    match constant_of(size) {
+        Some(size) => unless(may_be_size(text.form, size), size),
+        None => None,
+    }
+}
+
+fn may_be_width(form: NumForm, width: i32) -> bool
+    ensures { result ≡ may_be_width form width }
+{
+    match form {
+        NumForm::Bits => 1 <= width && width <= 32,
+        _ => true,
+    }
+}
+
+fn may_be_count(count: i32) -> bool
+    ensures { result ≡ may_be_count count }
+{
+    0 <= count && count <= MOST_UNITS
+}
+
+fn may_be_rows(count: i32) -> bool
+    ensures { result ≡ may_be_rows count }
+{
+    0 <= count && count <= MOST_ROWS
+}

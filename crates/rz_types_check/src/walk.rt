@@ -1,0 +1,217 @@
+ghost use Rattle.std.specs.Prelude.{IfOk, OnOk, ◌≡◌, ◌+◌, ◌++◌, [], map, option_map};
+ghost use Rattle.std.specs.Option.{option_to_list};
+ghost use Rattle.rz_core.specs.Stop.{Gives};
+ghost use Rattle.rz_core.specs.Lists.{unless_fault};
+ghost use Rattle.rz_types_fields.specs.Field.{plain_body, plain_cases, plain_field};
+ghost use Rattle.rz_types.specs.Rules.{broken, kept_position, unknown_fault, unknown_in};
+ghost use Rattle.rz_types.specs.Walk.{names_of, own_names};
+ghost use Rattle.rz_types_check.specs.Walked.{all_met, body_met, cases_met, field_met, met_of, scope_of, Walks};
+
+use crate::named::unknown_in;
+use crate::rules::{MOST_KEPT, broken_behind, broken_field, unknown_fault};
+use rz_core::{NoMemory, Stop, Word};
+use rz_types::TypeFault;
+use rz_types_fields::{Case, CaseKey, Field, case_keys};
+use std::alloc::Global;
+
+/// A walk over the fields of a declaration, depth first.
+#[derive(Drop)]
+pub struct Walk<'a> {
+    /// The position of the next field, from 0, at most 2^63 - 1.
+    pub position: u64,
+    /// The names of the arrays so far.
+    pub names: Vec<&'a Word>,
+    /// Those of the arrays that may be named here: of this body, and of the bodies around.
+    pub scope: Vec<&'a Word>,
+    /// The first name that a field can't name.
+    pub unknown: Option<TypeFault>,
+}
+
+/// Refuses the first rule that fields break.
+pub fn check_fields(alloc: Global, fields: &[Field]) -> Result<(), Stop<TypeFault>>
+    ensures { Gives (unless_fault (broken (plain_body fields.now)) tt) result }
+{
+    let mut walk = Walk {
+        position: 0,
+        names: Vec::new(alloc),
+        scope: Vec::new(alloc),
+        unknown: None,
+    };
+    match walk_body(alloc, fields, &mut walk) {
+        Ok(()) => {}
+        Err(stop) => return Err(stop),
+    }
+    let Walk {
+        position: _,
+        names: _,
+        scope: _,
+        unknown,
+    } = walk;
+    match unknown {
+        Some(fault) => Err(Stop::Refused(fault)),
+        None => Ok(()),
+    }
+}
+
+/// Walks over a body: its fields may name its arrays too.
+#[cycle(walk)]
+fn walk_body<'a>(
+    alloc: Global,
+    row: &'a [Field],
+    walk: &mut Walk<'a>,
+) -> Result<(), Stop<TypeFault>>
+    ensures { Walks (body_met (scope_of walk.old ++ names_of (plain_body row.now)) (met_of walk.old) (plain_body row.now)) walk.old result walk.new }
+{
+    let around = walk.scope.len();
+    push_names(&mut walk.scope, row)?;
+    match walk_fields(alloc, row, walk) {
+        Ok(()) => {}
+        Err(stop) => return Err(stop),
+    }
+    walk.scope.truncate(around);
+    Ok(())
+}
+
+/// Walks over the fields of a body.
+#[cycle(walk)]
+fn walk_fields<'a>(
+    alloc: Global,
+    fields: &'a [Field],
+    walk: &mut Walk<'a>,
+) -> Result<(), Stop<TypeFault>>
+    ensures { Walks (body_met (scope_of walk.old) (met_of walk.old) (plain_body fields.now)) walk.old result walk.new }
+{
+    for field in fields {
+        match walk_field(alloc, field, walk) {
+            Ok(()) => {}
+            Err(stop) => return Err(stop),
+        }
+    }
+    Ok(())
+}
+
+/// Walks over a field and the fields within it.
+#[cycle(walk)]
+fn walk_field<'a>(
+    alloc: Global,
+    field: &'a Field,
+    walk: &mut Walk<'a>,
+) -> Result<(), Stop<TypeFault>>
+    ensures { Walks (all_met (scope_of walk.old) (met_of walk.old) (plain_field field.now)) walk.old result walk.new }
+{
+    let position = walk.position;
+    match meet(alloc, field, walk) {
+        Ok(()) => {}
+        Err(stop) => return Err(stop),
+    }
+    match field {
+        Field::Array(array) => walk_body(alloc, array.row.as_slice(), walk),
+        Field::Switch(cases) => walk_cases(alloc, position, cases.as_slice(), walk),
+        _ => Ok(()),
+    }
+}
+
+/// Walks over the cases of the switch at this position.
+#[cycle(walk)]
+fn walk_cases<'a>(
+    alloc: Global,
+    position: u64,
+    cases: &'a [Case],
+    walk: &mut Walk<'a>,
+) -> Result<(), Stop<TypeFault>>
+    ensures { Walks (cases_met (scope_of walk.old) position [] (met_of walk.old) (plain_cases cases.now)) walk.old result walk.new }
+{
+    let mut keys = Vec::new(alloc);
+    for case in cases {
+        match walk_body(alloc, case.row.as_slice(), walk) {
+            Ok(()) => {}
+            Err(stop) => return Err(stop),
+        }
+        let own = case_keys(alloc, case.row.as_slice())?;
+        if let Some(fault) = broken_behind(alloc, position, &case.name, &own, &keys)? {
+            return Err(Stop::Refused(fault));
+        }
+        push_keys(&mut keys, &own)?;
+    }
+    Ok(())
+}
+
+/// Meets a field: refuses the first rule that it breaks itself, and else steps behind it.
+fn meet<'a>(alloc: Global, field: &'a Field, walk: &mut Walk<'a>) -> Result<(), Stop<TypeFault>>
+    ensures { Walks (field_met (scope_of walk.old) (met_of walk.old) (plain_field field.now)) walk.old result walk.new }
+{
+    if let Some(fault) = broken_field(alloc, walk.position, &walk.names, field)? {
+        return Err(Stop::Refused(fault));
+    }
+    if walk.unknown.is_none() {
+        walk.unknown = unknown_here(alloc, walk.position, &walk.scope, field)?;
+    }
+    push_name(&mut walk.names, field)?;
+    walk.position = next_position(walk.position);
+    Ok(())
+}
+
+/// The first name that a field at this position can't name.
+fn unknown_here(
+    alloc: Global,
+    position: u64,
+    scope: &[&Word],
+    field: &Field,
+) -> Result<Option<TypeFault>, NoMemory>
+    ensures { IfOk result (λ fault. fault ≡ option_map (unknown_fault position) (unknown_in (map (λ name. name.now) scope.now) (plain_field field.now))) }
+{
+    match unknown_in(scope, field) {
+        Some(name) => Ok(Some(unknown_fault(alloc, position, name)?)),
+        None => Ok(None),
+    }
+}
+
+fn next_position(position: u64) -> u64
+    ensures { result ≡ kept_position (position + 1) }
+{
+    if position < MOST_KEPT {
+        position + 1
+    } else {
+        MOST_KEPT
+    }
+}
+
+/// Appends the names of the arrays of a body.
+fn push_names<'a>(names: &mut Vec<&'a Word>, row: &'a [Field]) -> Result<(), NoMemory>
+    ensures { OnOk result (map (λ name. name.now) names.new.items ≡ map (λ name. name.now) names.old.items ++ names_of (plain_body row.now)) }
+{
+    for field in row {
+        push_name(names, field)?;
+    }
+    Ok(())
+}
+
+/// Appends the name of an array.
+fn push_name<'a>(names: &mut Vec<&'a Word>, field: &'a Field) -> Result<(), NoMemory>
+    ensures { OnOk result (map (λ name. name.now) names.new.items ≡ map (λ name. name.now) names.old.items ++ own_names (plain_field field.now)) }
+{
+    if let Some(name) = own_name(field) {
+        names.push(name)?;
+    }
+    Ok(())
+}
+
+/// The name of an array.
+fn own_name(field: &Field) -> Option<&Word>
+    ensures { option_to_list (option_map (λ name. name.now) result) ≡ own_names (plain_field field.now) }
+{
+    match field {
+        Field::Array(array) => array.name.as_ref(),
+        _ => None,
+    }
+}
+
+/// Appends keys.
+fn push_keys(keys: &mut Vec<CaseKey>, own: &[CaseKey]) -> Result<(), NoMemory>
+    ensures { OnOk result (keys.new.items ≡ keys.old.items ++ own.now) }
+{
+    for key in own {
+        keys.push(*key)?;
+    }
+    Ok(())
+}

@@ -1,0 +1,6 @@
+use Rattle.std.proofs.Common.{◌≡◌, drop}
+use Rattle.rz_types_fields.specs.Value.{symbol_value}
+use Rattle.rz_types_fields.proofs.value.symbol_value.Given as goal
+
+abbrev pub invariant-loop-symbol : goal.invariant-loop-symbol
+invariant-loop-symbol l = symbol_value (drop l.symbol-index l.symbols) l.name.bytes ≡ symbol_value l.symbols l.name.bytes

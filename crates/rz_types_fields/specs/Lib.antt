@@ -1,0 +1,15 @@
+pub mod Appended
+pub mod Range
+pub mod Value
+pub mod Text
+pub mod Place
+pub mod Field
+pub mod Shape
+pub mod Stored
+pub mod Width
+pub mod Solve
+pub mod Piece
+pub mod Passed
+pub mod Row
+pub mod Spells
+pub mod Laid

@@ -1,0 +1,88 @@
+-- The names that fields give values, and what the fields before one tell of them. (MPW Rez.)
+use Rattle.std.specs.Prelude.{ℕ, ℤ, Bool, false, ◌&&◌, ◌||◌, not, if◌then◌else◌, List, [], ◌∷◌, Option, Some, None}
+use Rattle.std.specs.Option.{is_some}
+use Rattle.std.specs.Str.{str_eq_ignore_ascii_case}
+use Rattle.rz_core.specs.declared.resource.Word.{Word}
+use Rattle.rz_expr.specs.Environment.{count_of, place_of, Environment, Key}
+use Rattle.rz_expr.specs.Term.{Term}
+use Rattle.rz_types_fields.specs.Field.{field_and, no_fields, Array, PlainBody, PlainField}
+use Rattle.rz_types_fields.specs.Piece.{pieces_of, OneNumber, Piece}
+use Rattle.rz_types_fields.specs.Solve.{has_key}
+use Rattle.rz_types_fields.specs.Value.{symbol_key}
+
+abbrev pub Names : Type 0
+Names = Key → Bool
+
+-- what has a value outside of all fields: `true` and `false`
+abbrev pub outside : Environment
+outside = record { give = symbol_key [] }
+
+-- the key is the number of rows of an array of this name, in whatever case
+abbrev pub counts_rows : List ℕ → Key → Bool
+counts_rows name (place_of other) = false
+counts_rows name (count_of other) = str_eq_ignore_ascii_case name other
+
+-- the name of an array gives this key a value
+abbrev pub gives_count : Option Word → Key → Bool
+gives_count None key = false
+gives_count (Some name) key = counts_rows name.bytes key
+
+-- the field gives this key a value: so far an array does, by the number of its rows
+abbrev pub gives_key : PlainField → Key → Bool
+gives_key (Array name count row) key = gives_count name key
+gives_key field key = false
+
+-- one of the fields of a body does
+abbrev pub declares : PlainBody → Key → Bool
+declares no_fields key = false
+declares (field_and field fields) key = gives_key field key || declares fields key
+
+-- What the fields before one tell of names: which stand before it, labels and arrays by the numbers of their rows, and which
+-- are told, by a stated count or by a number before it.
+pub record Passed : Type 0 where
+  pub met : Names
+  pub told : Names
+
+abbrev pub is_known : Passed → Names
+is_known passed key = passed.met key || passed.told key
+
+-- outside of all fields `true` and `false` are known
+abbrev pub nothing_passed : Passed
+nothing_passed = record { met = λ key. is_some (outside.give key); told = λ key. false }
+
+-- an array with a stated count tells its key
+abbrev pub states_count : Option Word → Option ℤ → Names
+states_count name None key = false
+states_count name (Some count) key = gives_count name key
+
+abbrev pub states_key : PlainField → Names
+states_key (Array name count row) key = states_count name count key
+states_key field key = false
+
+abbrev pub states : PlainBody → Names
+states no_fields key = false
+states (field_and field fields) key = states_key field key || states fields key
+
+-- at the front of a body: what was known outside of it but for its own names, and of these the stated counts
+abbrev pub at_front : PlainBody → Passed → Passed
+at_front body passed = record {
+  met = λ key. not (declares body key) && passed.met key;
+  told = λ key. if declares body key then states body key else passed.told key;
+}
+
+-- behind a number its expression's names are told
+abbrev pub told_by : Option Term → Passed → Passed
+told_by None passed = passed
+told_by (Some term) passed = record { met = passed.met; told = λ key. has_key key term || passed.told key }
+
+abbrev pub behind_piece : Piece → Passed → Passed
+behind_piece (OneNumber number) passed = told_by number.fixed passed
+behind_piece piece passed = passed
+
+abbrev pub behind_pieces : List Piece → Passed → Passed
+behind_pieces [] passed = passed
+behind_pieces (piece ∷ pieces) passed = behind_pieces pieces (behind_piece piece passed)
+
+-- behind a field: an array is met, and what its numbers tell
+abbrev pub behind : PlainField → Passed → Passed
+behind field passed = behind_pieces (pieces_of field) (record { met = λ key. gives_key field key || passed.met key; told = passed.told })

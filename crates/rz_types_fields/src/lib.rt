@@ -1,0 +1,39 @@
+//! The fields of type declarations, and what a resource gives them: numbers and strings with their ranges, the parts of
+//! strings and where they may stand, the values of expressions with the facts of a resource, fixed widths and the keys of
+//! cases, how values are stored, and rows of values with the bytes that they spell. Each call gives exactly its
+//! definition. Definitions alone are the shape of fields, their pieces, the names that fields give values, how a name is
+//! solved, when values are a row of fields, and which bytes they are laid as, piece after piece, or where they are refused
+//! first. The rules that the fields of a type keep stand in `rz_types`, where a type is found in `rz_types_table`;
+//! `rz_stmt_items` makes a row of items, `rz_layout` bytes of a row, and `rz_unlay` a row of bytes.
+//! It rests on `rz_core`, `rz_bits`, `rz_types_format`, `rz_lex` and `rz_expr`.
+//! A new kind of field changes `Field` and its mirror `PlainField`, the shape, the pieces and the width here, its value in
+//! `specs/Row` and `Tree`, its stored form in `specs/Spells` and how it is laid in `specs/Laid`, the rules and whether it is
+//! read in `rz_types`, the walk in `rz_types_check`, `copies` of `rz_types_table`, its form in `rz_stmt_fields` and, for
+//! strings and what has fields within it, in `rz_stmt_type`, which has the values of constants too, the item that fits it
+//! in `rz_stmt_items`, and what `rz_layout` lays. A new kind of value is a variant of `Tree`, with a call of `values`.
+#![tactic(auto)]
+
+mod field;
+mod keys;
+mod place;
+mod range;
+mod stored;
+mod text;
+mod tree;
+mod value;
+pub mod values;
+
+pub use field::{
+    ArrayField, Body, Case, Cases, Exprs, Field, NumField, NumForm, PointField, Radix, Symbol,
+    Symbols, TextField, TextForm, takes_value,
+};
+pub use keys::{CaseKey, case_keys, fixed_width, fixed_widths, key_bits, sized_bytes, text_width};
+pub use place::{TextPlace, may_say, may_stand};
+pub use range::{fits_number, may_be_size, own_width};
+pub use stored::{is_too_long, stored_number};
+pub use text::{FormatArg, FormatArgs, ResKey, TextPart, Texts, text_of, text_seen};
+pub use tree::{Numbers, Row, RowList, Tree};
+pub use value::{
+    FieldEnv, constant_value, fact_of, is_field_expression, is_fixed_expression,
+    is_head_expression, is_item_expression, number_of, symbol_number_of, value_seen,
+};

@@ -1,0 +1,143 @@
+ghost use Rattle.rz_types_table.specs.Listed.{codes_of};
+ghost use Rattle.rz_types_table.specs.Positions.{ArePlaced};
+
+use crate::copies::copy_template;
+use crate::find::{asked_in, find_in, no_such_type, position_of};
+use crate::positions::{Places, add, held, placed_without};
+use rz_core::{NoMemory, OsType, Stop};
+use rz_types::{Template, TypeFault};
+use std::alloc::Global;
+
+/// For which ids a declaration is. (MPW Rez.)
+#[derive(Clone, Copy, Debug, PartialEq, Eq)]
+pub enum Scope {
+    /// For this id.
+    Id(i16),
+    /// For the ids from the first to the last.
+    Range(i16, i16),
+    /// For any id.
+    Any,
+}
+
+/// A declaration.
+#[derive(Debug, Drop)]
+pub struct Declared {
+    pub kind: OsType,
+    pub scope: Scope,
+    pub template: Template,
+}
+
+/// The declarations of types, in the order in which they were made. Contracts see it as their list. Beside the list it
+/// holds where the declarations of each type stand in it.
+#[derive(Debug, Drop)]
+pub struct TypeTable {
+    declared: Vec<Declared>,
+    places: Places,
+    ghost placed: { ArePlaced (codes_of declared.items) places },
+}
+
+impl TypeTable {
+    ghost use Rattle.std.specs.Prelude.{◌≡◌, ◌<◌, [], ◌∷◌, ◌++◌, length, IfOk, OnErr, OnOk, option_map};
+    ghost use Rattle.std.specs.List.{remove};
+    ghost use Rattle.rz_core.specs.Stop.{Gives};
+    ghost use Rattle.rz_types_table.specs.Table.{copied, declared_behind, found, has_place};
+    ghost use Rattle.rz_types.specs.Template.{plain_templates, template_of};
+    ghost use Rattle.rz_types_table.specs.TypeTable.{table_of};
+
+    /// The table without declarations. It takes no memory.
+    pub fn new(alloc: Global) -> TypeTable
+        ensures { table_of result ≡ [] }
+    {
+        TypeTable {
+            declared: Vec::new(alloc),
+            places: Places::new(alloc),
+        }
+    }
+
+    /// Adds a declaration at the end. One of the same type and scope is taken out; it answers whether there
+    /// was one. Where memory is refused the table is unchanged. It goes once over the declarations of the type,
+    /// and where one is taken out once over all. (MPW Rez.)
+    pub fn declare(
+        &mut self,
+        kind: OsType,
+        scope: Scope,
+        template: Template,
+    ) -> Result<bool, NoMemory>
+        ensures again { IfOk result (λ again. again ≡ has_place kind scope (table_of self.old)) }
+        ensures table { OnOk result (table_of self.new ≡ declared_behind (table_of self.old) (record { kind = kind; scope = scope; template = template_of template })) }
+        ensures err { OnErr result (table_of self.new ≡ table_of self.old) }
+    {
+        let old = position_of(&self.declared, held(&self.places, kind.code), kind, scope);
+        let one = Declared {
+            kind,
+            scope,
+            template,
+        };
+        match old {
+            Some(position) => {
+                self.replace(position, one)?;
+                Ok(true)
+            }
+            None => {
+                self.append(one)?;
+                Ok(false)
+            }
+        }
+    }
+
+    /// A declaration at the end.
+    fn append(&mut self, one: Declared) -> Result<(), NoMemory>
+        ensures ok { OnOk result (self.new.declared.items ≡ self.old.declared.items ++ one ∷ []) }
+        ensures err { OnErr result (self.new.declared.items ≡ self.old.declared.items) }
+    {
+        let kind = one.kind.code;
+        let position = self.declared.len();
+        self.declared.push(one)?;
+        match add(*self.declared.allocator(), &mut self.places, kind, position) {
+            Ok(()) => Ok(()),
+            Err(refused) => {
+                self.declared.truncate(position);
+                Err(refused)
+            }
+        }
+    }
+
+    /// A declaration at the end, and the one at this position taken out. All memory is taken before the first
+    /// change.
+    fn replace(&mut self, position: usize, one: Declared) -> Result<(), NoMemory>
+        requires { position < length self.old.declared.items }
+        ensures ok { OnOk result (self.new.declared.items ≡ remove (self.old.declared.items ++ one ∷ []) position) }
+        ensures err { OnErr result (self.new.declared.items ≡ self.old.declared.items) }
+    {
+        let alloc = *self.declared.allocator();
+        let places = placed_without(alloc, &self.declared, position, one.kind.code)?;
+        self.declared.push(one)?;
+        self.declared.remove(position);
+        self.places = places;
+        Ok(())
+    }
+
+    /// The template of the last declaration of the type for this very id, else of the last whose range holds
+    /// the id, else of the last for any id. `None` where there is none of them. It takes no memory, and goes once
+    /// over the declarations of the type alone. (MPW Rez.)
+    pub fn find(&self, kind: OsType, id: i16) -> Option<&Template>
+        ensures { option_map (λ template. template_of template.now) result ≡ option_map (λ one. one.template) (found kind id (table_of self.now)) }
+    {
+        match find_in(&self.declared, held(&self.places, kind.code), kind, id) {
+            Some(one) => Some(&one.template),
+            None => None,
+        }
+    }
+
+    /// A copy of the template that `find` gives, or without an id of that of the last declaration for any
+    /// id. 239 where there is none (kept: the type, and the id or 0). It goes once over the declarations of the type
+    /// alone. (MPW Rez.)
+    pub fn copy_of(&self, kind: OsType, id: Option<i16>) -> Result<Template, Stop<TypeFault>>
+        ensures { Gives (copied kind id (table_of self.now)) (plain_templates result) }
+    {
+        match asked_in(&self.declared, held(&self.places, kind.code), kind, id) {
+            Some(one) => Ok(copy_template(*self.declared.allocator(), &one.template)?),
+            None => Err(Stop::Refused(no_such_type(kind, id))),
+        }
+    }
+}

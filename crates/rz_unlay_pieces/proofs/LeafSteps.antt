@@ -1,0 +1,60 @@
+-- What each kind of field is read as.
+use Rattle.std.proofs.Common.{◌≡◌, ℕ, ◌*◌, Bool, ℤ, List, Option, sym, ap, ◌∙◌}
+use Rattle.std.specs.Prelude.{nat_abs}
+use Rattle.rz_core.specs.declared.facts.Facts.{Facts}
+use Rattle.rz_bits.specs.BitBuf.{missing}
+use Rattle.rz_expr.specs.Environment.{Environment}
+use Rattle.rz_types_fields.specs.declared.field.ArrayField.{ArrayField}
+use Rattle.rz_types_fields.specs.declared.field.Case.{Case}
+use Rattle.rz_types_fields.specs.declared.field.Field.{Field}
+use Rattle.rz_types_fields.specs.declared.field.Field.TheFolds.{fold-roll-Field}
+use Rattle.rz_types_fields.specs.declared.field.Field.TheOpen.{Field-F}
+use Rattle.rz_types_fields.specs.declared.field.Field.TheVariants as fields
+use Rattle.rz_types_fields.specs.declared.field.Field.TheVariants.{rolls-Align, rolls-Array, rolls-Fill, rolls-Num, rolls-Points, rolls-Switch, rolls-Text}
+use Rattle.rz_types_fields.specs.declared.field.NumField.{NumField}
+use Rattle.rz_types_fields.specs.declared.field.PointField.{PointField}
+use Rattle.rz_types_fields.specs.declared.field.TextField.{TextField}
+use Rattle.rz_types_fields.specs.Field.{array_step, case_step, field_step, plain_array, plain_cases, plain_field, plain_number, plain_points, plain_text, Align, Fill, Number, PlainBody, PlainCase, PlainField, Points, Switch, Text}
+use Rattle.rz_unlay_pieces.specs.Pieces.{field_of_pieces, number_step, text_step, zeros_step, Step}
+use Rattle.rz_unlay_pieces.proofs.PieceSteps.{align_alone, fill_alone, number_alone, text_alone}
+
+pub num_is : (field : Field) (number : NumField) → field ≡ fields.Num number → plain_field field ≡ Number (plain_number number)
+num_is field number is = ap plain_field is ∙ ap plain_field (sym (rolls-Num number)) ∙ fold-roll-Field PlainField PlainField PlainCase field_step array_step case_step (Field-F.Num number)
+
+pub text_is : (field : Field) (text : TextField) → field ≡ fields.Text text → plain_field field ≡ Text (plain_text text)
+text_is field text is = ap plain_field is ∙ ap plain_field (sym (rolls-Text text)) ∙ fold-roll-Field PlainField PlainField PlainCase field_step array_step case_step (Field-F.Text text)
+
+pub points_is : (field : Field) (points : PointField) → field ≡ fields.Points points → plain_field field ≡ Points (plain_points points)
+points_is field points is = ap plain_field is ∙ ap plain_field (sym (rolls-Points points)) ∙ fold-roll-Field PlainField PlainField PlainCase field_step array_step case_step (Field-F.Points points)
+
+pub fill_is : (field : Field) (unit : ℕ) (count : ℤ) → field ≡ fields.Fill unit count → plain_field field ≡ Fill unit count
+fill_is field unit count is = ap plain_field is ∙ ap plain_field (sym (rolls-Fill unit count)) ∙ fold-roll-Field PlainField PlainField PlainCase field_step array_step case_step (Field-F.Fill unit count)
+
+pub align_is : (field : Field) (unit : ℕ) → field ≡ fields.Align unit → plain_field field ≡ Align unit
+align_is field unit is = ap plain_field is ∙ ap plain_field (sym (rolls-Align unit)) ∙ fold-roll-Field PlainField PlainField PlainCase field_step array_step case_step (Field-F.Align unit)
+
+pub array_field : (field : Field) (array : ArrayField) → field ≡ fields.Array array → plain_field field ≡ plain_array array
+array_field field array is = ap plain_field is ∙ ap plain_field (sym (rolls-Array array)) ∙ fold-roll-Field PlainField PlainField PlainCase field_step array_step case_step (Field-F.Array array)
+
+pub switch_is : (field : Field) (cases : List Case) → field ≡ fields.Switch cases → plain_field field ≡ Switch (plain_cases cases)
+switch_is field cases is = ap plain_field is ∙ ap plain_field (sym (rolls-Switch cases)) ∙ fold-roll-Field PlainField PlainField PlainCase field_step array_step case_step (Field-F.Switch cases)
+
+module _ (known : Facts) (all : List Bool) (rest : PlainBody) (names : Environment) (at : ℕ) (field : Field) where
+  abbrev whole : PlainField → Option Step
+  whole plain = field_of_pieces known all rest plain names at
+
+  pub number_piece : (number : NumField) → field ≡ fields.Num number
+      → number_step known all number.form number.width (plain_number number).fixed names at ≡ whole (plain_field field)
+  number_piece number is = sym (ap whole (num_is field number is) ∙ number_alone known all rest names at (plain_number number))
+
+  pub text_piece : (text : TextField) → field ≡ fields.Text text → text_step known all rest (plain_text text) names at ≡ whole (plain_field field)
+  text_piece text is = sym (ap whole (text_is field text is) ∙ text_alone known all rest names at (plain_text text))
+
+  pub fill_piece : (unit : ℕ) (count : ℤ) → field ≡ fields.Fill unit count → zeros_step all (unit * nat_abs count) names at ≡ whole (plain_field field)
+  fill_piece unit count is = sym (ap whole (fill_is field unit count is) ∙ fill_alone known all rest names at unit count)
+
+  pub align_piece : (unit : ℕ) → field ≡ fields.Align unit → zeros_step all (missing unit at) names at ≡ whole (plain_field field)
+  align_piece unit is = sym (ap whole (align_is field unit is) ∙ align_alone known all rest names at unit)
+
+  pub points_piece : (points : PointField) → field ≡ fields.Points points → whole (Points (plain_points points)) ≡ whole (plain_field field)
+  points_piece points is = sym (ap whole (points_is field points is))

@@ -1,0 +1,27 @@
+ghost use Rattle.std.specs.Prelude.{◌≡◌};
+ghost use Rattle.rz_unlay_pieces.specs.Few.{value_count};
+
+use rz_types_fields::Tree;
+
+/// What stands at a piece or at a field without fields within it.
+#[derive(Debug, Drop)]
+pub struct Came {
+    /// Its value, where the row has one.
+    pub value: Option<Tree>,
+    /// The place behind it, in bits.
+    pub after: u32,
+    /// How many values it counts.
+    pub cost: u32,
+    ghost counted: { value_count value ≡ cost },
+}
+
+/// What stands at a field.
+#[derive(Debug, Drop)]
+pub struct Met {
+    /// Its value, where the row has one.
+    pub value: Option<Tree>,
+    /// The place behind it, in bits.
+    pub after: u32,
+    /// How many values more there may be.
+    pub left: u32,
+}
