@@ -47,14 +47,14 @@ use Rattle.rz_stmt.specs.Raw.{Raw}
 use Rattle.rz_stmt.specs.Statements.{AreStatements}
 use Rattle.rz_tools.specs.Again.{AreShort, HasMacros, MeanResources, MeansAgain, SparesWords}
 use Rattle.rz_tools.specs.DeRez.{ShowsEach}
-use Rattle.rz_tools.specs.Files.{items_read}
-use Rattle.rz_tools.specs.Resource.{no_type, IsMade, IsResource}
+use Rattle.rz_tools_resource.specs.Items.{items_read}
+use Rattle.rz_tools_resource.specs.Resource.{no_type, IsMade, IsResource}
 use Rattle.rz_tools.specs.Shown.{facts_of, its_bytes, its_row, IsShownBy, Known, TellsRow}
 use Rattle.rz_set.specs.After.{forbidden}
-use Rattle.rz_tools_work.specs.Around.{Around}
+use Rattle.rz_tools_values.specs.Around.{Around}
 use Rattle.rz_tools_work.specs.Put.{list_with}
-use Rattle.rz_tools_work.specs.Work.{list_behind, Work}
-use Rattle.rz_tools.specs.Step.{IsListBehind, Means, Steps}
+use Rattle.rz_tools_work.specs.Work.{Work}
+use Rattle.rz_tools.specs.Step.{list_behind, IsListBehind, Means, Steps}
 use Rattle.rz_set.specs.ResSet.{found}
 use Rattle.rz_types_fields.specs.Row.{IsRow}
 use Rattle.rz_types_fields.specs.Spells.{Spells}

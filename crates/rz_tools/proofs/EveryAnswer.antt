@@ -31,7 +31,7 @@ use Rattle.rz_tools_output.specs.Output.{file_of, form_asked, list_fork, IsFileO
 use Rattle.rz_tools.specs.Program.{command, misplaced, Answers, AnswersTo}
 use Rattle.rz_tools.specs.Rez.{around_of, BeginsWith, Compiles, HasOutput, IsMadeBehind, IsMadeOf}
 use Rattle.rz_tools.specs.Sources.{HasWork, IsProgramOf}
-use Rattle.rz_tools_work.specs.Around.{Around}
+use Rattle.rz_tools_values.specs.Around.{Around}
 use Rattle.rz_tools_args.specs.Command.{Asked, Bridge, BridgeAsked, DeRez, DeRezAsked, Help, IsCommand, IsMisplaced, Rez, RezAsked, Version}
 
 module _ (name : (form : Form) (path : List ℕ) (file : MacFile) → Has (Named form path file)) where

@@ -18,12 +18,12 @@ use Rattle.rz_types_table.specs.Table.{Declaration}
 use Rattle.rz_tools_answer.specs.Warning.{said_beside, warning_lines}
 use Rattle.rz_tools.proofs.EveryResource.{declared_kept, AreKept}
 use Rattle.rz_tools.specs.Sources.{compiled, Compiled, HasWork, InProgram, SaidBeside, Unsaid}
-use Rattle.rz_tools.specs.Step.{Changes, IsBehind, IsListBehind, MakesList, Means, Steps, WarnedFault, WithWarnings}
-use Rattle.rz_tools_work.specs.Around.{Around}
+use Rattle.rz_tools.specs.Step.{list_behind, Changes, IsBehind, IsListBehind, MakesList, Means, Steps, WarnedFault, WithWarnings}
+use Rattle.rz_tools_values.specs.Around.{Around}
 use Rattle.rz_tools_work.specs.Lists.{list_after}
 use Rattle.rz_tools_work.specs.ToolWords.{numbered}
-use Rattle.rz_tools_work.specs.Work.{begun, declared, list_behind, with_list, Work}
-use Rattle.rz_tools_work.specs.declared.setting.Setting.{Setting}
+use Rattle.rz_tools_work.specs.Work.{begun, declared, with_list, Work}
+use Rattle.rz_tools_values.specs.declared.setting.Setting.{Setting}
 
 -- An answer, and what is said with it.
 

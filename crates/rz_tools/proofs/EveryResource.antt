@@ -22,19 +22,19 @@ use Rattle.rz_stmt_items.specs.Match.{IsMatch}
 use Rattle.rz_types_fields.specs.Row.{IsRow}
 use Rattle.rz_types_fields.specs.declared.tree.Tree.{Tree}
 use Rattle.rz_types_table.specs.Table.{asked, copied, found, is_any, is_for, is_id, is_range_of, last_such, no_such_type, stands_at, without, Declaration}
-use Rattle.rz_tools.specs.Files.{items_read}
-use Rattle.rz_tools.specs.Resource.{fields_for, no_type, row_fault, AreBytes, AreItemBytes, AreReadBytes, IsMade, IsResource, IsSpelled}
+use Rattle.rz_tools_resource.specs.Items.{items_read}
+use Rattle.rz_tools_resource.specs.Resource.{fields_for, no_type, row_fault, AreBytes, AreItemBytes, AreReadBytes, IsMade, IsResource, IsSpelled}
 use Rattle.rz_tools.specs.Step.{IsListBehind}
 use Rattle.rz_types.specs.Field.{PlainBody}
 use Rattle.rz_types.specs.Rules.{broken, checked, keeps_rules}
 use Rattle.rz_types.specs.declared.rules.TypeFault.{TypeFault}
-use Rattle.rz_tools_work.specs.Around.{Around}
-use Rattle.rz_tools_work.specs.Data.{with_bytes}
+use Rattle.rz_tools_values.specs.Around.{Around}
+use Rattle.rz_tools_values.specs.Contents.{with_bytes}
 use Rattle.rz_tools_work.specs.Declare.{copied_id, on_line, scope_of, template_of}
-use Rattle.rz_tools_work.specs.Head.{facts_of}
+use Rattle.rz_tools_values.specs.Head.{facts_of}
 use Rattle.rz_tools_work.specs.Put.{list_with}
 use Rattle.rz_tools_work.specs.Work.{declared, with_type, Work}
-use Rattle.rz_tools_work.specs.declared.setting.Setting.{Setting}
+use Rattle.rz_tools_values.specs.declared.setting.Setting.{Setting}
 
 -- the fields of the declaration keep the rules
 abbrev pub IsKept : Declaration → Type 0

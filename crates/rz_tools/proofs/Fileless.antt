@@ -30,8 +30,8 @@ use Rattle.rz_lex.specs.declared.token.Shape.{Shape}
 use Rattle.rz_lex.specs.declared.token.Shape.TheVariants as shapes
 use Rattle.rz_lex.specs.declared.token.Token.{Token}
 use Rattle.rz_show_laws.specs.Statement.{shown_words, text_parts}
-use Rattle.rz_tools.specs.Files.{inner_read, item_read, items_read}
-use Rattle.rz_tools_work.specs.Texts.{part_read, texts_read}
+use Rattle.rz_tools_resource.specs.Items.{inner_read, item_read, items_read}
+use Rattle.rz_tools_values.specs.Texts.{part_read, texts_read}
 
 -- no token is the name of a function that is a text
 abbrev pub CallsNone : Token → Type 0

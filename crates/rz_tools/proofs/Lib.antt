@@ -3,7 +3,6 @@ pub mod Sourced
 pub mod Compiling
 pub mod Stepping
 pub mod Resources
-pub mod Reading
 pub mod Fileless
 pub mod PutOut
 pub mod Values

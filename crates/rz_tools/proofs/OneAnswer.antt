@@ -36,14 +36,14 @@ use Rattle.rz_tools.specs.Shown.{facts_of, its_bytes, its_row, IsShownBy, Known,
 use Rattle.rz_show.specs.Showing.{by_row, showing_text, Showing}
 use Rattle.rz_tools.specs.Sources.{compiled, AreCompiled, Compiled, HasWork, InProgram, IsProgramOf, SaidBeside, Unsaid}
 use Rattle.rz_tools_answer.specs.Warning.{said_beside, warning_lines}
-use Rattle.rz_tools_work.specs.Around.{Around}
+use Rattle.rz_tools_values.specs.Around.{Around}
 use Rattle.rz_tools_work.specs.Lists.{list_after}
-use Rattle.rz_tools_work.specs.Work.{begun, declared, list_behind, with_list, Work}
-use Rattle.rz_tools.specs.Step.{Changes, IsBehind, IsListBehind, MakesList, Means, Steps, WarnedFault, WithWarnings}
+use Rattle.rz_tools_work.specs.Work.{begun, declared, with_list, Work}
+use Rattle.rz_tools.specs.Step.{list_behind, Changes, IsBehind, IsListBehind, MakesList, Means, Steps, WarnedFault, WithWarnings}
 use Rattle.rz_stmt.specs.Grammar.{mark_of, Compiles as compiled_statement, Data, Declares, Empty, Lists, Parses, Statement}
 use Rattle.rz_core.specs.Answers.{Then}
 use Rattle.rz_tools_work.specs.ToolWords.{numbered}
-use Rattle.rz_tools_work.specs.declared.setting.Setting.{Setting}
+use Rattle.rz_tools_values.specs.declared.setting.Setting.{Setting}
 use Rattle.rz_stmt_items.specs.Item.{PlainItem}
 use Rattle.rz_layout.specs.Compiled.{IsCompiled}
 use Rattle.rz_stmt_items.specs.Match.{IsMatch}

@@ -21,7 +21,7 @@ use Rattle.rz_tools_answer.specs.Answer.{Answer, Failing, Making}
 use Rattle.rz_tools.specs.Chosen.{chosen}
 use Rattle.rz_tools.specs.DeRez.{derez_around, known_by, AnswersDeRez, HasFileText, HasForkText, ShowsEach, TypesAre}
 use Rattle.rz_tools.specs.Sources.{AreCompiled, Compiled}
-use Rattle.rz_tools_work.specs.Around.{Around}
+use Rattle.rz_tools_values.specs.Around.{Around}
 use Rattle.rz_pre_laws.specs.Definitions.{AreFree}
 use Rattle.rz_pre.specs.declared.program.Def.{Def}
 use Rattle.rz_tools.specs.Program.{command, misplaced, Answers, AnswersTo}

@@ -24,8 +24,8 @@ use Rattle.rz_tools.specs.Sources.{HasWork, SaidBeside, Unsaid}
 use Rattle.rz_core.specs.declared.resource.Resource.{Resource}
 use Rattle.rz_pre.specs.declared.condition.Tool.{Tool}
 use Rattle.rz_folder_paths.specs.declared.halt.Halt.TheVariants as halts
-use Rattle.rz_tools_work.specs.Around.{around, Around}
-use Rattle.rz_tools_work.specs.declared.setting.Setting.{Setting}
+use Rattle.rz_tools_values.specs.Around.{around, Around}
+use Rattle.rz_tools_values.specs.declared.setting.Setting.{Setting}
 use Rattle.rz_tools_work.specs.Work.{begun, Work}
 use Rattle.rz_tools.specs.Step.{Means, Worked}
 use Rattle.rz_tools_answer.specs.declared.made.Made.{Made}

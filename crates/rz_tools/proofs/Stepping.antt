@@ -30,11 +30,12 @@ use Rattle.rz_tools_work.specs.ToolWords.{numbered}
 use Rattle.rz_stmt_brackets.specs.declared.span.Span.{Span}
 use Rattle.rz_core.specs.Answers.{Then}
 use Rattle.rz_folder.specs.Folder.{Files}
-use Rattle.rz_tools_work.specs.Around.{around, Around}
+use Rattle.rz_tools_values.specs.Around.{around, Around}
 use Rattle.rz_tools_work.specs.Lists.{list_after}
-use Rattle.rz_tools_work.specs.Work.{declared, halted, list_behind, with_list, Stepped, Went, Work}
-use Rattle.rz_tools.specs.Step.{tokens_at, Changes, IsBehind, IsListBehind, IsSpan, MakesList, Means, Steps, WarnedFault, Worked}
-use Rattle.rz_tools_work.specs.declared.setting.Setting.{Setting}
+use Rattle.rz_tools_values.specs.Halted.{halted}
+use Rattle.rz_tools_work.specs.Work.{declared, with_list, Stepped, Went, Work}
+use Rattle.rz_tools.specs.Step.{list_behind, tokens_at, Changes, IsBehind, IsListBehind, IsSpan, MakesList, Means, Steps, WarnedFault, Worked}
+use Rattle.rz_tools_values.specs.declared.setting.Setting.{Setting}
 
 -- whatever the rest of the statements means after this, all mean so
 abbrev pub LeadsTo : Around → Work → List (List Token) → List (List Token) → Work → Type 0

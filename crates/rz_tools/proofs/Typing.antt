@@ -16,7 +16,7 @@ use Rattle.rz_tools.specs.DeRez.{derez_around, derez_setting, TypesAre}
 use Rattle.rz_tools.specs.Held.{CompiledSo, ReadSo}
 use Rattle.rz_tools.specs.Sources.{HasWork, IsProgramOf, Unsaid}
 use Rattle.rz_tools.specs.declared.sources.Compiled.{Compiled}
-use Rattle.rz_tools_work.specs.Around.{around}
+use Rattle.rz_tools_values.specs.Around.{around}
 use Rattle.rz_tools_args.specs.Command.{DeRezAsked}
 
 module _ (moment : Moment) (asked : DeRezAsked) where

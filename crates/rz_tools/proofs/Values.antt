@@ -18,11 +18,11 @@ use Rattle.rz_types_fields.specs.Text.{bytes_of, parts_bytes, parts_of, PlainPar
 use Rattle.rz_types_fields.specs.Value.{field_sight, number_of}
 use Rattle.rz_folder.specs.Folder.{Files}
 use Rattle.rz_tools.proofs.Fileless.{pieces_read}
-use Rattle.rz_tools_work.specs.Around.{Around}
-use Rattle.rz_tools_work.specs.Data.{contents_of, most_bytes, short_bytes, with_bytes}
-use Rattle.rz_tools_work.specs.Raw.{contents_read, resource_of}
-use Rattle.rz_tools_work.specs.Head.{bits_behind_all, facts_of, head_facts, id_of, name_of, short_name}
-use Rattle.rz_tools_work.specs.declared.setting.Setting.{Setting}
+use Rattle.rz_tools_values.specs.Around.{Around}
+use Rattle.rz_tools_values.specs.Contents.{contents_of, most_bytes, short_bytes, with_bytes}
+use Rattle.rz_tools_resource.specs.Raw.{contents_read, resource_of}
+use Rattle.rz_tools_values.specs.Head.{bits_behind_all, facts_of, head_facts, id_of, name_of, short_name}
+use Rattle.rz_tools_values.specs.declared.setting.Setting.{Setting}
 
 module _ (mark : Mark) where
   id_value : (known : Facts) (id : ℤ) → FitsSigned w16 id → number_of mark known (id_term id) ≡ Ok id

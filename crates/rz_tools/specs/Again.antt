@@ -18,11 +18,11 @@ use Rattle.rz_pre.specs.Program.{NamedGoes, State}
 use Rattle.rz_pre.specs.declared.condition.Tool.TheVariants as tools
 use Rattle.rz_show_laws.specs.Statement.{shown_words}
 use Rattle.rz_stmt.specs.Statements.{AreStatements}
-use Rattle.rz_tools_work.specs.Data.{most_bytes}
+use Rattle.rz_tools_values.specs.Contents.{most_bytes}
 use Rattle.rz_tools_output.specs.Base.{new_base}
 use Rattle.rz_tools.specs.DeRez.{known_by, TypesAre}
 use Rattle.rz_tools.specs.Step.{Means}
-use Rattle.rz_tools_work.specs.Around.{Around}
+use Rattle.rz_tools_values.specs.Around.{Around}
 use Rattle.rz_tools_answer.specs.Answer.{or_refused, written}
 use Rattle.rz_tools.specs.Program.{Answers}
 use Rattle.rz_tools_output.specs.Output.{IsOutput}

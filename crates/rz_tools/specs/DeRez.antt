@@ -15,8 +15,8 @@ use Rattle.rz_tools_answer.specs.Answer.{Answer, Answered, Failing, Making, show
 use Rattle.rz_tools.specs.Chosen.{chosen}
 use Rattle.rz_tools.specs.Shown.{Known, Shown}
 use Rattle.rz_tools.specs.Sources.{AreCompiled, Compiled, SaidBeside}
-use Rattle.rz_tools_work.specs.Around.{Around}
-use Rattle.rz_tools_work.specs.declared.setting.Setting.{Setting}
+use Rattle.rz_tools_values.specs.Around.{Around}
+use Rattle.rz_tools_values.specs.declared.setting.Setting.{Setting}
 use Rattle.rz_tools_args.specs.Command.{DeRezAsked}
 
 -- the text shows each of these resources, one behind the other

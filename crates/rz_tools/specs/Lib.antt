@@ -1,5 +1,3 @@
-pub mod Files
-pub mod Resource
 pub mod Step
 pub mod Sources
 pub mod Shown

@@ -9,8 +9,8 @@ use Rattle.rz_pre.specs.Program.{State}
 use Rattle.rz_pre.specs.declared.condition.Tool.TheVariants as tools
 use Rattle.rz_tools_args.specs.Command.{RezAsked}
 use Rattle.rz_tools_answer.specs.Answer.{Answer, Answered, Failing, Making, written}
-use Rattle.rz_tools_work.specs.Around.{Around}
-use Rattle.rz_tools_work.specs.declared.setting.Setting.{Setting}
+use Rattle.rz_tools_values.specs.Around.{Around}
+use Rattle.rz_tools_values.specs.declared.setting.Setting.{Setting}
 use Rattle.rz_tools_output.specs.Base.{base_of, Base}
 use Rattle.rz_tools_output.specs.Output.{IsOutput}
 use Rattle.rz_tools.specs.Sources.{Compiled, HasWork, IsProgramOf, SaidBeside}

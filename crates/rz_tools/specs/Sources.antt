@@ -9,7 +9,7 @@ use Rattle.rz_pre.specs.Program.{Failure, ProgramGoes, State}
 use Rattle.rz_pre.specs.declared.program.Def.{Def}
 use Rattle.rz_stmt.specs.Statements.{AreStatements}
 use Rattle.rz_tools_answer.specs.Answer.{Failing, Making}
-use Rattle.rz_tools_work.specs.Around.{Around}
+use Rattle.rz_tools_values.specs.Around.{Around}
 use Rattle.rz_tools_work.specs.Work.{begun, Work}
 use Rattle.rz_tools.specs.Step.{Means, WarnedFault}
 use Rattle.rz_tools_answer.specs.Warning.{said_beside, warning_lines}

@@ -14,18 +14,25 @@ use Rattle.rz_pre.specs.declared.condition.Tool.{Tool}
 use Rattle.rz_pre.specs.declared.condition.Tool.TheVariants as tools
 use Rattle.rz_stmt.specs.Grammar.{mark_of, Compiles, Data, Declares, Empty, Lists, Parses, Statement}
 use Rattle.rz_types_table.specs.Table.{Declaration}
-use Rattle.rz_tools_work.specs.Around.{Around}
+use Rattle.rz_tools_values.specs.Around.{Around}
 use Rattle.rz_tools_work.specs.Lists.{list_after}
 use Rattle.rz_tools_work.specs.Put.{list_with}
 use Rattle.rz_tools_work.specs.ToolWords.{numbered}
-use Rattle.rz_tools_work.specs.Work.{declared, list_behind, with_list, Work}
-use Rattle.rz_tools_work.specs.declared.setting.Setting.{Setting}
-use Rattle.rz_tools.specs.Resource.{IsResource}
+use Rattle.rz_tools_work.specs.Work.{declared, with_list, Work}
+use Rattle.rz_tools_values.specs.declared.setting.Setting.{Setting}
+use Rattle.rz_stmt_data.specs.Raw.{Raw}
+use Rattle.rz_core.specs.Stop.{◌>>=◌}
+use Rattle.rz_tools_resource.specs.Raw.{resource_of}
+use Rattle.rz_tools_resource.specs.Resource.{IsResource}
 
 -- what a statement other than `type` does to the list: DeRez leaves it as it is
 abbrev pub Changes : Tool → List Resource → (Result (List Resource) Fault → Type 0) → Result (List Resource) Fault → Type 0
 Changes tools.Rez list answers answer = answers answer
 Changes tools.DeRez list answers answer = answer ≡ Ok list
+
+-- the list behind a `data` statement on this line
+abbrev pub list_behind : Around → Mark → List Resource → Raw → Result (List Resource) Fault
+list_behind around mark list raw = resource_of around mark raw >>= list_with mark around.setting.over list
 
 -- the list behind a `resource` statement on this line
 abbrev pub IsListBehind : Around → Mark → List Declaration → List Resource → Compile → Result (List Resource) Fault → Type 0

@@ -32,7 +32,8 @@ use rz_folder_paths::missing_file;
 use rz_pre::Tool;
 use rz_tools_answer::{Faults, Made, Outcome, Plan, Stopped, Unanswered, say_beside};
 use rz_tools_args::DeRezWords;
-use rz_tools_work::{Setting, Work};
+use rz_tools_values::Setting;
+use rz_tools_work::Work;
 use std::alloc::Global;
 
 /// The answer to the words of `derez`: under what the type files declare, the text of the resources of the fork whose

@@ -11,7 +11,7 @@ ghost use Rattle.rz_tools.specs.Chosen.{chosen};
 ghost use Rattle.rz_tools.specs.DeRez.{ShowsEach};
 ghost use Rattle.rz_tools.specs.Shown.{Known};
 ghost use Rattle.rz_tools.specs.Sources.{AreCompiled, Compiled};
-ghost use Rattle.rz_tools_work.specs.Around.{Around};
+ghost use Rattle.rz_tools_values.specs.Around.{Around};
 ghost use Rattle.rz_pre_laws.specs.Definitions.{AreFree};
 ghost use Rattle.rz_pre.specs.declared.program.Def.{Def};
 ghost use Rattle.rz_tools.specs.Program.{Answers};

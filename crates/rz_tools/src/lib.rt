@@ -1,8 +1,8 @@
 //! The commands of rezkit: what the words ask for, and the run that does it. `run` carries out the answer to
 //! these words (`specs/Program.antt`), and words have exactly one answer. What `derez` shows of a fork means again to
 //! `rez` the resources that it shows, if each has at most 16,777,212 bytes.
-//! It rests on all crates below it: of `rz_tools_answer` it has how an answer is carried out, of `rz_tools_work` what single
-//! statements do, and of `rz_tools_output` what is written. The folder, the streams and the moment are arguments of `run`.
+//! It rests on all crates below it: of `rz_tools_answer` it has how an answer is carried out, of `rz_tools_resource` and
+//! `rz_tools_work` what single statements give and do, and of `rz_tools_output` what is written. The folder, the streams and the moment are arguments of `run`.
 //! A new command is a module beside `rez` and `derez`, or in `rz_tools_output` as `bridge` is, and a case of `answer` and of the
 //! answers in `specs`; a new statement is a case of `step`; another form of a resource's text is `shown`. docs/PROOFS.md
 //! lists the promises.
@@ -11,10 +11,8 @@
 mod answer;
 mod chosen;
 mod derez;
-mod files;
 mod laws;
 mod program;
-mod resource;
 mod rez;
 mod shown;
 mod sources;

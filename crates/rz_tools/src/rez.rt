@@ -27,7 +27,8 @@ use rz_pre::{Program, Tool};
 use rz_tools_answer::{Made, Plan, Stopped, Unanswered, say_beside};
 use rz_tools_args::RezWords;
 use rz_tools_output::{Base, Beginning, read_base, write_output};
-use rz_tools_work::{Setting, Work};
+use rz_tools_values::Setting;
+use rz_tools_work::Work;
 use std::alloc::Global;
 
 /// The answer to the words of `rez`: the sources that they name are compiled into a resource fork, behind what there is to begin

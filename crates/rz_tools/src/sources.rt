@@ -9,7 +9,7 @@ ghost use Rattle.rz_pre.specs.Lexed.{HaveLexedTexts};
 ghost use Rattle.rz_pre.specs.Program.{ProgramGoes, State};
 ghost use Rattle.rz_pre.specs.Reading.{IsProgram};
 ghost use Rattle.rz_set.specs.ResSet.{AreNamed};
-ghost use Rattle.rz_tools_work.specs.Around.{around};
+ghost use Rattle.rz_tools_values.specs.Around.{around};
 ghost use Rattle.rz_tools.specs.Held.{AreNameable, CompiledSo, ReadSo};
 ghost use Rattle.rz_tools.specs.Sources.{HasWork, Unsaid};
 
@@ -20,7 +20,8 @@ use rz_folder_paths::Halt;
 use rz_pre::{Defs, PreFault, Program, Tool, preprocess};
 use rz_stmt::all_tokens_are_statements;
 use rz_tools_answer::{Stopped, refusal};
-use rz_tools_work::{Setting, Work};
+use rz_tools_values::Setting;
+use rz_tools_work::Work;
 use std::alloc::Global;
 
 /// What sources mean.

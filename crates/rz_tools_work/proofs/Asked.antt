@@ -12,12 +12,13 @@ use Rattle.rz_stmt_lists.specs.Include as include
 use Rattle.rz_stmt_lists.specs.Pick as said
 use Rattle.rz_set.specs.declared.pick.Head as set
 use Rattle.rz_set.specs.declared.pick.Pick.{Pick}
-use Rattle.rz_tools_work.specs.Head.{head_facts}
+use Rattle.rz_tools_values.specs.Head.{head_facts}
 use Rattle.rz_tools_work.specs.Include.{asked_by, asked_for}
-use Rattle.rz_tools_work.specs.Pick.{chosen_one, new_head, picked}
+use Rattle.rz_tools_values.specs.Chosen.{chosen_one}
+use Rattle.rz_tools_work.specs.Pick.{new_head, picked}
 use Rattle.rz_tools_work.specs.declared.include.Asked.{Asked}
-use Rattle.rz_tools_work.specs.declared.setting.Setting.{Setting}
-use Rattle.rz_tools_work.proofs.Calls.{gives_stop}
+use Rattle.rz_tools_values.specs.declared.setting.Setting.{Setting}
+use Rattle.rz_tools_values.proofs.Calls.{gives_stop}
 
 module _ (setting : Setting) (mark : Mark) (source : List Resource) (kind new_kind : OsType) (given : said.Pick) (head : Option Head) where
   abbrev all : Result Asked Fault

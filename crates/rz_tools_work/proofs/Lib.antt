@@ -5,5 +5,3 @@ pub mod Calls
 pub mod Puts
 pub mod Renamings
 pub mod Asked
-pub mod Turns
-pub mod TextsRead

@@ -1,38 +1,22 @@
 -- Chosen resources and their new heads.
-use Rattle.std.proofs.Common.{◌≡◌, ◌||◌, ℕ, ℤ, Bool, true, false, List, [], ◌∷◌, Option, Some, None, Ok, IsTrue, refl, sym, subst}
+use Rattle.std.proofs.Common.{◌≡◌, ◌||◌, Bool, true, false, List, [], ◌∷◌, Option, Some, None, Ok, IsTrue, refl, subst}
 use Rattle.std.specs.declared.result.Result.{Result}
-use Rattle.rz_core.specs.Stop.{Gives, ◌>>=◌}
+use Rattle.rz_core.specs.Stop.{◌>>=◌}
 use Rattle.rz_core.specs.declared.facts.Facts.{Facts}
 use Rattle.rz_core.specs.declared.fault.Fault.{Fault}
 use Rattle.rz_core.specs.declared.fault.Mark.{Mark}
 use Rattle.rz_core.specs.declared.resource.OsType.{OsType}
 use Rattle.rz_core.specs.declared.resource.Resource.{Resource}
-use Rattle.rz_core.specs.declared.stop.Stop.{Stop}
 use Rattle.rz_stmt_data.specs.Head.{Attribute, Head}
 use Rattle.rz_set.specs.Change.{MayHaveId}
-use Rattle.rz_set.specs.Choice.{found_name, is_for_one}
-use Rattle.rz_set.specs.ResSet.{found}
-use Rattle.rz_set.specs.declared.pick.Head as set
+use Rattle.rz_set.specs.Choice.{is_for_one}
 use Rattle.rz_set.specs.declared.pick.Pick.{Pick}
 use Rattle.rz_set.specs.declared.pick.Pick.TheVariants.{All, Id, Range, Name}
-use Rattle.rz_tools_work.specs.Head.{bits_behind_all}
-use Rattle.rz_tools_work.specs.Pick.{as_type, chosen_one, new_attributes, new_head, the_one}
-use Rattle.rz_tools_work.specs.declared.setting.Setting.{Setting}
-
--- The one that is chosen.
-
-module _ (mark : Mark) (kind : OsType) (pick : Pick) (list : List Resource) (one : Option Resource) (result : Result (Option Resource) (Stop Fault)) where
-  pub chosen_by_id : (id : ℤ) → pick ≡ Id id → one ≡ found kind id list → Gives (the_one mark kind pick one) result → Gives (chosen_one mark kind pick list) result
-  chosen_by_id id is there gives =
-      subst (λ (p : Pick). Gives (chosen_one mark kind p list) result) (sym is)
-      (subst (λ (p : Pick). Gives (the_one mark kind p (found kind id list)) result) is (subst (λ (o : Option Resource). Gives (the_one mark kind pick o) result) there gives))
-
-  pub chosen_by_name : (name : List ℕ) → pick ≡ Name name → one ≡ found_name kind name list → Gives (the_one mark kind pick one) result
-      → Gives (chosen_one mark kind pick list) result
-  chosen_by_name name is there gives =
-      subst (λ (p : Pick). Gives (chosen_one mark kind p list) result) (sym is)
-      (subst (λ (p : Pick). Gives (the_one mark kind p (found_name kind name list)) result) is
-      (subst (λ (o : Option Resource). Gives (the_one mark kind pick o) result) there gives))
+use Rattle.rz_tools_values.specs.Head.{bits_behind_all}
+use Rattle.rz_tools_values.specs.Chosen.{chosen_one}
+use Rattle.rz_tools_work.specs.Pick.{as_type, new_attributes, new_head}
+use Rattle.rz_tools_values.specs.declared.setting.Setting.{Setting}
+use Rattle.rz_set.specs.declared.pick.Head as set
 
 -- Attributes that are given.
 

@@ -13,11 +13,12 @@ use Rattle.rz_stmt_lists.specs.Pick as said
 use Rattle.rz_set.specs.After.{after_remove}
 use Rattle.rz_set.specs.Change.{after_change}
 use Rattle.rz_set.specs.declared.pick.Pick.{Pick}
-use Rattle.rz_tools_work.specs.Head.{head_facts}
-use Rattle.rz_tools_work.specs.Pick.{chosen_one, new_head, picked, sought_by}
+use Rattle.rz_tools_values.specs.Head.{head_facts}
+use Rattle.rz_tools_values.specs.Chosen.{chosen_one, sought_by}
+use Rattle.rz_tools_work.specs.Pick.{new_head, picked}
 use Rattle.rz_tools_work.specs.Put.{on_set}
 use Rattle.rz_tools_work.specs.declared.renaming.Renamed.{Renamed}
-use Rattle.rz_tools_work.specs.declared.setting.Setting.{Setting}
+use Rattle.rz_tools_values.specs.declared.setting.Setting.{Setting}
 
 -- 205: the resources of a file that is begun anew aren't changed or deleted
 abbrev pub not_appending : Mark → Fault

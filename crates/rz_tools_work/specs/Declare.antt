@@ -12,7 +12,7 @@ use Rattle.rz_core.specs.declared.stop.Stop.TheVariants.{Refused, NoMemory}
 use Rattle.rz_stmt_type.specs.Constants.{CopyOf, Fields, PlainMade}
 use Rattle.rz_stmt_type.specs.declared.constants.Bounds.{Bounds}
 use Rattle.rz_stmt_type.specs.declared.constants.Bounds.TheVariants as bounds
-use Rattle.rz_tools_work.specs.Head.{id_of}
+use Rattle.rz_tools_values.specs.Head.{id_of}
 use Rattle.rz_types.specs.Field.{PlainBody}
 use Rattle.rz_types.specs.Rules.{checked}
 use Rattle.rz_types_table.specs.Table.{copied, Declaration}

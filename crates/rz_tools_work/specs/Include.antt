@@ -1,5 +1,5 @@
 -- What an `include` statement leaves of the list of resources, or its first fault. (MPW Rez.)
-use Rattle.std.specs.Prelude.{ℕ, List, Option, None, Some, Ok}
+use Rattle.std.specs.Prelude.{List, Option, None, Some, Ok}
 use Rattle.std.specs.declared.result.Result.{Result}
 use Rattle.rz_core.specs.Stop.{◌>>=◌}
 use Rattle.rz_core.specs.declared.fault.Fault.{Fault}
@@ -7,29 +7,20 @@ use Rattle.rz_core.specs.declared.fault.Kept.TheVariants.{Nothing}
 use Rattle.rz_core.specs.declared.fault.Mark.{Mark}
 use Rattle.rz_core.specs.declared.resource.OsType.{OsType}
 use Rattle.rz_core.specs.declared.resource.Resource.{Resource}
-use Rattle.rz_bridge_files.specs.Contents.{fork_in}
-use Rattle.rz_folder.specs.Folder.{Files}
-use Rattle.rz_stmt_lists.specs.Include as include
 use Rattle.rz_stmt_lists.specs.Include.{Include, Part}
 use Rattle.rz_set.specs.After.{after_include}
 use Rattle.rz_set.specs.declared.pick.Choice.{Choice}
-use Rattle.rz_set.specs.declared.pick.Choice.TheVariants as choices
 use Rattle.rz_set.specs.declared.pick.Head.{Head}
 use Rattle.rz_set.specs.declared.pick.Pick.{Pick}
-use Rattle.rz_tools_work.specs.Around.{Around}
-use Rattle.rz_tools_work.specs.Head.{head_facts}
-use Rattle.rz_tools_work.specs.Pick.{chosen_one, new_head, picked, sought_by}
+use Rattle.rz_tools_values.specs.Around.{Around}
+use Rattle.rz_tools_values.specs.Head.{head_facts}
+use Rattle.rz_tools_values.specs.Chosen.{chosen_one, sought_by}
+use Rattle.rz_tools_work.specs.Pick.{new_head, picked}
 use Rattle.rz_tools_work.specs.Put.{on_set}
-use Rattle.rz_tools_work.specs.Read.{file_named}
 use Rattle.rz_tools_work.specs.declared.include.Asked.{Asked}
-use Rattle.rz_tools_work.specs.declared.setting.Setting.{Setting}
-
--- the resources of a file, of whatever form: 101, and then the first rule that the form or the fork breaks
-abbrev pub list_in : Mark → List ℕ → Result (List Resource) Fault
-list_in mark bytes = fork_in (Some mark) None bytes >>= λ fork. Ok fork.list
-
-abbrev pub list_named : List (List ℕ) → Files → Mark → List ℕ → Result (List Resource) Fault
-list_named paths files mark name = file_named paths files mark name >>= list_in mark
+use Rattle.rz_tools_values.specs.declared.setting.Setting.{Setting}
+use Rattle.rz_stmt_lists.specs.Include as include
+use Rattle.rz_set.specs.declared.pick.Choice.TheVariants as choices
 
 -- which resources of a file are put, under which head, and what is kept where there is none
 abbrev pub all_of : Choice → Asked

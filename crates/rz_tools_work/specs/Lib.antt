@@ -1,15 +1,10 @@
 pub mod ToolWords
-pub mod Head
-pub mod Data
 pub mod Declare
 pub mod Put
 pub mod Work
 pub mod Held
-pub mod Around
 pub mod Pick
 pub mod Change
 pub mod Read
 pub mod Include
 pub mod Lists
-pub mod Texts
-pub mod Raw

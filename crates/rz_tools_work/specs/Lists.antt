@@ -5,7 +5,7 @@ use Rattle.rz_core.specs.declared.fault.Fault.{Fault}
 use Rattle.rz_core.specs.declared.fault.Mark.{Mark}
 use Rattle.rz_core.specs.declared.resource.Resource.{Resource}
 use Rattle.rz_stmt_lists.specs.Lists.{Changes, Deletes, Includes, ListForm, Reads}
-use Rattle.rz_tools_work.specs.Around.{Around}
+use Rattle.rz_tools_values.specs.Around.{Around}
 use Rattle.rz_tools_work.specs.Change.{list_changing, list_deleting}
 use Rattle.rz_tools_work.specs.Include.{list_including}
 use Rattle.rz_tools_work.specs.Read.{list_reading}

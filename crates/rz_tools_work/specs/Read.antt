@@ -1,5 +1,5 @@
 -- The files of statements, and what a `read` statement leaves of the list of resources, or its first fault. (MPW Rez.)
-use Rattle.std.specs.Prelude.{ℕ, List, Some, Ok}
+use Rattle.std.specs.Prelude.{ℕ, List, Ok}
 use Rattle.std.specs.declared.result.Result.{Result}
 use Rattle.rz_core.specs.Stop.{◌>>=◌}
 use Rattle.rz_core.specs.declared.facts.Facts.{Facts}
@@ -8,15 +8,10 @@ use Rattle.rz_core.specs.declared.fault.Mark.{Mark}
 use Rattle.rz_core.specs.declared.resource.Resource.{Resource}
 use Rattle.rz_folder.specs.Folder.{Files}
 use Rattle.rz_stmt_lists.specs.Read.{Read}
-use Rattle.rz_folder_paths.specs.Names.{bytes_of, missing_file, names_of, utf8_name}
-use Rattle.rz_tools_work.specs.Around.{Around}
-use Rattle.rz_tools_work.specs.Data.{short_bytes, with_bytes}
-use Rattle.rz_tools_work.specs.Head.{facts_of}
+use Rattle.rz_tools_values.specs.Around.{Around}
+use Rattle.rz_tools_values.specs.Contents.{short_bytes, with_bytes}
+use Rattle.rz_tools_values.specs.Head.{facts_of}
 use Rattle.rz_tools_work.specs.Put.{list_with}
-
--- the file of a statement, its name tried as it stands and then behind each path: 101
-abbrev pub file_named : List (List ℕ) → Files → Mark → List ℕ → Result (List ℕ) Fault
-file_named paths files mark name = bytes_of files (names_of paths (utf8_name name)) (missing_file (Some mark) name)
 
 -- the file as it is, and 301 for more than 16,777,212 bytes
 abbrev pub contents_named : List (List ℕ) → Files → Mark → List ℕ → Result (List ℕ) Fault

@@ -8,23 +8,14 @@ use Rattle.rz_core.specs.declared.resource.OsType.{OsType}
 use Rattle.rz_core.specs.declared.resource.Resource.{Resource}
 use Rattle.rz_core.specs.declared.stop.Stop.{Stop}
 use Rattle.rz_core.specs.declared.stop.Stop.TheVariants.{Refused, NoMemory}
-use Rattle.rz_folder_paths.specs.Halt.{halt_of}
 use Rattle.rz_folder_paths.specs.declared.halt.Halt.{Halt}
-use Rattle.rz_folder_paths.specs.declared.halt.Halt.TheVariants as halts
-use Rattle.rz_stmt_data.specs.Raw.{Raw}
-use Rattle.rz_stmt_type.specs.Constants as declare
 use Rattle.rz_types.specs.Field.{PlainBody}
 use Rattle.rz_types_table.specs.Table.{declared_behind, has_place, Declaration}
 use Rattle.rz_types_table.specs.declared.table.Scope.{Scope}
-use Rattle.rz_tools_work.specs.Around.{Around}
-use Rattle.rz_tools_work.specs.Put.{list_with}
-use Rattle.rz_tools_work.specs.Raw.{resource_of}
 use Rattle.rz_tools_work.specs.Declare.{redeclared, scope_of, template_of}
-use Rattle.rz_tools_work.specs.declared.setting.Setting.{Setting}
-
--- the list behind a `data` statement on this line
-abbrev pub list_behind : Around → Mark → List Resource → Raw → Result (List Resource) Fault
-list_behind around mark list raw = resource_of around mark raw >>= list_with mark around.setting.over list
+use Rattle.rz_tools_values.specs.declared.setting.Setting.{Setting}
+use Rattle.rz_folder_paths.specs.declared.halt.Halt.TheVariants as halts
+use Rattle.rz_stmt_type.specs.Constants as declare
 
 -- What was made so far: the declarations of types, the resources, and what is to be warned of.
 pub record Work : Type 0 where
@@ -71,8 +62,3 @@ Went answers (Ok nothing) left = answers (Ok left)
 Went answers (Err (halts.Refused fault)) left = answers (Err fault)
 Went answers (Err halts.ReadFault) left = Unit {0}
 Went answers (Err halts.NoMemory) left = Unit {0}
-
--- the end of a call that reads no files, as that of one that does
-abbrev pub halted : {X : Type 0} → Result X (Stop Fault) → Result X Halt
-halted (Ok value) = Ok value
-halted (Err stop) = Err (halt_of stop)

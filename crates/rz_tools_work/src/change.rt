@@ -9,13 +9,13 @@ ghost use Rattle.rz_set.specs.Change.{MayHaveId};
 ghost use Rattle.rz_tools_work.specs.Change.{change_said, list_changed, list_changing, list_deleting, list_without, not_appending, pick_to_change};
 ghost use Rattle.rz_tools_work.specs.Work.{Stepped};
 
-use crate::pick::{pick_said, sought_by};
+use crate::pick::pick_said;
 use crate::putting::on_line;
-use crate::renaming::{Renamed, chosen_in_set, new_head};
-use crate::setting::Setting;
+use crate::renaming::{Renamed, new_head};
 use rz_core::{Fault, Kept, Mark, OsType, Stop};
 use rz_set::{Pick, ResSet};
 use rz_stmt_lists::{ChangeStmt, DeleteStmt, PickExpr};
+use rz_tools_values::{Setting, chosen_in_set, sought_by};
 use std::alloc::Global;
 
 /// Does what a `change` statement on this line says: the resources of the list that its pick chooses come under a new type

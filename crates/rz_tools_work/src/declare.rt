@@ -10,11 +10,10 @@ ghost use Rattle.rz_tools_work.specs.Work.{declared, Stepped};
 ghost use Rattle.rz_types.specs.Template.{plain_templates};
 ghost use Rattle.rz_types_table.specs.TypeTable.{table_of};
 
-use crate::head::id_of;
-use crate::setting::Setting;
 use crate::work::Work;
 use rz_core::{Fault, Kept, Mark, OsType, Stop};
 use rz_stmt_type::{Bounds, DeclareStmt, Made};
+use rz_tools_values::{Setting, id_of};
 use rz_types::{Template, TypeFault};
 use rz_types_check::check;
 use rz_types_table::{Scope, TypeTable};

@@ -1,26 +1,26 @@
-ghost use Rattle.std.specs.Prelude.{◌≡◌, ◌<◌, ◌^◌, [], ℕ, length, None, Some, IfOk, IfSome};
+ghost use Rattle.std.specs.Prelude.{◌≡◌, ◌<◌, ℕ, None, Some, IfOk, IfSome};
 ghost use Rattle.rz_core.specs.Message.{IsNameable};
 ghost use Rattle.rz_core.specs.Stop.{Gives, OnFault};
 ghost use Rattle.rz_folder.specs.OnlyReads.{OnlyReads};
 ghost use Rattle.rz_stmt_lists.specs.Include.{include_of, part_of};
-ghost use Rattle.rz_folder_paths.specs.Halt.{IsReadFault, OnRefusal, Yields};
+ghost use Rattle.rz_folder_paths.specs.Halt.{IsReadFault, OnRefusal};
 ghost use Rattle.rz_set.specs.After.{HasShortName};
 ghost use Rattle.rz_set.specs.ResSet.{AreNamed};
-ghost use Rattle.rz_tools_work.specs.Around.{around};
-ghost use Rattle.rz_tools_work.specs.Include.{all_of, asked_by, asked_for, included, list_in, list_including, list_named, list_with_asked};
+ghost use Rattle.rz_tools_values.specs.Around.{around};
+ghost use Rattle.rz_tools_values.specs.Files.{list_named};
+ghost use Rattle.rz_tools_work.specs.Include.{all_of, asked_by, asked_for, included, list_including, list_with_asked};
 ghost use Rattle.rz_tools_work.specs.Work.{Stepped, Went};
 
-use crate::pick::{pick_said, sought_by};
+use crate::pick::pick_said;
 use crate::putting::on_line;
-use crate::read::{file_named, halted};
-use crate::renaming::{chosen_in_list, new_head};
-use crate::setting::Setting;
-use rz_bridge_files::fork_in;
-use rz_core::{Bytes, Fault, FileNames, Kept, Mark, NoMemory, OsType, Resources, Stop};
+use crate::read::halted;
+use crate::renaming::new_head;
+use rz_core::{Fault, FileNames, Kept, Mark, NoMemory, OsType, Resources, Stop};
 use rz_folder::Folder;
 use rz_folder_paths::Halt;
 use rz_set::{Choice, Head, Pick, ResSet};
 use rz_stmt_lists::{IncludePart, IncludeStmt};
+use rz_tools_values::{Setting, chosen_in_list, list_named, sought_by};
 use std::alloc::Global;
 
 /// What an `include` statement asks for.
@@ -57,39 +57,6 @@ pub fn include_resources<F: Folder>(
     match list_named(alloc, folder, paths, stmt.file.as_slice(), mark) {
         Ok(source) => halted(include_part(alloc, &source, &stmt.part, mark, setting, resources)),
         Err(halt) => Err(halt),
-    }
-}
-
-/// The resources of the file that a statement on this line names.
-pub fn list_named<F: Folder>(
-    alloc: Global,
-    folder: &mut F,
-    paths: &FileNames,
-    name: &[u8],
-    mark: Mark,
-) -> Result<Resources, Halt>
-    ensures list { IfSome (F.files folder.old) (λ files. Yields result (λ answer. answer ≡ list_named paths.now files mark name.now)) }
-    ensures named { IfOk result AreNamed }
-    ensures nameable { (files : ℕ) → mark.file < files → OnRefusal result (IsNameable files) }
-    ensures reads { OnlyReads F.files F.read_faults F.write_faults folder.old folder.new (IsReadFault result) }
-{
-    match file_named(alloc, folder, paths, name, mark) {
-        Ok(bytes) => list_in(alloc, bytes, mark),
-        Err(halt) => Err(halt),
-    }
-}
-
-/// The resources of the file in these bytes.
-fn list_in(alloc: Global, bytes: Bytes, mark: Mark) -> Result<Resources, Halt>
-    requires short { length bytes < 2 ^ 32 }
-    ensures list { Yields result (λ answer. answer ≡ list_in mark bytes) }
-    ensures named { IfOk result AreNamed }
-    ensures nameable { (files : ℕ) → mark.file < files → OnRefusal result (IsNameable files) }
-    ensures unread { IsReadFault result → ⊥ }
-{
-    match fork_in(alloc, None, bytes, Some(mark)) {
-        Ok(fork) => Ok(fork.list),
-        Err(stop) => Err(Halt::from(stop)),
     }
 }
 

@@ -3,19 +3,19 @@ ghost use Rattle.rz_core.specs.Message.{IsNameable};
 ghost use Rattle.rz_folder.specs.OnlyReads.{OnlyReads};
 ghost use Rattle.rz_stmt_lists.specs.Lists.{list_of};
 ghost use Rattle.rz_folder_paths.specs.Halt.{IsReadFault, OnRefusal};
-ghost use Rattle.rz_tools_work.specs.Around.{around};
+ghost use Rattle.rz_tools_values.specs.Around.{around};
 ghost use Rattle.rz_tools_work.specs.Lists.{list_after};
 ghost use Rattle.rz_tools_work.specs.Work.{Went};
 
 use crate::change::{change_resources, delete_resources};
 use crate::include::include_resources;
 use crate::read::{halted, read_resource};
-use crate::setting::Setting;
 use rz_core::{FileNames, Mark};
 use rz_folder::Folder;
 use rz_folder_paths::Halt;
 use rz_set::ResSet;
 use rz_stmt_lists::ListStmt;
+use rz_tools_values::Setting;
 use std::alloc::Global;
 
 /// Does what a statement over lists on this line says, or answers with its first fault. What each statement is tested for,

@@ -1,18 +1,18 @@
-ghost use Rattle.std.specs.Prelude.{◌≡◌, ◌<◌, ℕ, IfOk};
+ghost use Rattle.std.specs.Prelude.{◌<◌, ℕ};
 ghost use Rattle.rz_core.specs.Message.{IsNameable};
 ghost use Rattle.rz_core.specs.Stop.{Gives, OnFault};
 ghost use Rattle.rz_expr.specs.Term.{term_of};
 ghost use Rattle.rz_stmt_lists.specs.Pick.{pick_of};
-ghost use Rattle.rz_tools_work.specs.Head.{head_facts};
-ghost use Rattle.rz_tools_work.specs.Pick.{id_said, no_resource, picked, range_said, sought_by};
+ghost use Rattle.rz_tools_values.specs.Head.{head_facts};
+ghost use Rattle.rz_tools_values.specs.Chosen.{id_said};
+ghost use Rattle.rz_tools_work.specs.Pick.{picked, range_said};
 
-use crate::head::{head_facts, id_of};
-use crate::setting::Setting;
-use rz_core::{Bytes, Facts, Fault, Kept, Mark, NoMemory, OsType, Stop};
+use rz_core::{Facts, Fault, Mark, OsType, Stop};
 use rz_expr::Expr;
 use rz_set::Pick;
 use rz_stmt_lists::PickExpr;
-use rz_types::{number_of, text_of};
+use rz_tools_values::{Setting, head_facts, id_said};
+use rz_types::text_of;
 use std::alloc::Global;
 
 /// Which resources of a type a statement on this line is for: the values of its pick, from left to right, and the first
@@ -58,37 +58,4 @@ fn range_said(
     let first = id_said(alloc, first, mark, known)?;
     let last = id_said(alloc, last, mark, known)?;
     Ok(Pick::Range(first, last))
-}
-
-/// The id that an expression says.
-pub fn id_said(alloc: Global, id: &Expr, mark: Mark, known: &Facts) -> Result<i16, Stop<Fault>>
-    ensures id { Gives (id_said mark known.now (term_of id.now)) result }
-    ensures nameable { (files : ℕ) → mark.file < files → OnFault result (IsNameable files) }
-{
-    let value = number_of(alloc, id, mark, known)?;
-    id_of(value, mark)
-}
-
-/// 218 on this line for a pick by id or name that chooses none: it keeps what the pick looks for.
-pub fn no_resource(alloc: Global, kind: OsType, pick: &Pick, mark: Mark) -> Result<Fault, NoMemory>
-    ensures fault { IfOk result (λ fault. fault ≡ no_resource mark kind pick.now) }
-    ensures nameable { (files : ℕ) → mark.file < files → IfOk result (IsNameable files) }
-{
-    let kept = sought_by(alloc, kind, pick)?;
-    Ok(Fault {
-        number: 218,
-        mark: Some(mark),
-        kept,
-    })
-}
-
-/// What a pick looks for, as a fault keeps it: the type and the id, or the name, and nothing of all or of a range.
-pub fn sought_by(alloc: Global, kind: OsType, pick: &Pick) -> Result<Kept, NoMemory>
-    ensures { IfOk result (λ kept. kept ≡ sought_by kind pick.now) }
-{
-    match pick {
-        Pick::Id(id) => Ok(Kept::Key(kind, i32::from(*id))),
-        Pick::Name(name) => Ok(Kept::Name(Bytes::of(alloc, name.as_slice())?)),
-        Pick::All | Pick::Range(..) => Ok(Kept::Nothing),
-    }
 }

@@ -1,22 +1,22 @@
-ghost use Rattle.std.specs.Prelude.{◌≡◌, ◌<◌, ◌^◌, ℕ, length, IfOk, IfSome};
+ghost use Rattle.std.specs.Prelude.{◌≡◌, ◌<◌, ℕ, length, IfOk, IfSome};
 ghost use Rattle.rz_core.specs.Message.{IsNameable};
 ghost use Rattle.rz_folder.specs.OnlyReads.{OnlyReads};
 ghost use Rattle.rz_stmt_lists.specs.Read.{read_of};
 ghost use Rattle.rz_folder_paths.specs.Halt.{IsReadFault, OnRefusal, Yields};
-ghost use Rattle.rz_tools_work.specs.Around.{around};
-ghost use Rattle.rz_tools_work.specs.Data.{short_bytes};
-ghost use Rattle.rz_tools_work.specs.Read.{contents_named, file_named, list_reading, resource_read, with_file};
-ghost use Rattle.rz_tools_work.specs.Work.{halted, Went};
+ghost use Rattle.rz_tools_values.specs.Around.{around};
+ghost use Rattle.rz_tools_values.specs.Contents.{short_bytes};
+ghost use Rattle.rz_tools_values.specs.Files.{file_named};
+ghost use Rattle.rz_tools_work.specs.Read.{contents_named, list_reading, resource_read, with_file};
+ghost use Rattle.rz_tools_values.specs.Halted.{halted};
+ghost use Rattle.rz_tools_work.specs.Work.{Went};
 
-use crate::data::{short_bytes, with_bytes};
-use crate::head::facts_of;
 use crate::putting::put;
-use crate::setting::Setting;
 use rz_core::{Bytes, Facts, Fault, FileNames, Mark, Resource, Stop};
 use rz_folder::Folder;
-use rz_folder_paths::{Halt, names_of, read_file};
+use rz_folder_paths::Halt;
 use rz_set::ResSet;
 use rz_stmt_lists::ReadStmt;
+use rz_tools_values::{Setting, facts_of, file_named, short_bytes, with_bytes};
 use std::alloc::Global;
 
 /// Does what a `read` statement on this line says: the whole file, as it is, becomes a resource with this head, and is put
@@ -111,34 +111,6 @@ fn short_contents(bytes: Bytes, mark: Mark) -> Result<Bytes, Halt>
     match short_bytes(bytes, mark) {
         Ok(bytes) => Ok(bytes),
         Err(fault) => Err(Halt::Refused(fault)),
-    }
-}
-
-/// The bytes of the file that a statement on this line names, fewer than 2^32: its name is tried as it stands and then
-/// behind each path. 101 where there is none (kept: the name). No file changes. (MPW Rez.)
-pub fn file_named<F: Folder>(
-    alloc: Global,
-    folder: &mut F,
-    paths: &FileNames,
-    name: &[u8],
-    mark: Mark,
-) -> Result<Bytes, Halt>
-    ensures read { IfSome (F.files folder.old) (λ files. Yields result (λ answer. answer ≡ file_named paths.now files mark name.now)) }
-    ensures short { IfOk result (λ bytes. length bytes < 2 ^ 32) }
-    ensures nameable { (files : ℕ) → mark.file < files → OnRefusal result (IsNameable files) }
-    ensures reads { OnlyReads F.files F.read_faults F.write_faults folder.old folder.new (IsReadFault result) }
-{
-    let names = names_of(alloc, paths, name)?;
-    read_file(alloc, folder, &names, mark, name)
-}
-
-/// What a call gives that reads no files, as that of one that does.
-pub fn bytes_halted(given: Result<Bytes, Stop<Fault>>) -> Result<Bytes, Halt>
-    ensures { result ≡ halted given }
-{
-    match given {
-        Ok(bytes) => Ok(bytes),
-        Err(stop) => Err(Halt::from(stop)),
     }
 }
 

@@ -5,14 +5,12 @@ ghost use Rattle.rz_core.specs.Stop.{Gives, OnFault};
 ghost use Rattle.rz_stmt_data.specs.Head.{attribute_of, head_of};
 ghost use Rattle.rz_set.specs.After.{HasShortName};
 ghost use Rattle.rz_types.specs.Text.{plain_parts};
-ghost use Rattle.rz_tools_work.specs.Pick.{as_type, chosen_facts, chosen_one, head_said, new_attributes, new_head, new_name, one_in, the_one};
+ghost use Rattle.rz_tools_work.specs.Pick.{as_type, chosen_facts, head_said, new_attributes, new_head, new_name};
 
-use crate::head::{bits_of, name_of};
-use crate::pick::{id_said, no_resource};
-use crate::setting::Setting;
 use rz_core::{Attr, Bytes, Facts, Fault, Mark, NoMemory, OsType, Resource, Stop};
-use rz_set::{Head, Pick, ResSet, find_in, find_name_in};
+use rz_set::{Head, Pick};
 use rz_stmt_data::{AttrParts, HeadExpr};
+use rz_tools_values::{Setting, bits_of, id_said, name_of};
 use rz_types::Texts;
 use std::alloc::Global;
 
@@ -23,66 +21,6 @@ pub struct Renamed {
     pub pick: Pick,
     /// What they become.
     pub head: Head,
-}
-
-/// The resource of a list that a pick by id or name is for: 218 on this line where there is none (kept: the type and the
-/// id, or the name). Other picks are for no one resource. (MPW Rez.)
-pub fn chosen_in_list<'a>(
-    alloc: Global,
-    list: &'a [Resource],
-    kind: OsType,
-    pick: &Pick,
-    mark: Mark,
-) -> Result<Option<&'a Resource>, Stop<Fault>>
-    ensures chosen { Gives (chosen_one mark kind pick.now list.now) (one_in result) }
-    ensures nameable { (files : ℕ) → mark.file < files → OnFault result (IsNameable files) }
-{
-    match pick {
-        Pick::Id(id) => the_one(alloc, find_in(list, kind, *id), kind, pick, mark),
-        Pick::Name(name) => {
-            let one = find_name_in(list, kind, name.as_slice());
-            the_one(alloc, one, kind, pick, mark)
-        }
-        Pick::All | Pick::Range(..) => Ok(None),
-    }
-}
-
-/// The same of the resources of a program.
-pub fn chosen_in_set<'a>(
-    alloc: Global,
-    set: &'a ResSet,
-    kind: OsType,
-    pick: &Pick,
-    mark: Mark,
-) -> Result<Option<&'a Resource>, Stop<Fault>>
-    ensures chosen { Gives (chosen_one mark kind pick.now set.now) (one_in result) }
-    ensures nameable { (files : ℕ) → mark.file < files → OnFault result (IsNameable files) }
-{
-    match pick {
-        Pick::Id(id) => the_one(alloc, set.find(kind, *id), kind, pick, mark),
-        Pick::Name(name) => {
-            let one = set.find_name(kind, name.as_slice());
-            the_one(alloc, one, kind, pick, mark)
-        }
-        Pick::All | Pick::Range(..) => Ok(None),
-    }
-}
-
-/// The resource that was looked for, or 218.
-fn the_one<'a>(
-    alloc: Global,
-    one: Option<&'a Resource>,
-    kind: OsType,
-    pick: &Pick,
-    mark: Mark,
-) -> Result<Option<&'a Resource>, Stop<Fault>>
-    ensures one { Gives (the_one mark kind pick.now (option_copied one.entry)) (one_in result) }
-    ensures nameable { (files : ℕ) → mark.file < files → OnFault result (IsNameable files) }
-{
-    match one {
-        Some(resource) => Ok(Some(resource)),
-        None => Err(Stop::Refused(no_resource(alloc, kind, pick, mark)?)),
-    }
 }
 
 /// What chosen resources become: resources of a type, and where one is chosen and there is a head, as the head says. Its

@@ -3,7 +3,7 @@ use Rattle.std.specs.Prelude.{IfSome}
 use Rattle.rz_folder.specs.Folder.{Files}
 use Rattle.rz_pre.specs.Program.{State}
 use Rattle.rz_pre.specs.Reading.{IsProgram}
-use Rattle.rz_tools_work.specs.Around.{around}
+use Rattle.rz_tools_values.specs.Around.{around}
 use Rattle.rz_tools_args.specs.Item.{derez}
 use Rattle.rz_tools.specs.DeRez.{derez_setting}
 use Rattle.rz_tools.specs.Held.{CompiledSo}

@@ -3,7 +3,7 @@ use Rattle.std.specs.Prelude.{IfSome}
 use Rattle.rz_lex.specs.declared.token.Token.{Token}
 use Rattle.rz_folder_paths.specs.declared.halt.Halt.{Halt}
 use Rattle.rz_stmt.specs.Statements.{AreStatements}
-use Rattle.rz_tools_work.specs.Around.{around}
+use Rattle.rz_tools_values.specs.Around.{around}
 use Rattle.rz_tools_work.specs.Held.{work_of}
 use Rattle.rz_tools.specs.Step.{Means, Worked}
 use Rattle.rz_tools.proofs.Sourced.{none_warned, refusal_told, work_told}

@@ -1,6 +1,6 @@
 use Rattle.std.proofs.Common.{◌≡◌}
 use Rattle.rz_stmt_lists.specs.Lists.{list_of}
-use Rattle.rz_tools_work.specs.Around.{around}
+use Rattle.rz_tools_values.specs.Around.{around}
 use Rattle.rz_tools_work.specs.Lists.{list_after}
 use Rattle.rz_tools.proofs.Stepping.{derez_went, rez_went}
 use Rattle.rz_tools.proofs.step.change_list.Goals as goal

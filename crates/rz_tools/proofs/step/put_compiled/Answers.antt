@@ -1,7 +1,7 @@
 use Rattle.rz_stmt_items.specs.Compile.{compile_of}
 use Rattle.rz_tools.specs.Step.{IsListBehind}
 use Rattle.rz_types_table.specs.TypeTable.{table_of}
-use Rattle.rz_tools_work.specs.Around.{around}
+use Rattle.rz_tools_values.specs.Around.{around}
 use Rattle.rz_tools.proofs.Stepping.{derez_went, rez_went}
 use Rattle.rz_tools.proofs.step.put_compiled.Goals as goal
 

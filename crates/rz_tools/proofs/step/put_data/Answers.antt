@@ -1,10 +1,11 @@
 use Rattle.std.proofs.lemmas.Option.{IfSome_then}
 use Rattle.rz_stmt_data.specs.Raw.{raw_of}
 use Rattle.rz_folder_paths.specs.Halt.{IsReadFault}
-use Rattle.rz_tools_work.proofs.Calls.{reads_first, went_halt, went_on}
-use Rattle.rz_tools_work.specs.Around.{around}
+use Rattle.rz_tools_values.proofs.Calls.{reads_first}
+use Rattle.rz_tools_work.proofs.Calls.{went_halt, went_on}
+use Rattle.rz_tools_values.specs.Around.{around}
 use Rattle.rz_tools_work.specs.Put.{list_with}
-use Rattle.rz_tools_work.specs.Raw.{resource_of}
+use Rattle.rz_tools_resource.specs.Raw.{resource_of}
 use Rattle.rz_tools.proofs.step.put_data.Goals as goal
 
 pub returns-in-Ok-clause-put : goal.returns-in-Ok-clause-put

@@ -1,9 +1,9 @@
 use Rattle.std.proofs.Common.{◌≡◌}
 use Rattle.rz_stmt_data.specs.Raw.{raw_of}
-use Rattle.rz_tools_work.specs.Around.{around}
-use Rattle.rz_tools_work.specs.Work.{list_behind}
+use Rattle.rz_tools_values.specs.Around.{around}
 use Rattle.rz_tools.proofs.Stepping.{derez_went, rez_went}
 use Rattle.rz_tools.proofs.step.put_raw.Goals as goal
+use Rattle.rz_tools.specs.Step.{list_behind}
 
 pub returns-in-Rez-clause-put : goal.returns-in-Rez-clause-put
 returns-in-Rez-clause-put g c =

@@ -1,7 +1,7 @@
 use Rattle.std.proofs.Common.{List, subst, ◌∙◌}
 use Rattle.std.specs.Prelude.{IfSome}
 use Rattle.rz_lex.specs.declared.token.Token.{Token}
-use Rattle.rz_tools_work.specs.Around.{around}
+use Rattle.rz_tools_values.specs.Around.{around}
 use Rattle.rz_tools_work.specs.Held.{work_of}
 use Rattle.rz_tools.specs.Step.{Steps, Worked}
 use Rattle.rz_tools_work.proofs.Numbered.{still_lexed, still_within}

@@ -1,7 +1,7 @@
 use Rattle.std.proofs.Common.{ap, ◌∙◌}
 use Rattle.rz_core.specs.declared.fault.Kept.{Kept}
 use Rattle.rz_set.specs.After.{after_remove}
-use Rattle.rz_tools_work.specs.Pick.{sought_by}
+use Rattle.rz_tools_values.specs.Chosen.{sought_by}
 use Rattle.rz_tools_work.specs.Put.{given_on_line}
 use Rattle.rz_tools_work.proofs.Puts.{leaves_so}
 use Rattle.rz_tools_work.proofs.change.delete_picked.Goals as goal

@@ -4,8 +4,10 @@ use Rattle.rz_core.specs.Message.{IsNameable}
 use Rattle.rz_core.specs.declared.resource.Resource.{Resource}
 use Rattle.rz_stmt_lists.specs.Include.{part_of}
 use Rattle.rz_folder_paths.specs.Halt.{IsReadFault, Yields}
-use Rattle.rz_tools_work.specs.Include.{included, list_named}
-use Rattle.rz_tools_work.proofs.Calls.{halted_refuses, halted_unread, reads_first, went_halt, went_on}
+use Rattle.rz_tools_values.specs.Files.{list_named}
+use Rattle.rz_tools_work.specs.Include.{included}
+use Rattle.rz_tools_values.proofs.Calls.{reads_first}
+use Rattle.rz_tools_work.proofs.Calls.{halted_refuses, halted_unread, went_halt, went_on}
 use Rattle.rz_tools_work.proofs.include.include_resources.Goals as goal
 
 pub returns-in-Ok-clause-included : goal.returns-in-Ok-clause-included

@@ -6,11 +6,12 @@ use Rattle.rz_stmt_lists.specs.Lists.{list_of}
 use Rattle.rz_stmt_lists.specs.declared.lists.ListStmt.{ListStmt}
 use Rattle.rz_folder_paths.specs.Halt.{IsReadFault}
 use Rattle.rz_folder_paths.proofs.Found.{if_some}
-use Rattle.rz_tools_work.specs.Around.{around}
+use Rattle.rz_tools_values.specs.Around.{around}
 use Rattle.rz_tools_work.specs.Change.{list_changing, list_deleting}
 use Rattle.rz_tools_work.specs.Lists.{list_after}
 use Rattle.rz_tools_work.specs.Work.{Went}
-use Rattle.rz_tools_work.proofs.Calls.{halted_refuses, halted_unread, reads_nothing, went_as}
+use Rattle.rz_tools_values.proofs.Calls.{reads_nothing}
+use Rattle.rz_tools_work.proofs.Calls.{halted_refuses, halted_unread, went_as}
 use Rattle.rz_tools_work.proofs.lists.list_step.Goals as goal
 
 pub returns-in-Include-clause-stepped : goal.returns-in-Include-clause-stepped

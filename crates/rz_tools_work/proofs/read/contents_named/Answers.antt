@@ -1,8 +1,8 @@
 use Rattle.std.proofs.lemmas.Option.{IfSome_then}
 use Rattle.rz_folder_paths.specs.Halt.{IsReadFault}
-use Rattle.rz_tools_work.specs.Data.{short_bytes}
-use Rattle.rz_tools_work.specs.Read.{file_named}
-use Rattle.rz_tools_work.proofs.Calls.{reads_first, yields_halt, yields_on}
+use Rattle.rz_tools_values.specs.Contents.{short_bytes}
+use Rattle.rz_tools_values.specs.Files.{file_named}
+use Rattle.rz_tools_values.proofs.Calls.{reads_first, yields_halt, yields_on}
 use Rattle.rz_tools_work.proofs.read.contents_named.Goals as goal
 
 pub returns-in-Ok-clause-read : goal.returns-in-Ok-clause-read

@@ -2,10 +2,11 @@ use Rattle.std.proofs.lemmas.Option.{IfSome_then}
 use Rattle.rz_core.specs.Message.{IsNameable}
 use Rattle.rz_stmt_lists.specs.Read.{read_of}
 use Rattle.rz_folder_paths.specs.Halt.{IsReadFault}
-use Rattle.rz_tools_work.specs.Around.{around}
+use Rattle.rz_tools_values.specs.Around.{around}
 use Rattle.rz_tools_work.specs.Put.{list_with}
 use Rattle.rz_tools_work.specs.Read.{resource_read}
-use Rattle.rz_tools_work.proofs.Calls.{halted_refuses, halted_unread, reads_first, went_halt, went_on}
+use Rattle.rz_tools_values.proofs.Calls.{reads_first}
+use Rattle.rz_tools_work.proofs.Calls.{halted_refuses, halted_unread, went_halt, went_on}
 use Rattle.rz_tools_work.proofs.read.read_resource.Goals as goal
 
 pub returns-in-Ok-clause-read : goal.returns-in-Ok-clause-read

@@ -6,9 +6,9 @@ use Rattle.rz_core.specs.declared.resource.Resource.{Resource}
 use Rattle.rz_stmt_data.specs.Head.{head_of}
 use Rattle.rz_folder_paths.specs.Halt.{IsReadFault, Yields}
 use Rattle.rz_folder_paths.proofs.Found.{if_some}
-use Rattle.rz_tools_work.specs.Head.{facts_of}
+use Rattle.rz_tools_values.specs.Head.{facts_of}
 use Rattle.rz_tools_work.specs.Read.{with_file}
-use Rattle.rz_tools_work.proofs.Calls.{reads_nothing, refuses_so, stop_unread, yields_on, yields_stop}
+use Rattle.rz_tools_values.proofs.Calls.{reads_nothing, refuses_so, stop_unread, yields_on, yields_stop}
 use Rattle.rz_tools_work.proofs.read.resource_read.Goals as goal
 
 pub returns-in-Ok-clause-read : goal.returns-in-Ok-clause-read

@@ -1,9 +1,9 @@
 use Rattle.std.proofs.Common.{List, ℕ, Ok, ap}
 use Rattle.std.proofs.lemmas.Option.{IfSome_then}
 use Rattle.rz_core.specs.declared.resource.Resource.{Resource}
-use Rattle.rz_tools_work.specs.Data.{with_bytes}
+use Rattle.rz_tools_values.specs.Contents.{with_bytes}
 use Rattle.rz_tools_work.specs.Read.{contents_named}
-use Rattle.rz_tools_work.proofs.Calls.{yields_halt, yields_on}
+use Rattle.rz_tools_values.proofs.Calls.{yields_halt, yields_on}
 use Rattle.rz_tools_work.proofs.read.with_file.Goals as goal
 
 pub returns-in-Ok-clause-read : goal.returns-in-Ok-clause-read

@@ -5,9 +5,9 @@ use Rattle.rz_core.specs.Stop.{Gives, ◌>>=◌}
 use Rattle.rz_core.specs.declared.fault.Fault.{Fault}
 use Rattle.rz_stmt_data.specs.Head.{attribute_of}
 use Rattle.rz_stmt_data.specs.declared.head.AttrPart.{AttrPart}
-use Rattle.rz_tools_work.specs.Head.{bits_behind_all}
+use Rattle.rz_tools_values.specs.Head.{bits_behind_all}
 use Rattle.rz_tools_work.specs.Pick.{new_attributes}
-use Rattle.rz_tools_work.proofs.Calls.{gives_stop}
+use Rattle.rz_tools_values.proofs.Calls.{gives_stop}
 use Rattle.rz_tools_work.proofs.Renamings.{given}
 use Rattle.rz_tools_work.proofs.renaming.new_attributes.Goals as goal
 

@@ -1,0 +1,75 @@
+ghost use Rattle.std.specs.Prelude.{◌≡◌, ◌<◌, ℕ, IfSome, IfOk};
+ghost use Rattle.rz_core.specs.Message.{IsNameable};
+ghost use Rattle.rz_folder.specs.OnlyReads.{OnlyReads};
+ghost use Rattle.rz_stmt_items.specs.Item.{plain_item, plain_items};
+ghost use Rattle.rz_stmt_items.specs.Places.{AreItemsWithin, IsItemWithin};
+ghost use Rattle.rz_folder_paths.specs.Halt.{IsReadFault, OnRefusal, Yields};
+ghost use Rattle.rz_tools_resource.specs.Items.{item_given, item_read, items_given, items_read};
+
+use rz_core::{Facts, FileNames, Mark};
+use rz_folder::Folder;
+use rz_folder_paths::Halt;
+use rz_stmt_items::{Item, Items};
+use rz_tools_values::read_texts;
+use std::alloc::Global;
+
+/// Items in which what the files give that their texts name has taken the place of the parts that name them, from left to
+/// right. The first fault is the answer, as `read_texts` says, on the line of the statement. No file changes. (MPW Rez.)
+#[cycle(items)]
+pub fn read_items<F: Folder>(
+    alloc: Global,
+    folder: &mut F,
+    paths: &FileNames,
+    items: Items,
+    mark: Mark,
+    known: &Facts,
+) -> Result<Items, Halt>
+    ensures read { IfSome (F.files folder.old) (λ files.
+        Yields result (λ answer. items_given answer ≡ items_read paths.now files mark known.now (plain_items items))) }
+    ensures within { (files : ℕ) → AreItemsWithin files (plain_items items) → IfOk result (λ made. AreItemsWithin files (plain_items made)) }
+    ensures nameable { (files : ℕ) → mark.file < files → OnRefusal result (IsNameable files) }
+    ensures reads { OnlyReads F.files F.read_faults F.write_faults folder.old folder.new (IsReadFault result) }
+{
+    let mut made = Items::new(alloc);
+    for item in items.into_vec() {
+        match read_item(alloc, folder, paths, item, mark, known) {
+            Ok(item) => made.push(item)?,
+            Err(halt) => return Err(halt),
+        }
+    }
+    Ok(made)
+}
+
+/// An item, with what the files give that its texts name.
+#[cycle(items)]
+fn read_item<F: Folder>(
+    alloc: Global,
+    folder: &mut F,
+    paths: &FileNames,
+    item: Item,
+    mark: Mark,
+    known: &Facts,
+) -> Result<Item, Halt>
+    ensures read { IfSome (F.files folder.old) (λ files. Yields result (λ answer. item_given answer ≡ item_read paths.now files mark known.now (plain_item item))) }
+    ensures within { (files : ℕ) → IsItemWithin files (plain_item item) → IfOk result (λ made. IsItemWithin files (plain_item made)) }
+    ensures nameable { (files : ℕ) → mark.file < files → OnRefusal result (IsNameable files) }
+    ensures reads { OnlyReads F.files F.read_faults F.write_faults folder.old folder.new (IsReadFault result) }
+{
+    match item {
+        Item::Number(expr, place) => Ok(Item::Number(expr, place)),
+        Item::Text(texts, place) => match read_texts(alloc, folder, paths, texts, mark, known) {
+            Ok(texts) => Ok(Item::Text(texts, place)),
+            Err(halt) => Err(halt),
+        },
+        Item::List(items, place) => match read_items(alloc, folder, paths, items, mark, known) {
+            Ok(items) => Ok(Item::List(items, place)),
+            Err(halt) => Err(halt),
+        },
+        Item::Named(name, items, place) => {
+            match read_items(alloc, folder, paths, items, mark, known) {
+                Ok(items) => Ok(Item::Named(name, items, place)),
+                Err(halt) => Err(halt),
+            }
+        }
+    }
+}

@@ -1,0 +1,79 @@
+ghost use Rattle.std.specs.Prelude.{◌≡◌, ◌<◌, ℕ, length, IfOk, IfSome};
+ghost use Rattle.rz_core.specs.Message.{IsNameable};
+ghost use Rattle.rz_stmt_data.specs.Raw.{raw_of};
+ghost use Rattle.rz_types_fields.specs.Text.{plain_parts};
+ghost use Rattle.rz_folder.specs.OnlyReads.{OnlyReads};
+ghost use Rattle.rz_folder_paths.specs.Halt.{IsReadFault, OnRefusal, Yields};
+ghost use Rattle.rz_tools_values.specs.Around.{around};
+ghost use Rattle.rz_tools_resource.specs.Raw.{contents_read, resource_of, with_text};
+
+use rz_core::{Bytes, Facts, FileNames, Mark, Resource};
+use rz_folder::Folder;
+use rz_folder_paths::Halt;
+use rz_stmt_data::RawStmt;
+use rz_tools_values::{Setting, bytes_halted, contents_of, facts_of, read_texts, with_bytes};
+use rz_types_fields::Texts;
+use std::alloc::Global;
+
+/// The resource of a `data` statement on this line: the values of its head, then what the files give that its text names,
+/// as `read_texts` says, then 211, 215 and 222 of the text, and then 301 for contents of more than 16,777,212 bytes. No
+/// file changes. (MPW Rez.)
+pub fn resource_of<F: Folder>(
+    alloc: Global,
+    folder: &mut F,
+    paths: &FileNames,
+    raw: RawStmt,
+    mark: Mark,
+    setting: Setting,
+) -> Result<Resource, Halt>
+    ensures resource { IfSome (F.files folder.old) (λ files. Yields result (λ answer. answer ≡ resource_of (around setting paths.now files) mark (raw_of raw))) }
+    ensures named { IfOk result (λ resource. length resource.name < 256) }
+    ensures nameable { (files : ℕ) → mark.file < files → OnRefusal result (IsNameable files) }
+    ensures reads { OnlyReads F.files F.read_faults F.write_faults folder.old folder.new (IsReadFault result) }
+{
+    match facts_of(alloc, raw.kind, &raw.head, mark, setting) {
+        Ok(known) => with_text(alloc, folder, paths, known, raw.texts, mark),
+        Err(stop) => Err(Halt::from(stop)),
+    }
+}
+
+/// The resource of which this is known, with the contents that a text is.
+fn with_text<F: Folder>(
+    alloc: Global,
+    folder: &mut F,
+    paths: &FileNames,
+    known: Facts,
+    texts: Texts,
+    mark: Mark,
+) -> Result<Resource, Halt>
+    requires named { length known.name < 256 }
+    ensures resource { IfSome (F.files folder.old) (λ files. Yields result (λ answer. answer ≡ with_text paths.now files mark (plain_parts texts) known)) }
+    ensures named { IfOk result (λ resource. length resource.name < 256) }
+    ensures nameable { (files : ℕ) → mark.file < files → OnRefusal result (IsNameable files) }
+    ensures reads { OnlyReads F.files F.read_faults F.write_faults folder.old folder.new (IsReadFault result) }
+{
+    match contents_read(alloc, folder, paths, texts, mark, &known) {
+        Ok(bytes) => Ok(with_bytes(known, bytes)),
+        Err(halt) => Err(halt),
+    }
+}
+
+/// The contents that a text is, with what the files give that it names.
+fn contents_read<F: Folder>(
+    alloc: Global,
+    folder: &mut F,
+    paths: &FileNames,
+    texts: Texts,
+    mark: Mark,
+    known: &Facts,
+) -> Result<Bytes, Halt>
+    ensures contents { IfSome (F.files folder.old) (λ files.
+        Yields result (λ answer. answer ≡ contents_read paths.now files mark known.now (plain_parts texts))) }
+    ensures nameable { (files : ℕ) → mark.file < files → OnRefusal result (IsNameable files) }
+    ensures reads { OnlyReads F.files F.read_faults F.write_faults folder.old folder.new (IsReadFault result) }
+{
+    match read_texts(alloc, folder, paths, texts, mark, known) {
+        Ok(texts) => bytes_halted(contents_of(alloc, &texts, mark, known)),
+        Err(halt) => Err(halt),
+    }
+}

@@ -1,0 +1,5 @@
+pub mod Behind
+pub mod Calls
+pub mod ChosenOne
+pub mod TextsRead
+pub mod Turns

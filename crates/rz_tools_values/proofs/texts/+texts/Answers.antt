@@ -1,0 +1,70 @@
+use Rattle.std.proofs.Common.{List, [], ◌∷◌, ◌++◌, map, sym, ap, ◌∙◌, append_assoc}
+use Rattle.std.proofs.lemmas.List.{map-append, nil_from_length}
+use Rattle.std.proofs.lemmas.Option.{IfSome_then}
+use Rattle.rz_stmt_type.proofs.Bodies.{so_far}
+use Rattle.rz_types_fields.specs.Text.{argument_and, arguments_of, plain_argument, plain_arguments, plain_part, plain_parts}
+use Rattle.rz_types_fields.specs.declared.text.FormatArg.{FormatArg}
+use Rattle.rz_types_fields.specs.declared.text.TextPart.{TextPart}
+use Rattle.rz_folder.proofs.Reading.{reads_on}
+use Rattle.rz_folder_paths.proofs.Found.{if_some}
+use Rattle.rz_pre.proofs.Going.{at_some}
+use Rattle.rz_tools_values.specs.Texts.{argument_read, arguments_read, part_read, texts_read}
+use Rattle.rz_tools_values.proofs.TextsRead.{all_arguments, all_parts, text_halts, text_so}
+use Rattle.rz_tools_values.proofs.Turns.{turn_more}
+use Rattle.rz_tools_values.proofs.texts.+texts.Goals as goal
+
+pub read_argument-returns-in-Ok-clause-read : goal.read_argument-returns-in-Ok-clause-read
+read_argument-returns-in-Ok-clause-read g t c = IfSome_then (g.F.Folder.files c.args.folder.now) c.in-Ok.ensures.read (λ files yields.
+    text_so c.args.paths.now files c.args.mark c.args.known.now c.args.argument c.in-Text.texts c.in-Text.is c.in-Ok.texts yields)
+
+pub read_argument-returns-in-Err-clause-read : goal.read_argument-returns-in-Err-clause-read
+read_argument-returns-in-Err-clause-read g t c = IfSome_then (g.F.Folder.files c.args.folder.now) c.in-Err.ensures.read (λ files yields.
+    text_halts c.args.paths.now files c.args.mark c.args.known.now c.args.argument c.in-Text.texts c.in-Text.is c.in-Err.halt yields)
+
+pub read_arguments-loop-argument-preserved : goal.read_arguments-loop-argument-preserved
+read_arguments-loop-argument-preserved g t c =
+    let loop = c.loop-argument in
+    let rest = c.next.new.self.rest.items in record {
+      read = λ files told.
+          turn_more plain_argument argument_and (arguments_read c.args.paths.now files c.args.mark c.args.known.now (arguments_of (plain_arguments c.args.arguments)))
+          (plain_arguments loop.made) (argument_read c.args.paths.now files c.args.mark c.args.known.now (plain_argument c.in-Some.argument))
+          (arguments_read c.args.paths.now files c.args.mark c.args.known.now (arguments_of (plain_arguments rest)))
+          (loop.invariant.read files told ∙ ap (λ (l : List FormatArg). so_far argument_and (plain_arguments loop.made)
+          (arguments_read c.args.paths.now files c.args.mark c.args.known.now (arguments_of (plain_arguments l)))) c.in-Some.ensures.steps.0)
+          c.in-Ok.argument (plain_arguments c.push.new.self)
+          (at_some _ files (loop.invariant.reads.unchanged ∙ told) _ c.in-Ok.ensures.read)
+          (ap (map plain_argument) c.in_ok-push-in-Ok.ensures.ok ∙ map-append plain_argument loop.made (c.in-Ok.argument ∷ []));
+      rest = loop.invariant.rest ∙ ap (λ (l : List FormatArg). loop.yielded ++ l) c.in-Some.ensures.steps.0 ∙ sym (append_assoc loop.yielded (c.in-Some.argument ∷ []) rest);
+      reads = reads_on g.F.Folder.files g.F.Folder.read_faults g.F.Folder.write_faults _ _ _ _ _ ⊥ loop.invariant.reads c.in-Ok.ensures.reads (λ never. absurd never);
+    }
+
+pub read_arguments-returns-clause-read : goal.read_arguments-returns-clause-read
+read_arguments-returns-clause-read g t c = if_some (g.F.Folder.files c.args.folder.now) _ (λ files told.
+    let loop = c.loop-argument in
+    sym (loop.invariant.read files told
+    ∙ ap (λ (l : List FormatArg). so_far argument_and (plain_arguments loop.made) (arguments_read c.args.paths.now files c.args.mark c.args.known.now (arguments_of (plain_arguments l))))
+    (nil_from_length loop.argument-iterator.rest.items (sym loop.argument-iterator.rest.ok.0 ∙ c.in-None.ensures.steps.0)) ∙ all_arguments (plain_arguments loop.made)))
+
+pub read_texts-loop-part-preserved : goal.read_texts-loop-part-preserved
+read_texts-loop-part-preserved g t c =
+    let loop = c.loop-part in
+    let rest = c.next.new.self.rest.items in record {
+      read = λ files told.
+          turn_more plain_part (λ part parts. part ∷ parts) (texts_read c.args.paths.now files c.args.mark c.args.known.now (plain_parts c.args.texts))
+          (plain_parts loop.made) (part_read c.args.paths.now files c.args.mark c.args.known.now (plain_part c.in-Some.part))
+          (texts_read c.args.paths.now files c.args.mark c.args.known.now (plain_parts rest))
+          (loop.invariant.read files told ∙ ap (λ (l : List TextPart). so_far (λ part parts. part ∷ parts) (plain_parts loop.made)
+          (texts_read c.args.paths.now files c.args.mark c.args.known.now (plain_parts l))) c.in-Some.ensures.steps.0)
+          c.in-Ok.part (plain_parts c.push.new.self)
+          (at_some _ files (loop.invariant.reads.unchanged ∙ told) _ c.in-Ok.ensures.read)
+          (ap (map plain_part) c.in_ok-push-in-Ok.ensures.ok ∙ map-append plain_part loop.made (c.in-Ok.part ∷ []));
+      rest = loop.invariant.rest ∙ ap (λ (l : List TextPart). loop.yielded ++ l) c.in-Some.ensures.steps.0 ∙ sym (append_assoc loop.yielded (c.in-Some.part ∷ []) rest);
+      reads = reads_on g.F.Folder.files g.F.Folder.read_faults g.F.Folder.write_faults _ _ _ _ _ ⊥ loop.invariant.reads c.in-Ok.ensures.reads (λ never. absurd never);
+    }
+
+pub read_texts-returns-clause-read : goal.read_texts-returns-clause-read
+read_texts-returns-clause-read g t c = if_some (g.F.Folder.files c.args.folder.now) _ (λ files told.
+    let loop = c.loop-part in
+    sym (loop.invariant.read files told
+    ∙ ap (λ (l : List TextPart). so_far (λ part parts. part ∷ parts) (plain_parts loop.made) (texts_read c.args.paths.now files c.args.mark c.args.known.now (plain_parts l)))
+    (nil_from_length loop.part-iterator.rest.items (sym loop.part-iterator.rest.ok.0 ∙ c.in-None.ensures.steps.0)) ∙ all_parts (plain_parts loop.made)))

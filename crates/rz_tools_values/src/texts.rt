@@ -1,0 +1,218 @@
+ghost use Rattle.std.specs.Prelude.{◌≡◌, ◌<◌, ℕ, IfOk, IfSome};
+ghost use Rattle.std.specs.Option.{option_copied};
+ghost use Rattle.rz_core.specs.Message.{IsNameable};
+ghost use Rattle.rz_core.specs.Stop.{Gives, OnFault};
+ghost use Rattle.rz_types_fields.specs.Text.{arguments_of, plain_argument, plain_arguments, plain_key, plain_part, plain_parts};
+ghost use Rattle.rz_folder.specs.OnlyReads.{OnlyReads};
+ghost use Rattle.rz_folder_paths.specs.Halt.{IsReadFault, OnRefusal, Yields};
+ghost use Rattle.rz_tools_values.specs.Texts.{argument_given, argument_read, arguments_given, arguments_read, bytes_chosen, bytes_of_one, key_said, part_given, part_read, resource_bytes, resource_named, texts_given, texts_read};
+
+use crate::chosen::{chosen_in_list, id_said};
+use crate::files::{bytes_halted, file_named, list_named};
+use rz_core::{Bytes, Facts, Fault, FileNames, Mark, NoMemory, OsType, Resource, Resources, Stop};
+use rz_folder::Folder;
+use rz_folder_paths::Halt;
+use rz_set::Pick;
+use rz_types_fields::{FormatArg, FormatArgs, ResKey, TextPart, Texts, text_of};
+use std::alloc::Global;
+
+/// A text in which what the files give that it names has taken the place of the parts that name them, those in the
+/// arguments of formats too, from left to right, where of the resource so much is known. The first fault is the answer:
+/// 101 where a file stands neither under its name nor behind a path (kept: the name); of a `$$Resource` before it 211,
+/// 215 and 204 of its id, and 211, 215 and 222 of its name, and behind it the first rule that the form or the fork breaks,
+/// and 218 where it has no such resource (kept: the type and the id, or the name). No file changes. (MPW Rez.)
+#[cycle(texts)]
+pub fn read_texts<F: Folder>(
+    alloc: Global,
+    folder: &mut F,
+    paths: &FileNames,
+    texts: Texts,
+    mark: Mark,
+    known: &Facts,
+) -> Result<Texts, Halt>
+    ensures read { IfSome (F.files folder.old) (λ files.
+        Yields result (λ answer. texts_given answer ≡ texts_read paths.now files mark known.now (plain_parts texts))) }
+    ensures nameable { (files : ℕ) → mark.file < files → OnRefusal result (IsNameable files) }
+    ensures reads { OnlyReads F.files F.read_faults F.write_faults folder.old folder.new (IsReadFault result) }
+{
+    let mut made = Texts::new(alloc);
+    for part in texts.into_vec() {
+        match read_part(alloc, folder, paths, part, mark, known) {
+            Ok(part) => made.push(part)?,
+            Err(halt) => return Err(halt),
+        }
+    }
+    Ok(made)
+}
+
+/// A part, or what the file gives that it names.
+#[cycle(texts)]
+fn read_part<F: Folder>(
+    alloc: Global,
+    folder: &mut F,
+    paths: &FileNames,
+    part: TextPart,
+    mark: Mark,
+    known: &Facts,
+) -> Result<TextPart, Halt>
+    ensures read { IfSome (F.files folder.old) (λ files.
+        Yields result (λ answer. part_given answer ≡ part_read paths.now files mark known.now (plain_part part))) }
+    ensures nameable { (files : ℕ) → mark.file < files → OnRefusal result (IsNameable files) }
+    ensures reads { OnlyReads F.files F.read_faults F.write_faults folder.old folder.new (IsReadFault result) }
+{
+    match part {
+        TextPart::Plain(bytes) => Ok(TextPart::Plain(bytes)),
+        TextPart::NameFact => Ok(TextPart::NameFact),
+        TextPart::DateFact => Ok(TextPart::DateFact),
+        TextPart::TimeFact => Ok(TextPart::TimeFact),
+        TextPart::VersionFact => Ok(TextPart::VersionFact),
+        TextPart::FileBytes(name) => {
+            match file_named(alloc, folder, paths, name.as_slice(), mark) {
+                Ok(bytes) => Ok(TextPart::Plain(bytes)),
+                Err(halt) => Err(halt),
+            }
+        }
+        TextPart::FileResource(name, kind, key) => {
+            let name = name.as_slice();
+            match resource_named(alloc, folder, paths, name, kind, &key, mark, known) {
+                Ok(bytes) => Ok(TextPart::Plain(bytes)),
+                Err(halt) => Err(halt),
+            }
+        }
+        TextPart::Format(text, arguments) => {
+            match read_arguments(alloc, folder, paths, arguments, mark, known) {
+                Ok(arguments) => Ok(TextPart::Format(text, arguments)),
+                Err(halt) => Err(halt),
+            }
+        }
+    }
+}
+
+/// The arguments of a format, from left to right.
+#[cycle(texts)]
+fn read_arguments<F: Folder>(
+    alloc: Global,
+    folder: &mut F,
+    paths: &FileNames,
+    arguments: FormatArgs,
+    mark: Mark,
+    known: &Facts,
+) -> Result<FormatArgs, Halt>
+    ensures read { IfSome (F.files folder.old) (λ files.
+        Yields result (λ answer. arguments_given answer ≡ arguments_read paths.now files mark known.now (arguments_of (plain_arguments arguments)))) }
+    ensures nameable { (files : ℕ) → mark.file < files → OnRefusal result (IsNameable files) }
+    ensures reads { OnlyReads F.files F.read_faults F.write_faults folder.old folder.new (IsReadFault result) }
+{
+    let mut made = FormatArgs::new(alloc);
+    for argument in arguments.into_vec() {
+        match read_argument(alloc, folder, paths, argument, mark, known) {
+            Ok(argument) => made.push(argument)?,
+            Err(halt) => return Err(halt),
+        }
+    }
+    Ok(made)
+}
+
+/// An argument of a format.
+#[cycle(texts)]
+fn read_argument<F: Folder>(
+    alloc: Global,
+    folder: &mut F,
+    paths: &FileNames,
+    argument: FormatArg,
+    mark: Mark,
+    known: &Facts,
+) -> Result<FormatArg, Halt>
+    ensures read { IfSome (F.files folder.old) (λ files.
+        Yields result (λ answer. argument_given answer ≡ argument_read paths.now files mark known.now (plain_argument argument))) }
+    ensures nameable { (files : ℕ) → mark.file < files → OnRefusal result (IsNameable files) }
+    ensures reads { OnlyReads F.files F.read_faults F.write_faults folder.old folder.new (IsReadFault result) }
+{
+    match argument {
+        FormatArg::Number(expr) => Ok(FormatArg::Number(expr)),
+        FormatArg::Text(texts) => match read_texts(alloc, folder, paths, texts, mark, known) {
+            Ok(texts) => Ok(FormatArg::Text(texts)),
+            Err(halt) => Err(halt),
+        },
+    }
+}
+
+/// The bytes of the resource of a file that is asked for.
+fn resource_named<F: Folder>(
+    alloc: Global,
+    folder: &mut F,
+    paths: &FileNames,
+    name: &[u8],
+    kind: OsType,
+    key: &ResKey,
+    mark: Mark,
+    known: &Facts,
+) -> Result<Bytes, Halt>
+    ensures read { IfSome (F.files folder.old) (λ files.
+        Yields result (λ answer. answer ≡ resource_named paths.now files mark known.now name.now kind (plain_key key.now))) }
+    ensures nameable { (files : ℕ) → mark.file < files → OnRefusal result (IsNameable files) }
+    ensures reads { OnlyReads F.files F.read_faults F.write_faults folder.old folder.new (IsReadFault result) }
+{
+    match key_said(alloc, key, mark, known) {
+        Ok(pick) => resource_bytes(alloc, folder, paths, name, kind, &pick, mark),
+        Err(stop) => Err(Halt::from(stop)),
+    }
+}
+
+/// The bytes of the resource of a file that a pick by id or name chooses.
+fn resource_bytes<F: Folder>(
+    alloc: Global,
+    folder: &mut F,
+    paths: &FileNames,
+    name: &[u8],
+    kind: OsType,
+    pick: &Pick,
+    mark: Mark,
+) -> Result<Bytes, Halt>
+    ensures read { IfSome (F.files folder.old) (λ files. Yields result (λ answer. answer ≡ resource_bytes paths.now files mark name.now kind pick.now)) }
+    ensures nameable { (files : ℕ) → mark.file < files → OnRefusal result (IsNameable files) }
+    ensures reads { OnlyReads F.files F.read_faults F.write_faults folder.old folder.new (IsReadFault result) }
+{
+    match list_named(alloc, folder, paths, name, mark) {
+        Ok(list) => bytes_halted(bytes_chosen(alloc, &list, kind, pick, mark)),
+        Err(halt) => Err(halt),
+    }
+}
+
+/// The id or the name that a `$$Resource` asks for.
+fn key_said(alloc: Global, key: &ResKey, mark: Mark, known: &Facts) -> Result<Pick, Stop<Fault>>
+    ensures pick { Gives (key_said mark known.now (plain_key key.now)) result }
+    ensures nameable { (files : ℕ) → mark.file < files → OnFault result (IsNameable files) }
+{
+    match key {
+        ResKey::Id(id) => Ok(Pick::Id(id_said(alloc, id, mark, known)?)),
+        ResKey::Name(texts) => Ok(Pick::Name(text_of(alloc, texts, mark, known)?)),
+    }
+}
+
+/// The bytes of the resource that a pick by id or name chooses: 218 where there is none.
+fn bytes_chosen(
+    alloc: Global,
+    list: &Resources,
+    kind: OsType,
+    pick: &Pick,
+    mark: Mark,
+) -> Result<Bytes, Stop<Fault>>
+    ensures bytes { Gives (bytes_chosen mark kind pick.now list.now) result }
+    ensures nameable { (files : ℕ) → mark.file < files → OnFault result (IsNameable files) }
+{
+    match chosen_in_list(alloc, list.as_slice(), kind, pick, mark) {
+        Ok(one) => Ok(bytes_of_one(alloc, one)?),
+        Err(stop) => Err(stop),
+    }
+}
+
+/// A copy of the bytes of a resource, or none.
+fn bytes_of_one(alloc: Global, one: Option<&Resource>) -> Result<Bytes, NoMemory>
+    ensures { IfOk result (λ bytes. bytes ≡ bytes_of_one (option_copied one.entry)) }
+{
+    match one {
+        Some(resource) => Bytes::of(alloc, resource.bytes.as_slice()),
+        None => Ok(Bytes::new(alloc)),
+    }
+}
