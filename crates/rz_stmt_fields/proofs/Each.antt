@@ -2,20 +2,9 @@
 use Rattle.std.proofs.Common.{◌≡◌, List, [], ◌∷◌, ◌++◌, refl, sym, ap, subst, ◌∙◌}
 use Rattle.std.proofs.Math.Decide.{map_dec}
 use Rattle.rz_core.proofs.EveryCut.{both}
+use Rattle.rz_core.proofs.SoFar.{before, before_more}
 use Rattle.rz_lex.specs.declared.token.Token.{Token}
 use Rattle.rz_stmt_fields.specs.Each.{AreEach}
-
--- Chains: lists, or what is like a list, of an item and a chain, or empty.
-
-module _ {X Y : Type 0} (join : X → Y → Y) where
-  -- these items before a chain
-  abbrev pub before : List X → Y → Y
-  before [] chain = chain
-  before (item ∷ items) chain = join item (before items chain)
-
-  pub before_more : (items : List X) (item : X) (chain : Y) → before items (join item chain) ≡ before (items ++ item ∷ []) chain
-  before_more [] item chain = refl
-  before_more (first ∷ items) item chain = ap (join first) (before_more items item chain)
 
 module _ {X Y : Type 0} (none : Y) (join : X → Y → Y) (Are : List (List Token) → Y → Type 0) where
   -- whatever the rest is, all are the items so far and that; and where all are something, so is the rest

@@ -6,7 +6,8 @@ use Rattle.rz_lex.specs.declared.token.Token.{Token}
 use Rattle.rz_stmt_type.specs.Body.{case_more, cut_cases, no_case, AreCases, AreEachCase, IsCase}
 use Rattle.rz_stmt_fields.specs.Form.{case_and, cases_of, no_cases, CaseForm, CasesForm}
 use Rattle.rz_stmt_type.specs.Head.{behind_empty}
-use Rattle.rz_stmt_fields.proofs.Each.{before, leads_all, leads_first, leads_more, Leads}
+use Rattle.rz_core.proofs.SoFar.{before}
+use Rattle.rz_stmt_fields.proofs.Each.{leads_all, leads_first, leads_more, Leads}
 
 abbrev with_case : CaseForm → CasesForm → CasesForm
 with_case one cases = case_and one.name one.row cases

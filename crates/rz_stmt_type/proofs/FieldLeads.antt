@@ -6,7 +6,8 @@ use Rattle.rz_stmt_brackets.specs.declared.pieces.Divider.TheVariants.{Semicolon
 use Rattle.rz_lex.specs.declared.token.Token.{Token}
 use Rattle.rz_stmt_type.specs.Body.{cut, empty, more, none, AreFields, IsBody, IsField}
 use Rattle.rz_stmt_fields.specs.Form.{body_of, field_and, no_fields, BodyForm, FieldForm}
-use Rattle.rz_stmt_fields.proofs.Each.{before, leads_all, leads_first, leads_more, leads_on, Leads}
+use Rattle.rz_core.proofs.SoFar.{before}
+use Rattle.rz_stmt_fields.proofs.Each.{leads_all, leads_first, leads_more, leads_on, Leads}
 
 abbrev pub FieldLeads : Bool → List (List Token) → List (List Token) → List FieldForm → Type 0
 FieldLeads in_case all rest so_far = Leads no_fields field_and (AreFields in_case) all rest so_far

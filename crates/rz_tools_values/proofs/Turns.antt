@@ -3,7 +3,7 @@ use Rattle.std.proofs.Common.{◌≡◌, List, [], ◌∷◌, ◌++◌, Ok, sym}
 use Rattle.std.specs.declared.result.Result.{Result}
 use Rattle.rz_core.specs.Stop.{◌>>=◌}
 use Rattle.rz_core.specs.declared.fault.Fault.{Fault}
-use Rattle.rz_stmt_type.proofs.Bodies.{one_more, so_far}
+use Rattle.rz_core.proofs.SoFar.{one_more, so_far}
 
 -- one more value
 pub turn_more : {T X Y : Type 0} (view : T → X) (join : X → Y → Y) (all : Result Y Fault) (front : List X) (one : Result X Fault) (more : Result Y Fault)

@@ -5,7 +5,8 @@ use Rattle.rz_stmt_fields.specs.Form.{body_form, case_form, cases_form, field_fo
 use Rattle.rz_stmt_fields.specs.declared.form.CaseExpr.{CaseExpr}
 use Rattle.rz_stmt_fields.specs.declared.form.FieldExpr.{FieldExpr}
 use Rattle.rz_types_fields.specs.Field.{field_and, plain_case, plain_field, PlainBody, PlainCases}
-use Rattle.rz_stmt_type.proofs.Bodies.{all_cases, all_fields, case_first, one_more, so_far, with_case}
+use Rattle.rz_core.proofs.SoFar.{one_more, so_far}
+use Rattle.rz_stmt_type.proofs.Bodies.{all_cases, all_fields, case_first, with_case}
 use Rattle.rz_stmt_type.proofs.constants.+constants.Goals as goal
 
 pub value_body-loop-field-preserved : goal.value_body-loop-field-preserved

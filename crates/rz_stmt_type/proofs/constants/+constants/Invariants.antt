@@ -2,7 +2,8 @@ use Rattle.std.proofs.Common.{◌≡◌, ◌++◌, map}
 use Rattle.rz_stmt_type.specs.Constants.{body_value, cases_value}
 use Rattle.rz_stmt_fields.specs.Form.{body_form, cases_form}
 use Rattle.rz_types_fields.specs.Field.{field_and, plain_case, plain_field}
-use Rattle.rz_stmt_type.proofs.Bodies.{so_far, with_case}
+use Rattle.rz_core.proofs.SoFar.{so_far}
+use Rattle.rz_stmt_type.proofs.Bodies.{with_case}
 use Rattle.rz_stmt_type.proofs.constants.+constants.Given as goal
 
 abbrev pub invariant-value_body-loop-field : goal.invariant-value_body-loop-field

@@ -1,7 +1,7 @@
 use Rattle.std.proofs.Common.{List, [], ◌∷◌, ◌++◌, map, sym, ap, ◌∙◌, append_assoc}
 use Rattle.std.proofs.lemmas.List.{map-append, nil_from_length}
 use Rattle.std.proofs.lemmas.Option.{IfSome_then}
-use Rattle.rz_stmt_type.proofs.Bodies.{so_far}
+use Rattle.rz_core.proofs.SoFar.{so_far}
 use Rattle.rz_types_fields.specs.Text.{argument_and, arguments_of, plain_argument, plain_arguments, plain_part, plain_parts}
 use Rattle.rz_types_fields.specs.declared.text.FormatArg.{FormatArg}
 use Rattle.rz_types_fields.specs.declared.text.TextPart.{TextPart}

@@ -1,5 +1,5 @@
 use Rattle.std.proofs.Common.{◌≡◌, ◌∷◌, ◌++◌, Some}
-use Rattle.rz_stmt_type.proofs.Bodies.{so_far}
+use Rattle.rz_core.proofs.SoFar.{so_far}
 use Rattle.rz_types_fields.specs.Text.{argument_and, arguments_of, plain_arguments, plain_parts}
 use Rattle.rz_folder.specs.Folder.{Files}
 use Rattle.rz_folder.specs.OnlyReads.{OnlyReads}

@@ -1,0 +1,48 @@
+#!/usr/bin/env python3
+"""The repository's own quick checks, which the gate runs after `rt ci`.
+
+    python3 tools/checks.py
+
+The files of cases that a script writes are what it would write now; the documents name what is there; and the tour of
+README.md prints what stands there, with the program that the gate built. A check whose program isn't there is skipped and
+says so. The status is 1 if one fails.
+"""
+import glob
+import os
+import subprocess
+import sys
+
+TOP = os.path.join(os.path.dirname(os.path.abspath(__file__)), "..")
+PROGRAM = os.path.join("crates", "rezkit", "out", "rezkit")
+
+
+def checks():
+    """Each check: its name, its command, and a file without which it is skipped."""
+    scripts = sorted(glob.glob("tools/*_cases.py"))
+    found = [(script, [script, "--check"], None) for script in scripts if "--check" in open(script, encoding="utf-8").read()]
+    found.append(("tools/fork.py", ["tools/fork.py", "--check", *sorted(glob.glob("crates/rezkit_cases/data/*.cases"))], None))
+    found.append(("tools/links.py", ["tools/links.py"], None))
+    found.append(("tools/tour.py", ["tools/tour.py"], PROGRAM))
+    return found
+
+
+def main():
+    os.chdir(TOP)
+    failed = skipped = 0
+    for name, command, needed in checks():
+        if needed and not os.path.exists(needed):
+            skipped += 1
+            print("%s: skipped, for there is no %s" % (name, needed), flush=True)
+            continue
+        ran = subprocess.run([sys.executable, *command], stdout=subprocess.PIPE, stderr=subprocess.STDOUT)
+        if ran.returncode:
+            failed += 1
+            print("%s: FAILED\n%s" % (name, ran.stdout.decode("utf-8", "replace")), flush=True)
+        else:
+            print("%s: ok" % name, flush=True)
+    print("quick checks: %d failed, %d skipped" % (failed, skipped))
+    sys.exit(1 if failed else 0)
+
+
+if __name__ == "__main__":
+    main()
