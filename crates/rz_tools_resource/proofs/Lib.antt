@@ -1,2 +1,3 @@
 pub mod OneResource
 pub mod Reading
+pub mod Fileless

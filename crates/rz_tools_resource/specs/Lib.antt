@@ -1,3 +1,4 @@
 pub mod Items
 pub mod Raw
 pub mod Resource
+pub mod Named

@@ -6,6 +6,8 @@ ghost use Rattle.rz_stmt_items.specs.Places.{AreItemsWithin, IsItemWithin};
 ghost use Rattle.rz_folder_paths.specs.Halt.{IsReadFault, OnRefusal, Yields};
 ghost use Rattle.rz_tools_resource.specs.Items.{item_given, item_read, items_given, items_read};
 
+use crate::laws::fileless_items_stay;
+use crate::named::items_name;
 use rz_core::{Facts, FileNames, Mark};
 use rz_folder::Folder;
 use rz_folder_paths::Halt;
@@ -13,10 +15,32 @@ use rz_stmt_items::{Item, Items};
 use rz_tools_values::read_texts;
 use std::alloc::Global;
 
+/// The same items as [`read_items`] gives; those that name no file are given back as they are, and no memory is taken.
+pub fn with_files<F: Folder>(
+    alloc: Global,
+    folder: &mut F,
+    paths: &FileNames,
+    items: Items,
+    mark: Mark,
+    known: &Facts,
+) -> Result<Items, Halt>
+    ensures read { IfSome (F.files folder.old) (λ files.
+        Yields result (λ answer. items_given answer ≡ items_read paths.now files mark known.now (plain_items items))) }
+    ensures within { (files : ℕ) → AreItemsWithin files (plain_items items) → IfOk result (λ made. AreItemsWithin files (plain_items made)) }
+    ensures nameable { (files : ℕ) → mark.file < files → OnRefusal result (IsNameable files) }
+    ensures reads { OnlyReads F.files F.read_faults F.write_faults folder.old folder.new (IsReadFault result) }
+{
+    if items_name(items.as_slice()) {
+        return read_items(alloc, folder, paths, items, mark, known);
+    }
+    fileless_items_stay();
+    Ok(items)
+}
+
 /// Items in which what the files give that their texts name has taken the place of the parts that name them, from left to
 /// right. The first fault is the answer, as `read_texts` says, on the line of the statement. No file changes. (MPW Rez.)
 #[cycle(items)]
-pub fn read_items<F: Folder>(
+fn read_items<F: Folder>(
     alloc: Global,
     folder: &mut F,
     paths: &FileNames,

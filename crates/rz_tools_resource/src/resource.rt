@@ -16,7 +16,7 @@ ghost use Rattle.rz_types_table.specs.Table.{found};
 ghost use Rattle.rz_types.specs.Template.{template_of};
 ghost use Rattle.rz_types_table.specs.TypeTable.{table_of};
 
-use crate::items::read_items;
+use crate::items::with_files;
 use rz_core::{Bytes, Facts, Fault, FileNames, Kept, Mark, Resource, Stop};
 use rz_folder::Folder;
 use rz_folder_paths::Halt;
@@ -95,7 +95,7 @@ fn bytes_read<F: Folder>(
     ensures nameable { (files : ℕ) → mark.file < files → AreItemsWithin files (plain_items items) → OnRefusal result (IsNameable files) }
     ensures reads { OnlyReads F.files F.read_faults F.write_faults folder.old folder.new (IsReadFault result) }
 {
-    match read_items(alloc, folder, paths, items, mark, known) {
+    match with_files(alloc, folder, paths, items, mark, known) {
         Ok(items) => Ok(bytes_under(alloc, &items, mark, known, template)?),
         Err(halt) => Err(halt),
     }

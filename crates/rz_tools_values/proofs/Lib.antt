@@ -3,3 +3,4 @@ pub mod Calls
 pub mod ChosenOne
 pub mod TextsRead
 pub mod Turns
+pub mod Fileless

@@ -5,3 +5,4 @@ pub mod Files
 pub mod Halted
 pub mod Head
 pub mod Texts
+pub mod Named

@@ -11,6 +11,8 @@ mod chosen;
 mod contents;
 mod files;
 mod head;
+mod laws;
+mod named;
 mod setting;
 mod texts;
 
@@ -18,5 +20,7 @@ pub use chosen::{chosen_in_list, chosen_in_set, id_said, sought_by};
 pub use contents::{contents_of, short_bytes, with_bytes};
 pub use files::{bytes_halted, file_named, list_named};
 pub use head::{bits_of, facts_of, head_facts, id_of, keeps_number, name_of};
+pub use laws::fileless_texts_stay;
+pub use named::names_file;
 pub use setting::Setting;
 pub use texts::read_texts;
