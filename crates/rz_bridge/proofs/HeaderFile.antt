@@ -5,14 +5,15 @@ use Rattle.std.proofs.lemmas.List.{length-take, take-take, take_at, nil_from_len
 use Rattle.std.specs.Int.{cast_unsigned, w16}
 use Rattle.std.specs.List.{find}
 use Rattle.rz_core.specs.Lists.{unless_fault}
-use Rattle.rz_core.specs.Numbers.{be, length-be_2, length-be_4}
-use Rattle.rz_bridge.specs.Places.{number, signed, piece}
+use Rattle.rz_core.specs.Numbers.{be, length-be_2, length-be_4, number}
+use Rattle.rz_bridge.specs.Places.{signed, piece}
 use Rattle.rz_bridge.specs.Ranges.{IsStored}
 use Rattle.rz_bridge.specs.AppleDouble.{entries, entry_bytes, part, double_torn, finder_of, info_of, double_fields, double_content, finder_bytes, short_name, Part, parts_with, bytes_of, image_of, double_image, double_carried}
 use Rattle.rz_bridge.specs.declared.entry.Entry.{Entry}
 use Rattle.rz_bridge.specs.declared.file.Finder.{Finder}
 use Rattle.rz_bridge.specs.declared.file.MacFile.{MacFile}
-use Rattle.rz_bridge.proofs.Standing.{Has, has_all, has_left, has_right, has_at, AreAt, all_at, piece_is, number_is, signed_is}
+use Rattle.rz_core.proofs.Placed.{Has, has_all, has_left, has_right, has_at, number_is}
+use Rattle.rz_bridge.proofs.Standing.{AreAt, all_at, piece_is, signed_is}
 use Rattle.rz_bridge.proofs.Parts.{bytes_at, entries_read, holds, length-image_of}
 
 -- The Finder's fields.

@@ -5,7 +5,7 @@ use Rattle.std.proofs.lemmas.Bool.Decides.{nat_tests}
 use Rattle.rz_core.specs.declared.fault.Kept.TheVariants as kept
 use Rattle.rz_bridge.specs.Check.{crc_of}
 use Rattle.rz_bridge.specs.Faults.{fault, broken}
-use Rattle.rz_bridge.specs.Places.{number}
+use Rattle.rz_core.specs.Numbers.{number}
 use Rattle.rz_bridge.specs.MacBinary.{short_header, not_zero, below_129, newer_version, bad_crc, bad_length, truncated}
 use Rattle.rz_bridge.specs.declared.fault.BridgeFault.{BridgeFault}
 

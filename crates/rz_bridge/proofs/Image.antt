@@ -3,13 +3,14 @@ use Rattle.std.proofs.Common.{◌≡◌, ℕ, ◌+◌, ◌-◌, ◌*◌, ◌/◌
 use Rattle.std.proofs.lemmas.List.{length-replicate, take_at}
 use Rattle.std.specs.Int.{cast_unsigned, w16}
 use Rattle.rz_core.specs.Lists.{or_else, unless_fault}
-use Rattle.rz_core.specs.Numbers.{be, length-be_2, length-be_4}
+use Rattle.rz_core.specs.Numbers.{be, length-be_2, length-be_4, number}
 use Rattle.rz_bridge.specs.Check.{crc_of}
-use Rattle.rz_bridge.specs.Places.{number, signed, piece, filled, with_filler}
+use Rattle.rz_bridge.specs.Places.{signed, piece, filled, with_filler}
 use Rattle.rz_bridge.specs.Ranges.{IsStored, AreDates}
 use Rattle.rz_bridge.specs.MacBinary.{data_place, data_length, resource_place, resource_length, header_torn, truncated, macbin_torn, macbin_finder, macbin_fields, macbin_content, macbin_names, macbin_place, macbin_lengths, macbin_versions, macbin_header, macbin_image, macbin_carried}
 use Rattle.rz_bridge.specs.declared.file.MacFile.{MacFile}
-use Rattle.rz_bridge.proofs.Standing.{Has, has_all, has_left, has_at, AreAt, all_at, piece_is, number_is, byte_is, signed_is, has_within}
+use Rattle.rz_core.proofs.Placed.{Has, has_all, has_left, has_at, number_is, byte_is, has_within}
+use Rattle.rz_bridge.proofs.Standing.{AreAt, all_at, piece_is, signed_is}
 use Rattle.rz_bridge.proofs.Sizes.{length-macbin_names, length-macbin_place, length-macbin_lengths, length-macbin_header, length-with_filler, filled_most}
 use Rattle.rz_bridge.proofs.Holds.{long_holds, zero_holds, version_holds, known_holds, check_holds, name_holds, fork_holds}
 

@@ -1,15 +1,15 @@
 -- The entries of an AppleDouble that was written, and when its rules hold.
-use Rattle.std.proofs.Common.{◌≡◌, ℕ, ◌+◌, ◌-◌, ◌*◌, ◌^◌, ◌<◌, ◌≤◌, ◌==◌, ◌&&◌, ◌||◌, nat_lt, not, List, [], ◌∷◌, ◌++◌, length, map, replicate, None, refl, sym, ap, subst, ◌∙◌, arith, append_assoc, length-append}
+use Rattle.std.proofs.Common.{◌≡◌, ℕ, ◌+◌, ◌*◌, ◌^◌, ◌<◌, ◌≤◌, ◌==◌, ◌&&◌, ◌||◌, nat_lt, not, List, [], ◌∷◌, ◌++◌, length, map, replicate, None, refl, sym, ap, subst, ◌∙◌, arith, append_assoc, length-append}
 use Rattle.std.proofs.lemmas.List.{length-replicate}
 use Rattle.std.proofs.lemmas.List.Concat.{flat_map-append}
 use Rattle.std.specs.List.{AllByRecursion}
 use Rattle.rz_core.specs.Lists.{with_front, each_with_front, or_else, first_of}
-use Rattle.rz_core.specs.Numbers.{be, length-be_2, length-be_4}
+use Rattle.rz_core.specs.Numbers.{be, length-be_2, length-be_4, number, items_from}
 use Rattle.rz_bridge.specs.Faults.{fault, broken}
-use Rattle.rz_bridge.specs.Places.{number, items_from}
 use Rattle.rz_bridge.specs.AppleDouble.{entry_at, entry_count, entries, short_header, bad_magic, newer_version, entries_outside, entry_outside, double_torn, Part, bytes_of, entry_of, part_entry, double_start, image_of}
 use Rattle.rz_bridge.specs.declared.entry.Entry.{Entry}
-use Rattle.rz_bridge.proofs.Standing.{Has, has_all, has_left, has_right, has_at, AreAt, all_at, number_is}
+use Rattle.rz_core.proofs.Placed.{Has, has_all, has_left, has_right, has_at, number_is}
+use Rattle.rz_bridge.proofs.Standing.{AreAt, all_at}
 use Rattle.rz_bridge.proofs.Holds.{unbroken, not_below, inside}
 
 -- Lengths.

@@ -1,5 +1,5 @@
 -- The lengths of the parts of a MacBinary.
-use Rattle.std.proofs.Common.{◌≡◌, ℕ, ◌+◌, ◌-◌, ◌≤◌, List, length, replicate, arith, length-append}
+use Rattle.std.proofs.Common.{◌≡◌, ℕ, ◌+◌, ◌≤◌, List, length, arith, length-append}
 use Rattle.std.proofs.lemmas.List.{length-replicate}
 use Rattle.rz_core.specs.Numbers.{length-be_2, length-be_4}
 use Rattle.rz_bridge.specs.Places.{filled, with_filler}

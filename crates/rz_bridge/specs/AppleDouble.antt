@@ -7,9 +7,9 @@ use Rattle.std.specs.declared.option.Option.{Option}
 use Rattle.std.specs.declared.option.Option.TheVariants.{Some, None}
 use Rattle.std.specs.declared.result.Result.{Result}
 use Rattle.rz_core.specs.Lists.{each_with_front, first_of, unless_fault}
-use Rattle.rz_core.specs.Numbers.{be}
+use Rattle.rz_core.specs.Numbers.{be, number, items_from}
 use Rattle.rz_bridge.specs.Faults.{fault, broken, forks_refused}
-use Rattle.rz_bridge.specs.Places.{number, signed, piece, items_from}
+use Rattle.rz_bridge.specs.Places.{signed, piece}
 use Rattle.rz_bridge.specs.declared.fault.BridgeFault.{BridgeFault}
 use Rattle.rz_bridge.specs.declared.entry.Entry.{Entry}
 use Rattle.rz_bridge.specs.declared.file.Finder.{Finder}

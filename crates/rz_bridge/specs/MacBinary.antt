@@ -5,11 +5,11 @@ use Rattle.std.specs.Int.{cast_unsigned, w16}
 use Rattle.std.specs.declared.option.Option.{Option}
 use Rattle.std.specs.declared.result.Result.{Result}
 use Rattle.rz_core.specs.Lists.{first_of, unless_fault}
-use Rattle.rz_core.specs.Numbers.{be}
+use Rattle.rz_core.specs.Numbers.{be, number}
 use Rattle.rz_core.specs.declared.fault.Kept.TheVariants as kept
 use Rattle.rz_bridge.specs.Check.{crc_of}
 use Rattle.rz_bridge.specs.Faults.{fault, broken, file_refused}
-use Rattle.rz_bridge.specs.Places.{number, signed, piece, filled, with_filler}
+use Rattle.rz_bridge.specs.Places.{signed, piece, filled, with_filler}
 use Rattle.rz_bridge.specs.declared.fault.BridgeFault.{BridgeFault}
 use Rattle.rz_bridge.specs.declared.file.Finder.{Finder}
 use Rattle.rz_bridge.specs.declared.file.MacFile.{MacFile}

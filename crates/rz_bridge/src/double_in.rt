@@ -7,8 +7,8 @@ use crate::double_rules::double_torn;
 use crate::entry::part;
 use crate::fault::BridgeFault;
 use crate::file::{Finder, MacFile};
-use crate::number::{piece_at, u16_at, u32_at};
-use rz_core::{Bytes, NoMemory, OsType, Stop};
+use crate::place::piece_at;
+use rz_core::{Bytes, NoMemory, OsType, Stop, u16_at, u32_at};
 use std::alloc::Global;
 
 /// The id of the resource fork.

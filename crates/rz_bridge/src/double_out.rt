@@ -6,9 +6,9 @@ ghost use Rattle.rz_bridge.specs.AppleDouble.{finder_bytes, short_name, entry_of
 
 use crate::fault::BridgeFault;
 use crate::file::{Finder, MacFile, finder_is_stored};
-use crate::number::{append_u16, append_u32, append_zeros, piece_at};
+use crate::place::piece_at;
 use crate::refuse::forks_refused;
-use rz_core::{Bytes, NoMemory, Stop};
+use rz_core::{Bytes, NoMemory, Stop, append_u16, append_u32, append_zeros};
 use std::alloc::Global;
 
 /// The longest name, in bytes.

@@ -5,7 +5,7 @@ ghost use Rattle.rz_bridge.specs.AppleDouble.{entry_count, entries, short_header
 
 use crate::entry::{Entry, entry_at, entry_count};
 use crate::fault::{BridgeFault, fault_at};
-use crate::number::u32_at;
+use rz_core::u32_at;
 
 /// The first number of AppleDouble.
 const MAGIC: u32 = 0x0005_1607;

@@ -2,7 +2,8 @@ ghost use Rattle.std.specs.Prelude.{◌≡◌, ◌<◌, ◌≤◌, ◌+◌, ◌*
 ghost use Rattle.std.specs.List.{find};
 ghost use Rattle.rz_bridge.specs.AppleDouble.{entry_at, entry_count, entries, part};
 
-use crate::number::{piece_at, u16_at, u32_at};
+use crate::place::piece_at;
+use rz_core::{u16_at, u32_at};
 
 /// An entry of AppleDouble. (RFC 1740.)
 #[derive(Clone, Copy)]

@@ -18,7 +18,7 @@ use rz_core::Kept;
 /// | 425 | BadName | the length of a name isn't 1 to 63 | 1; written: 0 | the length |
 /// | 426 | Truncated | a fork of MacBinary ends after the file | of the fork | its length |
 /// | 428 | ForkTooLong | a fork to be written has more than 33,554,432 bytes | 0 | its length |
-#[derive(Debug, Drop)]
+#[derive(Drop)]
 pub struct BridgeFault {
     /// 421 to 428, or 441 to 447 of BinHex, whose reader lists its rules.
     pub number: u16,

@@ -22,7 +22,7 @@ pub struct Finder {
 }
 
 /// A file of the classic Macintosh, whatever form it came in.
-#[derive(Debug, Drop)]
+#[derive(Drop)]
 pub struct MacFile {
     /// The name in Mac Roman; empty: the form had none.
     pub name: Bytes,

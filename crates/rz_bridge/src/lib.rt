@@ -2,8 +2,8 @@
 //! the CRC that MacBinary and BinHex share. Each reader gives exactly what the fields of the form say, or the first
 //! rule that is broken; each writer gives exactly the one file of the form, or why it is refused; and what was
 //! written is read as the fields that the form carries.
-//! Beside these stand the calls by which other forms read and write numbers, and what their writers refuse.
-//! It rests on `rz_core` and `byteorder`.
+//! Beside these stand the calls by which other forms read pieces, and what their writers refuse.
+//! It rests on `rz_core`.
 //! What the forms are stands in `specs`, which changes with it; a new field of a form is one in `MacBinary` or
 //! `AppleDouble`, and in the functions that read and write the header.
 #![tactic(auto)]
@@ -18,7 +18,7 @@ mod file;
 mod macbin_in;
 mod macbin_out;
 mod macbin_rules;
-mod number;
+mod place;
 mod refuse;
 
 pub use check::crc;
@@ -28,5 +28,5 @@ pub use fault::{BridgeFault, fault_at};
 pub use file::{Finder, MacFile, finder_is_stored};
 pub use macbin_in::macbin_read;
 pub use macbin_out::macbin_write;
-pub use number::{append_u16, append_u32, piece_at, u8_at, u16_at, u32_at};
+pub use place::piece_at;
 pub use refuse::file_refused;

@@ -6,8 +6,8 @@ ghost use Rattle.rz_bridge.specs.MacBinary.{macbin_finder, macbin_fields, macbin
 use crate::fault::BridgeFault;
 use crate::file::{Finder, MacFile};
 use crate::macbin_rules::{data_length, data_place, macbin_torn, resource_length, resource_place};
-use crate::number::{piece_at, u8_at, u16_at, u32_at};
-use rz_core::{Bytes, NoMemory, OsType, Stop};
+use crate::place::piece_at;
+use rz_core::{Bytes, NoMemory, OsType, Stop, u8_at, u16_at, u32_at};
 use std::alloc::Global;
 
 /// The file of a MacBinary II: name, type, creator, flags, position, folder, lock, dates and both forks. A secondary

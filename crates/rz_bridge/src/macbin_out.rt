@@ -10,9 +10,9 @@ ghost use Rattle.rz_bridge.specs.MacBinary.{macbin_names, macbin_place, macbin_l
 use crate::check::crc;
 use crate::fault::BridgeFault;
 use crate::file::{Finder, MacFile, finder_is_stored};
-use crate::number::{append_filled, append_u16, append_u32, append_zeros};
+use crate::place::append_filled;
 use crate::refuse::file_refused;
-use rz_core::{Bytes, NoMemory, Stop};
+use rz_core::{Bytes, NoMemory, Stop, append_u16, append_u32, append_zeros};
 use std::alloc::Global;
 
 /// The one MacBinary II of a file: without a secondary header and without a comment, both forks filled with zeros to a

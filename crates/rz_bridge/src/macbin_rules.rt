@@ -4,8 +4,8 @@ ghost use Rattle.rz_bridge.specs.MacBinary.{data_place, data_length, resource_pl
 
 use crate::check::crc;
 use crate::fault::{BridgeFault, fault_at};
-use crate::number::{filled, u8_at, u16_at, u32_at};
-use rz_core::Kept;
+use crate::place::filled;
+use rz_core::{Kept, u8_at, u16_at, u32_at};
 
 /// The length of the header, in bytes.
 const HEADER_LENGTH: usize = 128;

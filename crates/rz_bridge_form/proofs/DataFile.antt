@@ -1,36 +1,10 @@
 -- The name of a data file, from the parts of a path.
-use Rattle.std.proofs.Common.{◌≡◌, ◌≢◌, ℕ, ◌+◌, ◌<◌, ◌≤◌, List, [], ◌∷◌, ◌++◌, length, take, drop, get_or, Some, None, Ok, Err, IfOk, refl, sym, ap, subst, ◌∙◌, inl, inr, arith, take-append-drop, append_assoc, length-append, ◌⊎◌}
+use Rattle.std.proofs.Common.{◌≡◌, ◌≢◌, ℕ, ◌<◌, List, [], ◌∷◌, ◌++◌, length, get_or, Ok, Err, IfOk, refl, sym, ap, subst, ◌∙◌, inl, inr, arith, append_assoc, length-append, ◌⊎◌}
 use Rattle.std.specs.Prelude.{codes}
 use Rattle.std.specs.declared.result.Result.{Result}
-use Rattle.std.specs.Str.Pattern.{RFindsChar}
-use Rattle.std.proofs.lemmas.Str.Pattern.{NoCharPasses-char, drop_at_char}
 use Rattle.rz_folder.specs.Temporary.{IsParted}
 use Rattle.rz_bridge_form.specs.DataFile.{IsDataFile, IsDataName}
 use Rattle.rz_bridge_form.specs.DataFile.IsDataName.{plain, other}
-
--- a path that was split at its last slash
-pub split_is_parted : (path front back : List ℕ)
-    → ((i : ℕ) × (j : ℕ) × RFindsChar 47 path (Some (i, j)) × (front ≡ take i path) × (back ≡ drop j path) × (i ≤ j) × (length front ≡ i) × (length back + j ≡ length path))
-    → IsParted path (front ++ 47 ∷ []) back
-split_is_parted path front back h =
-    let i = h.0 in
-    let j = h.1 in
-    let parts : path ≡ (take i path ++ 47 ∷ []) ++ drop j path =
-    sym (take-append-drop i path) ∙ ap (λ rest. take i path ++ rest) (drop_at_char 47 path i j h.2.1 (omega arith))
-    ∙ sym (append_assoc (take i path) (47 ∷ []) (drop j path)) in
-    record {
-      whole = subst (λ f. path ≡ (f ++ 47 ∷ []) ++ back) (sym h.3) (subst (λ b. path ≡ (take i path ++ 47 ∷ []) ++ b) (sym h.4) parts);
-      no_slash = subst (λ b. (k : ℕ) → k < length b → get_or b k 0 ≢ 47) (sym h.4) (λ k less. NoCharPasses-char 47 (drop j path) k h.2.0 (omega arith) less);
-      ends = inr (front, refl);
-    }
-
--- a path without a slash
-pub whole_is_parted : (path : List ℕ) → RFindsChar 47 path None → IsParted path [] path
-whole_is_parted path h = record {
-  whole = refl;
-  no_slash = λ k less. NoCharPasses-char 47 path k h (omega arith) less;
-  ends = inl refl;
-}
 
 -- a name that was put together from the parts
 module _ {X E : Type 0} (text : X → List ℕ) (result : Result X E) (folder slash last header : List ℕ) (parted : IsParted header (folder ++ slash) last) where

@@ -1,16 +1,13 @@
 -- The forms of what is written, and of what the reader of MacBinary takes.
-use Rattle.std.proofs.Common.{◌≡◌, ℕ, ◌≤◌, ◌==◌, ◌&&◌, ◌||◌, not, nat_eq, nat_lt, if◌then◌else◌, Bool, true, false, List, [], ◌∷◌, length, Option, Some, None, Ok, refl, arith}
-use Rattle.std.proofs.lemmas.Bool.{eq-eqb, ne_eqb}
-use Rattle.std.proofs.lemmas.Bool.Decides.{nat_tests}
-use Rattle.std.specs.Prelude.{nat_le}
+use Rattle.std.proofs.Common.{◌≡◌, ℕ, ◌==◌, ◌&&◌, ◌||◌, not, nat_eq, nat_lt, if◌then◌else◌, Bool, true, false, List, [], ◌∷◌, length, Option, Some, None, Ok, refl, arith}
+use Rattle.std.proofs.lemmas.Bool.{eq-eqb, ne_eqb, ltb-false, le-leb}
 use Rattle.std.specs.List.{starts_with}
 use Rattle.rz_core.specs.Lists.{or_else, unless_fault}
 use Rattle.rz_core.proofs.Tests.{or_false}
-use Rattle.rz_core.specs.Numbers.{be}
+use Rattle.rz_core.specs.Numbers.{be, number}
 use Rattle.rz_bridge.specs.AppleDouble.{double_start, double_image}
 use Rattle.rz_bridge.specs.Faults.{fault, broken}
 use Rattle.rz_bridge.specs.MacBinary.{short_header, not_zero, below_129, newer_version, bad_crc, bad_length, header_torn, macbin_torn, macbin_fields, macbin_content}
-use Rattle.rz_bridge.specs.Places.{number}
 use Rattle.rz_bridge.specs.declared.fault.BridgeFault.{BridgeFault}
 use Rattle.rz_bridge.specs.declared.file.MacFile.{MacFile}
 use Rattle.rz_hqx.specs.Text.{text_of}
@@ -48,14 +45,8 @@ none_torn : (torn : Option BridgeFault) (value file : MacFile) → unless_fault 
 none_torn None value file is = refl
 none_torn (Some given) value file is = absurd cc
 
-at_least : (a b : ℕ) → nat_lt a b ≡ false → b ≤ a
-at_least a b is = grind (arith, nat_tests)
-
-no_more : (a b : ℕ) → a ≤ b → nat_le a b ≡ true
-no_more a b within = grind (arith, nat_tests)
-
 is_zero : (n : ℕ) → nat_lt 0 n ≡ false → (n == 0) ≡ true
-is_zero n is = eq-eqb n 0 (omega (arith, at_least 0 n is))
+is_zero n is = eq-eqb n 0 (omega (arith, ltb-false 0 n is))
 
 -- what the rules say of the header
 record IsTaken (bytes : List ℕ) : Type 0 where
@@ -98,20 +89,20 @@ header_is : (bytes : List ℕ) → IsTaken bytes → is_header bytes ≡ true
 header_is bytes is =
     let count = number 1 bytes 1 in
     let named = or_false (nat_lt count 1) (nat_lt 63 count) is.name in
-    let some = no_more 1 count (at_least count 1 named.0) in
-    let few = no_more count 63 (at_least 63 count named.1) in
+    let some = le-leb 1 count (ltb-false count 1 named.0) in
+    let few = le-leb count 63 (ltb-false 63 count named.1) in
     let middle = is_zero (number 1 bytes 74) is.middle in
     let last = is_zero (number 1 bytes 82) is.last in
-    let version = no_more 129 (number 1 bytes 122) (at_least (number 1 bytes 122) 129 is.version) in
-    let least = no_more 129 (number 1 bytes 123) (at_least (number 1 bytes 123) 129 is.least) in
+    let version = le-leb 129 (number 1 bytes 122) (ltb-false (number 1 bytes 122) 129 is.version) in
+    let least = le-leb 129 (number 1 bytes 123) (ltb-false (number 1 bytes 123) 129 is.least) in
     λ i. some i && few i && middle i && last i && version i && least i
 
 found : (bytes : List ℕ) → IsTaken bytes → starts_with nat_eq bytes double_magic ≡ false → form_of bytes ≡ MacBinary
 found bytes is other =
-    let long = at_least (length bytes) 128 is.long in
+    let long = ltb-false (length bytes) 128 is.long in
     let some : (length bytes == 0) ≡ false = ne_eqb (length bytes) 0 (omega arith) in
     let first = is_zero (number 1 bytes 0) is.first in
-    let whole = no_more 128 (length bytes) long in
+    let whole = le-leb 128 (length bytes) long in
     let header = header_is bytes is in
     λ i. if some i then Raw else if other i then AppleDouble else if not (first i) then BinHex else if whole i && header i then MacBinary else Raw
 

@@ -4,7 +4,7 @@ use Rattle.std.specs.List.{starts_with}
 use Rattle.std.specs.declared.result.Result.{Result}
 use Rattle.rz_bridge.specs.AppleDouble.{double_content, double_written, double_carried}
 use Rattle.rz_bridge.specs.MacBinary.{macbin_content, macbin_written, macbin_carried}
-use Rattle.rz_bridge.specs.Places.{number}
+use Rattle.rz_core.specs.Numbers.{number}
 use Rattle.rz_bridge.specs.declared.fault.BridgeFault.{BridgeFault}
 use Rattle.rz_bridge.specs.declared.file.Finder.{Finder}
 use Rattle.rz_bridge.specs.declared.file.MacFile.{MacFile}

@@ -1,7 +1,7 @@
 ghost use Rattle.std.specs.Prelude.{◌≡◌, ◌≤◌, length};
 ghost use Rattle.rz_bridge_form.specs.Forms.{is_header, form_of};
 
-use rz_bridge::u8_at;
+use rz_core::u8_at;
 
 /// How a file of the Macintosh is kept in the bytes of a file.
 #[derive(Debug, Clone, Copy, PartialEq, Eq)]

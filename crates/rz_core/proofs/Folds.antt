@@ -1,10 +1,11 @@
 -- Names in whatever case.
-use Rattle.std.proofs.Common.{◌≡◌, ℕ, true, List, [], ◌∷◌, map, refl, sym, ◌∙◌, arith}
+use Rattle.std.proofs.Common.{◌≡◌, ℕ, ◌==◌, ◌&&◌, true, List, [], ◌∷◌, map, refl, sym, ap, ◌∙◌, arith}
 use Rattle.std.specs.Prelude.{◌↔◌}
-use Rattle.std.specs.Char.{to_ascii_lowercase}
+use Rattle.std.specs.Char.{eq_ignore_ascii_case, to_ascii_lowercase}
 use Rattle.std.specs.Str.{str_eq_ignore_ascii_case, str_to_ascii_lowercase}
 use Rattle.std.proofs.lemmas.Bool.Decides.{nat_tests}
 use Rattle.std.proofs.lemmas.Slice.Eq.{bytes_eq-Decides}
+use Rattle.std.proofs.lemmas.Str.Ascii.{lowercase-lowercase}
 use Rattle.rz_core.specs.Roman.{folded}
 
 one_fold : (byte : ℕ) → folded byte ≡ to_ascii_lowercase byte
@@ -22,3 +23,18 @@ same_fold one other = (
   λ is. each_fold one ∙ (same_lower one other).0 is ∙ sym (each_fold other),
   λ is. (same_lower one other).1 (sym (each_fold one) ∙ is ∙ each_fold other),
 )
+
+-- a name is itself
+pub own_name : (name : List ℕ) → str_eq_ignore_ascii_case name name ≡ true
+own_name name = (same_lower name name).1 refl
+
+-- a name is like another exactly where it is like that one in lower case
+
+lower_byte : (a b : ℕ) → eq_ignore_ascii_case a (to_ascii_lowercase b) ≡ eq_ignore_ascii_case a b
+lower_byte a b = ap (λ n. to_ascii_lowercase a == n) (lowercase-lowercase b)
+
+pub lower_eq : (own name : List ℕ) → str_eq_ignore_ascii_case own (str_to_ascii_lowercase name) ≡ str_eq_ignore_ascii_case own name
+lower_eq [] [] = refl
+lower_eq [] (n ∷ name) = refl
+lower_eq (o ∷ own) [] = refl
+lower_eq (o ∷ own) (n ∷ name) = λ i. lower_byte o n i && lower_eq own name i

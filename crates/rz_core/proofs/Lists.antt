@@ -3,7 +3,7 @@ use Rattle.std.specs.Prelude.{◌≡◌, refl, Bool, true, false, ◌||◌, ℕ,
 use Rattle.std.proofs.Common.{sym, ap, ◌∙◌, ◌*◌, arith, length-append, mul-suc}
 use Rattle.std.proofs.lemmas.List.{at_drop_more, at_drop_all, take_more}
 use Rattle.std.proofs.lemmas.Option.{slice_get_within, get_or_from_slice_get, same_Some}
-use Rattle.std.specs.List.{list_any}
+use Rattle.std.specs.List.{list_any, AllByRecursion}
 use Rattle.std.proofs.lemmas.List.Folds.{list_any-append}
 use Rattle.std.specs.declared.option.Option.{Option}
 use Rattle.std.specs.declared.option.Option.TheVariants.{Some, None}
@@ -74,3 +74,15 @@ any_stop test (y ∷ xs) zero i x is below passes = absurd (omega arith)
 any_stop test (y ∷ xs) (suc k) zero x is below passes = ap (λ b. b || list_any test (take k xs)) (ap test (same_Some y x is) ∙ passes)
 any_stop test (y ∷ xs) (suc k) (suc i) x is below passes =
     ap (λ b. test y || b) (any_stop test xs k i x is (omega arith) passes) ∙ or_true (test y)
+
+-- What holds of every item.
+
+-- of two lists put together
+pub all_append : {A : Type 0} (P : A → Type 0) (xs ys : List A) → AllByRecursion P xs → AllByRecursion P ys → AllByRecursion P (xs ++ ys)
+all_append P [] ys front back = back
+all_append P (x ∷ xs) ys front back = (front.0, all_append P xs ys front.1 back)
+
+-- and of each of the two
+pub all_split : {A : Type 0} (P : A → Type 0) (xs ys : List A) → AllByRecursion P (xs ++ ys) → AllByRecursion P xs × AllByRecursion P ys
+all_split P [] ys all = (tt, all)
+all_split P (x ∷ xs) ys all = let rest = all_split P xs ys all.1 in ((all.0, rest.0), rest.1)

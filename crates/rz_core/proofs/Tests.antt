@@ -1,5 +1,7 @@
 -- Tests and their cases.
-use Rattle.std.specs.Prelude.{◌≡◌, refl, Bool, true, false, ◌&&◌, ◌||◌, Option, Some, None}
+use Rattle.std.specs.Prelude.{◌≡◌, refl, ℕ, ◌==◌, Bool, true, false, ◌&&◌, ◌||◌, Option, Some, None}
+use Rattle.std.proofs.Common.{arith}
+use Rattle.std.proofs.lemmas.Bool.Decides.{nat_tests}
 
 -- by the two cases of a test
 pub by_test : (P : Type 0) (b : Bool) → (b ≡ true → P) → (b ≡ false → P) → P
@@ -22,6 +24,10 @@ or_false false b is = (refl, is)
 
 pub true_false : true ≡ false → ⊥
 true_false is = cc is
+
+-- two numbers are equal either way round
+pub same_sym : (a b : ℕ) → (a == b) ≡ (b == a)
+same_sym a b = grind (arith, nat_tests)
 
 -- what an option holds is one thing, and something
 pub same_some : {A : Type 0} (o : Option A) (x y : A) → o ≡ Some x → o ≡ Some y → x ≡ y

@@ -1,7 +1,7 @@
 use crate::{Attr, Bytes, Moment, OsType};
 
 /// What is known of a resource beside its bytes while it is compiled or shown.
-#[derive(Debug, Drop)]
+#[derive(Drop)]
 pub struct Facts {
     /// The type.
     pub kind: OsType,

@@ -1,6 +1,7 @@
-//! The values that all other crates share: bytes and lists, types and attributes of resources, moments, Mac
-//! Roman, and faults with their message lines. Each call gives exactly its definition, or is out of memory.
-//! It rests on the standard library, and on `jiff_core` for the calendar.
+//! The values that all other crates share: bytes and lists, numbers at a place of bytes, types and attributes of
+//! resources, moments, Mac Roman, and faults with their message lines. Each call gives exactly its definition, or is
+//! out of memory.
+//! It rests on the standard library, on `byteorder` for numbers in bytes, and on `jiff_core` for the calendar.
 //! A new fault is a row of the table in `message`, of its definition, and of docs/LANGUAGE.md. Definitions that
 //! several crates need stand in `specs`.
 #![tactic(auto)]
@@ -15,6 +16,7 @@ mod laws;
 mod list;
 mod message;
 mod moment;
+mod number;
 mod quoted;
 mod resource;
 mod roman;
@@ -31,6 +33,9 @@ pub use laws::one_date;
 pub use list::{Bytes, Listing};
 pub use message::write_fault;
 pub use moment::Moment;
+pub use number::{
+    append_u16, append_u24, append_u32, append_zeros, rest_at, u8_at, u16_at, u24_at, u32_at,
+};
 pub use quoted::{write_hex, write_quoted, write_shown, write_type};
 pub use resource::{OsType, Resource, Resources, Word, Words};
 pub use roman::{fold, from_roman, roman_is_one_to_one, to_roman};

@@ -9,7 +9,7 @@ pub struct OsType {
 
 /// A resource. (Inside Macintosh: More
 /// Macintosh Toolbox, Resource Manager.)
-#[derive(Debug, Drop)]
+#[derive(Drop)]
 pub struct Resource {
     /// The type.
     pub kind: OsType,

@@ -7,7 +7,7 @@ use rz_core::Bytes;
 use std::alloc::Global;
 
 /// What a read of a file gave.
-#[derive(Debug, Drop)]
+#[derive(Drop)]
 pub enum Read {
     /// The whole contents, fewer than 2^32 bytes.
     Bytes(Bytes),

@@ -14,7 +14,7 @@ use std::marker::Model;
 
 /// Where a name and its contents lie in the store of a folder: the name from `name_start` up to
 /// `contents_start`, and the contents from there up to `end`.
-#[derive(Clone, Copy, Debug)]
+#[derive(Clone, Copy)]
 struct Entry {
     name_start: usize,
     contents_start: usize,
@@ -28,7 +28,7 @@ struct Entry {
 /// fail, and the two counts of faults. The room is the number of writes and the number of bytes for
 /// which there is memory; both are 0 at first. A look-up goes through the entries one by one, and
 /// contents that were replaced keep their memory.
-#[derive(Debug, Drop)]
+#[derive(Drop)]
 pub struct MemFolder {
     entries: VecDeque<Entry>,
     store: Vec<u8>,

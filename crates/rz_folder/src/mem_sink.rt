@@ -12,7 +12,7 @@ use std::marker::Model;
 /// Contracts see the bytes written, the room, the number of puts so far, the number of the put that
 /// is to fail with the number of bytes that it takes first, and the count of faults. The room is
 /// the number of bytes for which there is memory, 0 at first.
-#[derive(Debug, Drop)]
+#[derive(Drop)]
 pub struct MemSink {
     bytes: Vec<u8>,
     room: u64,

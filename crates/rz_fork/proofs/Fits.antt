@@ -4,22 +4,19 @@ use Rattle.std.proofs.lemmas.Int.{wrapping_add-bits, SFits-int_wrap}
 use Rattle.std.proofs.lemmas.List.{get_or-drop, length-take}
 use Rattle.std.specs.Int.{cast_signed, w16}
 use Rattle.std.specs.List.{flat_map, AllByRecursion}
-use Rattle.byteorder.specs.Numbers.{big_from-lt}
+use Rattle.rz_core.proofs.Placed.{number_fits}
+use Rattle.rz_core.proofs.Lists.{all_append}
 use Rattle.rz_fork.specs.declared.layout.Outline.{Outline}
 use Rattle.rz_fork.specs.declared.layout.TypeEntry.{TypeEntry}
 use Rattle.rz_fork.specs.declared.layout.Reference.{Reference}
-use Rattle.rz_fork.specs.Layout.{number, types_place, entry_at, entries, reference_at, references}
+use Rattle.rz_core.specs.Numbers.{number}
+use Rattle.rz_fork.specs.Layout.{types_place, entry_at, entries, reference_at, references}
 use Rattle.rz_fork.specs.Contents.{data_of, data_place, name_of, name_at, resource_of, resources_of, resources, FitsFork}
-use Rattle.rz_fork.proofs.Grouping.{all_append}
 use Rattle.rz_fork.proofs.Items.{all_items}
 
 -- every item is a byte
 abbrev pub AreBytes : List ℕ → Type 0
 AreBytes bytes = (i : ℕ) → get_or bytes i 0 < 256
-
-pub number_fits : (count : ℕ) (bytes : List ℕ) (place : ℕ) → AreBytes bytes → number count bytes place < 256 ^ count
-unfolding number
-number_fits count bytes place small = big_from-lt 0 count (drop place bytes) (λ k. subst (λ (x : ℕ). x < 256) (sym (get_or-drop place bytes k 0)) (small (place + k)))
 
 -- the 16 bits of an id
 abbrev pub HasId : Reference → Type 0

@@ -1,13 +1,14 @@
 -- One resource more, put into its group.
 use Rattle.std.proofs.Common.{◌≡◌, ℕ, zero, suc, ◌<◌, ◌==◌, ◌||◌, Bool, true, false, if◌then◌else◌, nat_eq, not, cond, List, [], ◌∷◌, ◌++◌, length, map, set, get_or, slice_get, Some, refl, sym, ap, subst, ◌∙◌, arith, append_assoc}
 use Rattle.std.proofs.lemmas.Bool.{eqb-true, eq-eqb}
-use Rattle.std.proofs.lemmas.Bool.Decides.{nat_tests}
 use Rattle.std.proofs.lemmas.List.{append-nil, map-append, map-set, set-get_or, length-map, get_or-map, get_or_default}
 use Rattle.std.proofs.lemmas.List.Elements.{filter-append}
 use Rattle.std.proofs.lemmas.List.Folds.{list_any-append}
 use Rattle.std.proofs.lemmas.Option.{same_Some, get_or_from_slice_get, slice_get_within}
 use Rattle.std.specs.List.{list_any, AllByRecursion, IsDistinct}
 use Rattle.indexmap.specs.IndexSet.{insert_key}
+use Rattle.rz_core.proofs.Tests.{same_sym}
+use Rattle.rz_core.proofs.Lists.{all_append}
 use Rattle.rz_core.specs.Lists.{with_front}
 use Rattle.rz_core.specs.declared.resource.Resource.{Resource}
 use Rattle.rz_fork.specs.declared.group.Group.{Group}
@@ -35,9 +36,6 @@ or_comm true false = refl
 or_comm false true = refl
 or_comm false false = refl
 
-same_code : (a b : ℕ) → (a == b) ≡ (b == a)
-same_code a b = grind (arith, nat_tests)
-
 -- a resource whose type is there already adds no type
 absorbed : (code : ℕ) (front : List Resource) (x : Resource) (p : Bool) → has_kind code x ≡ p → list_any (has_kind x.kind.code) front ≡ true
     → list_any (has_kind code) front ≡ (list_any (has_kind code) front || (p || false))
@@ -50,7 +48,7 @@ new_any_by : (code : ℕ) (front : List Resource) (x : Resource) (b : Bool) → 
     → (list_any (nat_eq code) (if b then [] else x.kind.code ∷ []) || list_any (has_kind code) front) ≡ (list_any (has_kind code) front || (has_kind code x || false))
 new_any_by code front x true is = absorbed code front x (has_kind code x) refl is
 new_any_by code front x false is =
-    ap (λ (b : Bool). (b || false) || list_any (has_kind code) front) (same_code code x.kind.code)
+    ap (λ (b : Bool). (b || false) || list_any (has_kind code) front) (same_sym code x.kind.code)
     ∙ or_comm (has_kind code x) (list_any (has_kind code) front)
 
 regroup : (k w f p : Bool) → (k || f) ≡ (f || p) → ((k || w) || f) ≡ (w || (f || p))
@@ -129,7 +127,7 @@ joined xs r (h ∷ gs) zero g distinct at code members all =
     )
 joined xs r (h ∷ gs) (suc i) g distinct at code members all =
     let differs : (h.code == r.kind.code) ≡ false = all_at (λ y. (h.code == y) ≡ false) (codes gs) i r.kind.code distinct.0 at in
-    (all.0 ∙ group_other xs r h.code (same_code r.kind.code h.code ∙ differs), joined xs r gs i g distinct.1 at code members all.1)
+    (all.0 ∙ group_other xs r h.code (same_sym r.kind.code h.code ∙ differs), joined xs r gs i g distinct.1 at code members all.1)
 
 none_of_by : (x : Resource) (xs : List Resource) (code : ℕ) (b : Bool) → (b || list_any (has_kind code) xs) ≡ false → (list_any (has_kind code) xs ≡ false → group_of xs code ≡ []) → cond b (x ∷ group_of xs code) (group_of xs code) ≡ []
 none_of_by x xs code true none rest = cc
@@ -139,10 +137,6 @@ none_of_by x xs code false none rest = rest none
 none_of : (xs : List Resource) (code : ℕ) → list_any (has_kind code) xs ≡ false → group_of xs code ≡ []
 none_of [] code none = refl
 none_of (x ∷ xs) code none = none_of_by x xs code (has_kind code x) none (none_of xs code)
-
-pub all_append : {X : Type 0} (P : X → Type 0) (xs ys : List X) → AllByRecursion P xs → AllByRecursion P ys → AllByRecursion P (xs ++ ys)
-all_append P [] ys front back = back
-all_append P (x ∷ xs) ys front back = (front.0, all_append P xs ys front.1 back)
 
 not_true : (b : Bool) → true ≡ not b → b ≡ false
 not_true true is = cc

@@ -9,7 +9,7 @@ use Rattle.std.proofs.lemmas.List.Folds.{list_any-append}
 use Rattle.std.specs.Int.{w16}
 use Rattle.std.specs.List.{flat_map, AllByRecursion, list_any}
 use Rattle.rz_core.specs.Lists.{first_in}
-use Rattle.rz_core.proofs.Lists.{or_else_none}
+use Rattle.rz_core.proofs.Lists.{or_else_none, all_append}
 use Rattle.rz_core.specs.Resources.{id_bits, same_key, KeysDiffer}
 use Rattle.rz_core.specs.declared.resource.Resource.{Resource}
 use Rattle.rz_fork.specs.declared.fault.ForkFault.{ForkFault}
@@ -20,7 +20,6 @@ use Rattle.rz_fork.specs.Layout.{entries, references}
 use Rattle.rz_fork.specs.Contents.{resource_of, resources_of, resources}
 use Rattle.rz_fork.specs.Admit.{id_rule, type_rule, in_type, broken, fault, Id}
 use Rattle.rz_fork.proofs.Fits.{AreBytes, HasId, ids_fit}
-use Rattle.rz_fork.proofs.Grouping.{all_append}
 use Rattle.rz_fork.proofs.Holding.{HoldLists}
 
 pub differ_append : (front xs ys : List Resource) → KeysDiffer front xs → KeysDiffer (front ++ xs) ys → KeysDiffer front (xs ++ ys)

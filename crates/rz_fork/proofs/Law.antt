@@ -3,7 +3,7 @@ use Rattle.std.proofs.Common.{◌≡◌, ℕ, ◌+◌, ◌-◌, ◌*◌, ◌%◌
 use Rattle.std.proofs.lemmas.List.{length-replicate}
 use Rattle.std.specs.List.{flat_map, AllByRecursion}
 use Rattle.rz_core.specs.Lists.{unless_fault, first_in, or_else}
-use Rattle.rz_core.specs.Numbers.{be, length-be_2, length-be_4}
+use Rattle.rz_core.specs.Numbers.{be, length-be_2, length-be_4, number}
 use Rattle.rz_core.specs.Resources.{KeysDiffer}
 use Rattle.rz_core.specs.declared.resource.Resource.{Resource}
 use Rattle.rz_fork.specs.declared.layout.Header.{Header}
@@ -11,12 +11,12 @@ use Rattle.rz_fork.specs.declared.layout.Outline.{Outline}
 use Rattle.rz_fork.specs.declared.layout.TypeEntry.{TypeEntry}
 use Rattle.rz_fork.specs.Image as image
 use Rattle.rz_fork.specs.Image.{kinds_of, grouped, data_area, name_list, header, map_fields, map_tail, lists_of, type_entries, reference_lists, first_limit}
-use Rattle.rz_fork.specs.Layout.{number, count_at, header_of, types_of, outline_of, the_outline, entries}
+use Rattle.rz_fork.specs.Layout.{count_at, header_of, types_of, outline_of, the_outline, entries}
 use Rattle.rz_fork.specs.Contents.{attributes_of, reserved_of, resources_of, resources, contents}
 use Rattle.rz_fork.specs.Admit.{list_rule, type_rule, in_types, lists_broken, first_broken, inadmissible, admitted, Data, Name, Id}
 use Rattle.rz_fork.proofs.Framed.{IsWithinLimits, within_limits, IsFramed, some_bytes, first_is}
 use Rattle.rz_fork.proofs.Lengths.{length-header, length-map_fields, length-tail_with, length-type_entries, length-lists_of}
-use Rattle.rz_fork.proofs.Placed.{Has, has_all, has_left, has_right, number_mod, number_is, piece_is}
+use Rattle.rz_core.proofs.Placed.{Has, has_all, has_left, has_right, number_mod, number_is, piece_is}
 use Rattle.rz_fork.proofs.Resources.{Stands}
 use Rattle.rz_fork.proofs.Types.{kinds_differ, types_are, TypesRead}
 use Rattle.rz_fork.proofs.Written.{written_entries, entries_are, HasShortId}

@@ -8,7 +8,6 @@ pub mod Keys
 pub mod Law
 pub mod Lengths
 pub mod Order
-pub mod Placed
 pub mod Regroup
 pub mod Resources
 pub mod Types

@@ -2,12 +2,13 @@
 use Rattle.std.proofs.Common.{◌≡◌, ℕ, ◌+◌, ◌*◌, ◌^◌, ◌<◌, ◌==◌, Bool, true, false, cond, filter, List, [], ◌∷◌, ◌++◌, length, refl, sym, ap, ◌∙◌, subst}
 use Rattle.std.proofs.lemmas.List.{length-map, map-append}
 use Rattle.std.specs.List.{flat_map, AllByRecursion}
+use Rattle.rz_core.proofs.Lists.{all_append}
 use Rattle.rz_core.specs.Lists.{with_front}
 use Rattle.rz_core.specs.declared.resource.Resource.{Resource}
 use Rattle.rz_fork.specs.declared.group.Group.{Group}
 use Rattle.rz_fork.specs.Groups.{members_of, group_entry, group_entries, AreGroups}
 use Rattle.rz_fork.specs.Image.{kinds_of, group_of, grouped, type_entry, type_entries, entry_of, limit_of, first_limit, image, image_with, tail_with, lists_with, name_list}
-use Rattle.rz_fork.proofs.Grouping.{codes, IsGroup, all_append}
+use Rattle.rz_fork.proofs.Grouping.{codes, IsGroup}
 
 members_are : (list : List Resource) (gs : List Group) → AllByRecursion (IsGroup list) gs → flat_map members_of gs ≡ flat_map (group_of list) (codes gs)
 members_are list [] all = refl

@@ -7,19 +7,18 @@ use Rattle.std.proofs.lemmas.List.Concat.{flat_map-append}
 use Rattle.std.proofs.lemmas.List.Folds.{list_any-append}
 use Rattle.std.specs.Int.{cast_unsigned, cast_signed, w16}
 use Rattle.std.specs.List.{AllByRecursion, list_any}
+use Rattle.rz_core.proofs.Lists.{all_append}
 use Rattle.rz_core.specs.Lists.{first_in, or_else}
-use Rattle.rz_core.specs.Numbers.{be, length-be_4}
+use Rattle.rz_core.specs.Numbers.{be, length-be_4, number}
 use Rattle.rz_core.specs.Resources.{id_bits, same_key, KeysDiffer}
 use Rattle.rz_core.specs.declared.resource.Resource.{Resource}
 use Rattle.rz_fork.specs.declared.layout.Outline.{Outline}
 use Rattle.rz_fork.specs.declared.layout.TypeEntry.{TypeEntry}
 use Rattle.rz_fork.specs.declared.layout.Reference.{Reference}
 use Rattle.rz_fork.specs.Image.{stored_data, data_area, stored_name, name_list, name_offset}
-use Rattle.rz_fork.specs.Layout.{number}
 use Rattle.rz_fork.specs.Contents.{data_of, name_of, resource_of}
 use Rattle.rz_fork.specs.Admit.{data_outside, name_outside, reference_rule, id_rule, broken, fault, Data, Name}
-use Rattle.rz_fork.proofs.Grouping.{all_append}
-use Rattle.rz_fork.proofs.Placed.{Has, has_left, has_right, piece_is, number_is, byte_is}
+use Rattle.rz_core.proofs.Placed.{Has, has_left, has_right, piece_is, number_is, byte_is}
 use Rattle.rz_fork.proofs.Written.{written_reference, written_references, AreSmall, HasShortId, area_of, names_append}
 
 pub by_cases : {P : Type 0} (b : Bool) → (b ≡ true → P) → (b ≡ false → P) → P
@@ -99,7 +98,7 @@ module _ (bytes : List ℕ) (o : Outline) (before : List Resource) (r : Resource
   not_none some = let size = names_size some in let small = stands.small.names in grind (arith, nat_tests, size, small)
 
   length_is : (length r.name == 0) ≡ false → number 1 bytes name_place ≡ length r.name
-  length_is some = byte_is bytes name_place (length r.name) r.name (name_stands some)
+  length_is some = byte_is bytes name_place (length r.name) (name_stands some)
 
   holds_with : (length r.name == 0) ≡ false → name_outside bytes o (with_name names_end) ≡ None
   unfolding name_outside

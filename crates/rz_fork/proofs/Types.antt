@@ -9,7 +9,7 @@ use Rattle.std.proofs.lemmas.List.Folds.{list_any-append}
 use Rattle.std.proofs.lemmas.List.Sums.{sum_by_push}
 use Rattle.std.specs.List.{flat_map, AllByRecursion, list_any}
 use Rattle.rz_core.specs.Lists.{with_front, first_in, or_else}
-use Rattle.rz_core.proofs.Lists.{length-with_front}
+use Rattle.rz_core.proofs.Lists.{length-with_front, all_split}
 use Rattle.rz_core.specs.Resources.{same_key, KeysDiffer}
 use Rattle.rz_core.specs.declared.resource.Resource.{Resource}
 use Rattle.rz_fork.specs.declared.layout.Outline.{Outline}
@@ -22,7 +22,7 @@ use Rattle.rz_fork.specs.Contents.{resource_of, resources_of}
 use Rattle.rz_fork.specs.Admit.{references_outside, count_of, list_rule, type_rule, reference_rule, in_type, broken, fault, Data, Name, Id}
 use Rattle.rz_fork.proofs.Grouping.{with_front_append}
 use Rattle.rz_fork.proofs.Lengths.{length-reference_to}
-use Rattle.rz_fork.proofs.Placed.{Has, has_left, has_right}
+use Rattle.rz_core.proofs.Placed.{Has, has_left, has_right}
 use Rattle.rz_fork.proofs.Resources.{by_cases, Stands, HasKind, ids_hold, type_reads}
 use Rattle.rz_fork.proofs.Written.{written_entry, written_entries, written_references, references_are, groups_append, AreSmall, HasShortId}
 
@@ -88,10 +88,6 @@ kinds_differ front (r ∷ rs) ks same =
       kinds_differ (front ++ r ∷ []) rs (ks ++ code ∷ [])
           (λ x. list_any-append (λ k. k == x) ks (code ∷ []) ∙ ap (λ (b : Bool). b || ((code == x) || false)) (same x) ∙ sym (list_any-append (λ b. b.kind.code == x) front (r ∷ []))),
     ))
-
-all_split : {X : Type 0} (P : X → Type 0) (xs ys : List X) → AllByRecursion P (xs ++ ys) → AllByRecursion P xs × AllByRecursion P ys
-all_split P [] ys all = (tt, all)
-all_split P (x ∷ xs) ys all = let rest = all_split P xs ys all.1 in ((all.0, rest.0), rest.1)
 
 -- What is read of types, and of their resources.
 

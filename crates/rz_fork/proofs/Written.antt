@@ -1,10 +1,10 @@
 -- What is read of the type list and the reference lists of an image.
-use Rattle.std.proofs.Common.{◌≡◌, ℕ, ◌+◌, ◌%◌, ◌^◌, ◌<◌, ◌≤◌, ◌==◌, if◌then◌else◌, Bool, true, false, FitsSigned, ℤ, pos, negsuc, List, [], ◌∷◌, ◌++◌, length, refl, sym, ap, ◌∙◌, arith, append_assoc, length-append, subst}
+use Rattle.std.proofs.Common.{◌≡◌, ℕ, ◌+◌, ◌%◌, ◌^◌, ◌<◌, ◌≤◌, ◌==◌, if◌then◌else◌, Bool, true, false, FitsSigned, List, [], ◌∷◌, ◌++◌, length, refl, sym, ap, ◌∙◌, arith, append_assoc, length-append, subst}
 use Rattle.std.proofs.lemmas.List.Concat.{flat_map-append}
-use Rattle.std.specs.Int.{cast_unsigned, w16}
+use Rattle.std.specs.Int.{w16}
 use Rattle.std.specs.List.{flat_map, AllByRecursion}
 use Rattle.rz_core.specs.Lists.{with_front}
-use Rattle.rz_core.specs.Numbers.{be, length-be_2, length-be_4}
+use Rattle.rz_core.specs.Numbers.{be, length-be_2, length-be_4, number, items_from}
 use Rattle.rz_core.specs.Resources.{id_bits}
 use Rattle.rz_core.specs.declared.resource.Resource.{Resource}
 use Rattle.rz_fork.specs.declared.layout.Outline.{Outline}
@@ -12,9 +12,9 @@ use Rattle.rz_fork.specs.declared.layout.TypeEntry.{TypeEntry}
 use Rattle.rz_fork.specs.declared.layout.Reference.{Reference}
 use Rattle.rz_fork.specs.Image as image
 use Rattle.rz_fork.specs.Image.{group_of, stored_data, data_area, stored_name, name_list, name_offset, reference_to, entry_of, type_entry, list_offset}
-use Rattle.rz_fork.specs.Layout.{number, count_at, items_from, types_place, entry_at, reference_at}
+use Rattle.rz_fork.specs.Layout.{count_at, types_place, entry_at, reference_at}
 use Rattle.rz_fork.proofs.Lengths.{length-reference_to, length-entry_of}
-use Rattle.rz_fork.proofs.Placed.{Has, has_left, has_right, number_mod, number_is, byte_is}
+use Rattle.rz_core.proofs.Placed.{Has, has_left, has_right, number_mod, number_is, byte_is, bits_small}
 
 -- an entry whose reference list stands so far behind the start of the type list
 abbrev pub written_entry : ℕ → ℕ → ℕ → ℕ → ℕ → TypeEntry
@@ -92,7 +92,7 @@ reference_is bytes place before r has id_fits name_fits data_fits =
     let id_is : number 2 bytes place ≡ id_bits r = number_is bytes 2 place (id_bits r) (has_left bytes place first second to_second) (omega arith) in
     let name_is : number 2 bytes (place + 2) ≡ name_offset before r =
     number_is bytes 2 (place + 2) (name_offset before r) (has_right bytes place (place + 2) first second (omega (arith, first_size)) to_second) (omega arith) in
-    let attr_is : number 1 bytes (place + 4) ≡ r.attr = byte_is bytes (place + 4) r.attr [] (has_right bytes place (place + 4) (first ++ second) third (omega (arith, two_size)) to_third) in
+    let attr_is : number 1 bytes (place + 4) ≡ r.attr = byte_is bytes (place + 4) r.attr (has_right bytes place (place + 4) (first ++ second) third (omega (arith, two_size)) to_third) in
     let data_is : number 3 bytes (place + 5) ≡ length (data_area before) =
     number_is bytes 3 (place + 5) (length (data_area before))
     (has_right bytes place (place + 5) ((first ++ second) ++ third) fourth (omega (arith, two_size, length-append (first ++ second) third)) to_fourth)
@@ -119,10 +119,6 @@ area_of before r after = omega (arith, area_append before (r ∷ after), length-
 -- a resource's id is in the range of ids
 abbrev pub HasShortId : Resource → Type 0
 HasShortId r = FitsSigned w16 r.id
-
-bits_small : (id : ℤ) → FitsSigned w16 id → cast_unsigned w16 id < 2 ^ 16
-bits_small (pos n) fits = let small : n < 2 ^ 15 = fits.sfits in omega arith
-bits_small (negsuc n) fits = omega arith
 
 offset_small_by : (none : Bool) (n : ℕ) → n < 2 ^ 16 → (if none then 65535 else n) < 2 ^ 16
 offset_small_by true n small = omega arith

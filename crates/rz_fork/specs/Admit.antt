@@ -12,7 +12,8 @@ use Rattle.rz_fork.specs.declared.layout.Header.{Header}
 use Rattle.rz_fork.specs.declared.layout.Outline.{Outline}
 use Rattle.rz_fork.specs.declared.layout.TypeEntry.{TypeEntry}
 use Rattle.rz_fork.specs.declared.layout.Reference.{Reference}
-use Rattle.rz_fork.specs.Layout.{number, header_of, types_of, the_outline, types_place, entries, references}
+use Rattle.rz_core.specs.Numbers.{number}
+use Rattle.rz_fork.specs.Layout.{header_of, types_of, the_outline, types_place, entries, references}
 use Rattle.rz_fork.specs.Contents.{data_place, name_at, contents, Fork}
 
 abbrev pub fault : ℕ → ℕ → ℕ → ForkFault

@@ -8,7 +8,8 @@ use Rattle.rz_fork.specs.declared.layout.Header.{Header}
 use Rattle.rz_fork.specs.declared.layout.Outline.{Outline}
 use Rattle.rz_fork.specs.declared.layout.TypeEntry.{TypeEntry}
 use Rattle.rz_fork.specs.declared.layout.Reference.{Reference}
-use Rattle.rz_fork.specs.Layout.{number, header_of, the_outline, entries, references}
+use Rattle.rz_core.specs.Numbers.{number}
+use Rattle.rz_fork.specs.Layout.{header_of, the_outline, entries, references}
 
 -- what a fork holds: the resources in map order, the 16 bits of the map's attributes, and the reserved bytes
 -- between the header and what stands after them

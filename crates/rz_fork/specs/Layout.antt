@@ -1,24 +1,15 @@
 -- The numbers of a fork's bytes: the header, the outline of the map, the entries of the type list and the
 -- references. (Inside Macintosh: More Macintosh Toolbox, Resource Manager, resource file format.)
-use Rattle.std.specs.Prelude.{ℕ, zero, suc, ◌+◌, ◌%◌, List, [], ◌∷◌, drop}
-use Rattle.byteorder.specs.Endian.{big_number}
+use Rattle.std.specs.Prelude.{ℕ, ◌+◌, ◌%◌, List}
+use Rattle.rz_core.specs.Numbers.{number, items_from}
 use Rattle.rz_fork.specs.declared.layout.Header.{Header}
 use Rattle.rz_fork.specs.declared.layout.Outline.{Outline}
 use Rattle.rz_fork.specs.declared.layout.TypeEntry.{TypeEntry}
 use Rattle.rz_fork.specs.declared.layout.Reference.{Reference}
 
--- the number in so many bytes from a place on, the highest first
-unfoldable pub number : ℕ → List ℕ → ℕ → ℕ
-number count bytes place = big_number count (drop place bytes)
-
 -- a count that is stored in 2 bytes: the number stored is one less, modulo 65,536
 abbrev pub count_at : List ℕ → ℕ → ℕ
 count_at bytes place = (number 2 bytes place + 1) % 65536
-
--- so many items that stand one behind the other, each in so many bytes
-abbrev pub items_from : {A : Type 0} → (ℕ → A) → ℕ → ℕ → ℕ → List A
-items_from item size place zero = []
-items_from item size place (suc count) = item place ∷ items_from item size (place + size) count
 
 -- the header
 unfoldable pub header_of : List ℕ → Header

@@ -2,7 +2,7 @@ ghost use Rattle.std.specs.Prelude.{◌≡◌, ◌<◌, ◌≤◌, ◌+◌, ◌^
 ghost use Rattle.rz_fork.specs.Layout.{count_at, header_of, types_of, outline_of, types_place, entry_at, reference_at};
 ghost use Rattle.rz_fork.specs.Admit.{HasMap};
 
-use crate::number::{u8_at, u16_at, u24_at, u32_at};
+use rz_core::{u8_at, u16_at, u24_at, u32_at};
 
 /// The name offset of a resource without a name.
 pub const NO_NAME: u16 = 0xFFFF;

@@ -1,21 +1,21 @@
-ghost use Rattle.std.specs.Prelude.{◌≡◌, ◌<◌, ◌≤◌, ◌+◌, ◌*◌, ◌^◌, ◌==◌, ◌++◌, if◌then◌else◌, length, replicate, OnOk, FitsSigned};
+ghost use Rattle.std.specs.Prelude.{◌≡◌, ◌<◌, ◌≤◌, ◌+◌, ◌*◌, ◌^◌, ◌==◌, ◌++◌, if◌then◌else◌, length, OnOk, FitsSigned};
 ghost use Rattle.std.specs.Int.{w16};
 ghost use Rattle.std.specs.List.{flat_map, AllByRecursion};
+ghost use Rattle.rz_core.specs.Numbers.{be};
 ghost use Rattle.rz_fork.specs.Groups.{shown, members_of, group_entries};
 ghost use Rattle.rz_fork.specs.Image.{data_area, stored_name, name_list, reference_to, reference_lists, entry_of, AreNamed};
 
 use crate::group::Group;
 use crate::layout::NO_NAME;
-use crate::number::{append_count, append_u16, append_u24, append_u32};
-use rz_core::{Bytes, NoMemory, Resource};
+use rz_core::{Bytes, NoMemory, Resource, append_u16, append_u24, append_u32};
 
-/// Appends so many zeros.
-pub fn append_zeros(out: &mut Bytes, count: usize) -> Result<(), NoMemory>
-    ensures { OnOk result (out.new ≡ out.old ++ replicate count 0) }
+/// Appends a count less one, modulo 65,536, in 2 bytes: how the format stores counts.
+#[tactic(auto, unfolding(rz_core::specs::Numbers::be))]
+pub fn append_count(out: &mut Bytes, count: usize) -> Result<(), NoMemory>
+    requires { count ≤ 2 ^ 16 }
+    ensures { OnOk result (out.new ≡ out.old ++ be 2 (count + 65535)) }
 {
-    for _ in 0..count {
-        out.push(0)?;
-    }
+    append_u16(out, ((count + 65_535) % 65_536) as u16)?;
     Ok(())
 }
 

@@ -9,13 +9,14 @@ ghost use Rattle.rz_fork.specs.Code.{GivesFork};
 use crate::admit::{admit, entry_of, reference_of};
 use crate::fault::ForkFault;
 use crate::layout::{Header, NO_NAME, Outline, Reference, TypeEntry};
-use crate::number::{rest_at, u8_at, u16_at, u32_at};
-use rz_core::{Attr, Bytes, NoMemory, OsType, Resource, Resources, Stop};
+use rz_core::{
+    Attr, Bytes, NoMemory, OsType, Resource, Resources, Stop, rest_at, u8_at, u16_at, u32_at,
+};
 use std::alloc::Global;
 
 /// What a fork holds: its resources in map order, the attributes of its map, and the bytes behind its
 /// header.
-#[derive(Debug, Drop)]
+#[derive(Drop)]
 pub struct ForkList {
     /// The resources in map order: type by type, each type's in the order of its references.
     pub list: Resources,

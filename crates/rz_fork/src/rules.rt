@@ -4,7 +4,7 @@ ghost use Rattle.rz_fork.specs.Admit.{short_header, data_area_outside, map_outsi
 
 use crate::fault::ForkFault;
 use crate::layout::{Header, NO_NAME, Outline, Reference, TypeEntry};
-use crate::number::{u8_at, u32_at};
+use rz_core::{u8_at, u32_at};
 
 /// The offsets of data have 24 bits.
 const DATA_END: usize = 16_777_216;

@@ -8,9 +8,8 @@ ghost use Rattle.rz_fork.specs.Image.{data_area, name_list, lists_end, header, m
 use crate::fault::LimitFault;
 use crate::group::{Group, groups_in, in_order};
 use crate::limit::{data_length, first_limit};
-use crate::number::{append_count, append_u16, append_u32};
-use crate::parts::{append_data, append_entries, append_names, append_references, append_zeros};
-use rz_core::{Bytes, NoMemory, Resource, Resources, Stop};
+use crate::parts::{append_count, append_data, append_entries, append_names, append_references};
+use rz_core::{Bytes, NoMemory, Resource, Resources, Stop, append_u16, append_u32, append_zeros};
 use std::alloc::Global;
 
 /// Where the data area begins, in bytes from the start of the fork.

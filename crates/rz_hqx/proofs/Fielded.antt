@@ -2,14 +2,15 @@
 use Rattle.std.proofs.Common.{◌≡◌, ℕ, pos, ◌+◌, ◌-◌, ◌^◌, ◌<◌, ◌≤◌, ◌==◌, ◌||◌, nat_lt, not, false, List, [], ◌∷◌, ◌++◌, length, replicate, None, Ok, refl, sym, ap, ◌∙◌, arith, length-append}
 use Rattle.std.proofs.lemmas.Bool.{eq-eqb}
 use Rattle.rz_core.specs.Lists.{or_else, unless_fault}
-use Rattle.rz_core.specs.Numbers.{be, length-be_2, length-be_4}
+use Rattle.rz_core.specs.Numbers.{be, length-be_2, length-be_4, number}
 use Rattle.rz_core.specs.declared.fault.Kept.TheVariants as kept
 use Rattle.rz_bridge.specs.Check.{crc_of}
 use Rattle.rz_bridge.specs.Faults.{fault, broken}
-use Rattle.rz_bridge.specs.Places.{number, piece}
+use Rattle.rz_bridge.specs.Places.{piece}
 use Rattle.rz_bridge.specs.declared.file.MacFile.{MacFile}
 use Rattle.rz_bridge.proofs.Holds.{unbroken, not_below}
-use Rattle.rz_bridge.proofs.Standing.{Has, has_all, has_left, has_right, has_at, AreAt, all_at, piece_is, number_is, byte_is}
+use Rattle.rz_core.proofs.Placed.{Has, has_all, has_left, has_right, has_at, number_is, byte_is}
+use Rattle.rz_bridge.proofs.Standing.{AreAt, all_at, piece_is}
 use Rattle.rz_hqx.specs.BinHex.{name_length, kind_place, data_length, resource_length, data_place, resource_place, cut, bad_length, bad_crc, checked, header_torn, fields_torn, hqx_finder, hqx_fields, decoded_content, hqx_header, with_check, hqx_bytes, hqx_carried, IsCarried}
 
 -- Rules that hold.

@@ -1,6 +1,6 @@
 -- Letters that were written are read as the bytes.
 use Rattle.std.proofs.Common.{◌≡◌, ℕ, ◌+◌, ◌*◌, ◌/◌, ◌%◌, ◌<◌, ◌≤◌, ◌==◌, ◌&&◌, nat_lt, not, if◌then◌else◌, Bool, true, false, List, [], ◌∷◌, length, get_or, Option, Some, None, refl, sym, ap, ◌∙◌, arith}
-use Rattle.std.proofs.lemmas.Bool.{agree_below_at, eqb-true}
+use Rattle.std.proofs.lemmas.Bool.{agree_below_at, eqb-true, not-true}
 use Rattle.std.proofs.lemmas.Bool.Decides.{nat_tests}
 use Rattle.std.specs.List.{AllByRecursion}
 use Rattle.rz_core.proofs.Tests.{both}
@@ -111,10 +111,6 @@ unfolding is_number
 same_number None number is = absurd cc
 same_number (Some found) number is = ap (λ (n : ℕ). Some n) (eqb-true found number is)
 
-negated : (b : Bool) → not b ≡ true → b ≡ false
-negated true is = cc
-negated false is = refl
-
 -- a letter is read as its number, and is neither a colon nor a blank
 pub record IsLetter (n : ℕ) : Type 0 where
   pub number : number_of (letter n) ≡ Some n
@@ -126,4 +122,4 @@ unfolding written
 letter_read number small =
     let all = both (is_number (number_of (letter number)) number) (not (letter number == 58) && not (is_blank (letter number))) (letter_is number small) in
     let rest = both (not (letter number == 58)) (not (is_blank (letter number))) all.1 in
-    record { number = same_number (number_of (letter number)) number all.0; colon = negated (letter number == 58) rest.0; blank = negated (is_blank (letter number)) rest.1 }
+    record { number = same_number (number_of (letter number)) number all.0; colon = not-true (letter number == 58) rest.0; blank = not-true (is_blank (letter number)) rest.1 }

@@ -3,12 +3,12 @@
 use Rattle.std.specs.Prelude.{ℕ, pos, false, ◌+◌, ◌-◌, ◌^◌, ◌<◌, ◌==◌, ◌||◌, not, nat_lt, List, [], ◌∷◌, ◌++◌, length, replicate, Option}
 use Rattle.std.specs.declared.result.Result.{Result}
 use Rattle.rz_core.specs.Lists.{first_of, unless_fault}
-use Rattle.rz_core.specs.Numbers.{be}
+use Rattle.rz_core.specs.Numbers.{be, number}
 use Rattle.rz_core.specs.Stop.{◌>>=◌}
 use Rattle.rz_core.specs.declared.fault.Kept.TheVariants as kept
 use Rattle.rz_bridge.specs.Check.{crc_of}
 use Rattle.rz_bridge.specs.Faults.{fault, broken, file_refused}
-use Rattle.rz_bridge.specs.Places.{number, piece}
+use Rattle.rz_bridge.specs.Places.{piece}
 use Rattle.rz_bridge.specs.declared.fault.BridgeFault.{BridgeFault}
 use Rattle.rz_bridge.specs.declared.file.Finder.{Finder}
 use Rattle.rz_bridge.specs.declared.file.MacFile.{MacFile}

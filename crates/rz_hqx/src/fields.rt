@@ -2,8 +2,8 @@ ghost use Rattle.std.specs.Prelude.{◌≡◌, ◌≤◌, ◌<◌, ◌+◌, ◌^
 ghost use Rattle.rz_bridge.specs.Faults.{IsSayable};
 ghost use Rattle.rz_hqx.specs.BinHex.{name_length, kind_place, data_length, resource_length, data_place, resource_place, cut, bad_length, bad_crc, checked, header_torn, fields_torn};
 
-use rz_bridge::{BridgeFault, crc, fault_at, piece_at, u8_at, u16_at, u32_at};
-use rz_core::Kept;
+use rz_bridge::{BridgeFault, crc, fault_at, piece_at};
+use rz_core::{Kept, u8_at, u16_at, u32_at};
 
 /// The length of the name.
 #[tactic(auto, unfolding(crate::specs::BinHex::name_length))]

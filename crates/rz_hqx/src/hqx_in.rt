@@ -9,8 +9,8 @@ use crate::fields::{
 };
 use crate::letters::eights;
 use crate::text::{behind_colon, behind_head, numbers_in};
-use rz_bridge::{BridgeFault, Finder, MacFile, fault_at, piece_at, u16_at, u32_at};
-use rz_core::{Bytes, NoMemory, OsType, Stop};
+use rz_bridge::{BridgeFault, Finder, MacFile, fault_at, piece_at};
+use rz_core::{Bytes, NoMemory, OsType, Stop, u16_at, u32_at};
 use std::alloc::Global;
 
 /// The file of a BinHex 4.0 text: name, type, creator, flags and both forks; all other fields are zero. Text before the

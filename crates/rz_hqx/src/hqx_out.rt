@@ -9,10 +9,8 @@ ghost use Rattle.rz_hqx.specs.Text.{text_of};
 use crate::coded::runs_write;
 use crate::letters::{bytes_are_small, sixes};
 use crate::text::lines_of;
-use rz_bridge::{
-    BridgeFault, MacFile, append_u16, append_u32, crc, file_refused, finder_is_stored,
-};
-use rz_core::{Bytes, NoMemory, Stop};
+use rz_bridge::{BridgeFault, MacFile, crc, file_refused, finder_is_stored};
+use rz_core::{Bytes, NoMemory, Stop, append_u16, append_u32};
 use std::alloc::Global;
 
 /// The one BinHex 4.0 text of a file: the line that says what it is, and the letters between two colons, on lines of 64

@@ -1,6 +1,7 @@
 use Rattle.std.proofs.Common.{[], ◌∷◌}
 use Rattle.std.specs.String.{string_bytes}
-use Rattle.rz_bridge_form.proofs.DataFile.{named_file, split_is_parted, whole_is_parted}
+use Rattle.rz_folder.proofs.FolderPart.{split_is_parted, whole_is_parted}
+use Rattle.rz_bridge_form.proofs.DataFile.{named_file}
 use Rattle.rz_bridge_form.proofs.data_file.data_file_name.Goals as goal
 
 pub returns-in-Some : goal.returns-in-Some

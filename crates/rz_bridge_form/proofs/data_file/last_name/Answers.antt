@@ -1,5 +1,5 @@
 use Rattle.std.proofs.Common.{[], ◌∷◌, ◌++◌}
-use Rattle.rz_bridge_form.proofs.DataFile.{split_is_parted, whole_is_parted}
+use Rattle.rz_folder.proofs.FolderPart.{split_is_parted, whole_is_parted}
 use Rattle.rz_bridge_form.proofs.data_file.last_name.Goals as goal
 
 pub returns-in-Some : goal.returns-in-Some

@@ -1,7 +1,7 @@
 use Rattle.std.proofs.Common.{ℕ, [], ◌∷◌, arith, subst, ap, sym, ◌∙◌, ◌++◌, ◌==◌, if◌then◌else◌, length}
 use Rattle.std.specs.List.{AllByRecursion}
+use Rattle.rz_core.proofs.Lists.{all_append}
 use Rattle.rz_fork.specs.Image.{stored_name, reference, reference_to, AreNamed}
-use Rattle.rz_fork.proofs.Grouping.{all_append}
 use Rattle.rz_fork.proofs.Order.{rest_step, front_step, with_front_step, length_rest, length_front, data_rest, data_front, written_on}
 use Rattle.rz_fork.proofs.Written.{HasShortId}
 use Rattle.rz_fork.proofs.parts.append_references.Goals as goal

@@ -1,12 +1,11 @@
-ghost use Rattle.std.specs.Prelude.{◌≡◌, ◌<◌, ◌≤◌, ◌+◌, ◌^◌, ◌++◌, length, drop, OnOk};
-ghost use Rattle.rz_core.specs.Numbers.{be};
-ghost use Rattle.rz_fork.specs.Layout.{number};
+ghost use Rattle.std.specs.Prelude.{◌≡◌, ◌<◌, ◌≤◌, ◌+◌, ◌^◌, ◌++◌, length, drop, replicate, OnOk};
+ghost use Rattle.rz_core.specs.Numbers.{be, number};
 
+use crate::{Bytes, NoMemory};
 use byteorder::{BigEndian, ByteOrder};
-use rz_core::{Bytes, NoMemory};
 
-/// Appends a number in 2 bytes.
-#[tactic(auto, unfolding(rz_core::specs::Numbers::be))]
+/// Appends a number in 2 bytes, the highest first.
+#[tactic(auto, unfolding(crate::specs::Numbers::be))]
 pub fn append_u16(out: &mut Bytes, number: u16) -> Result<(), NoMemory>
     ensures { OnOk result (out.new ≡ out.old ++ be 2 number) }
 {
@@ -15,8 +14,8 @@ pub fn append_u16(out: &mut Bytes, number: u16) -> Result<(), NoMemory>
     out.append(&piece)
 }
 
-/// Appends a number in 3 bytes.
-#[tactic(auto, unfolding(rz_core::specs::Numbers::be))]
+/// Appends a number in 3 bytes, the highest first.
+#[tactic(auto, unfolding(crate::specs::Numbers::be))]
 pub fn append_u24(out: &mut Bytes, number: u32) -> Result<(), NoMemory>
     requires { number < 2 ^ 24 }
     ensures { OnOk result (out.new ≡ out.old ++ be 3 number) }
@@ -26,8 +25,8 @@ pub fn append_u24(out: &mut Bytes, number: u32) -> Result<(), NoMemory>
     out.append(&piece)
 }
 
-/// Appends a number in 4 bytes.
-#[tactic(auto, unfolding(rz_core::specs::Numbers::be))]
+/// Appends a number in 4 bytes, the highest first.
+#[tactic(auto, unfolding(crate::specs::Numbers::be))]
 pub fn append_u32(out: &mut Bytes, number: u32) -> Result<(), NoMemory>
     ensures { OnOk result (out.new ≡ out.old ++ be 4 number) }
 {
@@ -36,13 +35,13 @@ pub fn append_u32(out: &mut Bytes, number: u32) -> Result<(), NoMemory>
     out.append(&piece)
 }
 
-/// Appends a count less one, modulo 65,536, in 2 bytes: how the format stores counts.
-#[tactic(auto, unfolding(rz_core::specs::Numbers::be))]
-pub fn append_count(out: &mut Bytes, count: usize) -> Result<(), NoMemory>
-    requires { count ≤ 2 ^ 16 }
-    ensures { OnOk result (out.new ≡ out.old ++ be 2 (count + 65535)) }
+/// Appends so many zeros.
+pub fn append_zeros(out: &mut Bytes, count: usize) -> Result<(), NoMemory>
+    ensures { OnOk result (out.new ≡ out.old ++ replicate count 0) }
 {
-    append_u16(out, ((count + 65_535) % 65_536) as u16)?;
+    for _ in 0..count {
+        out.push(0)?;
+    }
     Ok(())
 }
 
@@ -55,7 +54,7 @@ pub fn rest_at(bytes: &[u8], place: usize) -> &[u8]
 }
 
 /// The byte at a place.
-#[tactic(auto, unfolding(crate::specs::Layout::number))]
+#[tactic(auto, unfolding(crate::specs::Numbers::number))]
 pub fn u8_at(bytes: &[u8], place: usize) -> u8
     requires { place + 1 ≤ length bytes.now }
     ensures { result ≡ number 1 bytes.now place }
@@ -63,8 +62,8 @@ pub fn u8_at(bytes: &[u8], place: usize) -> u8
     rest_at(bytes, place)[0]
 }
 
-/// The number in 2 bytes at a place.
-#[tactic(auto, unfolding(crate::specs::Layout::number))]
+/// The number in 2 bytes at a place, the highest first.
+#[tactic(auto, unfolding(crate::specs::Numbers::number))]
 pub fn u16_at(bytes: &[u8], place: usize) -> u16
     requires { place + 2 ≤ length bytes.now }
     ensures { result ≡ number 2 bytes.now place }
@@ -72,8 +71,8 @@ pub fn u16_at(bytes: &[u8], place: usize) -> u16
     BigEndian::read_u16(rest_at(bytes, place))
 }
 
-/// The number in 3 bytes at a place.
-#[tactic(auto, unfolding(crate::specs::Layout::number))]
+/// The number in 3 bytes at a place, the highest first.
+#[tactic(auto, unfolding(crate::specs::Numbers::number))]
 pub fn u24_at(bytes: &[u8], place: usize) -> u32
     requires { place + 3 ≤ length bytes.now }
     ensures { result ≡ number 3 bytes.now place }
@@ -81,8 +80,8 @@ pub fn u24_at(bytes: &[u8], place: usize) -> u32
     BigEndian::read_u24(rest_at(bytes, place))
 }
 
-/// The number in 4 bytes at a place.
-#[tactic(auto, unfolding(crate::specs::Layout::number))]
+/// The number in 4 bytes at a place, the highest first.
+#[tactic(auto, unfolding(crate::specs::Numbers::number))]
 pub fn u32_at(bytes: &[u8], place: usize) -> u32
     requires { place + 4 ≤ length bytes.now }
     ensures { result ≡ number 4 bytes.now place }
