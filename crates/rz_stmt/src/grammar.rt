@@ -17,7 +17,7 @@ use rz_stmt_type::{DeclareStmt, declarations_are_shaped, read_declare, value_dec
 use std::alloc::Global;
 
 /// A statement. (MPW Rez.)
-#[derive(Debug, Drop)]
+#[derive(Drop)]
 pub enum Stmt {
     /// A `;` alone.
     Empty,

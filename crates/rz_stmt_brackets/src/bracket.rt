@@ -7,7 +7,7 @@ use crate::pieces::{Divider, Split, split_at};
 use rz_lex::{Shape, Sign, Token};
 
 /// A kind of brackets.
-#[derive(Clone, Copy, Debug, PartialEq, Eq)]
+#[derive(Clone, Copy, PartialEq, Eq)]
 pub enum Bracket {
     /// `(` and `)`
     Round,

@@ -11,7 +11,7 @@ use rz_lex::{Shape, Sign, Token};
 use std::alloc::Global;
 
 /// What divides tokens where it stands outside brackets, or closes the bracket in which they stand.
-#[derive(Clone, Copy, Debug, PartialEq, Eq)]
+#[derive(Clone, Copy, PartialEq, Eq)]
 pub enum Divider {
     /// `;`
     Semicolon,

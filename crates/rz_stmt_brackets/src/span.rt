@@ -1,7 +1,7 @@
 use rz_core::Listing;
 
 /// Where a statement stands among the tokens of a program.
-#[derive(Clone, Copy, Debug, Drop, PartialEq, Eq)]
+#[derive(Clone, Copy, Drop, PartialEq, Eq)]
 pub struct Span {
     /// The position of its first token, from 0.
     pub start: u64,

@@ -15,7 +15,7 @@ use rz_types_fields::{TextPlace, Texts, may_say};
 use std::alloc::Global;
 
 /// Whose head it is, and so what may stand in it. (MPW Rez.)
-#[derive(Clone, Copy, Debug, PartialEq, Eq)]
+#[derive(Clone, Copy, PartialEq, Eq)]
 pub enum Subject {
     /// A new resource, of which nothing is known before.
     New,
@@ -24,7 +24,7 @@ pub enum Subject {
 }
 
 /// An attribute of a head. (MPW Rez.)
-#[derive(Debug, Drop)]
+#[derive(Drop)]
 pub enum AttrPart {
     /// A word that sets this bit.
     Set(u8),
@@ -38,7 +38,7 @@ pub enum AttrPart {
 pub type AttrParts = Listing<AttrPart>;
 
 /// What stands in the brackets of a head. (MPW Rez.)
-#[derive(Debug, Drop)]
+#[derive(Drop)]
 pub struct HeadExpr {
     /// The id.
     pub id: Expr,

@@ -14,7 +14,7 @@ use rz_types_fields::{TextPlace, Texts};
 use std::alloc::Global;
 
 /// A `data` statement. (MPW Rez.)
-#[derive(Debug, Drop)]
+#[derive(Drop)]
 pub struct RawStmt {
     /// The type.
     pub kind: OsType,

@@ -17,7 +17,7 @@ use rz_types_fields::{FormatArg, FormatArgs, ResKey, TextPart, TextPlace, Texts,
 use std::alloc::Global;
 
 /// A function that is a part of a text, by what stands in its brackets. (MPW Rez.)
-#[derive(Clone, Copy, Debug, PartialEq, Eq)]
+#[derive(Clone, Copy, PartialEq, Eq)]
 pub enum TextCall {
     /// `$$Read`, what a file holds.
     Read,

@@ -7,7 +7,7 @@ use rz_lex::Token;
 use rz_types_fields::{NumForm, Radix, TextForm};
 
 /// The word that says what a field is.
-#[derive(Clone, Copy, Debug, PartialEq, Eq)]
+#[derive(Clone, Copy, PartialEq, Eq)]
 pub enum FieldWord {
     /// The type of a number.
     Number(NumForm),
@@ -22,7 +22,7 @@ pub enum FieldWord {
 }
 
 /// A word before the type of a number.
-#[derive(Clone, Copy, Debug, PartialEq, Eq)]
+#[derive(Clone, Copy, PartialEq, Eq)]
 pub enum Modifier {
     /// `unsigned`
     Unsigned,

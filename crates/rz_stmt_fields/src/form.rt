@@ -3,7 +3,7 @@ use rz_expr::Expr;
 use rz_types_fields::{NumForm, PointField, Radix, TextField};
 
 /// A `type` statement as it is written, with expressions where constants stand. (MPW Rez.)
-#[derive(Debug, Drop)]
+#[derive(Drop)]
 pub struct DeclareExpr {
     /// The type that is declared.
     pub kind: OsType,
@@ -14,7 +14,7 @@ pub struct DeclareExpr {
 }
 
 /// For which ids a declaration is, as it is written. (MPW Rez.)
-#[derive(Debug, Drop)]
+#[derive(Drop)]
 pub enum ScopeExpr {
     /// For any id.
     Any,
@@ -25,7 +25,7 @@ pub enum ScopeExpr {
 }
 
 /// What a declaration makes a type, as it is written. (MPW Rez.)
-#[derive(Debug, Drop)]
+#[derive(Drop)]
 pub enum MadeExpr {
     /// These fields.
     Fields(FieldExprs),
@@ -34,7 +34,7 @@ pub enum MadeExpr {
 }
 
 /// A field as it is written. (MPW Rez.)
-#[derive(Debug, Drop)]
+#[derive(Drop)]
 #[cycle(form)]
 pub enum FieldExpr {
     /// A number.
@@ -57,7 +57,7 @@ pub enum FieldExpr {
 pub type FieldExprs = Listing<FieldExpr>;
 
 /// An array as it is written. (MPW Rez.)
-#[derive(Debug, Drop)]
+#[derive(Drop)]
 #[cycle(form)]
 pub struct ArrayExpr {
     /// The name, where it has one.
@@ -69,7 +69,7 @@ pub struct ArrayExpr {
 }
 
 /// A case of a switch as it is written: a name, and its fields. (MPW Rez.)
-#[derive(Debug, Drop)]
+#[derive(Drop)]
 #[cycle(form)]
 pub struct CaseExpr {
     /// The name.
@@ -82,7 +82,7 @@ pub struct CaseExpr {
 pub type CaseExprs = Listing<CaseExpr>;
 
 /// A number as it is written. (MPW Rez.)
-#[derive(Debug, Drop)]
+#[derive(Drop)]
 pub struct NumberExpr {
     /// The type.
     pub form: NumForm,
@@ -101,7 +101,7 @@ pub struct NumberExpr {
 }
 
 /// How many bits a number has. (MPW Rez.)
-#[derive(Debug, Drop)]
+#[derive(Drop)]
 pub enum Width {
     /// As many as its type has.
     Own(i32),
@@ -110,7 +110,7 @@ pub enum Width {
 }
 
 /// A symbol as it is written: a name, and its value where it has one. (MPW Rez.)
-#[derive(Debug, Drop)]
+#[derive(Drop)]
 pub struct Named {
     /// The name.
     pub name: Word,

@@ -14,7 +14,7 @@ use rz_stmt_data::{HeadExpr, read_head};
 use std::alloc::Global;
 
 /// A `resource` statement. (MPW Rez.)
-#[derive(Debug, Drop)]
+#[derive(Drop)]
 pub struct CompileStmt {
     /// The type.
     pub kind: OsType,

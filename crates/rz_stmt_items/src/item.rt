@@ -3,7 +3,7 @@ use rz_expr::Expr;
 use rz_types_fields::Texts;
 
 /// An item of a `resource` statement, with the place of its first token. (MPW Rez.)
-#[derive(Debug, Drop)]
+#[derive(Drop)]
 pub enum Item {
     /// A number.
     Number(Expr, Mark),

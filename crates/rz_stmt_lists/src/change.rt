@@ -13,7 +13,7 @@ use rz_stmt_data::HeadExpr;
 use std::alloc::Global;
 
 /// A `change` statement. (MPW Rez.)
-#[derive(Debug, Drop)]
+#[derive(Drop)]
 pub struct ChangeStmt {
     /// The type.
     pub kind: OsType,

@@ -11,7 +11,7 @@ use rz_stmt_brackets::{is_empty_statement, kind_in};
 use std::alloc::Global;
 
 /// A `delete` statement. (MPW Rez.)
-#[derive(Debug, Drop)]
+#[derive(Drop)]
 pub struct DeleteStmt {
     /// The type.
     pub kind: OsType,

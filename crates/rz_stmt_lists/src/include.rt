@@ -16,7 +16,7 @@ use rz_stmt_data::{HeadExpr, behind_texts, file_in};
 use std::alloc::Global;
 
 /// Which resources of a file are included. (MPW Rez.)
-#[derive(Debug, Drop)]
+#[derive(Drop)]
 pub enum IncludePart {
     /// All of them.
     All,
@@ -29,7 +29,7 @@ pub enum IncludePart {
 }
 
 /// An `include` statement. (MPW Rez.)
-#[derive(Debug, Drop)]
+#[derive(Drop)]
 pub struct IncludeStmt {
     /// The name of the file.
     pub file: Bytes,

@@ -11,7 +11,7 @@ use rz_lex::Token;
 use std::alloc::Global;
 
 /// A statement over lists of resources. (MPW Rez.)
-#[derive(Debug, Drop)]
+#[derive(Drop)]
 pub enum ListStmt {
     /// `include`.
     Include(IncludeStmt),

@@ -12,7 +12,7 @@ use rz_types_fields::{TextPlace, Texts};
 use std::alloc::Global;
 
 /// Which resources of a type are meant. (MPW Rez.)
-#[derive(Debug, Drop)]
+#[derive(Drop)]
 pub enum PickExpr {
     /// All of them.
     All,

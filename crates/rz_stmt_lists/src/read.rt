@@ -11,7 +11,7 @@ use rz_stmt_data::{HeadExpr, Subject, behind_texts, file_in};
 use std::alloc::Global;
 
 /// A `read` statement. (MPW Rez.)
-#[derive(Debug, Drop)]
+#[derive(Drop)]
 pub struct ReadStmt {
     /// The type.
     pub kind: OsType,

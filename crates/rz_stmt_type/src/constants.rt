@@ -17,7 +17,7 @@ use rz_types_fields::{ArrayField, Body, Case, Cases, Field, NumField, constant_v
 use std::alloc::Global;
 
 /// For which ids a declaration is, as the statement says it. (MPW Rez.)
-#[derive(Clone, Copy, Debug, PartialEq, Eq)]
+#[derive(Clone, Copy, PartialEq, Eq)]
 pub enum Bounds {
     /// For any id.
     Any,
@@ -28,7 +28,7 @@ pub enum Bounds {
 }
 
 /// What a declaration makes a type. (MPW Rez.)
-#[derive(Debug, Drop)]
+#[derive(Drop)]
 pub enum Made {
     /// These fields.
     Fields(Body),
@@ -37,7 +37,7 @@ pub enum Made {
 }
 
 /// A `type` statement. (MPW Rez.)
-#[derive(Debug, Drop)]
+#[derive(Drop)]
 pub struct DeclareStmt {
     /// The type that is declared.
     pub kind: OsType,

@@ -3,12 +3,10 @@ pub mod Firsts
 pub mod Broken
 pub mod Differing
 pub mod Keeping
-pub mod SameNames
 pub mod Unknown
 pub mod SameKnown
 pub mod Noted
 pub mod LeastWidths
 mod Examples
 pub mod Apart
-pub mod Parts
 pub mod Texts

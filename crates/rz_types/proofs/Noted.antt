@@ -1,8 +1,7 @@
 -- What notes tell, one more at a time, and the fields that can be read behind them.
-use Rattle.std.proofs.Common.{◌≡◌, ℕ, ◌+◌, ◌-◌, ◌<◌, Bool, true, false, ◌&&◌, List, [], ◌∷◌, ◌++◌, length, get_or, drop, take, map, Some, refl, sym, ap, ◌∙◌, append_assoc, arith}
+use Rattle.std.proofs.Common.{◌≡◌, ℕ, ◌+◌, ◌-◌, ◌<◌, Bool, true, false, ◌&&◌, List, [], ◌∷◌, ◌++◌, length, get_or, drop, take, map, Some, refl, sym, ap, ◌∙◌, arith}
 use Rattle.std.specs.Prelude.{if◌then◌else◌, replicate}
 use Rattle.std.proofs.lemmas.List.{drop_more, take_more}
-use Rattle.std.proofs.Math.Seq.{take-append_seam}
 use Rattle.rz_expr.specs.Environment.{Key}
 use Rattle.rz_expr.specs.Term.{term_of}
 use Rattle.rz_expr.specs.declared.expr.Expr.{Expr}
@@ -12,7 +11,7 @@ use Rattle.rz_types_fields.specs.Passed.{at_front, behind, behind_pieces, declar
 use Rattle.rz_types_fields.specs.Piece.{fixed_integer, free_integer, Piece}
 use Rattle.rz_types_fields.specs.declared.field.Field.{Field}
 use Rattle.rz_types_fields.proofs.Bodies.{body_next}
-use Rattle.rz_types.specs.Notes.{known, noted, noted_all, passed, Grew}
+use Rattle.rz_types.specs.Notes.{known, noted, noted_all, passed}
 use Rattle.rz_types.specs.Readable.{are_pieces_read, are_read, is_number_read, is_read, is_readable}
 use Rattle.rz_types.specs.declared.passed.Note.{Note}
 use Rattle.rz_types.specs.declared.passed.Note.TheVariants as note_of
@@ -50,14 +49,6 @@ older_known notes newer note key less item =
     ∙ ap (λ (n : ℕ). noted note (known (take n notes)) key) same
     ∙ sym (known_of_older notes older note key within item)
     ∙ ap (λ (n : ℕ). known (take n notes) key) next
-
--- notes that were appended are cut off again
-pub cut_back : (old new : List Note) (note : Note) (count : ℕ) → count ≡ length old → Grew (old ++ note ∷ []) new → take count new ≡ old
-cut_back old new note count long grew =
-    (λ i. take (long i) ((grew.1 ∙ append_assoc old (note ∷ []) grew.0) i)) ∙ take-append_seam old (note ∷ grew.0)
-
-pub grew_more : (old mid new : List Note) → Grew old mid → Grew mid new → Grew old new
-grew_more old mid new one other = (one.0 ++ other.0, other.1 ∙ ap (λ (front : List Note). front ++ other.0) one.1 ∙ append_assoc old one.0 other.0)
 
 -- At the front of a body.
 

@@ -11,7 +11,7 @@ use Rattle.rz_types_fields.specs.Solve.{can_solve, has_key, is_same_key}
 use Rattle.rz_types_fields.specs.Passed.{declares, is_known, Names, Passed}
 use Rattle.rz_types.specs.Notes.{first_unknown, if_unknown}
 use Rattle.rz_types.specs.Readable.{all_known, is_number_read, tells, tells_one}
-use Rattle.rz_types.proofs.SameNames.{key_is, key_itself}
+use Rattle.rz_types_fields.proofs.SameNames.{key_is, key_itself}
 
 -- Tests.
 

@@ -14,5 +14,4 @@ pub mod Kept
 pub mod Names
 pub mod Template
 pub mod Readable
-pub mod NameKey
 pub mod Notes

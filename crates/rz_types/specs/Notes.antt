@@ -1,12 +1,12 @@
 -- What the notes of a walk over a declaration tell: which names are known. (MPW Rez.)
-use Rattle.std.specs.Prelude.{◌≡◌, false, ◌||◌, if◌then◌else◌, List, [], ◌∷◌, ◌++◌, Option, Some, None}
+use Rattle.std.specs.Prelude.{false, ◌||◌, if◌then◌else◌, List, [], ◌∷◌, Option, Some, None}
 use Rattle.rz_core.specs.Lists.{or_else}
 use Rattle.rz_expr.specs.Environment.{count_key, place_key, Key}
 use Rattle.rz_expr.specs.Term.{BitsAt, Constant, FactOf, Named, OfOne, OfTwo, RowsOf, Term}
 use Rattle.rz_types_fields.specs.Field.{plain_body}
 use Rattle.rz_types_fields.specs.Solve.{is_same_key}
 use Rattle.rz_types_fields.specs.Passed.{counts_rows, declares, is_known, nothing_passed, states, Names, Passed}
-use Rattle.rz_types.specs.NameKey.{key_of}
+use Rattle.rz_types_fields.specs.NameKey.{key_of}
 use Rattle.rz_types.specs.declared.passed.Note.{Note}
 use Rattle.rz_types.specs.declared.passed.Note.TheVariants.{Array, Front, Told}
 
@@ -28,10 +28,6 @@ known notes = noted_all notes (is_known nothing_passed)
 -- what the fields before one tell, where it is as much as the notes do
 abbrev pub passed : List Note → Passed
 passed notes = record { met = λ key. false; told = known notes }
-
--- notes were only appended
-abbrev pub Grew : List Note → List Note → Type 0
-Grew old new = (more : List Note) × (new ≡ old ++ more)
 
 -- the name, where it isn't known
 abbrev pub if_unknown : Names → Key → Option Key

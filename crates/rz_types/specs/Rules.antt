@@ -1,7 +1,7 @@
 -- The rules of type declarations, and the first that a body breaks. (MPW Rez.)
 use Rattle.std.specs.Prelude.{◌≡◌, ◌⊎◌, ℕ, ◌==◌, min, ℤ, pos, Bool, true, false, not, ◌||◌, if◌then◌else◌, List, [], ◌∷◌, ◌++◌, map, Option, Some, None, option_map}
 use Rattle.std.specs.List.{AllByRecursion, list_any}
-use Rattle.std.specs.Option.{is_none, option_to_list}
+use Rattle.std.specs.Option.{is_none}
 use Rattle.std.specs.declared.result.Result.{Result}
 use Rattle.rz_core.specs.Lists.{first_in, first_of, or_else, unless_fault}
 use Rattle.rz_core.specs.declared.fault.Kept.{Kept}
@@ -11,7 +11,7 @@ use Rattle.rz_expr.specs.Constant.{constant_of}
 use Rattle.rz_expr.specs.Term.{BitsAt, Constant, FactOf, Named, OfOne, OfTwo, RowsOf, Term}
 use Rattle.rz_types_fields.specs.Field.{case_and, field_and, no_cases, no_fields, takes_value, Align, Array, Fill, Number, PlainBody, PlainCases, PlainField, Points, Switch, Text}
 use Rattle.rz_types_fields.specs.Range.{is_between, may_be_size}
-use Rattle.rz_types_fields.specs.Piece.{terms_of_text}
+use Rattle.rz_types_fields.specs.Piece.{expressions_of}
 use Rattle.rz_types_fields.specs.declared.field.NumForm.{NumForm}
 use Rattle.rz_types_fields.specs.declared.field.NumForm.TheVariants.{Bits}
 use Rattle.rz_types_fields.specs.declared.field.TextForm.{TextForm}
@@ -161,17 +161,6 @@ unknown_array scope (BitsAt name start width) = or_else (unknown_array scope sta
 unknown_array scope (FactOf which) = None
 unknown_array scope (OfOne op operand) = unknown_array scope operand
 unknown_array scope (OfTwo op left right) = or_else (unknown_array scope left) (unknown_array scope right)
-
-abbrev pub terms_in : Option (List Term) → List Term
-terms_in None = []
-terms_in (Some terms) = terms
-
--- the expressions of a field, as they are written: the size of a text stands before the formats in it
-abbrev pub expressions_of : PlainField → List Term
-expressions_of (Number number) = option_to_list number.fixed
-expressions_of (Text text) = terms_of_text text
-expressions_of (Points points) = terms_in points.fixed
-expressions_of field = []
 
 abbrev pub unknown_in : List Word → PlainField → Option (List ℕ)
 unknown_in scope field = first_of (map (unknown_array scope) (expressions_of field))

@@ -4,8 +4,7 @@ ghost use Rattle.rz_types_fields.specs.Field.{plain_body, plain_cases, plain_fie
 ghost use Rattle.rz_types_fields.specs.Width.{text_width};
 ghost use Rattle.rz_types.specs.Readable.{least_case, least_rows, least_text, least_width, least_widths};
 
-use crate::{Case, Field, TextField, TextForm};
-use rz_types_fields::text_width;
+use rz_types_fields::{Case, Field, TextField, TextForm, text_width};
 
 /// More bits than these are as good as these: the bits of a byte.
 const ENOUGH: u64 = 8;

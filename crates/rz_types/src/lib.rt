@@ -4,12 +4,11 @@
 //! It rests on `rz_core`, `rz_types_format`, `rz_expr` and `rz_types_fields`.
 //! A new rule changes the definitions of the rules and the walk, `specs/Kept`, and the code in `rz_types_check`; a new kind of
 //! field, `least`, `readable` and each rule that speaks of it, beside what `rz_types_fields` says; a new kind of name,
-//! `KeyRef`, `Note` and what they mean.
+//! `Note` and what it means.
 #![tactic(auto)]
 
 mod laws;
 mod least;
-mod name_key;
 mod passed;
 mod readable;
 mod rules;
@@ -21,9 +20,8 @@ pub use laws::{
 pub use readable::{is_body_readable, is_readable};
 pub use rules::TypeFault;
 pub use rz_types_fields::{
-    ArrayField, Body, Case, Cases, Exprs, Field, FieldEnv, NumField, NumForm, PointField, Radix,
-    Symbol, Symbols, TextField, TextForm, TextPart, Texts, constant_value, fact_of, fits_number,
-    is_field_expression, is_fixed_expression, is_head_expression, is_too_long, may_be_size,
-    number_of, own_width, stored_number, symbol_number_of, takes_value, text_of, text_seen,
+    ArrayField, Body, Case, Field, NumField, NumForm, PointField, Radix, Symbol, Symbols,
+    TextField, TextForm, TextPart, Texts, fact_of, fits_number, is_too_long, may_be_size,
+    number_of, stored_number, symbol_number_of, takes_value, text_of, text_seen,
 };
 pub use template::Template;

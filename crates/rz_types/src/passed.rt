@@ -1,19 +1,20 @@
-ghost use Rattle.std.specs.Prelude.{◌≡◌, ◌||◌, Bool, option_map};
+ghost use Rattle.std.specs.Prelude.{◌≡◌, ◌||◌, Bool, IfOk, map, option_map};
 ghost use Rattle.std.specs.List.{list_all};
-ghost use Rattle.std.specs.Option.{option_to_list, unwrap_or};
+ghost use Rattle.std.specs.Option.{unwrap_or};
 ghost use Rattle.rz_expr.specs.Term.{term_of};
 ghost use Rattle.rz_types_fields.specs.Field.{plain_text};
-ghost use Rattle.rz_types_fields.specs.Piece.{fixed_terms, terms_of_text};
-ghost use Rattle.rz_types_fields.specs.Text.{argument_terms, arguments_of, part_terms, plain_argument, plain_arguments, plain_part, plain_parts, terms_in, text_terms};
-ghost use Rattle.rz_types.specs.NameKey.{key_of};
+ghost use Rattle.rz_types_fields.specs.Piece.{terms_of_text};
+ghost use Rattle.rz_types_fields.specs.NameKey.{key_of};
 ghost use Rattle.rz_types.specs.Notes.{first_unknown, if_unknown, known, noted};
 ghost use Rattle.rz_types.specs.Readable.{all_known};
 
-use crate::name_key::{KeyRef, counts_rows, declares, is_predefined, is_same_key, states};
-use crate::{Field, TextField, TextPart, Texts};
-use rz_core::Word;
+use rz_core::{NoMemory, Word};
 use rz_expr::Expr;
-use rz_types_fields::{FormatArg, FormatArgs};
+use rz_types_fields::{
+    Field, KeyRef, TextField, counts_rows, declares, is_predefined, is_same_key, states,
+    text_expressions,
+};
+use std::alloc::Global;
 
 /// What the fields before one tell of names.
 #[derive(Clone, Copy)]
@@ -105,78 +106,25 @@ pub fn all_known(notes: &[Note<'_>], expr: &Expr) -> bool
 }
 
 /// Whether all names in the size of a text and in the formats of its fixed parts are known.
-#[tactic(auto, using(crate::proofs::Firsts::all_append))]
-pub fn all_known_in_text(notes: &[Note<'_>], text: &TextField) -> bool
-    ensures { result ≡ list_all (all_known (known notes.now)) (terms_of_text (plain_text text.now)) }
+pub fn all_known_in_text(
+    alloc: Global,
+    notes: &[Note<'_>],
+    text: &TextField,
+) -> Result<bool, NoMemory>
+    ensures { IfOk result (λ all. all ≡ list_all (all_known (known notes.now)) (terms_of_text (plain_text text.now))) }
 {
-    all_known_in_value(notes, &text.size) && all_known_in_fixed(notes, &text.fixed)
+    let exprs = text_expressions(alloc, text)?;
+    Ok(are_known(notes, &exprs))
 }
 
-fn all_known_in_value(notes: &[Note<'_>], value: &Option<Expr>) -> bool
-    ensures { result ≡ list_all (all_known (known notes.now)) (option_to_list (option_map term_of value.now)) }
+/// Whether all names in these expressions are known.
+fn are_known(notes: &[Note<'_>], exprs: &[&Expr]) -> bool
+    ensures { result ≡ list_all (all_known (known notes.now)) (map (λ expr. term_of expr.now) exprs.now) }
 {
-    match value {
-        Some(expr) => all_known(notes, expr),
-        None => true,
-    }
-}
-
-fn all_known_in_fixed(notes: &[Note<'_>], fixed: &Option<Texts>) -> bool
-    ensures { result ≡ list_all (all_known (known notes.now)) (fixed_terms (option_map plain_parts fixed.now)) }
-{
-    match fixed {
-        Some(parts) => all_known_in_parts(notes, parts),
-        None => true,
-    }
-}
-
-/// Whether all names in the formats of these parts are known.
-#[cycle(known)]
-fn all_known_in_parts(notes: &[Note<'_>], parts: &Texts) -> bool
-    ensures { result ≡ list_all (all_known (known notes.now)) (text_terms (plain_parts parts.now)) }
-{
-    for part in parts.as_slice() {
-        if !all_known_in_part(notes, part) {
+    for expr in exprs {
+        if !all_known(notes, expr) {
             return false;
         }
     }
     true
-}
-
-#[cycle(known)]
-fn all_known_in_part(notes: &[Note<'_>], part: &TextPart) -> bool
-    ensures { result ≡ list_all (all_known (known notes.now)) (part_terms (plain_part part.now)) }
-{
-    match part {
-        TextPart::Format(_, arguments) => all_known_in_arguments(notes, arguments),
-        TextPart::Plain(_)
-        | TextPart::NameFact
-        | TextPart::DateFact
-        | TextPart::TimeFact
-        | TextPart::VersionFact
-        | TextPart::FileBytes(_)
-        | TextPart::FileResource(..) => true,
-    }
-}
-
-#[cycle(known)]
-fn all_known_in_arguments(notes: &[Note<'_>], arguments: &FormatArgs) -> bool
-    ensures { result ≡ list_all (all_known (known notes.now)) (argument_terms (arguments_of (plain_arguments arguments.now))) }
-{
-    for argument in arguments.as_slice() {
-        if !all_known_in_argument(notes, argument) {
-            return false;
-        }
-    }
-    true
-}
-
-#[cycle(known)]
-fn all_known_in_argument(notes: &[Note<'_>], argument: &FormatArg) -> bool
-    ensures { result ≡ list_all (all_known (known notes.now)) (terms_in (plain_argument argument.now)) }
-{
-    match argument {
-        FormatArg::Number(expr) => all_known(notes, expr),
-        FormatArg::Text(parts) => all_known_in_parts(notes, parts),
-    }
 }

@@ -4,18 +4,21 @@ ghost use Rattle.rz_types_fields.specs.Field.{plain_array, plain_body, plain_cas
 ghost use Rattle.rz_types_fields.specs.Solve.{is_same_key};
 ghost use Rattle.rz_types_fields.specs.Passed.{at_front, behind, behind_pieces, gives_count, is_known, told_by};
 ghost use Rattle.rz_types_fields.specs.Piece.{fixed_integer};
-ghost use Rattle.rz_types.specs.NameKey.{key_of};
-ghost use Rattle.rz_types.specs.Notes.{known, passed, Grew};
+ghost use Rattle.rz_types_fields.specs.NameKey.{key_of};
+ghost use Rattle.rz_types.specs.Notes.{known, passed};
+ghost use Rattle.rz_types_fields.specs.Known.{Grew};
 ghost use Rattle.rz_types.specs.Readable.{are_cases_read, are_pieces_read, are_read, ends_at_end, is_count_known, is_number_read, is_read, is_readable, is_text_read, rows_end, tells, text_ends};
 ghost use Rattle.rz_types.specs.Template.{template_of};
 
 use crate::least::least_widths;
-use crate::name_key::{KeyRef, declares, standing_of};
 use crate::passed::{Note, all_known, all_known_in_text, first_unknown, is_known};
-use crate::{ArrayField, Case, Exprs, Field, PointField, Template, TextField, TextForm};
+use crate::template::Template;
 use rz_core::{NoMemory, Word};
 use rz_expr::Expr;
-use rz_types_fields::fixed_widths;
+use rz_types_fields::{
+    ArrayField, Case, Exprs, Field, KeyRef, PointField, TextField, TextForm, declares,
+    fixed_widths, standing_of,
+};
 use std::alloc::Global;
 
 /// Whether a resource of this declaration can be read: exactly where its bytes say where each field ends, and how many
@@ -98,7 +101,10 @@ fn is_read<'a>(
 {
     match field {
         Field::Num(number) => is_value_read(rest, &number.fixed, notes),
-        Field::Text(text) => Ok(is_text_read(outermost, rest, text, notes.as_slice())),
+        Field::Text(text) => {
+            let alloc = *notes.allocator();
+            is_text_read(alloc, outermost, rest, text, notes.as_slice())
+        }
         Field::Points(points) => are_points_read(rest, points, notes),
         Field::Fill(..) | Field::Align(_) => Ok(true),
         Field::Array(array) => is_array_read(outermost, array, rest, notes),
@@ -197,10 +203,19 @@ fn ends_at_end(outermost: bool, rest: &[Field]) -> bool
 }
 
 /// Whether a text can be read.
-fn is_text_read(outermost: bool, rest: &[Field], text: &TextField, notes: &[Note<'_>]) -> bool
-    ensures { result ≡ is_text_read outermost (plain_body rest.now) (passed notes.now) (plain_text text.now) }
+fn is_text_read(
+    alloc: Global,
+    outermost: bool,
+    rest: &[Field],
+    text: &TextField,
+    notes: &[Note<'_>],
+) -> Result<bool, NoMemory>
+    ensures { IfOk result (λ read. read ≡ is_text_read outermost (plain_body rest.now) (passed notes.now) (plain_text text.now)) }
 {
-    text_ends(outermost, rest, text) && all_known_in_text(notes, text)
+    if !text_ends(outermost, rest, text) {
+        return Ok(false);
+    }
+    all_known_in_text(alloc, notes, text)
 }
 
 /// Whether it is told where a text ends.

@@ -1,7 +1,7 @@
 use rz_core::Kept;
 
 /// A broken rule of a type declaration.
-#[derive(Debug, Drop)]
+#[derive(Drop)]
 pub struct TypeFault {
     /// The number of the rule in the table of faults.
     pub number: u16,

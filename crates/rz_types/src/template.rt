@@ -7,7 +7,7 @@ ghost use Rattle.rz_types.specs.Rules.{keeps_rules};
 use crate::Body;
 
 /// A body that has the shape of a declaration and keeps the rules, as [`check`](crate::check) gives it.
-#[derive(Debug, Drop)]
+#[derive(Drop)]
 pub struct Template {
     body: Body,
     readable: bool,

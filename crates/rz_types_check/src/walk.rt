@@ -160,7 +160,7 @@ fn unknown_here(
 ) -> Result<Option<TypeFault>, NoMemory>
     ensures { IfOk result (λ fault. fault ≡ option_map (unknown_fault position) (unknown_in (map (λ name. name.now) scope.now) (plain_field field.now))) }
 {
-    match unknown_in(scope, field) {
+    match unknown_in(alloc, scope, field)? {
         Some(name) => Ok(Some(unknown_fault(alloc, position, name)?)),
         None => Ok(None),
     }

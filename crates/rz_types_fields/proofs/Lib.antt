@@ -1,4 +1,6 @@
+pub mod SameNames
 pub mod Symbols
+pub mod Noting
 pub mod Arithmetic
 pub mod Appending
 pub mod Bodies

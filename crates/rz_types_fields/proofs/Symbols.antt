@@ -1,28 +1,18 @@
 -- A symbol is found by its name in whatever case.
-use Rattle.std.proofs.Common.{◌≡◌, ◌==◌, ◌&&◌, ℕ, ℤ, List, [], ◌∷◌, Option, Some, None, refl, sym, ap, ◌∙◌}
+use Rattle.std.proofs.Common.{◌≡◌, ℕ, ℤ, List, [], ◌∷◌, Option, Some, None, refl, sym, ap, ◌∙◌}
 use Rattle.std.specs.Prelude.{if◌then◌else◌}
-use Rattle.std.proofs.lemmas.Str.Ascii.{lowercase-lowercase}
-use Rattle.std.specs.Char.{eq_ignore_ascii_case, to_ascii_lowercase}
-use Rattle.std.specs.Str.{str_eq_ignore_ascii_case, str_to_ascii_lowercase}
+use Rattle.std.specs.Str.{str_to_ascii_lowercase}
 use Rattle.rz_core.specs.Lists.{or_else}
 use Rattle.rz_expr.specs.Environment.{predefined}
 use Rattle.rz_expr.proofs.Cases.{same_value}
 use Rattle.rz_types_fields.specs.Value.{symbol_value}
 use Rattle.rz_types_fields.specs.declared.field.Symbol.{Symbol}
-
-same_byte : (a b : ℕ) → eq_ignore_ascii_case a (to_ascii_lowercase b) ≡ eq_ignore_ascii_case a b
-same_byte a b = ap (λ n. to_ascii_lowercase a == n) (lowercase-lowercase b)
-
-lower_eq : (own name : List ℕ) → str_eq_ignore_ascii_case own (str_to_ascii_lowercase name) ≡ str_eq_ignore_ascii_case own name
-lower_eq [] [] = refl
-lower_eq [] (n ∷ name) = refl
-lower_eq (o ∷ own) [] = refl
-lower_eq (o ∷ own) (n ∷ name) = λ i. same_byte o n i && lower_eq own name i
+use Rattle.rz_types_fields.proofs.SameNames.{lower_name}
 
 lower_symbol : (symbols : List Symbol) (name : List ℕ) → symbol_value symbols (str_to_ascii_lowercase name) ≡ symbol_value symbols name
 lower_symbol [] name = refl
 lower_symbol (symbol ∷ symbols) name =
-    (λ i. if lower_eq symbol.name.bytes name i then Some symbol.value else lower_symbol symbols name i)
+    (λ i. if lower_name symbol.name.bytes name i then Some symbol.value else lower_symbol symbols name i)
 
 pub as_symbol : (symbols : List Symbol) (name : List ℕ) (value : ℤ) → symbol_value symbols name ≡ Some value
     → Some value ≡ or_else (symbol_value symbols (str_to_ascii_lowercase name)) (predefined (str_to_ascii_lowercase name))

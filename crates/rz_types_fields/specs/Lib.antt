@@ -13,3 +13,5 @@ pub mod Passed
 pub mod Row
 pub mod Spells
 pub mod Laid
+pub mod NameKey
+pub mod Known

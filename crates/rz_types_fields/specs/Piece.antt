@@ -49,3 +49,14 @@ fixed_terms (Some parts) = text_terms parts
 
 abbrev pub terms_of_text : PlainText → List Term
 terms_of_text text = option_to_list text.size ++ fixed_terms text.fixed
+
+abbrev pub points_terms : Option (List Term) → List Term
+points_terms None = []
+points_terms (Some terms) = terms
+
+-- the expressions of a field, as they are written: the size of a text stands before the formats in it
+abbrev pub expressions_of : PlainField → List Term
+expressions_of (Number number) = option_to_list number.fixed
+expressions_of (Text text) = terms_of_text text
+expressions_of (Points points) = points_terms points.fixed
+expressions_of field = []

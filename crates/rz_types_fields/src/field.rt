@@ -6,7 +6,7 @@ use rz_core::{Listing, Word};
 use rz_expr::Expr;
 
 /// The type of a number. (MPW Rez.)
-#[derive(Clone, Copy, Debug, PartialEq, Eq)]
+#[derive(Clone, Copy, PartialEq, Eq)]
 pub enum NumForm {
     /// `bitstring`, of as many bits as its width says.
     Bits,
@@ -23,7 +23,7 @@ pub enum NumForm {
 }
 
 /// How a number is shown. (MPW Rez.)
-#[derive(Clone, Copy, Debug, PartialEq, Eq)]
+#[derive(Clone, Copy, PartialEq, Eq)]
 pub enum Radix {
     /// As its type is shown where nothing is said.
     Plain,
@@ -40,7 +40,7 @@ pub enum Radix {
 }
 
 /// The type of a text. (MPW Rez.)
-#[derive(Clone, Copy, Debug, PartialEq, Eq)]
+#[derive(Clone, Copy, PartialEq, Eq)]
 pub enum TextForm {
     /// `string`, the bytes alone.
     Open,
@@ -53,7 +53,7 @@ pub enum TextForm {
 }
 
 /// A name for a value of a number.
-#[derive(Debug, Drop)]
+#[derive(Drop)]
 pub struct Symbol {
     /// The name.
     pub name: Word,
@@ -68,7 +68,7 @@ pub type Symbols = Listing<Symbol>;
 pub type Exprs = Listing<Expr>;
 
 /// A number. (MPW Rez.)
-#[derive(Debug, Drop)]
+#[derive(Drop)]
 pub struct NumField {
     /// The type.
     pub form: NumForm,
@@ -87,7 +87,7 @@ pub struct NumField {
 }
 
 /// A text. (MPW Rez.)
-#[derive(Debug, Drop)]
+#[derive(Drop)]
 pub struct TextField {
     /// The type.
     pub form: TextForm,
@@ -100,7 +100,7 @@ pub struct TextField {
 }
 
 /// A point of two numbers, or a rectangle of four. (MPW Rez.)
-#[derive(Debug, Drop)]
+#[derive(Drop)]
 pub struct PointField {
     /// Whether it is a rectangle.
     pub rect: bool,
@@ -109,7 +109,7 @@ pub struct PointField {
 }
 
 /// An array: rows of fields, each row with values of its own. (MPW Rez.)
-#[derive(Debug, Drop)]
+#[derive(Drop)]
 #[cycle(field)]
 pub struct ArrayField {
     /// The name, where it has one.
@@ -121,7 +121,7 @@ pub struct ArrayField {
 }
 
 /// A case of a switch: a name, and the fields that stand there where it is chosen. (MPW Rez.)
-#[derive(Debug, Drop)]
+#[derive(Drop)]
 #[cycle(field)]
 pub struct Case {
     /// The name.
@@ -134,7 +134,7 @@ pub struct Case {
 pub type Cases = Listing<Case>;
 
 /// A field of a type declaration. (MPW Rez.)
-#[derive(Debug, Drop)]
+#[derive(Drop)]
 #[cycle(field)]
 pub enum Field {
     /// A number.

@@ -12,7 +12,7 @@ use std::alloc::Global;
 const MOST_BITS: u64 = 134_217_697;
 
 /// The key of a case: a number with a fixed value among its fields. (MPW Rez.)
-#[derive(Clone, Copy, Debug, PartialEq, Eq)]
+#[derive(Clone, Copy, PartialEq, Eq)]
 pub struct CaseKey {
     /// How many bits it has.
     pub width: u32,

@@ -1,6 +1,7 @@
 //! The fields of type declarations, and what a resource gives them: numbers and strings with their ranges, the parts of
-//! strings and where they may stand, the values of expressions with the facts of a resource, fixed widths and the keys of
-//! cases, how values are stored, and rows of values with the bytes that they spell. Each call gives exactly its
+//! strings and where they may stand, the values of expressions with the facts of a resource, the expressions of a field in
+//! one list, the names in them with the notes of the numbers of rows, fixed widths and the keys of cases, how values are
+//! stored, and rows of values with the bytes that they spell. Each call gives exactly its
 //! definition. Definitions alone are the shape of fields, their pieces, the names that fields give values, how a name is
 //! solved, when values are a row of fields, and which bytes they are laid as, piece after piece, or where they are refused
 //! first. The rules that the fields of a type keep stand in `rz_types`, where a type is found in `rz_types_table`;
@@ -10,11 +11,15 @@
 //! `specs/Row` and `Tree`, its stored form in `specs/Spells` and how it is laid in `specs/Laid`, the rules and whether it is
 //! read in `rz_types`, the walk in `rz_types_check`, `copies` of `rz_types_table`, its form in `rz_stmt_fields` and, for
 //! strings and what has fields within it, in `rz_stmt_type`, which has the values of constants too, the item that fits it
-//! in `rz_stmt_items`, and what `rz_layout` lays. A new kind of value is a variant of `Tree`, with a call of `values`.
+//! in `rz_stmt_items`, and what `rz_layout` lays. A new kind of name is a case of `KeyRef` and of `Note`; one that a field
+//! gives, of `gives_key`. A new kind of value is a variant of `Tree`, with a call of `values`.
 #![tactic(auto)]
 
+mod expressions;
 mod field;
 mod keys;
+mod name_key;
+mod names;
 mod place;
 mod range;
 mod stored;
@@ -23,17 +28,22 @@ mod tree;
 mod value;
 pub mod values;
 
+pub use expressions::{expressions_of, format_expressions, text_expressions};
 pub use field::{
     ArrayField, Body, Case, Cases, Exprs, Field, NumField, NumForm, PointField, Radix, Symbol,
     Symbols, TextField, TextForm, takes_value,
 };
 pub use keys::{CaseKey, case_keys, fixed_width, fixed_widths, key_bits, sized_bytes, text_width};
+pub use name_key::{
+    KeyRef, Standing, counts_rows, declares, is_predefined, is_same_key, standing_of, states,
+};
+pub use names::{NamesEnv, Note, rows_of};
 pub use place::{TextPlace, may_say, may_stand};
 pub use range::{fits_number, may_be_size, own_width};
 pub use stored::{is_too_long, stored_number};
 pub use text::{FormatArg, FormatArgs, ResKey, TextPart, Texts, text_of, text_seen};
 pub use tree::{Numbers, Row, RowList, Tree};
 pub use value::{
-    FieldEnv, constant_value, fact_of, is_field_expression, is_fixed_expression,
-    is_head_expression, is_item_expression, number_of, symbol_number_of, value_seen,
+    constant_value, fact_of, is_field_expression, is_fixed_expression, is_item_expression,
+    number_of, symbol_number_of,
 };

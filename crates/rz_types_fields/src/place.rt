@@ -10,7 +10,7 @@ use crate::value::{
 use rz_expr::Expr;
 
 /// Where a text stands, and so what its parts and their expressions may be. (MPW Rez.)
-#[derive(Clone, Copy, Debug, PartialEq, Eq)]
+#[derive(Clone, Copy, PartialEq, Eq)]
 pub enum TextPlace {
     /// The head of a new resource, or a pick: of the resource nothing is known there.
     New,

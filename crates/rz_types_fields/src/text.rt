@@ -12,7 +12,7 @@ use rz_types_format::{Argument, Arguments, formatted};
 use std::alloc::Global;
 
 /// An argument of a format. (MPW Rez.)
-#[derive(Debug, Drop)]
+#[derive(Drop)]
 #[cycle(text)]
 pub enum FormatArg {
     /// A number.
@@ -25,7 +25,7 @@ pub enum FormatArg {
 pub type FormatArgs = Listing<FormatArg>;
 
 /// By what a resource of a file is found. (MPW Rez.)
-#[derive(Debug, Drop)]
+#[derive(Drop)]
 #[cycle(text)]
 pub enum ResKey {
     /// By its id.
@@ -35,7 +35,7 @@ pub enum ResKey {
 }
 
 /// A part of a text. (MPW Rez.)
-#[derive(Debug, Drop)]
+#[derive(Drop)]
 #[cycle(text)]
 pub enum TextPart {
     /// Bytes that stood between quote marks.

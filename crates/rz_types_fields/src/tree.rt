@@ -1,7 +1,7 @@
 use rz_core::{Bytes, Listing, Word};
 
 /// A value of a row. (MPW Rez.)
-#[derive(Debug, Drop)]
+#[derive(Drop)]
 pub enum Tree {
     /// A number, from 0 to below 2 to the power of the width of its field in bits.
     Number(u32),

@@ -1,5 +1,5 @@
 use Rattle.rz_expr.specs.Term.{term_of}
-use Rattle.rz_types.specs.NameKey.{key_of}
+use Rattle.rz_types_fields.specs.NameKey.{key_of}
 use Rattle.rz_types.specs.Notes.{known}
 use Rattle.rz_types.proofs.Unknown.{all_are}
 use Rattle.rz_types.proofs.passed.all_known.Goals as goal

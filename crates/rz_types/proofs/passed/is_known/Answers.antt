@@ -1,5 +1,5 @@
 use Rattle.std.proofs.Common.{◌+◌, ◌-◌, length, take, sym, ◌∙◌}
-use Rattle.rz_types.specs.NameKey.{key_of}
+use Rattle.rz_types_fields.specs.NameKey.{key_of}
 use Rattle.rz_types.specs.Notes.{known}
 use Rattle.rz_types.proofs.Noted.{older_known}
 use Rattle.rz_types.proofs.passed.is_known.Goals as goal

@@ -3,7 +3,8 @@ use Rattle.rz_types_fields.specs.Field.{plain_body, plain_field}
 use Rattle.rz_types_fields.specs.declared.field.Field.{Field}
 use Rattle.rz_types.specs.Notes.{passed}
 use Rattle.rz_types.specs.Readable.{is_read}
-use Rattle.rz_types.proofs.Noted.{field_read, grew_more, row_read}
+use Rattle.rz_types.proofs.Noted.{field_read, row_read}
+use Rattle.rz_types_fields.proofs.Noting.{grew_more}
 use Rattle.rz_types.proofs.readable.+read.Goals as goal
 
 pub is_row_read-returns-clause-read : goal.is_row_read-returns-clause-read

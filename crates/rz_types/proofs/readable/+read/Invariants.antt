@@ -1,6 +1,7 @@
 use Rattle.std.proofs.Common.{◌≡◌, drop}
 use Rattle.rz_types_fields.specs.Field.{plain_body, plain_cases}
-use Rattle.rz_types.specs.Notes.{passed, Grew}
+use Rattle.rz_types.specs.Notes.{passed}
+use Rattle.rz_types_fields.specs.Known.{Grew}
 use Rattle.rz_types.specs.Readable.{are_cases_read, are_read}
 use Rattle.rz_types.proofs.readable.+read.Given as goal
 

@@ -4,7 +4,8 @@ use Rattle.rz_expr.specs.declared.expr.Expr.{Expr}
 use Rattle.rz_types_fields.specs.Field.{plain_body}
 use Rattle.rz_types_fields.specs.Passed.{behind_pieces, is_known}
 use Rattle.rz_types.specs.Notes.{passed}
-use Rattle.rz_types.proofs.Noted.{grew_more, number_known, number_read, pieces_with}
+use Rattle.rz_types.proofs.Noted.{number_known, number_read, pieces_with}
+use Rattle.rz_types_fields.proofs.Noting.{grew_more}
 use Rattle.rz_types.proofs.readable.are_values_read.Goals as goal
 
 pub loop-expr-preserved : goal.loop-expr-preserved

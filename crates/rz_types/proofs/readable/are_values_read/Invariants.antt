@@ -1,7 +1,8 @@
 use Rattle.std.proofs.Common.{◌≡◌, Bool, drop}
 use Rattle.rz_types_fields.specs.Field.{plain_body}
 use Rattle.rz_types_fields.specs.Passed.{behind_pieces, is_known}
-use Rattle.rz_types.specs.Notes.{passed, Grew}
+use Rattle.rz_types.specs.Notes.{passed}
+use Rattle.rz_types_fields.specs.Known.{Grew}
 use Rattle.rz_types.specs.Readable.{are_pieces_read}
 use Rattle.rz_types.proofs.Noted.{pieces_with}
 use Rattle.rz_types.proofs.readable.are_values_read.Given as goal

@@ -2,7 +2,7 @@ use Rattle.std.proofs.Common.{List, sym, ap, ◌∙◌}
 use Rattle.std.specs.Prelude.{option_map}
 use Rattle.rz_expr.specs.Term.{term_of}
 use Rattle.rz_types_fields.specs.Field.{plain_body}
-use Rattle.rz_types.specs.NameKey.{key_of}
+use Rattle.rz_types_fields.specs.NameKey.{key_of}
 use Rattle.rz_types.specs.Notes.{first_unknown, known, passed}
 use Rattle.rz_types.specs.declared.passed.Note.{Note}
 use Rattle.rz_types.proofs.Unknown.{known_still, known_then, number_known, number_tells}

@@ -3,14 +3,14 @@ ghost use Rattle.rz_expr.specs.Term.{term_of};
 ghost use Rattle.rz_types_fields.specs.Field.{plain_body, plain_field};
 ghost use Rattle.rz_types_fields.specs.Solve.{can_solve, has_key, is_same_key, undoes_left, undoes_one, undoes_right};
 ghost use Rattle.rz_types_fields.specs.Passed.{counts_rows, declares, gives_count, gives_key, is_known, nothing_passed, states, states_key};
-ghost use Rattle.rz_types.specs.NameKey.{key_of};
+ghost use Rattle.rz_types_fields.specs.NameKey.{key_of};
 
 use crate::Field;
 use rz_core::Word;
 use rz_expr::{BinaryOp, Expr, UnaryOp, predefined};
 
 /// A name in an expression, as what can have a value.
-#[derive(Clone, Copy, Debug)]
+#[derive(Clone, Copy)]
 pub enum KeyRef<'a> {
     /// A name by itself.
     Place(&'a Word),
@@ -53,7 +53,7 @@ pub fn counts_rows(name: &Word, key: KeyRef<'_>) -> bool
 }
 
 /// Whether the name of an array gives this name a value.
-fn gives_count(name: &Option<Word>, key: KeyRef<'_>) -> bool
+pub fn gives_count(name: &Option<Word>, key: KeyRef<'_>) -> bool
     ensures { result ≡ gives_count name.now (key_of key.entry) }
 {
     match name {
@@ -107,7 +107,7 @@ pub fn states(row: &[Field], key: KeyRef<'_>) -> bool
 }
 
 /// How a name stands in an expression.
-#[derive(Clone, Copy, Debug)]
+#[derive(Clone, Copy)]
 pub struct Standing {
     /// Whether it stands there.
     pub stands: bool,

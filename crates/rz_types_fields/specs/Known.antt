@@ -1,0 +1,50 @@
+-- The numbers of rows that names have, as the code notes them.
+use Rattle.std.specs.Prelude.{◌≡◌, ℤ, if◌then◌else◌, List, [], ◌∷◌, ◌++◌, Option, Some, None}
+use Rattle.rz_core.specs.Lists.{or_else}
+use Rattle.rz_core.specs.declared.resource.Word.{Word}
+use Rattle.rz_expr.specs.Environment.{count_key, Environment, Key}
+use Rattle.rz_types_fields.specs.Field.{field_and, no_fields, plain_body, Array, PlainBody, PlainField}
+use Rattle.rz_types_fields.specs.Solve.{is_same_key}
+use Rattle.rz_types_fields.specs.Passed.{counts_rows, declares, outside, states_count}
+use Rattle.rz_types_fields.specs.declared.names.Note.{Note}
+use Rattle.rz_types_fields.specs.declared.names.Note.TheVariants.{Counted, Entered, Told}
+
+-- At the front of a body.
+
+-- a body's own names have no value but their stated counts
+abbrev pub stated_value : Option Word → Option ℤ → Key → Option ℤ
+stated_value name count key = if states_count name count key then count else None
+
+abbrev pub stated_in : PlainBody → Key → Option ℤ
+stated_in no_fields key = None
+stated_in (field_and (Array name count row) fields) key = or_else (stated_value name count key) (stated_in fields key)
+stated_in (field_and field fields) key = stated_in fields key
+
+abbrev pub names_inside : PlainBody → Environment → Environment
+names_inside body names = record { give = λ key. if declares body key then stated_in body key else names.give key }
+
+-- the number of rows that is stated of an array
+abbrev pub stated_by : PlainField → Key → Option ℤ
+stated_by (Array name count row) key = stated_value name count key
+stated_by field key = None
+
+-- Notes.
+
+-- the value of a key behind one note more, where it has another before it: a number told it, rows of an array were read or are
+-- laid, or a body was entered, whose own names hide those outside
+abbrev pub noting : Note → Key → Option ℤ → Option ℤ
+noting (Told name rows) key other = if is_same_key (count_key name.now.bytes) key then Some rows else other
+noting (Counted name rows) key other = if counts_rows name.now.bytes key then Some rows else other
+noting (Entered fields) key other = if declares (plain_body fields.now) key then stated_in (plain_body fields.now) key else other
+
+-- behind all notes, the oldest first
+abbrev pub noted : Option ℤ → List Note → Key → Option ℤ
+noted other [] key = other
+noted other (note ∷ notes) key = noted (noting note key other) notes key
+
+abbrev pub known : List Note → Environment
+known notes = record { give = λ key. noted (outside.give key) notes key }
+
+-- some were only added at the end
+abbrev pub Grew : {A : Type 0} → List A → List A → Type 0
+Grew old new = (more : List _) × (new ≡ old ++ more)
