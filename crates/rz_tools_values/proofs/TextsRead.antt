@@ -21,11 +21,11 @@ use Rattle.rz_tools_values.specs.Texts.{argument_given, argument_read, part_read
 
 -- All that was read, and nothing behind it.
 
-pub all_parts : (parts : List PlainPart) → so_far (λ part parts. part ∷ parts) parts (Ok []) ≡ Ok parts
+pub all_parts : (parts : List PlainPart) → so_far {F = Fault} (λ part parts. part ∷ parts) parts (Ok []) ≡ Ok parts
 all_parts [] = refl
 all_parts (part ∷ parts) = ap (λ (r : Result (List PlainPart) Fault). r >>= λ others. Ok (part ∷ others)) (all_parts parts)
 
-pub all_arguments : (arguments : List PlainArgument) → so_far argument_and arguments (Ok no_arguments) ≡ Ok (arguments_of arguments)
+pub all_arguments : (arguments : List PlainArgument) → so_far {F = Fault} argument_and arguments (Ok no_arguments) ≡ Ok (arguments_of arguments)
 all_arguments [] = refl
 all_arguments (argument ∷ arguments) = ap (λ (r : Result PlainArguments Fault). r >>= λ others. Ok (argument_and argument others)) (all_arguments arguments)
 
