@@ -203,7 +203,7 @@ number_is bytes place width size number narrow there is so =
 
 -- Zeros.
 
-number_of-append : (xs ys : List Bool) → number_of (xs ++ ys) ≡ number_of xs * 2 ^ length ys + number_of ys
+pub number_of-append : (xs ys : List Bool) → number_of (xs ++ ys) ≡ number_of xs * 2 ^ length ys + number_of ys
 number_of-append [] ys = omega arith
 number_of-append (x ∷ xs) ys =
     let p = pow-add 2 (length xs) (length ys) in

@@ -2,7 +2,7 @@
 use Rattle.std.proofs.Common.{◌≡◌, ℕ, ℤ, ◌==◌, ◌&&◌, ◌||◌, Bool, true, false, not, if◌then◌else◌, List, [], ◌∷◌, Option, Some, None, refl, ap, ◌∙◌}
 use Rattle.std.specs.List.{list_any}
 use Rattle.std.specs.Option.{is_some}
-use Rattle.std.proofs.lemmas.Bool.{eq-eqb}
+use Rattle.std.proofs.lemmas.Bool.{eq-eqb, or_right}
 use Rattle.rz_core.proofs.Tests.{and_so}
 use Rattle.rz_core.specs.Resources.{id_bits, same_key}
 use Rattle.rz_core.specs.declared.resource.OsType.{OsType}
@@ -24,10 +24,6 @@ none_any (x ∷ xs) = none_any xs
 pub own_key : (r : Resource) → same_key r r ≡ true
 own_key r = and_so (r.kind.code == r.kind.code) (id_bits r == id_bits r) (eq-eqb r.kind.code r.kind.code refl) (eq-eqb (id_bits r) (id_bits r) refl)
 
-or_later : (a b : Bool) → b ≡ true → (a || b) ≡ true
-or_later true b is = refl
-or_later false b is = is
-
 module _ (kind : OsType) where
   any_id : (id : ℤ) (list : List Resource) → list_any (has_key kind id) list ≡ is_some (found kind id list)
   any_id id [] = refl
@@ -45,7 +41,7 @@ module _ (kind : OsType) where
       by : (found_name kind name xs ≡ Some one → list_any (same_key one) xs ≡ true) → (b : Bool)
           → (if b then Some x else found_name kind name xs) ≡ Some one → (same_key one x || list_any (same_key one) xs) ≡ true
       by later true is = let same : x ≡ one = cc in ap (λ r. same_key one r || list_any (same_key one) xs) same ∙ ap (λ (b : Bool). b || list_any (same_key one) xs) (own_key one)
-      by later false is = or_later (same_key one x) (list_any (same_key one) xs) (later is)
+      by later false is = or_right (same_key one x) (list_any (same_key one) xs) (later is)
 
   pub there_id : (id : ℤ) (list : List Resource) (one : Resource) → found kind id list ≡ Some one → missing kind (Id id) list ≡ None
   there_id id list one is = ap (missing_if kind) (any_id id list ∙ ap is_some is)

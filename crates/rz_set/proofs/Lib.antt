@@ -11,3 +11,4 @@ pub mod Picks
 pub mod Taken
 pub mod Changed
 pub mod Sequence
+pub mod Wants

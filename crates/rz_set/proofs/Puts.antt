@@ -1,11 +1,10 @@
 -- What a put leaves: its step in a map from keys, and what it keeps.
-use Rattle.std.proofs.Common.{◌≡◌, ℕ, ◌==◌, ◌&&◌, ◌||◌, Bool, true, false, if◌then◌else◌, List, [], ◌∷◌, ◌++◌, length, map, ◌<◌, refl, sym, ap, subst, ◌∙◌, append_assoc, arith}
+use Rattle.std.proofs.Common.{◌≡◌, ℕ, ◌==◌, ◌&&◌, ◌||◌, Bool, true, false, if◌then◌else◌, List, [], ◌∷◌, ◌++◌, length, map, ◌<◌, refl, sym, ap, subst, ◌∙◌, append_assoc}
 use Rattle.std.proofs.lemmas.Bool.{eqb-true}
-use Rattle.std.proofs.lemmas.Bool.Decides.{nat_tests}
 use Rattle.std.specs.List.{AllByRecursion, list_any}
 use Rattle.std.proofs.lemmas.List.Folds.{list_any-append}
 use Rattle.indexmap.specs.IndexMap.{insert_entry}
-use Rattle.rz_core.proofs.Tests.{both}
+use Rattle.rz_core.proofs.Tests.{both, same_sym}
 use Rattle.rz_core.specs.Resources.{id_bits, same_key, put, KeysDiffer}
 use Rattle.rz_core.specs.declared.resource.Resource.{Resource}
 use Rattle.rz_set.specs.ResSet.{key_of, keyed, values_of, AreKeyed, AreNamed}
@@ -57,11 +56,8 @@ exchanged before mid (y ∷ xs) r x is differ =
           (exchanged before (mid ++ y ∷ []) xs r x is (subst (λ (l : List Resource). KeysDiffer l xs) (append_assoc before (x ∷ mid) (y ∷ [])) differ.1)),
     )
 
-pub eqb-sym : (a b : ℕ) → (a == b) ≡ (b == a)
-eqb-sym a b = grind (arith, nat_tests)
-
 pub flipped : (r x : Resource) → same_key r x ≡ same_key x r
-flipped r x = λ i. eqb-sym r.kind.code x.kind.code i && eqb-sym (id_bits r) (id_bits x) i
+flipped r x = λ i. same_sym r.kind.code x.kind.code i && same_sym (id_bits r) (id_bits x) i
 
 -- a resource put into a list leaves its keys different, where it is like none of those before
 differ_put : (before list : List Resource) (r : Resource) → KeysDiffer before list → list_any (λ b. same_key b r) before ≡ false → KeysDiffer before (put list r)

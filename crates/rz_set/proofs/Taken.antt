@@ -4,7 +4,7 @@ use Rattle.std.proofs.lemmas.Bool.{eqb-true}
 use Rattle.std.specs.Int.{cast_unsigned, w16}
 use Rattle.std.specs.List.{list_any}
 use Rattle.std.specs.Option.{unwrap_or}
-use Rattle.rz_core.proofs.Tests.{both}
+use Rattle.rz_core.proofs.Tests.{both, same_sym}
 use Rattle.rz_core.specs.Resources.{id_bits, same_key, KeysDiffer}
 use Rattle.rz_core.specs.declared.resource.OsType.{OsType}
 use Rattle.rz_core.specs.declared.resource.Resource.{Resource}
@@ -15,7 +15,6 @@ use Rattle.rz_set.specs.declared.pick.Head.{Head}
 use Rattle.rz_set.proofs.Changes.{or_nothing}
 use Rattle.rz_set.proofs.Named.{parts}
 use Rattle.rz_set.proofs.Picks.{keys_meet}
-use Rattle.rz_set.proofs.Puts.{eqb-sym}
 
 absorbed : (k any : Bool) → (k || (any && k)) ≡ k
 absorbed true any = refl
@@ -125,11 +124,11 @@ module _ (test : Resource → Bool) (head : Head) (r : Resource) where
               → list_any same_bits (if b then x ∷ filter test xs else filter test xs) ≡ holds test (if h then Some x else found kind r.id xs)
           by later true is true has =
               ap (λ (b : Bool). b || list_any same_bits (filter test xs))
-              (eqb-sym (id_bits x) (id_bits r) ∙ (both (kind.code == x.kind.code) (id_bits r == id_bits x) has).1)
+              (same_sym (id_bits x) (id_bits r) ∙ (both (kind.code == x.kind.code) (id_bits r == id_bits x) has).1)
               ∙ sym is
           by later true is false has =
               ap (λ (b : Bool). b || list_any same_bits (filter test xs))
-              (eqb-sym (id_bits x) (id_bits r) ∙ and_false (kind.code == x.kind.code) (id_bits r == id_bits x) (of_kind x is) has)
+              (same_sym (id_bits x) (id_bits r) ∙ and_false (kind.code == x.kind.code) (id_bits r == id_bits x) (of_kind x is) has)
               ∙ later
           by later false is true has =
               none_later x has (before ++ x ∷ []) xs (λ z none. or_nothing (same_key x z) (parts before x z none).1) differ.1 ∙ sym is

@@ -5,7 +5,7 @@ use Rattle.std.specs.Str.{bytes_eq}
 use Rattle.rz_core.specs.Resources.{same_key}
 use Rattle.rz_core.specs.declared.resource.OsType.{OsType}
 use Rattle.rz_core.specs.declared.resource.Resource.{Resource}
-use Rattle.rz_set.specs.ResSet.{has_key}
+use Rattle.rz_set.specs.ResSet.{found, has_key}
 use Rattle.rz_set.specs.declared.pick.Choice.{Choice}
 use Rattle.rz_set.specs.declared.pick.Choice.TheVariants as choices
 use Rattle.rz_set.specs.declared.pick.Pick.{Pick}
@@ -25,6 +25,13 @@ has_name kind name r = is_of kind r && bytes_eq name r.name
 abbrev pub found_name : OsType → List ℕ → List Resource → Option Resource
 found_name kind name [] = None
 found_name kind name (r ∷ rs) = if has_name kind name r then Some r else found_name kind name rs
+
+-- the one that a pick by id or name finds in a list
+abbrev pub picked : OsType → Pick → List Resource → Option Resource
+picked kind All list = None
+picked kind (Id id) list = found kind id list
+picked kind (Range first last) list = None
+picked kind (Name name) list = found_name kind name list
 
 -- the resource has the type and id of this one, if there is one
 abbrev pub is_that : Option Resource → Resource → Bool

@@ -38,7 +38,7 @@ pub enum Choice {
 }
 
 /// Why a call of a set was refused.
-#[derive(Clone, Copy, Debug, Drop, PartialEq, Eq)]
+#[derive(Clone, Copy, Drop, PartialEq, Eq)]
 pub enum SetFault {
     /// A pick by id or name chooses no resource of this type.
     NoSuchResource(OsType),

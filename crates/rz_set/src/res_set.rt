@@ -3,18 +3,17 @@ ghost use Rattle.std.specs.Option.{option_copied};
 ghost use Rattle.rz_core.specs.Resources.{put, put_all, KeysDiffer};
 ghost use Rattle.rz_set.specs.After.{after_include, after_put, after_remove, as_list, forbidden, is_protected, replaced, HasShortName, Leaves};
 ghost use Rattle.rz_set.specs.Change.{after_change, changed, is_taken, other, with_other, MayHaveId};
-ghost use Rattle.rz_set.specs.Choice.{chooses, found_name, missing};
+ghost use Rattle.rz_set.specs.Choice.{chooses, found_name, missing, picked};
 ghost use Rattle.rz_set.specs.Fates.{fate_of, IsForOne, StayApart};
 ghost use Rattle.rz_set.specs.ResSet.{found, AreNamed};
 ghost use Rattle.std.specs.List.{flat_map};
 ghost use Rattle.rz_set.specs.Wanted.{is_wanted};
-ghost use Rattle.rz_set.specs.declared.pick.Pick.TheVariants.{Id, Name};
 
 use crate::change::{Fate, copy_head};
 use crate::entries::{Key, insert_all, insert_left, key_of};
 use crate::include::{copy_all, included_by};
 use crate::pick::{Choice, Head, Pick, SetFault};
-use crate::wanted::{Ids, Wanted};
+use crate::wanted::{Wanted, wanted_by};
 use indexmap::IndexMap;
 use rz_core::{NoMemory, OsType, Resource, Resources, Stop};
 use std::alloc::Global;
@@ -319,47 +318,17 @@ impl ResSet {
         ensures there { IfOk result (λ wanted. missing kind pick.now self.now ≡ None) }
         ensures missing { IfErr result (λ fault. missing kind pick.now self.now ≡ Some fault) }
     {
+        wanted_by(kind, pick, self.picked(kind, pick))
+    }
+
+    /// The resource that a pick by id or name finds.
+    fn picked(&self, kind: OsType, pick: &Pick) -> Option<&Resource>
+        ensures { option_copied result ≡ picked kind pick.now self.now }
+    {
         match pick {
-            Pick::All => Ok(Wanted {
-                kind,
-                ids: Ids::All,
-            }),
-            Pick::Range(first, last) => Ok(Wanted {
-                kind,
-                ids: Ids::Range(*first, *last),
-            }),
-            Pick::Id(id) => self.wanted_id(kind, *id),
-            Pick::Name(name) => self.wanted_name(kind, name.as_slice()),
-        }
-    }
-
-    /// What an id chooses, or that there is no such resource.
-    fn wanted_id(&self, kind: OsType, id: i16) -> Result<Wanted, SetFault>
-        ensures chooses { IfOk result (λ wanted. is_wanted wanted ≡ chooses kind (Id id) self.now) }
-        ensures there { IfOk result (λ wanted. missing kind (Id id) self.now ≡ None) }
-        ensures missing { IfErr result (λ fault. missing kind (Id id) self.now ≡ Some fault) }
-    {
-        match self.find(kind, id) {
-            Some(_) => Ok(Wanted {
-                kind,
-                ids: Ids::One(id.cast_unsigned()),
-            }),
-            None => Err(SetFault::NoSuchResource(kind)),
-        }
-    }
-
-    /// What a name chooses, or that there is no such resource.
-    fn wanted_name(&self, kind: OsType, name: &[u8]) -> Result<Wanted, SetFault>
-        ensures chooses { IfOk result (λ wanted. is_wanted wanted ≡ chooses kind (Name name.now) self.now) }
-        ensures there { IfOk result (λ wanted. missing kind (Name name.now) self.now ≡ None) }
-        ensures missing { IfErr result (λ fault. missing kind (Name name.now) self.now ≡ Some fault) }
-    {
-        match self.find_name(kind, name) {
-            Some(resource) => Ok(Wanted {
-                kind: resource.kind,
-                ids: Ids::One(resource.id.cast_unsigned()),
-            }),
-            None => Err(SetFault::NoSuchResource(kind)),
+            Pick::Id(id) => self.find(kind, *id),
+            Pick::Name(name) => self.find_name(kind, name.as_slice()),
+            Pick::All | Pick::Range(..) => None,
         }
     }
 

@@ -1,6 +1,10 @@
-ghost use Rattle.std.specs.Prelude.{◌≡◌};
+ghost use Rattle.std.specs.Prelude.{◌≡◌, List, None, Some, IfOk, IfErr};
+ghost use Rattle.std.specs.Option.{option_copied};
+ghost use Rattle.rz_core.specs.declared.resource.Resource.{Resource};
+ghost use Rattle.rz_set.specs.Choice.{chooses, missing, picked};
 ghost use Rattle.rz_set.specs.Wanted.{is_included, is_wanted};
 
+use crate::pick::{Pick, SetFault};
 use rz_core::{OsType, Resource};
 
 /// The ids that resources are wanted by.
@@ -35,6 +39,35 @@ impl Wanted {
                 Ids::One(bits) => bits == id.cast_unsigned(),
                 Ids::Range(first, last) => first <= id && id <= last,
             }
+    }
+}
+
+/// What a pick chooses by type and id in a list where it finds this resource by id or name, or that there is no such
+/// resource.
+pub fn wanted_by(kind: OsType, pick: &Pick, one: Option<&Resource>) -> Result<Wanted, SetFault>
+    ensures chooses { (list : List Resource) → option_copied one.entry ≡ picked kind pick.now list
+        → IfOk result (λ wanted. is_wanted wanted ≡ chooses kind pick.now list) }
+    ensures there { (list : List Resource) → option_copied one.entry ≡ picked kind pick.now list
+        → IfOk result (λ wanted. missing kind pick.now list ≡ None) }
+    ensures missing { (list : List Resource) → option_copied one.entry ≡ picked kind pick.now list
+        → IfErr result (λ fault. missing kind pick.now list ≡ Some fault) }
+{
+    match pick {
+        Pick::All => Ok(Wanted {
+            kind,
+            ids: Ids::All,
+        }),
+        Pick::Range(first, last) => Ok(Wanted {
+            kind,
+            ids: Ids::Range(*first, *last),
+        }),
+        Pick::Id(_) | Pick::Name(_) => match one {
+            Some(one) => Ok(Wanted {
+                kind: one.kind,
+                ids: Ids::One(one.id.cast_unsigned()),
+            }),
+            None => Err(SetFault::NoSuchResource(kind)),
+        },
     }
 }
 
