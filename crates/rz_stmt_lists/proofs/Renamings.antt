@@ -7,7 +7,7 @@ use Rattle.rz_stmt_brackets.specs.Pieces.{AreCut, Parted}
 use Rattle.rz_stmt_brackets.specs.declared.bracket.Bracket.{Bracket}
 use Rattle.rz_stmt_brackets.specs.declared.pieces.Divider.{Divider}
 use Rattle.rz_stmt_brackets.specs.declared.pieces.Divider.TheVariants.{Comma}
-use Rattle.rz_stmt_data.proofs.OneData.{one_head_for}
+use Rattle.rz_stmt_data.proofs.OneHead.{one_head_for}
 use Rattle.rz_stmt_data.specs.Head.{Head, IsHeadFor}
 use Rattle.rz_stmt_data.specs.declared.head.Subject.{Subject}
 use Rattle.rz_stmt_data.specs.declared.head.Subject.TheVariants.{Chosen}
