@@ -163,15 +163,18 @@ module _ (r : Resource) (name : List (List ℕ)) (prints : Prints) (stored : IsS
           items = read.items;
           meant = read.meant;
           whole = record {
-            word = word.one;
-            kind = kind.one;
-            behind = kind.more;
-            are = word.are ∙ ap (λ (x : List Token). word.one ∷ x) kind.are;
-            is_word = ap (is_keyword keywords.Resource) word.one_is;
-            has_kind = ap kind_in kind.one_is ∙ kind_back r.kind.code stored.code;
-            headed = record {
-              parted = record { front = id.front ++ names.front; behind = close.more };
+            inside = inner.front;
+            frame = record {
+              behind = kind.more;
+              brackets = record { front = id.front ++ names.front; behind = close.more };
               pieces = id.front ∷ head.others;
+              typed = record {
+                word = word.one;
+                kind = kind.one;
+                are = word.are ∙ ap (λ (x : List Token). word.one ∷ x) kind.are;
+                is_word = ap (is_keyword keywords.Resource) word.one_is;
+                has_kind = ap kind_in kind.one_is ∙ kind_back r.kind.code stored.code;
+              };
               in_brackets = record {
                 opener = paren.one;
                 rest = paren.more;
@@ -202,9 +205,10 @@ module _ (r : Resource) (name : List (List ℕ)) (prints : Prints) (stored : IsS
                   };
                 },
                 ap is_empty last ∙ ap is_semicolon semicolon.one_is,
-                read.are,
+                refl,
               );
             };
+            items = read.are;
           };
         }
 

@@ -19,7 +19,7 @@ use Rattle.rz_lex.specs.declared.token.Token.{Token}
 use Rattle.rz_stmt_data.specs.Head.{Attribute}
 use Rattle.rz_stmt_brackets.specs.Limit.{counted, depth_limit, is_text, keeps_limits, row_behind, is_within_limits}
 use Rattle.rz_stmt_brackets.specs.Kind.{kind_in}
-use Rattle.rz_stmt_data.proofs.Plain.{plain_body}
+use Rattle.rz_stmt_data.proofs.Plain.{plain_body, plain_inside}
 use Rattle.rz_stmt_data.specs.Raw.{IsRaw}
 use Rattle.rz_stmt_brackets.specs.Statements.{has_end, is_end, is_semicolon, open_behind, open_behind_all}
 use Rattle.rz_show_laws.specs.Statement.{attribute_part, attributes_of, shown_raw, IsWhole, IsWholeData}
@@ -230,15 +230,12 @@ module _ (r : Resource) (name bytes : List (List ℕ)) (stored : IsStored r)
       let head = head_of id named (head_pieces r name) id_inner (pieces_are_inner r name stored.attr) named_are in
       let body : List Token = texts ++ end ∷ semicolon ∷ [] in
       record {
-        word = word;
-        kind = kind;
-        behind = paren ∷ (id ++ (named ++ close ∷ brace ∷ body));
-        are = refl;
-        is_word = rw word_is refl;
-        has_kind = ap kind_in kind_is ∙ kind_back r.kind.code stored.code;
-        headed = record {
-          parted = record { front = id ++ named; behind = brace ∷ body };
+        inside = texts;
+        frame = record {
+          behind = paren ∷ (id ++ (named ++ close ∷ brace ∷ body));
+          brackets = record { front = id ++ named; behind = brace ∷ body };
           pieces = id ∷ head.others;
+          typed = record { word = word; kind = kind; are = refl; is_word = rw word_is refl; has_kind = ap kind_in kind_is ∙ kind_back r.kind.code stored.code };
           in_brackets = record {
             opener = paren;
             rest = id ++ (named ++ close ∷ brace ∷ body);
@@ -255,6 +252,7 @@ module _ (r : Resource) (name bytes : List (List ℕ)) (stored : IsStored r)
           has_head = (id_is r.id stored.id id id_are, rest_is name (attributes_of r.attr) (shown_attributes r.attr stored.attr).each head.others head.are);
           has_body = plain_body bytes texts brace end semicolon brace_is texts_are end_is semicolon_is;
         };
+        texts = plain_inside bytes texts texts_are;
       }
 
   pub is_whole : IsWhole (word ∷ kind ∷ paren ∷ (id ++ (named ++ close ∷ brace ∷ (texts ++ end ∷ semicolon ∷ [])))) (shown_raw r name bytes)

@@ -4,10 +4,14 @@ pub mod OneText
 pub mod Reading
 pub mod Calls
 pub mod Attributes
+pub mod OneHead
+pub mod InFront
+pub mod Frames
 pub mod OneData
 pub mod Shaped
 pub mod Bodies
 pub mod Built
 pub mod Plain
 pub mod EveryText
+pub mod EveryHead
 pub mod EveryData

@@ -15,7 +15,8 @@ use Rattle.rz_lex.specs.declared.token.Shape.{Shape}
 use Rattle.rz_lex.specs.declared.token.Shape.TheVariants as shapes
 use Rattle.rz_lex.specs.declared.token.Token.{Token}
 use Rattle.rz_stmt_data.proofs.OneText.{parts_begin}
-use Rattle.rz_stmt_data.specs.Raw.{IsBody, IsMaybeText}
+use Rattle.rz_stmt_data.specs.Frame.{IsBody}
+use Rattle.rz_stmt_data.specs.Raw.{IsInside, IsMaybeText}
 use Rattle.rz_stmt_data.specs.Texts.{alone, begins_text, no_part, one_part, part_in, AreParts, IsText}
 
 -- the tokens are texts with these bytes
@@ -89,9 +90,13 @@ maybe_plain [] (token ∷ tokens) are = absurd (cc are)
 maybe_plain (piece ∷ pieces) [] are = absurd (cc are)
 maybe_plain (piece ∷ pieces) (token ∷ tokens) are = plain_text Data piece pieces (token ∷ tokens) are
 
+-- text tokens alone are a text that stands in braces
+pub plain_inside : (pieces : List (List ℕ)) (texts : List Token) → AreTextTokens texts pieces → IsInside texts (plain_texts pieces)
+plain_inside pieces texts are = (texts ∷ [], last texts (none_divides Semicolon (λ bytes. refl) pieces texts are), maybe_plain pieces texts are)
+
 -- text tokens in braces, and the end of a statement
 pub plain_body : (pieces : List (List ℕ)) (texts : List Token) (brace end semicolon : Token) → brace.shape ≡ shapes.Sign signs.OpenBrace → AreTextTokens texts pieces
-    → end.shape ≡ shapes.Sign signs.CloseBrace → semicolon.shape ≡ shapes.Sign signs.Semicolon → IsBody (brace ∷ (texts ++ end ∷ semicolon ∷ [])) (plain_texts pieces)
+    → end.shape ≡ shapes.Sign signs.CloseBrace → semicolon.shape ≡ shapes.Sign signs.Semicolon → IsBody (brace ∷ (texts ++ end ∷ semicolon ∷ [])) texts
 plain_body pieces texts brace end semicolon brace_is texts_are end_is semicolon_is = (
   record { front = texts; behind = semicolon ∷ [] },
   record {
@@ -108,5 +113,5 @@ plain_body pieces texts brace end semicolon brace_is texts_are end_is semicolon_
     };
   },
   ap is_semicolon semicolon_is,
-  (texts ∷ [], last texts (none_divides Semicolon (λ bytes. refl) pieces texts texts_are), maybe_plain pieces texts texts_are),
+  refl,
 )

@@ -1,6 +1,8 @@
 pub mod Files
 pub mod Texts
 pub mod Head
+pub mod Typed
+pub mod Frame
 pub mod Raw
 pub mod Steps
 pub use Rattle.rz_stmt_brackets.specs.Statements

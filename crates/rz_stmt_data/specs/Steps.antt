@@ -7,12 +7,10 @@ use Rattle.rz_types_fields.specs.Text.{arguments_of, plain_part, plain_parts, Fi
 use Rattle.rz_types_fields.specs.declared.text.TextPart.{TextPart}
 use Rattle.rz_lex.specs.declared.token.Token.{Token}
 use Rattle.rz_stmt_data.specs.Files.{IsFile}
-use Rattle.rz_stmt_data.specs.Head.{attribute_of, head_of, Attribute, Head, IsRestBy}
-use Rattle.rz_stmt_data.specs.Raw.{IsHeaded}
+use Rattle.rz_stmt_data.specs.Head.{attribute_of, Attribute, IsRestBy}
 use Rattle.rz_stmt_data.specs.Texts.{key_by, kind_alone, text_alone, AreArguments, IsArgument, IsCall, IsFront}
 use Rattle.rz_stmt_data.specs.declared.head.AttrPart.{AttrPart}
 use Rattle.rz_stmt_data.specs.declared.head.Subject.{Subject}
-use Rattle.rz_stmt_data.specs.declared.raw.Headed.{Headed}
 use Rattle.rz_stmt_data.specs.declared.texts.Front.{Front}
 use Rattle.rz_stmt_data.specs.declared.texts.TextCall.{TextCall}
 
@@ -48,11 +46,3 @@ IsNamedRest subject piece others rest = IsRestBy subject true piece others rest.
 
 abbrev pub rest_of : Option (List TextPart) × List AttrPart → Option (List PlainPart) × List Attribute
 rest_of rest = (option_map plain_parts rest.0, map attribute_of rest.1)
-
--- `data` statements.
-
-abbrev pub IsHeadedPair : List Token → Head × List PlainPart → Type 0
-IsHeadedPair tokens pair = IsHeaded tokens pair.0 pair.1
-
-abbrev pub headed_of : Headed → Head × List PlainPart
-headed_of headed = (head_of headed.head, plain_parts headed.texts)

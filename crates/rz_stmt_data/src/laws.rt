@@ -12,7 +12,7 @@ ghost use Rattle.rz_stmt_data.specs.Texts.{begins_text, AreParts, IsText};
 ghost use Rattle.rz_stmt_data.specs.declared.head.Subject.{Subject};
 
 use rz_expr::{expressions_are_decided, one_expression};
-use rz_stmt_brackets::{partings_are_decided, pieces_are_cut};
+use rz_stmt_brackets::partings_are_decided;
 
 /// A law, with nothing to run: tokens are one text at most, wherever it stands, and its first token begins a text. No
 /// expression begins so.
@@ -29,7 +29,6 @@ pub fn one_data()
     ensures { (tokens : List Token) (raw other : Raw) → IsRaw tokens raw → IsRaw tokens other → raw ≡ other }
 {
     one_expression();
-    pieces_are_cut();
 }
 
 /// A law, with nothing to run: of all tokens it is decided which file they name, which parts of a text they are, one

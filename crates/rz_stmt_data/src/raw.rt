@@ -1,15 +1,15 @@
 ghost use Rattle.std.specs.Prelude.{◌≡◌, IfOk, map, option_map};
 ghost use Rattle.rz_types_fields.specs.Text.{plain_parts};
 ghost use Rattle.rz_core.specs.Decided.{Decided};
-ghost use Rattle.rz_stmt_data.specs.Raw.{raw_of, AreTexts, IsBody, IsInside, IsMaybeText, IsRaw};
-ghost use Rattle.rz_stmt_data.specs.Steps.{headed_of, IsHeadedPair};
+ghost use Rattle.rz_stmt_data.specs.Raw.{raw_of, AreTexts, IsInside, IsMaybeText, IsRaw};
 
-use crate::head::{HeadExpr, read_head};
+use crate::frame::read_frame;
+use crate::head::HeadExpr;
 use crate::texts::text_at;
 use rz_core::{NoMemory, OsType};
-use rz_expr::{Keyword, is_keyword};
+use rz_expr::Keyword;
 use rz_lex::Token;
-use rz_stmt_brackets::{Bracket, Divider, bracketed, is_empty_statement, kind_in, pieces_by};
+use rz_stmt_brackets::{Divider, pieces_by};
 use rz_types_fields::{TextPlace, Texts};
 use std::alloc::Global;
 
@@ -29,60 +29,16 @@ pub struct RawStmt {
 pub fn read_raw(alloc: Global, tokens: &[Token]) -> Result<Option<RawStmt>, NoMemory>
     ensures { IfOk result (λ raw. Decided (IsRaw tokens.now) (option_map raw_of raw)) }
 {
-    let [word, kind, behind @ ..] = tokens else {
+    let Some(framed) = read_frame(alloc, Keyword::Data, tokens)? else {
         return Ok(None);
     };
-    if !is_keyword(word, Keyword::Data) {
-        return Ok(None);
-    }
-    let Some(code) = kind_in(kind) else {
-        return Ok(None);
-    };
-    match read_headed(alloc, behind)? {
-        Some(parts) => Ok(Some(RawStmt {
-            kind: OsType { code },
-            head: parts.head,
-            texts: parts.texts,
+    match read_inside(alloc, framed.inside)? {
+        Some(texts) => Ok(Some(RawStmt {
+            kind: framed.kind,
+            head: framed.head,
+            texts,
         })),
         None => Ok(None),
-    }
-}
-
-/// A head, and the texts behind it.
-#[derive(Drop)]
-struct Headed {
-    head: HeadExpr,
-    texts: Texts,
-}
-
-/// What stands behind the type.
-fn read_headed(alloc: Global, tokens: &[Token]) -> Result<Option<Headed>, NoMemory>
-    ensures { IfOk result (λ parts. Decided (IsHeadedPair tokens.now) (option_map headed_of parts)) }
-{
-    let Some(split) = bracketed(tokens, Bracket::Round) else {
-        return Ok(None);
-    };
-    let pieces = pieces_by(alloc, split.front, Divider::Comma)?;
-    let Some(head) = read_head(alloc, &pieces)? else {
-        return Ok(None);
-    };
-    match read_body(alloc, split.behind)? {
-        Some(texts) => Ok(Some(Headed { head, texts })),
-        None => Ok(None),
-    }
-}
-
-/// The texts in braces with the `;` behind them.
-fn read_body(alloc: Global, tokens: &[Token]) -> Result<Option<Texts>, NoMemory>
-    ensures { IfOk result (λ texts. Decided (IsBody tokens.now) (option_map plain_parts texts)) }
-{
-    let Some(split) = bracketed(tokens, Bracket::Curly) else {
-        return Ok(None);
-    };
-    if is_empty_statement(split.behind) {
-        read_inside(alloc, split.front)
-    } else {
-        Ok(None)
     }
 }
 

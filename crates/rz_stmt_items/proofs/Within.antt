@@ -1,11 +1,13 @@
 -- Items stand where their tokens stand.
 use Rattle.std.proofs.Common.{ℕ, ◌<◌, Bool, true, false, List, [], ◌∷◌, sym, subst}
 use Rattle.std.specs.List.{AllByRecursion}
-use Rattle.rz_stmt_brackets.proofs.Parts.{after_each, cut_each, within_each}
-use Rattle.rz_stmt_brackets.specs.declared.bracket.Bracket.TheVariants.{Curly, Round}
+use Rattle.rz_stmt_brackets.proofs.Parts.{cut_each, within_each}
+use Rattle.rz_stmt_brackets.specs.declared.bracket.Bracket.TheVariants.{Curly}
 use Rattle.rz_stmt_brackets.specs.declared.pieces.Divider.TheVariants.{Separator}
 use Rattle.rz_lex.specs.Within.{AreWithin}
 use Rattle.rz_lex.specs.declared.token.Token.{Token}
+use Rattle.rz_expr.specs.declared.keyword.Keyword.TheVariants.{Resource}
+use Rattle.rz_stmt_data.proofs.Frames.{frame_each}
 use Rattle.rz_stmt_data.specs.Texts.{begins_text}
 use Rattle.rz_stmt_items.specs.Compile.{Compile, IsCompile}
 use Rattle.rz_stmt_items.specs.Item.{items_of, PlainItem}
@@ -53,9 +55,4 @@ module _ (files : ℕ) where
   all_within (item ∷ items) are = (are.0, all_within items are.1)
 
   pub compile_within : (tokens : List Token) (compile : Compile) → AreWithin files tokens → IsCompile tokens compile → AreItemsWithin files compile.items
-  compile_within tokens compile stand is =
-      let headed = is.headed in
-      let behind = (subst (AreWithin files) is.are stand).1.1 in
-      let body = after_each IsWithin Round is.behind headed.parted headed.in_brackets behind in
-      all_within compile.items
-      (items_inside headed.has_body.0.front compile.items headed.has_body.3 (within_each IsWithin Curly headed.parted.behind headed.has_body.0 headed.has_body.1 body))
+  compile_within tokens compile stand is = all_within compile.items (items_inside is.inside compile.items is.items (frame_each IsWithin Resource tokens _ is.frame stand))

@@ -3,7 +3,6 @@ pub mod Simple
 pub mod Items
 pub mod Places
 pub mod Compile
-pub mod Steps
 pub mod Fits
 pub mod Unfit
 pub mod Match

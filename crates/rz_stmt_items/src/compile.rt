@@ -1,16 +1,13 @@
 ghost use Rattle.std.specs.Prelude.{◌≡◌, IfOk, option_map};
 ghost use Rattle.rz_core.specs.Decided.{Decided};
-ghost use Rattle.rz_stmt_items.specs.Compile.{compile_of, IsBody, IsCompile};
-ghost use Rattle.rz_stmt_items.specs.Item.{plain_items};
-ghost use Rattle.rz_stmt_items.specs.Steps.{headed_of, IsHeadedPair};
+ghost use Rattle.rz_stmt_items.specs.Compile.{compile_of, IsCompile};
 
 use crate::item::Items;
 use crate::items::read_items;
 use rz_core::{NoMemory, OsType};
-use rz_expr::{Keyword, is_keyword};
+use rz_expr::Keyword;
 use rz_lex::Token;
-use rz_stmt_brackets::{Bracket, Divider, bracketed, is_empty_statement, kind_in, pieces_by};
-use rz_stmt_data::{HeadExpr, read_head};
+use rz_stmt_data::{HeadExpr, read_frame};
 use std::alloc::Global;
 
 /// A `resource` statement. (MPW Rez.)
@@ -30,59 +27,15 @@ pub struct CompileStmt {
 pub fn read_compile(alloc: Global, tokens: &[Token]) -> Result<Option<CompileStmt>, NoMemory>
     ensures { IfOk result (λ stmt. Decided (IsCompile tokens.now) (option_map compile_of stmt)) }
 {
-    let [word, kind, behind @ ..] = tokens else {
+    let Some(framed) = read_frame(alloc, Keyword::Resource, tokens)? else {
         return Ok(None);
     };
-    if !is_keyword(word, Keyword::Resource) {
-        return Ok(None);
-    }
-    let Some(code) = kind_in(kind) else {
-        return Ok(None);
-    };
-    match read_headed(alloc, behind)? {
-        Some(parts) => Ok(Some(CompileStmt {
-            kind: OsType { code },
-            head: parts.head,
-            items: parts.items,
+    match read_items(alloc, framed.inside)? {
+        Some(items) => Ok(Some(CompileStmt {
+            kind: framed.kind,
+            head: framed.head,
+            items,
         })),
         None => Ok(None),
-    }
-}
-
-/// A head, and the items behind it.
-#[derive(Drop)]
-struct Headed {
-    head: HeadExpr,
-    items: Items,
-}
-
-/// What stands behind the type.
-fn read_headed(alloc: Global, tokens: &[Token]) -> Result<Option<Headed>, NoMemory>
-    ensures { IfOk result (λ parts. Decided (IsHeadedPair tokens.now) (option_map headed_of parts)) }
-{
-    let Some(split) = bracketed(tokens, Bracket::Round) else {
-        return Ok(None);
-    };
-    let pieces = pieces_by(alloc, split.front, Divider::Comma)?;
-    let Some(head) = read_head(alloc, &pieces)? else {
-        return Ok(None);
-    };
-    match read_body(alloc, split.behind)? {
-        Some(items) => Ok(Some(Headed { head, items })),
-        None => Ok(None),
-    }
-}
-
-/// The items in braces with the `;` behind them.
-fn read_body(alloc: Global, tokens: &[Token]) -> Result<Option<Items>, NoMemory>
-    ensures { IfOk result (λ items. Decided (IsBody tokens.now) (option_map plain_items items)) }
-{
-    let Some(split) = bracketed(tokens, Bracket::Curly) else {
-        return Ok(None);
-    };
-    if is_empty_statement(split.behind) {
-        read_items(alloc, split.front)
-    } else {
-        Ok(None)
     }
 }

@@ -16,8 +16,8 @@ ghost use Rattle.rz_types.specs.Field.{PlainBody};
 ghost use Rattle.rz_types.specs.Rules.{keeps_rules};
 
 use rz_expr::{expressions_are_decided, one_expression};
-use rz_stmt_brackets::{partings_are_decided, pieces_are_cut};
-use rz_stmt_data::{data_statements_are_decided, texts_are_decided};
+use rz_stmt_brackets::partings_are_decided;
+use rz_stmt_data::texts_are_decided;
 use rz_types::rules_hold_within;
 
 /// A law, with nothing to run: tokens are one `resource` statement at most.
@@ -25,7 +25,6 @@ pub fn one_compile()
     ensures { (tokens : List Token) (compile other : Compile) → IsCompile tokens compile → IsCompile tokens other → compile ≡ other }
 {
     one_expression();
-    pieces_are_cut();
 }
 
 /// A law, with nothing to run: of all tokens it is decided which `resource` statement they are: there is one that they
@@ -37,7 +36,6 @@ pub fn resource_statements_are_decided()
     expressions_are_decided();
     partings_are_decided();
     texts_are_decided();
-    data_statements_are_decided();
 }
 
 /// A law, with nothing to run: the items of a `resource` statement, and all that is in them, stand in the files in

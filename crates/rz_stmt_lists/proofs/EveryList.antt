@@ -10,18 +10,21 @@ use Rattle.rz_stmt_brackets.specs.Kind.{kind_in}
 use Rattle.rz_stmt_brackets.specs.Pieces.{Parted}
 use Rattle.rz_stmt_brackets.specs.Statements.{is_empty}
 use Rattle.rz_stmt_brackets.specs.declared.bracket.Bracket.TheVariants.{Round}
+use Rattle.rz_stmt_data.proofs.InFront.{is_typed, one_typed}
 use Rattle.rz_stmt_data.specs.Files.{behind_texts, file_in}
 use Rattle.rz_stmt_data.specs.Head.{Head}
+use Rattle.rz_stmt_data.specs.Typed.{IsTyped, Typed}
 use Rattle.rz_stmt_data.specs.declared.head.Subject.TheVariants.{New}
 use Rattle.rz_expr.proofs.OneTerm.{OneExpression}
 use Rattle.rz_expr.specs.Keyword.{is_keyword}
 use Rattle.rz_expr.specs.declared.keyword.Keyword.TheVariants as keywords
 use Rattle.rz_lex.specs.declared.token.Token.{Token}
 use Rattle.rz_stmt_lists.proofs.Apart.{include_is, included}
-use Rattle.rz_stmt_lists.proofs.EveryPick.{is_head_in, is_picked, is_renaming, is_worded, maybe_with, picked_with, EveryBracket, EveryHead, EveryText, IsWorded}
+use Rattle.rz_stmt_lists.proofs.EveryPick.{clause_with, is_head_in, is_picked, is_renaming, maybe_with, picked_with, EveryBracket, EveryHead, EveryText}
 use Rattle.rz_stmt_lists.proofs.Maybes.{MaybePair}
 use Rattle.rz_stmt_lists.proofs.Parts.{none_here, nothing_there, of_type_back, of_type_forth, others_back, others_forth}
 use Rattle.rz_stmt_lists.proofs.Texts.{named_decided, named_so}
+use Rattle.rz_stmt_lists.specs.Clause.{Clause, IsClause}
 use Rattle.rz_stmt_lists.specs.Change.{Change, IsChange}
 use Rattle.rz_stmt_lists.specs.Delete.{Delete, IsDelete}
 use Rattle.rz_stmt_lists.specs.Include.{all, All, Chosen, Include, IsInclude, IsPart, Not, Part, Renamed}
@@ -62,90 +65,41 @@ is_others (kind ∷ behind) = map_dec to from (both (some_of (kind_in kind.shape
 module _ (one : OneExpression) (within : EveryBracket) (text : EveryText) (heads : EveryHead) where
   -- `delete`
 
-  abbrev HasPickAlone : MaybePair → Type 0
-  HasPickAlone pair = ((pick : Pick) × IsPicked pair.0 pick) × (is_empty pair.1 ≡ true)
-
-  abbrev IsPickAlone : List Token → Type 0
-  IsPickAlone behind = (pair : MaybePair) × IsMaybePair behind pair × HasPickAlone pair
+  abbrev HasPickAlone : Clause → Type 0
+  HasPickAlone clause = ((pick : Pick) × IsPicked clause.inside pick) × (is_empty clause.rest ≡ true)
 
   is_delete : (tokens : List Token) → Dec ((delete : Delete) × IsDelete tokens delete)
   is_delete tokens =
-      map_dec to from (is_worded keywords.Delete IsPickAlone (maybe_with within HasPickAlone (λ pair. both (is_picked text heads pair.0) (is_true (is_empty pair.1)))) tokens)
+      map_dec to from (clause_with within keywords.Delete HasPickAlone (λ clause. both (is_picked text heads clause.inside) (is_true (is_empty clause.rest))) tokens)
     where
-      to : IsWorded keywords.Delete IsPickAlone tokens → (delete : Delete) × IsDelete tokens delete
-      to h = (
-        record { kind = h.code; pick = h.more.2.0.0 },
-        record {
-          word = h.word;
-          kind = h.kind;
-          behind = h.behind;
-          inside = h.more.0.0;
-          rest = h.more.0.1;
-          are = h.are;
-          is_word = h.is_word;
-          has_kind = h.has_kind;
-          in_brackets = h.more.1;
-          has_pick = h.more.2.0.1;
-          ends = h.more.2.1;
-        },
-      )
+      to : (clause : Clause) × IsClause keywords.Delete tokens clause × HasPickAlone clause → (delete : Delete) × IsDelete tokens delete
+      to (clause, is, ((pick, picked), ends)) =
+          (record { kind = clause.kind; pick = pick }, record { inside = clause.inside; rest = clause.rest; clause = is; has_pick = picked; ends = ends })
 
-      from : (delete : Delete) × IsDelete tokens delete → IsWorded keywords.Delete IsPickAlone tokens
-      from (delete, h) = record {
-        word = h.word;
-        kind = h.kind;
-        behind = h.behind;
-        code = delete.kind;
-        are = h.are;
-        is_word = h.is_word;
-        has_kind = h.has_kind;
-        more = ((h.inside, h.rest), h.in_brackets, ((delete.pick, h.has_pick), h.ends));
-      }
+      from : (delete : Delete) × IsDelete tokens delete → (clause : Clause) × IsClause keywords.Delete tokens clause × HasPickAlone clause
+      from (delete, h) = (_, h.clause, ((delete.pick, h.has_pick), h.ends))
 
   -- `change`
 
-  abbrev HasChange : MaybePair → Type 0
-  HasChange pair = (pick : Pick) × IsPicked pair.0 pick × ((renaming : Renaming) × IsRenaming keywords.To pick pair.1 renaming)
+  abbrev HasChange : Clause → Type 0
+  HasChange clause = (pick : Pick) × IsPicked clause.inside pick × ((renaming : Renaming) × IsRenaming keywords.To pick clause.rest renaming)
 
-  abbrev IsChanged : List Token → Type 0
-  IsChanged behind = (pair : MaybePair) × IsMaybePair behind pair × HasChange pair
-
-  has_change : (pair : MaybePair) → Dec (HasChange pair)
-  has_change pair =
-      picked_with text heads one pair.0 (λ pick. (renaming : Renaming) × IsRenaming keywords.To pick pair.1 renaming) (λ pick. is_renaming heads pick within keywords.To pair.1)
+  has_change : (clause : Clause) → Dec (HasChange clause)
+  has_change clause =
+      picked_with text heads one clause.inside (λ pick. (renaming : Renaming) × IsRenaming keywords.To pick clause.rest renaming)
+      (λ pick. is_renaming heads pick within keywords.To clause.rest)
 
   is_change : (tokens : List Token) → Dec ((change : Change) × IsChange tokens change)
-  is_change tokens = map_dec to from (is_worded keywords.Change IsChanged (maybe_with within HasChange has_change) tokens)
+  is_change tokens = map_dec to from (clause_with within keywords.Change HasChange has_change tokens)
     where
-      to : IsWorded keywords.Change IsChanged tokens → (change : Change) × IsChange tokens change
-      to h = (
-        record { kind = h.code; pick = h.more.2.0; new_kind = h.more.2.2.0.kind; head = h.more.2.2.0.head },
-        record {
-          word = h.word;
-          kind = h.kind;
-          behind = h.behind;
-          inside = h.more.0.0;
-          rest = h.more.0.1;
-          are = h.are;
-          is_word = h.is_word;
-          has_kind = h.has_kind;
-          in_brackets = h.more.1;
-          has_pick = h.more.2.1;
-          becomes = h.more.2.2.1;
-        },
+      to : (clause : Clause) × IsClause keywords.Change tokens clause × HasChange clause → (change : Change) × IsChange tokens change
+      to (clause, is, (pick, picked, (renaming, becomes))) = (
+        record { kind = clause.kind; pick = pick; new_kind = renaming.kind; head = renaming.head },
+        record { inside = clause.inside; rest = clause.rest; clause = is; has_pick = picked; becomes = becomes },
       )
 
-      from : (change : Change) × IsChange tokens change → IsWorded keywords.Change IsChanged tokens
-      from (change, h) = record {
-        word = h.word;
-        kind = h.kind;
-        behind = h.behind;
-        code = change.kind;
-        are = h.are;
-        is_word = h.is_word;
-        has_kind = h.has_kind;
-        more = ((h.inside, h.rest), h.in_brackets, (change.pick, h.has_pick, (record { kind = change.new_kind; head = change.head }, h.becomes)));
-      }
+      from : (change : Change) × IsChange tokens change → (clause : Clause) × IsClause keywords.Change tokens clause × HasChange clause
+      from (change, h) = (_, h.clause, (change.pick, h.has_pick, (record { kind = change.new_kind; head = change.head }, h.becomes)))
 
   -- `read`
 
@@ -161,36 +115,18 @@ module _ (one : OneExpression) (within : EveryBracket) (text : EveryText) (heads
       (λ parted is. both (is_head_in heads New parted.front) (is_named parted.behind))
 
   is_read : (tokens : List Token) → Dec ((read : Read) × IsRead tokens read)
-  is_read tokens = map_dec to from (is_worded keywords.Read IsReadBehind read_behind tokens)
+  is_read tokens =
+      map_dec to from (known_with (IsTyped keywords.Read tokens) (λ typed. IsReadBehind typed.behind) (one_typed keywords.Read tokens) (is_typed keywords.Read tokens)
+      (λ typed is. read_behind typed.behind))
     where
-      to : IsWorded keywords.Read IsReadBehind tokens → (read : Read) × IsRead tokens read
-      to h = (
-        record { kind = h.code; head = h.more.2.0.0; file = h.more.2.1.0 },
-        record {
-          word = h.word;
-          kind = h.kind;
-          behind = h.behind;
-          parted = h.more.0;
-          are = h.are;
-          is_word = h.is_word;
-          has_kind = h.has_kind;
-          in_brackets = h.more.1;
-          has_head = h.more.2.0.1;
-          names = h.more.2.1.1;
-        },
+      to : (typed : Typed) × IsTyped keywords.Read tokens typed × IsReadBehind typed.behind → (read : Read) × IsRead tokens read
+      to (typed, is, (parted, brackets, ((head, heads), (file, names)))) = (
+        record { kind = typed.kind; head = head; file = file },
+        record { behind = typed.behind; parted = parted; typed = is; in_brackets = brackets; has_head = heads; names = names },
       )
 
-      from : (read : Read) × IsRead tokens read → IsWorded keywords.Read IsReadBehind tokens
-      from (read, h) = record {
-        word = h.word;
-        kind = h.kind;
-        behind = h.behind;
-        code = read.kind;
-        are = h.are;
-        is_word = h.is_word;
-        has_kind = h.has_kind;
-        more = (h.parted, h.in_brackets, ((read.head, h.has_head), (read.file, h.names)));
-      }
+      from : (read : Read) × IsRead tokens read → (typed : Typed) × IsTyped keywords.Read tokens typed × IsReadBehind typed.behind
+      from (read, h) = (record { kind = read.kind; behind = h.behind }, h.typed, (h.parted, h.in_brackets, ((read.head, h.has_head), (read.file, h.names))))
 
   -- `include`
 

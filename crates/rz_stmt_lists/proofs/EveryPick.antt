@@ -1,13 +1,12 @@
 -- Of all tokens it is decided which resources are picked by them, and what those become.
-use Rattle.std.proofs.Common.{◌≡◌, ℕ, Bool, true, false, List, [], ◌∷◌, length, Option, Some, None, refl, sym, ap, subst, ◌∙◌, arith}
+use Rattle.std.proofs.Common.{◌≡◌, Bool, true, false, List, [], ◌∷◌, length, Option, Some, None, refl, sym, ◌∙◌, arith}
 use Rattle.std.proofs.Math.Decide.{map_dec}
-use Rattle.rz_core.proofs.EveryCut.{all_three, both, is_true, known_of, known_with, some_of}
+use Rattle.rz_core.proofs.EveryCut.{both, is_true, known_of, known_with}
 use Rattle.rz_core.proofs.Tests.{by_test, true_false}
 use Rattle.rz_core.specs.Decided.{Decided}
 use Rattle.rz_stmt_brackets.proofs.OneBracket.{one_bracketed}
 use Rattle.rz_stmt_brackets.proofs.OneCut.{one_cut, some_pieces}
 use Rattle.rz_stmt_brackets.specs.Bracket.{begins, IsBracketed}
-use Rattle.rz_stmt_brackets.specs.Kind.{kind_in}
 use Rattle.rz_stmt_brackets.specs.Pieces.{AreCut, Parted}
 use Rattle.rz_stmt_brackets.specs.Statements.{is_empty}
 use Rattle.rz_stmt_brackets.specs.declared.bracket.Bracket.{Bracket}
@@ -15,21 +14,23 @@ use Rattle.rz_stmt_brackets.specs.declared.bracket.Bracket.TheVariants.{Round}
 use Rattle.rz_stmt_brackets.specs.declared.pieces.Divider.{Divider}
 use Rattle.rz_stmt_brackets.specs.declared.pieces.Divider.TheVariants.{Colon, Comma}
 use Rattle.rz_stmt_data.specs.Head.{Head, IsHeadFor, IsSaidFor}
+use Rattle.rz_stmt_data.proofs.InFront.{is_typed, one_typed}
 use Rattle.rz_stmt_data.specs.Texts.{begins_text, IsText}
+use Rattle.rz_stmt_data.specs.Typed.{IsTyped, Typed}
 use Rattle.rz_stmt_data.specs.declared.head.Subject.{Subject}
 use Rattle.rz_stmt_data.specs.declared.head.Subject.TheVariants.{Chosen, New}
 use Rattle.rz_expr.proofs.OneTerm.{OneExpression}
-use Rattle.rz_expr.specs.Keyword.{is_keyword}
 use Rattle.rz_expr.specs.Term.{Term}
 use Rattle.rz_expr.specs.declared.keyword.Keyword.{Keyword}
 use Rattle.rz_types_fields.specs.Text.{PlainPart}
 use Rattle.rz_types_fields.specs.declared.place.TextPlace.{TextPlace}
 use Rattle.rz_types_fields.specs.declared.place.TextPlace.TheVariants as places
 use Rattle.rz_lex.specs.declared.token.Token.{Token}
+use Rattle.rz_stmt_lists.proofs.Clauses.{one_clause}
 use Rattle.rz_stmt_lists.proofs.Maybes.{one_maybe, MaybePair}
 use Rattle.rz_stmt_lists.proofs.Picks.{one_pick}
-use Rattle.rz_stmt_lists.proofs.Renamings.{heads_two}
 use Rattle.rz_stmt_lists.specs.Brackets.{given, left_out}
+use Rattle.rz_stmt_lists.specs.Clause.{Clause, IsClause}
 use Rattle.rz_stmt_lists.specs.Pick.{picks_one, All, AreIds, Id, IsPickBy, IsPicked, Name, Pick, Range}
 use Rattle.rz_stmt_lists.specs.Renaming.{IsHeadIn, IsNewHead, IsRenaming, Renaming}
 use Rattle.rz_stmt_lists.specs.Steps.{IsMaybePair}
@@ -43,41 +44,6 @@ EveryHead = (subject : Subject) (pieces : List (List Token)) → (answer : Optio
 
 abbrev pub EveryText : Type 0
 EveryText = (place : TextPlace) (tokens : List Token) → (answer : Option (List PlainPart)) × Decided (IsText place tokens) answer
-
--- A word and a type in front.
-
-pub record IsWorded (keyword : Keyword) (More : List Token → Type 0) (tokens : List Token) : Type 0 where
-  pub word : Token
-  pub kind : Token
-  pub behind : List Token
-  pub code : ℕ
-  pub are : tokens ≡ word ∷ kind ∷ behind
-  pub is_word : is_keyword keyword word.shape ≡ true
-  pub has_kind : kind_in kind.shape ≡ Some code
-  pub more : More behind
-
-module _ (keyword : Keyword) (More : List Token → Type 0) (decide : (behind : List Token) → Dec (More behind)) where
-  pub is_worded : (tokens : List Token) → Dec (IsWorded keyword More tokens)
-  is_worded [] = no (λ h. none h.word h.kind h.behind h.are)
-    where
-      none : (x y : Token) (us : List Token) → [] ≡ x ∷ y ∷ us → ⊥
-      none x y us is = cc is
-  is_worded (token ∷ []) = no (λ h. none h.word h.kind h.behind h.are)
-    where
-      none : (x y : Token) (us : List Token) → token ∷ [] ≡ x ∷ y ∷ us → ⊥
-      none x y us is = cc is
-  is_worded (word ∷ kind ∷ behind) = map_dec to from (all_three (is_true (is_keyword keyword word.shape)) (some_of (kind_in kind.shape)) (decide behind))
-    where
-      to : (is_keyword keyword word.shape ≡ true) × ((code : ℕ) × (kind_in kind.shape ≡ Some code)) × More behind → IsWorded keyword More (word ∷ kind ∷ behind)
-      to (is, code, all) = record { word = word; kind = kind; behind = behind; code = code.0; are = refl; is_word = is; has_kind = code.1; more = all }
-
-      from : IsWorded keyword More (word ∷ kind ∷ behind) → (is_keyword keyword word.shape ≡ true) × ((code : ℕ) × (kind_in kind.shape ≡ Some code)) × More behind
-      from h =
-          let same = heads_two (word ∷ kind ∷ behind) behind h.behind word h.word kind h.kind refl h.are in (
-            ap (λ (t : Token). is_keyword keyword t.shape) same.0 ∙ h.is_word,
-            (h.code, ap (λ (t : Token). kind_in t.shape) same.1 ∙ h.has_kind),
-            subst More (sym same.2) h.more,
-          )
 
 -- Pieces.
 
@@ -101,12 +67,30 @@ module _ (within : EveryBracket) where
 
   one_pair : (tokens : List Token) (a b : MaybePair) → IsMaybePair tokens a → IsMaybePair tokens b → a ≡ b
   one_pair tokens a b is also =
-      let same = one_maybe one_bracketed tokens a.0 b.0 a.1 b.1 is also in
+      let same = one_maybe tokens a.0 b.0 a.1 b.1 is also in
       λ i. (same.0 i, same.1 i)
 
   -- with more that is decided of what stands in them, and behind them
   pub maybe_with : (Q : MaybePair → Type 0) → ((pair : MaybePair) → Dec (Q pair)) → (tokens : List Token) → Dec ((pair : MaybePair) × IsMaybePair tokens pair × Q pair)
   maybe_with Q each tokens = known_with (IsMaybePair tokens) Q (one_pair tokens) (has_maybe tokens) (λ pair is. each pair)
+
+  -- Clauses.
+
+  has_clause : (keyword : Keyword) (tokens : List Token) → Dec ((clause : Clause) × IsClause keyword tokens clause)
+  has_clause keyword tokens =
+      map_dec to from (known_with (IsTyped keyword tokens) (λ typed. (pair : MaybePair) × IsMaybePair typed.behind pair) (one_typed keyword tokens) (is_typed keyword tokens)
+      (λ typed is. has_maybe typed.behind))
+    where
+      to : (typed : Typed) × IsTyped keyword tokens typed × ((pair : MaybePair) × IsMaybePair typed.behind pair) → (clause : Clause) × IsClause keyword tokens clause
+      to (typed, is, (pair, maybe)) = (record { kind = typed.kind; inside = pair.0; rest = pair.1 }, record { behind = typed.behind; typed = is; in_brackets = maybe })
+
+      from : (clause : Clause) × IsClause keyword tokens clause → (typed : Typed) × IsTyped keyword tokens typed × ((pair : MaybePair) × IsMaybePair typed.behind pair)
+      from (clause, h) = (record { kind = clause.kind; behind = h.behind }, h.typed, ((clause.inside, clause.rest), h.in_brackets))
+
+  -- with more that is decided of what stands in their brackets, and behind them
+  pub clause_with : (keyword : Keyword) (Q : Clause → Type 0) → ((clause : Clause) → Dec (Q clause)) → (tokens : List Token)
+      → Dec ((clause : Clause) × IsClause keyword tokens clause × Q clause)
+  clause_with keyword Q each tokens = known_with (IsClause keyword tokens) Q (one_clause keyword tokens) (has_clause keyword tokens) (λ clause is. each clause)
 
 -- Picks.
 
@@ -164,7 +148,7 @@ module _ (text : EveryText) (heads : EveryHead) where
   -- with more that is decided of the pick
   pub picked_with : OneExpression → (inside : Option (List Token)) (Q : Pick → Type 0) → ((pick : Pick) → Dec (Q pick))
       → Dec ((pick : Pick) × IsPicked inside pick × Q pick)
-  picked_with one inside Q each = known_with (IsPicked inside) Q (one_pick one one_cut inside) (is_picked inside) (λ pick is. each pick)
+  picked_with one inside Q each = known_with (IsPicked inside) Q (one_pick one inside) (is_picked inside) (λ pick is. each pick)
 
 -- What picked resources become.
 
@@ -191,42 +175,16 @@ module _ (heads : EveryHead) where
         from : (head : Option Head) × IsNewHead pick (Some tokens) head → (picks_one pick ≡ true) × ((head : Head) × IsHeadIn Chosen tokens head)
         from h = (h.1.0, (h.1.1, h.1.2))
 
-    abbrev HasNewHead : MaybePair → Type 0
-    HasNewHead pair = ((head : Option Head) × IsNewHead pick pair.0 head) × (is_empty pair.1 ≡ true)
-
-    abbrev IsNew : List Token → Type 0
-    IsNew behind = (pair : MaybePair) × IsMaybePair behind pair × HasNewHead pair
+    abbrev HasNewHead : Clause → Type 0
+    HasNewHead clause = ((head : Option Head) × IsNewHead pick clause.inside head) × (is_empty clause.rest ≡ true)
 
     pub is_renaming : EveryBracket → (keyword : Keyword) (tokens : List Token) → Dec ((renaming : Renaming) × IsRenaming keyword pick tokens renaming)
     is_renaming within keyword tokens =
-        map_dec to from (is_worded keyword IsNew (maybe_with within HasNewHead (λ pair. both (is_new_head pair.0) (is_true (is_empty pair.1)))) tokens)
+        map_dec to from (clause_with within keyword HasNewHead (λ clause. both (is_new_head clause.inside) (is_true (is_empty clause.rest))) tokens)
       where
-        to : IsWorded keyword IsNew tokens → (renaming : Renaming) × IsRenaming keyword pick tokens renaming
-        to h = (
-          record { kind = h.code; head = h.more.2.0.0 },
-          record {
-            word = h.word;
-            kind = h.kind;
-            behind = h.behind;
-            inside = h.more.0.0;
-            rest = h.more.0.1;
-            are = h.are;
-            is_word = h.is_word;
-            has_kind = h.has_kind;
-            in_brackets = h.more.1;
-            has_head = h.more.2.0.1;
-            ends = h.more.2.1;
-          },
-        )
+        to : (clause : Clause) × IsClause keyword tokens clause × HasNewHead clause → (renaming : Renaming) × IsRenaming keyword pick tokens renaming
+        to (clause, is, ((head, new), ends)) =
+            (record { kind = clause.kind; head = head }, record { inside = clause.inside; rest = clause.rest; clause = is; has_head = new; ends = ends })
 
-        from : (renaming : Renaming) × IsRenaming keyword pick tokens renaming → IsWorded keyword IsNew tokens
-        from (renaming, h) = record {
-          word = h.word;
-          kind = h.kind;
-          behind = h.behind;
-          code = renaming.kind;
-          are = h.are;
-          is_word = h.is_word;
-          has_kind = h.has_kind;
-          more = ((h.inside, h.rest), h.in_brackets, ((renaming.head, h.has_head), h.ends));
-        }
+        from : (renaming : Renaming) × IsRenaming keyword pick tokens renaming → (clause : Clause) × IsClause keyword tokens clause × HasNewHead clause
+        from (renaming, h) = (_, h.clause, ((renaming.head, h.has_head), h.ends))

@@ -1,5 +1,6 @@
 pub mod Texts
 pub mod Maybes
+pub mod Clauses
 pub mod Picks
 pub mod Renamings
 pub mod Parts

@@ -8,17 +8,21 @@ use Rattle.rz_expr.specs.declared.keyword.Keyword.TheVariants as keywords
 use Rattle.rz_lex.specs.declared.token.Shape.{Shape}
 use Rattle.rz_lex.specs.declared.token.Shape.TheVariants as shapes
 use Rattle.rz_lex.specs.declared.token.Token.{Token}
+use Rattle.rz_stmt_data.specs.Typed.{IsTyped, Typed}
 use Rattle.rz_stmt_lists.specs.Change.{Change, IsChange}
 use Rattle.rz_stmt_lists.specs.Delete.{Delete, IsDelete}
 use Rattle.rz_stmt_lists.specs.Include.{Include, IsInclude}
 use Rattle.rz_stmt_lists.specs.Lists.{changes, deletes, includes, reads, word_of, BeginsWith, Changes, Deletes, Includes, IsListed, ListForm, Reads}
 use Rattle.rz_stmt_lists.specs.Read.{IsRead, Read}
 
+typed_begins : (keyword other : Keyword) → other ≡ keyword → (tokens : List Token) (typed : Typed) → IsTyped keyword tokens typed → BeginsWith other tokens
+typed_begins keyword other same tokens typed is = (is.word, is.kind ∷ typed.behind, is.are, ap (λ (k : Keyword). is_keyword k is.word.shape) same ∙ is.is_word)
+
 pub begins_so : (tokens : List Token) (one : ListForm) → IsListed tokens one → BeginsWith (word_of one) tokens
 begins_so tokens one (includes include is so) = (is.word, is.behind, is.are, ap (λ (l : ListForm). is_keyword (word_of l) is.word.shape) so ∙ is.is_word)
-begins_so tokens one (reads read is so) = (is.word, is.kind ∷ is.behind, is.are, ap (λ (l : ListForm). is_keyword (word_of l) is.word.shape) so ∙ is.is_word)
-begins_so tokens one (changes change is so) = (is.word, is.kind ∷ is.behind, is.are, ap (λ (l : ListForm). is_keyword (word_of l) is.word.shape) so ∙ is.is_word)
-begins_so tokens one (deletes delete is so) = (is.word, is.kind ∷ is.behind, is.are, ap (λ (l : ListForm). is_keyword (word_of l) is.word.shape) so ∙ is.is_word)
+begins_so tokens one (reads read is so) = typed_begins keywords.Read (word_of one) (ap word_of so) tokens _ is.typed
+begins_so tokens one (changes change is so) = typed_begins keywords.Change (word_of one) (ap word_of so) tokens _ is.clause.typed
+begins_so tokens one (deletes delete is so) = typed_begins keywords.Delete (word_of one) (ap word_of so) tokens _ is.clause.typed
 
 -- no reader found its statement
 pub no_list : (tokens : List Token) → ((include : Include) → IsInclude tokens include → ⊥) → ((read : Read) → IsRead tokens read → ⊥)

@@ -1,9 +1,9 @@
 -- Brackets that may be left out.
 use Rattle.std.proofs.Common.{◌≡◌, true, false, List, Option, Some, None, sym, ap, ◌∙◌}
 use Rattle.rz_core.proofs.Tests.{none_some, true_false}
+use Rattle.rz_stmt_brackets.proofs.OneBracket.{one_bracketed}
 use Rattle.rz_stmt_brackets.specs.Bracket.{begins, IsBracketed}
 use Rattle.rz_stmt_brackets.specs.Pieces.{Parted}
-use Rattle.rz_stmt_brackets.specs.declared.bracket.Bracket.{Bracket}
 use Rattle.rz_stmt_brackets.specs.declared.bracket.Bracket.TheVariants.{Round}
 use Rattle.rz_lex.specs.declared.token.Token.{Token}
 use Rattle.rz_stmt_lists.specs.Brackets.{given, left_out, IsMaybe}
@@ -39,11 +39,10 @@ open_so tokens begin every pair (left_out off none rest) = absurd (true_false (s
 open_so tokens begin every pair (given parted is front rest) = absurd (none_some parted (every parted is))
 
 -- What may stand in brackets is one thing.
-module _ (within : (bracket : Bracket) (tokens : List Token) (parted other : Parted) → IsBracketed bracket tokens parted → IsBracketed bracket tokens other → parted ≡ other) where
-  pub one_maybe : (tokens : List Token) (a b : Option (List Token)) (xs ys : List Token) → IsMaybe tokens a xs → IsMaybe tokens b ys → (a ≡ b) × (xs ≡ ys)
-  one_maybe tokens a b xs ys (left_out off none rest) (left_out same nothing all) = (none ∙ sym nothing, rest ∙ sym all)
-  one_maybe tokens a b xs ys (left_out off none rest) (given other also front behind) = absurd (true_false (sym (bracket_begins tokens other also) ∙ off))
-  one_maybe tokens a b xs ys (given parted is front rest) (left_out off nothing all) = absurd (true_false (sym (bracket_begins tokens parted is) ∙ off))
-  one_maybe tokens a b xs ys (given parted is front rest) (given other also fore behind) =
-      let same = within Round tokens parted other is also in
-      (front ∙ ap (λ (p : Parted). Some p.front) same ∙ sym fore, rest ∙ ap (λ (p : Parted). p.behind) same ∙ sym behind)
+pub one_maybe : (tokens : List Token) (a b : Option (List Token)) (xs ys : List Token) → IsMaybe tokens a xs → IsMaybe tokens b ys → (a ≡ b) × (xs ≡ ys)
+one_maybe tokens a b xs ys (left_out off none rest) (left_out same nothing all) = (none ∙ sym nothing, rest ∙ sym all)
+one_maybe tokens a b xs ys (left_out off none rest) (given other also front behind) = absurd (true_false (sym (bracket_begins tokens other also) ∙ off))
+one_maybe tokens a b xs ys (given parted is front rest) (left_out off nothing all) = absurd (true_false (sym (bracket_begins tokens parted is) ∙ off))
+one_maybe tokens a b xs ys (given parted is front rest) (given other also fore behind) =
+    let same = one_bracketed Round tokens parted other is also in
+    (front ∙ ap (λ (p : Parted). Some p.front) same ∙ sym fore, rest ∙ ap (λ (p : Parted). p.behind) same ∙ sym behind)

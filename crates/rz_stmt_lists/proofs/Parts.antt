@@ -128,7 +128,7 @@ module _ (tokens : List Token) where
         pick,
         subst (λ (ts : List Token). IsMaybe ts inside more) (same kind behind are).1 maybe,
         picked,
-        gone_on false code pick more part (ap is_empty becomes.are)
+        gone_on false code pick more part (ap is_empty becomes.clause.typed.are)
             (renaming, becomes, so ∙ ap (λ (n : ℕ). Renamed n pick renaming.kind renaming.head) (same_kind code has kind behind other are also)),
       )
 

@@ -1,12 +1,10 @@
 -- A `change` statement: `change`, a type, maybe a pick in brackets, and behind `to` what the picked resources become. (MPW
 -- Rez.)
-use Rattle.std.specs.Prelude.{◌≡◌, ℕ, true, List, ◌∷◌, Option, Some, option_map}
-use Rattle.rz_expr.specs.Keyword.{is_keyword}
+use Rattle.std.specs.Prelude.{ℕ, List, Option, option_map}
 use Rattle.rz_expr.specs.declared.keyword.Keyword.TheVariants as keywords
 use Rattle.rz_lex.specs.declared.token.Token.{Token}
-use Rattle.rz_stmt_brackets.specs.Kind.{kind_in}
 use Rattle.rz_stmt_data.specs.Head.{head_of, Head}
-use Rattle.rz_stmt_lists.specs.Brackets.{IsMaybe}
+use Rattle.rz_stmt_lists.specs.Clause.{IsClause}
 use Rattle.rz_stmt_lists.specs.Pick.{pick_of, IsPicked, Pick}
 use Rattle.rz_stmt_lists.specs.Renaming.{IsRenaming}
 use Rattle.rz_stmt_lists.specs.declared.change.ChangeStmt.{ChangeStmt}
@@ -22,14 +20,8 @@ change_of stmt = record { kind = stmt.kind.code; pick = pick_of stmt.pick; new_k
 
 -- the tokens are this statement
 pub record IsChange (tokens : List Token) (change : Change) : Type 0 where
-  pub word : Token
-  pub kind : Token
-  pub behind : List Token
   pub inside : Option (List Token)
   pub rest : List Token
-  pub are : tokens ≡ word ∷ kind ∷ behind
-  pub is_word : is_keyword keywords.Change word.shape ≡ true
-  pub has_kind : kind_in kind.shape ≡ Some change.kind
-  pub in_brackets : IsMaybe behind inside rest
+  pub clause : IsClause keywords.Change tokens (record { kind = change.kind; inside = inside; rest = rest })
   pub has_pick : IsPicked inside change.pick
   pub becomes : IsRenaming keywords.To change.pick rest (record { kind = change.new_kind; head = change.head })

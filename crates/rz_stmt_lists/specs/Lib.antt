@@ -1,4 +1,5 @@
 pub mod Brackets
+pub mod Clause
 pub mod Pick
 pub mod Renaming
 pub mod Include

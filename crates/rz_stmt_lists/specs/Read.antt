@@ -1,16 +1,15 @@
 -- A `read` statement: `read`, a type, a head, a file, and `;`. (MPW Rez.)
-use Rattle.std.specs.Prelude.{◌≡◌, ℕ, true, List, ◌∷◌, ◌++◌, Some}
-use Rattle.rz_expr.specs.Keyword.{is_keyword}
+use Rattle.std.specs.Prelude.{◌≡◌, ℕ, true, List, ◌++◌}
 use Rattle.rz_expr.specs.declared.keyword.Keyword.TheVariants as keywords
 use Rattle.rz_lex.specs.declared.token.Token.{Token}
 use Rattle.rz_stmt_brackets.specs.Bracket.{IsBracketed}
-use Rattle.rz_stmt_brackets.specs.Kind.{kind_in}
 use Rattle.rz_stmt_brackets.specs.Pieces.{Parted}
 use Rattle.rz_stmt_brackets.specs.Statements.{is_empty}
 use Rattle.rz_stmt_brackets.specs.declared.bracket.Bracket.TheVariants.{Round}
 use Rattle.rz_stmt_data.specs.Head.{head_of, Head}
 use Rattle.rz_stmt_data.specs.declared.head.Subject.TheVariants.{New}
 use Rattle.rz_stmt_data.specs.Files.{IsFile}
+use Rattle.rz_stmt_data.specs.Typed.{IsTyped}
 use Rattle.rz_stmt_lists.specs.Renaming.{IsHeadIn}
 use Rattle.rz_stmt_lists.specs.declared.read.ReadStmt.{ReadStmt}
 
@@ -32,13 +31,9 @@ pub record IsNamed (tokens : List Token) (name : List ℕ) : Type 0 where
 
 -- the tokens are this statement
 pub record IsRead (tokens : List Token) (read : Read) : Type 0 where
-  pub word : Token
-  pub kind : Token
   pub behind : List Token
   pub parted : Parted
-  pub are : tokens ≡ word ∷ kind ∷ behind
-  pub is_word : is_keyword keywords.Read word.shape ≡ true
-  pub has_kind : kind_in kind.shape ≡ Some read.kind
+  pub typed : IsTyped keywords.Read tokens (record { kind = read.kind; behind = behind })
   pub in_brackets : IsBracketed Round behind parted
   pub has_head : IsHeadIn New parted.front read.head
   pub names : IsNamed parted.behind read.file

@@ -1,16 +1,14 @@
 -- What chosen resources become: a word, a type, and maybe a head in brackets. (MPW Rez.)
-use Rattle.std.specs.Prelude.{◌≡◌, ℕ, true, List, ◌∷◌, Option, Some, None, option_map}
-use Rattle.rz_expr.specs.Keyword.{is_keyword}
+use Rattle.std.specs.Prelude.{◌≡◌, ℕ, true, List, Option, Some, None, option_map}
 use Rattle.rz_expr.specs.declared.keyword.Keyword.{Keyword}
 use Rattle.rz_lex.specs.declared.token.Token.{Token}
-use Rattle.rz_stmt_brackets.specs.Kind.{kind_in}
 use Rattle.rz_stmt_brackets.specs.Pieces.{AreCut}
 use Rattle.rz_stmt_brackets.specs.Statements.{is_empty}
 use Rattle.rz_stmt_brackets.specs.declared.pieces.Divider.TheVariants.{Comma}
 use Rattle.rz_stmt_data.specs.Head.{head_of, Head, IsHeadFor}
 use Rattle.rz_stmt_data.specs.declared.head.Subject.{Subject}
 use Rattle.rz_stmt_data.specs.declared.head.Subject.TheVariants.{Chosen}
-use Rattle.rz_stmt_lists.specs.Brackets.{IsMaybe}
+use Rattle.rz_stmt_lists.specs.Clause.{IsClause}
 use Rattle.rz_stmt_lists.specs.Pick.{picks_one, Pick}
 use Rattle.rz_stmt_lists.specs.declared.renaming.Renaming as code
 
@@ -32,14 +30,8 @@ IsNewHead pick (Some tokens) head = (picks_one pick ≡ true) × (new : Head) ×
 
 -- the word, a type, maybe a head, and the `;` that ends the statement
 pub record IsRenaming (keyword : Keyword) (pick : Pick) (tokens : List Token) (renaming : Renaming) : Type 0 where
-  pub word : Token
-  pub kind : Token
-  pub behind : List Token
   pub inside : Option (List Token)
   pub rest : List Token
-  pub are : tokens ≡ word ∷ kind ∷ behind
-  pub is_word : is_keyword keyword word.shape ≡ true
-  pub has_kind : kind_in kind.shape ≡ Some renaming.kind
-  pub in_brackets : IsMaybe behind inside rest
+  pub clause : IsClause keyword tokens (record { kind = renaming.kind; inside = inside; rest = rest })
   pub has_head : IsNewHead pick inside renaming.head
   pub ends : is_empty rest ≡ true

@@ -2,13 +2,12 @@ ghost use Rattle.std.specs.Prelude.{◌≡◌, IfOk, option_map};
 ghost use Rattle.rz_core.specs.Decided.{Decided};
 ghost use Rattle.rz_stmt_lists.specs.Change.{change_of, IsChange};
 
-use crate::brackets::maybe_bracketed;
+use crate::clause::read_clause;
 use crate::pick::{PickExpr, read_picked};
 use crate::renaming::read_renaming;
 use rz_core::{NoMemory, OsType};
-use rz_expr::{Keyword, is_keyword, one_expression};
+use rz_expr::{Keyword, one_expression};
 use rz_lex::Token;
-use rz_stmt_brackets::{kind_in, pieces_are_cut};
 use rz_stmt_data::HeadExpr;
 use std::alloc::Global;
 
@@ -30,25 +29,15 @@ pub fn read_change(alloc: Global, tokens: &[Token]) -> Result<Option<ChangeStmt>
     ensures { IfOk result (λ stmt. Decided (IsChange tokens.now) (option_map change_of stmt)) }
 {
     one_expression();
-    pieces_are_cut();
-    let [word, kind, behind @ ..] = tokens else {
+    let Some(clause) = read_clause(tokens, Keyword::Change) else {
         return Ok(None);
     };
-    if !is_keyword(word, Keyword::Change) {
-        return Ok(None);
-    }
-    let Some(code) = kind_in(kind) else {
+    let Some(pick) = read_picked(alloc, clause.inside)? else {
         return Ok(None);
     };
-    let Some(maybe) = maybe_bracketed(behind) else {
-        return Ok(None);
-    };
-    let Some(pick) = read_picked(alloc, maybe.inside)? else {
-        return Ok(None);
-    };
-    match read_renaming(alloc, Keyword::To, &pick, maybe.behind)? {
+    match read_renaming(alloc, Keyword::To, &pick, clause.behind)? {
         Some(new) => Ok(Some(ChangeStmt {
-            kind: OsType { code },
+            kind: clause.kind,
             pick,
             new_kind: new.kind,
             head: new.head,

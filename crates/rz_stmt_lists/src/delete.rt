@@ -2,12 +2,12 @@ ghost use Rattle.std.specs.Prelude.{◌≡◌, IfOk, option_map};
 ghost use Rattle.rz_core.specs.Decided.{Decided};
 ghost use Rattle.rz_stmt_lists.specs.Delete.{delete_of, IsDelete};
 
-use crate::brackets::maybe_bracketed;
+use crate::clause::read_clause;
 use crate::pick::{PickExpr, read_picked};
 use rz_core::{NoMemory, OsType};
-use rz_expr::{Keyword, is_keyword};
+use rz_expr::Keyword;
 use rz_lex::Token;
-use rz_stmt_brackets::{is_empty_statement, kind_in};
+use rz_stmt_brackets::is_empty_statement;
 use std::alloc::Global;
 
 /// A `delete` statement. (MPW Rez.)
@@ -23,24 +23,15 @@ pub struct DeleteStmt {
 pub fn read_delete(alloc: Global, tokens: &[Token]) -> Result<Option<DeleteStmt>, NoMemory>
     ensures { IfOk result (λ stmt. Decided (IsDelete tokens.now) (option_map delete_of stmt)) }
 {
-    let [word, kind, behind @ ..] = tokens else {
+    let Some(clause) = read_clause(tokens, Keyword::Delete) else {
         return Ok(None);
     };
-    if !is_keyword(word, Keyword::Delete) {
+    if !is_empty_statement(clause.behind) {
         return Ok(None);
     }
-    let Some(code) = kind_in(kind) else {
-        return Ok(None);
-    };
-    let Some(maybe) = maybe_bracketed(behind) else {
-        return Ok(None);
-    };
-    if !is_empty_statement(maybe.behind) {
-        return Ok(None);
-    }
-    match read_picked(alloc, maybe.inside)? {
+    match read_picked(alloc, clause.inside)? {
         Some(pick) => Ok(Some(DeleteStmt {
-            kind: OsType { code },
+            kind: clause.kind,
             pick,
         })),
         None => Ok(None),

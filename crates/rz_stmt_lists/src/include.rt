@@ -11,7 +11,7 @@ use crate::renaming::read_renaming;
 use rz_core::{Bytes, NoMemory, OsType};
 use rz_expr::{Keyword, is_keyword, one_expression};
 use rz_lex::Token;
-use rz_stmt_brackets::{is_empty_statement, kind_in, pieces_are_cut};
+use rz_stmt_brackets::{is_empty_statement, kind_in};
 use rz_stmt_data::{HeadExpr, behind_texts, file_in};
 use std::alloc::Global;
 
@@ -97,7 +97,6 @@ fn read_of_type(
     ensures { IfOk result (λ part. Decided (IsOfType kind.code tokens.now) (option_map part_of part)) }
 {
     one_expression();
-    pieces_are_cut();
     let Some(maybe) = maybe_bracketed(tokens) else {
         return Ok(None);
     };

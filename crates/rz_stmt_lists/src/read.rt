@@ -4,10 +4,10 @@ ghost use Rattle.rz_stmt_lists.specs.Read.{read_of, IsNamed, IsRead};
 
 use crate::renaming::read_head_in;
 use rz_core::{Bytes, NoMemory, OsType};
-use rz_expr::{Keyword, is_keyword};
+use rz_expr::Keyword;
 use rz_lex::Token;
-use rz_stmt_brackets::{Bracket, bracketed, is_empty_statement, kind_in};
-use rz_stmt_data::{HeadExpr, Subject, behind_texts, file_in};
+use rz_stmt_brackets::{Bracket, bracketed, is_empty_statement};
+use rz_stmt_data::{HeadExpr, Subject, behind_texts, file_in, read_typed};
 use std::alloc::Global;
 
 /// A `read` statement. (MPW Rez.)
@@ -25,16 +25,10 @@ pub struct ReadStmt {
 pub fn read_read(alloc: Global, tokens: &[Token]) -> Result<Option<ReadStmt>, NoMemory>
     ensures { IfOk result (λ stmt. Decided (IsRead tokens.now) (option_map read_of stmt)) }
 {
-    let [word, kind, behind @ ..] = tokens else {
+    let Some(typed) = read_typed(tokens, Keyword::Read) else {
         return Ok(None);
     };
-    if !is_keyword(word, Keyword::Read) {
-        return Ok(None);
-    }
-    let Some(code) = kind_in(kind) else {
-        return Ok(None);
-    };
-    let Some(split) = bracketed(behind, Bracket::Round) else {
+    let Some(split) = bracketed(typed.behind, Bracket::Round) else {
         return Ok(None);
     };
     let Some(head) = read_head_in(alloc, Subject::New, split.front)? else {
@@ -42,7 +36,7 @@ pub fn read_read(alloc: Global, tokens: &[Token]) -> Result<Option<ReadStmt>, No
     };
     match read_named(alloc, split.behind)? {
         Some(file) => Ok(Some(ReadStmt {
-            kind: OsType { code },
+            kind: typed.kind,
             head,
             file,
         })),

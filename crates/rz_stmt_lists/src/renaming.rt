@@ -4,12 +4,12 @@ ghost use Rattle.rz_stmt_data.specs.Head.{head_of};
 ghost use Rattle.rz_stmt_lists.specs.Pick.{pick_of};
 ghost use Rattle.rz_stmt_lists.specs.Renaming.{renaming_of, IsHeadIn, IsNewHead, IsRenaming};
 
-use crate::brackets::maybe_bracketed;
+use crate::clause::read_clause;
 use crate::pick::PickExpr;
 use rz_core::{NoMemory, OsType};
-use rz_expr::{Keyword, is_keyword};
+use rz_expr::Keyword;
 use rz_lex::Token;
-use rz_stmt_brackets::{Divider, is_empty_statement, kind_in, pieces_by};
+use rz_stmt_brackets::{Divider, is_empty_statement, pieces_by};
 use rz_stmt_data::{HeadExpr, Subject, read_head_for};
 use std::alloc::Global;
 
@@ -31,24 +31,15 @@ pub fn read_renaming(
 ) -> Result<Option<Renaming>, NoMemory>
     ensures { IfOk result (λ renaming. Decided (IsRenaming keyword (pick_of pick.now) tokens.now) (option_map renaming_of renaming)) }
 {
-    let [word, kind, behind @ ..] = tokens else {
+    let Some(clause) = read_clause(tokens, keyword) else {
         return Ok(None);
     };
-    if !is_keyword(word, keyword) {
+    if !is_empty_statement(clause.behind) {
         return Ok(None);
     }
-    let Some(code) = kind_in(kind) else {
-        return Ok(None);
-    };
-    let Some(maybe) = maybe_bracketed(behind) else {
-        return Ok(None);
-    };
-    if !is_empty_statement(maybe.behind) {
-        return Ok(None);
-    }
-    match read_new_head(alloc, pick, maybe.inside)? {
+    match read_new_head(alloc, pick, clause.inside)? {
         Some(head) => Ok(Some(Renaming {
-            kind: OsType { code },
+            kind: clause.kind,
             head,
         })),
         None => Ok(None),

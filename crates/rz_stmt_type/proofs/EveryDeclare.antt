@@ -9,7 +9,7 @@ use Rattle.rz_stmt_brackets.specs.Pieces.{AreCut, Parted}
 use Rattle.rz_stmt_brackets.specs.Statements.{is_empty}
 use Rattle.rz_stmt_brackets.specs.declared.bracket.Bracket.TheVariants.{Curly, Round}
 use Rattle.rz_stmt_brackets.specs.declared.pieces.Divider.TheVariants.{Colon}
-use Rattle.rz_stmt_data.proofs.EveryData.{same_tokens}
+use Rattle.rz_stmt_data.proofs.InFront.{same_tokens}
 use Rattle.rz_stmt_data.specs.Texts.{IsText}
 use Rattle.rz_stmt_type.proofs.EveryBody.{has_body, HasBody}
 use Rattle.rz_stmt_type.proofs.EveryFlat.{of_brackets, of_pieces, Decides}

@@ -3,18 +3,20 @@ use Rattle.std.proofs.Common.{◌≡◌, ℕ, Bool, true, false, if◌then◌els
 use Rattle.std.specs.Prelude.{codes}
 use Rattle.std.specs.List.{AllByRecursion}
 use Rattle.std.specs.declared.result.Result.{Result}
-use Rattle.rz_stmt_brackets.proofs.Parts.{after_each, cut_each, within_each}
-use Rattle.rz_stmt_brackets.specs.declared.bracket.Bracket.TheVariants.{Curly, Round}
+use Rattle.rz_stmt_brackets.proofs.Parts.{cut_each, within_each}
+use Rattle.rz_stmt_brackets.specs.declared.bracket.Bracket.TheVariants.{Curly}
 use Rattle.rz_stmt_brackets.specs.declared.pieces.Divider.TheVariants.{Separator}
 use Rattle.rz_core.specs.Stop.{◌>>=◌}
 use Rattle.rz_core.specs.declared.facts.Facts.{Facts}
 use Rattle.rz_core.specs.declared.fault.Fault.{Fault}
 use Rattle.rz_core.specs.declared.fault.Mark.{Mark}
+use Rattle.rz_stmt_data.proofs.Frames.{frame_each}
 use Rattle.rz_stmt_data.specs.Texts.{alone, begins_text, call_in, called, no_part, one_part, part_in, word_call, word_part, AreParts, IsFront}
 use Rattle.rz_stmt_data.specs.declared.texts.TextCall.{TextCall}
 use Rattle.rz_expr.specs.Keyword.{keyword_of}
 use Rattle.rz_expr.specs.Words.{is_name, is_other_name, keyword_role, plain_role, role_of}
 use Rattle.rz_expr.specs.declared.keyword.Keyword.{Keyword}
+use Rattle.rz_expr.specs.declared.keyword.Keyword.TheVariants.{Resource}
 use Rattle.rz_expr.specs.declared.words.Role.{Role}
 use Rattle.rz_expr.specs.declared.words.Role.TheVariants as roles
 use Rattle.rz_expr.specs.declared.words.TextWord.TheVariants as words
@@ -157,8 +159,4 @@ module _ (paths : List (List ℕ)) (files : Files) (mark : Mark) (known : Facts)
   -- the items of a statement of such tokens are read as they are
   pub compile_same : (tokens : List Token) (compile : Compile) → IsCompile tokens compile → AllByRecursion CallsNone tokens
       → items_read paths files mark known compile.items ≡ Ok compile.items
-  compile_same tokens compile is none =
-      let headed = is.headed in
-      let behind = (subst (AllByRecursion CallsNone) is.are none).1.1 in
-      let body = after_each CallsNone Round is.behind headed.parted headed.in_brackets behind in
-      items_same headed.has_body.0.front compile.items headed.has_body.3 (within_each CallsNone Curly headed.parted.behind headed.has_body.0 headed.has_body.1 body)
+  compile_same tokens compile is none = items_same is.inside compile.items is.items (frame_each CallsNone Resource tokens _ is.frame none)

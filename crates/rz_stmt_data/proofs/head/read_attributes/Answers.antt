@@ -2,7 +2,7 @@ use Rattle.std.proofs.Common.{◌+◌, [], ◌∷◌, drop, map, sym, ap, ◌∙
 use Rattle.std.proofs.lemmas.List.{at_drop_more, drop_all, map-append}
 use Rattle.rz_stmt_data.specs.Head.{attribute_of}
 use Rattle.rz_stmt_data.proofs.Attributes.{leads_all, leads_more}
-use Rattle.rz_stmt_data.proofs.OneData.{one_attribute}
+use Rattle.rz_stmt_data.proofs.OneHead.{one_attribute}
 use Rattle.rz_stmt_data.proofs.head.read_attributes.Goals as goal
 
 pub loop-piece-preserved : goal.loop-piece-preserved

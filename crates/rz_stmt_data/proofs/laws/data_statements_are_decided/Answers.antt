@@ -1,4 +1,5 @@
-use Rattle.rz_stmt_data.proofs.EveryData.{every_head_for, every_raw}
+use Rattle.rz_stmt_data.proofs.EveryData.{every_raw}
+use Rattle.rz_stmt_data.proofs.EveryHead.{every_head_for}
 use Rattle.rz_stmt_data.proofs.laws.data_statements_are_decided.Goals as goal
 
 pub returns-clause-head : goal.returns-clause-head

@@ -2,4 +2,4 @@ use Rattle.rz_stmt_data.proofs.OneData.{one_raw}
 use Rattle.rz_stmt_data.proofs.laws.one_data.Goals as goal
 
 pub returns : goal.returns
-returns c = one_raw c.one_expression.ensures.expression c.pieces_are_cut.ensures.one c.pieces_are_cut.ensures.within
+returns c = one_raw c.one_expression.ensures.expression

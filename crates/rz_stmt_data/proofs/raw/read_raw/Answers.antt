@@ -1,13 +1,17 @@
 use Rattle.std.proofs.Common.{List, subst}
-use Rattle.rz_stmt_brackets.proofs.Slices.{behind_of, same_behind, two}
+use Rattle.rz_expr.specs.declared.keyword.Keyword.TheVariants.{Data}
 use Rattle.rz_lex.specs.declared.token.Token.{Token}
-use Rattle.rz_stmt_data.specs.Raw.{IsHeaded}
+use Rattle.rz_stmt_data.specs.Raw.{IsInside}
+use Rattle.rz_stmt_data.proofs.Frames.{same_inside}
 use Rattle.rz_stmt_data.proofs.raw.read_raw.Goals as goal
+
+pub returns-in_default : goal.returns-in_default
+returns-in_default c raw is =
+    let never = rw c.in_default.is at c.in_ok-framed.ensures in
+    never _ is.frame
 
 pub returns-in-None : goal.returns-in-None
 returns-in-None c raw is =
-    let tokens = c.args.tokens.now in
-    let never = rw c.in-None.is at c.in_ok-parts.ensures in
-    never (raw.head, raw.texts) (subst (λ (ts : List Token). IsHeaded ts raw.head raw.texts)
-    (same_behind tokens is.behind (behind_of 2 tokens) is.word c.word-item.result is.kind c.kind-item.result is.are
-    (two tokens c.word-item.result c.kind-item.result c.in-len2-up.len_at_least c.word-item.is c.kind-item.is)) is.headed)
+    let never = rw c.in-None.is at c.in_ok-texts.ensures in
+    let found = rw c.in-Some.is at c.in_ok-framed.ensures in
+    never raw.texts (subst (λ (ts : List Token). IsInside ts raw.texts) (same_inside Data c.args.tokens.now _ _ is.frame found) is.texts)

@@ -22,7 +22,7 @@ returns-in-Some-2 c =
     (λ part is.
     let it = of_type_after c.args.kind.code tokens part is maybe c.in-Some.ensures.every in
     subst (λ (p : Pick). IsGoneOn (is_empty maybe.1) c.args.kind.code p maybe.1 part)
-    (one_pick c.one_expression.ensures.expression c.pieces_are_cut.ensures.one maybe.0 it.0 (pick_of c.in-Some-2.pick) it.1 picked) it.2)
+    (one_pick c.one_expression.ensures.expression maybe.0 it.0 (pick_of c.in-Some-2.pick) it.1 picked) it.2)
     c.read_gone_on.result c.read_gone_on.ensures
 
 pub returns-in-None : goal.returns-in-None

@@ -1,27 +1,31 @@
-use Rattle.rz_stmt_brackets.proofs.Slices.{behind_of, two}
+use Rattle.std.proofs.Common.{sym, subst}
+use Rattle.rz_stmt_brackets.proofs.OneBracket.{never_within, same_within}
 use Rattle.rz_stmt_brackets.specs.Held.{held_split}
-use Rattle.rz_core.proofs.Tests.{none_some}
-use Rattle.rz_stmt_lists.proofs.Apart.{read_after, read_brackets}
+use Rattle.rz_stmt_brackets.specs.Pieces.{Parted}
+use Rattle.rz_stmt_brackets.specs.declared.bracket.Bracket.TheVariants.{Round}
+use Rattle.rz_stmt_data.specs.declared.head.Subject.TheVariants.{New}
+use Rattle.rz_stmt_lists.proofs.One.{read_brackets}
+use Rattle.rz_stmt_lists.specs.Read.{IsNamed}
+use Rattle.rz_stmt_lists.specs.Renaming.{IsHeadIn}
 use Rattle.rz_stmt_lists.proofs.read.read_read.Goals as goal
+
+pub returns-in_default : goal.returns-in_default
+returns-in_default c read is = c.in_default.ensures _ is.typed
 
 pub returns-in_default-bracketed : goal.returns-in_default-bracketed
 returns-in_default-bracketed c read is =
-    let tokens = c.args.tokens.now in
-    let are = two tokens c.word-item.result c.kind-item.result c.in-len2-up.len_at_least c.word-item.is c.kind-item.is in
-    none_some is.parted (c.in_default-bracketed.ensures.every is.parted (read_brackets tokens (behind_of 2 tokens) c.word-item.result c.kind-item.result are read is))
+    never_within Round c.in-Some.typed.behind.now c.in_default-bracketed.ensures.every is.parted (read_brackets c.args.tokens.now read is _ c.in-Some.ensures)
 
 pub returns-in_default-2 : goal.returns-in_default-2
 returns-in_default-2 c read is =
-    let tokens = c.args.tokens.now in
-    let are = two tokens c.word-item.result c.kind-item.result c.in-len2-up.len_at_least c.word-item.is c.kind-item.is in
-    let it = read_after tokens (behind_of 2 tokens) c.word-item.result c.kind-item.result are read is (held_split c.in-Some-bracketed.split) c.in-Some-bracketed.ensures.every in
+    let same = same_within Round c.in-Some.typed.behind.now (held_split c.in-Some-bracketed.split) c.in-Some-bracketed.ensures.every is.parted
+    (read_brackets c.args.tokens.now read is _ c.in-Some.ensures) in
     let never = rw c.in_default-2.is at c.in_ok-head.ensures in
-    never read.head it.0
+    never read.head (subst (λ (p : Parted). IsHeadIn New p.front read.head) (sym same) is.has_head)
 
 pub returns-in-None : goal.returns-in-None
 returns-in-None c read is =
-    let tokens = c.args.tokens.now in
-    let are = two tokens c.word-item.result c.kind-item.result c.in-len2-up.len_at_least c.word-item.is c.kind-item.is in
-    let it = read_after tokens (behind_of 2 tokens) c.word-item.result c.kind-item.result are read is (held_split c.in-Some-bracketed.split) c.in-Some-bracketed.ensures.every in
+    let same = same_within Round c.in-Some.typed.behind.now (held_split c.in-Some-bracketed.split) c.in-Some-bracketed.ensures.every is.parted
+    (read_brackets c.args.tokens.now read is _ c.in-Some.ensures) in
     let never = rw c.in-None.is at c.in_ok-file.ensures in
-    never read.file it.1
+    never read.file (subst (λ (p : Parted). IsNamed p.behind read.file) (sym same) is.names)

@@ -1,44 +1,22 @@
-use Rattle.std.proofs.Common.{sym, ◌∙◌}
-use Rattle.rz_stmt_brackets.proofs.Slices.{behind_of, two}
-use Rattle.rz_core.proofs.Tests.{none_some, true_false}
-use Rattle.rz_stmt_lists.proofs.Apart.{renaming_after, renaming_maybe}
+use Rattle.std.proofs.Common.{sym, ap, subst, ◌∙◌}
+use Rattle.rz_core.proofs.Tests.{true_false}
+use Rattle.rz_stmt_brackets.specs.Statements.{is_empty}
+use Rattle.rz_stmt_lists.proofs.Clauses.{one_clause}
+use Rattle.rz_stmt_lists.specs.Clause.{Clause}
 use Rattle.rz_stmt_lists.specs.Pick.{pick_of}
-use Rattle.rz_stmt_lists.specs.Steps.{held_maybe}
+use Rattle.rz_stmt_lists.specs.Renaming.{IsNewHead}
 use Rattle.rz_stmt_lists.proofs.renaming.read_renaming.Goals as goal
 
-pub returns-in_default-maybe_bracketed : goal.returns-in_default-maybe_bracketed
-returns-in_default-maybe_bracketed c renaming is =
-    let tokens = c.args.tokens.now in
-    let are = two tokens c.word-item.result c.kind-item.result c.in-len2-up.len_at_least c.word-item.is c.kind-item.is in
-    none_some (is.inside, is.rest)
-    (c.in_default-maybe_bracketed.ensures.every (is.inside, is.rest) (renaming_maybe tokens (behind_of 2 tokens) c.word-item.result c.kind-item.result are c.args.keyword (pick_of c.args.pick.now) renaming is))
+pub returns-in_default : goal.returns-in_default
+returns-in_default c renaming is = c.in_default.ensures _ is.clause
 
 pub returns-then-not-is_empty_statement : goal.returns-then-not-is_empty_statement
 returns-then-not-is_empty_statement c renaming is =
-    let tokens = c.args.tokens.now in
-    let are = two tokens c.word-item.result c.kind-item.result c.in-len2-up.len_at_least c.word-item.is c.kind-item.is in
-    let it = renaming_after tokens (behind_of 2 tokens) c.word-item.result c.kind-item.result are c.args.keyword (pick_of c.args.pick.now) renaming is (held_maybe c.in-Some-maybe_bracketed.maybe) c.in-Some-maybe_bracketed.ensures.every in
-    true_false (sym it.1 ∙ sym c.if-not-is_empty_statement.ensures)
-
-pub returns-in-Some-2 : goal.returns-in-Some-2
-returns-in-Some-2 c = record {
-  word = c.word-item.result;
-  kind = c.kind-item.result;
-  behind = behind_of 2 c.args.tokens.now;
-  inside = (held_maybe c.in-Some-maybe_bracketed.maybe).0;
-  rest = c.in-Some-maybe_bracketed.maybe.behind.now;
-  are = two c.args.tokens.now c.word-item.result c.kind-item.result c.in-len2-up.len_at_least c.word-item.is c.kind-item.is;
-  is_word = sym c.if-not-is_keyword.ensures;
-  has_kind = sym c.in-Some.ensures;
-  in_brackets = c.in-Some-maybe_bracketed.ensures.found;
-  has_head = rw c.in-Some-2.is at c.in_ok-head.ensures;
-  ends = sym c.if-not-is_empty_statement.ensures;
-}
+    let same = one_clause c.args.keyword c.args.tokens.now _ _ is.clause c.in-Some.ensures in
+    true_false (sym is.ends ∙ ap (λ (clause : Clause). is_empty clause.rest) same ∙ sym c.if-not-is_empty_statement.ensures)
 
 pub returns-in-None : goal.returns-in-None
 returns-in-None c renaming is =
-    let tokens = c.args.tokens.now in
-    let are = two tokens c.word-item.result c.kind-item.result c.in-len2-up.len_at_least c.word-item.is c.kind-item.is in
-    let it = renaming_after tokens (behind_of 2 tokens) c.word-item.result c.kind-item.result are c.args.keyword (pick_of c.args.pick.now) renaming is (held_maybe c.in-Some-maybe_bracketed.maybe) c.in-Some-maybe_bracketed.ensures.every in
+    let same = one_clause c.args.keyword c.args.tokens.now _ _ is.clause c.in-Some.ensures in
     let never = rw c.in-None.is at c.in_ok-head.ensures in
-    never renaming.head it.0
+    never renaming.head (subst (λ (clause : Clause). IsNewHead (pick_of c.args.pick.now) clause.inside renaming.head) same is.has_head)
