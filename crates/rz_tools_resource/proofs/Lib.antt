@@ -1,3 +1,3 @@
+pub mod Fileless
 pub mod OneResource
 pub mod Reading
-pub mod Fileless

@@ -1,4 +1,4 @@
 pub mod Items
+pub mod Named
 pub mod Raw
 pub mod Resource
-pub mod Named

@@ -1,26 +1,12 @@
 -- One call behind another, of which the second may read files.
 use Rattle.std.proofs.Common.{◌≡◌, inl, inr, Result, Ok, Err, refl, sym}
-use Rattle.rz_core.specs.Answers.{Meets, Then}
-use Rattle.rz_core.specs.Stop.{Gives}
+use Rattle.rz_core.specs.Answers.{Then}
+use Rattle.rz_core.specs.Stop.{Meets, Gives, halt_of, Yields}
 use Rattle.rz_core.specs.declared.fault.Fault.{Fault}
 use Rattle.rz_core.specs.declared.stop.Stop.{Stop}
 use Rattle.rz_core.specs.declared.stop.Stop.TheVariants.{NoMemory, Refused}
-use Rattle.rz_folder_paths.specs.Halt.{halt_of, Yields}
-use Rattle.rz_folder_paths.specs.declared.halt.Halt.{Halt}
-use Rattle.rz_folder_paths.specs.declared.halt.Halt.TheVariants as halts
 
 module _ {X Y : Type 0} (first : Result X Fault → Type 0) (next : X → Result Y Fault → Type 0) where
-  pub then_yields : (x : X) → first (Ok x) → (result : Result Y Halt) → Yields result (next x) → Yields result (Then first next)
-  then_yields x is (Ok y) so = inl (x, is, so)
-  then_yields x is (Err (halts.Refused fault)) so = inl (x, is, so)
-  then_yields x is (Err halts.ReadFault) so = tt
-  then_yields x is (Err halts.NoMemory) so = tt
-
-  pub then_halts : (halt : Halt) → Yields {X = X} (Err halt) first → Yields {X = Y} (Err halt) (Then first next)
-  then_halts (halts.Refused fault) is = inr (fault, is, refl)
-  then_halts halts.ReadFault is = tt
-  then_halts halts.NoMemory is = tt
-
   pub meets_yields : (x : X) → first (Ok x) → (stop : Stop Fault) → Meets {X = Y} (Err stop) (next x) → Yields {X = Y} (Err (halt_of stop)) (Then first next)
   meets_yields x is (Refused fault) so = inl (x, is, so)
   meets_yields x is NoMemory so = tt

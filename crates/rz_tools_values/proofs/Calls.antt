@@ -2,14 +2,13 @@
 use Rattle.std.proofs.Common.{◌≡◌, ℕ, Ok, Err, refl, sym, ap, subst, arith}
 use Rattle.std.specs.declared.option.Option.{Option}
 use Rattle.std.specs.declared.result.Result.{Result}
-use Rattle.rz_core.specs.Stop.{Gives, OnFault, ◌>>=◌}
+use Rattle.rz_core.specs.Stop.{Gives, OnFault, ◌>>=◌, halt_of, IsReadFault, OnRefusal, Yields}
 use Rattle.rz_core.specs.declared.fault.Fault.{Fault}
 use Rattle.rz_core.specs.declared.stop.Stop.{Stop}
 use Rattle.rz_folder.specs.Folder.{Files}
 use Rattle.rz_folder.specs.OnlyReads.{OnlyReads}
-use Rattle.rz_folder_paths.specs.Halt.{halt_of, IsReadFault, OnRefusal, Yields}
-use Rattle.rz_folder_paths.specs.declared.halt.Halt.{Halt}
-use Rattle.rz_folder_paths.specs.declared.halt.Halt.TheVariants.{NoMemory, ReadFault, Refused}
+use Rattle.rz_core.specs.declared.stop.Halt.{Halt}
+use Rattle.rz_core.specs.declared.stop.Halt.TheVariants.{NoMemory, ReadFault, Refused}
 use Rattle.rz_core.specs.declared.stop.Stop.TheVariants as stops
 
 module _ {X Y : Type 0} (first : Result X Fault) (next : X → Result Y Fault) where
@@ -17,25 +16,25 @@ module _ {X Y : Type 0} (first : Result X Fault) (next : X → Result Y Fault) w
   gives_stop (stops.Refused fault) is = ap (λ (a : Result X Fault). a >>= next) is
   gives_stop stops.NoMemory is = tt
 
-  pub yields_stop : (stop : Stop Fault) (halt : Halt) → halt ≡ halt_of stop → Gives {X = X} first (Err stop) → Yields {X = Y} (Err halt) (λ answer. answer ≡ (first >>= next))
-  yields_stop stop halt is gives = subst (λ (h : Halt). Yields {X = Y} (Err h) (λ answer. answer ≡ (first >>= next))) (sym is) (by stop gives)
+  pub yields_stop : (stop : Stop Fault) (halt : Halt Fault) → halt ≡ halt_of stop → Gives {X = X} first (Err stop) → Yields {X = Y} (Err halt) (λ answer. answer ≡ (first >>= next))
+  yields_stop stop halt is gives = subst (λ (h : Halt Fault). Yields {X = Y} (Err h) (λ answer. answer ≡ (first >>= next))) (sym is) (by stop gives)
     where
       by : (stop : Stop Fault) → Gives {X = X} first (Err stop) → Yields {X = Y} (Err (halt_of stop)) (λ answer. answer ≡ (first >>= next))
       by (stops.Refused fault) is = sym (ap (λ (a : Result X Fault). a >>= next) is)
       by stops.NoMemory is = tt
 
-  pub yields_halt : (halt : Halt) → Yields {X = X} (Err halt) (λ answer. answer ≡ first) → Yields {X = Y} (Err halt) (λ answer. answer ≡ (first >>= next))
+  pub yields_halt : (halt : Halt Fault) → Yields {X = X} (Err halt) (λ answer. answer ≡ first) → Yields {X = Y} (Err halt) (λ answer. answer ≡ (first >>= next))
   yields_halt (Refused fault) is = ap (λ (a : Result X Fault). a >>= next) is
   yields_halt ReadFault is = tt
   yields_halt NoMemory is = tt
 
-  pub yields_on : (value : X) (result : Result Y Halt) → Ok value ≡ first → Yields result (λ answer. answer ≡ next value) → Yields result (λ answer. answer ≡ (first >>= next))
+  pub yields_on : (value : X) (result : Result Y (Halt Fault)) → Ok value ≡ first → Yields result (λ answer. answer ≡ next value) → Yields result (λ answer. answer ≡ (first >>= next))
   yields_on value result is so = subst (λ (a : Result X Fault). Yields result (λ answer. answer ≡ (a >>= next))) is so
 
 -- What holds of a fault.
 
-pub refuses_so : (X Y : Type 0) (stop : Stop Fault) (halt : Halt) (P : Fault → Type 0) → halt ≡ halt_of stop → OnFault {X = X} (Err stop) P → OnRefusal {X = Y} (Err halt) P
-refuses_so X Y stop halt P is so = subst (λ (h : Halt). OnRefusal {X = Y} (Err h) P) (sym is) (by stop so)
+pub refuses_so : (X Y : Type 0) (stop : Stop Fault) (halt : Halt Fault) (P : Fault → Type 0) → halt ≡ halt_of stop → OnFault {X = X} (Err stop) P → OnRefusal {X = Y} (Err halt) P
+refuses_so X Y stop halt P is so = subst (λ (h : Halt Fault). OnRefusal {X = Y} (Err h) P) (sym is) (by stop so)
   where
     by : (stop : Stop Fault) → OnFault {X = X} (Err stop) P → OnRefusal {X = Y} (Err (halt_of stop)) P
     by (stops.Refused fault) so = so
@@ -43,8 +42,8 @@ refuses_so X Y stop halt P is so = subst (λ (h : Halt). OnRefusal {X = Y} (Err 
 
 -- What is read.
 
-pub stop_unread : (X : Type 0) (stop : Stop Fault) (halt : Halt) → halt ≡ halt_of stop → IsReadFault {X = X} (Err halt) → ⊥
-stop_unread X stop halt is failed = by stop (subst (λ (h : Halt). IsReadFault {X = X} (Err h)) is failed)
+pub stop_unread : (X : Type 0) (stop : Stop Fault) (halt : Halt Fault) → halt ≡ halt_of stop → IsReadFault {X = X} (Err halt) → ⊥
+stop_unread X stop halt is failed = by stop (subst (λ (h : Halt Fault). IsReadFault {X = X} (Err h)) is failed)
   where
     by : (stop : Stop Fault) → IsReadFault {X = X} (Err (halt_of stop)) → ⊥
     by (stops.Refused fault) failed = failed

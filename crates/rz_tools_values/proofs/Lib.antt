@@ -1,6 +1,6 @@
 pub mod Behind
 pub mod Calls
 pub mod ChosenOne
+pub mod Fileless
 pub mod TextsRead
 pub mod Turns
-pub mod Fileless

@@ -1,7 +1,5 @@
 -- The one resource that an id or a name is for. (MPW Rez.)
 use Rattle.std.specs.Prelude.{ℤ, List, Option, Some, None, Ok, Err}
-use Rattle.std.specs.Borrow.{Bor}
-use Rattle.std.specs.Option.{option_copied}
 use Rattle.std.specs.declared.result.Result.{Result}
 use Rattle.rz_core.specs.Stop.{◌>>=◌}
 use Rattle.rz_core.specs.declared.facts.Facts.{Facts}
@@ -10,7 +8,6 @@ use Rattle.rz_core.specs.declared.fault.Kept.{Kept}
 use Rattle.rz_core.specs.declared.fault.Mark.{Mark}
 use Rattle.rz_core.specs.declared.resource.OsType.{OsType}
 use Rattle.rz_core.specs.declared.resource.Resource.{Resource}
-use Rattle.rz_core.specs.declared.stop.Stop.{Stop}
 use Rattle.rz_expr.specs.Term.{Term}
 use Rattle.rz_types_fields.specs.Value.{number_of}
 use Rattle.rz_set.specs.Choice.{found_name}
@@ -44,8 +41,3 @@ abbrev pub chosen_one : Mark → OsType → Pick → List Resource → Result (O
 chosen_one mark kind (Id id) list = the_one mark kind (Id id) (found kind id list)
 chosen_one mark kind (Name name) list = the_one mark kind (Name name) (found_name kind name list)
 chosen_one mark kind other list = Ok None
-
--- the same, as a call gives it
-abbrev pub one_in : Result (Option (Bor Resource)) (Stop Fault) → Result (Option Resource) (Stop Fault)
-one_in (Ok one) = Ok (option_copied one)
-one_in (Err stop) = Err stop

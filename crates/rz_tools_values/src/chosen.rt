@@ -1,8 +1,8 @@
 ghost use Rattle.std.specs.Prelude.{◌≡◌, ◌<◌, ℕ, IfOk, Some};
 ghost use Rattle.rz_core.specs.Message.{IsNameable};
-ghost use Rattle.rz_core.specs.Stop.{Gives, OnFault};
+ghost use Rattle.rz_core.specs.Stop.{Gives, OnFault, seen};
 ghost use Rattle.rz_expr.specs.Term.{term_of};
-ghost use Rattle.rz_tools_values.specs.Chosen.{id_said, no_resource, sought_by, chosen_one, one_in, the_one};
+ghost use Rattle.rz_tools_values.specs.Chosen.{id_said, no_resource, sought_by, chosen_one, the_one};
 ghost use Rattle.std.specs.Option.{option_copied};
 
 use crate::head::id_of;
@@ -21,7 +21,7 @@ pub fn chosen_in_list<'a>(
     pick: &Pick,
     mark: Mark,
 ) -> Result<Option<&'a Resource>, Stop<Fault>>
-    ensures chosen { Gives (chosen_one mark kind pick.now list.now) (one_in result) }
+    ensures chosen { Gives (chosen_one mark kind pick.now list.now) (seen option_copied result) }
     ensures nameable { (files : ℕ) → mark.file < files → OnFault result (IsNameable files) }
 {
     match pick {
@@ -42,7 +42,7 @@ pub fn chosen_in_set<'a>(
     pick: &Pick,
     mark: Mark,
 ) -> Result<Option<&'a Resource>, Stop<Fault>>
-    ensures chosen { Gives (chosen_one mark kind pick.now set.now) (one_in result) }
+    ensures chosen { Gives (chosen_one mark kind pick.now set.now) (seen option_copied result) }
     ensures nameable { (files : ℕ) → mark.file < files → OnFault result (IsNameable files) }
 {
     match pick {
@@ -63,7 +63,7 @@ fn the_one<'a>(
     pick: &Pick,
     mark: Mark,
 ) -> Result<Option<&'a Resource>, Stop<Fault>>
-    ensures one { Gives (the_one mark kind pick.now (option_copied one.entry)) (one_in result) }
+    ensures one { Gives (the_one mark kind pick.now (option_copied one.entry)) (seen option_copied result) }
     ensures nameable { (files : ℕ) → mark.file < files → OnFault result (IsNameable files) }
 {
     match one {

@@ -1,15 +1,14 @@
 ghost use Rattle.std.specs.Prelude.{◌≡◌, ◌<◌, ◌^◌, ℕ, length, IfOk, IfSome, None, Some};
 ghost use Rattle.rz_core.specs.Message.{IsNameable};
 ghost use Rattle.rz_folder.specs.OnlyReads.{OnlyReads};
-ghost use Rattle.rz_folder_paths.specs.Halt.{IsReadFault, OnRefusal, Yields};
-ghost use Rattle.rz_tools_values.specs.Halted.{halted};
+ghost use Rattle.rz_core.specs.Stop.{IsReadFault, OnRefusal, Yields, halted};
 ghost use Rattle.rz_set.specs.ResSet.{AreNamed};
 ghost use Rattle.rz_tools_values.specs.Files.{file_named, list_in, list_named};
 
 use rz_bridge_files::fork_in;
-use rz_core::{Bytes, Fault, FileNames, Mark, Resources, Stop};
+use rz_core::{Bytes, Fault, FileNames, Halt, Mark, Resources, Stop};
 use rz_folder::Folder;
-use rz_folder_paths::{Halt, names_of, read_file};
+use rz_folder_paths::{names_of, read_file};
 use std::alloc::Global;
 
 /// The bytes of the file that a statement on this line names, fewer than 2^32: its name is tried as it stands and then
@@ -20,7 +19,7 @@ pub fn file_named<F: Folder>(
     paths: &FileNames,
     name: &[u8],
     mark: Mark,
-) -> Result<Bytes, Halt>
+) -> Result<Bytes, Halt<Fault>>
     ensures read { IfSome (F.files folder.old) (λ files. Yields result (λ answer. answer ≡ file_named paths.now files mark name.now)) }
     ensures short { IfOk result (λ bytes. length bytes < 2 ^ 32) }
     ensures nameable { (files : ℕ) → mark.file < files → OnRefusal result (IsNameable files) }
@@ -31,7 +30,7 @@ pub fn file_named<F: Folder>(
 }
 
 /// What a call gives that reads no files, as that of one that does.
-pub fn bytes_halted(given: Result<Bytes, Stop<Fault>>) -> Result<Bytes, Halt>
+pub fn bytes_halted(given: Result<Bytes, Stop<Fault>>) -> Result<Bytes, Halt<Fault>>
     ensures { result ≡ halted given }
 {
     match given {
@@ -47,7 +46,7 @@ pub fn list_named<F: Folder>(
     paths: &FileNames,
     name: &[u8],
     mark: Mark,
-) -> Result<Resources, Halt>
+) -> Result<Resources, Halt<Fault>>
     ensures list { IfSome (F.files folder.old) (λ files. Yields result (λ answer. answer ≡ list_named paths.now files mark name.now)) }
     ensures named { IfOk result AreNamed }
     ensures nameable { (files : ℕ) → mark.file < files → OnRefusal result (IsNameable files) }
@@ -60,7 +59,7 @@ pub fn list_named<F: Folder>(
 }
 
 /// The resources of the file in these bytes.
-fn list_in(alloc: Global, bytes: Bytes, mark: Mark) -> Result<Resources, Halt>
+fn list_in(alloc: Global, bytes: Bytes, mark: Mark) -> Result<Resources, Halt<Fault>>
     requires short { length bytes < 2 ^ 32 }
     ensures list { Yields result (λ answer. answer ≡ list_in mark bytes) }
     ensures named { IfOk result AreNamed }

@@ -1,26 +1,23 @@
 ghost use Rattle.std.specs.Prelude.{◌≡◌, ◌<◌, ℕ, None, Some, IfOk, IfSome};
 ghost use Rattle.rz_core.specs.Message.{IsNameable};
-ghost use Rattle.rz_core.specs.Stop.{Gives, OnFault};
+ghost use Rattle.rz_core.specs.Stop.{Gives, OnFault, IsReadFault, OnRefusal, Yields, left, Meets};
 ghost use Rattle.rz_folder.specs.OnlyReads.{OnlyReads};
 ghost use Rattle.rz_stmt_lists.specs.Include.{include_of, part_of};
-ghost use Rattle.rz_folder_paths.specs.Halt.{IsReadFault, OnRefusal};
 ghost use Rattle.rz_set.specs.After.{HasShortName};
 ghost use Rattle.rz_set.specs.ResSet.{AreNamed};
 ghost use Rattle.rz_tools_values.specs.Around.{around};
 ghost use Rattle.rz_tools_values.specs.Files.{list_named};
 ghost use Rattle.rz_tools_work.specs.Include.{all_of, asked_by, asked_for, included, list_including, list_with_asked};
-ghost use Rattle.rz_tools_work.specs.Work.{Stepped, Went};
 
 use crate::pick::pick_said;
 use crate::putting::on_line;
 use crate::read::halted;
 use crate::renaming::new_head;
-use rz_core::{Fault, FileNames, Kept, Mark, NoMemory, OsType, Resources, Stop};
+use rz_core::{Fault, FileNames, Halt, Kept, Mark, NoMemory, OsType, Resources, Stop};
 use rz_folder::Folder;
-use rz_folder_paths::Halt;
 use rz_set::{Choice, Head, Pick, ResSet};
 use rz_stmt_lists::{IncludePart, IncludeStmt};
-use rz_tools_values::{Setting, chosen_in_list, list_named, sought_by};
+use rz_tools_values::{Setting, chosen_in_list, sought_by};
 use std::alloc::Global;
 
 /// What an `include` statement asks for.
@@ -48,9 +45,9 @@ pub fn include_resources<F: Folder>(
     mark: Mark,
     setting: Setting,
     resources: &mut ResSet,
-) -> Result<(), Halt>
+) -> Result<(), Halt<Fault>>
     ensures included { IfSome (F.files folder.old) (λ files.
-        Went (λ answer. answer ≡ list_including (around setting paths.now files) mark resources.old (include_of stmt.now)) result resources.new) }
+        Yields (left resources.new result) (λ answer. answer ≡ list_including (around setting paths.now files) mark resources.old (include_of stmt.now))) }
     ensures nameable { (files : ℕ) → mark.file < files → OnRefusal result (IsNameable files) }
     ensures reads { OnlyReads F.files F.read_faults F.write_faults folder.old folder.new (IsReadFault result) }
 {
@@ -70,7 +67,7 @@ fn include_part(
     resources: &mut ResSet,
 ) -> Result<(), Stop<Fault>>
     requires named { AreNamed source.now }
-    ensures included { Stepped (λ answer. answer ≡ included setting mark resources.old (part_of part.now) source.now) result resources.new }
+    ensures included { Meets (left resources.new result) (λ answer. answer ≡ included setting mark resources.old (part_of part.now) source.now) }
     ensures nameable { (files : ℕ) → mark.file < files → OnFault result (IsNameable files) }
 {
     match asked_by(alloc, source, part, mark, setting) {
@@ -89,7 +86,7 @@ fn include_asked(
 ) -> Result<(), Stop<Fault>>
     requires named { AreNamed source.now }
     requires short { HasShortName asked.head }
-    ensures included { Stepped (λ answer. answer ≡ list_with_asked setting mark resources.old source.now asked) result resources.new }
+    ensures included { Meets (left resources.new result) (λ answer. answer ≡ list_with_asked setting mark resources.old source.now asked) }
     ensures nameable { (files : ℕ) → mark.file < files → OnFault result (IsNameable files) }
 {
     let Asked {

@@ -2,21 +2,18 @@ ghost use Rattle.std.specs.Prelude.{◌≡◌, ◌<◌, ℕ, length, IfOk, IfSom
 ghost use Rattle.rz_core.specs.Message.{IsNameable};
 ghost use Rattle.rz_folder.specs.OnlyReads.{OnlyReads};
 ghost use Rattle.rz_stmt_lists.specs.Read.{read_of};
-ghost use Rattle.rz_folder_paths.specs.Halt.{IsReadFault, OnRefusal, Yields};
+ghost use Rattle.rz_core.specs.Stop.{IsReadFault, OnRefusal, Yields, halted, left};
 ghost use Rattle.rz_tools_values.specs.Around.{around};
 ghost use Rattle.rz_tools_values.specs.Contents.{short_bytes};
 ghost use Rattle.rz_tools_values.specs.Files.{file_named};
 ghost use Rattle.rz_tools_work.specs.Read.{contents_named, list_reading, resource_read, with_file};
-ghost use Rattle.rz_tools_values.specs.Halted.{halted};
-ghost use Rattle.rz_tools_work.specs.Work.{Went};
 
 use crate::putting::put;
-use rz_core::{Bytes, Facts, Fault, FileNames, Mark, Resource, Stop};
+use rz_core::{Bytes, Facts, Fault, FileNames, Halt, Mark, Resource, Stop};
 use rz_folder::Folder;
-use rz_folder_paths::Halt;
 use rz_set::ResSet;
 use rz_stmt_lists::ReadStmt;
-use rz_tools_values::{Setting, facts_of, file_named, short_bytes, with_bytes};
+use rz_tools_values::{Setting, facts_of, short_bytes, with_bytes};
 use std::alloc::Global;
 
 /// Does what a `read` statement on this line says: the whole file, as it is, becomes a resource with this head, and is put
@@ -31,9 +28,9 @@ pub fn read_resource<F: Folder>(
     mark: Mark,
     setting: Setting,
     resources: &mut ResSet,
-) -> Result<(), Halt>
+) -> Result<(), Halt<Fault>>
     ensures read { IfSome (F.files folder.old) (λ files.
-        Went (λ answer. answer ≡ list_reading (around setting paths.now files) mark resources.old (read_of stmt.now)) result resources.new) }
+        Yields (left resources.new result) (λ answer. answer ≡ list_reading (around setting paths.now files) mark resources.old (read_of stmt.now))) }
     ensures nameable { (files : ℕ) → mark.file < files → OnRefusal result (IsNameable files) }
     ensures reads { OnlyReads F.files F.read_faults F.write_faults folder.old folder.new (IsReadFault result) }
 {
@@ -51,7 +48,7 @@ fn resource_read<F: Folder>(
     stmt: &ReadStmt,
     mark: Mark,
     setting: Setting,
-) -> Result<Resource, Halt>
+) -> Result<Resource, Halt<Fault>>
     ensures read { IfSome (F.files folder.old) (λ files. Yields result (λ answer. answer ≡ resource_read (around setting paths.now files) mark (read_of stmt.now))) }
     ensures named { IfOk result (λ resource. length resource.name < 256) }
     ensures nameable { (files : ℕ) → mark.file < files → OnRefusal result (IsNameable files) }
@@ -71,7 +68,7 @@ fn with_file<F: Folder>(
     known: Facts,
     name: &[u8],
     mark: Mark,
-) -> Result<Resource, Halt>
+) -> Result<Resource, Halt<Fault>>
     requires named { length known.name < 256 }
     ensures read { IfSome (F.files folder.old) (λ files. Yields result (λ answer. answer ≡ with_file paths.now files mark name.now known)) }
     ensures named { IfOk result (λ resource. length resource.name < 256) }
@@ -91,7 +88,7 @@ fn contents_named<F: Folder>(
     paths: &FileNames,
     name: &[u8],
     mark: Mark,
-) -> Result<Bytes, Halt>
+) -> Result<Bytes, Halt<Fault>>
     ensures read { IfSome (F.files folder.old) (λ files. Yields result (λ answer. answer ≡ contents_named paths.now files mark name.now)) }
     ensures nameable { (files : ℕ) → mark.file < files → OnRefusal result (IsNameable files) }
     ensures reads { OnlyReads F.files F.read_faults F.write_faults folder.old folder.new (IsReadFault result) }
@@ -103,7 +100,7 @@ fn contents_named<F: Folder>(
 }
 
 /// Contents, as many as a resource may have: 301.
-fn short_contents(bytes: Bytes, mark: Mark) -> Result<Bytes, Halt>
+fn short_contents(bytes: Bytes, mark: Mark) -> Result<Bytes, Halt<Fault>>
     ensures bytes { Yields result (λ answer. answer ≡ short_bytes mark bytes) }
     ensures nameable { (files : ℕ) → mark.file < files → OnRefusal result (IsNameable files) }
     ensures unread { IsReadFault result → ⊥ }
@@ -115,7 +112,7 @@ fn short_contents(bytes: Bytes, mark: Mark) -> Result<Bytes, Halt>
 }
 
 /// The end of a call that reads no files, as that of one that does.
-pub fn halted(ended: Result<(), Stop<Fault>>) -> Result<(), Halt>
+pub fn halted(ended: Result<(), Stop<Fault>>) -> Result<(), Halt<Fault>>
     ensures { result ≡ halted ended }
 {
     match ended {

@@ -1,6 +1,6 @@
 use Rattle.std.proofs.lemmas.Option.{IfSome_then}
 use Rattle.rz_stmt_data.specs.Raw.{raw_of}
-use Rattle.rz_folder_paths.specs.Halt.{IsReadFault}
+use Rattle.rz_core.specs.Stop.{IsReadFault}
 use Rattle.rz_tools_values.proofs.Calls.{reads_first}
 use Rattle.rz_tools_work.proofs.Calls.{went_halt, went_on}
 use Rattle.rz_tools_values.specs.Around.{around}

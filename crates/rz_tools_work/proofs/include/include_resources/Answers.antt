@@ -3,7 +3,7 @@ use Rattle.std.proofs.lemmas.Option.{IfSome_then}
 use Rattle.rz_core.specs.Message.{IsNameable}
 use Rattle.rz_core.specs.declared.resource.Resource.{Resource}
 use Rattle.rz_stmt_lists.specs.Include.{part_of}
-use Rattle.rz_folder_paths.specs.Halt.{IsReadFault, Yields}
+use Rattle.rz_core.specs.Stop.{IsReadFault, Yields}
 use Rattle.rz_tools_values.specs.Files.{list_named}
 use Rattle.rz_tools_work.specs.Include.{included}
 use Rattle.rz_tools_values.proofs.Calls.{reads_first}
