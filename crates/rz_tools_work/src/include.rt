@@ -17,7 +17,7 @@ use rz_core::{Fault, FileNames, Halt, Kept, Mark, NoMemory, OsType, Resources, S
 use rz_folder::Folder;
 use rz_set::{Choice, Head, Pick, ResSet};
 use rz_stmt_lists::{IncludePart, IncludeStmt};
-use rz_tools_values::{Setting, chosen_in_list, sought_by};
+use rz_tools_values::{Setting, chosen_in_list, list_named, sought_by};
 use std::alloc::Global;
 
 /// What an `include` statement asks for.

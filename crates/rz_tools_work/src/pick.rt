@@ -11,7 +11,7 @@ use rz_core::{Facts, Fault, Mark, OsType, Stop};
 use rz_expr::Expr;
 use rz_set::Pick;
 use rz_stmt_lists::PickExpr;
-use rz_tools_values::{Setting, head_facts};
+use rz_tools_values::{Setting, head_facts, id_said};
 use rz_types::text_of;
 use std::alloc::Global;
 

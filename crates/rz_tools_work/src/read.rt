@@ -13,7 +13,7 @@ use rz_core::{Bytes, Facts, Fault, FileNames, Halt, Mark, Resource, Stop};
 use rz_folder::Folder;
 use rz_set::ResSet;
 use rz_stmt_lists::ReadStmt;
-use rz_tools_values::{Setting, facts_of, short_bytes, with_bytes};
+use rz_tools_values::{Setting, facts_of, file_named, short_bytes, with_bytes};
 use std::alloc::Global;
 
 /// Does what a `read` statement on this line says: the whole file, as it is, becomes a resource with this head, and is put
