@@ -1,6 +1,6 @@
 -- The name of a file, from what the calls gave.
 use Rattle.std.proofs.Common.{◌≡◌, ◌≢◌, ℕ, List, [], Err, refl, inr}
-use Rattle.rz_core.specs.Answers.{Meets}
+use Rattle.rz_core.specs.Stop.{Meets}
 use Rattle.rz_core.specs.declared.fault.Fault.{Fault}
 use Rattle.rz_core.specs.declared.stop.Stop.{Stop}
 use Rattle.rz_core.specs.declared.stop.Stop.TheVariants.{NoMemory, Refused}

@@ -1,5 +1,5 @@
 -- What the bytes of a file hold: a file of the Macintosh, and its resource fork.
-use Rattle.std.specs.Prelude.{◌≡◌, ℕ, ◌<◌, ◌^◌, List, [], length, Ok, Err}
+use Rattle.std.specs.Prelude.{ℕ, ◌<◌, ◌^◌, List, [], length}
 use Rattle.std.specs.List.{AllByRecursion}
 use Rattle.std.specs.declared.option.Option.{Option}
 use Rattle.std.specs.declared.option.Option.TheVariants.{Some, None}
@@ -7,15 +7,11 @@ use Rattle.std.specs.declared.result.Result.{Result}
 use Rattle.rz_core.specs.Stop.{◌>>=◌}
 use Rattle.rz_core.specs.declared.fault.Fault.{Fault}
 use Rattle.rz_core.specs.declared.fault.Mark.{Mark}
-use Rattle.rz_core.specs.declared.stop.Stop.{Stop}
-use Rattle.rz_core.specs.declared.stop.Stop.TheVariants.{Refused, NoMemory}
 use Rattle.rz_bridge.specs.declared.file.MacFile.{MacFile}
 use Rattle.rz_bridge_form.specs.Forms.{content_of, form_of}
 use Rattle.rz_bridge_form.specs.declared.form.Form.{Form}
 use Rattle.rz_fork.specs.Admit.{admitted}
-use Rattle.rz_fork.specs.Code.{held_by}
 use Rattle.rz_fork.specs.Contents.{Fork}
-use Rattle.rz_fork.specs.declared.read.ForkList.{ForkList}
 use Rattle.rz_bridge_files.specs.Faults.{or_broken, or_torn}
 
 -- the form that is given, else the one that the bytes have
@@ -40,9 +36,3 @@ fork_in mark form bytes = file_in mark form bytes [] >>= λ file. admit_fork mar
 -- bytes that a file can hold
 abbrev pub IsFile : List ℕ → Type 0
 IsFile bytes = AllByRecursion (λ b. b < 256) bytes × (length bytes < 2 ^ 32)
-
--- the call gave exactly this fork or exactly this fault, or memory was refused
-abbrev pub GivesFork : Result Fork Fault → Result ForkList (Stop Fault) → Type 0
-GivesFork answer (Ok fork) = answer ≡ Ok (held_by fork)
-GivesFork answer (Err (Refused fault)) = answer ≡ Err fault
-GivesFork answer (Err NoMemory) = Unit {0}

@@ -2,11 +2,12 @@ ghost use Rattle.std.specs.Prelude.{◌≡◌, ℕ, ◌<◌, ◌≤◌, ◌^◌,
 ghost use Rattle.std.specs.List.{AllByRecursion};
 ghost use Rattle.rz_core.specs.Message.{IsMarked, IsNameable};
 ghost use Rattle.rz_core.specs.Resources.{KeysDiffer};
-ghost use Rattle.rz_core.specs.Stop.{Gives, OnFault};
+ghost use Rattle.rz_core.specs.Stop.{seen, Gives, OnFault};
+ghost use Rattle.rz_fork.specs.Code.{held_by};
 ghost use Rattle.rz_fork.specs.Contents.{FitsFork};
 ghost use Rattle.rz_fork.specs.Image.{AreNamed};
 ghost use Rattle.rz_bridge_form.specs.Forms.{content_of};
-ghost use Rattle.rz_bridge_files.specs.Contents.{admit_fork, file_in, fork_in, form_or, GivesFork, IsFile};
+ghost use Rattle.rz_bridge_files.specs.Contents.{admit_fork, file_in, fork_in, form_or, IsFile};
 ghost use Rattle.rz_bridge_files.specs.Faults.{or_broken};
 
 use crate::fault::{fork_fault, form_fault};
@@ -107,7 +108,7 @@ fn is_file(bytes: &[u8])
 /// More Macintosh Toolbox, Resource Manager, resource file format.)
 pub fn admit_fork(alloc: Global, fork: &[u8], mark: Option<Mark>) -> Result<ForkList, Stop<Fault>>
     requires { length fork.now < 2 ^ 32 }
-    ensures fork { GivesFork (admit_fork mark fork.now) result }
+    ensures fork { Gives (admit_fork mark fork.now) (seen held_by result) }
     ensures keys { IfOk result (λ fork. KeysDiffer [] fork.list) }
     ensures bytes { IfOk result (λ fork. AllByRecursion FitsFork fork.list) }
     ensures names { IfOk result (λ fork. AreNamed fork.list) }
@@ -132,7 +133,7 @@ pub fn fork_in(
     mark: Option<Mark>,
 ) -> Result<ForkList, Stop<Fault>>
     requires { length bytes < 2 ^ 32 }
-    ensures fork { GivesFork (fork_in mark form bytes) result }
+    ensures fork { Gives (fork_in mark form bytes) (seen held_by result) }
     ensures keys { IfOk result (λ fork. KeysDiffer [] fork.list) }
     ensures bytes { IfOk result (λ fork. AllByRecursion FitsFork fork.list) }
     ensures names { IfOk result (λ fork. AreNamed fork.list) }

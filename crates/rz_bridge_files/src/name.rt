@@ -1,8 +1,7 @@
 ghost use Rattle.std.specs.Prelude.{◌≡◌, ◌<◌, ◌^◌, ◌++◌, ◌↔◌, ℕ, length, IfOk, IsTrue};
 ghost use Rattle.std.specs.Str.{chars};
-ghost use Rattle.rz_core.specs.Answers.{Meets};
+ghost use Rattle.rz_core.specs.Stop.{Meets, OnFault};
 ghost use Rattle.rz_core.specs.Message.{IsNameable};
-ghost use Rattle.rz_core.specs.Stop.{OnFault};
 ghost use Rattle.rz_pre_source.specs.Source.{mark};
 ghost use Rattle.rz_bridge_files.specs.Names.{bad_name, Named, TakesName};
 

@@ -34,5 +34,5 @@ pub use moment::Moment;
 pub use quoted::{write_hex, write_quoted, write_shown, write_type};
 pub use resource::{OsType, Resource, Resources, Word, Words};
 pub use roman::{fold, from_roman, roman_is_one_to_one, to_roman};
-pub use stop::{NoMemory, Stop};
+pub use stop::{Halt, NoMemory, Stop};
 pub use word::names_agree;

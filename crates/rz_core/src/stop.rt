@@ -1,4 +1,6 @@
 ghost use Rattle.std.specs.Prelude.{◌≡◌};
+ghost use Rattle.rz_core.specs.Stop.{halt_of};
+ghost use Rattle.rz_core.specs.declared.stop.Halt.TheVariants.{NoMemory as halted_by_memory};
 ghost use Rattle.rz_core.specs.declared.stop.Stop.TheVariants.{NoMemory as no_memory};
 
 use std::alloc::{AllocError, AllocFailed};
@@ -41,5 +43,43 @@ impl<F: Drop> From<AllocError> for Stop<F> {
 
     fn from(_: AllocError) -> Self {
         Stop::NoMemory
+    }
+}
+
+/// Why a call that reads files gave no answer.
+#[derive(Debug, Drop)]
+pub enum Halt<F> {
+    /// A rule is broken; this is the fault.
+    Refused(F),
+    /// A file could not be read. The folder counted a read fault.
+    ReadFault,
+    /// Memory was refused.
+    NoMemory,
+}
+
+impl<F: Drop> From<NoMemory> for Halt<F> {
+    ghost from_gives = { λ _ halt. halt ≡ halted_by_memory };
+
+    fn from(_: NoMemory) -> Self {
+        Halt::NoMemory
+    }
+}
+
+impl<F: Drop> From<AllocError> for Halt<F> {
+    ghost from_gives = { λ _ halt. halt ≡ halted_by_memory };
+
+    fn from(_: AllocError) -> Self {
+        Halt::NoMemory
+    }
+}
+
+impl<F: Drop> From<Stop<F>> for Halt<F> {
+    ghost from_gives = { λ stop halt. halt ≡ halt_of stop };
+
+    fn from(stop: Stop<F>) -> Self {
+        match stop {
+            Stop::Refused(fault) => Halt::Refused(fault),
+            Stop::NoMemory => Halt::NoMemory,
+        }
     }
 }

@@ -1,2 +1,1 @@
-pub mod Halt
 pub mod Names

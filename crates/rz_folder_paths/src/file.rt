@@ -1,11 +1,10 @@
 ghost use Rattle.std.specs.Prelude.{◌≡◌, ℕ, ◌<◌, ◌^◌, length, IfOk, IfSome, option_map};
 ghost use Rattle.rz_core.specs.Message.{IsMarked, IsNameable};
 ghost use Rattle.rz_folder.specs.OnlyReads.{OnlyReads};
-ghost use Rattle.rz_folder_paths.specs.Halt.{IsReadFault, IsUnrefused, OnRefusal, Yields};
+ghost use Rattle.rz_core.specs.Stop.{IsReadFault, OnRefusal, Yields};
 ghost use Rattle.rz_folder_paths.specs.Names.{bytes_of, file_of, missing_file};
 
-use crate::halt::Halt;
-use rz_core::{Bytes, Fault, FileNames, Kept, Mark, NoMemory};
+use rz_core::{Bytes, Fault, FileNames, Halt, Kept, Mark, NoMemory};
 use rz_folder::{Folder, Read};
 use std::alloc::Global;
 
@@ -17,12 +16,12 @@ pub fn find<'a, F: Folder>(
     alloc: Global,
     folder: &mut F,
     names: &'a FileNames,
-) -> Result<Option<(&'a str, Bytes)>, Halt>
+) -> Result<Option<(&'a str, Bytes)>, Halt<Fault>>
     ensures found { IfSome (F.files folder.old) (λ files. IfOk result (λ found.
         option_map (λ found. (found.0.now, found.1)) found ≡ file_of files names.now)) }
     ensures short { IfOk result (λ found. IfSome found (λ found. length found.1 < 2 ^ 32)) }
     ensures reads { OnlyReads F.files F.read_faults F.write_faults folder.old folder.new (IsReadFault result) }
-    ensures no_rule { IsUnrefused result }
+    ensures no_rule { OnRefusal result (λ _. ⊥) }
 {
     let mut k = 0;
     while k < names.len() {
@@ -47,7 +46,7 @@ pub fn read_file<F: Folder>(
     names: &FileNames,
     mark: Mark,
     kept: &[u8],
-) -> Result<Bytes, Halt>
+) -> Result<Bytes, Halt<Fault>>
     ensures read { IfSome (F.files folder.old) (λ files.
         Yields result (λ answer. answer ≡ bytes_of files names.now (missing_file (Some mark) kept.now))) }
     ensures short { IfOk result (λ bytes. length bytes < 2 ^ 32) }

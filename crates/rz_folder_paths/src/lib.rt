@@ -1,14 +1,12 @@
-//! Files by their names: the first file that stands under some names, the names under which an included file is
-//! looked for, and how a call that reads files stops. Over a folder that tells its files each call gives exactly
-//! what they hold, or 101; over every folder no file changes.
+//! Files by their names: the first file that stands under some names, and the names under which an included file is
+//! looked for. Over a folder that tells its files each call gives exactly what they hold, or 101; over every folder no
+//! file changes.
 //! It rests on `rz_core` and `rz_folder`.
 //! What is found is `specs/Names.antt`; a new way to look for files changes `names_of` there and here.
 #![tactic(auto)]
 
 mod file;
-mod halt;
 mod names;
 
 pub use file::{find, missing_file, read_file};
-pub use halt::Halt;
 pub use names::names_of;

@@ -1,10 +1,10 @@
 ghost use Rattle.std.specs.Prelude.{◌≡◌, ◌<◌, ◌≤◌, ◌+◌, ◌^◌, ◌++◌, [], length, take, drop, IfOk, OnOk, None};
 ghost use Rattle.std.specs.List.{AllByRecursion};
-ghost use Rattle.rz_core.specs.Stop.{OnFault};
+ghost use Rattle.rz_core.specs.Stop.{seen, Gives, OnFault};
 ghost use Rattle.rz_core.specs.Resources.{KeysDiffer};
 ghost use Rattle.rz_fork.specs.Contents.{data_of, name_of, resource_of, resources_of, resources, attributes_of, reserved_of, FitsFork};
 ghost use Rattle.rz_fork.specs.Admit.{data_outside, name_outside, admitted, HasTypes, IsAdmitted, HasResources, IsSayable};
-ghost use Rattle.rz_fork.specs.Code.{GivesFork};
+ghost use Rattle.rz_fork.specs.Code.{held_by};
 
 use crate::admit::{admit, entry_of, reference_of};
 use crate::fault::ForkFault;
@@ -36,7 +36,7 @@ pub struct ForkList {
 #[tactic(auto, unfolding(crate::specs::Contents::contents))]
 pub fn read_fork(alloc: Global, bytes: &[u8]) -> Result<ForkList, Stop<ForkFault>>
     requires short { length bytes.now < 2 ^ 32 }
-    ensures fork { GivesFork (admitted bytes.now) result }
+    ensures fork { Gives (admitted bytes.now) (seen held_by result) }
     ensures keys { IfOk result (λ fork. KeysDiffer [] fork.list) }
     ensures bytes { IfOk result (λ fork. AllByRecursion FitsFork fork.list) }
     ensures room { IfOk result (λ fork. length fork.reserved ≤ 240) }

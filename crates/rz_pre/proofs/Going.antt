@@ -6,6 +6,7 @@ use Rattle.std.specs.Str.{str_to_ascii_lowercase}
 use Rattle.std.proofs.lemmas.List.{take_more}
 use Rattle.std.proofs.lemmas.Option.{same_Some}
 use Rattle.rz_core.proofs.Once.{Once}
+use Rattle.rz_core.proofs.Stops.{yields_so}
 use Rattle.rz_core.specs.declared.fault.Mark.{Mark}
 use Rattle.rz_core.specs.declared.fault.Fault.{Fault}
 use Rattle.rz_core.specs.declared.stop.Stop.{Stop}
@@ -15,24 +16,20 @@ use Rattle.rz_lex.specs.Joined.{joined}
 use Rattle.rz_lex.specs.Lines.{HasLines, StandsBefore}
 use Rattle.rz_lex.specs.declared.joined.Placed.{Placed}
 use Rattle.rz_lex.specs.declared.raw_line.RawLine.{RawLine}
-use Rattle.rz_core.specs.Stop.{OnFault}
+use Rattle.rz_core.specs.Stop.{halt_of, IsReadFault, Meets, OnFault, OnRefusal, Yields}
 use Rattle.rz_lex.specs.Lines.{HasOpenComment}
 use Rattle.rz_pre.specs.Line.{Does}
 use Rattle.rz_pre.specs.Program.{ends, fails, innermost, opens_after, state_after, too_deep, live_after, start, Enters, Failure, Follows, HasText, IncludedGoes, Includes, LineGoes, LinesGo, NamedGoes, NamesGo, Opens, OpensAs, State, TextGoes}
-use Rattle.rz_core.specs.Answers.{Meets}
 use Rattle.rz_pre.specs.Live.{live_in, put, shapes_of, Live}
 use Rattle.rz_pre.specs.Macros.{rows_of}
-use Rattle.rz_pre.specs.Reading.{alone, included_in, state_of, together, Finishes, Gave, Leaves, Matches, Steps}
+use Rattle.rz_pre.specs.Reading.{alone, included_in, state_of, together, with_state, Finishes, IsAnswer, OfProgram, Steps}
 use Rattle.rz_pre.specs.declared.program.Def.{Def}
-use Rattle.rz_pre.specs.declared.program.PreFault.{PreFault}
-use Rattle.rz_pre.specs.declared.program.PreFault.TheVariants as prefaults
 use Rattle.rz_pre.specs.declared.program.Program.{Program}
 use Rattle.rz_pre.specs.declared.reading.Reading.{Reading}
 use Rattle.rz_lex.specs.declared.token.Token.{Token}
-use Rattle.rz_folder_paths.specs.Halt.{halt_of, IsReadFault, IsUnrefused}
 use Rattle.rz_folder_paths.specs.Names.{file_of, missing_file, names_of, utf8_name}
-use Rattle.rz_folder_paths.specs.declared.halt.Halt.{Halt}
-use Rattle.rz_folder_paths.specs.declared.halt.Halt.TheVariants as halts
+use Rattle.rz_core.specs.declared.stop.Halt.{Halt}
+use Rattle.rz_core.specs.declared.stop.Halt.TheVariants as halts
 use Rattle.rz_pre.specs.declared.act.Act.TheVariants as acts
 use Rattle.rz_pre.specs.declared.act.Act.{Act}
 use Rattle.rz_pre.specs.declared.condition.Tool.{Tool}
@@ -178,11 +175,11 @@ module _ (tool : Tool) (files : Files) (paths : List (List ℕ)) (levels file : 
   abbrev Goes : Result State Failure → Type 0
   Goes answer = TextGoes (IncludedGoes tool files paths levels) tool file text before answer
 
-  pub left_in_comment : (X : Type 0) (stop : Stop Fault) → OnFault {X = X} (Err stop) (HasOpenComment file here []) → Leaves alone (Err (halt_of stop)) s Goes
+  pub left_in_comment : (X : Type 0) (stop : Stop Fault) → OnFault {X = X} (Err stop) (HasOpenComment file here []) → Yields (with_state alone s (Err (halt_of stop))) Goes
   left_in_comment X (stops.Refused fault) has = leads_comment (IncludedGoes tool files paths levels) tool file text before here opens s leads fault has
   left_in_comment X stops.NoMemory has = tt
 
-  pub left_at_end : HasLines file here [] None → (result : Result (Unit {0}) Halt) → Leaves alone result s (λ answer. answer ≡ ends opens s) → Leaves alone result s Goes
+  pub left_at_end : HasLines file here [] None → (result : Result (Unit {0}) (Halt Fault)) → Yields (with_state alone s result) (λ answer. answer ≡ ends opens s) → Yields (with_state alone s result) Goes
   left_at_end has (Ok nothing) is = subst Goes (sym is) (leads_end (IncludedGoes tool files paths levels) tool file text before here opens s leads has)
   left_at_end has (Err (halts.Refused fault)) is = subst Goes (sym is) (leads_end (IncludedGoes tool files paths levels) tool file text before here opens s leads has)
   left_at_end has (Err halts.ReadFault) is = tt
@@ -192,7 +189,7 @@ module _ (tool : Tool) (files : Files) (paths : List (List ℕ)) (levels file : 
     left : SomeLines file rest → (failure : Failure) → LineGoes (IncludedGoes tool files paths levels) tool line opens s (Err failure) → Goes (Err failure)
     left = leads_out (IncludedGoes tool files paths levels) tool file text before here opens s leads line rest stands
 
-    pub left_in_line : SomeLines file rest → (stop : Stop Fault) (after : List Open) (t : State) → Steps tool line opens s (Err stop) after t → Leaves alone (Err (halt_of stop)) t Goes
+    pub left_in_line : SomeLines file rest → (stop : Stop Fault) (after : List Open) (t : State) → Steps tool line opens s (Err stop) after t → Yields (with_state alone t (Err (halt_of stop))) Goes
     left_in_line some (stops.Refused fault) after t steps =
         left some (record { fault = fault; files = t.files }) (steps_out (IncludedGoes tool files paths levels) tool line opens s fault after t steps)
     left_in_line some stops.NoMemory after t steps = tt
@@ -208,8 +205,8 @@ module _ (tool : Tool) (files : Files) (paths : List (List ℕ)) (levels file : 
           includes (IncludedGoes tool files paths levels) tool line opens s name after t
           (steps_in (IncludedGoes tool files paths levels) tool line opens s name after t steps) (Err failure) (Err failure) goes (λ u is. absurd cc) (λ other is. ap Err (same_failure {X = State} failure other is))
 
-      pub left_in_opening : SomeLines file rest → (halt : Halt) (u : State)
-          → Leaves together (Err halt) u (Enters files paths levels name line.mark t) → Leaves alone (Err halt) u Goes
+      pub left_in_opening : SomeLines file rest → (halt : Halt Fault) (u : State)
+          → Yields (with_state together u (Err halt)) (Enters files paths levels name line.mark t) → Yields (with_state alone u (Err halt)) Goes
       left_in_opening some (halts.Refused fault) u enters =
           left some (record { fault = fault; files = u.files }) (fault_inside (record { fault = fault; files = u.files }) (enters_out tool files paths levels name line.mark t (record { fault = fault; files = u.files }) enters))
       left_in_opening some halts.ReadFault u enters = tt
@@ -221,8 +218,8 @@ module _ (tool : Tool) (files : Files) (paths : List (List ℕ)) (levels file : 
         goes_on answer goes = subst (λ (k : ℕ). IncludedGoes tool files paths k name line.mark t answer) (sym deep)
             (enters_on tool files paths below name line.mark t source u answer (subst (λ (k : ℕ). Enters files paths k name line.mark t (Ok (source, u))) deep enters) goes)
 
-        pub left_inside : SomeLines file rest → (halt : Halt) (v : State)
-            → Leaves alone (Err halt) v (TextGoes (IncludedGoes tool files paths below) tool (length t.files) source u) → Leaves alone (Err halt) v Goes
+        pub left_inside : SomeLines file rest → (halt : Halt Fault) (v : State)
+            → Yields (with_state alone v (Err halt)) (TextGoes (IncludedGoes tool files paths below) tool (length t.files) source u) → Yields (with_state alone v (Err halt)) Goes
         left_inside some (halts.Refused fault) v goes =
             left some (record { fault = fault; files = v.files }) (fault_inside (record { fault = fault; files = v.files })
             (goes_on (Err (record { fault = fault; files = v.files })) goes))
@@ -240,7 +237,7 @@ module _ (tool : Tool) (files : Files) (paths : List (List ℕ)) (levels file : 
 
 module _ (tool : Tool) (files : Files) (paths names rest : List (List ℕ)) (before s : State) (name : List ℕ)
     (leads : NamesLead tool files paths names (name ∷ rest) before s) where
-  pub left_in_named : (halt : Halt) (t : State) → Leaves alone (Err halt) t (NamedGoes tool files paths name s) → Leaves alone (Err halt) t (NamesGo tool files paths names before)
+  pub left_in_named : (halt : Halt Fault) (t : State) → Yields (with_state alone t (Err halt)) (NamedGoes tool files paths name s) → Yields (with_state alone t (Err halt)) (NamesGo tool files paths names before)
   left_in_named (halts.Refused fault) t goes = leads (fails fault t) (inr (record { fault = fault; files = t.files }, goes, refl))
   left_in_named halts.ReadFault t goes = tt
   left_in_named halts.NoMemory t goes = tt
@@ -250,21 +247,14 @@ module _ (tool : Tool) (files : Files) (paths names rest : List (List ℕ)) (bef
 
 -- What a call leaves, from what it left before.
 
-pub unread_leaves : {X Y : Type 0} (make : X → State → Y) (halt : Halt) (s : State) (answers : Result Y Failure → Type 0) → IsUnrefused {X = X} (Err halt) → Leaves make (Err halt) s answers
+pub unread_leaves : {X Y : Type 0} (make : X → State → Y) (halt : Halt Fault) (s : State) (answers : Result Y Failure → Type 0) → OnRefusal {X = X} (Err halt) (λ _. ⊥) → Yields (with_state make s (Err halt)) answers
 unread_leaves make (halts.Refused fault) s answers never = absurd never
 unread_leaves make halts.ReadFault s answers never = tt
 unread_leaves make halts.NoMemory s answers never = tt
 
-pub leaves_so : {X Y : Type 0} (make : X → State → Y) (result : Result X Halt) (s : State) (answers others : Result Y Failure → Type 0)
-    → ((answer : Result Y Failure) → answers answer → others answer) → Leaves make result s answers → Leaves make result s others
-leaves_so make (Ok value) s answers others so leaves = so (Ok (make value s)) leaves
-leaves_so make (Err (halts.Refused fault)) s answers others so leaves = so (fails fault s) leaves
-leaves_so make (Err halts.ReadFault) s answers others so leaves = tt
-leaves_so make (Err halts.NoMemory) s answers others so leaves = tt
-
 pub opens_badly : (files : Files) (names : List (List ℕ)) (missing : Fault) (s : State) (name source : List ℕ) → Some (name, source) ≡ file_of files names
     → (stop : Stop Fault) → Meets {X = List ℕ} (Err stop) (HasText (length s.files) source) → (after : State) → after.files ≡ s.files ++ name ∷ []
-    → Leaves together (Err (halt_of stop)) after (Opens files names missing s)
+    → Yields (with_state together after (Err (halt_of stop))) (Opens files names missing s)
 opens_badly files names missing s name source found (stops.Refused fault) bad after more =
     subst (λ (o : Option (List ℕ × List ℕ)). OpensAs missing s o (fails fault after)) found (inr (record { fault = fault; files = after.files }, (bad, more), refl))
 opens_badly files names missing s name source found stops.NoMemory bad after more = tt
@@ -300,55 +290,37 @@ starts reading live defs empty set = λ i. record {
 
 -- At the end.
 
-pub matches_from : (result : Result Program PreFault) (answers : Result State Failure → Type 0) → Once answers → Gave result answers
-    → (answer : Result State Failure) → answers answer → Matches result answer
-matches_from (Ok program) answers once gave answer other = subst (Matches (Ok program)) (once (Ok gave.0) answer gave.2 other) gave.1
-matches_from (Err (prefaults.Refused fault files)) answers once gave answer other =
-    subst (Matches (Err (prefaults.Refused fault files))) (once (Err (record { fault = fault; files = files })) answer gave other) (refl, refl)
-matches_from (Err prefaults.ReadFault) answers once gave answer other = tt
-matches_from (Err prefaults.NoMemory) answers once gave answer other = tt
+is_answer : (gave : Result Program Failure) (answers : Result State Failure → Type 0) → Once answers → OfProgram answers gave
+    → (answer : Result State Failure) → answers answer → IsAnswer answer gave
+is_answer (Ok program) answers once so answer other = subst (λ (a : Result State Failure). IsAnswer a (Ok program)) (once (Ok so.0) answer so.2 other) so.1
+is_answer (Err failure) answers once so answer other = subst (λ (a : Result State Failure). IsAnswer a (Err failure)) (once (Err failure) answer so other) refl
 
-abbrev given : Program → Result Program PreFault
-given program = Ok program
+pub answer_from : (result : Result Program (Halt Failure)) (answers : Result State Failure → Type 0) → Once answers → Yields result (OfProgram answers)
+    → (answer : Result State Failure) → answers answer → Yields result (IsAnswer answer)
+answer_from result answers once yields answer other =
+    yields_so (OfProgram answers) (IsAnswer answer) (λ gave so. is_answer gave answers once so answer other) result yields
 
-abbrev not_given : PreFault → Result Program PreFault
-not_given fault = Err fault
+pub answers_from : (ended : Result (Unit {0}) (Halt Fault)) (s : State) (gave : Result Program (Halt Failure)) (answers : Result State Failure → Type 0)
+    → Yields (with_state alone s ended) answers → Finishes ended s gave → Yields gave (OfProgram answers)
+answers_from (Ok nothing) s (Ok program) answers left f = (s, f.0, left)
+answers_from (Ok nothing) s (Err (halts.Refused failure)) answers left f = absurd f.0
+answers_from (Ok nothing) s (Err halts.ReadFault) answers left f = tt
+answers_from (Ok nothing) s (Err halts.NoMemory) answers left f = tt
+answers_from (Err (halts.Refused fault)) s (Ok program) answers left f = absurd f.0
+answers_from (Err (halts.Refused fault)) s (Err (halts.Refused failure)) answers left f =
+    subst (λ (one : Failure). answers (Err one)) (sym f.0) left
+answers_from (Err (halts.Refused fault)) s (Err halts.ReadFault) answers left f = tt
+answers_from (Err (halts.Refused fault)) s (Err halts.NoMemory) answers left f = tt
+answers_from (Err halts.ReadFault) s (Ok program) answers left f = absurd f
+answers_from (Err halts.ReadFault) s (Err (halts.Refused failure)) answers left f = absurd f
+answers_from (Err halts.ReadFault) s (Err halts.ReadFault) answers left f = tt
+answers_from (Err halts.ReadFault) s (Err halts.NoMemory) answers left f = tt
+answers_from (Err halts.NoMemory) s gave answers left f =
+    subst (λ (r : Result Program (Halt Failure)). Yields r (OfProgram answers)) (sym f) tt
 
-ok_not_err : (program : Program) (fault : PreFault) → given program ≡ not_given fault → ⊥
-ok_not_err program fault is = cc is
-
-refused_not_read : (fault : Fault) (files : List (List ℕ)) → not_given (prefaults.Refused fault files) ≡ not_given prefaults.ReadFault → ⊥
-refused_not_read fault files is = cc is
-
-refused_not_memory : (fault : Fault) (files : List (List ℕ)) → not_given (prefaults.Refused fault files) ≡ not_given prefaults.NoMemory → ⊥
-refused_not_memory fault files is = cc is
-
-memory_not_read : not_given prefaults.NoMemory ≡ not_given prefaults.ReadFault → ⊥
-memory_not_read is = cc is
-
-pub answers_from : (ended : Result (Unit {0}) Halt) (s : State) (gave : Result Program PreFault) (answers : Result State Failure → Type 0)
-    → Leaves alone ended s answers → Finishes ended s gave → Gave gave answers
-answers_from (Ok nothing) s (Ok program) answers leaves f = (s, f.0, leaves)
-answers_from (Ok nothing) s (Err (prefaults.Refused fault files)) answers leaves f = absurd f.0
-answers_from (Ok nothing) s (Err prefaults.ReadFault) answers leaves f = tt
-answers_from (Ok nothing) s (Err prefaults.NoMemory) answers leaves f = tt
-answers_from (Err (halts.Refused fault)) s (Ok program) answers leaves f = absurd f.0
-answers_from (Err (halts.Refused fault)) s (Err (prefaults.Refused other files)) answers leaves f =
-    subst answers (λ i. Err (record { fault = sym f.0.0 i; files = sym f.0.1 i })) leaves
-answers_from (Err (halts.Refused fault)) s (Err prefaults.ReadFault) answers leaves f = tt
-answers_from (Err (halts.Refused fault)) s (Err prefaults.NoMemory) answers leaves f = tt
-answers_from (Err halts.ReadFault) s (Ok program) answers leaves f = absurd (ok_not_err program prefaults.ReadFault f)
-answers_from (Err halts.ReadFault) s (Err (prefaults.Refused fault files)) answers leaves f = absurd (refused_not_read fault files f)
-answers_from (Err halts.ReadFault) s (Err prefaults.ReadFault) answers leaves f = tt
-answers_from (Err halts.ReadFault) s (Err prefaults.NoMemory) answers leaves f = tt
-answers_from (Err halts.NoMemory) s (Ok program) answers leaves f = absurd (ok_not_err program prefaults.NoMemory f)
-answers_from (Err halts.NoMemory) s (Err (prefaults.Refused fault files)) answers leaves f = absurd (refused_not_memory fault files f)
-answers_from (Err halts.NoMemory) s (Err prefaults.ReadFault) answers leaves f = tt
-answers_from (Err halts.NoMemory) s (Err prefaults.NoMemory) answers leaves f = tt
-
-pub read_fault_from : (ended : Result (Unit {0}) Halt) (s : State) (gave : Result Program PreFault) (P : Type 0)
-    → (IsReadFault ended → P) → Finishes ended s gave → gave ≡ Err prefaults.ReadFault → P
+pub read_fault_from : (ended : Result (Unit {0}) (Halt Fault)) (s : State) (gave : Result Program (Halt Failure)) (P : Type 0)
+    → (IsReadFault ended → P) → Finishes ended s gave → IsReadFault gave → P
 read_fault_from (Ok nothing) s gave P on f is = absurd (f.1 is)
 read_fault_from (Err (halts.Refused fault)) s gave P on f is = absurd (f.1 is)
 read_fault_from (Err halts.ReadFault) s gave P on f is = on tt
-read_fault_from (Err halts.NoMemory) s gave P on f is = absurd (memory_not_read (sym f ∙ is))
+read_fault_from (Err halts.NoMemory) s gave P on f is = absurd (subst (λ (r : Result Program (Halt Failure)). IsReadFault r) f is)

@@ -5,7 +5,7 @@ use Rattle.std.specs.List.{AllByRecursion}
 use Rattle.std.specs.declared.result.Result.{Result}
 use Rattle.rz_lex.specs.Within.{AreWithin}
 use Rattle.rz_core.specs.Message as message
-use Rattle.rz_core.specs.Stop.{OnFault}
+use Rattle.rz_core.specs.Stop.{halt_of, Meets, OnFault, OnRefusal}
 use Rattle.rz_core.specs.declared.fault.Fault.{Fault}
 use Rattle.rz_core.specs.declared.fault.Mark.{Mark}
 use Rattle.rz_core.specs.declared.resource.Word.{Word}
@@ -16,19 +16,17 @@ use Rattle.rz_lex.specs.Printed.{token_of}
 use Rattle.rz_lex.specs.declared.raw_line.RawLine.{RawLine}
 use Rattle.rz_lex.specs.declared.token.Shape.{Shape}
 use Rattle.rz_lex.specs.declared.token.Token.{Token}
-use Rattle.rz_core.specs.Answers.{Meets}
 use Rattle.rz_pre.specs.Condition.{Tells}
 use Rattle.rz_pre.specs.Condition as condition
 use Rattle.rz_pre_source.specs.Directive.{behind_hash, directive_in, has_parameters, unblanked}
 use Rattle.rz_pre.specs.Expanded.{too_long, ExpandInto, FirstTooLong}
 use Rattle.rz_pre.specs.Line.{Acts, Directs, Does, IsComputed, IsReplaced, Obeys, PutsOut, Says, Turns, WhereKept, behind_first, defined, ended, free_word, included, is_kept, open_part, or_bad, otherwise, passed_over, simple, tested, text_in, undefined, word_in}
 use Rattle.rz_pre.specs.Live.{Live}
-use Rattle.rz_pre.specs.Placed.{AreOn, AreOpenIn, IsSourceFault, OnRefused, PutsOn}
+use Rattle.rz_pre.specs.Placed.{AreOn, AreOpenIn, IsSourceFault, PutsOn}
 use Rattle.rz_pre.specs.Program.{opens_after, state_after, State}
-use Rattle.rz_folder_paths.specs.Halt.{halt_of, IsUnrefused}
 use Rattle.rz_pre.specs.Reading.{Steps}
-use Rattle.rz_folder_paths.specs.declared.halt.Halt.{Halt}
-use Rattle.rz_folder_paths.specs.declared.halt.Halt.TheVariants as halts
+use Rattle.rz_core.specs.declared.stop.Halt.{Halt}
+use Rattle.rz_core.specs.declared.stop.Halt.TheVariants as halts
 use Rattle.rz_pre.specs.declared.act.Act.{Act}
 use Rattle.rz_pre.specs.declared.act.Act.TheVariants as acts
 use Rattle.rz_pre.specs.declared.condition.Tool.{Tool}
@@ -329,23 +327,23 @@ nameable_more files more fault le n = record { number = n.number; nameable = rec
 
 -- What a call that stopped leaves to be named.
 
-pub halt_nameable : (X Y : Type 0) (stop : Stop Fault) (files more : ℕ) → OnFault {X = X} (Err stop) (IsSourceFault files) → files ≤ more → OnRefused {X = Y} (Err (halt_of stop)) more
+pub halt_nameable : (X Y : Type 0) (stop : Stop Fault) (files more : ℕ) → OnFault {X = X} (Err stop) (IsSourceFault files) → files ≤ more → OnRefusal {X = Y} (Err (halt_of stop)) (IsSourceFault more)
 halt_nameable X Y (stops.Refused fault) files more nameable le = nameable_more files more fault le nameable
 halt_nameable X Y stops.NoMemory files more nameable le = tt
 
 pub step_nameable : (tool : Tool) (line : RawLine) (opens : List Open) (s : State) (stop : Stop Fault) (after : List Open) (t : State)
     → Steps tool line opens s (Err stop) after t → OnFault {X = Option (List ℕ)} (Err stop) (IsSourceFault (line.mark.file + 1)) → line.mark.file < length s.files
-    → OnRefused {X = Unit {0}} (Err (halt_of stop)) (length t.files)
+    → OnRefusal {X = Unit {0}} (Err (halt_of stop)) (IsSourceFault (length t.files))
 step_nameable tool line opens s (stops.Refused fault) after t steps nameable below =
     nameable_more (line.mark.file + 1) (length t.files) fault (omega (arith, below, ap (λ (u : State). length u.files) steps.1)) nameable
 step_nameable tool line opens s stops.NoMemory after t steps nameable below = tt
 
-pub unread_nameable : (X Y : Type 0) (halt : Halt) (files : ℕ) → IsUnrefused {X = X} (Err halt) → OnRefused {X = Y} (Err halt) files
+pub unread_nameable : (X Y : Type 0) (halt : Halt Fault) (files : ℕ) → OnRefusal {X = X} (Err halt) (λ _. ⊥) → OnRefusal {X = Y} (Err halt) (IsSourceFault files)
 unread_nameable X Y (halts.Refused fault) files never = absurd never
 unread_nameable X Y halts.ReadFault files never = tt
 unread_nameable X Y halts.NoMemory files never = tt
 
-pub refused_again : (X Y : Type 0) (halt : Halt) (files : ℕ) → OnRefused {X = X} (Err halt) files → OnRefused {X = Y} (Err halt) files
+pub refused_again : (X Y : Type 0) (halt : Halt Fault) (files : ℕ) → OnRefusal {X = X} (Err halt) (IsSourceFault files) → OnRefusal {X = Y} (Err halt) (IsSourceFault files)
 refused_again X Y (halts.Refused fault) files on = on
 refused_again X Y halts.ReadFault files on = tt
 refused_again X Y halts.NoMemory files on = tt

@@ -20,6 +20,7 @@ use Rattle.rz_pre.specs.declared.act.Act.TheVariants.{Begin, End, Include, Put, 
 use Rattle.rz_pre.specs.declared.condition.Tool.{Tool}
 use Rattle.rz_pre.specs.declared.conditional.Open.{Open}
 use Rattle.rz_pre.specs.declared.program.Def.{Def}
+pub use Rattle.rz_pre.specs.declared.program.Failure.{Failure}
 
 -- what was read so far: what is live, the tokens that were put out, and the names under which files were opened
 pub record State : Type 0 where
@@ -27,11 +28,7 @@ pub record State : Type 0 where
   pub tokens : List Token
   pub files : List (List ℕ)
 
--- a fault, and the files that were opened until then
-pub record Failure : Type 0 where
-  pub fault : Fault
-  pub files : List (List ℕ)
-
+-- the fault, and the files that were opened until then
 abbrev pub fails : {X : Type 0} → Fault → State → Result X Failure
 fails fault s = Err (record { fault = fault; files = s.files })
 

@@ -22,5 +22,5 @@ mod unfolding;
 
 pub use condition::Tool;
 pub use laws::{one_expansion, one_program};
-pub use program::{Def, Defs, PreFault, Program};
+pub use program::{Def, Defs, Failure, Program};
 pub use unfolding::preprocess;

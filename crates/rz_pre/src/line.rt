@@ -1,8 +1,7 @@
 ghost use Rattle.std.specs.Prelude.{◌≡◌, ◌+◌, IfOk, Ok};
-ghost use Rattle.rz_core.specs.Stop.{OnFault};
+ghost use Rattle.rz_core.specs.Stop.{OnFault, Meets};
 ghost use Rattle.rz_pre.specs.Placed.{IsSourceFault};
 ghost use Rattle.rz_core.specs.declared.fault.Fault.{Fault};
-ghost use Rattle.rz_core.specs.Answers.{Meets};
 ghost use Rattle.rz_pre_source.specs.Directive.{directive_in, unblanked};
 ghost use Rattle.rz_pre.specs.Line.{bad_directive, behind_first, defined, directive_word, ended, free_word, included, is_kept, open_part, or_bad, otherwise, part_of, passed_over, simple, stray, tested, undefined, Directs, Does, HasCondition, IsCut, IsReplaced, Obeys, PutsOut, Says, Turns};
 ghost use Rattle.rz_pre.specs.Live.{live_in};

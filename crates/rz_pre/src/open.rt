@@ -1,19 +1,17 @@
 ghost use Rattle.std.specs.Prelude.{◌≡◌, ◌+◌, ◌<◌, ◌^◌, OnOk, length, IfOk, IfSome};
 ghost use Rattle.rz_core.specs.Message.{IsMarked};
-ghost use Rattle.rz_core.specs.Stop.{OnFault};
-ghost use Rattle.rz_pre.specs.Placed.{IsSourceFault, OnRefused};
+ghost use Rattle.rz_core.specs.Stop.{IsReadFault, Meets, OnFault, OnRefusal, Yields};
+ghost use Rattle.rz_pre.specs.Placed.{IsSourceFault};
 ghost use Rattle.rz_folder.specs.OnlyReads.{OnlyReads};
-ghost use Rattle.rz_core.specs.Answers.{Meets};
 ghost use Rattle.rz_pre.specs.Lexed.{IsLexedReading};
 ghost use Rattle.rz_pre.specs.Program.{bad_text, HasText, Opens};
-ghost use Rattle.rz_folder_paths.specs.Halt.{IsReadFault};
 ghost use Rattle.rz_folder_paths.specs.Names.{missing_file};
-ghost use Rattle.rz_pre.specs.Reading.{state_of, together, Leaves};
+ghost use Rattle.rz_pre.specs.Reading.{state_of, together, with_state};
 
 use crate::reading::Reading;
-use rz_core::{Bytes, Fault, FileNames, Kept, Mark, Stop};
+use rz_core::{Bytes, Fault, FileNames, Halt, Kept, Mark, Stop};
 use rz_folder::Folder;
-use rz_folder_paths::{Halt, find, missing_file};
+use rz_folder_paths::{find, missing_file};
 use rz_pre_source::to_mac_roman;
 use std::alloc::Global;
 
@@ -26,14 +24,14 @@ pub fn open_file<F: Folder>(
     mark: Option<Mark>,
     kept: &[u8],
     reading: &mut Reading,
-) -> Result<Bytes, Halt>
+) -> Result<Bytes, Halt<Fault>>
     requires { IsMarked (length reading.now.files) mark }
     ensures opened { IfSome (F.files folder.old) (λ files.
-        Leaves together result (state_of reading.new) (Opens files names.now (missing_file mark kept.now) (state_of reading.old))) }
+        Yields (with_state together (state_of reading.new) result) (Opens files names.now (missing_file mark kept.now) (state_of reading.old))) }
     ensures more { OnOk result (length reading.new.files ≡ length reading.old.files + 1) }
     ensures tokens { reading.new.tokens ≡ reading.old.tokens }
     ensures lexed { IsLexedReading reading.old → IsLexedReading reading.new }
-    ensures nameable { OnRefused result (length reading.new.files) }
+    ensures nameable { OnRefusal result (IsSourceFault (length reading.new.files)) }
     ensures short { IfOk result (λ text. length text < 2 ^ 32) }
     ensures reads { OnlyReads F.files F.read_faults F.write_faults folder.old folder.new (IsReadFault result) }
 {

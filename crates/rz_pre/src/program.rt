@@ -1,7 +1,4 @@
-ghost use Rattle.std.specs.Prelude.{◌≡◌};
-ghost use Rattle.rz_pre.specs.declared.program.PreFault.TheVariants.{NoMemory as no_memory};
-
-use rz_core::{Fault, FileNames, Listing, NoMemory, Word, Words};
+use rz_core::{Fault, FileNames, Listing, Word, Words};
 use rz_lex::Tokens;
 use rz_pre_tokens::TokenStore;
 
@@ -28,21 +25,11 @@ pub struct Program {
     pub macros: Words,
 }
 
-/// Why there is no program.
+/// Why there is no program: a rule that is broken.
 #[derive(Debug, Drop)]
-pub enum PreFault {
-    /// A rule is broken. The files are those that were opened until then.
-    Refused(Fault, FileNames),
-    /// A file could not be read.
-    ReadFault,
-    /// Memory was refused.
-    NoMemory,
-}
-
-impl From<NoMemory> for PreFault {
-    ghost from_gives = { λ _ fault. fault ≡ no_memory };
-
-    fn from(_: NoMemory) -> Self {
-        PreFault::NoMemory
-    }
+pub struct Failure {
+    /// The first fault in the order of the lines.
+    pub fault: Fault,
+    /// The names under which files were opened until then, in the order in which they were.
+    pub files: FileNames,
 }

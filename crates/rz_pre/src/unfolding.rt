@@ -5,11 +5,11 @@ ghost use Rattle.rz_pre.specs.Live.{live_in};
 ghost use Rattle.rz_pre.specs.Macros.{rows_of};
 ghost use Rattle.rz_folder.specs.Counts.{Rose};
 ghost use Rattle.rz_folder.specs.OnlyReads.{OnlyReads};
-ghost use Rattle.rz_pre.specs.Placed.{AreOpenIn, IsPlaced, IsSourceFault, OnRefused, StandsInFiles};
+ghost use Rattle.rz_pre.specs.Placed.{AreOpenIn, IsPlaced, IsSourceFault};
 ghost use Rattle.rz_pre.specs.Program.{ends, live_after, open_if, start, too_deep, Enters, Failure, IncludedGoes, NamedGoes, NamesGo, ProgramGoes, State, TextGoes};
-ghost use Rattle.rz_pre.specs.Reading.{alone, state_of, together, Finishes, Gave, IsProgram, IsQuiet, Leaves, Matches};
-ghost use Rattle.rz_folder_paths.specs.Halt.{IsReadFault};
-ghost use Rattle.rz_pre.specs.declared.program.PreFault.TheVariants.{ReadFault};
+ghost use Rattle.rz_pre.specs.Reading.{alone, state_of, together, with_state, Finishes, IsAnswer, IsProgram, OfProgram};
+ghost use Rattle.rz_core.specs.Stop.{IsReadFault, OnRefusal, Yields};
+ghost use Rattle.rz_lex.specs.Within.{AreWithin};
 
 use crate::condition::Tool;
 use crate::conditional::Open;
@@ -17,11 +17,11 @@ use crate::copy::copy_all;
 use crate::laws::one_program;
 use crate::macros::Macros;
 use crate::open::open_file;
-use crate::program::{Defs, PreFault, Program};
+use crate::program::{Defs, Failure, Program};
 use crate::reading::{Reading, step};
-use rz_core::{Bytes, Fault, FileNames, Kept, Mark, NoMemory};
+use rz_core::{Bytes, Fault, FileNames, Halt, Kept, Mark, NoMemory};
 use rz_folder::Folder;
-use rz_folder_paths::{Halt, names_of};
+use rz_folder_paths::names_of;
 use rz_lex::{Position, every_text_has_lines, next_line, tokens_are_lexed};
 use std::alloc::Global;
 
@@ -44,15 +44,15 @@ fn read_file<F: Folder>(
     file: u64,
     text: &[u8],
     reading: &mut Reading,
-) -> Result<(), Halt>
+) -> Result<(), Halt<Fault>>
     requires short { length text.now < 2 ^ 32 }
     requires open { file < length reading.now.files }
     requires placed { IsPlaced reading.now }
-    ensures read { IfSome (F.files folder.old) (λ files. Leaves alone result (state_of reading.new)
+    ensures read { IfSome (F.files folder.old) (λ files. Yields (with_state alone (state_of reading.new) result)
         (TextGoes (IncludedGoes setting.entry.tool files setting.entry.paths.now levels) setting.entry.tool file text.now (state_of reading.old))) }
     ensures placed { OnOk result (IsPlaced reading.new) }
     ensures more { OnOk result (length reading.old.files ≤ length reading.new.files) }
-    ensures nameable { OnRefused result (length reading.new.files) }
+    ensures nameable { OnRefusal result (IsSourceFault (length reading.new.files)) }
     ensures lexed { IsLexedReading reading.old → OnOk result (IsLexedReading reading.new) }
     ensures reads { OnlyReads F.files F.read_faults F.write_faults folder.old folder.new (IsReadFault result) }
 {
@@ -91,10 +91,10 @@ fn read_file<F: Folder>(
 }
 
 /// Behind the last line of a file no conditional may be open.
-fn end(opens: &[Open]) -> Result<(), Halt>
-    ensures nameable { (files : ℕ) → AreOpenIn files (reverse opens.now) → OnRefused result files }
-    ensures end { (s : State) → Leaves alone result s (λ answer. answer ≡ ends (reverse opens.now) s) }
-    ensures quiet { IsQuiet result }
+fn end(opens: &[Open]) -> Result<(), Halt<Fault>>
+    ensures nameable { (files : ℕ) → AreOpenIn files (reverse opens.now) → OnRefusal result (IsSourceFault files) }
+    ensures end { (s : State) → Yields (with_state alone s result) (λ answer. answer ≡ ends (reverse opens.now) s) }
+    ensures quiet { IsReadFault result → ⊥ }
 {
     match opens.last() {
         Some(innermost) => Err(Halt::Refused(open_if(*innermost))),
@@ -135,15 +135,15 @@ fn open_included<F: Folder>(
     name: &[u8],
     mark: Mark,
     reading: &mut Reading,
-) -> Result<Bytes, Halt>
+) -> Result<Bytes, Halt<Fault>>
     requires { mark.file < length reading.now.files }
-    ensures opened { IfSome (F.files folder.old) (λ files. Leaves together result (state_of reading.new)
+    ensures opened { IfSome (F.files folder.old) (λ files. Yields (with_state together (state_of reading.new) result)
         (Enters files setting.entry.paths.now levels name.now mark (state_of reading.old))) }
     ensures deep { IfOk result (λ _. 0 < levels) }
     ensures short { IfOk result (λ text. length text < 2 ^ 32) }
     ensures more { OnOk result (length reading.new.files ≡ length reading.old.files + 1) }
     ensures tokens { reading.new.tokens ≡ reading.old.tokens }
-    ensures nameable { OnRefused result (length reading.new.files) }
+    ensures nameable { OnRefusal result (IsSourceFault (length reading.new.files)) }
     ensures lexed { IsLexedReading reading.old → IsLexedReading reading.new }
     ensures reads { OnlyReads F.files F.read_faults F.write_faults folder.old folder.new (IsReadFault result) }
 {
@@ -161,13 +161,13 @@ fn read_names<F: Folder>(
     setting: Setting<'_>,
     names: &FileNames,
     reading: &mut Reading,
-) -> Result<(), Halt>
+) -> Result<(), Halt<Fault>>
     requires { IsPlaced reading.now }
-    ensures read { IfSome (F.files folder.old) (λ files. Leaves alone result (state_of reading.new)
+    ensures read { IfSome (F.files folder.old) (λ files. Yields (with_state alone (state_of reading.new) result)
         (NamesGo setting.entry.tool files setting.entry.paths.now names.now (state_of reading.old))) }
     ensures placed { OnOk result (IsPlaced reading.new) }
     ensures more { OnOk result (length reading.old.files ≤ length reading.new.files) }
-    ensures nameable { OnRefused result (length reading.new.files) }
+    ensures nameable { OnRefusal result (IsSourceFault (length reading.new.files)) }
     ensures lexed { IsLexedReading reading.old → OnOk result (IsLexedReading reading.new) }
     ensures reads { OnlyReads F.files F.read_faults F.write_faults folder.old folder.new (IsReadFault result) }
 {
@@ -186,13 +186,13 @@ fn read_named<F: Folder>(
     setting: Setting<'_>,
     name: &str,
     reading: &mut Reading,
-) -> Result<(), Halt>
+) -> Result<(), Halt<Fault>>
     requires { IsPlaced reading.now }
-    ensures read { IfSome (F.files folder.old) (λ files. Leaves alone result (state_of reading.new)
+    ensures read { IfSome (F.files folder.old) (λ files. Yields (with_state alone (state_of reading.new) result)
         (NamedGoes setting.entry.tool files setting.entry.paths.now name.now (state_of reading.old))) }
     ensures placed { OnOk result (IsPlaced reading.new) }
     ensures more { OnOk result (length reading.old.files ≤ length reading.new.files) }
-    ensures nameable { OnRefused result (length reading.new.files) }
+    ensures nameable { OnRefusal result (IsSourceFault (length reading.new.files)) }
     ensures lexed { IsLexedReading reading.old → OnOk result (IsLexedReading reading.new) }
     ensures reads { OnlyReads F.files F.read_faults F.write_faults folder.old folder.new (IsReadFault result) }
 {
@@ -233,12 +233,12 @@ fn read_all<F: Folder>(
     names: &FileNames,
     defs: &Defs,
     reading: &mut Reading,
-) -> Result<(), Halt>
+) -> Result<(), Halt<Fault>>
     requires { state_of reading.now ≡ start [] }
-    ensures read { IfSome (F.files folder.old) (λ files. Leaves alone result (state_of reading.new)
+    ensures read { IfSome (F.files folder.old) (λ files. Yields (with_state alone (state_of reading.new) result)
         (ProgramGoes files setting.entry.tool names.now setting.entry.paths.now defs.now)) }
     ensures placed { OnOk result (IsPlaced reading.new) }
-    ensures nameable { OnRefused result (length reading.new.files) }
+    ensures nameable { OnRefusal result (IsSourceFault (length reading.new.files)) }
     ensures lexed { HaveLexedTexts defs.now → OnOk result (IsLexedReading reading.new) }
     ensures reads { OnlyReads F.files F.read_faults F.write_faults folder.old folder.new (IsReadFault result) }
 {
@@ -247,18 +247,26 @@ fn read_all<F: Folder>(
 }
 
 /// What the whole call gives, where reading ended so.
-fn finish(alloc: Global, reading: Reading, ended: Result<(), Halt>) -> Result<Program, PreFault>
+fn finish(
+    alloc: Global,
+    reading: Reading,
+    ended: Result<(), Halt<Fault>>,
+) -> Result<Program, Halt<Failure>>
     requires placed { OnOk ended (IsPlaced reading) }
-    requires nameable { OnRefused ended (length reading.files) }
+    requires nameable { OnRefusal ended (IsSourceFault (length reading.files)) }
     ensures finished { Finishes ended (state_of reading) result }
     ensures lexed { OnOk ended (IsLexedReading reading) → IfOk result (λ program. AreLexed program.tokens) }
-    ensures stands { StandsInFiles result }
+    ensures within { IfOk result (λ program. AreWithin (length program.files) program.tokens) }
+    ensures nameable { OnRefusal result (λ failure. IsSourceFault (length failure.files) failure.fault) }
 {
     match ended {
         Ok(()) => Ok(into_program(alloc, reading)?),
-        Err(Halt::Refused(fault)) => Err(PreFault::Refused(fault, reading.files)),
-        Err(Halt::ReadFault) => Err(PreFault::ReadFault),
-        Err(Halt::NoMemory) => Err(PreFault::NoMemory),
+        Err(Halt::Refused(fault)) => Err(Halt::Refused(Failure {
+            fault,
+            files: reading.files,
+        })),
+        Err(Halt::ReadFault) => Err(Halt::ReadFault),
+        Err(Halt::NoMemory) => Err(Halt::NoMemory),
     }
 }
 
@@ -305,16 +313,17 @@ pub fn preprocess<F: Folder>(
     names: &FileNames,
     paths: &FileNames,
     defs: &Defs,
-) -> Result<Program, PreFault>
-    ensures program { IfSome (F.files folder.old) (λ files. Gave result (ProgramGoes files tool names.now paths.now defs.now)) }
+) -> Result<Program, Halt<Failure>>
+    ensures program { IfSome (F.files folder.old) (λ files. Yields result (OfProgram (ProgramGoes files tool names.now paths.now defs.now))) }
     ensures every { IfSome (F.files folder.old) (λ files. (answer : Result State Failure)
-        → ProgramGoes files tool names.now paths.now defs.now answer → Matches result answer) }
-    ensures stands { StandsInFiles result }
+        → ProgramGoes files tool names.now paths.now defs.now answer → Yields result (IsAnswer answer)) }
+    ensures within { IfOk result (λ program. AreWithin (length program.files) program.tokens) }
+    ensures nameable { OnRefusal result (λ failure. IsSourceFault (length failure.files) failure.fault) }
     ensures lexed { HaveLexedTexts defs.now → IfOk result (λ program. AreLexed program.tokens) }
     ensures unchanged { F.files folder.new ≡ F.files folder.old }
     ensures counted { F.read_faults folder.old ≤ F.read_faults folder.new }
     ensures other_count { F.write_faults folder.new ≡ F.write_faults folder.old }
-    ensures cause { result ≡ Err ReadFault → Rose (F.read_faults folder.old) (F.read_faults folder.new) }
+    ensures cause { IsReadFault result → Rose (F.read_faults folder.old) (F.read_faults folder.new) }
 {
     one_program();
     let mut reading = Reading::new(alloc);

@@ -6,12 +6,12 @@ use Rattle.rz_core.specs.declared.fault.Mark.{Mark}
 use Rattle.rz_core.specs.declared.stop.Stop.{Stop}
 use Rattle.rz_core.specs.declared.stop.Stop.TheVariants.{NoMemory, Refused}
 use Rattle.rz_lex.specs.declared.token.Token.{Token}
-use Rattle.rz_core.specs.Stop.{◌>>=◌, Gives}
+use Rattle.rz_core.specs.Stop.{◌>>=◌, Gives, seen, Meets}
 use Rattle.rz_stmt_type.specs.Constants.{declare_of, declared, Declare}
 use Rattle.rz_stmt_type.specs.Declare.{IsDeclare}
 use Rattle.rz_stmt_fields.specs.Form.{DeclareForm}
 use Rattle.rz_stmt_type.specs.declared.constants.DeclareStmt.{DeclareStmt}
-use Rattle.rz_stmt.specs.Grammar.{alone, data_statement, list_statement, mark_of, none, resource_statement, statement, statement_of, syntax, type_statement, Compiled, Declared, Declares, Gave, IsStatement, Listed, Parses, Statement}
+use Rattle.rz_stmt.specs.Grammar.{alone, data_statement, list_statement, mark_of, none, resource_statement, statement, statement_of, syntax, type_statement, Compiled, Declared, Declares, IsStatement, Listed, Parses, Statement}
 use Rattle.rz_stmt_brackets.specs.Limit.{is_within_limits}
 use Rattle.rz_stmt_data.specs.Raw.{IsRaw, Raw}
 use Rattle.rz_stmt_items.specs.Compile.{Compile, IsCompile}
@@ -23,7 +23,7 @@ abbrev declare_fault : Mark → DeclareForm → Result Statement Fault
 declare_fault mark form = declared mark form >>= (λ made. Ok (Declares made))
 
 -- what was answered, as another answer
-pub gave_so : (P Q : Result Statement Fault → Type 0) → ((answer : Result Statement Fault) → P answer → Q answer) → (result : Result Stmt (Stop Fault)) → Gave result P → Gave result Q
+pub gave_so : (P Q : Result Statement Fault → Type 0) → ((answer : Result Statement Fault) → P answer → Q answer) → (result : Result Stmt (Stop Fault)) → Meets (seen statement_of result) P → Meets (seen statement_of result) Q
 gave_so P Q so (Ok one) gave = so (Ok (statement_of one)) gave
 gave_so P Q so (Err (Refused fault)) gave = so (Err fault) gave
 gave_so P Q so (Err NoMemory) gave = tt
@@ -50,7 +50,7 @@ module _ (mark : Mark) (tokens : List Token) (same : mark ≡ mark_of tokens) (w
   lists answer (inl (one, is, says)) = statement within (list_statement one is says)
   lists answer (inr (never, compiled)) = compiles never answer compiled
 
-  pub parsed : (result : Result Stmt (Stop Fault)) → Gave result (Listed mark tokens) → Gave result (Parses tokens)
+  pub parsed : (result : Result Stmt (Stop Fault)) → Meets (seen statement_of result) (Listed mark tokens) → Meets (seen statement_of result) (Parses tokens)
   parsed = gave_so (Listed mark tokens) (Parses tokens) lists
 
 pub first_mark : (tokens : List Token) (default : Token) → 0 < length tokens → (get_or tokens 0 default).mark ≡ mark_of tokens
@@ -63,6 +63,6 @@ pub valued : (mark : Mark) (tokens : List Token) (form : DeclareForm) → IsDecl
 valued mark tokens form is stmt gives = inl (form, is, ap (λ (r : Result Declare Fault). r >>= (λ made. Ok (Declares made))) (sym gives))
 
 pub faulty : (mark : Mark) (tokens : List Token) (form : DeclareForm) → IsDeclare tokens form → (stop : Stop Fault)
-    → Gives {X = Declare} (declared mark form) (Err stop) → Gave (Err stop) (Declared mark tokens)
+    → Gives {X = Declare} (declared mark form) (Err stop) → Meets (seen statement_of (Err stop)) (Declared mark tokens)
 faulty mark tokens form is (Refused fault) gives = inl (form, is, ap (λ (r : Result Declare Fault). r >>= (λ made. Ok (Declares made))) (sym gives))
 faulty mark tokens form is NoMemory gives = tt

@@ -5,8 +5,6 @@ use Rattle.rz_core.specs.Stop.{◌>>=◌}
 use Rattle.rz_core.specs.declared.fault.Fault.{Fault}
 use Rattle.rz_core.specs.declared.fault.Kept.TheVariants.{Nothing}
 use Rattle.rz_core.specs.declared.fault.Mark.{Mark}
-use Rattle.rz_core.specs.declared.stop.Stop.{Stop}
-use Rattle.rz_core.specs.declared.stop.Stop.TheVariants.{Refused, NoMemory}
 use Rattle.rz_lex.specs.declared.token.Token.{Token}
 use Rattle.rz_stmt_type.specs.Constants.{declare_of, declared, Declare}
 use Rattle.rz_stmt_type.specs.Declare.{IsDeclare}
@@ -78,12 +76,6 @@ abbrev pub Listed : Mark → List Token → Result Statement Fault → Type 0
 Listed mark tokens answer =
     ((one : ListForm) × IsListed tokens one × (answer ≡ Ok (Lists one)))
     ⊎ (((one : ListForm) → IsListed tokens one → ⊥) × Compiled mark tokens answer)
-
--- the call gave what is answered, or memory was refused
-abbrev pub Gave : Result Stmt (Stop Fault) → (Result Statement Fault → Type 0) → Type 0
-Gave (Ok one) answers = answers (Ok (statement_of one))
-Gave (Err (Refused fault)) answers = answers (Err fault)
-Gave (Err NoMemory) answers = Unit {0}
 
 -- the fields that it declares are well shaped; no other statement has any
 abbrev pub IsShapedStatement : Statement → Type 0

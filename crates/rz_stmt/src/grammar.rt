@@ -1,10 +1,10 @@
 ghost use Rattle.std.specs.Prelude.{◌≡◌, ◌<◌, ◌≤◌, ◌-◌, ℕ, true, IfOk, Some, drop, length, take};
 ghost use Rattle.rz_lex.specs.Within.{AreWithin};
 ghost use Rattle.rz_core.specs.Message.{IsNameable};
-ghost use Rattle.rz_core.specs.Stop.{OnFault};
+ghost use Rattle.rz_core.specs.Stop.{OnFault, seen, Meets};
 ghost use Rattle.rz_lex.specs.Lexeme.{AreLexed};
 ghost use Rattle.rz_stmt_brackets.specs.Limit.{is_within_limits};
-ghost use Rattle.rz_stmt.specs.Grammar.{Compiled, Declared, Gave, IsPlacedStatement, IsShapedStatement, Listed, Parses, statement_of};
+ghost use Rattle.rz_stmt.specs.Grammar.{Compiled, Declared, IsPlacedStatement, IsShapedStatement, Listed, Parses, statement_of};
 ghost use Rattle.rz_core.specs.declared.fault.Kept.TheVariants.{Nothing};
 
 use rz_core::{Fault, Kept, Mark, Stop};
@@ -41,7 +41,7 @@ pub enum Stmt {
 /// empty, as each of `statements`. (MPW Rez.)
 pub fn parse(alloc: Global, tokens: &Tokens, span: Span) -> Result<Stmt, Stop<Fault>>
     requires { (span.start < span.end) × (span.end ≤ length tokens.now) }
-    ensures parsed { Gave result (Parses (take (span.end - span.start) (drop span.start tokens.now))) }
+    ensures parsed { Meets (seen statement_of result) (Parses (take (span.end - span.start) (drop span.start tokens.now))) }
     ensures nameable { (files : ℕ) → AreWithin files tokens.now → OnFault result (IsNameable files) }
     ensures shaped { AreLexed tokens.now → IfOk result (λ stmt. IsShapedStatement (statement_of stmt)) }
     ensures placed { (files : ℕ) → AreWithin files tokens.now → IfOk result (λ stmt. IsPlacedStatement files (statement_of stmt)) }
@@ -55,7 +55,7 @@ pub fn parse(alloc: Global, tokens: &Tokens, span: Span) -> Result<Stmt, Stop<Fa
 /// The same of all these tokens.
 fn parse_all(alloc: Global, tokens: &[Token]) -> Result<Stmt, Stop<Fault>>
     requires { 0 < length tokens.now }
-    ensures parsed { Gave result (Parses tokens.now) }
+    ensures parsed { Meets (seen statement_of result) (Parses tokens.now) }
     ensures nameable { (files : ℕ) → AreWithin files tokens.now → OnFault result (IsNameable files) }
     ensures shaped { AreLexed tokens.now → IfOk result (λ stmt. IsShapedStatement (statement_of stmt)) }
     ensures placed { (files : ℕ) → AreWithin files tokens.now → IfOk result (λ stmt. IsPlacedStatement files (statement_of stmt)) }
@@ -75,7 +75,7 @@ fn parse_all(alloc: Global, tokens: &[Token]) -> Result<Stmt, Stop<Fault>>
 
 /// The statement over lists of resources that the tokens are, or else the `resource` or `type` statement, or 201.
 fn parse_list(alloc: Global, mark: Mark, tokens: &[Token]) -> Result<Stmt, Stop<Fault>>
-    ensures parsed { Gave result (Listed mark tokens.now) }
+    ensures parsed { Meets (seen statement_of result) (Listed mark tokens.now) }
     ensures nameable { (files : ℕ) → mark.file < files → OnFault result (IsNameable files) }
     ensures shaped { AreLexed tokens.now → is_within_limits tokens.now ≡ true → IfOk result (λ stmt. IsShapedStatement (statement_of stmt)) }
     ensures placed { (files : ℕ) → AreWithin files tokens.now → IfOk result (λ stmt. IsPlacedStatement files (statement_of stmt)) }
@@ -88,7 +88,7 @@ fn parse_list(alloc: Global, mark: Mark, tokens: &[Token]) -> Result<Stmt, Stop<
 
 /// The `resource` statement that the tokens are, or else the `type` statement, or 201.
 fn parse_compile(alloc: Global, mark: Mark, tokens: &[Token]) -> Result<Stmt, Stop<Fault>>
-    ensures parsed { Gave result (Compiled mark tokens.now) }
+    ensures parsed { Meets (seen statement_of result) (Compiled mark tokens.now) }
     ensures nameable { (files : ℕ) → mark.file < files → OnFault result (IsNameable files) }
     ensures shaped { AreLexed tokens.now → is_within_limits tokens.now ≡ true → IfOk result (λ stmt. IsShapedStatement (statement_of stmt)) }
     ensures placed { (files : ℕ) → AreWithin files tokens.now → IfOk result (λ stmt. IsPlacedStatement files (statement_of stmt)) }
@@ -102,7 +102,7 @@ fn parse_compile(alloc: Global, mark: Mark, tokens: &[Token]) -> Result<Stmt, St
 
 /// The `type` statement that the tokens are, or else 201.
 fn parse_declare(alloc: Global, mark: Mark, tokens: &[Token]) -> Result<Stmt, Stop<Fault>>
-    ensures parsed { Gave result (Declared mark tokens.now) }
+    ensures parsed { Meets (seen statement_of result) (Declared mark tokens.now) }
     ensures nameable { (files : ℕ) → mark.file < files → OnFault result (IsNameable files) }
     ensures shaped { AreLexed tokens.now → is_within_limits tokens.now ≡ true → IfOk result (λ stmt. IsShapedStatement (statement_of stmt)) }
     ensures placed { (files : ℕ) → IfOk result (λ stmt. IsPlacedStatement files (statement_of stmt)) }

@@ -2,7 +2,8 @@
 use Rattle.std.proofs.Common.{◌≡◌, ℕ, zero, suc, ◌+◌, ◌<◌, ℤ, List, [], ◌∷◌, ◌++◌, drop, length, Ok, Err, refl, sym, ap, ◌∙◌, append_assoc, arith}
 use Rattle.std.specs.Prelude.{Option}
 use Rattle.std.specs.declared.result.Result.{Result}
-use Rattle.rz_core.specs.Stop.{◌>>=◌, Gives}
+use Rattle.rz_stmt_items.specs.Line.{line_of}
+use Rattle.rz_core.specs.Stop.{◌>>=◌, Gives, seen}
 use Rattle.rz_core.specs.declared.facts.Facts.{Facts}
 use Rattle.rz_core.specs.declared.fault.Fault.{Fault}
 use Rattle.rz_core.specs.declared.fault.Mark.{Mark}
@@ -15,7 +16,6 @@ use Rattle.rz_stmt_items.specs.declared.item.Item.TheFolds.{fold-roll-Item}
 use Rattle.rz_stmt_items.specs.declared.item.Item.TheOpen.{Item-F}
 use Rattle.rz_stmt_items.specs.declared.item.Item.TheVariants as variants
 use Rattle.rz_stmt_items.specs.Fits.{list_of}
-use Rattle.rz_stmt_items.specs.Line.{GivesLine}
 use Rattle.rz_stmt_items.specs.Matched.{counted, item_for, row_matched, rows_matched, Line}
 use Rattle.rz_stmt_items.proofs.Lines.{RowMatched}
 use Rattle.rz_stmt_items.proofs.Steps.{rows_behind}
@@ -53,7 +53,7 @@ module _ (row : RowMatched) (whole : Result (List (List Tree)) Fault) (rows : Li
   row_is : rows_behind rows (row before items >>= with_others) ≡ whole
   row_is = ap (λ (xs : List PlainItem). rows_behind rows (row before xs >>= with_others)) are ∙ (λ i. rows_behind rows (rows_matched row (sym one i) before (sym are i))) ∙ so
 
-  pub row_refused : (all : List Item) (stop : Stop Fault) → GivesLine all (row before items) (Err stop) → Gives whole (Err stop)
+  pub row_refused : (all : List Item) (stop : Stop Fault) → Gives (row before items) (seen (line_of all) (Err stop)) → Gives whole (Err stop)
   row_refused all (Refused fault) is = sym row_is ∙ ap (λ (r : Result Line Fault). rows_behind rows (r >>= with_others)) is
   row_refused all NoMemory is = tt
 

@@ -2,8 +2,7 @@
 use Rattle.std.proofs.Common.{◌≡◌, List, refl, sym, ◌∙◌}
 use Rattle.std.specs.Prelude.{Ok, Err}
 use Rattle.std.specs.declared.result.Result.{Result}
-use Rattle.rz_core.specs.Answers.{Meets}
-use Rattle.rz_core.specs.Stop.{Gives}
+use Rattle.rz_core.specs.Stop.{Meets, Gives}
 use Rattle.rz_core.specs.declared.facts.Facts.{Facts}
 use Rattle.rz_core.specs.declared.fault.Fault.{Fault}
 use Rattle.rz_core.specs.declared.fault.Mark.{Mark}

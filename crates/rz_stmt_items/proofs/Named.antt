@@ -4,9 +4,8 @@ use Rattle.std.specs.List.{AllByRecursion}
 use Rattle.std.specs.Prelude.{Option, Some, None, Ok, Err, replicate}
 use Rattle.std.specs.Str.{str_eq_ignore_ascii_case}
 use Rattle.std.specs.declared.result.Result.{Result}
-use Rattle.rz_core.specs.Answers.{Meets}
+use Rattle.rz_core.specs.Stop.{Meets, ◌>>=◌, OnFault}
 use Rattle.rz_core.specs.Message.{is_fault, IsNameable}
-use Rattle.rz_core.specs.Stop.{◌>>=◌, OnFault}
 use Rattle.rz_core.specs.declared.facts.Facts.{Facts}
 use Rattle.rz_core.specs.declared.fault.Fault.{Fault}
 use Rattle.rz_core.specs.declared.fault.Mark.{Mark}

@@ -1,12 +1,11 @@
 ghost use Rattle.std.specs.Prelude.{◌≡◌, ◌<◌, ◌^◌, ℕ, List, IfOk, drop, length};
 ghost use Rattle.std.specs.declared.result.Result.{Result as result_of};
-ghost use Rattle.rz_core.specs.Answers.{Meets};
+ghost use Rattle.rz_stmt_items.specs.Line.{line_of};
+ghost use Rattle.rz_core.specs.Stop.{Meets, Gives, OnFault, seen};
 ghost use Rattle.rz_core.specs.Message.{IsNameable};
-ghost use Rattle.rz_core.specs.Stop.{Gives, OnFault};
 ghost use Rattle.rz_core.specs.declared.fault.Fault.{Fault as fault};
 ghost use Rattle.rz_stmt_items.specs.Item.{plain_item, plain_items};
 ghost use Rattle.rz_stmt_items.specs.Places.{AreItemsWithin};
-ghost use Rattle.rz_stmt_items.specs.Line.{GivesLine};
 ghost use Rattle.rz_stmt_items.specs.Match.{IsMatch};
 ghost use Rattle.rz_stmt_items.specs.Matched.{case_matched, counted, item_for, matched, row_matched, rows_matched};
 ghost use Rattle.rz_types_fields.specs.declared.tree.Tree.{Tree as tree};
@@ -100,7 +99,7 @@ fn match_row(
     place: Mark,
     facts: &Facts,
 ) -> Result<Line, Stop<Fault>>
-    ensures { GivesLine items.now (row_matched facts.now (plain_body fields.now) place (plain_items items.now) before (plain_items (drop before items.now))) result }
+    ensures { Gives (row_matched facts.now (plain_body fields.now) place (plain_items items.now) before (plain_items (drop before items.now))) (seen (line_of items.now) result) }
 {
     let mut row = Row::with_capacity(alloc, values_of(fields))?;
     let mut next = before;

@@ -3,7 +3,7 @@ use Rattle.std.proofs.Common.{ℕ, ℤ, ◌<◌, Bool, true, false, if◌then◌
 use Rattle.std.specs.declared.result.Result.{Result}
 use Rattle.std.specs.Prelude.{pos, ◌+ℤ◌}
 use Rattle.rz_core.specs.Message.{IsNameable}
-use Rattle.rz_core.specs.Stop.{◌>>=◌, Gives, OnFault}
+use Rattle.rz_core.specs.Stop.{◌>>=◌, Gives, OnFault, seen}
 use Rattle.rz_core.specs.declared.fault.Fault.{Fault}
 use Rattle.rz_core.specs.declared.fault.Mark.{Mark}
 use Rattle.rz_core.specs.declared.resource.Word.{Word}
@@ -14,7 +14,7 @@ use Rattle.rz_expr.specs.Value.{reduced, value_of}
 use Rattle.rz_expr.specs.Constant.{constant_sight}
 use Rattle.rz_expr.specs.declared.value.EvalFault.{EvalFault}
 use Rattle.rz_expr.specs.declared.value.EvalFault.TheVariants.{BadShift, DataWidth, LaterData, UnknownName, ZeroDivisor}
-use Rattle.rz_stmt_type.specs.Constants.{body_value, cases_value, count_value, declare_of, declared, field_value, given_value, key_value, made_value, number_of_width, number_value, scope_value, seen, width_value}
+use Rattle.rz_stmt_type.specs.Constants.{body_value, cases_value, count_value, declare_of, declared, field_value, given_value, key_value, made_value, number_of_width, number_value, scope_value, width_value}
 use Rattle.rz_stmt_fields.specs.Form.{BodyForm, CasesForm, DeclareForm, FieldForm, MadeForm, NamedTerm, NumberForm, Own, ScopeForm, WidthForm, Written}
 use Rattle.rz_stmt_fields.specs.Form as form
 use Rattle.rz_types_fields.specs.Value.{constant_value, value_fault, with_fault}

@@ -1,11 +1,10 @@
 -- A `type` statement with the values of its constants. They are computed from left to right, and the first that has no
 -- value, or that is a symbol's and outside its range, is the fault of the statement. (MPW Rez.)
-use Rattle.std.specs.Prelude.{ℕ, ℤ, pos, Bool, true, Option, Some, None, Ok, Err}
+use Rattle.std.specs.Prelude.{ℕ, ℤ, pos, Bool, true, Option, Some, None, Ok}
 use Rattle.std.specs.declared.result.Result.{Result}
 use Rattle.rz_core.specs.Stop.{◌>>=◌}
 use Rattle.rz_core.specs.declared.fault.Fault.{Fault}
 use Rattle.rz_core.specs.declared.fault.Mark.{Mark}
-use Rattle.rz_core.specs.declared.stop.Stop.{Stop}
 use Rattle.rz_stmt_fields.specs.Form.{BodyForm, CaseForm, CasesForm, DeclareForm, FieldForm, MadeForm, NumberForm, Own, ScopeForm, WidthForm, Written}
 use Rattle.rz_stmt_fields.specs.Form as form
 use Rattle.rz_types_fields.specs.Value.{constant_value}
@@ -107,8 +106,3 @@ made_value mark (form.CopyOf kind id) = given_value mark id >>= (λ value. Ok (C
 abbrev pub declared : Mark → DeclareForm → Result Declare Fault
 declared mark stmt =
     scope_value mark stmt.scope >>= (λ bounds. made_value mark stmt.made >>= (λ made. Ok (record { kind = stmt.kind; bounds = bounds; made = made })))
-
--- what a call gives, as it is seen
-abbrev pub seen : {X Y F : Type 0} → (Y → X) → Result Y (Stop F) → Result X (Stop F)
-seen view (Ok value) = Ok (view value)
-seen view (Err stop) = Err stop

@@ -1,9 +1,9 @@
 ghost use Rattle.std.specs.Prelude.{◌≡◌, ◌<◌, ℕ, map, option_map};
 ghost use Rattle.rz_core.specs.Message.{IsNameable};
-ghost use Rattle.rz_core.specs.Stop.{Gives, OnFault};
+ghost use Rattle.rz_core.specs.Stop.{Gives, OnFault, seen};
 ghost use Rattle.rz_expr.specs.Term.{term_of};
 ghost use Rattle.rz_types_fields.specs.Field.{plain_array, plain_body, plain_case, plain_cases, plain_field, plain_number};
-ghost use Rattle.rz_stmt_type.specs.Constants.{body_value, case_value, cases_value, count_value, declare_of, declared, field_value, given_value, key_value, made_of, made_value, number_of_width, number_value, scope_value, seen, two_value, width_value};
+ghost use Rattle.rz_stmt_type.specs.Constants.{body_value, case_value, cases_value, count_value, declare_of, declared, field_value, given_value, key_value, made_of, made_value, number_of_width, number_value, scope_value, two_value, width_value};
 ghost use Rattle.rz_stmt_fields.specs.Form.{array_form, body_form, case_form, cases_form, declare_form, field_form, made_form, number_form, scope_form, width_form};
 
 use crate::values::values_of;

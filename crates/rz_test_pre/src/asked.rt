@@ -1,8 +1,8 @@
 use crate::spelled::spelled;
-use rz_core::{Bytes, FileNames, Word};
+use rz_core::{Bytes, FileNames, Halt, Word};
 use rz_folder::MemFolder;
 use rz_lex::Tokens;
-use rz_pre::{Def, Defs, PreFault, Program, Tool, preprocess};
+use rz_pre::{Def, Defs, Failure, Program, Tool, preprocess};
 use rz_test_tables::{CaseFault, tokens_of};
 use std::alloc::Global;
 use std::test::Fail;
@@ -117,7 +117,7 @@ impl Asked {
     }
 
     /// What the call answers.
-    pub fn answer(&mut self) -> Result<Program, PreFault> {
+    pub fn answer(&mut self) -> Result<Program, Halt<Failure>> {
         preprocess(
             self.alloc,
             &mut self.folder,

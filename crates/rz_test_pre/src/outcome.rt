@@ -1,7 +1,7 @@
 use rz_core::{
-    Bytes, Fault, FileNames, Kept, Mark, Words, from_roman, write_decimal, write_signed,
+    Bytes, Fault, FileNames, Halt, Kept, Mark, Words, from_roman, write_decimal, write_signed,
 };
-use rz_pre::{PreFault, Program};
+use rz_pre::{Failure, Program};
 use rz_pre_tokens::TokenStore;
 use rz_test_tables::append_shape;
 use std::alloc::Global;
@@ -9,7 +9,7 @@ use std::test::Fail;
 
 /// An answer as text: the tokens with blanks between them, or the fault; and then the files, unless they
 /// are `main` alone.
-pub fn text_of(alloc: Global, answer: &Result<Program, PreFault>) -> Result<String, Fail> {
+pub fn text_of(alloc: Global, answer: &Result<Program, Halt<Failure>>) -> Result<String, Fail> {
     let mut text = String::new(alloc);
     match answer {
         Ok(program) => {
@@ -19,12 +19,12 @@ pub fn text_of(alloc: Global, answer: &Result<Program, PreFault>) -> Result<Stri
             )?;
             append_files(&program.files, &mut text)?;
         }
-        Err(PreFault::Refused(fault, files)) => {
-            append_roman(text_of_fault(alloc, fault)?.as_slice(), &mut text)?;
-            append_files(files, &mut text)?;
+        Err(Halt::Refused(failure)) => {
+            append_roman(text_of_fault(alloc, &failure.fault)?.as_slice(), &mut text)?;
+            append_files(&failure.files, &mut text)?;
         }
-        Err(PreFault::ReadFault) => text.push_str("read fault")?,
-        Err(PreFault::NoMemory) => text.push_str("no memory")?,
+        Err(Halt::ReadFault) => text.push_str("read fault")?,
+        Err(Halt::NoMemory) => text.push_str("no memory")?,
     }
     Ok(text)
 }

@@ -10,13 +10,13 @@ use Rattle.rz_tools_args.specs.Command.{Asked, DeRez, DeRezAsked, IsCommand, IsM
 use Rattle.rz_tools.specs.Again.{HoldsFile}
 use Rattle.rz_tools.specs.Program.{command, misplaced, Answers, AnswersTo}
 use Rattle.rz_tools_answer.specs.Answer.{misused, Answer, Answered, Failing, Making}
-use Rattle.rz_tools_answer.specs.Made.{MadeSo}
+use Rattle.rz_tools_answer.specs.Made.{making_of}
 use Rattle.rz_tools_answer.specs.Plan.{answer_of, EndsIn}
 use Rattle.rz_tools_answer.specs.declared.outcome.Outcome.TheVariants.{Done}
 use Rattle.rz_tools_answer.specs.declared.plan.Plan.{Plan}
-use Rattle.rz_tools_answer.specs.declared.made.Unanswered.{Unanswered}
-use Rattle.rz_tools_answer.specs.declared.made.Stopped.{Stopped}
-use Rattle.rz_tools_answer.specs.declared.made.Stopped.TheVariants as stops
+use Rattle.rz_core.specs.declared.stop.Halt.{Halt}
+use Rattle.rz_core.specs.declared.stop.Halt.TheVariants as halts
+use Rattle.rz_core.specs.Stop.{seen, Yields}
 
 module _ (done : Making → Answer) (Makes : Files → Result Making Failing → Type 0) (answer : Answer) where
   pub made : (before : Option Files) (making : Making) → answer ≡ done making → IfSome before (λ files. Makes files (Ok making))
@@ -24,16 +24,16 @@ module _ (done : Making → Answer) (Makes : Files → Result Making Failing →
   made None making is makes = tt
   made (Some files) making is makes = (Ok making, makes, is)
 
-  pub stopped : (before : Option Files) (stop : Stopped) → EndsIn stop answer → IfSome before (λ files. MadeSo (Err stop) (Makes files))
+  pub stopped : (before : Option Files) (stop : Halt Failing) → EndsIn stop answer → IfSome before (λ files. Yields (seen making_of (Err stop)) (Makes files))
       → IfSome before (λ files. Answered done (Makes files) answer)
   stopped None stop refuses makes = tt
-  stopped (Some files) (stops.Refused fault names said) refuses makes = (Err (record { fault = fault; files = names; said = said }), makes, refuses)
-  stopped (Some files) stops.ReadFault refuses makes = absurd refuses
-  stopped (Some files) stops.NoMemory refuses makes = absurd refuses
+  stopped (Some files) (halts.Refused failing) refuses makes = (Err failing, makes, refuses)
+  stopped (Some files) halts.ReadFault refuses makes = absurd refuses
+  stopped (Some files) halts.NoMemory refuses makes = absurd refuses
 
 -- the same, where there may be no answer
-pub or_stopped : (done : Making → Answer) (Makes : Files → Result Making Failing → Type 0) (stop : Stopped) (result : Result Plan Unanswered)
-    → IfOk result (λ plan. EndsIn stop (answer_of plan)) → (before : Option Files) → IfSome before (λ files. MadeSo (Err stop) (Makes files))
+pub or_stopped : {E : Type 0} (done : Making → Answer) (Makes : Files → Result Making Failing → Type 0) (stop : Halt Failing) (result : Result Plan E)
+    → IfOk result (λ plan. EndsIn stop (answer_of plan)) → (before : Option Files) → IfSome before (λ files. Yields (seen making_of (Err stop)) (Makes files))
     → IfSome before (λ files. IfOk result (λ plan. Answered done (Makes files) (answer_of plan)))
 or_stopped done Makes stop (Ok plan) refuses before makes = stopped done Makes (answer_of plan) before stop refuses makes
 or_stopped done Makes stop (Err unanswered) refuses None makes = tt
@@ -46,7 +46,7 @@ always None P all = tt
 always (Some files) P all = all files
 
 module _ (words : List (List ℕ)) (moment : Moment) (asked : Asked) (is : IsCommand words asked) where
-  pub as_command : (result : Result Plan Unanswered) (before : Option Files) → IfSome before (λ files. IfOk result (λ plan. AnswersTo asked files moment (answer_of plan)))
+  pub as_command : {E : Type 0} (result : Result Plan E) (before : Option Files) → IfSome before (λ files. IfOk result (λ plan. AnswersTo asked files moment (answer_of plan)))
       → IfSome before (λ files. IfOk result (λ plan. Answers words files moment (answer_of plan)))
   as_command result None own = tt
   as_command (Ok plan) (Some files) own = command asked is own
@@ -65,7 +65,7 @@ as_misused words moment position is plan before says = always before (λ files. 
 same_asked : (one other : DeRezAsked) → DeRez one ≡ DeRez other → one ≡ other
 same_asked one other is = cc
 
-pub held_asked : (one other : DeRezAsked) → DeRez one ≡ DeRez other → (before : Option Files) (result : Result Plan Unanswered)
+pub held_asked : {E : Type 0} (one other : DeRezAsked) → DeRez one ≡ DeRez other → (before : Option Files) (result : Result Plan E)
     → IfSome before (λ files. IfSome (finite.get files one.file) (λ bytes. IfOk result (λ plan. plan.outcome ≡ Done → HoldsFile one.from bytes)))
     → IfSome before (λ files. IfSome (finite.get files other.file) (λ bytes. IfOk result (λ plan. plan.outcome ≡ Done → HoldsFile other.from bytes)))
 held_asked one other same before result held =

@@ -13,17 +13,7 @@ use Rattle.rz_stmt_items.specs.Item.{items_of, more, plain_item, plain_items, Pl
 use Rattle.rz_stmt_items.specs.Places.{AreInside, AreItemsWithin, IsItemWithin}
 use Rattle.rz_stmt_items.specs.declared.item.Item.{Item}
 use Rattle.rz_stmt_items.specs.declared.item.Item.TheVariants as items
-use Rattle.rz_folder_paths.specs.Halt.{Yields}
-use Rattle.rz_folder_paths.specs.declared.halt.Halt.{Halt}
-use Rattle.rz_folder_paths.specs.declared.halt.Halt.TheVariants.{NoMemory, ReadFault, Refused}
 use Rattle.rz_tools.specs.Files.{inner_read, item_given, item_read, items_given, items_read}
-
--- a call that stops where another stopped, of what else is answered
-pub halt_so : {X Y : Type 0} (halt : Halt) (answers : Result X Fault → Type 0) (others : Result Y Fault → Type 0) → ((fault : Fault) → answers (Err fault) → others (Err fault))
-    → Yields {X = X} (Err halt) answers → Yields {X = Y} (Err halt) others
-halt_so (Refused fault) answers others so yields = so fault yields
-halt_so ReadFault answers others so yields = tt
-halt_so NoMemory answers others so yields = tt
 
 module _ (paths : List (List ℕ)) (files : Files) (mark : Mark) (known : Facts) where
   -- Items one after the other.

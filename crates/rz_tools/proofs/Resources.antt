@@ -1,8 +1,8 @@
 -- The resource of a `resource` statement, one part after the other.
 use Rattle.std.proofs.Common.{◌≡◌, inl, inr, ℕ, List, Result, Ok, Err, refl, sym, ap, ◌∙◌}
 use Rattle.rz_core.proofs.Once.{ok_or_err, once_by, once_is, once_then, same_err, same_ok, Once}
-use Rattle.rz_core.specs.Answers.{Meets, Then}
-use Rattle.rz_core.specs.Stop.{Gives}
+use Rattle.rz_core.specs.Answers.{Then}
+use Rattle.rz_core.specs.Stop.{Meets, Gives, halt_of, Yields, halted, left}
 use Rattle.rz_core.specs.declared.facts.Facts.{Facts}
 use Rattle.rz_core.specs.declared.fault.Fault.{Fault}
 use Rattle.rz_core.specs.declared.fault.Mark.{Mark}
@@ -15,15 +15,13 @@ use Rattle.rz_layout.specs.Compiled.{IsCompiled}
 use Rattle.rz_stmt_items.specs.Match.{IsMatch}
 use Rattle.rz_tools_work.specs.Data.{with_bytes}
 use Rattle.rz_tools_work.specs.Head.{facts_of}
-use Rattle.rz_folder_paths.specs.Halt.{halt_of, Yields}
-use Rattle.rz_folder_paths.specs.declared.halt.Halt.{Halt}
-use Rattle.rz_folder_paths.specs.declared.halt.Halt.TheVariants as halts
+use Rattle.rz_core.specs.declared.stop.Halt.{Halt}
+use Rattle.rz_core.specs.declared.stop.Halt.TheVariants as halts
 use Rattle.rz_tools.specs.Files.{items_read}
 use Rattle.rz_tools.specs.Resource.{fields_for, row_fault, AreBytes, AreItemBytes, AreReadBytes, IsMade, IsResource, IsSpelled}
 use Rattle.rz_tools_work.proofs.Calls.{went_as}
 use Rattle.rz_tools_work.specs.Around.{Around}
 use Rattle.rz_tools_work.specs.Put.{list_with}
-use Rattle.rz_tools_work.specs.Work.{halted, Stepped, Went}
 use Rattle.rz_tools.specs.Step.{IsListBehind}
 use Rattle.rz_types_fields.specs.declared.tree.Tree.{Tree}
 use Rattle.rz_types_fields.specs.Laid.{Refusal}
@@ -33,17 +31,6 @@ use Rattle.rz_types_table.specs.Table.{Declaration}
 -- One call behind another, of which the second may read files.
 
 module _ {X Y : Type 0} (first : Result X Fault → Type 0) (next : X → Result Y Fault → Type 0) where
-  pub then_yields : (x : X) → first (Ok x) → (result : Result Y Halt) → Yields result (next x) → Yields result (Then first next)
-  then_yields x is (Ok y) so = inl (x, is, so)
-  then_yields x is (Err (halts.Refused fault)) so = inl (x, is, so)
-  then_yields x is (Err halts.ReadFault) so = tt
-  then_yields x is (Err halts.NoMemory) so = tt
-
-  pub then_halts : (halt : Halt) → Yields {X = X} (Err halt) first → Yields {X = Y} (Err halt) (Then first next)
-  then_halts (halts.Refused fault) is = inr (fault, is, refl)
-  then_halts halts.ReadFault is = tt
-  then_halts halts.NoMemory is = tt
-
   pub meets_yields : (x : X) → first (Ok x) → (stop : Stop Fault) → Meets {X = Y} (Err stop) (next x) → Yields {X = Y} (Err (halt_of stop)) (Then first next)
   meets_yields x is (Refused fault) so = inl (x, is, so)
   meets_yields x is NoMemory so = tt
@@ -57,18 +44,18 @@ module _ {X Y : Type 0} (given : Result X Fault) (next : X → Result Y Fault �
 -- What is put.
 
 module _ (around : Around) (mark : Mark) (types : List Declaration) (list : List Resource) (one : Compile) where
-  pub put_compiled : (resource : Resource) (ended : Result (Unit {0}) (Stop Fault)) (result : Result (Unit {0}) Halt) (after : List Resource)
-      → IsResource around mark types one (Ok resource) → result ≡ halted ended → Stepped (λ answer. answer ≡ list_with mark around.setting.over list resource) ended after
-      → Went (IsListBehind around mark types list one) result after
+  pub put_compiled : (resource : Resource) (ended : Result (Unit {0}) (Stop Fault)) (result : Result (Unit {0}) (Halt Fault)) (after : List Resource)
+      → IsResource around mark types one (Ok resource) → result ≡ halted ended → Meets (left after ended) (λ answer. answer ≡ list_with mark around.setting.over list resource)
+      → Yields (left after result) (IsListBehind around mark types list one)
   put_compiled resource ended result after is same done = went_as (IsListBehind around mark types list one) ended result after same (by ended done)
     where
-      by : (ended : Result (Unit {0}) (Stop Fault)) → Stepped (λ answer. answer ≡ list_with mark around.setting.over list resource) ended after
-          → Stepped (IsListBehind around mark types list one) ended after
+      by : (ended : Result (Unit {0}) (Stop Fault)) → Meets (left after ended) (λ answer. answer ≡ list_with mark around.setting.over list resource)
+          → Meets (left after ended) (IsListBehind around mark types list one)
       by (Ok nothing) done = inl (resource, is, done)
       by (Err (Refused fault)) done = inl (resource, is, done)
       by (Err NoMemory) done = tt
 
-  pub none_compiled : (halt : Halt) → Yields {X = Resource} (Err halt) (IsResource around mark types one) → Went (IsListBehind around mark types list one) (Err halt) list
+  pub none_compiled : (halt : Halt Fault) → Yields {X = Resource} (Err halt) (IsResource around mark types one) → Yields (left list (Err halt)) (IsListBehind around mark types list one)
   none_compiled (halts.Refused fault) is = inr (fault, is, refl)
   none_compiled halts.ReadFault is = tt
   none_compiled halts.NoMemory is = tt

@@ -4,7 +4,8 @@ use Rattle.std.specs.Prelude.{IfOk, IfSome}
 use Rattle.std.specs.FinMap as map
 use Rattle.std.specs.declared.option.Option.{Option}
 use Rattle.std.specs.declared.result.Result.{Result}
-use Rattle.rz_core.specs.Answers.{Meets}
+use Rattle.rz_core.proofs.Stops.{meets_so}
+use Rattle.rz_core.specs.Stop.{seen, ◌>>=◌, Gives, Meets, Yields}
 use Rattle.rz_core.specs.declared.fault.Fault.{Fault}
 use Rattle.rz_core.specs.declared.moment.Moment.{Moment}
 use Rattle.rz_core.specs.declared.stop.Stop.{Stop}
@@ -12,8 +13,8 @@ use Rattle.rz_core.specs.declared.stop.Stop.TheVariants.{Refused, NoMemory}
 use Rattle.rz_folder.specs.Folder.{Files, Reads}
 use Rattle.rz_folder.specs.declared.folder.Read.TheVariants as reads
 use Rattle.rz_bridge.specs.declared.file.MacFile.{MacFile}
-use Rattle.rz_core.specs.Stop.{◌>>=◌, Gives}
-use Rattle.rz_bridge_files.specs.Contents.{admit_fork, file_in, fork_in, GivesFork, IsFile}
+use Rattle.rz_bridge_files.specs.Contents.{admit_fork, file_in, fork_in, IsFile}
+use Rattle.rz_fork.specs.Code.{held_by}
 use Rattle.rz_fork.specs.Contents.{Fork}
 use Rattle.rz_fork.specs.declared.read.ForkList.{ForkList}
 use Rattle.rz_bridge_form.specs.declared.form.Form.{Form}
@@ -21,34 +22,30 @@ use Rattle.rz_folder_paths.specs.Names.{missing_file}
 use Rattle.rz_tools.specs.Again.{HoldsFile}
 use Rattle.rz_tools.specs.Chosen.{chosen}
 use Rattle.rz_tools.specs.DeRez.{known_by, HasFileText, HasForkText, HasText, ShowsEach}
-use Rattle.rz_tools_answer.specs.Made.{MadeSo, SaysBeside}
+use Rattle.rz_tools_answer.specs.Made.{making_of, SaysBeside}
 use Rattle.rz_tools.specs.Shown.{Known}
 use Rattle.rz_tools.specs.Sources.{Compiled}
 use Rattle.rz_tools_answer.specs.declared.made.Made.{Made}
-use Rattle.rz_tools_answer.specs.declared.made.Stopped.{Stopped}
+use Rattle.rz_core.specs.declared.stop.Halt.{Halt}
+use Rattle.rz_tools_answer.specs.Answer.{Failing}
 use Rattle.rz_tools_args.specs.Command.{DeRezAsked}
 use Rattle.rz_tools.proofs.Sourced.{beside}
 
-meets_so : {X F : Type 0} (A B : Result X F → Type 0) → ((answer : Result X F) → A answer → B answer) → (result : Result X (Stop F)) → Meets result A → Meets result B
-meets_so A B so (Ok value) is = so _ is
-meets_so A B so (Err (Refused fault)) is = so _ is
-meets_so A B so (Err NoMemory) is = tt
-
-module _ (moment : Moment) (asked : DeRezAsked) (compiled : Compiled) (name : List ℕ) (named : name ≡ asked.file) (output : Result (List ℕ) (Stop Fault)) (result : Result Made Stopped)
+module _ (moment : Moment) (asked : DeRezAsked) (compiled : Compiled) (name : List ℕ) (named : name ≡ asked.file) (output : Result (List ℕ) (Stop Fault)) (result : Result Made (Halt Failing))
     (says : SaysBeside compiled.files compiled.work.warnings output result) where
   held : (files : Files) (entry : Option (List ℕ)) → map.get files name ≡ entry → Meets output (HasFileText (known_by moment compiled) asked entry)
-      → MadeSo result (HasText moment asked files compiled)
+      → Yields (seen making_of result) (HasText moment asked files compiled)
   held files entry is meets =
       beside compiled (HasFileText (known_by moment compiled) asked (map.get files asked.file)) output result
       (subst (λ (e : Option (List ℕ)). Meets output (HasFileText (known_by moment compiled) asked e)) (sym (ap (λ (n : List ℕ). map.get files n) (sym named) ∙ is)) meets) says
 
   pub file_shown : (before : Option Files) (bytes : List ℕ) → Reads name before (reads.Bytes bytes)
-      → Meets output (HasForkText (known_by moment compiled) asked (fork_in None asked.from bytes)) → IfSome before (λ files. MadeSo result (HasText moment asked files compiled))
+      → Meets output (HasForkText (known_by moment compiled) asked (fork_in None asked.from bytes)) → IfSome before (λ files. Yields (seen making_of result) (HasText moment asked files compiled))
   file_shown None bytes told meets = tt
   file_shown (Some files) bytes told meets = held files (Some bytes) told.1 meets
 
   pub no_file_shown : (before : Option Files) → Reads name before reads.Missing → Meets output (λ answer. answer ≡ Err (missing_file None name))
-      → IfSome before (λ files. MadeSo result (HasText moment asked files compiled))
+      → IfSome before (λ files. Yields (seen making_of result) (HasText moment asked files compiled))
   no_file_shown None told meets = tt
   no_file_shown (Some files) told meets =
       held files None told.1
@@ -57,7 +54,7 @@ module _ (moment : Moment) (asked : DeRezAsked) (compiled : Compiled) (name : Li
 
 -- the files and the warnings of what was compiled
 pub said_so : (compiled : Compiled) (files : List (List ℕ)) (warnings : List Fault) → compiled.files ≡ files → compiled.work.warnings ≡ warnings
-    → (output : Result (List ℕ) (Stop Fault)) (result : Result Made Stopped) → SaysBeside files warnings output result
+    → (output : Result (List ℕ) (Stop Fault)) (result : Result Made (Halt Failing)) → SaysBeside files warnings output result
     → SaysBeside compiled.files compiled.work.warnings output result
 said_so compiled files warnings same_files same_warnings output result says =
     subst (λ (fs : List (List ℕ)). SaysBeside fs compiled.work.warnings output result) (sym same_files)
@@ -66,11 +63,11 @@ said_so compiled files warnings same_files same_warnings output result says =
 -- The text of a fork.
 
 module _ (known : Known) (asked : DeRezAsked) where
-  pub fork_shown : (answer : Result Fork Fault) (fork : ForkList) (text : List ℕ) → GivesFork answer (Ok fork)
+  pub fork_shown : (answer : Result Fork Fault) (fork : ForkList) (text : List ℕ) → Gives answer (seen held_by (Ok fork))
       → ShowsEach known (chosen asked.only asked.skip fork.list) text → HasForkText known asked answer (Ok text)
   fork_shown answer fork text is shows = subst (λ (a : Result Fork Fault). HasForkText known asked a (Ok text)) (sym is) (text, shows, λ i. Ok text)
 
-  pub fork_refused : (answer : Result Fork Fault) (stop : Stop Fault) → GivesFork answer (Err stop) → Meets {X = List ℕ} (Err stop) (HasForkText known asked answer)
+  pub fork_refused : (answer : Result Fork Fault) (stop : Stop Fault) → Gives {X = Fork} answer (Err stop) → Meets {X = List ℕ} (Err stop) (HasForkText known asked answer)
   fork_refused answer (Refused fault) is = subst (λ (a : Result Fork Fault). HasForkText known asked a (Err fault)) (sym is) (λ i. Err fault)
   fork_refused answer NoMemory is = tt
 
@@ -102,11 +99,11 @@ holds_file form bytes data_file empty file is short other too =
     let e : file ≡ other = cc in
     subst (λ (f : MacFile). IsFile f.res_fork) e short
 
-module _ (result : Result Made Stopped) where
+module _ (result : Result Made (Halt Failing)) where
   pub output_held : (P : Type 0) (output : Result (List ℕ) (Stop Fault)) → IfOk result (λ made. output ≡ Ok made.bytes) → IfOk output (λ _. P) → IfOk result (λ _. P)
   output_held P output is holds = by result is
     where
-      by : (r : Result Made Stopped) → IfOk r (λ made. output ≡ Ok made.bytes) → IfOk r (λ _. P)
+      by : (r : Result Made (Halt Failing)) → IfOk r (λ made. output ≡ Ok made.bytes) → IfOk r (λ _. P)
       by (Ok made) so = subst (λ (o : Result (List ℕ) (Stop Fault)). IfOk o (λ _. P)) so holds
       by (Err stop) so = tt
 

@@ -10,16 +10,15 @@ use Rattle.rz_core.specs.declared.fault.Fault.{Fault}
 use Rattle.rz_core.specs.declared.fault.Mark.{Mark}
 use Rattle.rz_core.specs.declared.resource.Resource.{Resource}
 use Rattle.rz_lex.specs.declared.token.Token.{Token}
-use Rattle.rz_core.specs.Stop.{OnFault}
+use Rattle.rz_core.specs.Stop.{OnFault, halt_of, halted, left, Meets, Yields, seen}
 use Rattle.rz_core.specs.declared.stop.Stop.{Stop}
 use Rattle.rz_core.specs.declared.stop.Stop.TheVariants as stops
-use Rattle.rz_folder_paths.specs.Halt.{halt_of}
-use Rattle.rz_folder_paths.specs.declared.halt.Halt.{Halt}
-use Rattle.rz_folder_paths.specs.declared.halt.Halt.TheVariants.{NoMemory, ReadFault, Refused}
+use Rattle.rz_core.specs.declared.stop.Halt.{Halt}
+use Rattle.rz_core.specs.declared.stop.Halt.TheVariants.{NoMemory, ReadFault, Refused}
 use Rattle.rz_pre.specs.declared.condition.Tool.{Tool}
 use Rattle.rz_pre.specs.declared.condition.Tool.TheVariants as tools
 use Rattle.rz_stmt.specs.Constants as declare
-use Rattle.rz_stmt.specs.Grammar.{mark_of, Compiles, Data, Declares, Empty, Gave, Lists, Parses, Statement}
+use Rattle.rz_stmt.specs.Grammar.{mark_of, Compiles, Data, Declares, Empty, Lists, Parses, Statement, statement_of}
 use Rattle.rz_stmt_items.specs.Compile.{Compile}
 use Rattle.rz_stmt_lists.specs.Lists.{ListForm}
 use Rattle.rz_stmt.specs.Raw.{Raw}
@@ -32,8 +31,8 @@ use Rattle.rz_core.specs.Answers.{Then}
 use Rattle.rz_folder.specs.Folder.{Files}
 use Rattle.rz_tools_work.specs.Around.{around, Around}
 use Rattle.rz_tools_work.specs.Lists.{list_after}
-use Rattle.rz_tools_work.specs.Work.{declared, halted, list_behind, with_list, Stepped, Went, Work}
-use Rattle.rz_tools.specs.Step.{tokens_at, Changes, IsBehind, IsListBehind, IsSpan, MakesList, Means, Steps, WarnedFault, Worked}
+use Rattle.rz_tools_work.specs.Work.{declared, list_behind, with_list, Work}
+use Rattle.rz_tools.specs.Step.{tokens_at, Changes, IsBehind, IsListBehind, IsSpan, MakesList, Means, Steps, WarnedFault, with_work}
 use Rattle.rz_tools_work.specs.declared.setting.Setting.{Setting}
 
 -- whatever the rest of the statements means after this, all mean so
@@ -70,30 +69,30 @@ module _ (setting : Setting) (paths : List (List ℕ)) (start : Work) (tokens le
         so.2 (Err stopped) (subst (λ (ss : List (List Token)). Means (around setting paths files) work ss (Err stopped)) (sym begins.1) (inr (stopped, steps, refl)))
 
     -- a statement that stops all
-    leads_to_halt : (halt : Halt) (end : Work) → Worked (Steps (around setting paths files) work (map (numbered setting.tool) statement)) (Err halt) end
-        → (statements : List (List Token)) → AreStatements tokens statements → Worked (Means (around setting paths files) start statements) (Err halt) end
+    leads_to_halt : (halt : Halt Fault) (end : Work) → Yields (with_work end (Err halt)) (Steps (around setting paths files) work (map (numbered setting.tool) statement))
+        → (statements : List (List Token)) → AreStatements tokens statements → Yields (with_work end (Err halt)) (Means (around setting paths files) start statements)
     leads_to_halt (Refused fault) end steps statements are = leads_to_fault (record { fault = fault; warnings = end.warnings }) steps statements are
     leads_to_halt ReadFault end steps statements are = tt
     leads_to_halt NoMemory end steps statements are = tt
 
   -- and where the files are told as they were before
   pub leads_on : (before mid : Option Files) → mid ≡ before → LeadsIn setting paths before start tokens left work → (next : Work)
-      → IfSome mid (λ files. Worked (Steps (around setting paths files) work (map (numbered setting.tool) statement)) (Ok tt) next)
+      → IfSome mid (λ files. Yields (with_work next (Ok tt)) (Steps (around setting paths files) work (map (numbered setting.tool) statement)))
       → LeadsIn setting paths before start tokens after next
   leads_on None mid same leads next steps = tt
   leads_on (Some files) mid same leads next steps =
-      leads_next files leads next (subst (λ (o : Option Files). IfSome o (λ files. Worked (Steps (around setting paths files) work (map (numbered setting.tool) statement)) (Ok tt) next)) same steps)
+      leads_next files leads next (subst (λ (o : Option Files). IfSome o (λ files. Yields (with_work next (Ok tt)) (Steps (around setting paths files) work (map (numbered setting.tool) statement)))) same steps)
 
-  pub leads_to_stop : (before mid : Option Files) → mid ≡ before → LeadsIn setting paths before start tokens left work → (halt : Halt) (end : Work)
-      → IfSome mid (λ files. Worked (Steps (around setting paths files) work (map (numbered setting.tool) statement)) (Err halt) end)
-      → IfSome before (λ files. (statements : List (List Token)) → AreStatements tokens statements → Worked (Means (around setting paths files) start statements) (Err halt) end)
+  pub leads_to_stop : (before mid : Option Files) → mid ≡ before → LeadsIn setting paths before start tokens left work → (halt : Halt Fault) (end : Work)
+      → IfSome mid (λ files. Yields (with_work end (Err halt)) (Steps (around setting paths files) work (map (numbered setting.tool) statement)))
+      → IfSome before (λ files. (statements : List (List Token)) → AreStatements tokens statements → Yields (with_work end (Err halt)) (Means (around setting paths files) start statements))
   leads_to_stop None mid same leads halt end steps = tt
   leads_to_stop (Some files) mid same leads halt end steps =
-      leads_to_halt files leads halt end (subst (λ (o : Option Files). IfSome o (λ files. Worked (Steps (around setting paths files) work (map (numbered setting.tool) statement)) (Err halt) end)) same steps)
+      leads_to_halt files leads halt end (subst (λ (o : Option Files). IfSome o (λ files. Yields (with_work end (Err halt)) (Steps (around setting paths files) work (map (numbered setting.tool) statement)))) same steps)
 
 pub leads_end : (setting : Setting) (paths : List (List ℕ)) (start : Work) (tokens left after : List Token) (work : Work) (before : Option Files)
     → LeadsIn setting paths before start tokens left work → ((statements : List (List Token)) → AreStatements left statements → BeginsWith None statements after)
-    → IfSome before (λ files. (statements : List (List Token)) → AreStatements tokens statements → Worked (Means (around setting paths files) start statements) (Ok tt) work)
+    → IfSome before (λ files. (statements : List (List Token)) → AreStatements tokens statements → Yields (with_work work (Ok tt)) (Means (around setting paths files) start statements))
 leads_end setting paths start tokens left after work None leads none = tt
 leads_end setting paths start tokens left after work (Some files) leads none = λ statements are.
     let so = leads statements are in
@@ -161,8 +160,8 @@ derez_changes tools.Rez list answers is = absurd (cc is)
 derez_changes tools.DeRez list answers is = refl
 
 -- the same of a call that may read files, where they are told
-pub rez_went : (told : Option Files) (tool : Tool) (list : List Resource) (answers : Files → Result (List Resource) Fault → Type 0) (result : Result (Unit {0}) Halt) (after : List Resource)
-    → tool ≡ tools.Rez → IfSome told (λ files. Went (answers files) result after) → IfSome told (λ files. Went (Changes tool list (answers files)) result after)
+pub rez_went : (told : Option Files) (tool : Tool) (list : List Resource) (answers : Files → Result (List Resource) Fault → Type 0) (result : Result (Unit {0}) (Halt Fault)) (after : List Resource)
+    → tool ≡ tools.Rez → IfSome told (λ files. Yields (left after result) (answers files)) → IfSome told (λ files. Yields (left after result) (Changes tool list (answers files)))
 rez_went None tool list answers result after is went = tt
 rez_went (Some files) tool list answers (Ok nothing) after is went = changes tool list (answers files) (Ok after) is went
 rez_went (Some files) tool list answers (Err (Refused fault)) after is went = changes tool list (answers files) (Err fault) is went
@@ -175,7 +174,7 @@ derez_went None tool list answers is = tt
 derez_went (Some files) tool list answers is = derez_changes tool list (answers files) is
 
 module _ (around : Around) (work : Work) (ts : List Token) where
-  stopped : (stop : Stop Fault) → Gave (Err stop) (Parses ts) → Worked (Steps around work ts) (Err (halt_of stop)) work
+  stopped : (stop : Stop Fault) → Meets (seen statement_of (Err stop)) (Parses ts) → Yields (with_work work (Err (halt_of stop))) (Steps around work ts)
   stopped (stops.Refused fault) parsed = (inr (fault, parsed, refl), refl)
   stopped stops.NoMemory parsed = tt
 
@@ -196,16 +195,16 @@ module _ (around : Around) (work : Work) (ts : List Token) where
               (answer, subst (λ (m : Mark). Changes around.setting.tool work.list (answers m) answer) (sym same) done, refl),
         )
 
-    listed : (result : Result (Unit {0}) Halt) (after : List Resource) → Went (Changes around.setting.tool work.list (answers mark)) result after
-        → Worked (Steps around work ts) result (record work { list = after })
+    listed : (result : Result (Unit {0}) (Halt Fault)) (after : List Resource) → Yields (left after result) (Changes around.setting.tool work.list (answers mark))
+        → Yields (with_work (record work { list = after }) result) (Steps around work ts)
     listed (Ok nothing) after done = list_done (Ok after) done
     listed (Err (Refused fault)) after done = (list_done (Err fault) done, refl)
     listed (Err ReadFault) after done = tt
     listed (Err NoMemory) after done = tt
 
   declare_done : (one : declare.Declare) (mark : Mark) (result : Result (Unit {0}) (Stop Fault)) (after : Work) → Parses ts (Ok (Declares one)) → mark_of ts ≡ mark
-      → Stepped (λ answer. answer ≡ declared around.setting mark work one) result after → OnFault result (λ fault. after.warnings ≡ work.warnings)
-      → Worked (Steps around work ts) (halted result) after
+      → Meets (left after result) (λ answer. answer ≡ declared around.setting mark work one) → OnFault result (λ fault. after.warnings ≡ work.warnings)
+      → Yields (with_work after (halted result)) (Steps around work ts)
   declare_done one mark (Ok nothing) after parsed same done kept = inl (Declares one, parsed, done ∙ ap (λ m. declared around.setting m work one) (sym same))
   declare_done one mark (Err (stops.Refused fault)) after parsed same done kept =
       (inl (Declares one, parsed, done ∙ ap (λ m. declared around.setting m work one) (sym same)), kept)
@@ -214,45 +213,45 @@ module _ (around : Around) (work : Work) (ts : List Token) where
 -- The same where the files are told.
 
 module _ (setting : Setting) (paths : List (List ℕ)) (work : Work) (ts : List Token) where
-  pub nothing_told : (told : Option Files) → Parses ts (Ok Empty) → IfSome told (λ files. Worked (Steps (around setting paths files) work ts) (Ok tt) work)
+  pub nothing_told : (told : Option Files) → Parses ts (Ok Empty) → IfSome told (λ files. Yields (with_work work (Ok tt)) (Steps (around setting paths files) work ts))
   nothing_told None parsed = tt
   nothing_told (Some files) parsed = nothing_done (around setting paths files) work ts parsed
 
-  pub stopped_told : (told : Option Files) (stop : Stop Fault) (given : Result (Unit {0}) Halt) → Gave (Err stop) (Parses ts) → given ≡ Err (halt_of stop)
-      → IfSome told (λ files. Worked (Steps (around setting paths files) work ts) given work)
+  pub stopped_told : (told : Option Files) (stop : Stop Fault) (given : Result (Unit {0}) (Halt Fault)) → Meets (seen statement_of (Err stop)) (Parses ts) → given ≡ Err (halt_of stop)
+      → IfSome told (λ files. Yields (with_work work given) (Steps (around setting paths files) work ts))
   stopped_told None stop given parsed is = tt
   stopped_told (Some files) stop given parsed is =
-      subst (λ (r : Result (Unit {0}) Halt). Worked (Steps (around setting paths files) work ts) r work) (sym is) (stopped (around setting paths files) work ts stop parsed)
+      subst (λ (r : Result (Unit {0}) (Halt Fault)). Yields (with_work work r) (Steps (around setting paths files) work ts)) (sym is) (stopped (around setting paths files) work ts stop parsed)
 
   -- of what a call gave that reads no file
-  pub declared_told : (mark : Mark) → mark_of ts ≡ mark → (result : Result (Unit {0}) (Stop Fault)) (given : Result (Unit {0}) Halt) → given ≡ halted result
+  pub declared_told : (mark : Mark) → mark_of ts ≡ mark → (result : Result (Unit {0}) (Stop Fault)) (given : Result (Unit {0}) (Halt Fault)) → given ≡ halted result
       → (told : Option Files) (one : declare.Declare) (after : Work) → Parses ts (Ok (Declares one))
-      → Stepped (λ answer. answer ≡ declared setting mark work one) result after → OnFault result (λ fault. after.warnings ≡ work.warnings)
-      → IfSome told (λ files. Worked (Steps (around setting paths files) work ts) given after)
+      → Meets (left after result) (λ answer. answer ≡ declared setting mark work one) → OnFault result (λ fault. after.warnings ≡ work.warnings)
+      → IfSome told (λ files. Yields (with_work after given) (Steps (around setting paths files) work ts))
   declared_told mark same result given is None one after parsed done kept = tt
   declared_told mark same result given is (Some files) one after parsed done kept =
-      subst (λ (r : Result (Unit {0}) Halt). Worked (Steps (around setting paths files) work ts) r after) (sym is)
+      subst (λ (r : Result (Unit {0}) (Halt Fault)). Yields (with_work after r) (Steps (around setting paths files) work ts)) (sym is)
       (declare_done (around setting paths files) work ts one mark result after parsed same done kept)
 
   -- and of one that may read files
-  module _ (mark : Mark) (same : mark_of ts ≡ mark) (result : Result (Unit {0}) Halt) (after : List Resource) where
+  module _ (mark : Mark) (same : mark_of ts ≡ mark) (result : Result (Unit {0}) (Halt Fault)) (after : List Resource) where
     pub raw_told : (told : Option Files) (raw : Raw) → Parses ts (Ok (Data raw))
-        → IfSome told (λ files. Went (Changes setting.tool work.list (λ answer. answer ≡ list_behind (around setting paths files) mark work.list raw)) result after)
-        → IfSome told (λ files. Worked (Steps (around setting paths files) work ts) result (record work { list = after }))
+        → IfSome told (λ files. Yields (left after result) (Changes setting.tool work.list (λ answer. answer ≡ list_behind (around setting paths files) mark work.list raw)))
+        → IfSome told (λ files. Yields (with_work (record work { list = after }) result) (Steps (around setting paths files) work ts))
     raw_told None raw parsed done = tt
     raw_told (Some files) raw parsed done =
         listed (around setting paths files) work ts (Data raw) mark (λ m answer. answer ≡ list_behind (around setting paths files) m work.list raw) parsed same refl result after done
 
     pub compiled_told : (told : Option Files) (one : Compile) → Parses ts (Ok (Compiles one))
-        → IfSome told (λ files. Went (Changes setting.tool work.list (IsListBehind (around setting paths files) mark work.types work.list one)) result after)
-        → IfSome told (λ files. Worked (Steps (around setting paths files) work ts) result (record work { list = after }))
+        → IfSome told (λ files. Yields (left after result) (Changes setting.tool work.list (IsListBehind (around setting paths files) mark work.types work.list one)))
+        → IfSome told (λ files. Yields (with_work (record work { list = after }) result) (Steps (around setting paths files) work ts))
     compiled_told None one parsed done = tt
     compiled_told (Some files) one parsed done =
         listed (around setting paths files) work ts (Compiles one) mark (λ m. IsListBehind (around setting paths files) m work.types work.list one) parsed same refl result after done
 
     pub lists_told : (told : Option Files) (one : ListForm) → Parses ts (Ok (Lists one))
-        → IfSome told (λ files. Went (Changes setting.tool work.list (λ answer. answer ≡ list_after (around setting paths files) mark work.list one)) result after)
-        → IfSome told (λ files. Worked (Steps (around setting paths files) work ts) result (record work { list = after }))
+        → IfSome told (λ files. Yields (left after result) (Changes setting.tool work.list (λ answer. answer ≡ list_after (around setting paths files) mark work.list one)))
+        → IfSome told (λ files. Yields (with_work (record work { list = after }) result) (Steps (around setting paths files) work ts))
     lists_told None one parsed done = tt
     lists_told (Some files) one parsed done =
         listed (around setting paths files) work ts (Lists one) mark (λ m answer. answer ≡ list_after (around setting paths files) m work.list one) parsed same refl result after done

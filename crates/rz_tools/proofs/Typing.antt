@@ -7,13 +7,15 @@ use Rattle.rz_core.specs.declared.moment.Moment.{Moment}
 use Rattle.rz_core.specs.declared.resource.Resource.{Resource}
 use Rattle.rz_folder.specs.Folder.{Files}
 use Rattle.rz_pre.specs.Program.{ProgramGoes, State}
-use Rattle.rz_pre.specs.Reading.{IsProgram}
+use Rattle.rz_pre.specs.Reading.{IsProgram, OfProgram}
 use Rattle.rz_pre.specs.declared.condition.Tool.TheVariants as tools
 use Rattle.rz_pre.specs.declared.program.Program.{Program}
-use Rattle.rz_tools_answer.specs.declared.made.Stopped.{Stopped}
-use Rattle.rz_tools_answer.specs.declared.made.Stopped.TheVariants as stops
+use Rattle.rz_core.specs.declared.stop.Halt.{Halt}
+use Rattle.rz_core.specs.declared.stop.Halt.TheVariants as halts
+use Rattle.rz_core.specs.Stop.{seen, Yields}
+use Rattle.rz_tools_answer.specs.Answer.{Failing}
 use Rattle.rz_tools.specs.DeRez.{derez_around, derez_setting, TypesAre}
-use Rattle.rz_tools.specs.Held.{CompiledSo, ReadSo}
+use Rattle.rz_tools.specs.Held.{compiled_of}
 use Rattle.rz_tools.specs.Sources.{HasWork, IsProgramOf, Unsaid}
 use Rattle.rz_tools.specs.declared.sources.Compiled.{Compiled}
 use Rattle.rz_tools_work.specs.Around.{around}
@@ -21,27 +23,27 @@ use Rattle.rz_tools_args.specs.Command.{DeRezAsked}
 
 module _ (moment : Moment) (asked : DeRezAsked) where
   -- what the statements of the program made
-  work_so : (files : Files) (s : State) → IsProgramOf (derez_around moment asked files) asked.files asked.paths asked.defs (Ok s) → (result : Result Compiled Stopped)
-      → CompiledSo result (HasWork (derez_around moment asked files) [] s) → CompiledSo result (TypesAre moment asked files)
+  work_so : (files : Files) (s : State) → IsProgramOf (derez_around moment asked files) asked.files asked.paths asked.defs (Ok s) → (result : Result Compiled (Halt Failing))
+      → Yields (seen compiled_of result) (HasWork (derez_around moment asked files) [] s) → Yields (seen compiled_of result) (TypesAre moment asked files)
   work_so files s goes (Ok compiled) work = inl (s, goes, work)
-  work_so files s goes (Err (stops.Refused fault names said)) work = inl (s, goes, work)
-  work_so files s goes (Err stops.ReadFault) work = tt
-  work_so files s goes (Err stops.NoMemory) work = tt
+  work_so files s goes (Err (halts.Refused failing)) work = inl (s, goes, work)
+  work_so files s goes (Err halts.ReadFault) work = tt
+  work_so files s goes (Err halts.NoMemory) work = tt
 
-  pub types_compiled : (before : Option Files) (program : Program) → IfSome before (λ files. ReadSo (Ok program) (Unsaid (ProgramGoes files tools.DeRez asked.files asked.paths asked.defs)))
-      → (paths : List (List ℕ)) → paths ≡ [] → (list : List Resource) → list ≡ [] → (result : Result Compiled Stopped)
-      → IfSome before (λ files. (s : State) → IsProgram program s → CompiledSo result (HasWork (around (derez_setting moment asked) paths files) list s))
-      → IfSome before (λ files. CompiledSo result (TypesAre moment asked files))
+  pub types_compiled : (before : Option Files) (program : Program) → IfSome before (λ files. Yields (Ok program) (OfProgram (Unsaid (ProgramGoes files tools.DeRez asked.files asked.paths asked.defs))))
+      → (paths : List (List ℕ)) → paths ≡ [] → (list : List Resource) → list ≡ [] → (result : Result Compiled (Halt Failing))
+      → IfSome before (λ files. (s : State) → IsProgram program s → Yields (seen compiled_of result) (HasWork (around (derez_setting moment asked) paths files) list s))
+      → IfSome before (λ files. Yields (seen compiled_of result) (TypesAre moment asked files))
   types_compiled None program read paths no_paths list none result work = tt
   types_compiled (Some files) program read paths no_paths list none result work =
       work_so files read.0 read.2 result
-      (subst (λ (p : List (List ℕ)). CompiledSo result (HasWork (around (derez_setting moment asked) p files) [] read.0)) no_paths
-      (subst (λ (l : List Resource). CompiledSo result (HasWork (around (derez_setting moment asked) paths files) l read.0)) none (work read.0 read.1)))
+      (subst (λ (p : List (List ℕ)). Yields (seen compiled_of result) (HasWork (around (derez_setting moment asked) p files) [] read.0)) no_paths
+      (subst (λ (l : List Resource). Yields (seen compiled_of result) (HasWork (around (derez_setting moment asked) paths files) l read.0)) none (work read.0 read.1)))
 
   -- a program that is refused
-  pub types_refused : (before : Option Files) (stop : Stopped) → IfSome before (λ files. ReadSo (Err stop) (Unsaid (ProgramGoes files tools.DeRez asked.files asked.paths asked.defs)))
-      → IfSome before (λ files. CompiledSo (Err stop) (TypesAre moment asked files))
+  pub types_refused : (before : Option Files) (stop : Halt Failing) → IfSome before (λ files. Yields (Err stop) (OfProgram (Unsaid (ProgramGoes files tools.DeRez asked.files asked.paths asked.defs))))
+      → IfSome before (λ files. Yields (seen compiled_of (Err stop)) (TypesAre moment asked files))
   types_refused None stop read = tt
-  types_refused (Some files) (stops.Refused fault names said) read = inr (record { fault = fault; files = names; said = said }, read, refl)
-  types_refused (Some files) stops.ReadFault read = tt
-  types_refused (Some files) stops.NoMemory read = tt
+  types_refused (Some files) (halts.Refused failing) read = inr (failing, read, refl)
+  types_refused (Some files) halts.ReadFault read = tt
+  types_refused (Some files) halts.NoMemory read = tt

@@ -2,14 +2,14 @@
 use Rattle.std.specs.Prelude.{◌≡◌, ◌<◌, ◌≤◌, ◌-◌, length, List, [], ◌∷◌, drop, map, take, Ok, Err}
 use Rattle.std.specs.declared.result.Result.{Result}
 use Rattle.rz_core.specs.Answers.{Then}
+use Rattle.rz_core.specs.Stop.{left, refusal_seen}
 use Rattle.rz_core.specs.declared.fault.Fault.{Fault}
 use Rattle.rz_core.specs.declared.fault.Mark.{Mark}
 use Rattle.rz_core.specs.declared.resource.Resource.{Resource}
 use Rattle.rz_stmt_brackets.specs.declared.span.Span.{Span}
 use Rattle.rz_stmt_items.specs.Compile.{Compile}
 use Rattle.rz_lex.specs.declared.token.Token.{Token}
-use Rattle.rz_folder_paths.specs.declared.halt.Halt.{Halt}
-use Rattle.rz_folder_paths.specs.declared.halt.Halt.TheVariants.{NoMemory, ReadFault, Refused}
+use Rattle.rz_core.specs.declared.stop.Halt.{Halt}
 use Rattle.rz_pre.specs.declared.condition.Tool.{Tool}
 use Rattle.rz_pre.specs.declared.condition.Tool.TheVariants as tools
 use Rattle.rz_stmt.specs.Grammar.{mark_of, Compiles, Data, Declares, Empty, Lists, Parses, Statement}
@@ -76,9 +76,6 @@ pub record IsSpan (tokens : List Token) (span : Span) : Type 0 where
   pub some : span.start < span.end
   pub within : span.end ≤ length tokens
 
--- the call left this work, or gave this fault behind the warnings that are left; a read fault and want of memory say nothing
-abbrev pub Worked : (Result Work WarnedFault → Type 0) → Result (Unit {0}) Halt → Work → Type 0
-Worked answers (Ok nothing) work = answers (Ok work)
-Worked answers (Err (Refused fault)) work = answers (Err (record { fault = fault; warnings = work.warnings }))
-Worked answers (Err ReadFault) work = Unit {0}
-Worked answers (Err NoMemory) work = Unit {0}
+-- what a call gave, with the work that it left, or its fault behind the warnings that are left
+abbrev pub with_work : Work → Result (Unit {0}) (Halt Fault) → Result Work (Halt WarnedFault)
+with_work work result = left work (refusal_seen (λ fault. record { fault = fault; warnings = work.warnings }) result)

@@ -7,16 +7,17 @@ ghost use Rattle.rz_tools.specs.Again.{HoldsFile};
 ghost use Rattle.rz_tools_answer.specs.Plan.{answer_of};
 ghost use Rattle.rz_tools.specs.Program.{Answers};
 ghost use Rattle.rz_tools_answer.specs.WellFormed.{AreWritable, IsWellFormed};
-ghost use Rattle.rz_tools_answer.specs.declared.made.Unanswered.TheVariants.{NoMemory as no_memory, ReadFault};
+ghost use Rattle.rz_core.specs.declared.stop.Halt.TheVariants.{NoMemory as no_memory, ReadFault};
 
 use crate::derez::plan_derez;
 use crate::rez::plan_rez;
-use rz_core::{Moment, Stop};
+use rz_core::{Halt, Moment, Stop};
 use rz_folder::Folder;
-use rz_tools_answer::{Outcome, Plan, Unanswered, help_text, version_text};
+use rz_tools_answer::{Outcome, Plan, help_text, version_text};
 use rz_tools_args::{Command, definitions_are_lexed, one_command, read_words};
 use rz_tools_output::plan_bridge;
 use std::alloc::Global;
+use std::convert::Infallible;
 
 /// The answer to words, with nothing of it carried out. All files that it needs are read, and all memory is taken.
 pub fn answer<F: Folder>(
@@ -24,7 +25,7 @@ pub fn answer<F: Folder>(
     words: &[String],
     folder: &mut F,
     moment: Moment,
-) -> Result<Plan, Unanswered>
+) -> Result<Plan, Halt<Infallible>>
     ensures answered { IfSome (F.files folder.old) (λ files. IfOk result (λ plan. Answers (map string_bytes words.now) files moment (answer_of plan))) }
     ensures well_formed { IfOk result (λ plan. IsWellFormed (answer_of plan)) }
     ensures writable { IfOk result (λ plan. AreWritable (answer_of plan).writes) }
@@ -49,6 +50,6 @@ pub fn answer<F: Folder>(
         Ok(Command::Help) => Ok(Plan::text(alloc, help_text())?),
         Ok(Command::Version) => Ok(Plan::text(alloc, version_text())?),
         Err(Stop::Refused(fault)) => Ok(Plan::misused(alloc, fault)?),
-        Err(Stop::NoMemory) => Err(Unanswered::NoMemory),
+        Err(Stop::NoMemory) => Err(Halt::NoMemory),
     }
 }

@@ -1,9 +1,9 @@
 ghost use Rattle.std.specs.Prelude.{◌≡◌, ◌++◌, ◌∷◌, [], ◌<◌, ◌^◌, Err, ℕ, List, length, None, IfOk, IfSome, OnOk};
 ghost use Rattle.std.specs.FinMap as map;
 ghost use Rattle.std.specs.String.{string_bytes};
-ghost use Rattle.rz_core.specs.Answers.{Meets};
+ghost use Rattle.rz_core.specs.Stop.{seen, Meets, OnFault, OnRefusal, Yields};
+ghost use Rattle.rz_core.specs.declared.stop.Halt.TheVariants.{ReadFault};
 ghost use Rattle.rz_core.specs.Message.{IsNameable};
-ghost use Rattle.rz_core.specs.Stop.{OnFault};
 ghost use Rattle.rz_folder.specs.OnlyReads.{OnlyReads};
 ghost use Rattle.rz_bridge_files.specs.Contents.{admit_fork, fork_in};
 ghost use Rattle.rz_pre.specs.Lexed.{HaveLexedTexts};
@@ -13,27 +13,26 @@ ghost use Rattle.rz_tools.specs.Chosen.{chosen};
 ghost use Rattle.rz_core.specs.declared.moment.Moment.{Moment as MomentOf};
 ghost use Rattle.rz_tools.specs.Sources.{Compiled as CompiledOf};
 ghost use Rattle.rz_tools.specs.DeRez.{known_by, AnswersDeRez, HasForkText, HasText, Shows, ShowsEach, TypesAre};
-ghost use Rattle.rz_tools.specs.Held.{compiled_of, known_of, AreNameable, CompiledSo};
-ghost use Rattle.rz_tools_answer.specs.Made.{IsNamed, MadeSo, SaysWarnings};
+ghost use Rattle.rz_tools.specs.Held.{compiled_of, known_of};
+ghost use Rattle.rz_tools_answer.specs.Made.{making_of, IsSayable};
 ghost use Rattle.rz_tools_answer.specs.Plan.{answer_of, IsNoUsage};
-ghost use Rattle.rz_tools_answer.specs.Warning.{AreWarnings};
+ghost use Rattle.rz_tools_answer.specs.Warning.{AreWarnings, IsWarningText};
 ghost use Rattle.rz_tools_answer.specs.WellFormed.{AreWritable, IsWellFormed};
-ghost use Rattle.rz_tools_answer.specs.declared.made.Stopped.TheVariants.{ReadFault};
-ghost use Rattle.rz_tools_answer.specs.declared.made.Unanswered.TheVariants.{ReadFault as unread};
 ghost use Rattle.rz_tools_args.specs.Item.{derez};
 
 use crate::chosen::is_chosen;
 use crate::shown::{Known, show};
 use crate::sources::{Compiled, compile_program, read_program};
 use rz_bridge_files::{admit_fork, file_in};
-use rz_core::{Bytes, Fault, FileNames, Moment, NoMemory, Resource, Resources, Stop};
+use rz_core::{Bytes, Fault, FileNames, Halt, Moment, NoMemory, Resource, Resources, Stop};
 use rz_folder::{Folder, Read};
 use rz_folder_paths::missing_file;
 use rz_pre::Tool;
-use rz_tools_answer::{Faults, Made, Outcome, Plan, Stopped, Unanswered, say_beside};
+use rz_tools_answer::{Failing, Faults, Made, Outcome, Plan, say_beside};
 use rz_tools_args::DeRezWords;
 use rz_tools_work::{Setting, Work};
 use std::alloc::Global;
+use std::convert::Infallible;
 
 /// The answer to the words of `derez`: under what the type files declare, the text of the resources of the fork whose
 /// types the words choose, which is to be put out. The type files are read first, then their statements, of which
@@ -43,7 +42,7 @@ pub fn plan_derez<F: Folder>(
     folder: &mut F,
     words: &DeRezWords,
     moment: Moment,
-) -> Result<Plan, Unanswered>
+) -> Result<Plan, Halt<Infallible>>
     requires { HaveLexedTexts words.now.defs }
     ensures answered { IfSome (F.files folder.old) (λ files. IfOk result (λ plan. AnswersDeRez (derez words.now) files moment (answer_of plan))) }
     ensures well_formed { IfOk result (λ plan. IsWellFormed (answer_of plan)) }
@@ -51,7 +50,7 @@ pub fn plan_derez<F: Folder>(
     ensures no_usage { IfOk result (λ plan. IsNoUsage plan.outcome) }
     ensures held { IfSome (F.files folder.old) (λ files. IfSome (map.get files (string_bytes words.now.file)) (λ bytes.
         IfOk result (λ plan. plan.outcome ≡ Outcome.Done → HoldsFile words.now.from bytes))) }
-    ensures reads { OnlyReads F.files F.read_faults F.write_faults folder.old folder.new (result ≡ Err unread) }
+    ensures reads { OnlyReads F.files F.read_faults F.write_faults folder.old folder.new (result ≡ Err ReadFault) }
 {
     match read_and_show(alloc, folder, words, moment) {
         Ok(text) => Ok(Plan::shown(alloc, text)),
@@ -65,12 +64,12 @@ fn read_and_show<F: Folder>(
     folder: &mut F,
     words: &DeRezWords,
     moment: Moment,
-) -> Result<Made, Stopped>
+) -> Result<Made, Halt<Failing>>
     requires { HaveLexedTexts words.now.defs }
-    ensures text { IfSome (F.files folder.old) (λ files. MadeSo result (Shows moment (derez words.now) files)) }
+    ensures text { IfSome (F.files folder.old) (λ files. Yields (seen making_of result) (Shows moment (derez words.now) files)) }
     ensures held { IfSome (F.files folder.old) (λ files. IfSome (map.get files (string_bytes words.now.file)) (λ bytes. IfOk result (λ _. HoldsFile words.now.from bytes))) }
-    ensures nameable { IsNamed result }
-    ensures warned { SaysWarnings result }
+    ensures sayable { OnRefusal result IsSayable }
+    ensures warned { IfOk result (λ made. IsWarningText made.said) }
     ensures reads { OnlyReads F.files F.read_faults F.write_faults folder.old folder.new (result ≡ Err ReadFault) }
 {
     match compile_types(alloc, folder, words, moment) {
@@ -85,10 +84,11 @@ fn compile_types<F: Folder>(
     folder: &mut F,
     words: &DeRezWords,
     moment: Moment,
-) -> Result<Compiled, Stopped>
+) -> Result<Compiled, Halt<Failing>>
     requires { HaveLexedTexts words.now.defs }
-    ensures compiled { IfSome (F.files folder.old) (λ files. CompiledSo result (TypesAre moment (derez words.now) files)) }
-    ensures nameable { AreNameable result }
+    ensures compiled { IfSome (F.files folder.old) (λ files. Yields (seen compiled_of result) (TypesAre moment (derez words.now) files)) }
+    ensures warned { IfOk result (λ compiled. AreWarnings (length compiled.files) compiled.work.warnings) }
+    ensures sayable { OnRefusal result IsSayable }
     ensures reads { OnlyReads F.files F.read_faults F.write_faults folder.old folder.new (result ≡ Err ReadFault) }
 {
     let setting = Setting {
@@ -125,12 +125,12 @@ fn show_under<F: Folder>(
     words: &DeRezWords,
     compiled: Compiled,
     moment: Moment,
-) -> Result<Made, Stopped>
+) -> Result<Made, Halt<Failing>>
     requires { AreWarnings (length compiled.files) compiled.work.warnings }
-    ensures text { IfSome (F.files folder.old) (λ files. MadeSo result (HasText moment (derez words.now) files (compiled_of compiled))) }
+    ensures text { IfSome (F.files folder.old) (λ files. Yields (seen making_of result) (HasText moment (derez words.now) files (compiled_of compiled))) }
     ensures held { IfSome (F.files folder.old) (λ files. IfSome (map.get files (string_bytes words.now.file)) (λ bytes. IfOk result (λ _. HoldsFile words.now.from bytes))) }
-    ensures nameable { IsNamed result }
-    ensures warned { SaysWarnings result }
+    ensures sayable { OnRefusal result IsSayable }
+    ensures warned { IfOk result (λ made. IsWarningText made.said) }
     ensures reads { OnlyReads F.files F.read_faults F.write_faults folder.old folder.new (result ≡ Err ReadFault) }
 {
     let Compiled {
@@ -145,7 +145,7 @@ fn show_under<F: Folder>(
     } = work;
     match Known::of(alloc, types, &macros, moment) {
         Ok(known) => show_file(alloc, folder, words, &known, &warnings, files),
-        Err(NoMemory) => Err(Stopped::NoMemory),
+        Err(NoMemory) => Err(Halt::NoMemory),
     }
 }
 
@@ -157,13 +157,13 @@ fn show_file<F: Folder>(
     known: &Known,
     warnings: &Faults,
     files: FileNames,
-) -> Result<Made, Stopped>
+) -> Result<Made, Halt<Failing>>
     requires { AreWarnings (length files) warnings.now }
     ensures text { (moment : MomentOf) (compiled : CompiledOf) → compiled.files ≡ files → compiled.work.warnings ≡ warnings.now → known_of known.now ≡ known_by moment compiled
-        → IfSome (F.files folder.old) (λ held. MadeSo result (HasText moment (derez words.now) held compiled)) }
+        → IfSome (F.files folder.old) (λ held. Yields (seen making_of result) (HasText moment (derez words.now) held compiled)) }
     ensures held { IfSome (F.files folder.old) (λ files. IfSome (map.get files (string_bytes words.now.file)) (λ bytes. IfOk result (λ _. HoldsFile words.now.from bytes))) }
-    ensures nameable { IsNamed result }
-    ensures warned { SaysWarnings result }
+    ensures sayable { OnRefusal result IsSayable }
+    ensures warned { IfOk result (λ made. IsWarningText made.said) }
     ensures reads { OnlyReads F.files F.read_faults F.write_faults folder.old folder.new (result ≡ Err ReadFault) }
 {
     let name = words.file.as_str();
@@ -175,8 +175,8 @@ fn show_file<F: Folder>(
             files,
         ),
         Read::Missing => say_beside(alloc, no_file(alloc, name), warnings, files),
-        Read::Failed => Err(Stopped::ReadFault),
-        Read::NoMemory => Err(Stopped::NoMemory),
+        Read::Failed => Err(Halt::ReadFault),
+        Read::NoMemory => Err(Halt::NoMemory),
     }
 }
 

@@ -3,12 +3,11 @@ ghost use Rattle.rz_core.specs.Message.{IsNameable};
 ghost use Rattle.rz_folder.specs.OnlyReads.{OnlyReads};
 ghost use Rattle.rz_stmt_items.specs.Item.{plain_item, plain_items};
 ghost use Rattle.rz_stmt_items.specs.Places.{AreItemsWithin, IsItemWithin};
-ghost use Rattle.rz_folder_paths.specs.Halt.{IsReadFault, OnRefusal, Yields};
+ghost use Rattle.rz_core.specs.Stop.{IsReadFault, OnRefusal, Yields};
 ghost use Rattle.rz_tools.specs.Files.{item_given, item_read, items_given, items_read};
 
-use rz_core::{Facts, FileNames, Mark};
+use rz_core::{Facts, Fault, FileNames, Halt, Mark};
 use rz_folder::Folder;
-use rz_folder_paths::Halt;
 use rz_stmt_items::{Item, Items};
 use rz_tools_work::read_texts;
 use std::alloc::Global;
@@ -23,7 +22,7 @@ pub fn read_items<F: Folder>(
     items: Items,
     mark: Mark,
     known: &Facts,
-) -> Result<Items, Halt>
+) -> Result<Items, Halt<Fault>>
     ensures read { IfSome (F.files folder.old) (λ files.
         Yields result (λ answer. items_given answer ≡ items_read paths.now files mark known.now (plain_items items))) }
     ensures within { (files : ℕ) → AreItemsWithin files (plain_items items) → IfOk result (λ made. AreItemsWithin files (plain_items made)) }
@@ -49,7 +48,7 @@ fn read_item<F: Folder>(
     item: Item,
     mark: Mark,
     known: &Facts,
-) -> Result<Item, Halt>
+) -> Result<Item, Halt<Fault>>
     ensures read { IfSome (F.files folder.old) (λ files. Yields result (λ answer. item_given answer ≡ item_read paths.now files mark known.now (plain_item item))) }
     ensures within { (files : ℕ) → IsItemWithin files (plain_item item) → IfOk result (λ made. IsItemWithin files (plain_item made)) }
     ensures nameable { (files : ℕ) → mark.file < files → OnRefusal result (IsNameable files) }

@@ -12,9 +12,9 @@ use crate::answer::answer;
 use crate::laws::{
     every_answer, one_answer, reserved_words_are_spared, shown_forks_are_read_again,
 };
-use rz_core::Moment;
+use rz_core::{Halt, Moment};
 use rz_folder::{Folder, Sink};
-use rz_tools_answer::{NO_MEMORY, Outcome, READ_FAULT, Unanswered, carry_out, put_line};
+use rz_tools_answer::{NO_MEMORY, Outcome, READ_FAULT, carry_out, put_line};
 use rz_tools_args::{definitions_are_free, one_command};
 use std::alloc::Global;
 
@@ -68,11 +68,11 @@ pub fn run<F: Folder, O: Sink, E: Sink>(
     definitions_are_free();
     match answer(alloc, words, folder, moment) {
         Ok(plan) => carry_out(plan, folder, out, err),
-        Err(Unanswered::ReadFault) => {
+        Err(Halt::ReadFault) => {
             put_line(READ_FAULT, err);
             Outcome::ReadFault
         }
-        Err(Unanswered::NoMemory) => {
+        Err(Halt::NoMemory) => {
             put_line(NO_MEMORY, err);
             Outcome::NoMemory
         }

@@ -1,14 +1,12 @@
 ghost use Rattle.std.specs.Prelude.{◌≡◌, ◌<◌, ℕ, true, length, option_map, IfOk, IfSome};
-ghost use Rattle.rz_core.specs.Answers.{Meets};
+ghost use Rattle.rz_core.specs.Stop.{Meets, OnFault, IsReadFault, OnRefusal, Yields};
 ghost use Rattle.rz_core.specs.Message.{IsNameable};
-ghost use Rattle.rz_core.specs.Stop.{OnFault};
 ghost use Rattle.rz_folder.specs.OnlyReads.{OnlyReads};
 ghost use Rattle.rz_stmt_items.specs.Compile.{compile_of};
 ghost use Rattle.rz_stmt_items.specs.Item.{plain_items};
 ghost use Rattle.rz_stmt_items.specs.Places.{AreItemsWithin};
 ghost use Rattle.rz_layout.specs.Compiled.{is_compile_fault};
 ghost use Rattle.rz_layout.specs.Fault.{refusal_of};
-ghost use Rattle.rz_folder_paths.specs.Halt.{IsReadFault, OnRefusal, Yields};
 ghost use Rattle.rz_tools_work.specs.Around.{around};
 ghost use Rattle.rz_tools.specs.Resource.{no_type, row_fault, AreBytes, AreItemBytes, AreReadBytes, IsResource, IsSpelled};
 ghost use Rattle.rz_types_fields.specs.Row.{IsRow};
@@ -17,9 +15,8 @@ ghost use Rattle.rz_types.specs.Template.{template_of};
 ghost use Rattle.rz_types_table.specs.TypeTable.{table_of};
 
 use crate::files::read_items;
-use rz_core::{Bytes, Facts, Fault, FileNames, Kept, Mark, Resource, Stop};
+use rz_core::{Bytes, Facts, Fault, FileNames, Halt, Kept, Mark, Resource, Stop};
 use rz_folder::Folder;
-use rz_folder_paths::Halt;
 use rz_layout::{LayFault, compile};
 use rz_stmt::{CompileStmt, Items};
 use rz_stmt_items::match_items;
@@ -41,7 +38,7 @@ pub fn resource_of_items<F: Folder>(
     mark: Mark,
     setting: Setting,
     types: &TypeTable,
-) -> Result<Resource, Halt>
+) -> Result<Resource, Halt<Fault>>
     ensures resource { IfSome (F.files folder.old) (λ files. Yields result (IsResource (around setting paths.now files) mark (table_of types.now) (compile_of stmt))) }
     ensures named { IfOk result (λ resource. length resource.name < 256) }
     ensures nameable { (files : ℕ) → mark.file < files → AreItemsWithin files (plain_items stmt.items) → OnRefusal result (IsNameable files) }
@@ -63,7 +60,7 @@ fn bytes_of<F: Folder>(
     mark: Mark,
     known: &Facts,
     types: &TypeTable,
-) -> Result<Bytes, Halt>
+) -> Result<Bytes, Halt<Fault>>
     ensures bytes { IfSome (F.files folder.old) (λ files. Yields result (AreBytes paths.now files mark (table_of types.now) (plain_items items) known.now)) }
     ensures nameable { (files : ℕ) → mark.file < files → AreItemsWithin files (plain_items items) → OnRefusal result (IsNameable files) }
     ensures reads { OnlyReads F.files F.read_faults F.write_faults folder.old folder.new (IsReadFault result) }
@@ -91,7 +88,7 @@ fn bytes_read<F: Folder>(
     mark: Mark,
     known: &Facts,
     template: &Template,
-) -> Result<Bytes, Halt>
+) -> Result<Bytes, Halt<Fault>>
     ensures bytes { IfSome (F.files folder.old) (λ files. Yields result (AreReadBytes paths.now files mark known.now (plain_items items) (template_of template.now))) }
     ensures nameable { (files : ℕ) → mark.file < files → AreItemsWithin files (plain_items items) → OnRefusal result (IsNameable files) }
     ensures reads { OnlyReads F.files F.read_faults F.write_faults folder.old folder.new (IsReadFault result) }

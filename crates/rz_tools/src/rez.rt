@@ -1,10 +1,10 @@
 ghost use Rattle.std.specs.Prelude.{◌≡◌, ◌≤◌, [], ◌<◌, ◌^◌, List, length, IfSome, IfOk, Err};
-ghost use Rattle.rz_tools_answer.specs.Made.{IsNamed, MadeSo, SaysWarnings};
+ghost use Rattle.rz_core.specs.Stop.{seen, OnRefusal, Yields};
+ghost use Rattle.rz_core.specs.declared.stop.Halt.TheVariants.{ReadFault};
+ghost use Rattle.rz_tools_answer.specs.Made.{making_of, IsSayable};
 ghost use Rattle.rz_tools_answer.specs.Plan.{answer_of, IsNoUsage};
-ghost use Rattle.rz_tools_answer.specs.Warning.{AreWarnings};
+ghost use Rattle.rz_tools_answer.specs.Warning.{AreWarnings, IsWarningText};
 ghost use Rattle.rz_tools_answer.specs.WellFormed.{AreWritable, IsWellFormed};
-ghost use Rattle.rz_tools_answer.specs.declared.made.Stopped.TheVariants.{ReadFault};
-ghost use Rattle.rz_tools_answer.specs.declared.made.Unanswered.TheVariants.{ReadFault as unread};
 ghost use Rattle.rz_core.specs.Resources.{KeysDiffer};
 ghost use Rattle.rz_folder.specs.OnlyReads.{OnlyReads};
 ghost use Rattle.rz_lex.specs.Lexeme.{AreLexed};
@@ -20,15 +20,15 @@ ghost use Rattle.rz_tools.specs.Held.{compiled_of};
 ghost use Rattle.rz_tools.specs.Rez.{AnswersRez, Compiles, HasOutput, IsMadeBehind, IsMadeOf};
 
 use crate::sources::{Compiled, compile_program, read_program};
-use rz_core::{Bytes, Moment};
+use rz_core::{Bytes, Halt, Moment};
 use rz_folder::Folder;
-use rz_folder_paths::Halt;
 use rz_pre::{Program, Tool};
-use rz_tools_answer::{Made, Plan, Stopped, Unanswered, say_beside};
+use rz_tools_answer::{Failing, Made, Plan, say_beside};
 use rz_tools_args::RezWords;
 use rz_tools_output::{Base, Beginning, read_base, write_output};
 use rz_tools_work::{Setting, Work};
 use std::alloc::Global;
+use std::convert::Infallible;
 
 /// The answer to the words of `rez`: the sources that they name are compiled into a resource fork, behind what there is to begin
 /// with, and its file is to be written. The sources are read first, then the file to begin with, then the files of
@@ -38,13 +38,13 @@ pub fn plan_rez<F: Folder>(
     folder: &mut F,
     words: &RezWords<'_>,
     moment: Moment,
-) -> Result<Plan, Unanswered>
+) -> Result<Plan, Halt<Infallible>>
     requires { HaveLexedTexts words.now.defs }
     ensures answered { IfSome (F.files folder.old) (λ files. IfOk result (λ plan. AnswersRez (rez words.now) files moment (answer_of plan))) }
     ensures well_formed { IfOk result (λ plan. IsWellFormed (answer_of plan)) }
     ensures writable { IfOk result (λ plan. AreWritable (answer_of plan).writes) }
     ensures no_usage { IfOk result (λ plan. IsNoUsage plan.outcome) }
-    ensures reads { OnlyReads F.files F.read_faults F.write_faults folder.old folder.new (result ≡ Err unread) }
+    ensures reads { OnlyReads F.files F.read_faults F.write_faults folder.old folder.new (result ≡ Err ReadFault) }
 {
     match compile(alloc, folder, words, moment) {
         Ok(made) => Ok(Plan::written(alloc, words.output, made)?),
@@ -58,11 +58,11 @@ fn compile<F: Folder>(
     folder: &mut F,
     words: &RezWords<'_>,
     moment: Moment,
-) -> Result<Made, Stopped>
+) -> Result<Made, Halt<Failing>>
     requires { HaveLexedTexts words.now.defs }
-    ensures made { IfSome (F.files folder.old) (λ files. MadeSo result (Compiles moment (rez words.now) files)) }
-    ensures nameable { IsNamed result }
-    ensures warned { SaysWarnings result }
+    ensures made { IfSome (F.files folder.old) (λ files. Yields (seen making_of result) (Compiles moment (rez words.now) files)) }
+    ensures sayable { OnRefusal result IsSayable }
+    ensures warned { IfOk result (λ made. IsWarningText made.said) }
     ensures short { IfOk result (λ made. length made.bytes < 2 ^ 32) }
     ensures reads { OnlyReads F.files F.read_faults F.write_faults folder.old folder.new (result ≡ Err ReadFault) }
 {
@@ -86,22 +86,24 @@ fn compile_from_base<F: Folder>(
     words: &RezWords<'_>,
     program: Program,
     moment: Moment,
-) -> Result<Made, Stopped>
+) -> Result<Made, Halt<Failing>>
     requires within { AreWithin (length program.files) program.tokens }
     requires lexed { AreLexed program.tokens }
-    ensures made { IfSome (F.files folder.old) (λ files. (s : State) → IsProgram program s → MadeSo result (IsMadeOf moment (rez words.now) files s)) }
-    ensures nameable { IsNamed result }
-    ensures warned { SaysWarnings result }
+    ensures made { IfSome (F.files folder.old) (λ files. (s : State) → IsProgram program s → Yields (seen making_of result) (IsMadeOf moment (rez words.now) files s)) }
+    ensures sayable { OnRefusal result IsSayable }
+    ensures warned { IfOk result (λ made. IsWarningText made.said) }
     ensures short { IfOk result (λ made. length made.bytes < 2 ^ 32) }
     ensures reads { OnlyReads F.files F.read_faults F.write_faults folder.old folder.new (result ≡ Err ReadFault) }
 {
     match read_base(alloc, folder, words) {
         Ok(begun) => compile_behind(alloc, folder, words, program, begun, moment),
-        Err(Halt::Refused(fault)) => {
-            Err(Stopped::Refused(fault, program.files, Bytes::new(alloc)))
-        }
-        Err(Halt::ReadFault) => Err(Stopped::ReadFault),
-        Err(Halt::NoMemory) => Err(Stopped::NoMemory),
+        Err(Halt::Refused(fault)) => Err(Halt::Refused(Failing {
+            fault,
+            files: program.files,
+            said: Bytes::new(alloc),
+        })),
+        Err(Halt::ReadFault) => Err(Halt::ReadFault),
+        Err(Halt::NoMemory) => Err(Halt::NoMemory),
     }
 }
 
@@ -113,15 +115,15 @@ fn compile_behind<F: Folder>(
     program: Program,
     begun: Beginning,
     moment: Moment,
-) -> Result<Made, Stopped>
+) -> Result<Made, Halt<Failing>>
     requires within { AreWithin (length program.files) program.tokens }
     requires lexed { AreLexed program.tokens }
     requires keys { KeysDiffer [] begun.list }
     requires named { AreNamed begun.list }
     requires room { length begun.base.reserved ≤ 240 }
-    ensures made { IfSome (F.files folder.old) (λ files. (s : State) → IsProgram program s → MadeSo result (IsMadeBehind moment (rez words.now) files s (begun_of begun))) }
-    ensures nameable { IsNamed result }
-    ensures warned { SaysWarnings result }
+    ensures made { IfSome (F.files folder.old) (λ files. (s : State) → IsProgram program s → Yields (seen making_of result) (IsMadeBehind moment (rez words.now) files s (begun_of begun))) }
+    ensures sayable { OnRefusal result IsSayable }
+    ensures warned { IfOk result (λ made. IsWarningText made.said) }
     ensures short { IfOk result (λ made. length made.bytes < 2 ^ 32) }
     ensures reads { OnlyReads F.files F.read_faults F.write_faults folder.old folder.new (result ≡ Err ReadFault) }
 {
@@ -146,12 +148,12 @@ fn write_compiled(
     base: Base,
     compiled: Compiled,
     moment: Moment,
-) -> Result<Made, Stopped>
+) -> Result<Made, Halt<Failing>>
     requires warnings { AreWarnings (length compiled.files) compiled.work.warnings }
     requires room { length base.reserved ≤ 240 }
-    ensures made { (others : List Resource) → MadeSo result (HasOutput moment (rez words.now) (base_with base others) (compiled_of compiled)) }
-    ensures nameable { IsNamed result }
-    ensures warned { SaysWarnings result }
+    ensures made { (others : List Resource) → Yields (seen making_of result) (HasOutput moment (rez words.now) (base_with base others) (compiled_of compiled)) }
+    ensures sayable { OnRefusal result IsSayable }
+    ensures warned { IfOk result (λ made. IsWarningText made.said) }
     ensures short { IfOk result (λ made. length made.bytes < 2 ^ 32) }
     ensures quiet { result ≡ Err ReadFault → ⊥ }
 {

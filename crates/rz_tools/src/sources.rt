@@ -1,25 +1,26 @@
-ghost use Rattle.std.specs.Prelude.{◌≡◌, [], length, Err, IfErr, IfOk, IfSome};
-ghost use Rattle.rz_tools_answer.specs.Made.{NamesFault, SaysBefore};
-ghost use Rattle.rz_tools_answer.specs.declared.made.Stopped.TheVariants.{ReadFault};
+ghost use Rattle.std.specs.Prelude.{◌≡◌, [], length, Err, IfOk, IfSome};
+ghost use Rattle.rz_core.specs.Stop.{seen, OnRefusal, Yields};
+ghost use Rattle.rz_core.specs.declared.stop.Halt.TheVariants.{ReadFault};
+ghost use Rattle.rz_tools_answer.specs.Made.{IsSayable};
+ghost use Rattle.rz_tools_answer.specs.Warning.{AreWarnings};
 ghost use Rattle.rz_core.specs.Resources.{KeysDiffer};
 ghost use Rattle.rz_folder.specs.OnlyReads.{OnlyReads};
 ghost use Rattle.rz_lex.specs.Lexeme.{AreLexed};
 ghost use Rattle.rz_lex.specs.Within.{AreWithin};
 ghost use Rattle.rz_pre.specs.Lexed.{HaveLexedTexts};
 ghost use Rattle.rz_pre.specs.Program.{ProgramGoes, State};
-ghost use Rattle.rz_pre.specs.Reading.{IsProgram};
+ghost use Rattle.rz_pre.specs.Reading.{IsProgram, OfProgram};
 ghost use Rattle.rz_set.specs.ResSet.{AreNamed};
 ghost use Rattle.rz_tools_work.specs.Around.{around};
-ghost use Rattle.rz_tools.specs.Held.{AreNameable, CompiledSo, ReadSo};
+ghost use Rattle.rz_tools.specs.Held.{compiled_of};
 ghost use Rattle.rz_tools.specs.Sources.{HasWork, Unsaid};
 
 use crate::step::compile_statements;
-use rz_core::{Bytes, FileNames, Resources, Words};
+use rz_core::{Bytes, FileNames, Halt, Resources, Words};
 use rz_folder::Folder;
-use rz_folder_paths::Halt;
-use rz_pre::{Defs, PreFault, Program, Tool, preprocess};
+use rz_pre::{Defs, Failure, Program, Tool, preprocess};
 use rz_stmt::all_tokens_are_statements;
-use rz_tools_answer::{Stopped, refusal};
+use rz_tools_answer::{Failing, refusal};
 use rz_tools_work::{Setting, Work};
 use std::alloc::Global;
 
@@ -42,21 +43,26 @@ pub fn read_program<F: Folder>(
     names: &FileNames,
     paths: &FileNames,
     defs: &Defs,
-) -> Result<Program, Stopped>
+) -> Result<Program, Halt<Failing>>
     requires { HaveLexedTexts defs.now }
-    ensures read { IfSome (F.files folder.old) (λ files. ReadSo result (Unsaid (ProgramGoes files tool names.now paths.now defs.now))) }
-    ensures nameable { IfErr result (λ stop. NamesFault stop × SaysBefore stop) }
+    ensures read { IfSome (F.files folder.old) (λ files. Yields result (OfProgram (Unsaid (ProgramGoes files tool names.now paths.now defs.now)))) }
+    ensures sayable { OnRefusal result IsSayable }
     ensures within { IfOk result (λ program. AreWithin (length program.files) program.tokens) }
     ensures lexed { IfOk result (λ program. AreLexed program.tokens) }
     ensures reads { OnlyReads F.files F.read_faults F.write_faults folder.old folder.new (result ≡ Err ReadFault) }
 {
     match preprocess(alloc, folder, tool, names, paths, defs) {
         Ok(program) => Ok(program),
-        Err(PreFault::Refused(fault, files)) => {
-            Err(Stopped::Refused(fault, files, Bytes::new(alloc)))
+        Err(Halt::Refused(failure)) => {
+            let Failure { fault, files } = failure;
+            Err(Halt::Refused(Failing {
+                fault,
+                files,
+                said: Bytes::new(alloc),
+            }))
         }
-        Err(PreFault::ReadFault) => Err(Stopped::ReadFault),
-        Err(PreFault::NoMemory) => Err(Stopped::NoMemory),
+        Err(Halt::ReadFault) => Err(Halt::ReadFault),
+        Err(Halt::NoMemory) => Err(Halt::NoMemory),
     }
 }
 
@@ -70,13 +76,14 @@ pub fn compile_program<F: Folder>(
     program: Program,
     list: Resources,
     setting: Setting,
-) -> Result<Compiled, Stopped>
+) -> Result<Compiled, Halt<Failing>>
     requires within { AreWithin (length program.files) program.tokens }
     requires lexed { AreLexed program.tokens }
     requires keys { KeysDiffer [] list }
     requires named { AreNamed list }
-    ensures compiled { IfSome (F.files folder.old) (λ files. (s : State) → IsProgram program s → CompiledSo result (HasWork (around setting paths.now files) list s)) }
-    ensures nameable { AreNameable result }
+    ensures compiled { IfSome (F.files folder.old) (λ files. (s : State) → IsProgram program s → Yields (seen compiled_of result) (HasWork (around setting paths.now files) list s)) }
+    ensures warned { IfOk result (λ compiled. AreWarnings (length compiled.files) compiled.work.warnings) }
+    ensures sayable { OnRefusal result IsSayable }
     ensures reads { OnlyReads F.files F.read_faults F.write_faults folder.old folder.new (result ≡ Err ReadFault) }
 {
     all_tokens_are_statements();
@@ -92,8 +99,13 @@ pub fn compile_program<F: Folder>(
             macros,
             files,
         }),
-        Err(Halt::Refused(fault)) => Err(refusal(alloc, fault, &work.warnings, files)),
-        Err(Halt::ReadFault) => Err(Stopped::ReadFault),
-        Err(Halt::NoMemory) => Err(Stopped::NoMemory),
+        Err(Halt::Refused(fault)) => Err(Halt::Refused(refusal(
+            alloc,
+            fault,
+            &work.warnings,
+            files,
+        )?)),
+        Err(Halt::ReadFault) => Err(Halt::ReadFault),
+        Err(Halt::NoMemory) => Err(Halt::NoMemory),
     }
 }

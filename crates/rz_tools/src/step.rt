@@ -1,7 +1,7 @@
 ghost use Rattle.std.specs.Prelude.{◌≡◌, ◌<◌, ℕ, List, length, map, IfSome};
 ghost use Rattle.rz_tools_answer.specs.Warning.{AreWarnings};
 ghost use Rattle.rz_core.specs.Message.{IsNameable};
-ghost use Rattle.rz_core.specs.Stop.{OnFault};
+ghost use Rattle.rz_core.specs.Stop.{OnFault, IsReadFault, OnRefusal, halted, left, Yields};
 ghost use Rattle.rz_folder.specs.OnlyReads.{OnlyReads};
 ghost use Rattle.rz_stmt_items.specs.Compile.{compile_of};
 ghost use Rattle.rz_stmt_items.specs.Item.{plain_items};
@@ -10,7 +10,6 @@ ghost use Rattle.rz_lex.specs.Lexeme.{AreLexed};
 ghost use Rattle.rz_lex.specs.Within.{AreWithin};
 ghost use Rattle.rz_lex.specs.declared.token.Token.{Token};
 ghost use Rattle.rz_stmt_lists.specs.Lists.{list_of};
-ghost use Rattle.rz_folder_paths.specs.Halt.{IsReadFault, OnRefusal};
 ghost use Rattle.rz_stmt.specs.Raw.{raw_of};
 ghost use Rattle.rz_stmt.specs.Statements.{AreStatements};
 ghost use Rattle.rz_types_table.specs.TypeTable.{table_of};
@@ -18,13 +17,12 @@ ghost use Rattle.rz_tools_work.specs.Around.{around};
 ghost use Rattle.rz_tools_work.specs.Held.{work_of};
 ghost use Rattle.rz_tools_work.specs.Lists.{list_after};
 ghost use Rattle.rz_tools_work.specs.ToolWords.{numbered};
-ghost use Rattle.rz_tools_work.specs.Work.{halted, list_behind, Stepped, Went};
-ghost use Rattle.rz_tools.specs.Step.{tokens_at, Changes, IsListBehind, IsSpan, Means, Steps, Worked};
+ghost use Rattle.rz_tools_work.specs.Work.{list_behind};
+ghost use Rattle.rz_tools.specs.Step.{tokens_at, Changes, IsListBehind, IsSpan, Means, Steps, with_work};
 
 use crate::resource::resource_of_items;
-use rz_core::{Fault, FileNames, Mark, Stop};
+use rz_core::{Fault, FileNames, Halt, Mark, Stop};
 use rz_folder::Folder;
-use rz_folder_paths::Halt;
 use rz_lex::Tokens;
 use rz_pre::Tool;
 use rz_pre_tokens::TokenStore;
@@ -51,10 +49,10 @@ pub fn compile_statements<F: Folder>(
     tokens: &TokenStore,
     setting: Setting,
     work: &mut Work,
-) -> Result<(), Halt>
+) -> Result<(), Halt<Fault>>
     requires lexed { AreLexed tokens.now }
     ensures work { IfSome (F.files folder.old) (λ files. (statements : List (List Token)) → AreStatements tokens.now statements
-        → Worked (Means (around setting paths.now files) (work_of work.old) statements) result (work_of work.new)) }
+        → Yields (with_work (work_of work.new) result) (Means (around setting paths.now files) (work_of work.old) statements)) }
     ensures nameable { (files : ℕ) → AreWithin files tokens.now → OnRefusal result (IsNameable files) }
     ensures warned { (files : ℕ) → AreWithin files tokens.now → AreWarnings files work.old.warnings → AreWarnings files work.new.warnings }
     ensures reads { OnlyReads F.files F.read_faults F.write_faults folder.old folder.new (IsReadFault result) }
@@ -77,10 +75,10 @@ fn step<F: Folder>(
     statement: Tokens,
     setting: Setting,
     work: &mut Work,
-) -> Result<(), Halt>
+) -> Result<(), Halt<Fault>>
     requires some { 0 < length statement }
     requires lexed { AreLexed statement }
-    ensures stepped { IfSome (F.files folder.old) (λ files. Worked (Steps (around setting paths.now files) (work_of work.old) (map (numbered setting.tool) statement)) result (work_of work.new)) }
+    ensures stepped { IfSome (F.files folder.old) (λ files. Yields (with_work (work_of work.new) result) (Steps (around setting paths.now files) (work_of work.old) (map (numbered setting.tool) statement))) }
     ensures nameable { (files : ℕ) → AreWithin files statement → OnRefusal result (IsNameable files) }
     ensures warned { (files : ℕ) → AreWithin files statement → AreWarnings files work.old.warnings → AreWarnings files work.new.warnings }
     ensures reads { OnlyReads F.files F.read_faults F.write_faults folder.old folder.new (IsReadFault result) }
@@ -102,10 +100,10 @@ fn step_at<F: Folder>(
     span: Span,
     setting: Setting,
     work: &mut Work,
-) -> Result<(), Halt>
+) -> Result<(), Halt<Fault>>
     requires span { IsSpan tokens.now span }
     requires lexed { AreLexed tokens.now }
-    ensures stepped { IfSome (F.files folder.old) (λ files. Worked (Steps (around setting paths.now files) (work_of work.old) (tokens_at tokens.now span)) result (work_of work.new)) }
+    ensures stepped { IfSome (F.files folder.old) (λ files. Yields (with_work (work_of work.new) result) (Steps (around setting paths.now files) (work_of work.old) (tokens_at tokens.now span))) }
     ensures nameable { (files : ℕ) → AreWithin files tokens.now → OnRefusal result (IsNameable files) }
     ensures warned { (files : ℕ) → AreWithin files tokens.now → AreWarnings files work.old.warnings → AreWarnings files work.new.warnings }
     ensures reads { OnlyReads F.files F.read_faults F.write_faults folder.old folder.new (IsReadFault result) }
@@ -142,7 +140,7 @@ fn step_at<F: Folder>(
 }
 
 /// The end of a call that reads no files, as that of one that does.
-fn halted(ended: Result<(), Stop<Fault>>) -> Result<(), Halt>
+fn halted(ended: Result<(), Stop<Fault>>) -> Result<(), Halt<Fault>>
     ensures halted { result ≡ halted ended }
     ensures nameable { (files : ℕ) → OnFault ended (IsNameable files) → OnRefusal result (IsNameable files) }
     ensures unread { IsReadFault result → ⊥ }
@@ -162,9 +160,9 @@ fn change_list<F: Folder>(
     mark: Mark,
     setting: Setting,
     resources: &mut ResSet,
-) -> Result<(), Halt>
+) -> Result<(), Halt<Fault>>
     ensures changed { IfSome (F.files folder.old) (λ files.
-        Went (Changes setting.tool resources.old (λ answer. answer ≡ list_after (around setting paths.now files) mark resources.old (list_of stmt.now))) result resources.new) }
+        Yields (left resources.new result) (Changes setting.tool resources.old (λ answer. answer ≡ list_after (around setting paths.now files) mark resources.old (list_of stmt.now)))) }
     ensures nameable { (files : ℕ) → mark.file < files → OnRefusal result (IsNameable files) }
     ensures reads { OnlyReads F.files F.read_faults F.write_faults folder.old folder.new (IsReadFault result) }
 {
@@ -183,9 +181,9 @@ fn put_raw<F: Folder>(
     mark: Mark,
     setting: Setting,
     resources: &mut ResSet,
-) -> Result<(), Halt>
+) -> Result<(), Halt<Fault>>
     ensures put { IfSome (F.files folder.old) (λ files.
-        Went (Changes setting.tool resources.old (λ answer. answer ≡ list_behind (around setting paths.now files) mark resources.old (raw_of raw))) result resources.new) }
+        Yields (left resources.new result) (Changes setting.tool resources.old (λ answer. answer ≡ list_behind (around setting paths.now files) mark resources.old (raw_of raw)))) }
     ensures nameable { (files : ℕ) → mark.file < files → OnRefusal result (IsNameable files) }
     ensures reads { OnlyReads F.files F.read_faults F.write_faults folder.old folder.new (IsReadFault result) }
 {
@@ -204,9 +202,9 @@ fn put_data<F: Folder>(
     mark: Mark,
     setting: Setting,
     resources: &mut ResSet,
-) -> Result<(), Halt>
+) -> Result<(), Halt<Fault>>
     ensures put { IfSome (F.files folder.old) (λ files.
-        Went (λ answer. answer ≡ list_behind (around setting paths.now files) mark resources.old (raw_of raw)) result resources.new) }
+        Yields (left resources.new result) (λ answer. answer ≡ list_behind (around setting paths.now files) mark resources.old (raw_of raw))) }
     ensures nameable { (files : ℕ) → mark.file < files → OnRefusal result (IsNameable files) }
     ensures reads { OnlyReads F.files F.read_faults F.write_faults folder.old folder.new (IsReadFault result) }
 {
@@ -226,9 +224,9 @@ fn put_compiled<F: Folder>(
     setting: Setting,
     types: &TypeTable,
     resources: &mut ResSet,
-) -> Result<(), Halt>
+) -> Result<(), Halt<Fault>>
     ensures put { IfSome (F.files folder.old) (λ files.
-        Went (Changes setting.tool resources.old (IsListBehind (around setting paths.now files) mark (table_of types.now) resources.old (compile_of stmt))) result resources.new) }
+        Yields (left resources.new result) (Changes setting.tool resources.old (IsListBehind (around setting paths.now files) mark (table_of types.now) resources.old (compile_of stmt)))) }
     ensures nameable { (files : ℕ) → mark.file < files → AreItemsWithin files (plain_items stmt.items) → OnRefusal result (IsNameable files) }
     ensures reads { OnlyReads F.files F.read_faults F.write_faults folder.old folder.new (IsReadFault result) }
 {
@@ -248,9 +246,9 @@ fn put_items<F: Folder>(
     setting: Setting,
     types: &TypeTable,
     resources: &mut ResSet,
-) -> Result<(), Halt>
+) -> Result<(), Halt<Fault>>
     ensures put { IfSome (F.files folder.old) (λ files.
-        Went (IsListBehind (around setting paths.now files) mark (table_of types.now) resources.old (compile_of stmt)) result resources.new) }
+        Yields (left resources.new result) (IsListBehind (around setting paths.now files) mark (table_of types.now) resources.old (compile_of stmt))) }
     ensures nameable { (files : ℕ) → mark.file < files → AreItemsWithin files (plain_items stmt.items) → OnRefusal result (IsNameable files) }
     ensures reads { OnlyReads F.files F.read_faults F.write_faults folder.old folder.new (IsReadFault result) }
 {

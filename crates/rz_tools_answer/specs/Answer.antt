@@ -3,9 +3,9 @@ use Rattle.std.specs.Prelude.{◌≡◌, ℕ, List, [], ◌∷◌, ◌++◌, Ok,
 use Rattle.std.specs.declared.result.Result.{Result}
 use Rattle.std.specs.FinMap as map
 use Rattle.rz_core.specs.Message.{fault_line}
-use Rattle.rz_core.specs.declared.fault.Fault.{Fault}
 use Rattle.rz_folder.specs.Folder.{Files}
 use Rattle.rz_tools_answer.specs.Message.{usage_line}
+pub use Rattle.rz_tools_answer.specs.declared.made.Failing.{Failing}
 use Rattle.rz_tools_answer.specs.declared.outcome.Outcome.{Outcome}
 use Rattle.rz_tools_answer.specs.declared.outcome.Outcome.TheVariants.{Done, Refused, Usage}
 
@@ -30,12 +30,6 @@ files_after (write ∷ writes) files = files_after writes (map.insert files writ
 -- what a command makes: bytes, and what is said beside them
 pub record Making : Type 0 where
   pub bytes : List ℕ
-  pub said : List ℕ
-
--- the first fault, the files that marks count, and what is said before it
-pub record Failing : Type 0 where
-  pub fault : Fault
-  pub files : List (List ℕ)
   pub said : List ℕ
 
 -- the words are no command; this is the position of the first word that is misplaced

@@ -8,9 +8,9 @@ use Rattle.rz_folder.specs.Folder.{Files}
 use Rattle.rz_folder.specs.declared.folder.Written.{Written}
 use Rattle.rz_folder.specs.declared.folder.Written.TheVariants as ends
 use Rattle.rz_tools_answer.specs.Answer as answer
-use Rattle.rz_tools_answer.specs.Answer.{files_after, refused, Answer}
-use Rattle.rz_tools_answer.specs.declared.made.Stopped.{Stopped}
-use Rattle.rz_tools_answer.specs.declared.made.Stopped.TheVariants as stops
+use Rattle.rz_core.specs.declared.stop.Halt.{Halt}
+use Rattle.rz_core.specs.declared.stop.Halt.TheVariants as halts
+use Rattle.rz_tools_answer.specs.Answer.{files_after, refused, Answer, Failing}
 use Rattle.rz_tools_answer.specs.declared.outcome.Outcome.{Outcome}
 use Rattle.rz_tools_answer.specs.declared.outcome.Outcome.TheVariants.{Done, Refused}
 use Rattle.rz_tools_answer.specs.declared.plan.Plan.{Plan}
@@ -34,10 +34,10 @@ WritesEach writes before after ends.Failed =
     (done : List answer.Write) × (one : answer.Write) × (rest : List answer.Write) × (writes ≡ done ++ one ∷ rest) × FailsAt done one before after
 
 -- the answer that a command has that was stopped by this, where it has one
-abbrev pub EndsIn : Stopped → Answer → Type 0
-EndsIn (stops.Refused fault files said) answer = answer ≡ refused (record { fault = fault; files = files; said = said })
-EndsIn stops.ReadFault answer = ⊥
-EndsIn stops.NoMemory answer = ⊥
+abbrev pub EndsIn : Halt Failing → Answer → Type 0
+EndsIn (halts.Refused failing) answer = answer ≡ refused failing
+EndsIn halts.ReadFault answer = ⊥
+EndsIn halts.NoMemory answer = ⊥
 
 -- the outcome is Done or Refused
 abbrev pub IsNoUsage : Outcome → Type 0

@@ -18,7 +18,7 @@ mod warning;
 pub use carry::{carry_out, put_line};
 pub use help::{help_text, version_text};
 pub use laws::answers_are_carried_out;
-pub use made::{Made, Stopped, Unanswered};
+pub use made::{Failing, Made};
 pub use message::{NO_MEMORY, READ_FAULT, WRITE_FAULT, usage_line};
 pub use outcome::Outcome;
 pub use plan::{Plan, Write, Writes};

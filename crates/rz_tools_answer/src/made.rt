@@ -1,8 +1,4 @@
-ghost use Rattle.std.specs.Prelude.{◌≡◌};
-ghost use Rattle.rz_tools_answer.specs.declared.made.Stopped.TheVariants.{NoMemory as no_memory};
-ghost use Rattle.rz_tools_answer.specs.declared.made.Unanswered.TheVariants.{NoMemory as no_answer};
-
-use rz_core::{Bytes, Fault, FileNames, NoMemory};
+use rz_core::{Bytes, Fault, FileNames};
 
 /// What a command makes.
 #[derive(Drop)]
@@ -13,38 +9,13 @@ pub struct Made {
     pub said: Bytes,
 }
 
-/// What stops a command.
+/// What stops a command: a rule that is broken.
 #[derive(Drop)]
-pub enum Stopped {
-    /// A rule is broken. The files are those that marks count, and the bytes are what is said before the line.
-    Refused(Fault, FileNames, Bytes),
-    /// A file could not be read.
-    ReadFault,
-    /// Memory was refused.
-    NoMemory,
-}
-
-impl From<NoMemory> for Stopped {
-    ghost from_gives = { λ _ stop. stop ≡ no_memory };
-
-    fn from(_: NoMemory) -> Self {
-        Stopped::NoMemory
-    }
-}
-
-/// Why words have no answer.
-#[derive(Debug, Drop)]
-pub enum Unanswered {
-    /// A file could not be read.
-    ReadFault,
-    /// Memory was refused.
-    NoMemory,
-}
-
-impl From<NoMemory> for Unanswered {
-    ghost from_gives = { λ _ unanswered. unanswered ≡ no_answer };
-
-    fn from(_: NoMemory) -> Self {
-        Unanswered::NoMemory
-    }
+pub struct Failing {
+    /// The first fault.
+    pub fault: Fault,
+    /// The names of the files that marks count.
+    pub files: FileNames,
+    /// What is said before the line of the fault: the lines of warnings.
+    pub said: Bytes,
 }

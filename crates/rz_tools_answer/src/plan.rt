@@ -1,18 +1,20 @@
 ghost use Rattle.std.specs.Prelude.{◌≡◌, length, [], map, Err, IfOk};
 ghost use Rattle.rz_core.specs.Message.{IsNameable};
 ghost use Rattle.rz_tools_answer.specs.Answer.{misused, refused, shown, written};
-ghost use Rattle.rz_tools_answer.specs.Made.{making_of, IsNamed, SaysWarnings};
+ghost use Rattle.rz_core.specs.Stop.{OnRefusal};
+ghost use Rattle.rz_core.specs.declared.stop.Halt.TheVariants.{ReadFault};
+ghost use Rattle.rz_tools_answer.specs.Made.{making_of, IsSayable};
 ghost use Rattle.rz_tools_answer.specs.Plan.{answer_of, write_of, IsRefused, EndsIn};
 ghost use Rattle.rz_tools_answer.specs.WellFormed.{AreWritable, IsWellFormed};
-ghost use Rattle.rz_tools_answer.specs.declared.made.Stopped.TheVariants as stops;
-ghost use Rattle.rz_tools_answer.specs.declared.made.Unanswered.TheVariants.{ReadFault as unread};
+ghost use Rattle.rz_tools_answer.specs.declared.made.Made.{Made as MadeOf};
 
-use crate::made::{Made, Stopped, Unanswered};
+use crate::made::{Failing, Made};
 use crate::message::usage_line;
 use crate::outcome::Outcome;
-use rz_core::{Bytes, Fault, FileNames, Listing, NoMemory, write_fault};
+use rz_core::{Bytes, Fault, FileNames, Halt, Listing, NoMemory, write_fault};
 use rz_tools_args::UsageFault;
 use std::alloc::Global;
+use std::convert::Infallible;
 
 /// A file to write.
 #[derive(Drop)]
@@ -118,19 +120,21 @@ impl Plan {
     }
 
     /// The answer where this stopped a command: the refusal, or none.
-    pub fn stopped(alloc: Global, stop: Stopped) -> Result<Plan, Unanswered>
-        requires nameable { IsNamed (Err stop) }
-        requires warned { SaysWarnings (Err stop) }
-        ensures refused { IfOk result (λ plan. EndsIn stop (answer_of plan)) }
+    pub fn stopped(alloc: Global, halt: Halt<Failing>) -> Result<Plan, Halt<Infallible>>
+        requires { OnRefusal {X = MadeOf} (Err halt) IsSayable }
+        ensures refused { IfOk result (λ plan. EndsIn halt (answer_of plan)) }
         ensures well_formed { IfOk result (λ plan. IsWellFormed (answer_of plan)) }
         ensures writable { IfOk result (λ plan. AreWritable (answer_of plan).writes) }
         ensures no_usage { IfOk result (λ plan. IsRefused plan.outcome) }
-        ensures read_fault { result ≡ Err unread → stop ≡ stops.ReadFault }
+        ensures read_fault { result ≡ Err ReadFault → halt ≡ ReadFault }
     {
-        match stop {
-            Stopped::Refused(fault, files, said) => Ok(Plan::refused(alloc, fault, &files, said)?),
-            Stopped::ReadFault => Err(Unanswered::ReadFault),
-            Stopped::NoMemory => Err(Unanswered::NoMemory),
+        match halt {
+            Halt::Refused(failing) => {
+                let Failing { fault, files, said } = failing;
+                Ok(Plan::refused(alloc, fault, &files, said)?)
+            }
+            Halt::ReadFault => Err(Halt::ReadFault),
+            Halt::NoMemory => Err(Halt::NoMemory),
         }
     }
 

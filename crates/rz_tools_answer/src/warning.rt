@@ -1,12 +1,12 @@
 ghost use Rattle.std.specs.Prelude.{◌≡◌, length, Err, IfOk, Ok};
 ghost use Rattle.rz_core.specs.Message.{IsNameable};
-ghost use Rattle.rz_core.specs.Stop.{OnFault};
-ghost use Rattle.rz_tools_answer.specs.Made.{IsNamed, NamesFault, Refuses, SaysBefore, SaysBeside, SaysWarnings};
-ghost use Rattle.rz_tools_answer.specs.Warning.{warning_lines, AreWarnings};
-ghost use Rattle.rz_tools_answer.specs.declared.made.Stopped.TheVariants.{ReadFault};
+ghost use Rattle.rz_core.specs.Stop.{OnFault, OnRefusal};
+ghost use Rattle.rz_core.specs.declared.stop.Halt.TheVariants.{ReadFault};
+ghost use Rattle.rz_tools_answer.specs.Made.{IsSayable, SaysBeside};
+ghost use Rattle.rz_tools_answer.specs.Warning.{warning_lines, AreWarnings, IsWarningText};
 
-use crate::made::{Made, Stopped};
-use rz_core::{Bytes, Fault, FileNames, Listing, NoMemory, Stop, write_fault};
+use crate::made::{Failing, Made};
+use rz_core::{Bytes, Fault, FileNames, Halt, Listing, NoMemory, Stop, write_fault};
 use std::alloc::Global;
 
 /// A list of faults.
@@ -18,13 +18,13 @@ pub fn say_beside(
     output: Result<Bytes, Stop<Fault>>,
     warnings: &Faults,
     files: FileNames,
-) -> Result<Made, Stopped>
+) -> Result<Made, Halt<Failing>>
     requires fault { OnFault output (IsNameable (length files)) }
     requires warnings { AreWarnings (length files) warnings.now }
     ensures said { SaysBeside files warnings.now output result }
     ensures bytes { IfOk result (λ made. output ≡ Ok made.bytes) }
-    ensures nameable { IsNamed result }
-    ensures warned { SaysWarnings result }
+    ensures sayable { OnRefusal result IsSayable }
+    ensures warned { IfOk result (λ made. IsWarningText made.said) }
     ensures quiet { result ≡ Err ReadFault → ⊥ }
 {
     match output {
@@ -32,23 +32,25 @@ pub fn say_beside(
             let said = warning_lines(alloc, warnings, &files)?;
             Ok(Made { bytes, said })
         }
-        Err(Stop::Refused(fault)) => Err(refusal(alloc, fault, warnings, files)),
-        Err(Stop::NoMemory) => Err(Stopped::NoMemory),
+        Err(Stop::Refused(fault)) => Err(Halt::Refused(refusal(alloc, fault, warnings, files)?)),
+        Err(Stop::NoMemory) => Err(Halt::NoMemory),
     }
 }
 
 /// The refusal with a fault, behind the lines of the warnings.
-pub fn refusal(alloc: Global, fault: Fault, warnings: &Faults, files: FileNames) -> Stopped
+pub fn refusal(
+    alloc: Global,
+    fault: Fault,
+    warnings: &Faults,
+    files: FileNames,
+) -> Result<Failing, NoMemory>
     requires fault { IsNameable (length files) fault }
     requires warnings { AreWarnings (length files) warnings.now }
-    ensures refused { Refuses fault files (warning_lines files warnings.now) result }
-    ensures nameable { NamesFault result }
-    ensures warned { SaysBefore result }
+    ensures failing { IfOk result (λ failing. failing ≡ record { fault = fault; files = files; said = warning_lines files warnings.now }) }
+    ensures sayable { IfOk result IsSayable }
 {
-    match warning_lines(alloc, warnings, &files) {
-        Ok(said) => Stopped::Refused(fault, files, said),
-        Err(NoMemory) => Stopped::NoMemory,
-    }
+    let said = warning_lines(alloc, warnings, &files)?;
+    Ok(Failing { fault, files, said })
 }
 
 /// The lines of warnings.

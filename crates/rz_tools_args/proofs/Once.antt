@@ -2,7 +2,7 @@
 use Rattle.std.proofs.Common.{◌≡◌, ℕ, zero, suc, ◌<◌, ◌≤◌, List, [], ◌∷◌, ◌++◌, take, drop, Some, refl, sym, ap, subst, ◌∙◌, arith, append_assoc, Ok, Err, IfOk}
 use Rattle.std.specs.Prelude.{codes, false, true}
 use Rattle.std.specs.declared.result.Result.{Result}
-use Rattle.rz_core.specs.Stop.{OnFault}
+use Rattle.rz_core.specs.Stop.{fault_seen, seen, Gives, OnFault}
 use Rattle.rz_core.specs.declared.stop.Stop.{Stop}
 use Rattle.rz_core.specs.declared.stop.Stop.TheVariants.{Refused, NoMemory}
 use Rattle.rz_core.specs.declared.resource.Word.{Word}
@@ -24,7 +24,7 @@ use Rattle.rz_tools_args.specs.declared.flag.Flag.{Flag}
 use Rattle.rz_tools_args.specs.declared.flag.Flag.TheVariants as flags
 use Rattle.rz_tools_args.specs.declared.flag.Switch.{Switch}
 use Rattle.rz_tools_args.specs.Definition.Defines.{alone, with_text}
-use Rattle.rz_tools_args.specs.Item.{asked, Answers, AreRead}
+use Rattle.rz_tools_args.specs.Item.{asked, position_of, AreRead}
 use Rattle.rz_tools_args.specs.declared.command.Command.{Command}
 use Rattle.rz_tools_args.specs.declared.read.UsageFault.{UsageFault}
 use Rattle.rz_tools_args.proofs.Splits.{has_sign, one_split}
@@ -239,18 +239,18 @@ one_position words position another is too = omega (arith, not_less words positi
 
 module _ (words : Words) (result : Result Command (Stop UsageFault)) (found : IfOk result (λ command. IsCommand words (asked command)))
     (refused : OnFault result (λ fault. IsMisplaced words fault.position)) where
-  pub every_command : ((a b : Asked) → IsCommand words a → IsCommand words b → a ≡ b) → (wanted : Asked) → IsCommand words wanted → Answers (Ok wanted) result
+  pub every_command : ((a b : Asked) → IsCommand words a → IsCommand words b → a ≡ b) → (wanted : Asked) → IsCommand words wanted → Gives (Ok wanted) (seen asked (fault_seen position_of result))
   every_command one wanted is = by result found refused
     where
-      by : (r : Result Command (Stop UsageFault)) → IfOk r (λ command. IsCommand words (asked command)) → OnFault r (λ fault. IsMisplaced words fault.position) → Answers (Ok wanted) r
+      by : (r : Result Command (Stop UsageFault)) → IfOk r (λ command. IsCommand words (asked command)) → OnFault r (λ fault. IsMisplaced words fault.position) → Gives (Ok wanted) (seen asked (fault_seen position_of r))
       by (Ok command) it faulty = ap (λ (a : Asked). Ok a) (one wanted (asked command) is it)
       by (Err (Refused fault)) it faulty = absurd (faulty.none wanted is)
       by (Err NoMemory) it faulty = tt
 
-  pub every_position : (position : ℕ) → IsMisplaced words position → Answers (Err position) result
+  pub every_position : (position : ℕ) → IsMisplaced words position → Gives (Err position) (seen asked (fault_seen position_of result))
   every_position position is = by result found refused
     where
-      by : (r : Result Command (Stop UsageFault)) → IfOk r (λ command. IsCommand words (asked command)) → OnFault r (λ fault. IsMisplaced words fault.position) → Answers (Err position) r
+      by : (r : Result Command (Stop UsageFault)) → IfOk r (λ command. IsCommand words (asked command)) → OnFault r (λ fault. IsMisplaced words fault.position) → Gives (Err position) (seen asked (fault_seen position_of r))
       by (Ok command) it faulty = absurd (is.none (asked command) it)
       by (Err (Refused fault)) it faulty = ap (λ (n : ℕ). Err n) (one_position words position fault.position is faulty)
       by (Err NoMemory) it faulty = tt

@@ -1,10 +1,7 @@
 -- Items and commands of the code, by the words' bytes.
-use Rattle.std.specs.Prelude.{◌≡◌, ◌≤◌, ◌==◌, ℕ, suc, not, Bool, false, List, ◌++◌, take, length, option_map, Ok, Err}
+use Rattle.std.specs.Prelude.{◌≡◌, ◌≤◌, ◌==◌, ℕ, suc, not, Bool, false, List, ◌++◌, take, length, option_map}
 use Rattle.std.specs.Borrow.{Bor}
 use Rattle.std.specs.String.{string_bytes}
-use Rattle.std.specs.declared.result.Result.{Result}
-use Rattle.rz_core.specs.declared.stop.Stop.{Stop}
-use Rattle.rz_core.specs.declared.stop.Stop.TheVariants.{Refused, NoMemory}
 use Rattle.rz_tools_args.specs.Command as command
 use Rattle.rz_tools_args.specs.Command.{AreItems, BridgeAsked, DeRezAsked, IsItem, RezAsked}
 use Rattle.rz_tools_args.specs.declared.command.BridgeWords.{BridgeWords}
@@ -135,8 +132,5 @@ pub record IsStuck (name : CommandName) (words : List (List ℕ)) (fitting : ℕ
 abbrev pub AreRead : CommandName → List (List ℕ) → command.Wanted → Type 0
 AreRead name words wanted = (items : List command.Item) × AreItems name words items × (wanted ≡ command.wanted_by items)
 
--- the call gave exactly this command or exactly this position, or memory was refused
-abbrev pub Answers : Result command.Asked ℕ → Result Command (Stop UsageFault) → Type 0
-Answers answer (Ok command) = answer ≡ Ok (asked command)
-Answers answer (Err (Refused fault)) = answer ≡ Err fault.position
-Answers answer (Err NoMemory) = Unit {0}
+abbrev pub position_of : UsageFault → ℕ
+position_of fault = fault.position

@@ -1,9 +1,9 @@
 ghost use Rattle.std.specs.Prelude.{◌≡◌, ℕ, ◌∷◌, Ok, Err, IfOk, codes, map};
 ghost use Rattle.std.specs.String.{string_bytes};
-ghost use Rattle.rz_core.specs.Stop.{OnFault};
+ghost use Rattle.rz_core.specs.Stop.{fault_seen, seen, Gives, OnFault};
 ghost use Rattle.rz_core.specs.declared.stop.Stop.TheVariants.{Refused};
 ghost use Rattle.rz_tools_args.specs.Command.{name_of, Asked, IsCommand, IsMisplaced, Wants};
-ghost use Rattle.rz_tools_args.specs.Item.{asked, wanted, Answers, AreRead, MayBeFiles};
+ghost use Rattle.rz_tools_args.specs.Item.{asked, position_of, wanted, AreRead, MayBeFiles};
 
 use crate::command::Command;
 use crate::item::read_item;
@@ -38,8 +38,8 @@ pub struct UsageFault {
 pub fn read_words<'a>(alloc: Global, words: &'a [String]) -> Result<Command<'a>, Stop<UsageFault>>
     ensures command { IfOk result (λ command. IsCommand (map string_bytes words.now) (asked command)) }
     ensures misplaced { OnFault result (λ fault. IsMisplaced (map string_bytes words.now) fault.position) }
-    ensures every_command { (wanted : Asked) → IsCommand (map string_bytes words.now) wanted → Answers (Ok wanted) result }
-    ensures every_position { (position : ℕ) → IsMisplaced (map string_bytes words.now) position → Answers (Err position) result }
+    ensures every_command { (wanted : Asked) → IsCommand (map string_bytes words.now) wanted → Gives (Ok wanted) (seen asked (fault_seen position_of result)) }
+    ensures every_position { (position : ℕ) → IsMisplaced (map string_bytes words.now) position → Gives (Err position) (seen asked (fault_seen position_of result)) }
 {
     one_command();
     read_command(alloc, words)

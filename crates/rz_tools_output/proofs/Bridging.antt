@@ -5,13 +5,12 @@ use Rattle.std.specs.String.{string_bytes}
 use Rattle.std.specs.declared.result.Result.{Result}
 use Rattle.rz_tools_answer.specs.Answer.{refused, Answer, Write}
 use Rattle.rz_tools_answer.specs.Plan.{answer_of, write_of, EndsIn}
-use Rattle.rz_tools_answer.specs.declared.made.Stopped.TheVariants as stops
-use Rattle.rz_tools_answer.specs.declared.made.Unanswered.{Unanswered}
+use Rattle.rz_core.specs.declared.stop.Halt.TheVariants as halts
 use Rattle.rz_tools_answer.specs.declared.plan.Plan.{Plan}
 use Rattle.rz_tools_answer.specs.declared.plan.Write as code
 use Rattle.rz_bridge.specs.declared.file.MacFile.{MacFile}
 use Rattle.rz_core.specs.Answers.{Then}
-use Rattle.rz_core.specs.Stop.{Gives}
+use Rattle.rz_core.specs.Stop.{Gives, halt_of, Yields}
 use Rattle.rz_core.specs.declared.fault.Fault.{Fault}
 use Rattle.rz_core.specs.declared.stop.Stop.{Stop}
 use Rattle.rz_core.specs.declared.stop.Stop.TheVariants.{Refused, NoMemory}
@@ -23,7 +22,6 @@ use Rattle.rz_bridge_form.specs.DataFile.{IsDataFile}
 use Rattle.rz_bridge_form.specs.Forms.{form_of}
 use Rattle.rz_bridge_form.specs.declared.form.Form.{Form}
 use Rattle.rz_bridge_form.specs.declared.form.Form.TheVariants as forms
-use Rattle.rz_folder_paths.specs.Halt.{halt_of, Yields}
 use Rattle.rz_tools_output.specs.Bridge.{bridged, AnswersBridge, AreWrites, Bridges, HasBeside, IsHeld, IsWrittenAs}
 use Rattle.rz_tools_output.specs.Bridge.AreWrites.{two}
 use Rattle.rz_tools_args.specs.Command.{BridgeAsked}
@@ -41,8 +39,8 @@ module _ (asked : BridgeAsked) (before : Option Files) where
   answers_writes writes answer is makes =
       told_so before (λ files. Bridges asked files (Ok writes)) (λ files. AnswersBridge asked files answer) (λ files so. (Ok writes, so, is)) makes
 
-  pub answers_fault : (fault : Fault) (names : List (List ℕ)) (said : List ℕ) → names ≡ [] → said ≡ [] → (result : Result Plan Unanswered)
-      → IfOk result (λ plan. EndsIn (stops.Refused fault names said) (answer_of plan)) → IfSome before (λ files. Bridges asked files (Err fault))
+  pub answers_fault : {E : Type 0} (fault : Fault) (names : List (List ℕ)) (said : List ℕ) → names ≡ [] → said ≡ [] → (result : Result Plan E)
+      → IfOk result (λ plan. EndsIn (halts.Refused (record { fault = fault; files = names; said = said })) (answer_of plan)) → IfSome before (λ files. Bridges asked files (Err fault))
       → IfSome before (λ files. IfOk result (λ plan. AnswersBridge asked files (answer_of plan)))
   answers_fault fault names said no_names unsaid (Ok plan) is makes =
       told_so before (λ files. Bridges asked files (Err fault)) (λ files. AnswersBridge asked files (answer_of plan))

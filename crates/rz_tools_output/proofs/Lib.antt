@@ -1,4 +1,3 @@
 pub mod Limits
-pub mod Calls
 pub mod Begins
 pub mod Bridging

@@ -1,5 +1,5 @@
 -- What `rez` begins with: a new file, or with `-a` what the file of the output's name holds. (MPW Rez.)
-use Rattle.std.specs.Prelude.{◌≡◌, ℕ, ◌==◌, pos, if◌then◌else◌, List, [], bit_and, bit_or, Option, Some, None, Ok, Err}
+use Rattle.std.specs.Prelude.{ℕ, ◌==◌, pos, if◌then◌else◌, List, [], bit_and, bit_or, Option, Some, None, Ok, Err}
 use Rattle.std.specs.FinMap as finite
 use Rattle.std.specs.declared.result.Result.{Result}
 use Rattle.rz_bridge.specs.declared.file.MacFile.{MacFile}
@@ -8,8 +8,6 @@ use Rattle.rz_core.specs.declared.fault.Fault.{Fault}
 use Rattle.rz_core.specs.declared.fault.Kept.TheVariants.{Number}
 use Rattle.rz_core.specs.declared.resource.OsType.{OsType}
 use Rattle.rz_core.specs.declared.resource.Resource.{Resource}
-use Rattle.rz_core.specs.declared.stop.Stop.{Stop}
-use Rattle.rz_core.specs.declared.stop.Stop.TheVariants as stops
 use Rattle.rz_bridge_files.specs.Contents.{admit_fork, file_in, form_or}
 use Rattle.rz_folder.specs.Folder.{Files}
 use Rattle.rz_fork.specs.Contents.{Fork}
@@ -17,8 +15,6 @@ use Rattle.rz_bridge_form.specs.Forms.{raw_file, raw_finder}
 use Rattle.rz_bridge_form.specs.declared.form.Form.{Form}
 use Rattle.rz_bridge_form.specs.declared.form.Form.TheVariants.{Raw}
 use Rattle.rz_tools_args.specs.Command.{RezAsked}
-use Rattle.rz_folder_paths.specs.declared.halt.Halt.{Halt}
-use Rattle.rz_folder_paths.specs.declared.halt.Halt.TheVariants as halts
 use Rattle.rz_tools_output.specs.declared.base.Base as code
 use Rattle.rz_tools_output.specs.declared.base.Beginning.{Beginning}
 
@@ -77,16 +73,3 @@ base_with base list = record { form = base.form; file = base.file; fork = record
 
 abbrev pub begun_of : Beginning → Base
 begun_of begun = base_with begun.base begun.list
-
--- the call gave exactly this to begin with or exactly this fault, or memory was refused
-abbrev pub GivesBase : Result Base Fault → Result Beginning (Stop Fault) → Type 0
-GivesBase answer (Ok begun) = answer ≡ Ok (begun_of begun)
-GivesBase answer (Err (stops.Refused fault)) = answer ≡ Err fault
-GivesBase answer (Err stops.NoMemory) = Unit {0}
-
--- the same of a call that reads files: a read fault says nothing either
-abbrev pub BeginsSo : Result Base Fault → Result Beginning Halt → Type 0
-BeginsSo answer (Ok begun) = answer ≡ Ok (begun_of begun)
-BeginsSo answer (Err (halts.Refused fault)) = answer ≡ Err fault
-BeginsSo answer (Err halts.ReadFault) = Unit {0}
-BeginsSo answer (Err halts.NoMemory) = Unit {0}

@@ -1,20 +1,18 @@
 ghost use Rattle.std.specs.Prelude.{◌≡◌, ◌<◌, ◌≤◌, ◌^◌, [], ℕ, length, IfOk, IfSome};
 ghost use Rattle.rz_core.specs.Message.{IsNameable};
 ghost use Rattle.rz_core.specs.Resources.{KeysDiffer};
-ghost use Rattle.rz_core.specs.Stop.{OnFault};
+ghost use Rattle.rz_core.specs.Stop.{seen, Gives, IsReadFault, OnFault, OnRefusal, Yields};
 ghost use Rattle.rz_folder.specs.OnlyReads.{OnlyReads};
 ghost use Rattle.rz_fork.specs.Code.{held_by};
-ghost use Rattle.rz_folder_paths.specs.Halt.{IsReadFault, OnRefusal};
 ghost use Rattle.rz_set.specs.ResSet.{AreNamed};
 ghost use Rattle.rz_tools_args.specs.Item.{rez};
-ghost use Rattle.rz_tools_output.specs.Base.{base_in, base_of, begun_of, begun_with, new_base, read_only, BeginsSo, GivesBase};
+ghost use Rattle.rz_tools_output.specs.Base.{base_in, base_of, begun_of, begun_with, new_base, read_only};
 
 use rz_bridge::{Finder, MacFile};
 use rz_bridge_files::{admit_fork, file_in};
 use rz_bridge_form::{Form, form_of};
-use rz_core::{Bytes, Fault, Kept, OsType, Resources, Stop};
+use rz_core::{Bytes, Fault, Halt, Kept, OsType, Resources, Stop};
 use rz_folder::{Folder, Read};
-use rz_folder_paths::Halt;
 use rz_fork::ForkList;
 use rz_tools_args::RezWords;
 use std::alloc::Global;
@@ -57,8 +55,8 @@ pub fn read_base<F: Folder>(
     alloc: Global,
     folder: &mut F,
     words: &RezWords<'_>,
-) -> Result<Beginning, Halt>
-    ensures base { IfSome (F.files folder.old) (λ files. BeginsSo (base_of (rez words.now) files) result) }
+) -> Result<Beginning, Halt<Fault>>
+    ensures base { IfSome (F.files folder.old) (λ files. Yields (seen begun_of result) (λ answer. base_of (rez words.now) files ≡ answer)) }
     ensures keys { IfOk result (λ begun. KeysDiffer [] begun.list) }
     ensures named { IfOk result (λ begun. AreNamed begun.list) }
     ensures room { IfOk result (λ begun. length begun.base.reserved ≤ 240) }
@@ -109,9 +107,9 @@ fn new_file(alloc: Global) -> Beginning
 }
 
 /// What bytes hold to begin with, of a call that reads files.
-fn begin_in(alloc: Global, bytes: Bytes) -> Result<Beginning, Halt>
+fn begin_in(alloc: Global, bytes: Bytes) -> Result<Beginning, Halt<Fault>>
     requires { length bytes < 2 ^ 32 }
-    ensures base { BeginsSo (base_in bytes) result }
+    ensures base { Yields (seen begun_of result) (λ answer. base_in bytes ≡ answer) }
     ensures keys { IfOk result (λ begun. KeysDiffer [] begun.list) }
     ensures named { IfOk result (λ begun. AreNamed begun.list) }
     ensures room { IfOk result (λ begun. length begun.base.reserved ≤ 240) }
@@ -127,7 +125,7 @@ fn begin_in(alloc: Global, bytes: Bytes) -> Result<Beginning, Halt>
 /// What bytes hold to begin with.
 fn base_in(alloc: Global, bytes: Bytes) -> Result<Beginning, Stop<Fault>>
     requires { length bytes < 2 ^ 32 }
-    ensures base { GivesBase (base_in bytes) result }
+    ensures base { Gives (base_in bytes) (seen begun_of result) }
     ensures keys { IfOk result (λ begun. KeysDiffer [] begun.list) }
     ensures named { IfOk result (λ begun. AreNamed begun.list) }
     ensures room { IfOk result (λ begun. length begun.base.reserved ≤ 240) }
@@ -144,7 +142,7 @@ fn begun_with(form: Form, file: MacFile, fork: ForkList) -> Result<Beginning, St
     requires keys { KeysDiffer [] fork.list }
     requires named { AreNamed fork.list }
     requires room { length fork.reserved ≤ 240 }
-    ensures base { GivesBase (begun_with form file (held_by fork)) result }
+    ensures base { Gives (begun_with form file (held_by fork)) (seen begun_of result) }
     ensures keys { IfOk result (λ begun. KeysDiffer [] begun.list) }
     ensures named { IfOk result (λ begun. AreNamed begun.list) }
     ensures room { IfOk result (λ begun. length begun.base.reserved ≤ 240) }

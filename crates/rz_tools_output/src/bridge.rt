@@ -3,25 +3,25 @@ ghost use Rattle.std.specs.FinMap as finite;
 ghost use Rattle.std.specs.String.{string_bytes};
 ghost use Rattle.rz_tools_answer.specs.Plan.{answer_of, write_of, IsNoUsage};
 ghost use Rattle.rz_tools_answer.specs.WellFormed.{AreWritable, IsWellFormed};
-ghost use Rattle.rz_tools_answer.specs.declared.made.Unanswered.TheVariants.{ReadFault as unread};
-ghost use Rattle.rz_core.specs.Answers.{Meets, Then};
+ghost use Rattle.rz_core.specs.declared.stop.Halt.TheVariants.{ReadFault};
+ghost use Rattle.rz_core.specs.Answers.{Then};
+ghost use Rattle.rz_core.specs.Stop.{Meets, OnFault, IsReadFault, OnRefusal, Yields};
 ghost use Rattle.rz_core.specs.Message.{IsNameable};
-ghost use Rattle.rz_core.specs.Stop.{OnFault};
 ghost use Rattle.rz_bridge_files.specs.Names.{Named};
 ghost use Rattle.rz_folder.specs.OnlyReads.{OnlyReads};
-ghost use Rattle.rz_folder_paths.specs.Halt.{IsReadFault, IsUnrefused, OnRefusal, Yields};
 ghost use Rattle.rz_tools_args.specs.Item.{bridge};
 ghost use Rattle.rz_tools_output.specs.Bridge.{writes_of, AnswersBridge, AreWrites, Bridges, HasBeside, IsHeld, IsRead, IsWrittenAs};
 
 use rz_bridge::MacFile;
 use rz_bridge_files::{file_in, named, write_as};
 use rz_bridge_form::{Form, data_file_name, form_of};
-use rz_core::{Bytes, Fault, FileNames, NoMemory, Stop};
+use rz_core::{Bytes, Fault, FileNames, Halt, NoMemory, Stop};
 use rz_folder::{Folder, Read};
-use rz_folder_paths::{Halt, missing_file};
-use rz_tools_answer::{Plan, Stopped, Unanswered, Write, Writes};
+use rz_folder_paths::missing_file;
+use rz_tools_answer::{Failing, Plan, Write, Writes};
 use rz_tools_args::BridgeWords;
 use std::alloc::Global;
+use std::convert::Infallible;
 
 /// The answer to the words of `bridge`: what the file holds in one form, which is to be written in another. The file is read
 /// first, and of AppleDouble then the data file beside it. Where the file has no name it takes the last name of the output. Of
@@ -34,21 +34,25 @@ pub fn plan_bridge<F: Folder>(
     alloc: Global,
     folder: &mut F,
     words: &BridgeWords<'_>,
-) -> Result<Plan, Unanswered>
+) -> Result<Plan, Halt<Infallible>>
     ensures answered { IfSome (F.files folder.old) (λ files. IfOk result (λ plan. AnswersBridge (bridge words.now) files (answer_of plan))) }
     ensures well_formed { IfOk result (λ plan. IsWellFormed (answer_of plan)) }
     ensures writable { IfOk result (λ plan. AreWritable (answer_of plan).writes) }
     ensures no_usage { IfOk result (λ plan. IsNoUsage plan.outcome) }
-    ensures reads { OnlyReads F.files F.read_faults F.write_faults folder.old folder.new (result ≡ Err unread) }
+    ensures reads { OnlyReads F.files F.read_faults F.write_faults folder.old folder.new (result ≡ Err ReadFault) }
 {
     match bridge_file(alloc, folder, words) {
         Ok(writes) => Ok(Plan::writing(alloc, writes)),
         Err(Halt::Refused(fault)) => Plan::stopped(
             alloc,
-            Stopped::Refused(fault, FileNames::new(alloc), Bytes::new(alloc)),
+            Halt::Refused(Failing {
+                fault,
+                files: FileNames::new(alloc),
+                said: Bytes::new(alloc),
+            }),
         ),
-        Err(Halt::ReadFault) => Err(Unanswered::ReadFault),
-        Err(Halt::NoMemory) => Err(Unanswered::NoMemory),
+        Err(Halt::ReadFault) => Err(Halt::ReadFault),
+        Err(Halt::NoMemory) => Err(Halt::NoMemory),
     }
 }
 
@@ -57,7 +61,7 @@ fn bridge_file<F: Folder>(
     alloc: Global,
     folder: &mut F,
     words: &BridgeWords<'_>,
-) -> Result<Writes, Halt>
+) -> Result<Writes, Halt<Fault>>
     ensures writes { IfSome (F.files folder.old) (λ files. Yields (writes_of result) (Bridges (bridge words.now) files)) }
     ensures writable { IfOk result (λ writes. AreWritable (map write_of writes)) }
     ensures nameable { (files : ℕ) → OnRefusal result (IsNameable files) }
@@ -74,7 +78,7 @@ fn read_whole<F: Folder>(
     alloc: Global,
     folder: &mut F,
     words: &BridgeWords<'_>,
-) -> Result<MacFile, Halt>
+) -> Result<MacFile, Halt<Fault>>
     ensures file { IfSome (F.files folder.old) (λ files. Yields result (IsRead (bridge words.now) files (finite.get files (string_bytes words.now.file)))) }
     ensures short { IfOk result (λ file. length file.res_fork < 2 ^ 32) }
     ensures nameable { (files : ℕ) → OnRefusal result (IsNameable files) }
@@ -95,7 +99,7 @@ fn read_held<F: Folder>(
     folder: &mut F,
     words: &BridgeWords<'_>,
     bytes: Bytes,
-) -> Result<MacFile, Halt>
+) -> Result<MacFile, Halt<Fault>>
     requires { length bytes < 2 ^ 32 }
     ensures file { IfSome (F.files folder.old) (λ files. Yields result (IsHeld (bridge words.now) files bytes)) }
     ensures short { IfOk result (λ file. length file.res_fork < 2 ^ 32) }
@@ -115,9 +119,9 @@ fn read_beside<F: Folder>(
     folder: &mut F,
     form: Form,
     header: &str,
-) -> Result<Bytes, Halt>
+) -> Result<Bytes, Halt<Fault>>
     ensures data_file { IfSome (F.files folder.old) (λ files. IfOk result (HasBeside form header.now files)) }
-    ensures unrefused { IsUnrefused result }
+    ensures unrefused { OnRefusal result (λ _. ⊥) }
     ensures reads { OnlyReads F.files F.read_faults F.write_faults folder.old folder.new (IsReadFault result) }
 {
     if !matches!(form, Form::AppleDouble) {

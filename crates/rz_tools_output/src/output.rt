@@ -1,8 +1,7 @@
 ghost use Rattle.std.specs.Prelude.{◌≡◌, ◌≤◌, ◌<◌, ◌^◌, [], ℕ, List, length, IfOk};
-ghost use Rattle.rz_core.specs.Answers.{Meets};
+ghost use Rattle.rz_core.specs.Stop.{Meets, Gives, OnFault};
 ghost use Rattle.rz_core.specs.Message.{IsNameable};
 ghost use Rattle.rz_core.specs.Resources.{KeysDiffer};
-ghost use Rattle.rz_core.specs.Stop.{Gives, OnFault};
 ghost use Rattle.rz_core.specs.declared.resource.Resource.{Resource as ResourceOf};
 ghost use Rattle.rz_bridge_files.specs.Written.{written_as};
 ghost use Rattle.rz_fork.specs.Image.{AreNamed};

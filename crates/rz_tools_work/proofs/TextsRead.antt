@@ -1,7 +1,7 @@
 -- Texts with what the files give that they name: those that are all read, and those within arguments of formats.
 use Rattle.std.proofs.Common.{◌≡◌, ℕ, List, [], ◌∷◌, Ok, Err, refl, sym, ap, ◌∙◌}
 use Rattle.std.specs.declared.result.Result.{Result}
-use Rattle.rz_core.specs.Stop.{◌>>=◌}
+use Rattle.rz_core.specs.Stop.{◌>>=◌, Yields}
 use Rattle.rz_core.specs.declared.facts.Facts.{Facts}
 use Rattle.rz_core.specs.declared.fault.Fault.{Fault}
 use Rattle.rz_core.specs.declared.fault.Mark.{Mark}
@@ -14,9 +14,8 @@ use Rattle.rz_types_fields.specs.declared.text.FormatArg.TheVariants as argument
 use Rattle.rz_types_fields.specs.declared.text.FormatArg.TheVariants.{rolls-Text}
 use Rattle.rz_types_fields.specs.declared.text.TextPart.{TextPart}
 use Rattle.rz_folder.specs.Folder.{Files}
-use Rattle.rz_folder_paths.specs.Halt.{Yields}
-use Rattle.rz_folder_paths.specs.declared.halt.Halt.{Halt}
-use Rattle.rz_folder_paths.specs.declared.halt.Halt.TheVariants.{NoMemory, ReadFault, Refused}
+use Rattle.rz_core.specs.declared.stop.Halt.{Halt}
+use Rattle.rz_core.specs.declared.stop.Halt.TheVariants.{NoMemory, ReadFault, Refused}
 use Rattle.rz_tools_work.specs.Texts.{argument_given, argument_read, part_read, parts_read, texts_given, texts_read}
 
 -- All that was read, and nothing behind it.
@@ -63,7 +62,7 @@ module _ (paths : List (List ℕ)) (files : Files) (mark : Mark) (known : Facts)
     text_so made gives =
         ap (λ (a : PlainArgument). Ok a) (text_is made) ∙ ap (λ (r : Result (List PlainPart) Fault). r >>= λ parts. Ok (Text (parts_of parts))) gives ∙ sym text_read
 
-    pub text_halts : (halt : Halt) → Yields {X = List TextPart} (Err halt) (λ answer. texts_given answer ≡ texts_read paths files mark known (plain_parts texts))
+    pub text_halts : (halt : Halt Fault) → Yields {X = List TextPart} (Err halt) (λ answer. texts_given answer ≡ texts_read paths files mark known (plain_parts texts))
         → Yields {X = FormatArg} (Err halt) (λ answer. argument_given answer ≡ argument_read paths files mark known (plain_argument argument))
     text_halts (Refused fault) gives = ap (λ (r : Result (List PlainPart) Fault). r >>= λ parts. Ok (Text (parts_of parts))) gives ∙ sym text_read
     text_halts ReadFault gives = tt

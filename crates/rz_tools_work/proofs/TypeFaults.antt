@@ -5,8 +5,9 @@ use Rattle.std.specs.List.{list_any}
 use Rattle.std.specs.Option.{is_none, ok_or}
 use Rattle.std.specs.declared.option.Option.{Option}
 use Rattle.std.specs.declared.result.Result.{Result}
+use Rattle.rz_types.specs.Template.{template_of}
 use Rattle.rz_core.specs.Lists.{first_of, or_else, unless_fault}
-use Rattle.rz_core.specs.Stop.{Gives, OnFault}
+use Rattle.rz_core.specs.Stop.{Gives, OnFault, seen}
 use Rattle.rz_core.specs.Message.{is_fault}
 use Rattle.rz_core.specs.declared.fault.Kept.TheVariants as kept
 use Rattle.rz_core.specs.declared.resource.OsType.{OsType}
@@ -18,7 +19,6 @@ use Rattle.rz_types_fields.specs.declared.keys.CaseKey.{CaseKey}
 use Rattle.rz_types.specs.Field.{Align, Array, Fill, Number, PlainBody, PlainField, Points, Switch, Text}
 use Rattle.rz_types.specs.Rules.{array_twice, bad_place, bad_width, broken, broken_at, case_names, checked, found_if, has_other_place, has_other_width, has_same_bits, has_values, kept_position, key_rule, name_fault, no_values, repeated, type_fault, unknown_at, unknown_fault, unknown_in, width_fault}
 use Rattle.rz_types_table.specs.Table.{asked, copied, no_such_type, Declaration}
-use Rattle.rz_types.specs.Template.{plain_templates}
 use Rattle.rz_types.specs.Walk.{at_field, behind_case, is_among, walk, Step}
 use Rattle.rz_types.specs.declared.rules.TypeFault.{TypeFault}
 use Rattle.rz_types.specs.declared.template.Template.{Template}
@@ -101,7 +101,7 @@ found_rule : (found : Option TypeFault) (body : PlainBody) (fault : TypeFault) �
 found_rule None body fault is says = cc
 found_rule (Some found) body fault is says = subst IsRule (same_fault found fault says) is
 
-pub checked_rule : (body : PlainBody) (template : Result Template (Stop TypeFault)) → Gives (checked body) (plain_templates template)
+pub checked_rule : (body : PlainBody) (template : Result Template (Stop TypeFault)) → Gives (checked body) (seen template_of template)
     → OnFault template IsRule
 checked_rule body (Ok template) gives = tt
 checked_rule body (Err (Refused fault)) gives = found_rule (broken body) body fault (broken_rule body) gives
@@ -113,7 +113,7 @@ missing_rule None kind id fault says = subst IsRule (same_fault (no_such_type ki
 missing_rule (Some template) kind id fault says = cc
 
 pub copied_rule : (kind : OsType) (id : Option ℤ) (table : List Declaration) (template : Result Template (Stop TypeFault))
-    → Gives (copied kind id table) (plain_templates template) → OnFault template IsRule
+    → Gives (copied kind id table) (seen template_of template) → OnFault template IsRule
 copied_rule kind id table (Ok template) gives = tt
 copied_rule kind id table (Err (Refused fault)) gives = missing_rule (option_map (λ one. one.template) (asked kind id table)) kind id fault gives
 copied_rule kind id table (Err NoMemory) gives = tt

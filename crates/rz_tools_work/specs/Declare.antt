@@ -7,8 +7,6 @@ use Rattle.rz_core.specs.declared.fault.Fault.{Fault}
 use Rattle.rz_core.specs.declared.fault.Kept.TheVariants.{Key}
 use Rattle.rz_core.specs.declared.fault.Mark.{Mark}
 use Rattle.rz_core.specs.declared.resource.OsType.{OsType}
-use Rattle.rz_core.specs.declared.stop.Stop.{Stop}
-use Rattle.rz_core.specs.declared.stop.Stop.TheVariants.{Refused, NoMemory}
 use Rattle.rz_stmt_type.specs.Constants.{CopyOf, Fields, PlainMade}
 use Rattle.rz_stmt_type.specs.declared.constants.Bounds.{Bounds}
 use Rattle.rz_stmt_type.specs.declared.constants.Bounds.TheVariants as bounds
@@ -37,12 +35,6 @@ on_line mark (Err fault) = Err (type_fault mark fault)
 -- a rule of the table of faults
 abbrev pub IsRule : TypeFault → Type 0
 IsRule fault = is_fault fault.number ≡ true
-
--- what a call gives, with its fault on this line
-abbrev pub faults_on_line : {X : Type 0} → Mark → Result X (Stop TypeFault) → Result X (Stop Fault)
-faults_on_line mark (Ok value) = Ok value
-faults_on_line mark (Err (Refused fault)) = Err (Refused (type_fault mark fault))
-faults_on_line mark (Err NoMemory) = Err NoMemory
 
 -- the id of the type that is copied, where there is one: 204
 abbrev pub copied_id : Mark → Option ℤ → Result (Option ℤ) Fault

@@ -12,7 +12,6 @@ use Rattle.rz_core.specs.declared.fault.Kept.TheVariants as kept
 use Rattle.rz_core.specs.declared.fault.Mark.{Mark}
 use Rattle.rz_core.specs.declared.resource.OsType.{OsType}
 use Rattle.rz_core.specs.declared.resource.Resource.{Resource}
-use Rattle.rz_core.specs.declared.stop.Stop.{Stop}
 use Rattle.rz_stmt_data.specs.Head.{Attribute, Head}
 use Rattle.rz_expr.specs.Term.{Term}
 use Rattle.rz_types_fields.specs.Text.{bytes_of, PlainPart}
@@ -63,11 +62,6 @@ abbrev pub chosen_one : Mark → OsType → Pick → List Resource → Result (O
 chosen_one mark kind (Id id) list = the_one mark kind (Id id) (found kind id list)
 chosen_one mark kind (Name name) list = the_one mark kind (Name name) (found_name kind name list)
 chosen_one mark kind other list = Ok None
-
--- the same, as a call gives it
-abbrev pub one_in : Result (Option (Bor Resource)) (Stop Fault) → Result (Option Resource) (Stop Fault)
-one_in (Ok one) = Ok (option_copied one)
-one_in (Err stop) = Err stop
 
 -- Heads of chosen resources.
 

@@ -6,8 +6,6 @@ use Rattle.rz_core.specs.declared.fault.Kept.{Kept}
 use Rattle.rz_core.specs.declared.fault.Kept.TheVariants.{Key, Nothing}
 use Rattle.rz_core.specs.declared.fault.Mark.{Mark}
 use Rattle.rz_core.specs.declared.resource.Resource.{Resource}
-use Rattle.rz_core.specs.declared.stop.Stop.{Stop}
-use Rattle.rz_core.specs.declared.stop.Stop.TheVariants.{NoMemory, Refused}
 use Rattle.rz_set.specs.After.{after_put}
 use Rattle.rz_set.specs.declared.pick.SetFault.{SetFault}
 use Rattle.rz_set.specs.declared.pick.SetFault.TheVariants.{NoSuchResource, Protected}
@@ -21,12 +19,6 @@ set_fault mark sought (Protected kind id) = record { number = 219; mark = Some m
 abbrev pub on_set : Mark → Kept → Result (List Resource) SetFault → Result (List Resource) Fault
 on_set mark sought (Ok list) = Ok list
 on_set mark sought (Err fault) = Err (set_fault mark sought fault)
-
--- the same, as a call gives it
-abbrev pub given_on_line : Mark → Kept → Result (Unit {0}) (Stop SetFault) → Result (Unit {0}) (Stop Fault)
-given_on_line mark sought (Ok nothing) = Ok nothing
-given_on_line mark sought (Err (Refused fault)) = Err (Refused (set_fault mark sought fault))
-given_on_line mark sought (Err NoMemory) = Err NoMemory
 
 -- the list with a resource in the place of the one with its type and id or at the end; unless that one is protected, and
 -- protected ones aren't given up: 219

@@ -6,11 +6,6 @@ use Rattle.rz_core.specs.declared.fault.Fault.{Fault}
 use Rattle.rz_core.specs.declared.fault.Mark.{Mark}
 use Rattle.rz_core.specs.declared.resource.OsType.{OsType}
 use Rattle.rz_core.specs.declared.resource.Resource.{Resource}
-use Rattle.rz_core.specs.declared.stop.Stop.{Stop}
-use Rattle.rz_core.specs.declared.stop.Stop.TheVariants.{Refused, NoMemory}
-use Rattle.rz_folder_paths.specs.Halt.{halt_of}
-use Rattle.rz_folder_paths.specs.declared.halt.Halt.{Halt}
-use Rattle.rz_folder_paths.specs.declared.halt.Halt.TheVariants as halts
 use Rattle.rz_stmt_data.specs.Raw.{Raw}
 use Rattle.rz_stmt_type.specs.Constants as declare
 use Rattle.rz_types.specs.Field.{PlainBody}
@@ -58,21 +53,3 @@ with_type setting mark work kind scope template = record {
 abbrev pub declared : Setting → Mark → Work → declare.Declare → Result Work Fault
 declared setting mark work one =
     scope_of mark one.bounds >>= (λ scope. template_of mark work.types one.made >>= (λ template. Ok (with_type setting mark work (record { code = one.kind }) scope template)))
-
--- the call left this, or gave this fault; want of memory says nothing
-abbrev pub Stepped : {X : Type 0} → (Result X Fault → Type 0) → Result (Unit {0}) (Stop Fault) → X → Type 0
-Stepped answers (Ok nothing) left = answers (Ok left)
-Stepped answers (Err (Refused fault)) left = answers (Err fault)
-Stepped answers (Err NoMemory) left = Unit {0}
-
--- the same of a call that reads files: a read fault says nothing either
-abbrev pub Went : {X : Type 0} → (Result X Fault → Type 0) → Result (Unit {0}) Halt → X → Type 0
-Went answers (Ok nothing) left = answers (Ok left)
-Went answers (Err (halts.Refused fault)) left = answers (Err fault)
-Went answers (Err halts.ReadFault) left = Unit {0}
-Went answers (Err halts.NoMemory) left = Unit {0}
-
--- the end of a call that reads no files, as that of one that does
-abbrev pub halted : {X : Type 0} → Result X (Stop Fault) → Result X Halt
-halted (Ok value) = Ok value
-halted (Err stop) = Err (halt_of stop)

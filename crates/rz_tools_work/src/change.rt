@@ -1,13 +1,12 @@
 ghost use Rattle.std.specs.Prelude.{◌≡◌, ◌<◌, ℕ, IfOk, Some};
 ghost use Rattle.rz_core.specs.Message.{IsNameable};
-ghost use Rattle.rz_core.specs.Stop.{Gives, OnFault};
+ghost use Rattle.rz_core.specs.Stop.{Gives, OnFault, left, Meets};
 ghost use Rattle.rz_stmt_lists.specs.Change.{change_of};
 ghost use Rattle.rz_stmt_lists.specs.Delete.{delete_of};
 ghost use Rattle.rz_stmt_lists.specs.Pick.{pick_of};
 ghost use Rattle.rz_set.specs.After.{HasShortName};
 ghost use Rattle.rz_set.specs.Change.{MayHaveId};
 ghost use Rattle.rz_tools_work.specs.Change.{change_said, list_changed, list_changing, list_deleting, list_without, not_appending, pick_to_change};
-ghost use Rattle.rz_tools_work.specs.Work.{Stepped};
 
 use crate::pick::{pick_said, sought_by};
 use crate::putting::on_line;
@@ -31,7 +30,7 @@ pub fn change_resources(
     setting: Setting,
     resources: &mut ResSet,
 ) -> Result<(), Stop<Fault>>
-    ensures changed { Stepped (λ answer. answer ≡ list_changing setting mark resources.old (change_of stmt.now)) result resources.new }
+    ensures changed { Meets (left resources.new result) (λ answer. answer ≡ list_changing setting mark resources.old (change_of stmt.now)) }
     ensures nameable { (files : ℕ) → mark.file < files → OnFault result (IsNameable files) }
 {
     match change_said(alloc, stmt, mark, setting, resources) {
@@ -73,7 +72,7 @@ fn change_chosen(
 ) -> Result<(), Stop<Fault>>
     requires short { HasShortName (Some said.now.head) }
     requires id { MayHaveId said.now.pick said.now.head }
-    ensures changed { Stepped (λ answer. answer ≡ list_changed setting mark resources.old kind said.now) result resources.new }
+    ensures changed { Meets (left resources.new result) (λ answer. answer ≡ list_changed setting mark resources.old kind said.now) }
     ensures nameable { (files : ℕ) → mark.file < files → OnFault result (IsNameable files) }
 {
     let sought = sought_by(alloc, kind, &said.pick)?;
@@ -92,7 +91,7 @@ pub fn delete_resources(
     setting: Setting,
     resources: &mut ResSet,
 ) -> Result<(), Stop<Fault>>
-    ensures deleted { Stepped (λ answer. answer ≡ list_deleting setting mark resources.old (delete_of stmt.now)) result resources.new }
+    ensures deleted { Meets (left resources.new result) (λ answer. answer ≡ list_deleting setting mark resources.old (delete_of stmt.now)) }
     ensures nameable { (files : ℕ) → mark.file < files → OnFault result (IsNameable files) }
 {
     match pick_to_change(alloc, stmt.kind, &stmt.pick, mark, setting) {
@@ -110,7 +109,7 @@ fn delete_picked(
     setting: Setting,
     resources: &mut ResSet,
 ) -> Result<(), Stop<Fault>>
-    ensures deleted { Stepped (λ answer. answer ≡ list_without setting mark resources.old kind pick.now) result resources.new }
+    ensures deleted { Meets (left resources.new result) (λ answer. answer ≡ list_without setting mark resources.old kind pick.now) }
     ensures nameable { (files : ℕ) → mark.file < files → OnFault result (IsNameable files) }
 {
     let sought = sought_by(alloc, kind, pick)?;

@@ -1,13 +1,13 @@
 ghost use Rattle.std.specs.Prelude.{◌≡◌, ◌<◌, ℕ, true, Err};
 ghost use Rattle.rz_core.specs.Message.{IsNameable};
-ghost use Rattle.rz_core.specs.Stop.{Gives, OnFault};
+ghost use Rattle.rz_core.specs.Stop.{Gives, OnFault, left, Meets, seen, fault_seen};
 ghost use Rattle.rz_stmt_type.specs.Constants.{declare_of, made_of};
 ghost use Rattle.rz_stmt_type.specs.Shaped.{IsShapedMade};
-ghost use Rattle.rz_tools_work.specs.Declare.{copied_id, faults_on_line, first_id, redeclared, scope_of, template_of, type_fault, IsRule};
+ghost use Rattle.rz_types.specs.Template.{template_of as plain_template};
+ghost use Rattle.rz_tools_work.specs.Declare.{copied_id, first_id, redeclared, scope_of, template_of, type_fault, IsRule};
 ghost use Rattle.rz_tools_work.specs.Held.{work_of};
 ghost use Rattle.rz_tools_answer.specs.Warning.{AreWarnings, IsWarning};
-ghost use Rattle.rz_tools_work.specs.Work.{declared, Stepped};
-ghost use Rattle.rz_types.specs.Template.{plain_templates};
+ghost use Rattle.rz_tools_work.specs.Work.{declared};
 ghost use Rattle.rz_types_table.specs.TypeTable.{table_of};
 
 use crate::head::id_of;
@@ -31,7 +31,7 @@ pub fn declare_type(
     work: &mut Work,
 ) -> Result<(), Stop<Fault>>
     requires shaped { IsShapedMade (made_of declare.made) }
-    ensures declared { Stepped (λ answer. answer ≡ declared setting mark (work_of work.old) (declare_of declare)) result (work_of work.new) }
+    ensures declared { Meets (left (work_of work.new) result) (λ answer. answer ≡ declared setting mark (work_of work.old) (declare_of declare)) }
     ensures resources { work.new.resources ≡ work.old.resources }
     ensures kept { OnFault result (λ _. work.new.warnings ≡ work.old.warnings) }
     ensures warned { (files : ℕ) → mark.file < files → AreWarnings files work.old.warnings → AreWarnings files work.new.warnings }
@@ -80,7 +80,7 @@ fn template_of(
     mark: Mark,
 ) -> Result<Template, Stop<Fault>>
     requires shaped { IsShapedMade (made_of made) }
-    ensures template { Gives (template_of mark (table_of types.now) (made_of made)) (plain_templates result) }
+    ensures template { Gives (template_of mark (table_of types.now) (made_of made)) (seen plain_template result) }
     ensures nameable { (files : ℕ) → mark.file < files → OnFault result (IsNameable files) }
 {
     match made {
@@ -106,7 +106,7 @@ fn copied_id(id: Option<i32>, mark: Mark) -> Result<Option<i16>, Stop<Fault>>
 /// The same, where a broken rule is on this line.
 fn on_line(template: Result<Template, Stop<TypeFault>>, mark: Mark) -> Result<Template, Stop<Fault>>
     requires { OnFault template IsRule }
-    ensures template { plain_templates result ≡ faults_on_line mark (plain_templates template) }
+    ensures template { seen plain_template result ≡ fault_seen (type_fault mark) (seen plain_template template) }
     ensures nameable { (files : ℕ) → mark.file < files → OnFault result (IsNameable files) }
 {
     match template {

@@ -1,14 +1,12 @@
 ghost use Rattle.std.specs.Prelude.{◌≡◌, ◌<◌, ◌^◌, [], ℕ, length, None, Some, IfOk, IfSome};
 ghost use Rattle.rz_core.specs.Message.{IsNameable};
-ghost use Rattle.rz_core.specs.Stop.{Gives, OnFault};
+ghost use Rattle.rz_core.specs.Stop.{Gives, OnFault, IsReadFault, OnRefusal, Yields, left, Meets};
 ghost use Rattle.rz_folder.specs.OnlyReads.{OnlyReads};
 ghost use Rattle.rz_stmt_lists.specs.Include.{include_of, part_of};
-ghost use Rattle.rz_folder_paths.specs.Halt.{IsReadFault, OnRefusal, Yields};
 ghost use Rattle.rz_set.specs.After.{HasShortName};
 ghost use Rattle.rz_set.specs.ResSet.{AreNamed};
 ghost use Rattle.rz_tools_work.specs.Around.{around};
 ghost use Rattle.rz_tools_work.specs.Include.{all_of, asked_by, asked_for, included, list_in, list_including, list_named, list_with_asked};
-ghost use Rattle.rz_tools_work.specs.Work.{Stepped, Went};
 
 use crate::pick::{pick_said, sought_by};
 use crate::putting::on_line;
@@ -16,9 +14,8 @@ use crate::read::{file_named, halted};
 use crate::renaming::{chosen_in_list, new_head};
 use crate::setting::Setting;
 use rz_bridge_files::fork_in;
-use rz_core::{Bytes, Fault, FileNames, Kept, Mark, NoMemory, OsType, Resources, Stop};
+use rz_core::{Bytes, Fault, FileNames, Halt, Kept, Mark, NoMemory, OsType, Resources, Stop};
 use rz_folder::Folder;
-use rz_folder_paths::Halt;
 use rz_set::{Choice, Head, Pick, ResSet};
 use rz_stmt_lists::{IncludePart, IncludeStmt};
 use std::alloc::Global;
@@ -48,9 +45,9 @@ pub fn include_resources<F: Folder>(
     mark: Mark,
     setting: Setting,
     resources: &mut ResSet,
-) -> Result<(), Halt>
+) -> Result<(), Halt<Fault>>
     ensures included { IfSome (F.files folder.old) (λ files.
-        Went (λ answer. answer ≡ list_including (around setting paths.now files) mark resources.old (include_of stmt.now)) result resources.new) }
+        Yields (left resources.new result) (λ answer. answer ≡ list_including (around setting paths.now files) mark resources.old (include_of stmt.now))) }
     ensures nameable { (files : ℕ) → mark.file < files → OnRefusal result (IsNameable files) }
     ensures reads { OnlyReads F.files F.read_faults F.write_faults folder.old folder.new (IsReadFault result) }
 {
@@ -67,7 +64,7 @@ pub fn list_named<F: Folder>(
     paths: &FileNames,
     name: &[u8],
     mark: Mark,
-) -> Result<Resources, Halt>
+) -> Result<Resources, Halt<Fault>>
     ensures list { IfSome (F.files folder.old) (λ files. Yields result (λ answer. answer ≡ list_named paths.now files mark name.now)) }
     ensures named { IfOk result AreNamed }
     ensures nameable { (files : ℕ) → mark.file < files → OnRefusal result (IsNameable files) }
@@ -80,7 +77,7 @@ pub fn list_named<F: Folder>(
 }
 
 /// The resources of the file in these bytes.
-fn list_in(alloc: Global, bytes: Bytes, mark: Mark) -> Result<Resources, Halt>
+fn list_in(alloc: Global, bytes: Bytes, mark: Mark) -> Result<Resources, Halt<Fault>>
     requires short { length bytes < 2 ^ 32 }
     ensures list { Yields result (λ answer. answer ≡ list_in mark bytes) }
     ensures named { IfOk result AreNamed }
@@ -103,7 +100,7 @@ fn include_part(
     resources: &mut ResSet,
 ) -> Result<(), Stop<Fault>>
     requires named { AreNamed source.now }
-    ensures included { Stepped (λ answer. answer ≡ included setting mark resources.old (part_of part.now) source.now) result resources.new }
+    ensures included { Meets (left resources.new result) (λ answer. answer ≡ included setting mark resources.old (part_of part.now) source.now) }
     ensures nameable { (files : ℕ) → mark.file < files → OnFault result (IsNameable files) }
 {
     match asked_by(alloc, source, part, mark, setting) {
@@ -122,7 +119,7 @@ fn include_asked(
 ) -> Result<(), Stop<Fault>>
     requires named { AreNamed source.now }
     requires short { HasShortName asked.head }
-    ensures included { Stepped (λ answer. answer ≡ list_with_asked setting mark resources.old source.now asked) result resources.new }
+    ensures included { Meets (left resources.new result) (λ answer. answer ≡ list_with_asked setting mark resources.old source.now asked) }
     ensures nameable { (files : ℕ) → mark.file < files → OnFault result (IsNameable files) }
 {
     let Asked {

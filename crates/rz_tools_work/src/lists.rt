@@ -2,18 +2,16 @@ ghost use Rattle.std.specs.Prelude.{◌≡◌, ◌<◌, ℕ, IfSome};
 ghost use Rattle.rz_core.specs.Message.{IsNameable};
 ghost use Rattle.rz_folder.specs.OnlyReads.{OnlyReads};
 ghost use Rattle.rz_stmt_lists.specs.Lists.{list_of};
-ghost use Rattle.rz_folder_paths.specs.Halt.{IsReadFault, OnRefusal};
+ghost use Rattle.rz_core.specs.Stop.{IsReadFault, OnRefusal, left, Yields};
 ghost use Rattle.rz_tools_work.specs.Around.{around};
 ghost use Rattle.rz_tools_work.specs.Lists.{list_after};
-ghost use Rattle.rz_tools_work.specs.Work.{Went};
 
 use crate::change::{change_resources, delete_resources};
 use crate::include::include_resources;
 use crate::read::{halted, read_resource};
 use crate::setting::Setting;
-use rz_core::{FileNames, Mark};
+use rz_core::{Fault, FileNames, Halt, Mark};
 use rz_folder::Folder;
-use rz_folder_paths::Halt;
 use rz_set::ResSet;
 use rz_stmt_lists::ListStmt;
 use std::alloc::Global;
@@ -39,9 +37,9 @@ pub fn list_step<F: Folder>(
     mark: Mark,
     setting: Setting,
     resources: &mut ResSet,
-) -> Result<(), Halt>
+) -> Result<(), Halt<Fault>>
     ensures stepped { IfSome (F.files folder.old) (λ files.
-        Went (λ answer. answer ≡ list_after (around setting paths.now files) mark resources.old (list_of stmt.now)) result resources.new) }
+        Yields (left resources.new result) (λ answer. answer ≡ list_after (around setting paths.now files) mark resources.old (list_of stmt.now))) }
     ensures nameable { (files : ℕ) → mark.file < files → OnRefusal result (IsNameable files) }
     ensures reads { OnlyReads F.files F.read_faults F.write_faults folder.old folder.new (IsReadFault result) }
 {

@@ -1,8 +1,7 @@
 ghost use Rattle.std.specs.Prelude.{◌≡◌, ◌<◌, ℕ, length};
 ghost use Rattle.rz_core.specs.Message.{IsNameable};
-ghost use Rattle.rz_core.specs.Stop.{OnFault};
-ghost use Rattle.rz_tools_work.specs.Put.{given_on_line, list_with, set_fault};
-ghost use Rattle.rz_tools_work.specs.Work.{Stepped};
+ghost use Rattle.rz_core.specs.Stop.{OnFault, left, Meets, fault_seen};
+ghost use Rattle.rz_tools_work.specs.Put.{list_with, set_fault};
 
 use rz_core::{Fault, Kept, Mark, Resource, Stop};
 use rz_set::{ResSet, SetFault};
@@ -16,7 +15,7 @@ pub fn put(
     mark: Mark,
 ) -> Result<(), Stop<Fault>>
     requires named { length resource.name < 256 }
-    ensures put { Stepped (λ answer. answer ≡ list_with mark over resources.old resource) result resources.new }
+    ensures put { Meets (left resources.new result) (λ answer. answer ≡ list_with mark over resources.old resource) }
     ensures nameable { (files : ℕ) → mark.file < files → OnFault result (IsNameable files) }
 {
     let left = resources.put_over(resource, over);
@@ -29,7 +28,7 @@ pub fn on_line(
     mark: Mark,
     sought: Kept,
 ) -> Result<(), Stop<Fault>>
-    ensures left { result ≡ given_on_line mark sought left }
+    ensures left { result ≡ fault_seen (set_fault mark sought) left }
     ensures nameable { (files : ℕ) → mark.file < files → OnFault result (IsNameable files) }
 {
     match left {

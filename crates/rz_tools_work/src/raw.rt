@@ -3,7 +3,7 @@ ghost use Rattle.rz_core.specs.Message.{IsNameable};
 ghost use Rattle.rz_stmt_data.specs.Raw.{raw_of};
 ghost use Rattle.rz_types_fields.specs.Text.{plain_parts};
 ghost use Rattle.rz_folder.specs.OnlyReads.{OnlyReads};
-ghost use Rattle.rz_folder_paths.specs.Halt.{IsReadFault, OnRefusal, Yields};
+ghost use Rattle.rz_core.specs.Stop.{IsReadFault, OnRefusal, Yields};
 ghost use Rattle.rz_tools_work.specs.Around.{around};
 ghost use Rattle.rz_tools_work.specs.Raw.{contents_read, resource_of, with_text};
 
@@ -12,9 +12,8 @@ use crate::head::facts_of;
 use crate::read::bytes_halted;
 use crate::setting::Setting;
 use crate::texts::read_texts;
-use rz_core::{Bytes, Facts, FileNames, Mark, Resource};
+use rz_core::{Bytes, Facts, Fault, FileNames, Halt, Mark, Resource};
 use rz_folder::Folder;
-use rz_folder_paths::Halt;
 use rz_stmt_data::RawStmt;
 use rz_types_fields::Texts;
 use std::alloc::Global;
@@ -29,7 +28,7 @@ pub fn resource_of<F: Folder>(
     raw: RawStmt,
     mark: Mark,
     setting: Setting,
-) -> Result<Resource, Halt>
+) -> Result<Resource, Halt<Fault>>
     ensures resource { IfSome (F.files folder.old) (λ files. Yields result (λ answer. answer ≡ resource_of (around setting paths.now files) mark (raw_of raw))) }
     ensures named { IfOk result (λ resource. length resource.name < 256) }
     ensures nameable { (files : ℕ) → mark.file < files → OnRefusal result (IsNameable files) }
@@ -49,7 +48,7 @@ fn with_text<F: Folder>(
     known: Facts,
     texts: Texts,
     mark: Mark,
-) -> Result<Resource, Halt>
+) -> Result<Resource, Halt<Fault>>
     requires named { length known.name < 256 }
     ensures resource { IfSome (F.files folder.old) (λ files. Yields result (λ answer. answer ≡ with_text paths.now files mark (plain_parts texts) known)) }
     ensures named { IfOk result (λ resource. length resource.name < 256) }
@@ -70,7 +69,7 @@ fn contents_read<F: Folder>(
     texts: Texts,
     mark: Mark,
     known: &Facts,
-) -> Result<Bytes, Halt>
+) -> Result<Bytes, Halt<Fault>>
     ensures contents { IfSome (F.files folder.old) (λ files.
         Yields result (λ answer. answer ≡ contents_read paths.now files mark known.now (plain_parts texts))) }
     ensures nameable { (files : ℕ) → mark.file < files → OnRefusal result (IsNameable files) }

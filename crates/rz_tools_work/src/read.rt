@@ -2,19 +2,18 @@ ghost use Rattle.std.specs.Prelude.{◌≡◌, ◌<◌, ◌^◌, ℕ, length, If
 ghost use Rattle.rz_core.specs.Message.{IsNameable};
 ghost use Rattle.rz_folder.specs.OnlyReads.{OnlyReads};
 ghost use Rattle.rz_stmt_lists.specs.Read.{read_of};
-ghost use Rattle.rz_folder_paths.specs.Halt.{IsReadFault, OnRefusal, Yields};
+ghost use Rattle.rz_core.specs.Stop.{IsReadFault, OnRefusal, Yields, halted, left};
 ghost use Rattle.rz_tools_work.specs.Around.{around};
 ghost use Rattle.rz_tools_work.specs.Data.{short_bytes};
 ghost use Rattle.rz_tools_work.specs.Read.{contents_named, file_named, list_reading, resource_read, with_file};
-ghost use Rattle.rz_tools_work.specs.Work.{halted, Went};
 
 use crate::data::{short_bytes, with_bytes};
 use crate::head::facts_of;
 use crate::putting::put;
 use crate::setting::Setting;
-use rz_core::{Bytes, Facts, Fault, FileNames, Mark, Resource, Stop};
+use rz_core::{Bytes, Facts, Fault, FileNames, Halt, Mark, Resource, Stop};
 use rz_folder::Folder;
-use rz_folder_paths::{Halt, names_of, read_file};
+use rz_folder_paths::{names_of, read_file};
 use rz_set::ResSet;
 use rz_stmt_lists::ReadStmt;
 use std::alloc::Global;
@@ -31,9 +30,9 @@ pub fn read_resource<F: Folder>(
     mark: Mark,
     setting: Setting,
     resources: &mut ResSet,
-) -> Result<(), Halt>
+) -> Result<(), Halt<Fault>>
     ensures read { IfSome (F.files folder.old) (λ files.
-        Went (λ answer. answer ≡ list_reading (around setting paths.now files) mark resources.old (read_of stmt.now)) result resources.new) }
+        Yields (left resources.new result) (λ answer. answer ≡ list_reading (around setting paths.now files) mark resources.old (read_of stmt.now))) }
     ensures nameable { (files : ℕ) → mark.file < files → OnRefusal result (IsNameable files) }
     ensures reads { OnlyReads F.files F.read_faults F.write_faults folder.old folder.new (IsReadFault result) }
 {
@@ -51,7 +50,7 @@ fn resource_read<F: Folder>(
     stmt: &ReadStmt,
     mark: Mark,
     setting: Setting,
-) -> Result<Resource, Halt>
+) -> Result<Resource, Halt<Fault>>
     ensures read { IfSome (F.files folder.old) (λ files. Yields result (λ answer. answer ≡ resource_read (around setting paths.now files) mark (read_of stmt.now))) }
     ensures named { IfOk result (λ resource. length resource.name < 256) }
     ensures nameable { (files : ℕ) → mark.file < files → OnRefusal result (IsNameable files) }
@@ -71,7 +70,7 @@ fn with_file<F: Folder>(
     known: Facts,
     name: &[u8],
     mark: Mark,
-) -> Result<Resource, Halt>
+) -> Result<Resource, Halt<Fault>>
     requires named { length known.name < 256 }
     ensures read { IfSome (F.files folder.old) (λ files. Yields result (λ answer. answer ≡ with_file paths.now files mark name.now known)) }
     ensures named { IfOk result (λ resource. length resource.name < 256) }
@@ -91,7 +90,7 @@ fn contents_named<F: Folder>(
     paths: &FileNames,
     name: &[u8],
     mark: Mark,
-) -> Result<Bytes, Halt>
+) -> Result<Bytes, Halt<Fault>>
     ensures read { IfSome (F.files folder.old) (λ files. Yields result (λ answer. answer ≡ contents_named paths.now files mark name.now)) }
     ensures nameable { (files : ℕ) → mark.file < files → OnRefusal result (IsNameable files) }
     ensures reads { OnlyReads F.files F.read_faults F.write_faults folder.old folder.new (IsReadFault result) }
@@ -103,7 +102,7 @@ fn contents_named<F: Folder>(
 }
 
 /// Contents, as many as a resource may have: 301.
-fn short_contents(bytes: Bytes, mark: Mark) -> Result<Bytes, Halt>
+fn short_contents(bytes: Bytes, mark: Mark) -> Result<Bytes, Halt<Fault>>
     ensures bytes { Yields result (λ answer. answer ≡ short_bytes mark bytes) }
     ensures nameable { (files : ℕ) → mark.file < files → OnRefusal result (IsNameable files) }
     ensures unread { IsReadFault result → ⊥ }
@@ -122,7 +121,7 @@ pub fn file_named<F: Folder>(
     paths: &FileNames,
     name: &[u8],
     mark: Mark,
-) -> Result<Bytes, Halt>
+) -> Result<Bytes, Halt<Fault>>
     ensures read { IfSome (F.files folder.old) (λ files. Yields result (λ answer. answer ≡ file_named paths.now files mark name.now)) }
     ensures short { IfOk result (λ bytes. length bytes < 2 ^ 32) }
     ensures nameable { (files : ℕ) → mark.file < files → OnRefusal result (IsNameable files) }
@@ -133,7 +132,7 @@ pub fn file_named<F: Folder>(
 }
 
 /// What a call gives that reads no files, as that of one that does.
-pub fn bytes_halted(given: Result<Bytes, Stop<Fault>>) -> Result<Bytes, Halt>
+pub fn bytes_halted(given: Result<Bytes, Stop<Fault>>) -> Result<Bytes, Halt<Fault>>
     ensures { result ≡ halted given }
 {
     match given {
@@ -143,7 +142,7 @@ pub fn bytes_halted(given: Result<Bytes, Stop<Fault>>) -> Result<Bytes, Halt>
 }
 
 /// The end of a call that reads no files, as that of one that does.
-pub fn halted(ended: Result<(), Stop<Fault>>) -> Result<(), Halt>
+pub fn halted(ended: Result<(), Stop<Fault>>) -> Result<(), Halt<Fault>>
     ensures { result ≡ halted ended }
 {
     match ended {

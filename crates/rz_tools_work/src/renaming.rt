@@ -1,11 +1,11 @@
 ghost use Rattle.std.specs.Prelude.{◌≡◌, ◌<◌, [], ℕ, length, map, option_map, IfOk, Some};
 ghost use Rattle.std.specs.Option.{option_copied, unwrap_or};
 ghost use Rattle.rz_core.specs.Message.{IsNameable};
-ghost use Rattle.rz_core.specs.Stop.{Gives, OnFault};
+ghost use Rattle.rz_core.specs.Stop.{Gives, OnFault, seen};
 ghost use Rattle.rz_stmt_data.specs.Head.{attribute_of, head_of};
 ghost use Rattle.rz_set.specs.After.{HasShortName};
 ghost use Rattle.rz_types.specs.Text.{plain_parts};
-ghost use Rattle.rz_tools_work.specs.Pick.{as_type, chosen_facts, chosen_one, head_said, new_attributes, new_head, new_name, one_in, the_one};
+ghost use Rattle.rz_tools_work.specs.Pick.{as_type, chosen_facts, chosen_one, head_said, new_attributes, new_head, new_name, the_one};
 
 use crate::head::{bits_of, name_of};
 use crate::pick::{id_said, no_resource};
@@ -34,7 +34,7 @@ pub fn chosen_in_list<'a>(
     pick: &Pick,
     mark: Mark,
 ) -> Result<Option<&'a Resource>, Stop<Fault>>
-    ensures chosen { Gives (chosen_one mark kind pick.now list.now) (one_in result) }
+    ensures chosen { Gives (chosen_one mark kind pick.now list.now) (seen option_copied result) }
     ensures nameable { (files : ℕ) → mark.file < files → OnFault result (IsNameable files) }
 {
     match pick {
@@ -55,7 +55,7 @@ pub fn chosen_in_set<'a>(
     pick: &Pick,
     mark: Mark,
 ) -> Result<Option<&'a Resource>, Stop<Fault>>
-    ensures chosen { Gives (chosen_one mark kind pick.now set.now) (one_in result) }
+    ensures chosen { Gives (chosen_one mark kind pick.now set.now) (seen option_copied result) }
     ensures nameable { (files : ℕ) → mark.file < files → OnFault result (IsNameable files) }
 {
     match pick {
@@ -76,7 +76,7 @@ fn the_one<'a>(
     pick: &Pick,
     mark: Mark,
 ) -> Result<Option<&'a Resource>, Stop<Fault>>
-    ensures one { Gives (the_one mark kind pick.now (option_copied one.entry)) (one_in result) }
+    ensures one { Gives (the_one mark kind pick.now (option_copied one.entry)) (seen option_copied result) }
     ensures nameable { (files : ℕ) → mark.file < files → OnFault result (IsNameable files) }
 {
     match one {

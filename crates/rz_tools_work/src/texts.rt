@@ -1,19 +1,17 @@
 ghost use Rattle.std.specs.Prelude.{◌≡◌, ◌<◌, ℕ, IfOk, IfSome};
 ghost use Rattle.std.specs.Option.{option_copied};
 ghost use Rattle.rz_core.specs.Message.{IsNameable};
-ghost use Rattle.rz_core.specs.Stop.{Gives, OnFault};
+ghost use Rattle.rz_core.specs.Stop.{Gives, OnFault, IsReadFault, OnRefusal, Yields};
 ghost use Rattle.rz_types_fields.specs.Text.{arguments_of, plain_argument, plain_arguments, plain_key, plain_part, plain_parts};
 ghost use Rattle.rz_folder.specs.OnlyReads.{OnlyReads};
-ghost use Rattle.rz_folder_paths.specs.Halt.{IsReadFault, OnRefusal, Yields};
 ghost use Rattle.rz_tools_work.specs.Texts.{argument_given, argument_read, arguments_given, arguments_read, bytes_chosen, bytes_of_one, key_said, part_given, part_read, resource_bytes, resource_named, texts_given, texts_read};
 
 use crate::include::list_named;
 use crate::pick::id_said;
 use crate::read::{bytes_halted, file_named};
 use crate::renaming::chosen_in_list;
-use rz_core::{Bytes, Facts, Fault, FileNames, Mark, NoMemory, OsType, Resource, Resources, Stop};
+use rz_core::{Bytes, Facts, Fault, FileNames, Halt, Mark, NoMemory, OsType, Resource, Resources, Stop};
 use rz_folder::Folder;
-use rz_folder_paths::Halt;
 use rz_set::Pick;
 use rz_types_fields::{FormatArg, FormatArgs, ResKey, TextPart, Texts, text_of};
 use std::alloc::Global;
@@ -31,7 +29,7 @@ pub fn read_texts<F: Folder>(
     texts: Texts,
     mark: Mark,
     known: &Facts,
-) -> Result<Texts, Halt>
+) -> Result<Texts, Halt<Fault>>
     ensures read { IfSome (F.files folder.old) (λ files.
         Yields result (λ answer. texts_given answer ≡ texts_read paths.now files mark known.now (plain_parts texts))) }
     ensures nameable { (files : ℕ) → mark.file < files → OnRefusal result (IsNameable files) }
@@ -56,7 +54,7 @@ fn read_part<F: Folder>(
     part: TextPart,
     mark: Mark,
     known: &Facts,
-) -> Result<TextPart, Halt>
+) -> Result<TextPart, Halt<Fault>>
     ensures read { IfSome (F.files folder.old) (λ files.
         Yields result (λ answer. part_given answer ≡ part_read paths.now files mark known.now (plain_part part))) }
     ensures nameable { (files : ℕ) → mark.file < files → OnRefusal result (IsNameable files) }
@@ -99,7 +97,7 @@ fn read_arguments<F: Folder>(
     arguments: FormatArgs,
     mark: Mark,
     known: &Facts,
-) -> Result<FormatArgs, Halt>
+) -> Result<FormatArgs, Halt<Fault>>
     ensures read { IfSome (F.files folder.old) (λ files.
         Yields result (λ answer. arguments_given answer ≡ arguments_read paths.now files mark known.now (arguments_of (plain_arguments arguments)))) }
     ensures nameable { (files : ℕ) → mark.file < files → OnRefusal result (IsNameable files) }
@@ -124,7 +122,7 @@ fn read_argument<F: Folder>(
     argument: FormatArg,
     mark: Mark,
     known: &Facts,
-) -> Result<FormatArg, Halt>
+) -> Result<FormatArg, Halt<Fault>>
     ensures read { IfSome (F.files folder.old) (λ files.
         Yields result (λ answer. argument_given answer ≡ argument_read paths.now files mark known.now (plain_argument argument))) }
     ensures nameable { (files : ℕ) → mark.file < files → OnRefusal result (IsNameable files) }
@@ -149,7 +147,7 @@ fn resource_named<F: Folder>(
     key: &ResKey,
     mark: Mark,
     known: &Facts,
-) -> Result<Bytes, Halt>
+) -> Result<Bytes, Halt<Fault>>
     ensures read { IfSome (F.files folder.old) (λ files.
         Yields result (λ answer. answer ≡ resource_named paths.now files mark known.now name.now kind (plain_key key.now))) }
     ensures nameable { (files : ℕ) → mark.file < files → OnRefusal result (IsNameable files) }
@@ -170,7 +168,7 @@ fn resource_bytes<F: Folder>(
     kind: OsType,
     pick: &Pick,
     mark: Mark,
-) -> Result<Bytes, Halt>
+) -> Result<Bytes, Halt<Fault>>
     ensures read { IfSome (F.files folder.old) (λ files. Yields result (λ answer. answer ≡ resource_bytes paths.now files mark name.now kind pick.now)) }
     ensures nameable { (files : ℕ) → mark.file < files → OnRefusal result (IsNameable files) }
     ensures reads { OnlyReads F.files F.read_faults F.write_faults folder.old folder.new (IsReadFault result) }

@@ -1,10 +1,10 @@
 ghost use Rattle.std.specs.Prelude.{IfOk, ◌≡◌, map, option_map, true};
-ghost use Rattle.rz_core.specs.Stop.{Gives};
+ghost use Rattle.rz_types.specs.Template.{template_of};
+ghost use Rattle.rz_core.specs.Stop.{Gives, seen};
 ghost use Rattle.rz_core.specs.Lists.{or_else};
 ghost use Rattle.rz_types_fields.specs.Field.{plain_body, plain_cases, plain_field, plain_text};
 ghost use Rattle.rz_types_fields.specs.Shape.{is_well_shaped};
 ghost use Rattle.rz_types.specs.Rules.{array_twice, bad_case, bad_place, bad_rows, bad_size, bad_width, case_names, checked, differ, has_other_place, has_other_width, has_same_bits, has_values, key_rule, may_be_count, may_be_rows, may_be_width, name_fault, no_values, repeated, unknown_fault, unless, width_fault};
-ghost use Rattle.rz_types.specs.Template.{plain_templates};
 ghost use Rattle.rz_types.specs.Walk.{is_among};
 ghost use Rattle.std.specs.List.{list_any};
 
@@ -39,7 +39,7 @@ const MOST_ROWS: i32 = 1_048_576;
 /// and switches at most 60 deep in one another, and so on. The walk goes as deep as these stand in one another. (MPW Rez.)
 pub fn check(alloc: Global, body: Body) -> Result<Template, Stop<TypeFault>>
     requires { is_well_shaped (plain_body body) ≡ true }
-    ensures { Gives (checked (plain_body body)) (plain_templates result) }
+    ensures { Gives (checked (plain_body body)) (seen template_of result) }
 {
     match check_fields(alloc, body.as_slice()) {
         Ok(()) => {

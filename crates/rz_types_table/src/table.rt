@@ -39,9 +39,9 @@ pub struct TypeTable {
 impl TypeTable {
     ghost use Rattle.std.specs.Prelude.{◌≡◌, ◌<◌, [], ◌∷◌, ◌++◌, length, IfOk, OnErr, OnOk, option_map};
     ghost use Rattle.std.specs.List.{remove};
-    ghost use Rattle.rz_core.specs.Stop.{Gives};
+    ghost use Rattle.rz_core.specs.Stop.{seen, Gives};
     ghost use Rattle.rz_types_table.specs.Table.{copied, declared_behind, found, has_place};
-    ghost use Rattle.rz_types.specs.Template.{plain_templates, template_of};
+    ghost use Rattle.rz_types.specs.Template.{template_of};
     ghost use Rattle.rz_types_table.specs.TypeTable.{table_of};
 
     /// The table without declarations. It takes no memory.
@@ -133,7 +133,7 @@ impl TypeTable {
     /// id. 239 where there is none (kept: the type, and the id or 0). It goes once over the declarations of the type
     /// alone. (MPW Rez.)
     pub fn copy_of(&self, kind: OsType, id: Option<i16>) -> Result<Template, Stop<TypeFault>>
-        ensures { Gives (copied kind id (table_of self.now)) (plain_templates result) }
+        ensures { Gives (copied kind id (table_of self.now)) (seen template_of result) }
     {
         match asked_in(&self.declared, held(&self.places, kind.code), kind, id) {
             Some(one) => Ok(copy_template(*self.declared.allocator(), &one.template)?),

@@ -1,9 +1,9 @@
 use Rattle.std.proofs.Common.{rules, ℤ, sym, subst, w32, SFits}
 use Rattle.std.specs.declared.result.Result.{Result}
 use Rattle.std.proofs.lemmas.Int.{to_z-of_z}
-use Rattle.rz_core.specs.Stop.{◌>>=◌, Gives}
+use Rattle.rz_core.specs.Stop.{◌>>=◌, Gives, seen}
 use Rattle.rz_core.specs.declared.fault.Fault.{Fault}
-use Rattle.rz_stmt_type.specs.Constants.{key_value, number_of_width, seen}
+use Rattle.rz_stmt_type.specs.Constants.{key_value, number_of_width}
 use Rattle.rz_stmt_fields.specs.Form.{number_form}
 use Rattle.rz_types_fields.specs.Field.{plain_number}
 use Rattle.rz_stmt_type.proofs.constants.value_number.Goals as goal

@@ -6,7 +6,8 @@ use Rattle.rz_pre.specs.Reading.{IsProgram}
 use Rattle.rz_tools_work.specs.Around.{around}
 use Rattle.rz_tools_args.specs.Item.{derez}
 use Rattle.rz_tools.specs.DeRez.{derez_setting}
-use Rattle.rz_tools.specs.Held.{CompiledSo}
+use Rattle.rz_core.specs.Stop.{seen, Yields}
+use Rattle.rz_tools.specs.Held.{compiled_of}
 use Rattle.rz_tools.specs.Sources.{HasWork}
 use Rattle.rz_tools.proofs.Typing.{types_compiled, types_refused}
 use Rattle.rz_tools.proofs.derez.compile_types.Goals as goal
@@ -16,7 +17,7 @@ returns-in-Ok-clause-compiled g c =
     types_compiled c.args.moment (derez c.args.words.now) (g.F.Folder.files c.args.folder.now) c.in-Ok.program c.in-Ok.ensures.read
     c.new.result c.new.ensures c.new-in-Ok.result c.new-in-Ok.ensures c.compile_program-in-Ok.result
     (subst (λ (before : Option Files). IfSome before (λ files. (s : State) → IsProgram c.in-Ok.program s
-    → CompiledSo c.compile_program-in-Ok.result (HasWork (around (derez_setting c.args.moment (derez c.args.words.now)) c.new.result files) c.new-in-Ok.result s)))
+    → Yields (seen compiled_of c.compile_program-in-Ok.result) (HasWork (around (derez_setting c.args.moment (derez c.args.words.now)) c.new.result files) c.new-in-Ok.result s)))
     c.in-Ok.ensures.reads.unchanged c.compile_program-in-Ok.ensures.compiled)
 
 pub returns-in-Err-clause-compiled : goal.returns-in-Err-clause-compiled

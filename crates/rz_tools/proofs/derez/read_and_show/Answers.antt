@@ -7,7 +7,8 @@ use Rattle.rz_tools_args.specs.Item.{derez}
 use Rattle.rz_tools.specs.Again.{HoldsFile}
 use Rattle.rz_tools.specs.DeRez.{HasText, TypesAre}
 use Rattle.rz_tools.specs.Held.{compiled_of}
-use Rattle.rz_tools_answer.specs.Made.{MadeSo}
+use Rattle.rz_core.specs.Stop.{seen, Yields}
+use Rattle.rz_tools_answer.specs.Made.{making_of}
 use Rattle.rz_tools.proofs.Sourced.{then_made, then_stopped}
 use Rattle.rz_tools.proofs.derez.read_and_show.Goals as goal
 
@@ -16,7 +17,7 @@ returns-in-Ok-clause-text g c =
     let asked = derez c.args.words.now in
     then_made (TypesAre c.args.moment asked) (HasText c.args.moment asked) (compiled_of c.in-Ok.compiled)
     (g.F.Folder.files c.args.folder.now) c.in-Ok.ensures.compiled c.show_under.result
-    (subst (λ (before : Option Files). IfSome before (λ files. MadeSo c.show_under.result (HasText c.args.moment asked files (compiled_of c.in-Ok.compiled))))
+    (subst (λ (before : Option Files). IfSome before (λ files. Yields (seen making_of c.show_under.result) (HasText c.args.moment asked files (compiled_of c.in-Ok.compiled))))
     c.in-Ok.ensures.reads.unchanged c.show_under.ensures.text)
 
 pub returns-in-Ok-clause-held : goal.returns-in-Ok-clause-held

@@ -1,5 +1,5 @@
 use Rattle.std.proofs.Common.{None, subst}
-use Rattle.rz_core.specs.Answers.{Meets}
+use Rattle.rz_core.specs.Stop.{Meets}
 use Rattle.rz_bridge_files.specs.Contents.{fork_in}
 use Rattle.rz_tools_args.specs.Item.{derez}
 use Rattle.rz_tools.specs.DeRez.{HasForkText}

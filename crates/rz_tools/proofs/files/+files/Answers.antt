@@ -7,7 +7,8 @@ use Rattle.rz_stmt_items.specs.declared.item.Item.{Item}
 use Rattle.rz_folder_paths.proofs.Found.{if_some}
 use Rattle.rz_pre.proofs.Going.{at_some}
 use Rattle.rz_tools.specs.Files.{item_given, item_read, items_given, items_read}
-use Rattle.rz_tools.proofs.Reading.{all_made, halt_so, list_read, list_within, named_read, named_within, one_fault, one_made, within_more, Leads}
+use Rattle.rz_core.proofs.Stops.{halt_so}
+use Rattle.rz_tools.proofs.Reading.{all_made, list_read, list_within, named_read, named_within, one_fault, one_made, within_more, Leads}
 use Rattle.rz_tools.proofs.files.+files.Goals as goal
 
 pub read_items-loop-item-preserved : goal.read_items-loop-item-preserved

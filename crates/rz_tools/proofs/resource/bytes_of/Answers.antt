@@ -6,7 +6,7 @@ use Rattle.rz_tools.specs.Resource.{fields_for, no_type, AreReadBytes}
 use Rattle.rz_types.specs.Field.{PlainBody}
 use Rattle.rz_types.specs.Template.{template_of}
 use Rattle.rz_types_table.specs.TypeTable.{table_of}
-use Rattle.rz_tools.proofs.Resources.{then_yields}
+use Rattle.rz_core.proofs.Stops.{then_yields}
 use Rattle.rz_tools.proofs.resource.bytes_of.Goals as goal
 
 pub returns-in-Some-clause-bytes : goal.returns-in-Some-clause-bytes

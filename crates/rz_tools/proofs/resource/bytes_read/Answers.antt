@@ -9,8 +9,8 @@ use Rattle.rz_tools.specs.Files.{items_given, items_read}
 use Rattle.rz_tools.specs.Resource.{AreItemBytes}
 use Rattle.rz_types.specs.Template.{template_of}
 use Rattle.rz_tools_work.proofs.Calls.{refuses_so}
-use Rattle.rz_tools.proofs.Reading.{halt_so}
-use Rattle.rz_tools.proofs.Resources.{meets_yields, then_halts, then_yields}
+use Rattle.rz_core.proofs.Stops.{then_halts, then_yields, halt_so}
+use Rattle.rz_tools.proofs.Resources.{meets_yields}
 use Rattle.rz_tools.proofs.resource.bytes_read.Goals as goal
 
 pub returns-in_ok-bytes_under-in-Ok-clause-bytes : goal.returns-in_ok-bytes_under-in-Ok-clause-bytes

@@ -9,7 +9,8 @@ use Rattle.rz_tools_work.specs.Data.{with_bytes}
 use Rattle.rz_tools_work.specs.Head.{facts_of}
 use Rattle.rz_tools.specs.Resource.{AreBytes, IsMade}
 use Rattle.rz_types_table.specs.TypeTable.{table_of}
-use Rattle.rz_tools.proofs.Resources.{gives_halt, then_halts, then_yields}
+use Rattle.rz_core.proofs.Stops.{then_halts, then_yields}
+use Rattle.rz_tools.proofs.Resources.{gives_halt}
 use Rattle.rz_tools.proofs.resource.resource_of_items.Goals as goal
 
 pub returns-in-Ok-clause-resource : goal.returns-in-Ok-clause-resource

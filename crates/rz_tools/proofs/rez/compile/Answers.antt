@@ -1,7 +1,8 @@
 use Rattle.rz_pre.specs.Reading.{IsProgram}
 use Rattle.rz_pre.specs.Program.{State}
 use Rattle.rz_tools_args.specs.Item.{rez}
-use Rattle.rz_tools_answer.specs.Made.{MadeSo}
+use Rattle.rz_core.specs.Stop.{seen, Yields}
+use Rattle.rz_tools_answer.specs.Made.{making_of}
 use Rattle.rz_tools.specs.Rez.{around_of, IsMadeOf}
 use Rattle.rz_tools.specs.Sources.{IsProgramOf}
 use Rattle.rz_tools.proofs.Compiling.{still_told}
@@ -14,7 +15,7 @@ returns-in-Ok-clause-made g c =
     read_made (λ files. IsProgramOf (around_of c.args.moment asked files) asked.files asked.paths asked.defs) (IsMadeOf c.args.moment asked) c.in-Ok.program
     (g.F.Folder.files c.args.folder.now) c.in-Ok.ensures.read c.compile_from_base.result
     (still_told (g.F.Folder.files c.args.folder.now) (g.F.Folder.files c.read_program.new.folder) c.in-Ok.ensures.reads.unchanged
-    (λ files. (s : State) → IsProgram c.in-Ok.program s → MadeSo c.compile_from_base.result (IsMadeOf c.args.moment asked files s)) c.compile_from_base.ensures.made)
+    (λ files. (s : State) → IsProgram c.in-Ok.program s → Yields (seen making_of c.compile_from_base.result) (IsMadeOf c.args.moment asked files s)) c.compile_from_base.ensures.made)
 
 pub returns-in-Err-clause-made : goal.returns-in-Err-clause-made
 returns-in-Err-clause-made g c =

@@ -1,5 +1,5 @@
 use Rattle.std.proofs.Common.{List, subst}
-use Rattle.rz_core.specs.Answers.{Meets}
+use Rattle.rz_core.specs.Stop.{Meets}
 use Rattle.rz_core.specs.declared.resource.Resource.{Resource}
 use Rattle.rz_tools_args.specs.Item.{rez}
 use Rattle.rz_tools_output.specs.Base.{base_with}

@@ -1,11 +1,12 @@
 use Rattle.std.proofs.Common.{List, length, subst, Err}
 use Rattle.std.specs.Prelude.{IfSome}
+use Rattle.rz_core.specs.Stop.{Yields}
 use Rattle.rz_lex.specs.declared.token.Token.{Token}
-use Rattle.rz_folder_paths.specs.declared.halt.Halt.{Halt}
+use Rattle.rz_core.specs.declared.stop.Halt.{Halt}
 use Rattle.rz_stmt.specs.Statements.{AreStatements}
 use Rattle.rz_tools_work.specs.Around.{around}
 use Rattle.rz_tools_work.specs.Held.{work_of}
-use Rattle.rz_tools.specs.Step.{Means, Worked}
+use Rattle.rz_tools.specs.Step.{Means, with_work}
 use Rattle.rz_tools.proofs.Sourced.{none_warned, refusal_told, work_told}
 use Rattle.rz_tools.proofs.sources.compile_program.Goals as goal
 
@@ -15,15 +16,15 @@ returns-in-Ok-clause-compiled g c =
     work_told c.args.setting c.args.paths.now c.args.list cut.0 c.args.program cut.1 (work_of c.in_ok-work.work) c.in_ok-work.ensures
     (g.F.Folder.files c.args.folder.now) (work_of c.compile_statements.new.work) c.in-Ok.ensures.work
 
-pub returns-in-Err-Refused-clause-compiled : goal.returns-in-Err-Refused-clause-compiled
-returns-in-Err-Refused-clause-compiled g c =
+pub returns-in_ok-refusal-in-Err-Refused-clause-compiled : goal.returns-in_ok-refusal-in-Err-Refused-clause-compiled
+returns-in_ok-refusal-in-Err-Refused-clause-compiled g c =
     let cut = c.all_tokens_are_statements.ensures c.args.program.tokens in
     refusal_told c.args.setting c.args.paths.now c.args.list cut.0 c.args.program cut.1 (work_of c.in_ok-work.work) c.in_ok-work.ensures
     (g.F.Folder.files c.args.folder.now) (work_of c.compile_statements.new.work) c.in-Err-Refused.fault
-    (subst (λ (h : Halt). IfSome (g.F.Folder.files c.args.folder.now) (λ files. (statements : List (List Token)) → AreStatements c.args.program.tokens statements
-    → Worked (Means (around c.args.setting c.args.paths.now files) (work_of c.in_ok-work.work) statements) (Err h) (work_of c.compile_statements.new.work)))
+    (subst (λ (h : Halt Fault). IfSome (g.F.Folder.files c.args.folder.now) (λ files. (statements : List (List Token)) → AreStatements c.args.program.tokens statements
+    → Yields (with_work (work_of c.compile_statements.new.work) (Err h)) (Means (around c.args.setting c.args.paths.now files) (work_of c.in_ok-work.work) statements)))
     c.in-Err-Refused.field-0-is c.in-Err-Refused.ensures.work)
-    c.refusal.result (rw c.in-Err-Refused.fault-is at c.refusal.ensures.refused)
+    c.in_ok-refusal-in-Err-Refused.field-0 (rw c.in-Err-Refused.fault-is at c.in_ok-refusal-in-Err-Refused.ensures.failing)
 
 pub refusal-requires-clause-fault : goal.refusal-requires-clause-fault
 refusal-requires-clause-fault g c = rw c.in-Err-Refused.fault-is (rw c.in-Err-Refused.field-0-is at (c.in-Err-Refused.ensures.nameable (length c.args.program.files) c.requires.within))
@@ -33,7 +34,7 @@ refusal-requires-clause-warnings g c =
     c.compile_statements.ensures.warned (length c.args.program.files) c.requires.within
     (none_warned (length c.args.program.files) c.args.list (work_of c.in_ok-work.work) c.in_ok-work.ensures)
 
-pub returns-in-Ok-clause-nameable : goal.returns-in-Ok-clause-nameable
-returns-in-Ok-clause-nameable g c =
+pub returns-in-Ok-clause-warned : goal.returns-in-Ok-clause-warned
+returns-in-Ok-clause-warned g c =
     c.compile_statements.ensures.warned (length c.args.program.files) c.requires.within
     (none_warned (length c.args.program.files) c.args.list (work_of c.in_ok-work.work) c.in_ok-work.ensures)

@@ -1,6 +1,6 @@
 use Rattle.std.proofs.lemmas.Option.{IfSome_then}
 use Rattle.rz_stmt_data.specs.Raw.{raw_of}
-use Rattle.rz_folder_paths.specs.Halt.{IsReadFault}
+use Rattle.rz_core.specs.Stop.{IsReadFault}
 use Rattle.rz_tools_work.proofs.Calls.{reads_first, went_halt, went_on}
 use Rattle.rz_tools_work.specs.Around.{around}
 use Rattle.rz_tools_work.specs.Put.{list_with}

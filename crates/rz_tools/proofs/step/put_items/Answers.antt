@@ -1,6 +1,6 @@
 use Rattle.std.proofs.lemmas.Option.{IfSome_then}
 use Rattle.rz_stmt_items.specs.Compile.{compile_of}
-use Rattle.rz_folder_paths.specs.Halt.{IsReadFault}
+use Rattle.rz_core.specs.Stop.{IsReadFault}
 use Rattle.rz_types_table.specs.TypeTable.{table_of}
 use Rattle.rz_tools_work.proofs.Calls.{reads_first}
 use Rattle.rz_tools_work.specs.Around.{around}

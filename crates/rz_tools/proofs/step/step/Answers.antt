@@ -1,9 +1,10 @@
 use Rattle.std.proofs.Common.{List, subst, ◌∙◌}
 use Rattle.std.specs.Prelude.{IfSome}
+use Rattle.rz_core.specs.Stop.{Yields}
 use Rattle.rz_lex.specs.declared.token.Token.{Token}
 use Rattle.rz_tools_work.specs.Around.{around}
 use Rattle.rz_tools_work.specs.Held.{work_of}
-use Rattle.rz_tools.specs.Step.{Steps, Worked}
+use Rattle.rz_tools.specs.Step.{Steps, with_work}
 use Rattle.rz_tools_work.proofs.Numbered.{still_lexed, still_within}
 use Rattle.rz_tools.proofs.Stepping.{whole_span}
 use Rattle.rz_tools.proofs.step.step.Goals as goal
@@ -14,7 +15,7 @@ step_at-requires-clause-lexed g c =
 
 pub returns-clause-stepped : goal.returns-clause-stepped
 returns-clause-stepped g c =
-    subst (λ (ts : List Token). IfSome (g.F.Folder.files c.args.folder.now) (λ files. Worked (Steps (around c.args.setting c.args.paths.now files) (work_of c.args.work.now) ts) c.step_at.result (work_of c.step_at.new.work)))
+    subst (λ (ts : List Token). IfSome (g.F.Folder.files c.args.folder.now) (λ files. Yields (with_work (work_of c.step_at.new.work) c.step_at.result) (Steps (around c.args.setting c.args.paths.now files) (work_of c.args.work.now) ts)))
     (whole_span c.number_tool_words-tokens.result c.len.result c.len.ensures ∙ c.number_tool_words-tokens.ensures) c.step_at.ensures.stepped
 
 pub returns-clause-nameable : goal.returns-clause-nameable

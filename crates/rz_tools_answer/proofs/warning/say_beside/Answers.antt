@@ -5,6 +5,7 @@ pub returns-in_ok-said-in-Ok-clause-said : goal.returns-in_ok-said-in-Ok-clause-
 returns-in_ok-said-in-Ok-clause-said c =
     beside_bytes c.args.files c.args.warnings.now c.args.output c.in-Ok.bytes c.in_ok-said-in-Ok.said c.in-Ok.is c.in_ok-said-in-Ok.ensures
 
-pub returns-in-Err-Refused-clause-said : goal.returns-in-Err-Refused-clause-said
-returns-in-Err-Refused-clause-said c =
-    beside_fault c.args.files c.args.warnings.now c.args.output c.in-Err-Refused.fault c.refusal.result (rw c.in-Err-Refused.field-0-is at c.in-Err-Refused.is) c.refusal.ensures.refused
+pub returns-in_ok-refusal-in-Err-Refused-clause-said : goal.returns-in_ok-refusal-in-Err-Refused-clause-said
+returns-in_ok-refusal-in-Err-Refused-clause-said c =
+    beside_fault c.args.files c.args.warnings.now c.args.output c.in-Err-Refused.fault c.in_ok-refusal-in-Err-Refused.field-0 (rw c.in-Err-Refused.field-0-is at c.in-Err-Refused.is)
+    c.in_ok-refusal-in-Err-Refused.ensures.failing

@@ -1,13 +1,17 @@
 use Rattle.std.proofs.Common.{length, map, subst, sym}
 use Rattle.rz_tools_answer.proofs.Warnings.{no_lines}
 use Rattle.rz_tools_answer.specs.Plan.{answer_of, write_of}
+use Rattle.rz_tools_answer.specs.Warning.{IsWarningText}
 use Rattle.rz_tools_answer.specs.WellFormed.{IsWellFormed}
 use Rattle.rz_tools_args.specs.Item.{bridge}
 use Rattle.rz_tools_output.proofs.Bridging.{answers_fault, answers_writes}
 use Rattle.rz_tools_output.proofs.bridge.plan_bridge.Goals as goal
 
-pub stopped-requires-clause-nameable : goal.stopped-requires-clause-nameable
-stopped-requires-clause-nameable g c = rw c.in-Err-Refused.field-0-is at (c.in-Err-Refused.ensures.nameable (length c.new.result))
+pub stopped-requires : goal.stopped-requires
+stopped-requires g c = record {
+  nameable = rw c.in-Err-Refused.field-0-is at (c.in-Err-Refused.ensures.nameable (length c.new.result));
+  warned = subst IsWarningText (sym c.new-in-Err-Refused.ensures) no_lines;
+}
 
 pub returns-in-Ok-clause-answered : goal.returns-in-Ok-clause-answered
 returns-in-Ok-clause-answered g c =

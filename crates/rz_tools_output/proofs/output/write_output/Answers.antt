@@ -2,7 +2,7 @@ use Rattle.std.proofs.Common.{◌≡◌, Ok, Err}
 use Rattle.rz_tools_output.specs.Base.{attributes_asked, base_with}
 use Rattle.rz_tools_output.specs.Output.{list_fork, IsFileOf}
 use Rattle.rz_tools_args.specs.Item.{rez}
-use Rattle.rz_tools_output.proofs.Calls.{gives_meets, then_meets, then_stops}
+use Rattle.rz_core.proofs.Stops.{gives_meets, then_meets, then_stops}
 use Rattle.rz_tools_output.proofs.output.write_output.Goals as goal
 
 pub returns-in-Ok-clause-output : goal.returns-in-Ok-clause-output

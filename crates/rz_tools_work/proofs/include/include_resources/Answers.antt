@@ -3,7 +3,7 @@ use Rattle.std.proofs.lemmas.Option.{IfSome_then}
 use Rattle.rz_core.specs.Message.{IsNameable}
 use Rattle.rz_core.specs.declared.resource.Resource.{Resource}
 use Rattle.rz_stmt_lists.specs.Include.{part_of}
-use Rattle.rz_folder_paths.specs.Halt.{IsReadFault, Yields}
+use Rattle.rz_core.specs.Stop.{IsReadFault, Yields}
 use Rattle.rz_tools_work.specs.Include.{included, list_named}
 use Rattle.rz_tools_work.proofs.Calls.{halted_refuses, halted_unread, reads_first, went_halt, went_on}
 use Rattle.rz_tools_work.proofs.include.include_resources.Goals as goal

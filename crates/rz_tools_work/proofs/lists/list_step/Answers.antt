@@ -4,31 +4,30 @@ use Rattle.rz_stmt_lists.specs.Change.{change_of}
 use Rattle.rz_stmt_lists.specs.Delete.{delete_of}
 use Rattle.rz_stmt_lists.specs.Lists.{list_of}
 use Rattle.rz_stmt_lists.specs.declared.lists.ListStmt.{ListStmt}
-use Rattle.rz_folder_paths.specs.Halt.{IsReadFault}
+use Rattle.rz_core.specs.Stop.{IsReadFault, left, Yields}
 use Rattle.rz_folder_paths.proofs.Found.{if_some}
 use Rattle.rz_tools_work.specs.Around.{around}
 use Rattle.rz_tools_work.specs.Change.{list_changing, list_deleting}
 use Rattle.rz_tools_work.specs.Lists.{list_after}
-use Rattle.rz_tools_work.specs.Work.{Went}
 use Rattle.rz_tools_work.proofs.Calls.{halted_refuses, halted_unread, reads_nothing, went_as}
 use Rattle.rz_tools_work.proofs.lists.list_step.Goals as goal
 
 pub returns-in-Include-clause-stepped : goal.returns-in-Include-clause-stepped
 returns-in-Include-clause-stepped g c =
     subst (λ (s : ListStmt). IfSome (g.F.Folder.files c.args.folder.now) (λ files.
-    Went (λ answer. answer ≡ list_after (around c.args.setting c.args.paths.now files) c.args.mark c.args.resources.now (list_of s)) c.include_resources.result c.include_resources.new.resources))
+    Yields (left c.include_resources.new.resources c.include_resources.result) (λ answer. answer ≡ list_after (around c.args.setting c.args.paths.now files) c.args.mark c.args.resources.now (list_of s))))
     (sym c.in-Include.is) c.include_resources.ensures.included
 
 pub returns-in-Read-clause-stepped : goal.returns-in-Read-clause-stepped
 returns-in-Read-clause-stepped g c =
     subst (λ (s : ListStmt). IfSome (g.F.Folder.files c.args.folder.now) (λ files.
-    Went (λ answer. answer ≡ list_after (around c.args.setting c.args.paths.now files) c.args.mark c.args.resources.now (list_of s)) c.read_resource.result c.read_resource.new.resources))
+    Yields (left c.read_resource.new.resources c.read_resource.result) (λ answer. answer ≡ list_after (around c.args.setting c.args.paths.now files) c.args.mark c.args.resources.now (list_of s))))
     (sym c.in-Read.is) c.read_resource.ensures.read
 
 pub returns-in-Change-clause-stepped : goal.returns-in-Change-clause-stepped
 returns-in-Change-clause-stepped g c =
     subst (λ (s : ListStmt). IfSome (g.F.Folder.files c.args.folder.now) (λ files.
-    Went (λ answer. answer ≡ list_after (around c.args.setting c.args.paths.now files) c.args.mark c.args.resources.now (list_of s)) c.halted.result c.change_resources.new.resources))
+    Yields (left c.change_resources.new.resources c.halted.result) (λ answer. answer ≡ list_after (around c.args.setting c.args.paths.now files) c.args.mark c.args.resources.now (list_of s))))
     (sym c.in-Change.is)
     (if_some (g.F.Folder.files c.args.folder.now) _ (λ files told.
     went_as (λ answer. answer ≡ list_changing c.args.setting c.args.mark c.args.resources.now (change_of c.in-Change.stmt)) c.change_resources.result c.halted.result c.change_resources.new.resources
@@ -46,7 +45,7 @@ returns-in-Change-clause-reads g c =
 pub returns-in-Delete-clause-stepped : goal.returns-in-Delete-clause-stepped
 returns-in-Delete-clause-stepped g c =
     subst (λ (s : ListStmt). IfSome (g.F.Folder.files c.args.folder.now) (λ files.
-    Went (λ answer. answer ≡ list_after (around c.args.setting c.args.paths.now files) c.args.mark c.args.resources.now (list_of s)) c.halted-in-Delete.result c.delete_resources.new.resources))
+    Yields (left c.delete_resources.new.resources c.halted-in-Delete.result) (λ answer. answer ≡ list_after (around c.args.setting c.args.paths.now files) c.args.mark c.args.resources.now (list_of s))))
     (sym c.in-Delete.is)
     (if_some (g.F.Folder.files c.args.folder.now) _ (λ files told.
     went_as (λ answer. answer ≡ list_deleting c.args.setting c.args.mark c.args.resources.now (delete_of c.in-Delete.stmt)) c.delete_resources.result c.halted-in-Delete.result c.delete_resources.new.resources

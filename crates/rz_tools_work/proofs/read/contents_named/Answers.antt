@@ -1,5 +1,5 @@
 use Rattle.std.proofs.lemmas.Option.{IfSome_then}
-use Rattle.rz_folder_paths.specs.Halt.{IsReadFault}
+use Rattle.rz_core.specs.Stop.{IsReadFault}
 use Rattle.rz_tools_work.specs.Data.{short_bytes}
 use Rattle.rz_tools_work.specs.Read.{file_named}
 use Rattle.rz_tools_work.proofs.Calls.{reads_first, yields_halt, yields_on}

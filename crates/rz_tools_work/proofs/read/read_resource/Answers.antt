@@ -1,7 +1,7 @@
 use Rattle.std.proofs.lemmas.Option.{IfSome_then}
 use Rattle.rz_core.specs.Message.{IsNameable}
 use Rattle.rz_stmt_lists.specs.Read.{read_of}
-use Rattle.rz_folder_paths.specs.Halt.{IsReadFault}
+use Rattle.rz_core.specs.Stop.{IsReadFault}
 use Rattle.rz_tools_work.specs.Around.{around}
 use Rattle.rz_tools_work.specs.Put.{list_with}
 use Rattle.rz_tools_work.specs.Read.{resource_read}

@@ -4,7 +4,7 @@ use Rattle.rz_core.specs.Message.{IsNameable}
 use Rattle.rz_core.specs.declared.facts.Facts.{Facts}
 use Rattle.rz_core.specs.declared.resource.Resource.{Resource}
 use Rattle.rz_stmt_data.specs.Head.{head_of}
-use Rattle.rz_folder_paths.specs.Halt.{IsReadFault, Yields}
+use Rattle.rz_core.specs.Stop.{IsReadFault, Yields}
 use Rattle.rz_folder_paths.proofs.Found.{if_some}
 use Rattle.rz_tools_work.specs.Head.{facts_of}
 use Rattle.rz_tools_work.specs.Read.{with_file}
