@@ -1,4 +1,3 @@
-pub mod Counts
 pub mod Trees
 pub mod Groups
 pub mod Own

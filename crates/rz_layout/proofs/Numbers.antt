@@ -29,10 +29,10 @@ use Rattle.rz_types.specs.Field.{case_and, field_and, no_cases, no_fields, takes
 use Rattle.rz_types.specs.Kept.{AreCasesKept, AreKept, IsKept, IsKeptWithin}
 use Rattle.rz_types.specs.Names.{GivesCounts, GivesPredefined}
 use Rattle.rz_types.specs.Range.{fits_number, may_be_size}
-use Rattle.rz_types.specs.Rules.{terms_in, unknown_array, unknown_in}
+use Rattle.rz_types.specs.Rules.{unknown_array, unknown_in}
 use Rattle.rz_types.specs.Shape.{are_cases_shaped, are_fixed_points, are_shaped, is_empty, is_fixed_number, is_fixed_text, is_key_shaped, is_none_or, is_number_shaped, is_own_name, is_own_width, is_shaped, is_symbol_of, is_text_shaped, is_well_shaped, numbers_of}
 use Rattle.rz_types.specs.Passed.{outside}
-use Rattle.rz_types.specs.Piece.{fixed_integer, fixed_terms, free_integer, integers, pieces_of, terms_of_text, Filler, OneNumber, OneText, Piece, Zeros}
+use Rattle.rz_types.specs.Piece.{fixed_integer, fixed_terms, free_integer, integers, pieces_of, points_terms, terms_of_text, Filler, OneNumber, OneText, Piece, Zeros}
 use Rattle.rz_types.specs.Stored.{stored_number}
 use Rattle.rz_types.specs.Text.{bytes_seen, text_terms, PlainPart}
 use Rattle.rz_types.specs.Value.{is_field_expression, is_fixed_expression, names_sight, IsArithmetic}
@@ -111,7 +111,7 @@ fixed_pieces scope terms is known = as_pieces terms (each_fixed scope terms is k
     as_pieces [] each = tt
     as_pieces (term ∷ terms) each = (each.0, as_pieces terms each.1)
 
-point_pieces : (scope : List Word) (rect : Bool) (fixed : Option (List Term)) → is_none_or (are_fixed_points rect) fixed ≡ true → first_of (map (unknown_array scope) (terms_in fixed)) ≡ None
+point_pieces : (scope : List Word) (rect : Bool) (fixed : Option (List Term)) → is_none_or (are_fixed_points rect) fixed ≡ true → first_of (map (unknown_array scope) (points_terms fixed)) ≡ None
     → AllByRecursion (HasTerms scope) (integers rect fixed)
 point_pieces scope rect None is known = free_pieces scope (numbers_of rect)
 point_pieces scope rect (Some terms) is known = fixed_pieces scope terms (both (length terms == numbers_of rect) (list_all is_fixed_expression terms) is).1 known

@@ -22,7 +22,7 @@ use Rattle.rz_types.specs.Names.{GivesCounts, GivesPredefined}
 use Rattle.rz_types.specs.Passed.{declares, gives_count, gives_key, outside}
 use Rattle.rz_types.specs.Value.{names_sight}
 use Rattle.rz_types.specs.Walk.{is_among, names_of}
-use Rattle.rz_layout.proofs.Counts.{lower_eq}
+use Rattle.rz_types_fields.proofs.SameNames.{lower_name}
 
 -- Names in whatever case.
 
@@ -36,7 +36,7 @@ other_name one other is =
     (λ no. no)
 
 same_key : (one name : List ℕ) → str_eq_ignore_ascii_case one (str_to_ascii_lowercase name) ≡ true → count_key one ≡ count_key name
-same_key one name is = ap (λ (n : List ℕ). count_of n) ((same_lower one name).0 (sym (lower_eq one name) ∙ is))
+same_key one name is = ap (λ (n : List ℕ). count_of n) ((same_lower one name).0 (sym (lower_name one name) ∙ is))
 
 -- Names with the same values, as expressions see them.
 
@@ -162,13 +162,13 @@ no_count one (field_and (Fill unit count) fields) differs = no_count one fields 
 no_count one (field_and (Align unit) fields) differs = no_count one fields differs
 no_count one (field_and (Array None count row) fields) differs = no_count one fields differs
 no_count one (field_and (Array (Some name) count row) fields) differs =
-    ap (λ (test : Bool). test || declares fields (count_key one)) (lower_eq name.bytes one ∙ other_name one name.bytes differs.0)
+    ap (λ (test : Bool). test || declares fields (count_key one)) (lower_name name.bytes one ∙ other_name one name.bytes differs.0)
     ∙ no_count one fields differs.1
 no_count one (field_and (Switch cases) fields) differs = no_count one fields differs
 
 -- the number of rows of an array, by its own name
 own_count : (name : Word) (rows : ℕ) (outer : Environment) → (with_count (Some name) rows outer).give (count_key name.bytes) ≡ Some (pos rows)
-own_count name rows outer = ap (λ (test : Bool). if test then Some (pos rows) else outer.give (count_key name.bytes)) (lower_eq name.bytes name.bytes ∙ same_name name.bytes)
+own_count name rows outer = ap (λ (test : Bool). if test then Some (pos rows) else outer.give (count_key name.bytes)) (lower_name name.bytes name.bytes ∙ same_name name.bytes)
 
 pub counted_are : (body : PlainBody) (values : List Tree) (outer : Environment) → Differ (names_of body) → AreCounted body values (counted body values outer)
 counted_are no_fields values outer differ = tt
@@ -225,7 +225,7 @@ among_is name (field_and (Points points) fields) = among_is name fields
 among_is name (field_and (Fill unit count) fields) = among_is name fields
 among_is name (field_and (Align unit) fields) = among_is name fields
 among_is name (field_and (Array None count row) fields) = among_is name fields
-among_is name (field_and (Array (Some own) count row) fields) = λ i. sym (lower_eq own.bytes name) i || among_is name fields i
+among_is name (field_and (Array (Some own) count row) fields) = λ i. sym (lower_name own.bytes name) i || among_is name fields i
 among_is name (field_and (Switch cases) fields) = among_is name fields
 
 pub gives_counts : (scope : List Word) (body : PlainBody) (values : List Tree) (outer : Environment) → GivesCounts scope outer → GivesCounts (scope ++ names_of body) (counted body values outer)

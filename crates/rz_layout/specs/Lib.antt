@@ -1,6 +1,5 @@
 pub mod Fault
 pub mod Laid
-pub mod Names
 pub mod Sound
 pub mod Text
 pub mod Compiled

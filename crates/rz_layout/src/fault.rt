@@ -6,7 +6,7 @@ ghost use Rattle.rz_types_fields.specs.Laid.{value_refusal};
 use rz_expr::Unvalued;
 
 /// Why a row has no bytes. (MPW Rez.)
-#[derive(Clone, Copy, Debug, PartialEq, Eq)]
+#[derive(Clone, Copy, PartialEq, Eq)]
 pub struct LayFault {
     /// The number of the fault.
     pub number: u16,

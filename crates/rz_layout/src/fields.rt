@@ -2,7 +2,7 @@ ghost use Rattle.std.specs.Prelude.{IfOk, ◌≡◌, ◌≤◌, length, option_m
 ghost use Rattle.std.specs.declared.result.Result.{Result as Answer};
 ghost use Rattle.rz_layout.specs.Compiled.{is_compile_fault, IsCompiled, MeetsLaid};
 ghost use Rattle.rz_layout.specs.Laid.{draft_of, GivesLaid, Lays};
-ghost use Rattle.rz_layout.specs.Names.{known};
+ghost use Rattle.rz_types_fields.specs.Known.{known};
 ghost use Rattle.rz_layout.specs.Sound.{AreSound, IsCaseSound, IsSound};
 ghost use Rattle.rz_core.specs.Stop.{OnFault};
 ghost use Rattle.std.specs.List.{AllByRecursion};
@@ -14,7 +14,7 @@ ghost use Rattle.rz_types.specs.Template.{template_of};
 
 use crate::LayFault;
 use crate::laid::Laid;
-use crate::names::{Counted, NamesEnv, enter};
+use crate::names::enter;
 use crate::number::lay_number;
 use crate::points::lay_points;
 use crate::text::lay_text;
@@ -27,7 +27,7 @@ use rz_types::{
     Case, Field, Template, field_expressions_have_values, rules_hold_within, takes_value,
 };
 use rz_types_fields::values::{choice_in, line_in, next_value, rows_in};
-use rz_types_fields::{Row, Tree};
+use rz_types_fields::{NamesEnv, Note, Row, Tree};
 use std::alloc::Global;
 
 /// The bytes that a row spells under a template, for a resource of which so much is known; there is one such list of
@@ -78,8 +78,8 @@ fn compile_fields(
     ensures { GivesLaid (laid facts.now (plain_body fields.now) row.now) result }
 {
     let mut laid = Laid::new(alloc);
-    let mut counts = Vec::new(alloc);
-    lay_body(alloc, fields, row, facts, &mut counts, &mut laid)?;
+    let mut notes = Vec::new(alloc);
+    lay_body(alloc, fields, row, facts, &mut notes, &mut laid)?;
     let Laid { bits, piece: _ } = laid;
     Ok(bits.finish())
 }
@@ -91,23 +91,23 @@ fn lay_body<'a>(
     fields: &'a [Field],
     row: &[Tree],
     facts: &Facts,
-    counts: &mut Vec<Counted<'a>>,
+    notes: &mut Vec<Note<'a>>,
     laid: &mut Laid,
 ) -> Result<(), Stop<LayFault>>
     requires sound { AreSound (plain_body fields.now) row.now }
     requires short { length laid.old.bits ≤ most_bits }
-    ensures laid { Lays (body_laid facts.now (counted (plain_body fields.now) row.now (known counts.old.items)) (draft_of laid.old) (plain_body fields.now) row.now)
+    ensures laid { Lays (body_laid facts.now (counted (plain_body fields.now) row.now (known notes.old.items)) (draft_of laid.old) (plain_body fields.now) row.now)
         result (draft_of laid.new) }
     ensures short { IfOk result (λ _. length laid.new.bits ≤ most_bits) }
-    ensures counts { IfOk result (λ _. counts.new.items ≡ counts.old.items) }
+    ensures notes { IfOk result (λ _. notes.new.items ≡ notes.old.items) }
 {
-    let around = counts.len();
-    enter(fields, row, counts)?;
-    match lay_fields(alloc, fields, row, facts, counts, laid) {
+    let around = notes.len();
+    enter(fields, row, notes)?;
+    match lay_fields(alloc, fields, row, facts, notes, laid) {
         Ok(()) => {}
         Err(stop) => return Err(stop),
     }
-    counts.truncate(around);
+    notes.truncate(around);
     Ok(())
 }
 
@@ -118,19 +118,19 @@ fn lay_fields<'a>(
     fields: &'a [Field],
     row: &[Tree],
     facts: &Facts,
-    counts: &mut Vec<Counted<'a>>,
+    notes: &mut Vec<Note<'a>>,
     laid: &mut Laid,
 ) -> Result<(), Stop<LayFault>>
     requires sound { AreSound (plain_body fields.now) row.now }
     requires short { length laid.old.bits ≤ most_bits }
-    ensures laid { Lays (body_laid facts.now (known counts.old.items) (draft_of laid.old) (plain_body fields.now) row.now) result (draft_of laid.new) }
+    ensures laid { Lays (body_laid facts.now (known notes.old.items) (draft_of laid.old) (plain_body fields.now) row.now) result (draft_of laid.new) }
     ensures short { IfOk result (λ _. length laid.new.bits ≤ most_bits) }
-    ensures counts { IfOk result (λ _. counts.new.items ≡ counts.old.items) }
+    ensures notes { IfOk result (λ _. notes.new.items ≡ notes.old.items) }
 {
     let mut values = row;
     for field in fields {
         let next = next_value(takes_value(field), values);
-        match lay_field(alloc, field, next.value, facts, counts, laid) {
+        match lay_field(alloc, field, next.value, facts, notes, laid) {
             Ok(()) => values = next.others,
             Err(stop) => return Err(stop),
         }
@@ -145,19 +145,19 @@ fn lay_field<'a>(
     field: &'a Field,
     value: Option<&Tree>,
     facts: &Facts,
-    counts: &mut Vec<Counted<'a>>,
+    notes: &mut Vec<Note<'a>>,
     laid: &mut Laid,
 ) -> Result<(), Stop<LayFault>>
     requires sound { IsSound (plain_field field.now) (option_map (λ v. v.now) value) }
     requires short { length laid.old.bits ≤ most_bits }
-    ensures laid { Lays (field_laid facts.now (known counts.old.items) (draft_of laid.old) (plain_field field.now) (option_map (λ v. v.now) value.entry))
+    ensures laid { Lays (field_laid facts.now (known notes.old.items) (draft_of laid.old) (plain_field field.now) (option_map (λ v. v.now) value.entry))
         result (draft_of laid.new) }
     ensures short { IfOk result (λ _. length laid.new.bits ≤ most_bits) }
-    ensures counts { IfOk result (λ _. counts.new.items ≡ counts.old.items) }
+    ensures notes { IfOk result (λ _. notes.new.items ≡ notes.old.items) }
 {
     let names = NamesEnv {
         facts,
-        counts: counts.as_slice(),
+        notes: notes.as_slice(),
     };
     match field {
         Field::Num(number) => lay_number(number, value, &names, laid),
@@ -169,9 +169,9 @@ fn lay_field<'a>(
         Field::Align(unit) => laid.put_filler(*unit),
         Field::Array(array) => {
             let fields = array.row.as_slice();
-            lay_rows(alloc, fields, rows_in(value), facts, counts, laid)
+            lay_rows(alloc, fields, rows_in(value), facts, notes, laid)
         }
-        Field::Switch(cases) => lay_case(alloc, cases.as_slice(), value, facts, counts, laid),
+        Field::Switch(cases) => lay_case(alloc, cases.as_slice(), value, facts, notes, laid),
     }
 }
 
@@ -182,18 +182,18 @@ fn lay_rows<'a>(
     fields: &'a [Field],
     rows: &[Row],
     facts: &Facts,
-    counts: &mut Vec<Counted<'a>>,
+    notes: &mut Vec<Note<'a>>,
     laid: &mut Laid,
 ) -> Result<(), Stop<LayFault>>
     requires sound { AllByRecursion (AreSound (plain_body fields.now)) rows.now }
     requires short { length laid.old.bits ≤ most_bits }
-    ensures laid { Lays (rows_laid (λ draft line. body_laid facts.now (counted (plain_body fields.now) line (known counts.old.items)) draft (plain_body fields.now) line) (draft_of laid.old) rows.now)
+    ensures laid { Lays (rows_laid (λ draft line. body_laid facts.now (counted (plain_body fields.now) line (known notes.old.items)) draft (plain_body fields.now) line) (draft_of laid.old) rows.now)
         result (draft_of laid.new) }
     ensures short { IfOk result (λ _. length laid.new.bits ≤ most_bits) }
-    ensures counts { IfOk result (λ _. counts.new.items ≡ counts.old.items) }
+    ensures notes { IfOk result (λ _. notes.new.items ≡ notes.old.items) }
 {
     for row in rows {
-        match lay_body(alloc, fields, row.as_slice(), facts, counts, laid) {
+        match lay_body(alloc, fields, row.as_slice(), facts, notes, laid) {
             Ok(()) => {}
             Err(stop) => return Err(stop),
         }
@@ -208,21 +208,21 @@ fn lay_case<'a>(
     cases: &'a [Case],
     value: Option<&Tree>,
     facts: &Facts,
-    counts: &mut Vec<Counted<'a>>,
+    notes: &mut Vec<Note<'a>>,
     laid: &mut Laid,
 ) -> Result<(), Stop<LayFault>>
     requires sound { IsCaseSound (plain_cases cases.now) (option_map (λ v. v.now) value) }
     requires short { length laid.old.bits ≤ most_bits }
-    ensures laid { Lays (case_laid facts.now (known counts.old.items) (draft_of laid.old) (plain_cases cases.now) (option_map (λ v. v.now) value.entry))
+    ensures laid { Lays (case_laid facts.now (known notes.old.items) (draft_of laid.old) (plain_cases cases.now) (option_map (λ v. v.now) value.entry))
         result (draft_of laid.new) }
     ensures short { IfOk result (λ _. length laid.new.bits ≤ most_bits) }
-    ensures counts { IfOk result (λ _. counts.new.items ≡ counts.old.items) }
+    ensures notes { IfOk result (λ _. notes.new.items ≡ notes.old.items) }
 {
     let name = choice_in(value);
     let row = line_in(value);
     for case in cases {
         if case.name.is(name) {
-            return lay_body(alloc, case.row.as_slice(), row, facts, counts, laid);
+            return lay_body(alloc, case.row.as_slice(), row, facts, notes, laid);
         }
     }
     Ok(())

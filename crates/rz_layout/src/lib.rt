@@ -2,7 +2,7 @@
 //! exactly the first refusal, and there is always one of the two.
 //! A row of an array and the case of a switch that is chosen are laid as bodies of their own: inside, the names of
 //! their arrays have the numbers of their rows, and behind them no more.
-//! It rests on `rz_core`, `rz_expr`, `rz_bits`, `rz_types_fields`, `rz_types_fields`, which has the definitions of spelling, and
+//! It rests on `rz_core`, `rz_expr`, `rz_bits`, `rz_types_fields`, which has the definitions of spelling and the notes of names, and
 //! `rz_types`.
 //! A new kind of piece is a case of `IsStored` and of `piece_laid` in `rz_types_fields`, and one of `lay_field` here. A new
 //! kind of field with fields within it is a case of `FieldSpells` and of `field_laid` there, and one of `lay_field`

@@ -3,7 +3,7 @@ ghost use Rattle.rz_expr.specs.Term.{term_of};
 ghost use Rattle.rz_layout.specs.Laid.{draft_of, GivesLaid, Lays};
 ghost use Rattle.rz_layout.specs.Sound.{IsWidth};
 ghost use Rattle.rz_types.specs.Field.{plain_number};
-ghost use Rattle.rz_layout.specs.Names.{known};
+ghost use Rattle.rz_types_fields.specs.Known.{known};
 ghost use Rattle.rz_types_fields.specs.Laid.{fixed_number, lay, number_given, value_in};
 ghost use Rattle.rz_types_fields.specs.Spells.{most_bits};
 ghost use Rattle.rz_types.specs.Piece.{OneNumber};
@@ -11,12 +11,11 @@ ghost use Rattle.rz_types.specs.Piece.{OneNumber};
 use crate::LayFault;
 use crate::fault::value_fault;
 use crate::laid::Laid;
-use crate::names::NamesEnv;
 use rz_core::Stop;
 use rz_expr::{Expr, value_in};
 use rz_types::{NumField, NumForm, fits_number, stored_number};
-use rz_types_fields::Tree;
 use rz_types_fields::values::number_in;
+use rz_types_fields::{NamesEnv, Tree};
 
 /// Lays a number: that of the row, or the value of its expression.
 pub fn lay_number(
@@ -27,7 +26,7 @@ pub fn lay_number(
 ) -> Result<(), Stop<LayFault>>
     requires width { IsWidth field.now.width }
     requires short { length laid.old.bits ≤ most_bits }
-    ensures laid { Lays (lay names.now.facts.now (known names.now.counts.now) (draft_of laid.old) (OneNumber (plain_number field.now)) (option_map (λ v. v.now) value.entry)) result (draft_of laid.new) }
+    ensures laid { Lays (lay names.now.facts.now (known names.now.notes.now) (draft_of laid.old) (OneNumber (plain_number field.now)) (option_map (λ v. v.now) value.entry)) result (draft_of laid.new) }
     ensures short { IfOk result (λ _. length laid.new.bits ≤ most_bits) }
 {
     match number_given(field, value, names, laid.piece) {
@@ -44,7 +43,7 @@ fn number_given(
     piece: u64,
 ) -> Result<u32, Stop<LayFault>>
     requires width { IsWidth field.now.width }
-    ensures { GivesLaid (number_given piece names.now.facts.now (known names.now.counts.now) field.now.form field.now.width (option_map term_of field.now.fixed) (option_map (λ v. v.now) value.entry)) result }
+    ensures { GivesLaid (number_given piece names.now.facts.now (known names.now.notes.now) field.now.form field.now.width (option_map term_of field.now.fixed) (option_map (λ v. v.now) value.entry)) result }
 {
     match &field.fixed {
         Some(expr) => fixed_number(expr, field.form, field.width, names, piece),
@@ -61,7 +60,7 @@ pub fn fixed_number(
     piece: u64,
 ) -> Result<u32, Stop<LayFault>>
     requires { IsWidth width }
-    ensures { GivesLaid (fixed_number piece names.now.facts.now (known names.now.counts.now) form width (term_of expr.now)) result }
+    ensures { GivesLaid (fixed_number piece names.now.facts.now (known names.now.notes.now) form width (term_of expr.now)) result }
 {
     let value = match expression_value(expr, names, piece) {
         Ok(value) => value,
@@ -83,7 +82,7 @@ pub fn expression_value(
     names: &NamesEnv<'_>,
     piece: u64,
 ) -> Result<i32, Stop<LayFault>>
-    ensures { GivesLaid (value_in piece names.now.facts.now (known names.now.counts.now) (term_of expr.now)) result }
+    ensures { GivesLaid (value_in piece names.now.facts.now (known names.now.notes.now) (term_of expr.now)) result }
 {
     match value_in(expr, names) {
         Ok(value) => Ok(value),

@@ -1,7 +1,7 @@
 ghost use Rattle.std.specs.Prelude.{IfOk, ◌≡◌, ◌≤◌, [], length, map, option_map, replicate, None};
 ghost use Rattle.rz_expr.specs.Term.{term_of};
 ghost use Rattle.rz_layout.specs.Laid.{draft_of, Lays};
-ghost use Rattle.rz_layout.specs.Names.{known};
+ghost use Rattle.rz_types_fields.specs.Known.{known};
 ghost use Rattle.rz_layout.specs.Sound.{IsGroupOf};
 ghost use Rattle.rz_types_fields.specs.declared.tree.Tree.TheVariants as trees;
 ghost use Rattle.rz_types_fields.specs.Laid.{field_laid, in_order, lay, takes_one};
@@ -12,13 +12,12 @@ ghost use Rattle.rz_types.specs.Piece.{fixed_integer, free_integer};
 
 use crate::LayFault;
 use crate::laid::Laid;
-use crate::names::NamesEnv;
 use crate::number::fixed_number;
 use rz_core::Stop;
 use rz_expr::Expr;
 use rz_types::{NumForm, PointField};
-use rz_types_fields::Tree;
 use rz_types_fields::values::group_in;
+use rz_types_fields::{NamesEnv, Tree};
 
 /// Lays the numbers of a point or a rectangle: those of the row, or the values of its expressions.
 pub fn lay_points(
@@ -29,7 +28,7 @@ pub fn lay_points(
 ) -> Result<(), Stop<LayFault>>
     requires value { IsGroupOf (plain_points field.now) (option_map (λ v. v.now) value) }
     requires short { length laid.old.bits ≤ most_bits }
-    ensures laid { Lays (field_laid names.now.facts.now (known names.now.counts.now) (draft_of laid.old) (Points (plain_points field.now)) (option_map (λ v. v.now) value.entry)) result (draft_of laid.new) }
+    ensures laid { Lays (field_laid names.now.facts.now (known names.now.notes.now) (draft_of laid.old) (Points (plain_points field.now)) (option_map (λ v. v.now) value.entry)) result (draft_of laid.new) }
     ensures short { IfOk result (λ _. length laid.new.bits ≤ most_bits) }
 {
     match &field.fixed {
@@ -41,7 +40,7 @@ pub fn lay_points(
 /// Lays numbers of a row, each an `integer`.
 fn lay_group(numbers: &[u16], _names: &NamesEnv<'_>, laid: &mut Laid) -> Result<(), Stop<LayFault>>
     requires short { length laid.old.bits ≤ most_bits }
-    ensures laid { Lays (in_order takes_one (lay _names.now.facts.now (known _names.now.counts.now)) (draft_of laid.old) (replicate (length numbers.now) free_integer) (map trees.Number numbers.now))
+    ensures laid { Lays (in_order takes_one (lay _names.now.facts.now (known _names.now.notes.now)) (draft_of laid.old) (replicate (length numbers.now) free_integer) (map trees.Number numbers.now))
         result (draft_of laid.new) }
     ensures short { IfOk result (λ _. length laid.new.bits ≤ most_bits) }
 {
@@ -57,7 +56,7 @@ fn lay_group(numbers: &[u16], _names: &NamesEnv<'_>, laid: &mut Laid) -> Result<
 /// Lays the values of expressions, each an `integer`.
 fn lay_fixed(exprs: &[Expr], names: &NamesEnv<'_>, laid: &mut Laid) -> Result<(), Stop<LayFault>>
     requires short { length laid.old.bits ≤ most_bits }
-    ensures laid { Lays (in_order takes_one (lay names.now.facts.now (known names.now.counts.now)) (draft_of laid.old) (map fixed_integer (map term_of exprs.now)) []) result (draft_of laid.new) }
+    ensures laid { Lays (in_order takes_one (lay names.now.facts.now (known names.now.notes.now)) (draft_of laid.old) (map fixed_integer (map term_of exprs.now)) []) result (draft_of laid.new) }
     ensures short { IfOk result (λ _. length laid.new.bits ≤ most_bits) }
 {
     for expr in exprs {
@@ -72,7 +71,7 @@ fn lay_fixed(exprs: &[Expr], names: &NamesEnv<'_>, laid: &mut Laid) -> Result<()
 /// Lays the value of an expression as an `integer`.
 fn lay_expression(expr: &Expr, names: &NamesEnv<'_>, laid: &mut Laid) -> Result<(), Stop<LayFault>>
     requires short { length laid.old.bits ≤ most_bits }
-    ensures laid { Lays (lay names.now.facts.now (known names.now.counts.now) (draft_of laid.old) (fixed_integer (term_of expr.now)) None) result (draft_of laid.new) }
+    ensures laid { Lays (lay names.now.facts.now (known names.now.notes.now) (draft_of laid.old) (fixed_integer (term_of expr.now)) None) result (draft_of laid.new) }
     ensures short { IfOk result (λ _. length laid.new.bits ≤ most_bits) }
 {
     match fixed_number(expr, NumForm::Integer, 16, names, laid.piece) {

@@ -2,7 +2,7 @@ ghost use Rattle.std.specs.Prelude.{IfOk, ◌≡◌, ◌<◌, ◌≤◌, ◌^◌
 ghost use Rattle.rz_expr.specs.Term.{term_of};
 ghost use Rattle.rz_layout.specs.Laid.{draft_of, sized_put, text_put, GivesLaid, Lays};
 ghost use Rattle.rz_layout.specs.Fault.{refusal_of};
-ghost use Rattle.rz_layout.specs.Names.{known};
+ghost use Rattle.rz_types_fields.specs.Known.{known};
 ghost use Rattle.rz_layout.specs.Text.{sized_length, stored_length};
 ghost use Rattle.rz_types_fields.specs.Laid.{fixed_bytes, joined, lay, refusal, size_in, text_refusal};
 ghost use Rattle.rz_types_fields.specs.Spells.{most_bits, nowhere};
@@ -14,15 +14,14 @@ ghost use Rattle.rz_types.specs.Value.{names_sight};
 
 use crate::LayFault;
 use crate::laid::{Laid, one_more};
-use crate::names::NamesEnv;
 use crate::number::expression_value;
 use crate::push::push_text;
 use crate::valued::unvalued_in;
 use rz_core::{Bytes, Kept, Mark, Stop};
 use rz_expr::Expr;
 use rz_types::{TextField, TextForm, Texts, is_too_long, may_be_size, text_seen};
-use rz_types_fields::Tree;
 use rz_types_fields::values::text_in;
+use rz_types_fields::{NamesEnv, Tree};
 use std::alloc::Global;
 
 /// Lays a text: the bytes of the row, or those of its fixed parts, in its stored form.
@@ -34,7 +33,7 @@ pub fn lay_text(
     laid: &mut Laid,
 ) -> Result<(), Stop<LayFault>>
     requires short { length laid.old.bits ≤ most_bits }
-    ensures laid { Lays (lay names.now.facts.now (known names.now.counts.now) (draft_of laid.old) (OneText (plain_text field.now)) (option_map (λ v. v.now) value.entry)) result (draft_of laid.new) }
+    ensures laid { Lays (lay names.now.facts.now (known names.now.notes.now) (draft_of laid.old) (OneText (plain_text field.now)) (option_map (λ v. v.now) value.entry)) result (draft_of laid.new) }
     ensures short { IfOk result (λ _. length laid.new.bits ≤ most_bits) }
 {
     match size_in(&field.size, names, laid.piece) {
@@ -53,7 +52,7 @@ fn lay_sized(
     laid: &mut Laid,
 ) -> Result<(), Stop<LayFault>>
     requires short { length laid.old.bits ≤ most_bits }
-    ensures laid { Lays (sized_put names.now.facts.now (known names.now.counts.now) (draft_of laid.old) (plain_text field.now) size (option_map (λ v. v.now) value.entry)) result (draft_of laid.new) }
+    ensures laid { Lays (sized_put names.now.facts.now (known names.now.notes.now) (draft_of laid.old) (plain_text field.now) size (option_map (λ v. v.now) value.entry)) result (draft_of laid.new) }
     ensures short { IfOk result (λ _. length laid.new.bits ≤ most_bits) }
 {
     match &field.fixed {
@@ -71,7 +70,7 @@ fn size_in(
     names: &NamesEnv<'_>,
     piece: u64,
 ) -> Result<Option<i32>, Stop<LayFault>>
-    ensures { GivesLaid (size_in piece names.now.facts.now (known names.now.counts.now) (option_map term_of size.now)) result }
+    ensures { GivesLaid (size_in piece names.now.facts.now (known names.now.notes.now) (option_map term_of size.now)) result }
 {
     match size {
         Some(expr) => match expression_value(expr, names, piece) {
@@ -90,9 +89,10 @@ fn fixed_bytes(
     names: &NamesEnv<'_>,
     piece: u64,
 ) -> Result<Bytes, Stop<LayFault>>
-    ensures { GivesLaid (fixed_bytes piece names.now.facts.now (known names.now.counts.now) (plain_parts parts.now)) result }
+    ensures { GivesLaid (fixed_bytes piece names.now.facts.now (known names.now.notes.now) (plain_parts parts.now)) result }
 {
-    match unvalued_in(parts, names, piece) {
+    let unvalued = unvalued_in(alloc, parts, names, piece)?;
+    match unvalued {
         Some(fault) => Err(Stop::Refused(fault)),
         None => joined_bytes(alloc, parts, names, piece),
     }
@@ -105,7 +105,7 @@ fn joined_bytes(
     names: &NamesEnv<'_>,
     piece: u64,
 ) -> Result<Bytes, Stop<LayFault>>
-    ensures { GivesLaid (joined piece (bytes_seen nowhere names.now.facts.now (names_sight names.now.facts.now (known names.now.counts.now)) (plain_parts parts.now))) result }
+    ensures { GivesLaid (joined piece (bytes_seen nowhere names.now.facts.now (names_sight names.now.facts.now (known names.now.notes.now)) (plain_parts parts.now))) result }
 {
     match text_seen(alloc, parts, Mark { file: 0, line: 0 }, names.facts, names) {
         Ok(bytes) => Ok(bytes),

@@ -2,10 +2,10 @@
 use Rattle.std.specs.Prelude.{List}
 use Rattle.rz_expr.specs.Environment.{Environment}
 use Rattle.rz_unlay_pieces.specs.Pieces.{Step}
-use Rattle.rz_unlay_pieces.specs.Names.{known}
+use Rattle.rz_types_fields.specs.Known.{known}
 use Rattle.rz_unlay_pieces.specs.declared.came.Came.{Came}
 use Rattle.rz_unlay_pieces.specs.declared.came.Met.{Met}
-use Rattle.rz_unlay_pieces.specs.declared.names.Note.{Note}
+use Rattle.rz_types_fields.specs.declared.names.Note.{Note}
 
 -- a value or none that stands at a piece or at a field, where so much is known behind it
 abbrev pub step_in : Environment → Came → Step

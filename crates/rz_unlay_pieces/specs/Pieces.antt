@@ -4,7 +4,6 @@ use Rattle.std.specs.Prelude.{ℕ, ◌+◌, ◌-◌, ◌*◌, ◌/◌, ◌%◌, 
 use Rattle.std.specs.Ordering.{int_eq}
 use Rattle.std.specs.Result.{result_ok}
 use Rattle.std.specs.declared.result.Result.{Result}
-use Rattle.rz_core.specs.Lists.{or_else}
 use Rattle.rz_core.specs.declared.facts.Facts.{Facts}
 use Rattle.rz_core.specs.declared.resource.Word.{Word}
 use Rattle.rz_expr.specs.Environment.{count_key, place_key, Environment, Key, Sight}
@@ -15,10 +14,10 @@ use Rattle.rz_bits.specs.BitBuf.{missing}
 use Rattle.rz_types_fields.specs.declared.field.NumForm.{NumForm}
 use Rattle.rz_types_fields.specs.declared.field.TextForm.{TextForm}
 use Rattle.rz_types_fields.specs.declared.field.TextForm.TheVariants as texts
-use Rattle.rz_types_fields.specs.Field.{field_and, no_fields, Array, Number, PlainBody, PlainField, PlainText, Points, Text}
+use Rattle.rz_types_fields.specs.Field.{PlainBody, PlainField, PlainText, Points}
 use Rattle.rz_types_fields.specs.Range.{fits_number, may_be_size}
 use Rattle.rz_types_fields.specs.Solve.{is_same_key, solved_count}
-use Rattle.rz_types_fields.specs.Passed.{declares, gives_count, states_count}
+use Rattle.rz_types_fields.specs.Laid.{with_count}
 use Rattle.rz_types_fields.specs.Piece.{pieces_of, Filler, OneNumber, OneText, Piece, Zeros}
 use Rattle.rz_types_fields.specs.Stored.{stored_number, stored_text}
 use Rattle.rz_types_fields.specs.Text.{bytes_seen, PlainPart}
@@ -35,11 +34,8 @@ abbrev pub also : Key → ℤ → Environment → Environment
 also key value names = record { give = λ other. if is_same_key key other then Some value else names.give other }
 
 -- the number of rows of an array, unless another was known
-abbrev pub also_count : Option Word → ℕ → Environment → Environment
-also_count name rows names = record { give = λ key. if gives_count name key then Some (pos rows) else names.give key }
-
 abbrev pub count_claimed : Option ℤ → Option Word → ℕ → Environment → Option Environment
-count_claimed None name rows names = Some (also_count name rows names)
+count_claimed None name rows names = Some (with_count name rows names)
 count_claimed (Some known) name rows names = if int_eq known (pos rows) then Some names else None
 
 abbrev pub known_count : Option Word → Environment → Option ℤ
@@ -222,17 +218,3 @@ value_of_field field values = first_of_row values
 abbrev pub field_of_pieces : Facts → List Bool → PlainBody → PlainField → Environment → ℕ → Option Step
 field_of_pieces known all rest field names at =
     option_map (λ f. record { value = value_of_field field f.row; after = f.after; names = f.names }) (pieces_found known all rest (pieces_of field) names at)
-
--- Names at the front of a body.
-
--- a body's own names have no value but their stated counts
-abbrev pub stated_value : Option Word → Option ℤ → Key → Option ℤ
-stated_value name count key = if states_count name count key then count else None
-
-abbrev pub stated_in : PlainBody → Key → Option ℤ
-stated_in no_fields key = None
-stated_in (field_and (Array name count row) fields) key = or_else (stated_value name count key) (stated_in fields key)
-stated_in (field_and field fields) key = stated_in fields key
-
-abbrev pub names_inside : PlainBody → Environment → Environment
-names_inside body names = record { give = λ key. if declares body key then stated_in body key else names.give key }

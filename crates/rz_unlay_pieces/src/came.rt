@@ -4,7 +4,7 @@ ghost use Rattle.rz_unlay_pieces.specs.Few.{value_count};
 use rz_types_fields::Tree;
 
 /// What stands at a piece or at a field without fields within it.
-#[derive(Debug, Drop)]
+#[derive(Drop)]
 pub struct Came {
     /// Its value, where the row has one.
     pub value: Option<Tree>,
@@ -16,7 +16,7 @@ pub struct Came {
 }
 
 /// What stands at a field.
-#[derive(Debug, Drop)]
+#[derive(Drop)]
 pub struct Met {
     /// Its value, where the row has one.
     pub value: Option<Tree>,

@@ -6,17 +6,16 @@ ghost use Rattle.rz_unlay_pieces.specs.Came.{met_in, step_in, step_of};
 ghost use Rattle.rz_unlay_pieces.specs.Pieces.{field_of_pieces};
 ghost use Rattle.rz_unlay_pieces.specs.Few.{few, step_count, value_count};
 ghost use Rattle.rz_unlay_pieces.specs.Fits.{Fits};
-ghost use Rattle.rz_unlay_pieces.specs.Names.{known, Grew};
+ghost use Rattle.rz_types_fields.specs.Known.{known, Grew};
 
 use crate::came::{Came, Met};
-use crate::names::{NamesEnv, Note};
 use crate::number::read_number;
 use crate::points::read_points;
 use crate::text::read_text;
 use crate::zeros::{read_filler, read_zeros};
 use rz_bits::BitView;
 use rz_core::{Facts, NoMemory};
-use rz_types_fields::Field;
+use rz_types_fields::{Field, NamesEnv, Note};
 use std::alloc::Global;
 
 /// Reads the pieces of a field at a place, which is in bits; one with fields within it has none. What they tell of names

@@ -8,15 +8,14 @@ ghost use Rattle.rz_types_fields.specs.Value.{is_fixed_expression, names_sight};
 ghost use Rattle.rz_unlay_pieces.specs.Came.{step_in, step_of};
 ghost use Rattle.rz_unlay_pieces.specs.Pieces.{is_stored, number_step};
 ghost use Rattle.rz_unlay_pieces.specs.Fits.{FixedFits};
-ghost use Rattle.rz_unlay_pieces.specs.Names.{known, Grew};
+ghost use Rattle.rz_types_fields.specs.Known.{known, Grew};
 
 use crate::came::Came;
-use crate::names::{NamesEnv, Note};
 use crate::solve::solve_all;
 use rz_bits::BitView;
 use rz_core::{Facts, NoMemory};
 use rz_expr::{Expr, value_in};
-use rz_types_fields::{NumField, NumForm, Tree, fits_number, stored_number};
+use rz_types_fields::{NamesEnv, Note, NumField, NumForm, Tree, fits_number, stored_number};
 
 /// Reads a number: its bits are the value of the row, or are as its expression is stored, which tells the names that
 /// aren't known. `Ok(None)` where they aren't there or aren't stored so.

@@ -10,16 +10,15 @@ ghost use Rattle.rz_types_fields.specs.Value.{is_fixed_expression};
 ghost use Rattle.rz_unlay_pieces.specs.Came.{step_in, step_of};
 ghost use Rattle.rz_unlay_pieces.specs.Pieces.{field_of_pieces};
 ghost use Rattle.rz_unlay_pieces.specs.Fits.{PointsFit};
-ghost use Rattle.rz_unlay_pieces.specs.Names.{known, Grew};
+ghost use Rattle.rz_types_fields.specs.Known.{known, Grew};
 ghost use Rattle.rz_unlay_pieces.specs.Points.{fixed_read, group_read};
 
 use crate::came::Came;
-use crate::names::Note;
 use crate::number::read_fixed;
 use rz_bits::BitView;
 use rz_core::{Facts, NoMemory};
 use rz_expr::Expr;
-use rz_types_fields::{Field, NumForm, Numbers, PointField, Tree};
+use rz_types_fields::{Field, Note, NumForm, Numbers, PointField, Tree};
 use std::alloc::Global;
 
 /// Reads a point or a rectangle: two or four numbers of 16 bits.

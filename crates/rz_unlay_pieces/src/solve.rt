@@ -7,12 +7,13 @@ ghost use Rattle.rz_expr.specs.Value.{value_of};
 ghost use Rattle.rz_types_fields.specs.Solve.{exact, has_key, in_64_bits, solve, solved_count, undo_left, undo_one, undo_right};
 ghost use Rattle.rz_types_fields.specs.Value.{is_fixed_expression, names_sight};
 ghost use Rattle.rz_unlay_pieces.specs.Pieces.{also, solve_all, solve_key};
-ghost use Rattle.rz_unlay_pieces.specs.Names.{known, told, Grew};
+ghost use Rattle.rz_unlay_pieces.specs.Names.{told};
+ghost use Rattle.rz_types_fields.specs.Known.{known, Grew};
 ghost use Rattle.rz_unlay_pieces.specs.Power.{power_of};
 
-use crate::names::{NamesEnv, Note, is_same, rows_of};
 use rz_core::{Facts, NoMemory, Word};
 use rz_expr::{BinaryOp, Expr, UnaryOp, value_in};
+use rz_types_fields::{KeyRef, NamesEnv, Note, is_same_key, rows_of, standing_of};
 
 /// Solves the names of an expression that have no value yet, one after the other: each has the value with which the
 /// whole expression is stored as this number. False where there is none.
@@ -73,11 +74,11 @@ fn solve_name<'a>(
 /// Notes the number of rows of an array, where it was solved.
 fn tell<'a>(
     name: &'a Word,
-    solved: Option<u32>,
+    solved: Option<i64>,
     notes: &mut Vec<Note<'a>>,
 ) -> Result<bool, NoMemory>
     ensures known { IfOk result (λ holds. told holds (known notes.new.items)
-        ≡ option_and_then (λ value. Some (also (count_key name.now.bytes) value (known notes.old.items))) (option_map (λ rows. pos rows) solved)) }
+        ≡ option_and_then (λ value. Some (also (count_key name.now.bytes) value (known notes.old.items))) solved) }
     ensures grew { IfOk result (λ holds. Grew notes.old.items notes.new.items) }
 {
     match solved {
@@ -97,10 +98,9 @@ fn solved_count(
     stored: u32,
     facts: &Facts,
     notes: &[Note<'_>],
-) -> Option<u32>
+) -> Option<i64>
     requires { width ≤ 32 }
-    ensures { option_map (λ rows. pos rows) result
-        ≡ solved_count width (count_key name.now.bytes) (names_sight facts.now (known notes.now)) (term_of whole.now) stored }
+    ensures { result ≡ solved_count width (count_key name.now.bytes) (names_sight facts.now (known notes.now)) (term_of whole.now) stored }
 {
     let names = NamesEnv { facts, notes };
     match solve(name, whole, &names, i64::from(stored)) {
@@ -110,11 +110,11 @@ fn solved_count(
 }
 
 /// The last binary digits of a number in two's complement, so many.
-fn lowest(number: i64, width: u32) -> u32
+fn lowest(number: i64, width: u32) -> i64
     requires { width ≤ 32 }
-    ensures { result ≡ cast_unsigned w64 number % 2 ^ width }
+    ensures { result ≡ pos (cast_unsigned w64 number % 2 ^ width) }
 {
-    (number.cast_unsigned() % 2_u64.pow(width)) as u32
+    (number.cast_unsigned() % 2_u64.pow(width)) as i64
 }
 
 /// The number of rows that the array of this name has for the expression to come to a number.
@@ -123,7 +123,7 @@ fn solve(name: &Word, expr: &Expr, names: &NamesEnv<'_>, number: i64) -> Option<
 {
     match expr {
         Expr::Count(other) => {
-            if is_same(name, other) {
+            if is_same_key(KeyRef::Count(name), KeyRef::Count(other)) {
                 Some(number)
             } else {
                 None
@@ -170,13 +170,7 @@ fn known_side(expr: &Expr, names: &NamesEnv<'_>) -> Option<i32>
 fn has_name(expr: &Expr, name: &Word) -> bool
     ensures { result ≡ has_key (count_key name.now.bytes) (term_of expr.now) }
 {
-    match expr {
-        Expr::Count(other) => is_same(name, other),
-        Expr::Unary(_, operand) => has_name(operand, name),
-        Expr::Binary(_, left, right) => has_name(left, name) || has_name(right, name),
-        Expr::Bits(_, start, width) => has_name(start, name) || has_name(width, name),
-        Expr::Number(_) | Expr::Name(_) | Expr::Fact(_) => false,
-    }
+    standing_of(KeyRef::Count(name), expr).stands
 }
 
 /// The operand of which an operator made this number, where it has 64 bits.

@@ -10,18 +10,18 @@ ghost use Rattle.rz_types_fields.specs.Value.{names_sight};
 ghost use Rattle.rz_types_fields.specs.Spells.{nowhere};
 ghost use Rattle.rz_unlay_pieces.specs.Came.{step_in};
 ghost use Rattle.rz_unlay_pieces.specs.Pieces.{bytes_left, size_read, stored_size, text_size, text_step, up_to_zero};
-ghost use Rattle.rz_unlay_pieces.specs.Names.{known};
+ghost use Rattle.rz_types_fields.specs.Known.{known};
 ghost use Rattle.rz_unlay_pieces.specs.Texts.{raw_step, sized_step};
 
 use crate::came::Came;
-use crate::names::NamesEnv;
 use crate::plain::plain_text;
 use crate::stored::{is_stored_fixed, is_stored_text, stored_length};
 use rz_bits::BitView;
 use rz_core::{Bytes, Mark, NoMemory, Stop};
 use rz_expr::{Expr, value_in};
 use rz_types_fields::{
-    Field, TextField, TextForm, Texts, Tree, fixed_widths, may_be_size, sized_bytes, text_seen,
+    Field, NamesEnv, TextField, TextForm, Texts, Tree, fixed_widths, may_be_size, sized_bytes,
+    text_seen,
 };
 use std::alloc::Global;
 

@@ -1,11 +1,11 @@
 use Rattle.std.proofs.Common.{◌≡◌, drop}
-use Rattle.rz_layout.specs.Names.{known, Grew}
+use Rattle.rz_types_fields.specs.Known.{known, Grew}
 use Rattle.rz_types_fields.specs.Laid.{counted}
 use Rattle.rz_types.specs.Field.{plain_body}
 use Rattle.rz_layout.proofs.names.enter.Given as goal
 
 abbrev pub invariant-loop-field : goal.invariant-loop-field
 invariant-loop-field l = record {
-  known : counted (plain_body (drop l.field-index l.fields)) l.values (known l.counts.items) ≡ counted (plain_body l.fields) l.row (known l.fn.counts.items);
-  grew : Grew l.fn.counts.items l.counts.items;
+  known : counted (plain_body (drop l.field-index l.fields)) l.values (known l.notes.items) ≡ counted (plain_body l.fields) l.row (known l.fn.notes.items);
+  grew : Grew l.fn.notes.items l.notes.items;
 }

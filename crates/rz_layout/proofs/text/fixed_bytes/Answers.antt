@@ -1,6 +1,8 @@
-use Rattle.std.proofs.Common.{Option, sym, ap, subst}
+use Rattle.std.proofs.Common.{Option, sym, ap, subst, ◌∙◌}
+use Rattle.std.specs.Prelude.{option_map}
+use Rattle.rz_layout.specs.Fault.{refusal_of}
 use Rattle.rz_layout.specs.Laid.{GivesLaid}
-use Rattle.rz_layout.specs.Names.{known}
+use Rattle.rz_types_fields.specs.Known.{known}
 use Rattle.rz_types_fields.specs.Laid.{behind_refusal, joined, Refusal}
 use Rattle.rz_types_fields.specs.Spells.{nowhere}
 use Rattle.rz_types.specs.Text.{bytes_seen, plain_parts}
@@ -9,10 +11,10 @@ use Rattle.rz_layout.proofs.text.fixed_bytes.Goals as goal
 
 pub returns-in-Some : goal.returns-in-Some
 returns-in-Some c =
-    let given = joined c.args.piece (bytes_seen nowhere c.args.names.now.facts.now (names_sight c.args.names.now.facts.now (known c.args.names.now.counts.now)) (plain_parts c.args.parts.now)) in
-    ap (λ (found : Option Refusal). behind_refusal found given) (sym c.in-Some.ensures)
+    let given = joined c.args.piece (bytes_seen nowhere c.args.names.now.facts.now (names_sight c.args.names.now.facts.now (known c.args.names.now.notes.now)) (plain_parts c.args.parts.now)) in
+    ap (λ (found : Option Refusal). behind_refusal found given) (sym (ap (option_map refusal_of) (sym c.in-Some.is) ∙ c.in_ok-unvalued.ensures))
 
 pub returns-in-None : goal.returns-in-None
 returns-in-None c =
-    let given = joined c.args.piece (bytes_seen nowhere c.args.names.now.facts.now (names_sight c.args.names.now.facts.now (known c.args.names.now.counts.now)) (plain_parts c.args.parts.now)) in
-    subst (λ (found : Option Refusal). GivesLaid (behind_refusal found given) c.joined_bytes.result) c.in-None.ensures c.joined_bytes.ensures
+    let given = joined c.args.piece (bytes_seen nowhere c.args.names.now.facts.now (names_sight c.args.names.now.facts.now (known c.args.names.now.notes.now)) (plain_parts c.args.parts.now)) in
+    subst (λ (found : Option Refusal). GivesLaid (behind_refusal found given) c.joined_bytes.result) (ap (option_map refusal_of) (sym c.in-None.is) ∙ c.in_ok-unvalued.ensures) c.joined_bytes.ensures

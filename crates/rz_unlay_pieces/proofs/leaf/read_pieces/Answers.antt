@@ -4,8 +4,8 @@ use Rattle.rz_bits.specs.View.{seen}
 use Rattle.rz_types_fields.specs.Field.{plain_body, plain_text}
 use Rattle.rz_unlay_pieces.specs.Came.{step_of}
 use Rattle.rz_unlay_pieces.specs.Pieces.{text_step, Step}
-use Rattle.rz_unlay_pieces.specs.Names.{known}
-use Rattle.rz_unlay_pieces.specs.declared.names.Note.{Note}
+use Rattle.rz_types_fields.specs.Known.{known}
+use Rattle.rz_types_fields.specs.declared.names.Note.{Note}
 use Rattle.rz_unlay_pieces.proofs.LeafSteps.{number_piece, text_piece}
 use Rattle.rz_unlay_pieces.proofs.leaf.read_pieces.Goals as goal
 

@@ -8,7 +8,8 @@ use Rattle.rz_expr.specs.Value.{value_of}
 use Rattle.rz_types_fields.specs.Solve.{solved_count}
 use Rattle.rz_types_fields.specs.Value.{names_sight}
 use Rattle.rz_unlay_pieces.specs.Pieces.{is_stored, solve_all}
-use Rattle.rz_unlay_pieces.specs.Names.{known, told}
+use Rattle.rz_unlay_pieces.specs.Names.{told}
+use Rattle.rz_types_fields.specs.Known.{known}
 use Rattle.rz_unlay_pieces.proofs.PieceSteps.{not_solved, number_stored}
 use Rattle.rz_unlay_pieces.proofs.number.read_fixed.Goals as goal
 

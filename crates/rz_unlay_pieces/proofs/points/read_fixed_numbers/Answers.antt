@@ -4,8 +4,8 @@ use Rattle.rz_bits.specs.View.{seen}
 use Rattle.rz_expr.specs.Term.{term_of}
 use Rattle.rz_types_fields.specs.Field.{plain_body}
 use Rattle.rz_unlay_pieces.specs.Came.{step_of}
-use Rattle.rz_unlay_pieces.specs.Names.{known}
-use Rattle.rz_unlay_pieces.proofs.Noting.{grew_more}
+use Rattle.rz_types_fields.specs.Known.{known}
+use Rattle.rz_types_fields.proofs.Noting.{grew_more}
 use Rattle.rz_unlay_pieces.proofs.PieceSteps.{exprs_first, expr_more, exprs_over, no_expr, no_exprs}
 use Rattle.rz_unlay_pieces.proofs.points.read_fixed_numbers.Goals as goal
 

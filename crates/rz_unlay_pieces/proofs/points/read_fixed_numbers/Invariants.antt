@@ -6,7 +6,7 @@ use Rattle.rz_types_fields.specs.Field.{plain_body}
 use Rattle.rz_types_fields.specs.Piece.{fixed_integer}
 use Rattle.rz_types_fields.specs.Value.{is_fixed_expression}
 use Rattle.rz_unlay_pieces.specs.Pieces.{pieces_found}
-use Rattle.rz_unlay_pieces.specs.Names.{known, Grew}
+use Rattle.rz_types_fields.specs.Known.{known, Grew}
 use Rattle.rz_unlay_pieces.proofs.points.read_fixed_numbers.Given as goal
 
 abbrev pub invariant-loop-expr : goal.invariant-loop-expr

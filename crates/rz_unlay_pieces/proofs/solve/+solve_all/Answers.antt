@@ -5,7 +5,8 @@ use Rattle.rz_expr.specs.declared.expr.Expr.{Expr}
 use Rattle.rz_types_fields.specs.Solve.{solved_count}
 use Rattle.rz_types_fields.specs.Value.{is_fixed_expression, names_sight}
 use Rattle.rz_unlay_pieces.specs.Pieces.{solve_all}
-use Rattle.rz_unlay_pieces.specs.Names.{known, told}
+use Rattle.rz_unlay_pieces.specs.Names.{told}
+use Rattle.rz_types_fields.specs.Known.{known}
 use Rattle.rz_unlay_pieces.proofs.Noting.{place_solved}
 use Rattle.rz_unlay_pieces.proofs.Undone.{both_solved}
 use Rattle.rz_unlay_pieces.proofs.solve.+solve_all.Goals as goal

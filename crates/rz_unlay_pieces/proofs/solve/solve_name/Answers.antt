@@ -5,8 +5,9 @@ use Rattle.rz_expr.specs.Term.{term_of}
 use Rattle.rz_types_fields.specs.Solve.{solved_count}
 use Rattle.rz_types_fields.specs.Value.{names_sight}
 use Rattle.rz_unlay_pieces.specs.Pieces.{also, solve_key}
-use Rattle.rz_unlay_pieces.specs.Names.{known, told}
-use Rattle.rz_unlay_pieces.specs.declared.names.Note.{Note}
+use Rattle.rz_unlay_pieces.specs.Names.{told}
+use Rattle.rz_types_fields.specs.Known.{known}
+use Rattle.rz_types_fields.specs.declared.names.Note.{Note}
 use Rattle.rz_unlay_pieces.proofs.solve.solve_name.Goals as goal
 
 pub returns-in-None-clause-known : goal.returns-in-None-clause-known

@@ -4,7 +4,7 @@ use Rattle.rz_bits.specs.View.{seen}
 use Rattle.rz_types_fields.specs.Field.{plain_body, plain_text}
 use Rattle.rz_unlay_pieces.specs.Came.{step_in}
 use Rattle.rz_unlay_pieces.specs.Pieces.{Step}
-use Rattle.rz_unlay_pieces.specs.Names.{known}
+use Rattle.rz_types_fields.specs.Known.{known}
 use Rattle.rz_unlay_pieces.proofs.TextSteps.{no_text, text_found}
 use Rattle.rz_unlay_pieces.proofs.text.read_text.Goals as goal
 

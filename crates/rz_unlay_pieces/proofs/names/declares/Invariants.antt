@@ -1,8 +1,0 @@
-use Rattle.std.proofs.Common.{◌≡◌, drop}
-use Rattle.rz_expr.specs.Environment.{count_key}
-use Rattle.rz_types_fields.specs.Field.{plain_body}
-use Rattle.rz_types_fields.specs.Passed.{declares}
-use Rattle.rz_unlay_pieces.proofs.names.declares.Given as goal
-
-abbrev pub invariant-loop-field : goal.invariant-loop-field
-invariant-loop-field l = declares (plain_body (drop l.field-index l.fields)) (count_key l.name.bytes) ≡ declares (plain_body l.fields) (count_key l.name.bytes)
