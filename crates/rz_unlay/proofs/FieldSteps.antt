@@ -19,12 +19,13 @@ use Rattle.rz_types.specs.Field.{plain_body, plain_cases, plain_field, PlainBody
 use Rattle.rz_types.specs.Width.{capped, case_keys}
 use Rattle.rz_unlay.specs.Came.{chosen, found_of, line_in, row_at}
 use Rattle.rz_unlay.specs.Cursor.{body_found, case_found, field_found, has_keys, line_of, rows_at, rows_by, rows_while, up_to_end, Line, Lines}
-use Rattle.rz_unlay_pieces.specs.Pieces.{claim_count, names_inside, with_value, Found, Step}
+use Rattle.rz_unlay_pieces.specs.Pieces.{claim_count, with_value, Found, Step}
+use Rattle.rz_types_fields.specs.Known.{names_inside}
 use Rattle.rz_unlay_pieces.specs.Few.{few, step_count, value_count}
 use Rattle.rz_unlay.specs.Few.{found_count, line_count, lines_count}
 use Rattle.rz_unlay_pieces.specs.Fits.{AreFit, CasesFit, Fits}
 use Rattle.rz_unlay.specs.declared.came.RowCame.{RowCame}
-use Rattle.rz_unlay_pieces.specs.declared.names.Note.{Note}
+use Rattle.rz_types_fields.specs.declared.names.Note.{Note}
 use Rattle.rz_unlay.specs.Rows.{pushed, stop_at}
 use Rattle.rz_unlay.proofs.FewValues.{count_choice, count_rows, few_fits, first_within, line_behind, no_line, no_more, none_behind, some_behind, some_same, value_behind, value_less}
 

@@ -16,7 +16,8 @@ use Rattle.rz_types.specs.Readable.{are_cases_read, are_read, is_read, is_readab
 use Rattle.rz_types.specs.Shape.{are_cases_shaped, are_shaped, is_none_or, is_own_name, is_shaped, is_well_shaped}
 use Rattle.rz_types.specs.Passed.{at_front, behind, nothing_passed, outside, Passed}
 use Rattle.rz_unlay.specs.Cursor.{body_found, case_found, count_known, ended, field_found, line_of, reading, rows_by}
-use Rattle.rz_unlay_pieces.specs.Pieces.{claim_count, names_inside, with_value, Found, Step}
+use Rattle.rz_unlay_pieces.specs.Pieces.{claim_count, with_value, Found, Step}
+use Rattle.rz_types_fields.specs.Known.{names_inside}
 use Rattle.rz_unlay.proofs.ReadsBits.{length_zeros, number_zeros}
 use Rattle.rz_unlay.proofs.ReadsPieces.{align_field, fill_field, number_field, points_field, text_field}
 use Rattle.rz_unlay.proofs.ReadsKeys.{case_keys_there, keys_absent, keys_found}

@@ -24,7 +24,8 @@ use Rattle.rz_types.specs.Readable.{all_known, is_number_read, tells, tells_one}
 use Rattle.rz_types.specs.Solve.{can_solve, has_key, in_64_bits, is_same_key, is_same_name, solve, solved_count, undo_left, undo_one, undo_right, AreSolved, IsSolvedTo, SolvesBack}
 use Rattle.rz_types.specs.Passed.{at_front, behind, declares, gives_count, is_known, nothing_passed, outside, states, told_by, Names, Passed}
 use Rattle.rz_types.specs.Value.{names_sight}
-use Rattle.rz_unlay_pieces.specs.Pieces.{names_inside, number_step, stated_in, Step}
+use Rattle.rz_unlay_pieces.specs.Pieces.{number_step, Step}
+use Rattle.rz_types_fields.specs.Known.{names_inside, stated_in}
 use Rattle.rz_unlay.proofs.ReadsTests.{some_is}
 use Rattle.rz_unlay.proofs.ReadsNumber.{number_goes}
 use Rattle.rz_unlay.proofs.Sees.{both_true, Covers}

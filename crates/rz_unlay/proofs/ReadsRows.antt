@@ -13,7 +13,8 @@ use Rattle.rz_types.specs.Field.{PlainBody}
 use Rattle.rz_types.specs.Readable.{ends_at_end, is_count_known, least_widths, rows_end}
 use Rattle.rz_types.specs.Passed.{gives_count, is_known, Passed}
 use Rattle.rz_types.specs.Width.{fixed_widths}
-use Rattle.rz_unlay_pieces.specs.Pieces.{also_count, claim_count, count_claimed, known_count}
+use Rattle.rz_unlay_pieces.specs.Pieces.{claim_count, count_claimed, known_count}
+use Rattle.rz_types_fields.specs.Laid.{with_count}
 use Rattle.rz_unlay.specs.Cursor.{count_known, rows_at, rows_by, rows_while, up_to_end, Line}
 use Rattle.rz_unlay.proofs.ReadsNames.{count_same, counted_at, folded, is_lower, known_same, lower_own, Knows}
 use Rattle.rz_unlay.proofs.ReadsTests.{below, not_below, some_is, there_is}
@@ -129,14 +130,14 @@ without_own : (low own met told : Bool) → own ≡ false → (low && ((own || m
 without_own low true met told none is = absurd cc
 without_own low false met told none is = is
 
-with_count : (name : Option Word) (rows : ℕ) (passed : Passed) (names : Environment) → Knows passed names → Knows (passed_behind passed name) (also_count name rows names)
-with_count name rows passed names knows key is = by (gives_count name key) refl
+still_knows : (name : Option Word) (rows : ℕ) (passed : Passed) (names : Environment) → Knows passed names → Knows (passed_behind passed name) (with_count name rows names)
+still_knows name rows passed names knows key is = by (gives_count name key) refl
   where
     by : (own : Bool) → gives_count name key ≡ own → (v : ℤ) × ((if own then Some (pos rows) else names.give key) ≡ Some v)
     by true gives = (pos rows, refl)
     by false none = knows key (without_own (is_lower key) (gives_count name key) (passed.met key) (passed.told key) none is)
 
-count_part : (name : Option Word) (rows : ℕ) (names env : Environment) → IsCounted name rows env → IsPartOf names (folded env) → IsPartOf (also_count name rows names) (folded env)
+count_part : (name : Option Word) (rows : ℕ) (names env : Environment) → IsCounted name rows env → IsPartOf names (folded env) → IsPartOf (with_count name rows names) (folded env)
 count_part name rows names env counted part = record { give = λ key v is. by key v (gives_count name key) refl is }
   where
     by : (key : Key) (v : ℤ) (own : Bool) → gives_count name key ≡ own → (if own then Some (pos rows) else names.give key) ≡ Some v → (folded env).give key ≡ Some v
@@ -146,9 +147,9 @@ count_part name rows names env counted part = record { give = λ key v is. by ke
 pub count_claims : (passed : Passed) (env : Environment) (name : Option Word) (rows : ℕ) (names : Environment) → Knows passed names → IsPartOf names (folded env) → IsCounted name rows env
     → Claims passed env name rows names
 count_claims passed env None rows names knows part counted = record {
-  more = also_count None rows names;
+  more = with_count None rows names;
   is = refl;
-  knows = with_count None rows passed names knows;
+  knows = still_knows None rows passed names knows;
   part = count_part None rows names env counted part;
 }
 count_claims passed env (Some name) rows names knows part counted = by (names.give (count_key name.bytes)) refl
@@ -162,9 +163,9 @@ count_claims passed env (Some name) rows names knows part counted = by (names.gi
 
     by : (o : Option ℤ) → names.give (count_key name.bytes) ≡ o → Claims passed env (Some name) rows names
     by None is = record {
-      more = also_count (Some name) rows names;
+      more = with_count (Some name) rows names;
       is = ap (λ (o : Option ℤ). count_claimed o (Some name) rows names) is;
-      knows = with_count (Some name) rows passed names knows;
+      knows = still_knows (Some name) rows passed names knows;
       part = count_part (Some name) rows names env counted part;
     }
     by (Some v) is =

@@ -13,7 +13,8 @@ use Rattle.rz_expr.specs.Environment.{Environment, Key}
 use Rattle.rz_bits.specs.Bits.{bits_of, number_bits, number_of}
 use Rattle.rz_bits.specs.BitBuf.{filled, missing, zeros}
 use Rattle.rz_unlay.specs.Cursor.{body_found, case_found, count_known, ended, field_found, has_keys, line_of, reading, rows_by, Line, Lines}
-use Rattle.rz_unlay_pieces.specs.Pieces.{claim_count, names_inside, with_value, Found, Step}
+use Rattle.rz_unlay_pieces.specs.Pieces.{claim_count, with_value, Found, Step}
+use Rattle.rz_types_fields.specs.Known.{names_inside}
 use Rattle.rz_types_fields.specs.declared.tree.Tree.{Tree}
 use Rattle.rz_types_fields.specs.declared.tree.Tree.TheVariants as trees
 use Rattle.rz_types_fields.specs.Row.{By}

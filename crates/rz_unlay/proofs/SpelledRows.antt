@@ -9,7 +9,9 @@ use Rattle.rz_core.specs.Lists.{or_else}
 use Rattle.rz_core.specs.declared.facts.Facts.{Facts}
 use Rattle.rz_core.specs.declared.resource.Word.{Word}
 use Rattle.rz_expr.specs.Environment.{count_key, count_of, place_of, Environment, Key}
-use Rattle.rz_unlay_pieces.specs.Pieces.{also_count, claim_count, count_claimed, known_count, names_inside, stated_in, stated_value}
+use Rattle.rz_unlay_pieces.specs.Pieces.{claim_count, count_claimed, known_count}
+use Rattle.rz_types_fields.specs.Known.{names_inside, stated_in, stated_value}
+use Rattle.rz_types_fields.specs.Laid.{with_count}
 use Rattle.rz_unlay.specs.Cursor.{count_known, rows_at, rows_by, rows_while, up_to_end, Line, Lines}
 use Rattle.rz_types_fields.specs.declared.tree.Tree.{Tree}
 use Rattle.rz_types_fields.specs.Row.{IsStated}
@@ -107,7 +109,7 @@ claim_came (Some name) rows names more claim = by (names.give (count_key name.by
   where
     by : (known : Option ℤ) → names.give (count_key name.bytes) ≡ known → count_claimed known (Some name) rows names ≡ Some more → Claimed (Some name) rows names more
     by None so is =
-        let now : Environment = also_count (Some name) rows names in
+        let now : Environment = with_count (Some name) rows names in
         let has : (key : Key) → gives_count (Some name) key ≡ true → now.give key ≡ Some (pos rows) =
         (λ key gives. if_true (gives_count (Some name) key) (Some (pos rows)) (names.give key) gives) in
         let same : (key : Key) → gives_count (Some name) key ≡ false → now.give key ≡ names.give key =

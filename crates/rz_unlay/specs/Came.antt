@@ -6,11 +6,11 @@ use Rattle.rz_expr.specs.Environment.{Environment}
 use Rattle.rz_types_fields.specs.declared.tree.Tree.TheVariants as trees
 use Rattle.rz_types.specs.Field.{PlainBody}
 use Rattle.rz_unlay.specs.Cursor.{body_found, line_of, Line, Lines}
-use Rattle.rz_unlay_pieces.specs.Pieces.{names_inside, Found, Step}
-use Rattle.rz_unlay_pieces.specs.Names.{known}
+use Rattle.rz_unlay_pieces.specs.Pieces.{Found, Step}
+use Rattle.rz_types_fields.specs.Known.{known, names_inside}
 use Rattle.rz_unlay.specs.declared.came.RowCame.{RowCame}
 use Rattle.rz_unlay.specs.declared.came.RowsCame.{RowsCame}
-use Rattle.rz_unlay_pieces.specs.declared.names.Note.{Note}
+use Rattle.rz_types_fields.specs.declared.names.Note.{Note}
 
 -- the row of a body, where so much is known behind it
 abbrev pub found_of : List Note → RowCame → Found

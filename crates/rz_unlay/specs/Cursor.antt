@@ -13,7 +13,8 @@ use Rattle.rz_types.specs.Field.{case_and, field_and, no_cases, no_fields, Align
 use Rattle.rz_types.specs.Passed.{outside}
 use Rattle.rz_types.specs.Width.{case_keys, fixed_widths}
 use Rattle.rz_bits.specs.View.{number_at}
-use Rattle.rz_unlay_pieces.specs.Pieces.{claim_count, field_of_pieces, known_count, names_inside, with_value, Found, Step}
+use Rattle.rz_unlay_pieces.specs.Pieces.{claim_count, field_of_pieces, known_count, with_value, Found, Step}
+use Rattle.rz_types_fields.specs.Known.{names_inside}
 
 -- Rows.
 

@@ -1,7 +1,7 @@
 use rz_types_fields::{Row, RowList};
 
 /// The row of a body.
-#[derive(Debug, Drop)]
+#[derive(Drop)]
 pub struct RowCame {
     /// Its values.
     pub row: Row,
@@ -12,7 +12,7 @@ pub struct RowCame {
 }
 
 /// The rows of an array.
-#[derive(Debug, Drop)]
+#[derive(Drop)]
 pub struct RowsCame {
     /// The rows.
     pub rows: RowList,

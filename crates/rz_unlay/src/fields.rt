@@ -8,15 +8,15 @@ ghost use Rattle.rz_unlay.specs.Cursor.{body_found, case_found, count_known, fie
 ghost use Rattle.rz_unlay_pieces.specs.Few.{few, step_count, value_count};
 ghost use Rattle.rz_unlay.specs.Few.{found_count, line_count, lines_count, rows_count};
 ghost use Rattle.rz_unlay_pieces.specs.Fits.{AreFit, CasesFit, Fits};
-ghost use Rattle.rz_unlay_pieces.specs.Names.{known, Grew};
+ghost use Rattle.rz_types_fields.specs.Known.{known, Grew};
 ghost use Rattle.rz_unlay.specs.Rows.{pushed, stop_at};
 
 use crate::came::{RowCame, RowsCame};
 use crate::cases::has_keys;
 use rz_bits::BitView;
 use rz_core::{Facts, NoMemory, Word};
-use rz_types_fields::{ArrayField, Case, Field, Row, RowList, Tree, fixed_widths};
-use rz_unlay_pieces::{Met, Note, claim_count, enter, read_pieces, rows_of, spend};
+use rz_types_fields::{ArrayField, Case, Field, Note, Row, RowList, Tree, fixed_widths, rows_of};
+use rz_unlay_pieces::{Met, claim_count, enter, read_pieces, spend};
 use std::alloc::Global;
 
 /// Reads the row of a body, with at most so many values: what is learnt of the names of its own is forgotten behind it.

@@ -1,7 +1,7 @@
 //! Bytes as rows: `read` gives exactly the row that bytes spell plainly under the fields of a type, or that there is
 //! none.
-//! It rests on `rz_core`, `rz_expr`, `rz_bits`, `rz_types_fields`, `rz_types`, `rz_types_fields`, which has the definitions of
-//! spelling, and `rz_unlay_pieces`, which reads what stands at a place.
+//! It rests on `rz_core`, `rz_expr`, `rz_bits`, `rz_types_fields`, which has the definitions of spelling and the notes of
+//! names, `rz_types`, and `rz_unlay_pieces`, which reads what stands at a place.
 //! Fields are read from left to right; what is learnt of names is cut at the end of each row, and values are counted down,
 //! so that no more are read than a row has.
 //! A new kind of field with fields within it is a case of `field_found` in `specs/Cursor` and one of `read_field` here; a

@@ -20,7 +20,7 @@ use std::alloc::Global;
 const MOST_BYTES: usize = 16_777_212;
 
 /// What the bytes of a resource tell.
-#[derive(Debug, Drop)]
+#[derive(Drop)]
 pub enum Reading {
     /// The one row that spells them plainly.
     Tree(Row),

@@ -12,17 +12,18 @@ use Rattle.rz_types.specs.Field.{plain_body, plain_field, PlainCase, PlainField}
 use Rattle.rz_unlay.specs.Came.{chosen, line_in, lines_in, row_at}
 use Rattle.rz_unlay_pieces.specs.Came.{met_of}
 use Rattle.rz_unlay.specs.Cursor.{body_found, count_known, field_found, has_keys, rows_at, rows_by, rows_while, Lines}
-use Rattle.rz_unlay_pieces.specs.Pieces.{claim_count, names_inside, Step}
+use Rattle.rz_unlay_pieces.specs.Pieces.{claim_count, Step}
+use Rattle.rz_types_fields.specs.Known.{known, names_inside}
 use Rattle.rz_unlay_pieces.specs.Few.{few, step_count, value_count}
 use Rattle.rz_unlay.specs.Few.{found_count, line_count, lines_count, rows_count}
-use Rattle.rz_unlay_pieces.specs.Names.{known, told}
-use Rattle.rz_unlay_pieces.specs.declared.names.Note.{Note}
+use Rattle.rz_unlay_pieces.specs.Names.{told}
+use Rattle.rz_types_fields.specs.declared.names.Note.{Note}
 use Rattle.rz_unlay.proofs.FewValues.{count_rows, row_push, rows_push}
 use Rattle.rz_types.specs.Width.{case_keys, fixed_widths}
 use Rattle.rz_unlay.specs.Rows.{stop_at}
 use Rattle.rz_unlay_pieces.proofs.PieceSteps.{seen_length}
 use Rattle.rz_unlay.proofs.FieldSteps.{array_came, body_line, case_here, case_later, cases_fit, field_more, fields_over, fits_next, no_array, no_case, no_field, no_row, no_while, not_claimed, row_more, rows_out, rows_over, to_end, while_fails, while_more, while_out, while_over, with_lines, with_row}
-use Rattle.rz_unlay_pieces.proofs.Noting.{grew_more}
+use Rattle.rz_types_fields.proofs.Noting.{grew_more}
 use Rattle.rz_unlay.proofs.fields.+read.Goals as goal
 
 of_some : {A : Type 0} (o : Option A) (x : A) (P : Type 0) → o ≡ Some x → IfSome o (λ s. P) → P

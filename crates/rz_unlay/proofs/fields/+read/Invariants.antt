@@ -7,7 +7,7 @@ use Rattle.rz_unlay.specs.Cursor.{body_found, case_found, rows_at, rows_while}
 use Rattle.rz_unlay_pieces.specs.Few.{few}
 use Rattle.rz_unlay.specs.Few.{found_count, lines_count, rows_count}
 use Rattle.rz_unlay_pieces.specs.Fits.{AreFit, CasesFit}
-use Rattle.rz_unlay_pieces.specs.Names.{known, Grew}
+use Rattle.rz_types_fields.specs.Known.{known, Grew}
 use Rattle.rz_unlay.proofs.FieldSteps.{with_lines, with_row}
 use Rattle.rz_unlay.proofs.fields.+read.Given as goal
 

@@ -6,10 +6,9 @@ use Rattle.rz_types.specs.Field.{plain_body}
 use Rattle.rz_types.specs.Passed.{outside}
 use Rattle.rz_unlay.specs.Came.{line_in, row_at}
 use Rattle.rz_unlay.specs.Cursor.{body_found, ended}
-use Rattle.rz_unlay_pieces.specs.Pieces.{names_inside}
+use Rattle.rz_types_fields.specs.Known.{known, names_inside}
 use Rattle.rz_unlay_pieces.specs.Few.{few}
 use Rattle.rz_unlay.specs.Few.{line_count}
-use Rattle.rz_unlay_pieces.specs.Names.{known}
 use Rattle.rz_unlay_pieces.specs.Fits.{AreFit}
 use Rattle.rz_unlay.proofs.EndSteps.{ended_so, none_ended}
 use Rattle.rz_unlay.proofs.Fitting.{template_fits}
