@@ -130,8 +130,8 @@ without_own : (low own met told : Bool) → own ≡ false → (low && ((own || m
 without_own low true met told none is = absurd cc
 without_own low false met told none is = is
 
-with_count : (name : Option Word) (rows : ℕ) (passed : Passed) (names : Environment) → Knows passed names → Knows (passed_behind passed name) (with_count name rows names)
-with_count name rows passed names knows key is = by (gives_count name key) refl
+still_knows : (name : Option Word) (rows : ℕ) (passed : Passed) (names : Environment) → Knows passed names → Knows (passed_behind passed name) (with_count name rows names)
+still_knows name rows passed names knows key is = by (gives_count name key) refl
   where
     by : (own : Bool) → gives_count name key ≡ own → (v : ℤ) × ((if own then Some (pos rows) else names.give key) ≡ Some v)
     by true gives = (pos rows, refl)
@@ -149,7 +149,7 @@ pub count_claims : (passed : Passed) (env : Environment) (name : Option Word) (r
 count_claims passed env None rows names knows part counted = record {
   more = with_count None rows names;
   is = refl;
-  knows = with_count None rows passed names knows;
+  knows = still_knows None rows passed names knows;
   part = count_part None rows names env counted part;
 }
 count_claims passed env (Some name) rows names knows part counted = by (names.give (count_key name.bytes)) refl
@@ -165,7 +165,7 @@ count_claims passed env (Some name) rows names knows part counted = by (names.gi
     by None is = record {
       more = with_count (Some name) rows names;
       is = ap (λ (o : Option ℤ). count_claimed o (Some name) rows names) is;
-      knows = with_count (Some name) rows passed names knows;
+      knows = still_knows (Some name) rows passed names knows;
       part = count_part (Some name) rows names env counted part;
     }
     by (Some v) is =

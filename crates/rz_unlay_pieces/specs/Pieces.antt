@@ -4,7 +4,6 @@ use Rattle.std.specs.Prelude.{ℕ, ◌+◌, ◌-◌, ◌*◌, ◌/◌, ◌%◌, 
 use Rattle.std.specs.Ordering.{int_eq}
 use Rattle.std.specs.Result.{result_ok}
 use Rattle.std.specs.declared.result.Result.{Result}
-use Rattle.rz_core.specs.Lists.{or_else}
 use Rattle.rz_core.specs.declared.facts.Facts.{Facts}
 use Rattle.rz_core.specs.declared.resource.Word.{Word}
 use Rattle.rz_expr.specs.Environment.{count_key, place_key, Environment, Key, Sight}
@@ -15,7 +14,7 @@ use Rattle.rz_bits.specs.BitBuf.{missing}
 use Rattle.rz_types_fields.specs.declared.field.NumForm.{NumForm}
 use Rattle.rz_types_fields.specs.declared.field.TextForm.{TextForm}
 use Rattle.rz_types_fields.specs.declared.field.TextForm.TheVariants as texts
-use Rattle.rz_types_fields.specs.Field.{field_and, no_fields, Array, Number, PlainBody, PlainField, PlainText, Points, Text}
+use Rattle.rz_types_fields.specs.Field.{PlainBody, PlainField, PlainText, Points}
 use Rattle.rz_types_fields.specs.Range.{fits_number, may_be_size}
 use Rattle.rz_types_fields.specs.Solve.{is_same_key, solved_count}
 use Rattle.rz_types_fields.specs.Laid.{with_count}
