@@ -11,7 +11,7 @@ use Rattle.rz_lex.specs.declared.token.Token.{Token}
 use Rattle.rz_stmt_brackets.specs.Statements.{is_empty, is_semicolon}
 use Rattle.rz_stmt_data.specs.Raw.{IsRaw, Raw}
 use Rattle.rz_stmt_items.specs.Compile.{Compile, IsCompile}
-use Rattle.rz_stmt_lists.proofs.Listed.{one_beginning}
+use Rattle.rz_stmt_lists.proofs.Listed.{one_beginning, typed_begins}
 use Rattle.rz_stmt_lists.specs.Lists.{word_of, BeginsWith, Changes, Deletes, Includes, IsListed, ListForm, Reads}
 use Rattle.rz_stmt_type.specs.Constants.{declared}
 use Rattle.rz_stmt_type.specs.Declare.{IsDeclare}
@@ -78,9 +78,9 @@ module _ (spelled : (name : List ℕ) (keyword : Keyword) → (keyword_of name �
     (list_begins : (tokens : List Token) (one : ListForm) → IsListed tokens one → BeginsWith (word_of one) tokens) where
   worded : (tokens : List Token) (a : Result Statement Fault) → IsStatement tokens a → IsAlone tokens a ⊎ IsWorded tokens a
   worded tokens a (alone is says) = inl (is, says)
-  worded tokens a (data_statement one is says) = inr (keywords.Data, (is.word, is.kind ∷ is.behind, is.are, is.is_word), (one, is, says))
+  worded tokens a (data_statement one is says) = inr (keywords.Data, typed_begins keywords.Data tokens _ is.frame.typed, (one, is, says))
   worded tokens a (list_statement one is says) = inr (word_of one, list_begins tokens one is, subst (λ (kind : Kind). Says kind tokens a) (sym (kind_of_list one)) (one, is, says))
-  worded tokens a (resource_statement one is says) = inr (keywords.Resource, (is.word, is.kind ∷ is.behind, is.are, is.is_word), (one, is, says))
+  worded tokens a (resource_statement one is says) = inr (keywords.Resource, typed_begins keywords.Resource tokens _ is.frame.typed, (one, is, says))
   worded tokens a (type_statement form is says) = inr (keywords.Kind, (is.word, is.kind ∷ is.behind, is.are, is.is_word), (form, is, says))
 
   -- two statements of one kind

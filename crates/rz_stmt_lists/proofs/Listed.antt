@@ -1,5 +1,5 @@
 -- Statements over lists of resources are one at most, by their first words.
-use Rattle.std.proofs.Common.{◌≡◌, ◌↔◌, ℕ, true, List, ◌∷◌, Some, sym, ap, ◌∙◌}
+use Rattle.std.proofs.Common.{◌≡◌, ◌↔◌, ℕ, true, List, ◌∷◌, Some, sym, ap, subst, ◌∙◌}
 use Rattle.std.specs.Str.{str_eq_ignore_ascii_case}
 use Rattle.rz_core.proofs.Tests.{same_some, true_false}
 use Rattle.rz_expr.specs.Keyword.{is_keyword, keyword_of, spelling}
@@ -15,14 +15,18 @@ use Rattle.rz_stmt_lists.specs.Include.{Include, IsInclude}
 use Rattle.rz_stmt_lists.specs.Lists.{changes, deletes, includes, reads, word_of, BeginsWith, Changes, Deletes, Includes, IsListed, ListForm, Reads}
 use Rattle.rz_stmt_lists.specs.Read.{IsRead, Read}
 
-typed_begins : (keyword other : Keyword) → other ≡ keyword → (tokens : List Token) (typed : Typed) → IsTyped keyword tokens typed → BeginsWith other tokens
-typed_begins keyword other same tokens typed is = (is.word, is.kind ∷ typed.behind, is.are, ap (λ (k : Keyword). is_keyword k is.word.shape) same ∙ is.is_word)
+-- a word and a type begin with the word
+pub typed_begins : (keyword : Keyword) (tokens : List Token) (typed : Typed) → IsTyped keyword tokens typed → BeginsWith keyword tokens
+typed_begins keyword tokens typed is = (is.word, is.kind ∷ typed.behind, is.are, is.is_word)
+
+as_word : (tokens : List Token) (one form : ListForm) → one ≡ form → BeginsWith (word_of form) tokens → BeginsWith (word_of one) tokens
+as_word tokens one form so begins = subst (λ (l : ListForm). BeginsWith (word_of l) tokens) (sym so) begins
 
 pub begins_so : (tokens : List Token) (one : ListForm) → IsListed tokens one → BeginsWith (word_of one) tokens
-begins_so tokens one (includes include is so) = (is.word, is.behind, is.are, ap (λ (l : ListForm). is_keyword (word_of l) is.word.shape) so ∙ is.is_word)
-begins_so tokens one (reads read is so) = typed_begins keywords.Read (word_of one) (ap word_of so) tokens _ is.typed
-begins_so tokens one (changes change is so) = typed_begins keywords.Change (word_of one) (ap word_of so) tokens _ is.clause.typed
-begins_so tokens one (deletes delete is so) = typed_begins keywords.Delete (word_of one) (ap word_of so) tokens _ is.clause.typed
+begins_so tokens one (includes include is so) = as_word tokens one (Includes include) so (is.word, is.behind, is.are, is.is_word)
+begins_so tokens one (reads read is so) = as_word tokens one (Reads read) so (typed_begins keywords.Read tokens _ is.typed)
+begins_so tokens one (changes change is so) = as_word tokens one (Changes change) so (typed_begins keywords.Change tokens _ is.clause.typed)
+begins_so tokens one (deletes delete is so) = as_word tokens one (Deletes delete) so (typed_begins keywords.Delete tokens _ is.clause.typed)
 
 -- no reader found its statement
 pub no_list : (tokens : List Token) → ((include : Include) → IsInclude tokens include → ⊥) → ((read : Read) → IsRead tokens read → ⊥)
