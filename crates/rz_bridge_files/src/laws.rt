@@ -1,7 +1,11 @@
-ghost use Rattle.std.specs.Prelude.{◌≡◌, ℕ, List, Result};
+ghost use Rattle.std.specs.Prelude.{◌≡◌, ◌∷◌, ℕ, List, Result};
 ghost use Rattle.rz_core.specs.declared.fault.Fault.{Fault};
+ghost use Rattle.rz_core.specs.declared.resource.Resource.{Resource};
+ghost use Rattle.rz_fork.specs.Image.{image};
 ghost use Rattle.rz_bridge.specs.declared.file.MacFile.{MacFile};
+ghost use Rattle.rz_bridge_form.specs.Forms.{form_of};
 ghost use Rattle.rz_bridge_form.specs.declared.form.Form.{Form};
+ghost use Rattle.rz_bridge_form.specs.declared.form.Form.TheVariants.{Raw};
 ghost use Rattle.rz_bridge_files.specs.Names.{Named, TakesName};
 
 use rz_bridge_form::{every_path_is_parted, one_parting};
@@ -33,3 +37,10 @@ pub fn every_file_is_named()
     every_source_is_read();
     one_text();
 }
+
+/// A law, with nothing to run: the fork of a list of resources is found to be raw, whatever the resources, the attributes
+/// and the reserved bytes are: it begins with two zero bytes, and all bytes that do are found to be raw.
+pub fn forks_are_found_raw()
+    ensures zeros { (bytes : List ℕ) → form_of (0 ∷ 0 ∷ bytes) ≡ Raw }
+    ensures fork { (list : List Resource) (attributes : ℕ) (reserved : List ℕ) → form_of (image list attributes reserved) ≡ Raw }
+{}

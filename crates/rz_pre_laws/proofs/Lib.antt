@@ -6,5 +6,6 @@ pub mod EveryProgram
 pub mod Expands
 pub mod Freeing
 pub mod LastOne
+pub mod Lexed
 pub mod Unclosed
 pub mod Unfolded

@@ -1,10 +1,12 @@
 ghost use Rattle.std.specs.Prelude.{◌≡◌, ◌↔◌, ◌⊎◌, ◌∷◌, ◌++◌, ℕ, true, false, List, Ok, Option, None, Result, reverse};
 ghost use Rattle.rz_core.specs.declared.fault.Fault.{Fault};
 ghost use Rattle.rz_folder.specs.Folder.{Files};
+ghost use Rattle.rz_lex.specs.Lexeme.{AreLexed};
 ghost use Rattle.rz_lex.specs.declared.token.Shape.{Shape};
 ghost use Rattle.rz_pre_laws.specs.Definitions.{definitions, AreFree, IsFreeName, LeavesName};
 ghost use Rattle.rz_pre.specs.Expand.{Expansion};
 ghost use Rattle.rz_pre_laws.specs.Groups.{is_group, lines_of, lines_unclosed, waiting, Choice, Done, Group, GroupGoes, Others};
+ghost use Rattle.rz_pre.specs.Lexed.{HaveLexedTexts};
 ghost use Rattle.rz_pre.specs.Live.{live_in, Row};
 ghost use Rattle.rz_lex.specs.declared.raw_line.RawLine.{RawLine};
 ghost use Rattle.rz_core.specs.Answers.{Then};
@@ -17,7 +19,7 @@ ghost use Rattle.rz_pre.specs.declared.condition.Tool.{Tool};
 ghost use Rattle.rz_pre.specs.declared.program.Def.{Def};
 
 use rz_expr::{expressions_are_decided, one_expression};
-use rz_lex::{every_line_is_cut, every_text_has_lines};
+use rz_lex::{every_line_is_cut, every_text_has_lines, tokens_are_lexed};
 use rz_pre_source::every_source_is_read;
 
 /// A law, with nothing to run: the named files mean a program or have a first fault, whatever stands in them.
@@ -101,6 +103,15 @@ pub fn live_names_are_free()
     ensures { (files : Files) (tool : Tool) (names paths : List (List ℕ)) (defs : List Def) (state : State) → AreFree defs
         → ProgramGoes files tool names paths defs (Ok state) → (name : List ℕ) → (state.live name ≡ None) ⊎ IsFreeName name }
 {}
+
+/// A law, with nothing to run: the tokens of a program are such as lines can be cut into, if those are that the words
+/// define as texts: no macro and no line makes others.
+pub fn programs_are_lexed()
+    ensures { (files : Files) (tool : Tool) (names paths : List (List ℕ)) (defs : List Def) (state : State) → HaveLexedTexts defs
+        → ProgramGoes files tool names paths defs (Ok state) → AreLexed state.tokens }
+{
+    tokens_are_lexed();
+}
 
 /// A law, with nothing to run: a conditional whose `#endif` is missing where the file ends is read as one that
 /// has it, and then is 105 with the mark of the line that begins it; and where the lines around it aren't read,

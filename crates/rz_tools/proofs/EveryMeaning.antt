@@ -16,7 +16,8 @@ use Rattle.rz_stmt.specs.Grammar.{mark_of, Compiles, Data, Declares, Empty, List
 use Rattle.rz_stmt.specs.Statements.{AreStatements}
 use Rattle.rz_types_table.specs.Table.{Declaration}
 use Rattle.rz_tools_answer.specs.Warning.{said_beside, warning_lines}
-use Rattle.rz_tools.proofs.EveryResource.{declared_kept, AreKept}
+use Rattle.rz_tools.proofs.EveryResource.{declared_so, AreKept, AreSo, HoldsOfMade, IsKept}
+use Rattle.rz_types.specs.Field.{PlainBody}
 use Rattle.rz_tools.specs.Sources.{compiled, Compiled, HasWork, InProgram, SaidBeside, Unsaid}
 use Rattle.rz_tools.specs.Step.{list_behind, Changes, IsBehind, IsListBehind, MakesList, Means, Steps, WarnedFault, WithWarnings}
 use Rattle.rz_tools_values.specs.Around.{Around}
@@ -54,21 +55,44 @@ has_list_made setting work answers has =
     let changes = has_changes setting.tool work.list answers has in
     (with_list work changes.0, (changes.0, changes.1, refl))
 
--- what changes the list alone leaves the declarations as they are
-list_kept : (work next : Work) (list : Result (List Resource) Fault) → Ok next ≡ with_list work list → AreKept work.types → AreKept next.types
-list_kept work next (Ok list) is kept = subst (λ (w : Work). AreKept w.types) (sym (same_ok {F = Fault} next (record work { list = list }) is)) kept
-list_kept work next (Err fault) is kept = absurd (ok_or_err {F = Fault} next fault is)
+-- what holds of the fields of all declarations, and of those of a `type` statement where they keep the rules, holds behind
+-- the statement; what changes the list alone leaves the declarations as they are
+module _ (Q : PlainBody → Type 0) where
+  abbrev pub HoldsOf : Statement → Type 0
+  HoldsOf Empty = Unit {0}
+  HoldsOf (Data raw) = Unit {0}
+  HoldsOf (Compiles one) = Unit {0}
+  HoldsOf (Lists one) = Unit {0}
+  HoldsOf (Declares one) = HoldsOfMade Q one.made
 
-behind_kept : (around : Around) (mark : Mark) (work : Work) (statement : Statement) (next : Work) → IsBehind around mark work statement (Ok next) → AreKept work.types → AreKept next.types
-behind_kept around mark work Empty next is kept = subst (λ (w : Work). AreKept w.types) (sym (same_ok {F = Fault} next work is)) kept
-behind_kept around mark work (Data raw) next is kept = list_kept work next is.0 is.2 kept
-behind_kept around mark work (Compiles one) next is kept = list_kept work next is.0 is.2 kept
-behind_kept around mark work (Lists one) next is kept = list_kept work next is.0 is.2 kept
-behind_kept around mark work (Declares one) next is kept = declared_kept around.setting mark work one next kept (sym is)
+  list_so : (work next : Work) (list : Result (List Resource) Fault) → Ok next ≡ with_list work list → AreSo Q work.types → AreSo Q next.types
+  list_so work next (Ok list) is so = subst (λ (w : Work). AreSo Q w.types) (sym (same_ok {F = Fault} next (record work { list = list }) is)) so
+  list_so work next (Err fault) is so = absurd (ok_or_err {F = Fault} next fault is)
+
+  statement_so : (around : Around) (mark : Mark) (work : Work) (statement : Statement) (next : Work) → IsBehind around mark work statement (Ok next)
+      → HoldsOf statement → AreSo Q work.types → AreSo Q next.types
+  statement_so around mark work Empty next is holds so = subst (λ (w : Work). AreSo Q w.types) (sym (same_ok {F = Fault} next work is)) so
+  statement_so around mark work (Data raw) next is holds so = list_so work next is.0 is.2 so
+  statement_so around mark work (Compiles one) next is holds so = list_so work next is.0 is.2 so
+  statement_so around mark work (Lists one) next is holds so = list_so work next is.0 is.2 so
+  statement_so around mark work (Declares one) next is holds so = declared_so Q around.setting mark work one next holds so (sym is)
+
+  pub steps_so : (around : Around) (work : Work) (tokens : List Token) (next : Work) → Steps around work tokens (Ok next)
+      → ((statement : Statement) → Parses tokens (Ok statement) → HoldsOf statement) → AreSo Q work.types → AreSo Q next.types
+  steps_so around work tokens next (inl (statement, parses, is)) holds so =
+      statement_so around (mark_of tokens) work statement next is (holds statement parses) so
+  steps_so around work tokens next (inr (fault, parses, is)) holds so = absurd (ok_or_err {F = Fault} next fault is)
+
+-- fields that are taken keep the rules
+holds_kept : (statement : Statement) → HoldsOf IsKept statement
+holds_kept Empty = tt
+holds_kept (Data raw) = tt
+holds_kept (Compiles one) = tt
+holds_kept (Lists one) = tt
+holds_kept (Declares one) = λ own is kept. kept
 
 steps_kept : (around : Around) (work : Work) (tokens : List Token) (next : Work) → Steps around work tokens (Ok next) → AreKept work.types → AreKept next.types
-steps_kept around work tokens next (inl (statement, parses, is)) kept = behind_kept around (mark_of tokens) work statement next is kept
-steps_kept around work tokens next (inr (fault, parses, is)) kept = absurd (ok_or_err {F = Fault} next fault is)
+steps_kept around work tokens next steps kept = steps_so IsKept around work tokens next steps (λ statement parses. holds_kept statement) kept
 
 -- All statements.
 

@@ -36,12 +36,16 @@ use Rattle.rz_tools_work.specs.Put.{list_with}
 use Rattle.rz_tools_work.specs.Work.{declared, with_type, Work}
 use Rattle.rz_tools_values.specs.declared.setting.Setting.{Setting}
 
--- the fields of the declaration keep the rules
-abbrev pub IsKept : Declaration → Type 0
-IsKept one = keeps_rules one.template ≡ true
+-- so much holds of the fields of each declaration
+abbrev pub AreSo : (PlainBody → Type 0) → List Declaration → Type 0
+AreSo Q types = AllByRecursion (λ one. Q one.template) types
+
+-- the fields keep the rules
+abbrev pub IsKept : PlainBody → Type 0
+IsKept body = keeps_rules body ≡ true
 
 abbrev pub AreKept : List Declaration → Type 0
-AreKept types = AllByRecursion IsKept types
+AreKept types = AreSo IsKept types
 
 -- What is found.
 
@@ -71,22 +75,26 @@ module _ {A : Type 0} (P : A → Type 0) where
   behind_so [] x all is = (is, tt)
   behind_so (y ∷ ys) x all is = (all.0, behind_so ys x all.1 is)
 
-found_kept : (kind : OsType) (id : ℤ) (types : List Declaration) → AreKept types → IfSome (found kind id types) IsKept
-found_kept kind id types kept =
-    either_so IsKept (last_such (is_for kind (is_id id)) types) (or_else (last_such (is_for kind (is_range_of id)) types) (last_such (is_for kind is_any) types))
-    (last_so IsKept (is_for kind (is_id id)) types kept)
-    (either_so IsKept (last_such (is_for kind (is_range_of id)) types) (last_such (is_for kind is_any) types)
-    (last_so IsKept (is_for kind (is_range_of id)) types kept)
-    (last_so IsKept (is_for kind is_any) types kept))
+module _ (Q : PlainBody → Type 0) where
+  abbrev pub IsSo : Declaration → Type 0
+  IsSo one = Q one.template
 
-asked_kept : (kind : OsType) (id : Option ℤ) (types : List Declaration) → AreKept types → IfSome (asked kind id types) IsKept
-asked_kept kind (Some id) types kept = found_kept kind id types kept
-asked_kept kind None types kept = last_so IsKept (is_for kind is_any) types kept
+  pub found_so : (kind : OsType) (id : ℤ) (types : List Declaration) → AreSo Q types → IfSome (found kind id types) IsSo
+  found_so kind id types so =
+      either_so IsSo (last_such (is_for kind (is_id id)) types) (or_else (last_such (is_for kind (is_range_of id)) types) (last_such (is_for kind is_any) types))
+      (last_so IsSo (is_for kind (is_id id)) types so)
+      (either_so IsSo (last_such (is_for kind (is_range_of id)) types) (last_such (is_for kind is_any) types)
+      (last_so IsSo (is_for kind (is_range_of id)) types so)
+      (last_so IsSo (is_for kind is_any) types so))
 
-template_kept : {F : Type 0} (one : Option Declaration) (fault : F) (body : PlainBody) → IfSome one IsKept
-    → ok_or (option_map (λ one. one.template) one) fault ≡ Ok body → keeps_rules body ≡ true
-template_kept {F} None fault body kept is = absurd (ok_or_err {F = F} body fault (sym is))
-template_kept {F} (Some one) fault body kept is = ap keeps_rules (sym (same_ok {F = F} one.template body is)) ∙ kept
+  asked_so : (kind : OsType) (id : Option ℤ) (types : List Declaration) → AreSo Q types → IfSome (asked kind id types) IsSo
+  asked_so kind (Some id) types so = found_so kind id types so
+  asked_so kind None types so = last_so IsSo (is_for kind is_any) types so
+
+  template_so : {F : Type 0} (one : Option Declaration) (fault : F) (body : PlainBody) → IfSome one IsSo
+      → ok_or (option_map (λ one. one.template) one) fault ≡ Ok body → Q body
+  template_so {F} None fault body so is = absurd (ok_or_err {F = F} body fault (sym is))
+  template_so {F} (Some one) fault body so is = subst Q (same_ok {F = F} one.template body is) so
 
 -- The resource.
 
@@ -113,7 +121,7 @@ module _ (matching : (known : Facts) (place : Mark) (body : PlainBody) (items : 
     has_declared items known =
         has_then (λ answer. answer ≡ fields_for mark types known) (AreReadBytes around.paths around.files mark known items) (has_is (fields_for mark types known))
         (λ body is. has_read known items body
-        (template_kept (found known.kind known.id types) (no_type mark known) body (found_kept known.kind known.id types kept) (sym is)))
+        (template_so IsKept (found known.kind known.id types) (no_type mark known) body (found_so IsKept known.kind known.id types kept) (sym is)))
 
     has_made : (items : List PlainItem) (known : Facts) → Has (IsMade around.paths around.files mark types items known)
     has_made items known =
@@ -140,23 +148,31 @@ on_line_so : {X : Type 0} (mark : Mark) (given : Result X TypeFault) (x : X) →
 on_line_so mark (Ok y) x is = ap (λ z. Ok z) (same_ok {F = Fault} y x is)
 on_line_so {X} mark (Err fault) x is = absurd (ok_or_err {X = X} {F = Fault} x _ (sym is))
 
-checked_kept : (body other : PlainBody) (fault : Option TypeFault) → broken body ≡ fault → unless_fault fault body ≡ Ok other → keeps_rules other ≡ true
-checked_kept body other None none is = ap keeps_rules (sym (same_ok {F = TypeFault} body other is)) ∙ ap is_none none
-checked_kept body other (Some fault) some is = absurd (ok_or_err {F = TypeFault} other fault (sym is))
+-- fields that are taken keep the rules, and are those that are declared
+taken : (own body : PlainBody) (fault : Option TypeFault) → broken own ≡ fault → unless_fault fault own ≡ Ok body → IsKept own × (own ≡ body)
+taken own body None none is = (ap is_none none, same_ok {F = TypeFault} own body is)
+taken own body (Some fault) some is = absurd (ok_or_err {F = TypeFault} body fault (sym is))
 
-made_kept : (mark : Mark) (types : List Declaration) → AreKept types → (made : PlainMade) (body : PlainBody) → template_of mark types made ≡ Ok body → keeps_rules body ≡ true
-made_kept mark types kept (Fields own) body is = checked_kept own body (broken own) refl (on_line_so mark (checked own) body is)
-made_kept mark types kept (CopyOf kind id) body is =
-    let asks = bound (copied_id mark id) (λ id. on_line mark (copied (record { code = kind }) id types)) body is in
-    template_kept (asked (record { code = kind }) asks.0 types) (no_such_type (record { code = kind }) asks.0) body (asked_kept (record { code = kind }) asks.0 types kept)
-    (on_line_so mark (copied (record { code = kind }) asks.0 types) body asks.2)
+-- what holds of all declarations, and of the statement's own fields where they keep the rules, holds behind the statement
+module _ (Q : PlainBody → Type 0) where
+  abbrev pub HoldsOfMade : PlainMade → Type 0
+  HoldsOfMade made = (own : PlainBody) → made ≡ Fields own → IsKept own → Q own
 
--- what a `type` statement leaves
-pub declared_kept : (setting : Setting) (mark : Mark) (work : Work) (one : Declare) (next : Work) → AreKept work.types → declared setting mark work one ≡ Ok next → AreKept next.types
-declared_kept setting mark work one next kept is =
-    let scoped = bound (scope_of mark one.bounds)
-    (λ scope. template_of mark work.types one.made >>= (λ template. Ok (with_type setting mark work (record { code = one.kind }) scope template))) next is in
-    let made = bound (template_of mark work.types one.made) (λ template. Ok (with_type setting mark work (record { code = one.kind }) scoped.0 template)) next scoped.2 in
-    subst (λ (w : Work). AreKept w.types) (same_ok {F = Fault} (with_type setting mark work (record { code = one.kind }) scoped.0 made.0) next made.2)
-    (behind_so IsKept (without (stands_at (record { code = one.kind }) scoped.0) work.types) (record { kind = record { code = one.kind }; scope = scoped.0; template = made.0 })
-    (without_so IsKept (stands_at (record { code = one.kind }) scoped.0) work.types kept) (made_kept mark work.types kept one.made made.0 made.1))
+  made_so : (mark : Mark) (types : List Declaration) → AreSo Q types → (made : PlainMade) → HoldsOfMade made → (body : PlainBody) → template_of mark types made ≡ Ok body → Q body
+  made_so mark types so (Fields own) holds body is =
+      let takes = taken own body (broken own) refl (on_line_so mark (checked own) body is) in
+      subst Q takes.1 (holds own refl takes.0)
+  made_so mark types so (CopyOf kind id) holds body is =
+      let asks = bound (copied_id mark id) (λ id. on_line mark (copied (record { code = kind }) id types)) body is in
+      template_so Q (asked (record { code = kind }) asks.0 types) (no_such_type (record { code = kind }) asks.0) body (asked_so Q (record { code = kind }) asks.0 types so)
+      (on_line_so mark (copied (record { code = kind }) asks.0 types) body asks.2)
+
+  pub declared_so : (setting : Setting) (mark : Mark) (work : Work) (one : Declare) (next : Work) → HoldsOfMade one.made → AreSo Q work.types
+      → declared setting mark work one ≡ Ok next → AreSo Q next.types
+  declared_so setting mark work one next holds so is =
+      let scoped = bound (scope_of mark one.bounds)
+      (λ scope. template_of mark work.types one.made >>= (λ template. Ok (with_type setting mark work (record { code = one.kind }) scope template))) next is in
+      let made = bound (template_of mark work.types one.made) (λ template. Ok (with_type setting mark work (record { code = one.kind }) scoped.0 template)) next scoped.2 in
+      subst (λ (w : Work). AreSo Q w.types) (same_ok {F = Fault} (with_type setting mark work (record { code = one.kind }) scoped.0 made.0) next made.2)
+      (behind_so (IsSo Q) (without (stands_at (record { code = one.kind }) scoped.0) work.types) (record { kind = record { code = one.kind }; scope = scoped.0; template = made.0 })
+      (without_so (IsSo Q) (stands_at (record { code = one.kind }) scoped.0) work.types so) (made_so mark work.types so one.made holds made.0 made.1))
