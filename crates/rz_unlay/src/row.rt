@@ -6,7 +6,7 @@ ghost use Rattle.rz_types.specs.Shape.{is_well_shaped};
 ghost use Rattle.rz_unlay.specs.Cursor.{reading};
 ghost use Rattle.rz_unlay.specs.Rows.{is_end};
 
-use crate::fields::read_body;
+use crate::fields::Reader;
 use rz_bits::BitView;
 use rz_core::{Facts, NoMemory};
 use rz_types::rules_hold_within;
@@ -33,7 +33,12 @@ pub fn read_row(
     let view = BitView::over(bytes);
     let mut notes = Vec::new(alloc);
     let fields = body.as_slice();
-    match read_body(alloc, &view, fields, facts, &mut notes, 0, MOST_VALUES)? {
+    let reader = Reader {
+        alloc,
+        view: &view,
+        facts,
+    };
+    match reader.read_body(fields, &mut notes, 0, MOST_VALUES)? {
         Some(came) => {
             if is_end(&view, came.after) {
                 Ok(Some(came.row))
