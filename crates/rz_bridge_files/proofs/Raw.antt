@@ -2,9 +2,8 @@
 use Rattle.std.proofs.Common.{◌≡◌, ℕ, ◌&&◌, if◌then◌else◌, Bool, true, false, List, ◌∷◌, length, drop, refl, ap, ◌∙◌, arith}
 use Rattle.std.proofs.lemmas.Bool.{ne_eqb}
 use Rattle.std.specs.Prelude.{nat_le}
-use Rattle.rz_core.specs.Numbers.{be}
+use Rattle.rz_core.specs.Numbers.{be, number}
 use Rattle.rz_core.specs.declared.resource.Resource.{Resource}
-use Rattle.rz_bridge.specs.Places.{number}
 use Rattle.rz_bridge_form.specs.Forms.{form_of}
 use Rattle.rz_bridge_form.specs.declared.form.Form.{Form}
 use Rattle.rz_bridge_form.specs.declared.form.Form.TheVariants.{MacBinary, Raw}
