@@ -9,7 +9,7 @@ use rz_types::{Template, TypeFault};
 use std::alloc::Global;
 
 /// For which ids a declaration is. (MPW Rez.)
-#[derive(Clone, Copy, Debug, PartialEq, Eq)]
+#[derive(Clone, Copy, PartialEq, Eq)]
 pub enum Scope {
     /// For this id.
     Id(i16),
@@ -20,7 +20,7 @@ pub enum Scope {
 }
 
 /// A declaration.
-#[derive(Debug, Drop)]
+#[derive(Drop)]
 pub struct Declared {
     pub kind: OsType,
     pub scope: Scope,
@@ -29,7 +29,7 @@ pub struct Declared {
 
 /// The declarations of types, in the order in which they were made. Contracts see it as their list. Beside the list it
 /// holds where the declarations of each type stand in it.
-#[derive(Debug, Drop)]
+#[derive(Drop)]
 pub struct TypeTable {
     declared: Vec<Declared>,
     places: Places,
