@@ -1,7 +1,6 @@
 -- When the rules of MacBinary hold.
-use Rattle.std.proofs.Common.{◌≡◌, ℕ, ◌+◌, ◌<◌, ◌≤◌, ◌==◌, ◌&&◌, ◌||◌, nat_lt, not, Bool, true, false, List, length, take, None, refl, ap, ◌∙◌, arith}
-use Rattle.std.proofs.lemmas.Bool.{eq-eqb, ltb-true}
-use Rattle.std.proofs.lemmas.Bool.Decides.{nat_tests}
+use Rattle.std.proofs.Common.{◌≡◌, ℕ, ◌+◌, ◌<◌, ◌≤◌, ◌==◌, ◌&&◌, ◌||◌, nat_lt, not, Bool, true, false, List, length, take, None, refl, ap, ◌∙◌}
+use Rattle.std.proofs.lemmas.Bool.{eq-eqb, ltb-true, le-ltb}
 use Rattle.rz_core.specs.declared.fault.Kept.TheVariants as kept
 use Rattle.rz_bridge.specs.Check.{crc_of}
 use Rattle.rz_bridge.specs.Faults.{fault, broken}
@@ -12,12 +11,9 @@ use Rattle.rz_bridge.specs.declared.fault.BridgeFault.{BridgeFault}
 pub unbroken : (test : Bool) (given : BridgeFault) → test ≡ false → broken test given ≡ None
 unbroken test given holds = ap (λ (t : Bool). broken t given) holds
 
-pub not_below : (a b : ℕ) → b ≤ a → nat_lt a b ≡ false
-not_below a b above = grind (arith, nat_tests)
-
 pub long_holds : (bytes : List ℕ) → 128 ≤ length bytes → short_header bytes ≡ None
 unfolding short_header
-long_holds bytes long = unbroken (nat_lt (length bytes) 128) (fault 421 0 (length bytes)) (not_below (length bytes) 128 long)
+long_holds bytes long = unbroken (nat_lt (length bytes) 128) (fault 421 0 (length bytes)) (le-ltb (length bytes) 128 long)
 
 pub zero_holds : (bytes : List ℕ) (place : ℕ) → number 1 bytes place ≡ 0 → not_zero bytes place ≡ None
 unfolding not_zero
@@ -42,13 +38,13 @@ pub name_holds : (bytes : List ℕ) (count : ℕ) → number 1 bytes 1 ≡ count
 unfolding bad_length
 name_holds bytes count is some most =
     ap (λ (byte : ℕ). broken (nat_lt byte 1 || nat_lt 63 byte) (fault 425 1 byte)) is
-    ∙ unbroken (nat_lt count 1 || nat_lt 63 count) (fault 425 1 count) (λ i. not_below count 1 some i || not_below 63 count most i)
+    ∙ unbroken (nat_lt count 1 || nat_lt 63 count) (fault 425 1 count) (λ i. le-ltb count 1 some i || le-ltb 63 count most i)
 
 pub inside : (size place count : ℕ) → (0 < count → place + count ≤ size) → (nat_lt 0 count && nat_lt size (place + count)) ≡ false
 inside size place count within = by_some (nat_lt 0 count) refl
   where
     by_some : (some : Bool) → nat_lt 0 count ≡ some → (nat_lt 0 count && nat_lt size (place + count)) ≡ false
-    by_some true is = ap (λ (t : Bool). t && nat_lt size (place + count)) is ∙ not_below size (place + count) (within (ltb-true 0 count is))
+    by_some true is = ap (λ (t : Bool). t && nat_lt size (place + count)) is ∙ le-ltb size (place + count) (within (ltb-true 0 count is))
     by_some false is = ap (λ (t : Bool). t && nat_lt size (place + count)) is
 
 pub fork_holds : (bytes : List ℕ) (place count : ℕ) → (0 < count → place + count ≤ length bytes) → truncated bytes place count ≡ None

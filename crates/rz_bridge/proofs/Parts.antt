@@ -3,6 +3,7 @@ use Rattle.std.proofs.Common.{◌≡◌, ℕ, ◌+◌, ◌*◌, ◌^◌, ◌<◌
 use Rattle.std.proofs.lemmas.List.{length-replicate}
 use Rattle.std.proofs.lemmas.List.Concat.{flat_map-append}
 use Rattle.std.specs.List.{AllByRecursion}
+use Rattle.std.proofs.lemmas.Bool.{le-ltb}
 use Rattle.rz_core.specs.Lists.{with_front, each_with_front, or_else, first_of}
 use Rattle.rz_core.specs.Numbers.{be, length-be_2, length-be_4, number, items_from}
 use Rattle.rz_bridge.specs.Faults.{fault, broken}
@@ -10,7 +11,7 @@ use Rattle.rz_bridge.specs.AppleDouble.{entry_at, entry_count, entries, short_he
 use Rattle.rz_bridge.specs.declared.entry.Entry.{Entry}
 use Rattle.rz_core.proofs.Placed.{Has, has_all, has_left, has_right, has_at, number_is}
 use Rattle.rz_bridge.proofs.Standing.{AreAt, all_at}
-use Rattle.rz_bridge.proofs.Holds.{unbroken, not_below, inside}
+use Rattle.rz_bridge.proofs.Holds.{unbroken, inside}
 
 -- Lengths.
 
@@ -151,7 +152,7 @@ module _ (parts : List Part) (ids : AllByRecursion HasId parts) (few : length pa
   long : short_header image ≡ None
   unfolding short_header
   long =
-      unbroken (nat_lt (length image) 26) (fault 421 0 (length image)) (not_below (length image) 26 (omega (arith, length-image_of parts)))
+      unbroken (nat_lt (length image) 26) (fault 421 0 (length image)) (le-ltb (length image) 26 (omega (arith, length-image_of parts)))
 
   magic_holds : bad_magic image ≡ None
   unfolding bad_magic
@@ -165,7 +166,7 @@ module _ (parts : List Part) (ids : AllByRecursion HasId parts) (few : length pa
   unfolding entries_outside
   entries_hold =
       unbroken (nat_lt (length image) (26 + 12 * entry_count image)) (fault 423 24 (entry_count image))
-      (not_below (length image) (26 + 12 * entry_count image) (omega (arith, length-image_of parts, count_is)))
+      (le-ltb (length image) (26 + 12 * entry_count image) (omega (arith, length-image_of parts, count_is)))
 
   pub holds : double_torn image ≡ None
   unfolding double_torn

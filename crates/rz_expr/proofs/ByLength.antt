@@ -4,6 +4,7 @@ use Rattle.std.specs.Prelude.{nat_le}
 use Rattle.std.proofs.lemmas.Bool.Decides.{nat_tests, Decides-eqb}
 use Rattle.std.specs.List.{list_all}
 use Rattle.std.specs.Str.{str_eq_ignore_ascii_case, str_to_ascii_lowercase}
+use Rattle.std.proofs.lemmas.Bool.{leb-true}
 use Rattle.rz_core.proofs.Tests.{both}
 use Rattle.rz_expr.specs.Keyword.{every_keyword, keyword_of, spelled_among, spelling}
 use Rattle.rz_expr.specs.declared.keyword.Keyword.{Keyword}
@@ -66,16 +67,13 @@ all_common : list_all (λ k. is_common (length (spelling k))) every_keyword ≡ 
 unfolding is_common
 all_common = refl
 
-at_least : (a b : ℕ) → nat_le a b ≡ true → a ≤ b
-at_least a b is = grind (arith, nat_tests)
-
 outside : (n : ℕ) (test : Bool) → is_common n ≡ test → (n ≡ 2 → ⊥) → (n ≡ 3 → ⊥) → (n ≡ 4 → ⊥) → (n ≡ 5 → ⊥) → (n ≡ 6 → ⊥) → (n ≡ 7 → ⊥) → (n ≡ 8 → ⊥) → (n ≡ 9 → ⊥) → test ≡ false
 unfolding is_common
 outside n false is a b c d e f g h = refl
 outside n true is a b c d e f g h =
     let each = both (nat_le 2 n) (nat_le n 9) is in
-    let low = at_least 2 n each.0 in
-    let high = at_least n 9 each.1 in
+    let low = leb-true 2 n each.0 in
+    let high = leb-true n 9 each.1 in
     absurd (omega arith)
 
 pub no_keyword : (name : List ℕ) (n : ℕ) → n ≡ length name → (n ≡ 2 → ⊥) → (n ≡ 3 → ⊥) → (n ≡ 4 → ⊥) → (n ≡ 5 → ⊥) → (n ≡ 6 → ⊥) → (n ≡ 7 → ⊥)

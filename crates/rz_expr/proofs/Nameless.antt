@@ -2,6 +2,7 @@
 use Rattle.std.proofs.Common.{◌≡◌, ℕ, ℤ, pos, negsuc, Bool, true, false, ◌||◌, Result, Ok, Err, refl, sym, subst}
 use Rattle.std.specs.Prelude.{◌*ℤ◌, ◌^◌, if◌then◌else◌, int_div, int_rem, nat_lt}
 use Rattle.std.specs.Int.{int_shr}
+use Rattle.std.proofs.lemmas.Bool.{or_parts}
 use Rattle.rz_core.specs.Stop.{◌>>=◌}
 use Rattle.rz_core.specs.declared.stop.Stop.{Stop}
 use Rattle.rz_core.specs.declared.stop.Stop.TheVariants.{NoMemory}
@@ -13,10 +14,6 @@ use Rattle.rz_expr.specs.declared.expr.BinaryOp.{BinaryOp}
 use Rattle.rz_expr.specs.declared.expr.BinaryOp.TheVariants as two
 use Rattle.rz_expr.specs.declared.value.EvalFault.{EvalFault}
 use Rattle.rz_expr.specs.declared.value.EvalFault.TheVariants.{BadShift, ZeroDivisor}
-
-none_of : (one other : Bool) → (one || other) ≡ false → (one ≡ false) × (other ≡ false)
-none_of true other is = absurd cc
-none_of false other is = (refl, is)
 
 chained : (first : Result ℤ EvalFault) (next : ℤ → Result ℤ EvalFault) → (IsUnknown first → ⊥) → ((x : ℤ) → IsUnknown (next x) → ⊥) → IsUnknown (first >>= next) → ⊥
 chained (Ok x) next known goes_on is = goes_on x is
@@ -65,7 +62,7 @@ nameless (BitsAt name start width) sight is known = cc
 nameless (FactOf which) sight is known = known
 nameless (OfOne op operand) sight is known = chained (value_of operand sight) (λ value. Ok (operate_one op value)) (nameless operand sight is) (λ x later. later) known
 nameless (OfTwo op left right) sight is known =
-    let each = none_of (has_names left) (has_names right) is in
+    let each = or_parts (has_names left) (has_names right) is in
     chained (value_of left sight) (λ one. value_of right sight >>= λ other. operate op one other) (nameless left sight each.0)
     (λ one. chained (value_of right sight) (λ other. operate op one other) (nameless right sight each.1) (λ other. operate_known op one other)) known
 

@@ -2,6 +2,7 @@
 use Rattle.std.proofs.Common.{◌≡◌, ℕ, ◌+◌, ◌*◌, ◌<◌, ◌≤◌, ◌==◌, if◌then◌else◌, nat_lt, Bool, false, Some, None, sym, ap, ◌∙◌, arith, length, List}
 use Rattle.std.proofs.lemmas.Bool.Decides.{nat_tests}
 use Rattle.std.proofs.lemmas.Option.{none-some}
+use Rattle.rz_core.proofs.Tests.{by_test}
 use Rattle.rz_core.specs.Lists.{or_else}
 use Rattle.rz_core.proofs.Lists.{or_else_none}
 use Rattle.rz_core.specs.Numbers.{kept_length}
@@ -11,7 +12,6 @@ use Rattle.rz_fork.specs.declared.layout.Header.{Header}
 use Rattle.rz_fork.specs.declared.layout.Outline.{Outline}
 use Rattle.rz_fork.specs.Image.{kinds_of, grouped, data_area, name_list, lists_end, passed, first_limit}
 use Rattle.rz_fork.specs.Admit.{short_header, data_area_outside, map_outside, short_map, type_list_outside, types_outside, map_broken, lists_broken, first_broken}
-use Rattle.rz_fork.proofs.Resources.{by_cases}
 
 -- within the limits of an image
 pub record IsWithinLimits (list : List Resource) : Type 0 where
@@ -21,7 +21,7 @@ pub record IsWithinLimits (list : List Resource) : Type 0 where
 
 not_passed : (number limit size : ℕ) → passed number limit size ≡ None → size ≤ limit
 not_passed number limit size none =
-    by_cases (nat_lt limit size)
+    by_test _ (nat_lt limit size)
     (λ is. absurd (none-some (fault_of size) (sym none ∙ ap (λ (b : Bool). if b then Some (fault_of size) else None) is)))
     small
   where

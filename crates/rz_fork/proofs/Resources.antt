@@ -7,6 +7,7 @@ use Rattle.std.proofs.lemmas.List.Concat.{flat_map-append}
 use Rattle.std.proofs.lemmas.List.Folds.{list_any-append}
 use Rattle.std.specs.Int.{cast_unsigned, cast_signed, w16}
 use Rattle.std.specs.List.{AllByRecursion, list_any}
+use Rattle.rz_core.proofs.Tests.{by_test}
 use Rattle.rz_core.proofs.Lists.{all_append}
 use Rattle.rz_core.specs.Lists.{first_in, or_else}
 use Rattle.rz_core.specs.Numbers.{be, length-be_4, number}
@@ -20,10 +21,6 @@ use Rattle.rz_fork.specs.Contents.{data_of, name_of, resource_of}
 use Rattle.rz_fork.specs.Admit.{data_outside, name_outside, reference_rule, id_rule, broken, fault, Data, Name}
 use Rattle.rz_core.proofs.Placed.{Has, has_left, has_right, piece_is, number_is, byte_is}
 use Rattle.rz_fork.proofs.Written.{written_reference, written_references, AreSmall, HasShortId, area_of, names_append}
-
-pub by_cases : {P : Type 0} (b : Bool) → (b ≡ true → P) → (b ≡ false → P) → P
-by_cases true when_true when_false = when_true refl
-by_cases false when_true when_false = when_false refl
 
 -- where the data area and the names of these resources stand
 pub record Stands (bytes : List ℕ) (o : Outline) (rs : List Resource) : Type 0 where
@@ -112,7 +109,7 @@ module _ (bytes : List ℕ) (o : Outline) (before : List Resource) (r : Resource
 
   pub name_holds : name_outside bytes o (written_reference place before r) ≡ None
   name_holds =
-      by_cases (length r.name == 0)
+      by_test _ (length r.name == 0)
       (λ is. ap (λ n. name_outside bytes o (with_name n)) (offset_is true is) ∙ holds_without)
       (λ is. ap (λ n. name_outside bytes o (with_name n)) (offset_is false is) ∙ holds_with is)
 
@@ -131,7 +128,7 @@ module _ (bytes : List ℕ) (o : Outline) (before : List Resource) (r : Resource
 
   name_is : name_of bytes o (written_reference place before r) ≡ r.name
   name_is =
-      by_cases (length r.name == 0)
+      by_test _ (length r.name == 0)
       (λ is. ap (λ n. name_of bytes o (with_name n)) (offset_is true is) ∙ is_without ∙ nil_name is)
       (λ is. ap (λ n. name_of bytes o (with_name n)) (offset_is false is) ∙ is_with is)
 

@@ -8,6 +8,7 @@ use Rattle.std.proofs.lemmas.List.Elements.{filter-append}
 use Rattle.std.proofs.lemmas.List.Folds.{list_any-append}
 use Rattle.std.proofs.lemmas.List.Sums.{sum_by_push}
 use Rattle.std.specs.List.{flat_map, AllByRecursion, list_any}
+use Rattle.rz_core.proofs.Tests.{by_test}
 use Rattle.rz_core.specs.Lists.{with_front, first_in, or_else}
 use Rattle.rz_core.proofs.Lists.{length-with_front, all_split}
 use Rattle.rz_core.specs.Resources.{same_key, KeysDiffer}
@@ -23,7 +24,7 @@ use Rattle.rz_fork.specs.Admit.{references_outside, count_of, list_rule, type_ru
 use Rattle.rz_fork.proofs.Grouping.{with_front_append}
 use Rattle.rz_fork.proofs.Lengths.{length-reference_to}
 use Rattle.rz_core.proofs.Placed.{Has, has_left, has_right}
-use Rattle.rz_fork.proofs.Resources.{by_cases, Stands, HasKind, ids_hold, type_reads}
+use Rattle.rz_fork.proofs.Resources.{Stands, HasKind, ids_hold, type_reads}
 use Rattle.rz_fork.proofs.Written.{written_entry, written_entries, written_references, references_are, groups_append, AreSmall, HasShortId}
 
 -- Groups.
@@ -31,7 +32,7 @@ use Rattle.rz_fork.proofs.Written.{written_entry, written_entries, written_refer
 group_codes : (list : List Resource) (k : ℕ) → AllByRecursion (HasKind k) (group_of list k)
 group_codes [] k = tt
 group_codes (r ∷ rs) k =
-    by_cases (r.kind.code == k)
+    by_test _ (r.kind.code == k)
     (λ is. subst (λ (b : Bool). AllByRecursion (HasKind k) (cond b (r ∷ group_of rs k) (group_of rs k))) (sym is) (eqb-true r.kind.code k is, group_codes rs k))
     (λ is. subst (λ (b : Bool). AllByRecursion (HasKind k) (cond b (r ∷ group_of rs k) (group_of rs k))) (sym is) (group_codes rs k))
 
@@ -39,7 +40,7 @@ any_filter : {X : Type 0} (q p : X → Bool) (xs : List X) → list_any q xs ≡
 any_filter q p [] none = refl
 any_filter q p (x ∷ xs) none =
     let parts = or_parts (q x) (list_any q xs) none in
-    by_cases (p x)
+    by_test _ (p x)
     (λ is. ap (λ b. list_any q (cond b (x ∷ filter p xs) (filter p xs))) is ∙ (λ i. parts.0 i || any_filter q p xs parts.1 i))
     (λ is. ap (λ b. list_any q (cond b (x ∷ filter p xs) (filter p xs))) is ∙ any_filter q p xs parts.1)
 
@@ -49,7 +50,7 @@ filter_push p xs x b is = filter-append p xs (x ∷ []) ∙ ap (λ b. filter p x
 keys_filter : (p : Resource → Bool) (front rs : List Resource) → KeysDiffer front rs → KeysDiffer (filter p front) (filter p rs)
 keys_filter p front [] differ = tt
 keys_filter p front (r ∷ rs) differ =
-    by_cases (p r)
+    by_test _ (p r)
     (λ is. subst (λ (b : Bool). KeysDiffer (filter p front) (cond b (r ∷ filter p rs) (filter p rs))) (sym is) (
       any_filter (λ b. same_key b r) p front differ.0,
       subst (λ (l : List Resource). KeysDiffer l (filter p rs)) (filter_push p front r true is) (keys_filter p (front ++ r ∷ []) rs differ.1),
@@ -80,7 +81,7 @@ kinds_differ front [] ks same = tt
 kinds_differ front (r ∷ rs) ks same =
     let code = r.kind.code in
     let tail = with_front new_kind (front ++ r ∷ []) rs in
-    by_cases (list_any (λ b. b.kind.code == code) front)
+    by_test _ (list_any (λ b. b.kind.code == code) front)
     (λ old. subst (λ (b : Bool). KindsDiffer ks (cond b [] (code ∷ []) ++ tail)) (sym old)
     (kinds_differ (front ++ r ∷ []) rs ks (λ x. known ks front r x (same x) old)))
     (λ new. subst (λ (b : Bool). KindsDiffer ks (cond b [] (code ∷ []) ++ tail)) (sym new) (

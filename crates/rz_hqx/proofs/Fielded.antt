@@ -1,6 +1,6 @@
 -- What is read of the bytes of a BinHex that was written.
 use Rattle.std.proofs.Common.{◌≡◌, ℕ, pos, ◌+◌, ◌-◌, ◌^◌, ◌<◌, ◌≤◌, ◌==◌, ◌||◌, nat_lt, not, false, List, [], ◌∷◌, ◌++◌, length, replicate, None, Ok, refl, sym, ap, ◌∙◌, arith, length-append}
-use Rattle.std.proofs.lemmas.Bool.{eq-eqb}
+use Rattle.std.proofs.lemmas.Bool.{eq-eqb, le-ltb}
 use Rattle.rz_core.specs.Lists.{or_else, unless_fault}
 use Rattle.rz_core.specs.Numbers.{be, length-be_2, length-be_4, number}
 use Rattle.rz_core.specs.declared.fault.Kept.TheVariants as kept
@@ -8,7 +8,7 @@ use Rattle.rz_bridge.specs.Check.{crc_of}
 use Rattle.rz_bridge.specs.Faults.{fault, broken}
 use Rattle.rz_bridge.specs.Places.{piece}
 use Rattle.rz_bridge.specs.declared.file.MacFile.{MacFile}
-use Rattle.rz_bridge.proofs.Holds.{unbroken, not_below}
+use Rattle.rz_bridge.proofs.Holds.{unbroken}
 use Rattle.rz_core.proofs.Placed.{Has, has_all, has_left, has_right, has_at, number_is, byte_is}
 use Rattle.rz_bridge.proofs.Standing.{AreAt, all_at, piece_is}
 use Rattle.rz_hqx.specs.BinHex.{name_length, kind_place, data_length, resource_length, data_place, resource_place, cut, bad_length, bad_crc, checked, header_torn, fields_torn, hqx_finder, hqx_fields, decoded_content, hqx_header, with_check, hqx_bytes, hqx_carried, IsCarried}
@@ -18,13 +18,13 @@ use Rattle.rz_hqx.specs.BinHex.{name_length, kind_place, data_length, resource_l
 uncut : (bytes : List ℕ) (place count : ℕ) → place + count ≤ length bytes → cut bytes place count ≡ None
 unfolding cut
 uncut bytes place count within =
-    unbroken (nat_lt (length bytes) (place + count)) (fault 445 place (length bytes - place)) (not_below (length bytes) (place + count) within)
+    unbroken (nat_lt (length bytes) (place + count)) (fault 445 place (length bytes - place)) (le-ltb (length bytes) (place + count) within)
 
 named : (bytes : List ℕ) (count : ℕ) → name_length bytes ≡ count → 1 ≤ count → count ≤ 63 → bad_length bytes ≡ None
 unfolding bad_length
 named bytes count is some most =
     ap (λ (n : ℕ). broken (nat_lt n 1 || nat_lt 63 n) (fault 447 0 n)) is
-    ∙ unbroken (nat_lt count 1 || nat_lt 63 count) (fault 447 0 count) (λ i. not_below count 1 some i || not_below 63 count most i)
+    ∙ unbroken (nat_lt count 1 || nat_lt 63 count) (fault 447 0 count) (λ i. le-ltb count 1 some i || le-ltb 63 count most i)
 
 -- a piece and its check behind it
 right : (bytes : List ℕ) (which place : ℕ) (some : List ℕ) → Has bytes place some → Has bytes (place + length some) (be 2 (crc_of 0 some)) → crc_of 0 some < 2 ^ 16

@@ -14,7 +14,7 @@ use Rattle.rz_lex.specs.Printed.{begins_word, token_of}
 use Rattle.rz_lex.specs.Scan.{after_lexeme, after_quote}
 use Rattle.rz_lex.specs.Shape.{inside, number_shape, shape_of}
 use Rattle.rz_lex.specs.declared.token.Shape.TheVariants as shapes
-use Rattle.rz_core.proofs.Tests.{by_test}
+use Rattle.rz_core.proofs.Tests.{by_test, none_some}
 use Rattle.rz_lex.proofs.Ends.{longest_read}
 use Rattle.rz_lex.proofs.WordsBack.{run_back}
 
@@ -29,12 +29,9 @@ blank_is_not x b other blank same = false≢true (sym other ∙ ap is_blank (sym
 digit_is_not : (x b : ℕ) → nat_lt (digit_value x) 16 ≡ false → nat_lt (digit_value b) 16 ≡ true → b ≢ x
 digit_is_not x b other digit same = false≢true (sym other ∙ ap (λ (y : ℕ). nat_lt (digit_value y) 16) (sym same) ∙ digit)
 
-no_value : (value : List ℕ) → ◌≡◌ {A = Option (List ℕ)} None (Some value) → ⊥
-no_value value is = cc
-
 goes_on : (front value : List ℕ) (more : Option (List ℕ)) → before front more ≡ Some value → (rest : List ℕ) × (more ≡ Some rest)
 goes_on front value (Some rest) is = (rest, refl)
-goes_on front value None is = absurd (no_value value is)
+goes_on front value None is = absurd (none_some value is)
 
 blank_first : (b : ℕ) (bs : List ℕ) → is_blank b ≡ true → hex_value (b ∷ bs) ≡ hex_value bs
 blank_first b bs h = rw h refl
@@ -61,16 +58,16 @@ mutual
       (λ h. plain_on b (bs ++ 34 ∷ after) (blank_is_not 34 b refl h) (blank_is_not 92 b refl h) ∙ hex_on bs value after (sym (blank_first b bs h) ∙ is))
       (λ h. by_test (after_quote 34 ((b ∷ bs) ++ 34 ∷ after) ≡ Some after) (nat_lt (digit_value b) 16)
       (λ k. plain_on b (bs ++ 34 ∷ after) (digit_is_not 34 b refl k) (digit_is_not 92 b refl k) ∙ behind_on (digit_value b) bs value after (sym (digit_first b bs h k) ∙ is))
-      (λ k. absurd (no_value value (sym (wrong_first b bs h k) ∙ is))))
+      (λ k. absurd (none_some value (sym (wrong_first b bs h k) ∙ is))))
 
   behind_on : (high : ℕ) (text value after : List ℕ) → hex_behind high text ≡ Some value → after_quote 34 (text ++ 34 ∷ after) ≡ Some after
-  behind_on high [] value after is = absurd (no_value value is)
+  behind_on high [] value after is = absurd (none_some value is)
   behind_on high (b ∷ bs) value after is = by_test (after_quote 34 ((b ∷ bs) ++ 34 ∷ after) ≡ Some after) (is_blank b)
       (λ h. plain_on b (bs ++ 34 ∷ after) (blank_is_not 34 b refl h) (blank_is_not 92 b refl h) ∙ behind_on high bs value after (sym (blank_behind high b bs h) ∙ is))
       (λ h. by_test (after_quote 34 ((b ∷ bs) ++ 34 ∷ after) ≡ Some after) (nat_lt (digit_value b) 16)
       (λ k. let rest = goes_on ((16 * high + digit_value b) ∷ []) value (hex_value bs) (sym (digit_behind high b bs h k) ∙ is) in
       plain_on b (bs ++ 34 ∷ after) (digit_is_not 34 b refl k) (digit_is_not 92 b refl k) ∙ hex_on bs rest.0 after rest.1)
-      (λ k. absurd (no_value value (sym (wrong_behind high b bs h k) ∙ is))))
+      (λ k. absurd (none_some value (sym (wrong_behind high b bs h k) ∙ is))))
 
 inside_is : (text : List ℕ) → inside 2 (36 ∷ 34 ∷ (text ++ 34 ∷ [])) ≡ text
 inside_is text =

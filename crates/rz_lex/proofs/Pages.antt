@@ -3,7 +3,7 @@ use Rattle.std.proofs.Common.{◌≡◌, ◌≢◌, ℕ, ◌+◌, Bool, true, fa
 use Rattle.std.specs.Prelude.{◌==◌, ◌&&◌, ◌||◌, not}
 use Rattle.std.specs.List.{AllByRecursion}
 use Rattle.std.specs.Option.{is_some}
-use Rattle.std.proofs.lemmas.Bool.{and_parts, and_right, or_parts, eq-eqb, eqb-true, ne_eqb, false≢true}
+use Rattle.std.proofs.lemmas.Bool.{and_parts, and_right, or_parts, eq-eqb, eqb-true, ne_eqb, false≢true, not-true}
 use Rattle.std.specs.List.{flat_map}
 use Rattle.std.proofs.lemmas.List.{map-append}
 use Rattle.std.proofs.lemmas.List.Concat.{flat_map-cons}
@@ -196,15 +196,11 @@ module _ (n : ℕ) where
 
   is_bare : (byte : ℕ) → is_single byte ≡ true → ((byte == 34) ≡ false) × ((byte == 39) ≡ false) × ((byte == 47) ≡ false) × ((byte == 92) ≡ false)
   is_bare byte h =
-      let none = not_true (byte == 34 || (byte == 39 || (byte == 47 || byte == 92))) h in
+      let none = not-true (byte == 34 || (byte == 39 || (byte == 47 || byte == 92))) h in
       let a = or_parts (byte == 34) (byte == 39 || (byte == 47 || byte == 92)) none in
       let b = or_parts (byte == 39) (byte == 47 || byte == 92) a.1 in
       let c = or_parts (byte == 47) (byte == 92) b.1 in
       (a.0, b.0, c.0, c.1)
-    where
-      not_true : (b : Bool) → not b ≡ true → b ≡ false
-      not_true false e = refl
-      not_true true e = absurd (false≢true e)
 
   clean_continued : (line : List ℕ) (more : List Placed) → Clean line → AreInLine line → continued (placed n line ++ more) ≡ placed n line ++ continued more
   clean_continued _ more nothing in_line = refl

@@ -1,7 +1,7 @@
 -- Words, numbers and signs that are written are read back, whatever follows that does not go on with them.
-use Rattle.std.proofs.Common.{◌≡◌, ℕ, ◌<◌, ◌≤◌, ◌^◌, Bool, true, false, List, [], ◌∷◌, ◌++◌, Some, Ok, length, refl, sym, ap, ◌∙◌, subst, arith}
+use Rattle.std.proofs.Common.{◌≡◌, ℕ, ◌<◌, ◌≤◌, ◌^◌, true, false, List, [], ◌∷◌, ◌++◌, Some, Ok, length, refl, sym, ap, ◌∙◌, subst, arith}
 use Rattle.std.specs.Prelude.{get_or, decimal, not, ◌==◌, ◌&&◌}
-use Rattle.std.proofs.lemmas.Bool.{and_parts, le-ltb, ne_eqb, eqb-true, false≢true}
+use Rattle.std.proofs.lemmas.Bool.{and_parts, le-ltb, ne_eqb, eqb-true, false≢true, not-true}
 use Rattle.std.proofs.lemmas.Fmt.{length-decimal-le, decimal_nonempty}
 use Rattle.rz_core.specs.Decimal.{decimal_of}
 use Rattle.rz_core.specs.declared.fault.Mark.{Mark}
@@ -87,10 +87,6 @@ behind_dollar mark (b ∷ bs) after is short clear =
     let same : 36 ≡ b = sym (eqb-true b 36 parts.0) in
     subst (λ (x : ℕ). Next mark ((36 ∷ x ∷ bs) ++ after) (token_of mark (word_of (36 ∷ x ∷ bs))) after) same (dollar_word mark bs after parts.1 short clear)
 
-not_true : (b : Bool) → not b ≡ true → b ≡ false
-not_true true h = absurd cc
-not_true false h = refl
-
 pub word_back : (mark : Mark) (word after : List ℕ) → is_word word ≡ true → length word ≤ 255 → begins_word after ≡ false → Next mark (word ++ after) (token_of mark (word_of word)) after
 word_back mark [] after is short clear = absurd (false≢true is)
 word_back mark (b ∷ bs) after is short clear = by_test (Next mark ((b ∷ bs) ++ after) (token_of mark (word_of (b ∷ bs))) after) (b == 36)
@@ -99,7 +95,7 @@ word_back mark (b ∷ bs) after is short clear = by_test (Next mark ((b ∷ bs) 
     (λ h. let plain : (is_word_byte b && not (is_digit b) && are_word_bytes bs) ≡ true = rw h at is in
     let parts = and_parts (is_word_byte b && not (is_digit b)) (are_word_bytes bs) plain in
     let first = and_parts (is_word_byte b) (not (is_digit b)) parts.0 in
-    plain_word mark b bs after (not_true (is_digit b) first.1) first.0 parts.1 short clear)
+    plain_word mark b bs after (not-true (is_digit b) first.1) first.0 parts.1 short clear)
 
 -- numbers
 

@@ -4,7 +4,7 @@ use Rattle.std.specs.Prelude.{◌==◌, ◌↔◌}
 use Rattle.std.proofs.lemmas.Bool.{and_parts, eqb-true, false≢true}
 use Rattle.std.proofs.lemmas.List.Sums.{take_while-cons}
 use Rattle.rz_lex.proofs.WordsBack.{no_blank}
-use Rattle.rz_core.proofs.Tests.{by_test}
+use Rattle.rz_core.proofs.Tests.{by_test, none_some}
 use Rattle.rz_lex.specs.Classes.{is_blank, is_word_byte, AreBlanks}
 use Rattle.rz_lex.specs.Extent.{are_word_bytes}
 use Rattle.rz_lex.specs.Printed.{begins_word}
@@ -24,19 +24,16 @@ Hashed line text = (blanks : List ℕ) × AreBlanks blanks × (line ≡ blanks +
 hash_back : (line text : List ℕ) → Hashed line text → behind_hash (unblanked line) ≡ Some text
 hash_back line text hashed = ap (λ l. behind_hash (unblanked l)) hashed.2 ∙ ap behind_hash (skipped hashed.0 (35 ∷ text) hashed.1)
 
-none_is_not : (text : List ℕ) → ◌≡◌ {A = Option (List ℕ)} None (Some text) → ⊥
-none_is_not text k = cc k
-
 same_text : (rest text : List ℕ) → Some rest ≡ Some text → rest ≡ text
 same_text rest text is = cc is
 
 hash_first : (b : ℕ) (rest text : List ℕ) → behind_hash (b ∷ rest) ≡ Some text → b ∷ rest ≡ 35 ∷ text
 hash_first b rest text is = by_test (b ∷ rest ≡ 35 ∷ text) (b == 35)
     (λ h. (let same : Some rest ≡ Some text = rw h at is in λ i. eqb-true b 35 h i ∷ same_text rest text same i))
-    (λ h. (let never : ◌≡◌ {A = Option (List ℕ)} None (Some text) = rw h at is in absurd (none_is_not text never)))
+    (λ h. (let never : ◌≡◌ {A = Option (List ℕ)} None (Some text) = rw h at is in absurd (none_some text never)))
 
 hash_found : (line text : List ℕ) → behind_hash (unblanked line) ≡ Some text → Hashed line text
-hash_found [] text is = absurd (none_is_not text is)
+hash_found [] text is = absurd (none_some text is)
 hash_found (b ∷ rest) text is = by_test (Hashed (b ∷ rest) text) (is_blank b)
     (λ h. (let more : behind_hash (unblanked rest) ≡ Some text = rw h at is in
     let found = hash_found rest text more in

@@ -9,6 +9,7 @@ use Rattle.std.proofs.lemmas.Slice.Eq.{bytes_eq-Decides}
 use Rattle.std.specs.Str.Lossy.{utf8_valid_len, valid_len_up_to}
 use Rattle.std.proofs.lemmas.List.{append_assoc}
 use Rattle.std.proofs.lemmas.Str.{cons_from_encodes, encode_same, encodes-append, is_utf8-from_IsUtf8, IsUtf8-append, IsUtf8-encode, IsUtf8-past_char, len_utf8_bounds, length-encode}
+use Rattle.rz_lex.proofs.Decimals.{length-zero}
 use Rattle.rz_core.specs.Roman.{roman_byte}
 use Rattle.rz_core.specs.Stop.{Gives, OnFault}
 use Rattle.rz_core.proofs.Stops.{fault_so, gives_fault, gives_value}
@@ -91,13 +92,9 @@ turned_lacks text bytes rest later offset given c t begins same lacks = record {
   };
 }
 
-no_bytes : (l : List ℕ) → length l ≡ 0 → l ≡ []
-no_bytes [] e = refl
-no_bytes (x ∷ l) e = absurd (omega (arith, e))
-
 pub turned_all : (text bytes rest : List ℕ) (offset : ℕ) → Turned text offset bytes rest → length rest ≡ 0 → Spells text bytes
 turned_all text bytes rest offset t done =
-    subst (λ (l : List ℕ). Spells l bytes) (sym (t.reaches.split ∙ ap (λ (l : List ℕ). t.reaches.front ++ l) (no_bytes rest done) ∙ append-nil t.reaches.front)) t.reaches.good
+    subst (λ (l : List ℕ). Spells l bytes) (sym (t.reaches.split ∙ ap (λ (l : List ℕ). t.reaches.front ++ l) (length-zero rest done) ∙ append-nil t.reaches.front)) t.reaches.good
 
 -- One text or one fault.
 

@@ -1,7 +1,8 @@
 -- Where the first statement ends, and how reading goes on behind it.
 use Rattle.std.proofs.Common.{◌≡◌, ◌≢◌, ℕ, zero, suc, ◌+◌, ◌<◌, ◌≤◌, Bool, true, false, ◌||◌, inl, inr, List, [], ◌∷◌, ◌++◌, length, take, drop, refl, sym, ap, subst, ◌∙◌, arith, append_assoc, append-nil, length-append}
 use Rattle.std.specs.Prelude.{◌⊎◌, if◌then◌else◌}
-use Rattle.rz_core.proofs.Tests.{true_false}
+use Rattle.std.proofs.lemmas.Bool.{or_parts, or_right}
+use Rattle.rz_core.proofs.Tests.{true_false, by_test}
 use Rattle.rz_lex.specs.declared.token.Token.{Token}
 use Rattle.rz_stmt_brackets.specs.Cutting.{size_of}
 use Rattle.rz_stmt_brackets.specs.Statements.{has_end, is_end, open_behind, open_behind_all, spans_from, AreStatements, HasSpans, IsRest, IsStatement}
@@ -13,13 +14,9 @@ data First (count : ℕ) (tokens : List Token) : Type 0 where
       → has_end count front ≡ false → is_end last.shape (open_behind_all front count) ≡ true → First count tokens
   all : size_of count tokens ≡ length tokens → has_end count tokens ≡ false → First count tokens
 
-either : (P : Type 0) (b : Bool) → (b ≡ true → P) → (b ≡ false → P) → P
-either P true t f = t refl
-either P false t f = f refl
-
 first_of : (count : ℕ) (tokens : List Token) → First count tokens
 first_of count [] = all refl refl
-first_of count (token ∷ tokens) = either (First count (token ∷ tokens)) (is_end token.shape count)
+first_of count (token ∷ tokens) = by_test (First count (token ∷ tokens)) (is_end token.shape count)
     (λ ends. ended [] token tokens refl (ap (λ (b : Bool). if b then 1 else suc (size_of (open_behind token.shape count) tokens)) ends) refl ends)
     (λ goes_on. onto goes_on (first_of (open_behind token.shape count) tokens))
   where
@@ -136,11 +133,7 @@ cut_more tokens rest start spans c some end after is more =
 
 goes_past : (count : ℕ) (front behind : List Token) (last : Token) → is_end last.shape (open_behind_all front count) ≡ true → has_end count ((front ++ last ∷ []) ++ behind) ≡ true
 goes_past count [] behind last ends = ap (λ (b : Bool). b || has_end (open_behind last.shape count) behind) ends
-goes_past count (token ∷ front) behind last ends = either_true (is_end token.shape count) _ (goes_past (open_behind token.shape count) front behind last ends)
-  where
-    either_true : (a b : Bool) → b ≡ true → (a || b) ≡ true
-    either_true true b is = refl
-    either_true false b is = is
+goes_past count (token ∷ front) behind last ends = or_right (is_end token.shape count) _ (goes_past (open_behind token.shape count) front behind last ends)
 
 -- two statements at the front of the same tokens are one
 same_statement : (count : ℕ) (f g b d : List Token) (l m : Token) → has_end count f ≡ false → has_end count g ≡ false
@@ -154,27 +147,19 @@ same_statement count [] [] b d l m nf ng el em is = (ap (λ (t : Token). t ∷ [
     tails : l ∷ b ≡ m ∷ d → b ≡ d
     tails e = cc e
 same_statement count [] (y ∷ g) b d l m nf ng el em is =
-    absurd (true_false (sym el ∙ ap (λ (t : Token). is_end t.shape count) (heads is) ∙ (parts _ _ ng).0))
+    absurd (true_false (sym el ∙ ap (λ (t : Token). is_end t.shape count) (heads is) ∙ (or_parts _ _ ng).0))
   where
     heads : l ∷ b ≡ y ∷ ((g ++ m ∷ []) ++ d) → l ≡ y
     heads e = cc e
-
-    parts : (p q : Bool) → (p || q) ≡ false → (p ≡ false) × (q ≡ false)
-    parts true q e = absurd (cc e)
-    parts false q e = (refl, e)
 same_statement count (x ∷ f) [] b d l m nf ng el em is =
-    absurd (true_false (sym em ∙ ap (λ (t : Token). is_end t.shape count) (sym (heads is)) ∙ (parts _ _ nf).0))
+    absurd (true_false (sym em ∙ ap (λ (t : Token). is_end t.shape count) (sym (heads is)) ∙ (or_parts _ _ nf).0))
   where
     heads : x ∷ ((f ++ l ∷ []) ++ b) ≡ m ∷ d → x ≡ m
     heads e = cc e
-
-    parts : (p q : Bool) → (p || q) ≡ false → (p ≡ false) × (q ≡ false)
-    parts true q e = absurd (cc e)
-    parts false q e = (refl, e)
 same_statement count (x ∷ f) (y ∷ g) b d l m nf ng el em is =
     let head = heads is in
-    let r = same_statement (open_behind x.shape count) f g b d l m (parts _ _ nf).1
-    (subst (λ (t : Token). has_end (open_behind t.shape count) g ≡ false) (sym head) (parts _ _ ng).1) el
+    let r = same_statement (open_behind x.shape count) f g b d l m (or_parts _ _ nf).1
+    (subst (λ (t : Token). has_end (open_behind t.shape count) g ≡ false) (sym head) (or_parts _ _ ng).1) el
     (subst (λ (t : Token). is_end m.shape (open_behind_all g (open_behind t.shape count)) ≡ true) (sym head) em) (tails is) in
     ((λ i. head i ∷ r.0 i), r.1)
   where
@@ -183,10 +168,6 @@ same_statement count (x ∷ f) (y ∷ g) b d l m nf ng el em is =
 
     tails : x ∷ ((f ++ l ∷ []) ++ b) ≡ y ∷ ((g ++ m ∷ []) ++ d) → (f ++ l ∷ []) ++ b ≡ (g ++ m ∷ []) ++ d
     tails e = cc e
-
-    parts : (p q : Bool) → (p || q) ≡ false → (p ≡ false) × (q ≡ false)
-    parts true q e = absurd (cc e)
-    parts false q e = (refl, e)
 
 pub one_way : (tokens : List Token) (statements others : List (List Token)) → AreStatements tokens statements → AreStatements tokens others → statements ≡ others
 one_way tokens [] others are also = sym (none_left others (subst (λ (ts : List Token). AreStatements ts others) are also))

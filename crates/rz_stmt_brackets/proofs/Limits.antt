@@ -1,6 +1,6 @@
 -- The limits of a statement, in the words of the language.
 use Rattle.std.proofs.Common.{◌≡◌, ◌⊎◌, inl, inr, ◌≤◌, ◌+◌, ◌&&◌, nat_le, not, ℕ, suc, Bool, true, false, if◌then◌else◌, List, [], ◌∷◌, ◌++◌, refl, sym, ap, subst, ◌∙◌, append_assoc, arith}
-use Rattle.std.proofs.lemmas.Bool.Decides.{nat_tests}
+use Rattle.std.proofs.lemmas.Bool.{leb-true, le-leb}
 use Rattle.rz_core.proofs.Tests.{both}
 use Rattle.rz_lex.specs.declared.token.Token.{Token}
 use Rattle.rz_stmt_brackets.specs.Limit.{counted, depth_limit, ends_row, is_row, is_text, is_within_limits, keeps_limits, longest_row, row_behind, KeepsLimits}
@@ -14,12 +14,6 @@ rows_behind (token ∷ tokens) row = rows_behind tokens (row_behind token.shape 
 rows_join : (front more : List Token) (row : ℕ) → rows_behind (front ++ more) row ≡ rows_behind more (rows_behind front row)
 rows_join [] more row = refl
 rows_join (token ∷ front) more row = rows_join front more (row_behind token.shape row)
-
-le_is : (a b : ℕ) → nat_le a b ≡ true → a ≤ b
-le_is a b is = grind (arith, nat_tests, is)
-
-is_le : (a b : ℕ) → a ≤ b → nat_le a b ≡ true
-is_le a b is = grind (arith, nat_tests, is)
 
 -- in a row each token that is no text counts
 in_a_row : (row : List Token) (n : ℕ) → is_row row ≡ true → rows_behind row n ≡ n + counted row
@@ -98,7 +92,7 @@ module _ (most : ℕ) where
       let tests = both (nat_le (open_behind t.shape depth) most) (nat_le (row_behind t.shape row) longest_row && keeps_limits most (open_behind t.shape depth) (row_behind t.shape row) ts) keeps in
       let more = both (nat_le (row_behind t.shape row) longest_row) (keeps_limits most (open_behind t.shape depth) (row_behind t.shape row) ts) tests.1 in
       subst (λ (x : Token). (open_behind_all front (open_behind x.shape depth) ≤ most) × (rows_behind front (row_behind x.shape row) ≤ longest_row)) same
-      (goes (open_behind t.shape depth) (row_behind t.shape row) ts front behind (le_is (open_behind t.shape depth) most tests.0) (le_is (row_behind t.shape row) longest_row more.0) more.1 rest)
+      (goes (open_behind t.shape depth) (row_behind t.shape row) ts front behind (leb-true (open_behind t.shape depth) most tests.0) (leb-true (row_behind t.shape row) longest_row more.0) more.1 rest)
 
   comes : (depth row : ℕ) (tokens : List Token)
       → ((front behind : List Token) → tokens ≡ front ++ behind → (open_behind_all front depth ≤ most) × (rows_behind front row ≤ longest_row))
@@ -106,7 +100,7 @@ module _ (most : ℕ) where
   comes depth row [] all = refl
   comes depth row (t ∷ ts) all =
       let first = all (t ∷ []) ts refl in
-      (λ i. is_le (open_behind t.shape depth) most first.0 i && (is_le (row_behind t.shape row) longest_row first.1 i && keeps_limits most (open_behind t.shape depth) (row_behind t.shape row) ts))
+      (λ i. le-leb (open_behind t.shape depth) most first.0 i && (le-leb (row_behind t.shape row) longest_row first.1 i && keeps_limits most (open_behind t.shape depth) (row_behind t.shape row) ts))
       ∙ comes (open_behind t.shape depth) (row_behind t.shape row) ts (λ front behind are. all (t ∷ front) behind (ap (λ (l : List Token). t ∷ l) are))
 
 pub kept : (tokens : List Token) → is_within_limits tokens ≡ true → KeepsLimits tokens

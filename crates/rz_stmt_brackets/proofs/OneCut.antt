@@ -1,25 +1,18 @@
 -- Tokens are cut in one way.
 use Rattle.std.proofs.Common.{◌≡◌, ℕ, zero, suc, ◌≤◌, Bool, true, false, ◌||◌, List, [], ◌∷◌, ◌++◌, length, length-append, refl, sym, ap, subst, ◌∙◌, arith}
+use Rattle.std.proofs.lemmas.Bool.{or_parts, or_right}
 use Rattle.rz_core.proofs.Tests.{true_false, by_test}
 use Rattle.rz_lex.specs.declared.token.Token.{Token}
 use Rattle.rz_stmt_brackets.specs.Pieces.{divides_at, has_divider, last, more, AreCut, IsParted, Parted}
 use Rattle.rz_stmt_brackets.specs.Statements.{open_behind, open_behind_all}
 use Rattle.rz_stmt_brackets.specs.declared.pieces.Divider.{Divider}
 
-neither : (p q : Bool) → (p || q) ≡ false → (p ≡ false) × (q ≡ false)
-neither true q e = absurd (cc e)
-neither false q e = (refl, e)
-
-either_true : (a b : Bool) → b ≡ true → (a || b) ≡ true
-either_true true b is = refl
-either_true false b is = is
-
 module _ (divider : Divider) where
   pub goes_past : (depth : ℕ) (front behind : List Token) (sign : Token) → divides_at divider (open_behind_all front depth) sign ≡ true
       → has_divider divider depth (front ++ sign ∷ behind) ≡ true
   goes_past depth [] behind sign here = ap (λ (b : Bool). b || has_divider divider (open_behind sign.shape depth) behind) here
   goes_past depth (token ∷ front) behind sign here =
-      either_true (divides_at divider depth token) _ (goes_past (open_behind token.shape depth) front behind sign here)
+      or_right (divides_at divider depth token) _ (goes_past (open_behind token.shape depth) front behind sign here)
 
   same_front : (depth : ℕ) (f g b d : List Token) (l m : Token) → has_divider divider depth f ≡ false → has_divider divider depth g ≡ false
       → divides_at divider (open_behind_all f depth) l ≡ true → divides_at divider (open_behind_all g depth) m ≡ true
@@ -29,19 +22,19 @@ module _ (divider : Divider) where
       tails : l ∷ b ≡ m ∷ d → b ≡ d
       tails e = cc e
   same_front depth [] (y ∷ g) b d l m nf ng el em is =
-      absurd (true_false (sym el ∙ ap (divides_at divider depth) (heads is) ∙ (neither _ _ ng).0))
+      absurd (true_false (sym el ∙ ap (divides_at divider depth) (heads is) ∙ (or_parts _ _ ng).0))
     where
       heads : l ∷ b ≡ y ∷ (g ++ m ∷ d) → l ≡ y
       heads e = cc e
   same_front depth (x ∷ f) [] b d l m nf ng el em is =
-      absurd (true_false (sym em ∙ ap (divides_at divider depth) (sym (heads is)) ∙ (neither _ _ nf).0))
+      absurd (true_false (sym em ∙ ap (divides_at divider depth) (sym (heads is)) ∙ (or_parts _ _ nf).0))
     where
       heads : x ∷ (f ++ l ∷ b) ≡ m ∷ d → x ≡ m
       heads e = cc e
   same_front depth (x ∷ f) (y ∷ g) b d l m nf ng el em is =
       let head = heads is in
-      let r = same_front (open_behind x.shape depth) f g b d l m (neither _ _ nf).1
-      (subst (λ (t : Token). has_divider divider (open_behind t.shape depth) g ≡ false) (sym head) (neither _ _ ng).1) el
+      let r = same_front (open_behind x.shape depth) f g b d l m (or_parts _ _ nf).1
+      (subst (λ (t : Token). has_divider divider (open_behind t.shape depth) g ≡ false) (sym head) (or_parts _ _ ng).1) el
       (subst (λ (t : Token). divides_at divider (open_behind_all g (open_behind t.shape depth)) m ≡ true) (sym head) em) (tails is) in
       ((λ i. head i ∷ r.0 i), r.1)
     where
