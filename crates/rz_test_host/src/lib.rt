@@ -1,14 +1,20 @@
-//! Tests of what no command shows: the host's files and streams, folders and streams in memory, and calls that
-//! commands make with other arguments. It rests on `rz_core`, `rz_folder`, `rz_show` and `rz_fork`, and has no
-//! code that ships. `replaced_files` lets each call of a write fail in turn, and changes with `replace` of
-//! `rz_folder`.
+//! Tests of what no command shows: the host's files and streams, folders and streams in memory, and the layout of a
+//! fork. Each test is a table of calls in turn, with what each gives. It rests on `rz_core`, `rz_folder`, `rz_fork` and
+//! `rz_test_tables`, and has no code that ships. `failing` lets each call of a write or a read fail in turn, and changes
+//! with `replace` of `rz_folder`.
 #![tactic(auto)]
 
 #[cfg(test)]
-mod folders;
+mod failing;
+#[cfg(test)]
+mod files;
 #[cfg(test)]
 mod forks;
 #[cfg(test)]
-mod replaced_files;
+mod memory;
 #[cfg(test)]
-mod shown;
+mod replaced;
+#[cfg(test)]
+mod steps;
+#[cfg(test)]
+mod tables;

@@ -1,7 +1,7 @@
 //! Tests of types and rows: which rules fields break, which declaration is found, what bytes tell under a declaration,
-//! that what is read is compiled to the bytes again, and how it is shown. It rests on `rz_types_table`, `rz_types_check`,
-//! `rz_layout`, `rz_unlay`, `rz_show`, `rz_show`, crates below them, `rz_stmt` and `rz_test_tables`, and has no code that
-//! ships. It changes with what these promise.
+//! that what is read is compiled to the bytes again, how it is shown, and how a resource is shown as bytes. It rests on
+//! `rz_types_table`, `rz_types_check`, `rz_layout`, `rz_unlay`, `rz_show`, crates below them, `rz_stmt` and
+//! `rz_test_tables`, and has no code that ships. It changes with what these promise.
 #![tactic(auto)]
 
 #[cfg(test)]
@@ -14,6 +14,8 @@ mod reads;
 mod rows;
 #[cfg(test)]
 mod show;
+#[cfg(test)]
+mod shown_resources;
 #[cfg(test)]
 mod shows;
 #[cfg(test)]

@@ -1,0 +1,43 @@
+/// A folder in memory has room for what was reserved.
+pub const ROOM: &str = "
+memory insert a old =>\x20
+memory write a  => Failed
+memory reserve 2 8 =>\x20
+memory write ab new => Done
+memory write a 345 => Failed
+memory write a 34 => Done
+memory write   => Failed
+memory bytes a => 34
+memory bytes ab => new
+memory bytes b => none
+memory faults  => 0 3
+";
+
+/// The call that is named last fails.
+pub const NAMED: &str = "
+memory insert a old =>\x20
+memory fail 1 =>\x20
+memory fail 2 =>\x20
+memory read a => old
+memory read a => Failed
+memory read b => Missing
+memory faults  => 1 0
+";
+
+/// A stream in memory takes a front of the put that is named.
+pub const PUTS: &str = "
+sink reserve 6 =>\x20
+sink fail 2 2 =>\x20
+sink put ab => Done
+sink put cde => Failed
+sink put 123 => Failed
+sink put 12 => Done
+sink bytes  => abcd12
+sink faults  => 2
+";
+
+/// A fork of one resource.
+pub const FORKS: &str = "
+fork written => right
+fork read => right
+";
