@@ -19,7 +19,8 @@ use Rattle.rz_lex.specs.declared.raw_line.RawLine.{RawLine}
 use Rattle.rz_core.specs.Stop.{halt_of, IsReadFault, Meets, OnFault, OnRefusal, Yields}
 use Rattle.rz_lex.specs.Lines.{HasOpenComment}
 use Rattle.rz_pre.specs.Line.{Does}
-use Rattle.rz_pre.specs.Program.{ends, fails, innermost, opens_after, state_after, too_deep, live_after, start, Enters, Failure, Follows, HasText, IncludedGoes, Includes, LineGoes, LinesGo, NamedGoes, NamesGo, Opens, OpensAs, State, TextGoes}
+use Rattle.rz_pre.specs.Program.{ends, fails, innermost, opens_after, state_after, too_deep, live_after, start, Enters, Follows, HasText, IncludedGoes, Includes, LineGoes, LinesGo, NamedGoes, NamesGo, Opens, OpensAs, State, TextGoes}
+use Rattle.rz_pre.specs.declared.program.Failure.{Failure}
 use Rattle.rz_pre.specs.Live.{live_in, put, shapes_of, Live}
 use Rattle.rz_pre.specs.Macros.{rows_of}
 use Rattle.rz_pre.specs.Reading.{alone, included_in, state_of, together, with_state, Finishes, IsAnswer, OfProgram, Steps}

@@ -20,7 +20,7 @@ use Rattle.rz_pre.specs.declared.act.Act.TheVariants.{Begin, End, Include, Put, 
 use Rattle.rz_pre.specs.declared.condition.Tool.{Tool}
 use Rattle.rz_pre.specs.declared.conditional.Open.{Open}
 use Rattle.rz_pre.specs.declared.program.Def.{Def}
-pub use Rattle.rz_pre.specs.declared.program.Failure.{Failure}
+use Rattle.rz_pre.specs.declared.program.Failure.{Failure}
 
 -- what was read so far: what is live, the tokens that were put out, and the names under which files were opened
 pub record State : Type 0 where

@@ -13,7 +13,8 @@ use Rattle.rz_core.specs.declared.stop.Halt.TheVariants.{NoMemory, ReadFault, Re
 use Rattle.rz_pre.specs.Line.{Does}
 use Rattle.rz_pre.specs.Live.{live_in}
 use Rattle.rz_pre.specs.Macros.{rows_of}
-use Rattle.rz_pre.specs.Program.{fails, innermost, opens_after, state_after, Failure, State}
+use Rattle.rz_pre.specs.Program.{fails, innermost, opens_after, state_after, State}
+use Rattle.rz_pre.specs.declared.program.Failure.{Failure}
 use Rattle.rz_pre.specs.declared.act.Act.{Act}
 use Rattle.rz_pre.specs.declared.act.Act.TheVariants.{Include}
 use Rattle.rz_pre.specs.declared.condition.Tool.{Tool}

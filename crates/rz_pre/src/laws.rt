@@ -3,7 +3,8 @@ ghost use Rattle.rz_folder.specs.Folder.{Files};
 ghost use Rattle.rz_lex.specs.declared.token.Shape.{Shape};
 ghost use Rattle.rz_pre.specs.Expand.{Expansion};
 ghost use Rattle.rz_pre.specs.Live.{Live};
-ghost use Rattle.rz_pre.specs.Program.{Failure, ProgramGoes, State};
+ghost use Rattle.rz_pre.specs.Program.{ProgramGoes, State};
+ghost use Rattle.rz_pre.specs.declared.program.Failure.{Failure};
 ghost use Rattle.rz_pre.specs.declared.condition.Tool.{Tool};
 ghost use Rattle.rz_pre.specs.declared.program.Def.{Def};
 

@@ -18,7 +18,8 @@ use Rattle.rz_pre_laws.specs.Groups.{are_others, is_elif, is_else, is_endif, is_
 use Rattle.rz_pre_laws.specs.Groups as groups
 use Rattle.rz_pre.specs.Line.{bad_directive, behind_first, defined, ended, free_word, included, is_kept, open_part, or_bad, otherwise, part_of, part_where, simple, tested, text_in, undefined, word_in, Acts, Asks, Directs, Does, PutsOut, Says, Turns, WhereKept}
 use Rattle.rz_pre.specs.Live.{Live}
-use Rattle.rz_pre.specs.Program.{innermost, state_after, Failure, Follows, Includes, LineGoes, LinesGo, State, WithFiles}
+use Rattle.rz_pre.specs.Program.{innermost, state_after, Follows, Includes, LineGoes, LinesGo, State, WithFiles}
+use Rattle.rz_pre.specs.declared.program.Failure.{Failure}
 use Rattle.rz_pre.specs.declared.act.Act.{Act}
 use Rattle.rz_pre.specs.declared.act.Act.TheVariants as acts
 use Rattle.rz_pre.specs.declared.condition.Tool.{Tool}

@@ -18,7 +18,8 @@ use Rattle.rz_pre_source.specs.declared.directive.Directive.TheVariants as direc
 use Rattle.rz_pre_laws.specs.Definitions.{AreFree, IsFree, IsFreeName}
 use Rattle.rz_pre.specs.Line.{behind_first, defined, ended, free_word, if_free, included, is_kept, open_part, or_bad, otherwise, passed_over, simple, tested, text_in, undefined, word_in, Acts, Directs, Does, Obeys, PutsOut, Says, Turns, WhereKept}
 use Rattle.rz_pre.specs.Live.{put, shapes_of, Live}
-use Rattle.rz_pre.specs.Program.{live_after, nothing_live, start, with_file, Failure, ProgramGoes, State}
+use Rattle.rz_pre.specs.Program.{live_after, nothing_live, start, with_file, ProgramGoes, State}
+use Rattle.rz_pre.specs.declared.program.Failure.{Failure}
 use Rattle.rz_pre_laws.specs.Unfolding.{behind_all, outcome, EachActs, Entry, Line, Opened}
 use Rattle.rz_pre.specs.declared.act.Act.{Act}
 use Rattle.rz_pre.specs.declared.act.Act.TheVariants as acts

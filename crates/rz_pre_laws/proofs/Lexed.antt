@@ -11,7 +11,8 @@ use Rattle.rz_lex.specs.declared.token.Token.{Token}
 use Rattle.rz_pre.proofs.Lexing.{start_lexed, steps_lexed}
 use Rattle.rz_pre.specs.Lexed.{HaveLexedTexts, IsLexed}
 use Rattle.rz_pre.specs.Line.{Does}
-use Rattle.rz_pre.specs.Program.{opens_after, start, state_after, with_file, Failure, ProgramGoes, State}
+use Rattle.rz_pre.specs.Program.{opens_after, start, state_after, with_file, ProgramGoes, State}
+use Rattle.rz_pre.specs.declared.program.Failure.{Failure}
 use Rattle.rz_pre.specs.Reading.{included_in}
 use Rattle.rz_pre.specs.declared.act.Act.{Act}
 use Rattle.rz_pre.specs.declared.condition.Tool.{Tool}

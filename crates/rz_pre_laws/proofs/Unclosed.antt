@@ -7,7 +7,8 @@ use Rattle.rz_lex.specs.declared.raw_line.RawLine.{RawLine}
 use Rattle.rz_pre_laws.specs.Groups.{are_others, is_elif, is_else, is_endif, is_group, is_opening, kind, lines_of, lines_unclosed, waiting, Chooses, Group, GroupGoes, Holds, Others, OthersGo}
 use Rattle.rz_pre_laws.specs.Groups as groups
 use Rattle.rz_pre.specs.Line.{is_kept, Does}
-use Rattle.rz_pre.specs.Program.{fails, innermost, open_if, Failure, Includes, LinesGo, State, WithFiles}
+use Rattle.rz_pre.specs.Program.{fails, innermost, open_if, Includes, LinesGo, State, WithFiles}
+use Rattle.rz_pre.specs.declared.program.Failure.{Failure}
 use Rattle.rz_pre.specs.declared.act.Act.TheVariants as acts
 use Rattle.rz_pre.specs.declared.condition.Tool.{Tool}
 use Rattle.rz_pre.specs.declared.conditional.Open.{Open}

@@ -9,7 +9,8 @@ use Rattle.rz_pre_source.specs.declared.directive.Directive.{Directive}
 use Rattle.rz_pre_source.specs.declared.directive.Directive.TheVariants as directives
 use Rattle.rz_core.specs.Answers.{Then}
 use Rattle.rz_pre.specs.Line.{part_where, Does}
-use Rattle.rz_pre.specs.Program.{Failure, Includes, LineGoes, State, WithFiles}
+use Rattle.rz_pre.specs.Program.{Includes, LineGoes, State, WithFiles}
+use Rattle.rz_pre.specs.declared.program.Failure.{Failure}
 use Rattle.rz_pre.specs.declared.act.Act.{Act}
 use Rattle.rz_pre.specs.declared.act.Act.TheVariants.{Begin, Turn}
 use Rattle.rz_pre.specs.declared.condition.Tool.{Tool}

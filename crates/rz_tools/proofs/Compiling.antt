@@ -4,7 +4,7 @@ use Rattle.std.specs.Prelude.{IfSome}
 use Rattle.std.specs.declared.result.Result.{Result}
 use Rattle.rz_core.proofs.Stops.{then_halts}
 use Rattle.rz_core.specs.Stop.{seen, Yields}
-use Rattle.rz_tools_answer.specs.Answer.{Failing}
+use Rattle.rz_tools_answer.specs.declared.made.Failing.{Failing}
 use Rattle.rz_tools_answer.specs.Made.{making_of}
 use Rattle.rz_tools_answer.specs.declared.made.Made.{Made}
 use Rattle.rz_core.specs.declared.stop.Halt.{Halt}

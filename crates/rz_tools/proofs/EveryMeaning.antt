@@ -9,7 +9,8 @@ use Rattle.rz_core.specs.declared.fault.Mark.{Mark}
 use Rattle.rz_core.specs.declared.resource.Resource.{Resource}
 use Rattle.rz_stmt_items.specs.Compile.{Compile}
 use Rattle.rz_lex.specs.declared.token.Token.{Token}
-use Rattle.rz_pre.specs.Program.{Failure, State}
+use Rattle.rz_pre.specs.Program.{State}
+use Rattle.rz_pre.specs.declared.program.Failure.{Failure}
 use Rattle.rz_pre.specs.declared.condition.Tool.{Tool}
 use Rattle.rz_pre.specs.declared.condition.Tool.TheVariants as tools
 use Rattle.rz_stmt.specs.Grammar.{mark_of, Compiles, Data, Declares, Empty, Lists, Parses, Statement}

@@ -10,7 +10,8 @@ use Rattle.rz_core.specs.declared.resource.Resource.{Resource}
 use Rattle.rz_folder.specs.Folder.{Files}
 use Rattle.rz_lex.specs.declared.token.Token.{Token}
 use Rattle.rz_folder_paths.specs.Names.{missing_file}
-use Rattle.rz_pre.specs.Program.{Failure, ProgramGoes, State}
+use Rattle.rz_pre.specs.Program.{ProgramGoes, State}
+use Rattle.rz_pre.specs.declared.program.Failure.{Failure}
 use Rattle.rz_pre.specs.declared.condition.Tool.{Tool}
 use Rattle.rz_pre.specs.declared.condition.Tool.TheVariants as tools
 use Rattle.rz_pre.specs.declared.program.Def.{Def}

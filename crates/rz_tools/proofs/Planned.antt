@@ -9,7 +9,8 @@ use Rattle.rz_folder.specs.Folder.{Files}
 use Rattle.rz_tools_args.specs.Command.{Asked, DeRez, DeRezAsked, IsCommand, IsMisplaced}
 use Rattle.rz_tools.specs.Again.{HoldsFile}
 use Rattle.rz_tools.specs.Program.{command, misplaced, Answers, AnswersTo}
-use Rattle.rz_tools_answer.specs.Answer.{misused, Answer, Answered, Failing, Making}
+use Rattle.rz_tools_answer.specs.Answer.{misused, Answer, Answered, Making}
+use Rattle.rz_tools_answer.specs.declared.made.Failing.{Failing}
 use Rattle.rz_tools_answer.specs.Made.{making_of}
 use Rattle.rz_tools_answer.specs.Plan.{answer_of, EndsIn}
 use Rattle.rz_tools_answer.specs.declared.outcome.Outcome.TheVariants.{Done}

@@ -27,7 +27,7 @@ use Rattle.rz_tools.specs.Shown.{Known}
 use Rattle.rz_tools.specs.Sources.{Compiled}
 use Rattle.rz_tools_answer.specs.declared.made.Made.{Made}
 use Rattle.rz_core.specs.declared.stop.Halt.{Halt}
-use Rattle.rz_tools_answer.specs.Answer.{Failing}
+use Rattle.rz_tools_answer.specs.declared.made.Failing.{Failing}
 use Rattle.rz_tools_args.specs.Command.{DeRezAsked}
 use Rattle.rz_tools.proofs.Sourced.{beside}
 

@@ -17,7 +17,8 @@ use Rattle.rz_fork.specs.Contents.{Fork}
 use Rattle.rz_fork.specs.declared.fault.ForkFault.{ForkFault}
 use Rattle.rz_tools_args.specs.Command.{Asked, DeRez, DeRezAsked, IsCommand}
 use Rattle.rz_tools.specs.Again.{AreShort, HoldsFile, MeansAgain, ShowsAgain, SparesWords}
-use Rattle.rz_tools_answer.specs.Answer.{Answer, Failing, Making}
+use Rattle.rz_tools_answer.specs.Answer.{Answer, Making}
+use Rattle.rz_tools_answer.specs.declared.made.Failing.{Failing}
 use Rattle.rz_tools.specs.Chosen.{chosen}
 use Rattle.rz_tools.specs.DeRez.{derez_around, known_by, AnswersDeRez, HasFileText, HasForkText, ShowsEach, TypesAre}
 use Rattle.rz_tools.specs.Sources.{AreCompiled, Compiled}

@@ -17,7 +17,8 @@ use Rattle.rz_pre.specs.Reading.{IsProgram, OfProgram}
 use Rattle.rz_pre.specs.declared.program.Def.{Def}
 use Rattle.rz_pre.specs.declared.program.Program.{Program}
 use Rattle.rz_stmt.specs.Statements.{AreStatements}
-use Rattle.rz_tools_answer.specs.Answer.{Failing, Making}
+use Rattle.rz_tools_answer.specs.Answer.{Making}
+use Rattle.rz_tools_answer.specs.declared.made.Failing.{Failing}
 use Rattle.rz_tools.specs.Held.{macros_held}
 use Rattle.rz_tools_answer.specs.Made.{making_of, SaysBeside}
 use Rattle.rz_tools.specs.Sources as sources

@@ -7,7 +7,7 @@ use Rattle.rz_pre.specs.Program.{ProgramGoes, State}
 use Rattle.rz_pre.specs.declared.condition.Tool.{Tool}
 use Rattle.rz_pre.specs.declared.program.Def.{Def}
 use Rattle.rz_tools.specs.Again.{SparesWords}
-use Rattle.rz_tools_answer.specs.Answer.{Failing}
+use Rattle.rz_tools_answer.specs.declared.made.Failing.{Failing}
 use Rattle.rz_tools.specs.Sources.{AreCompiled, Compiled}
 use Rattle.rz_tools_values.specs.Around.{Around}
 use Rattle.rz_tools.proofs.Reserved.{words_spared, AttributesAreSpelled, KeywordsAreSpelled}

@@ -13,7 +13,7 @@ use Rattle.rz_pre.specs.declared.program.Program.{Program}
 use Rattle.rz_core.specs.declared.stop.Halt.{Halt}
 use Rattle.rz_core.specs.declared.stop.Halt.TheVariants as halts
 use Rattle.rz_core.specs.Stop.{seen, Yields}
-use Rattle.rz_tools_answer.specs.Answer.{Failing}
+use Rattle.rz_tools_answer.specs.declared.made.Failing.{Failing}
 use Rattle.rz_tools.specs.DeRez.{derez_around, derez_setting, TypesAre}
 use Rattle.rz_tools.specs.Held.{compiled_of}
 use Rattle.rz_tools.specs.Sources.{HasWork, IsProgramOf, Unsaid}

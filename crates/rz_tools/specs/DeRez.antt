@@ -11,7 +11,8 @@ use Rattle.rz_bridge_files.specs.Contents.{fork_in}
 use Rattle.rz_fork.specs.Contents.{Fork}
 use Rattle.rz_folder_paths.specs.Names.{missing_file}
 use Rattle.rz_pre.specs.declared.condition.Tool.TheVariants as tools
-use Rattle.rz_tools_answer.specs.Answer.{Answer, Answered, Failing, Making, shown}
+use Rattle.rz_tools_answer.specs.Answer.{Answer, Answered, Making, shown}
+use Rattle.rz_tools_answer.specs.declared.made.Failing.{Failing}
 use Rattle.rz_tools.specs.Chosen.{chosen}
 use Rattle.rz_tools.specs.Shown.{Known, Shown}
 use Rattle.rz_tools.specs.Sources.{AreCompiled, Compiled, SaidBeside}

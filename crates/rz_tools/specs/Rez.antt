@@ -8,7 +8,8 @@ use Rattle.rz_folder.specs.Folder.{Files}
 use Rattle.rz_pre.specs.Program.{State}
 use Rattle.rz_pre.specs.declared.condition.Tool.TheVariants as tools
 use Rattle.rz_tools_args.specs.Command.{RezAsked}
-use Rattle.rz_tools_answer.specs.Answer.{Answer, Answered, Failing, Making, written}
+use Rattle.rz_tools_answer.specs.Answer.{Answer, Answered, Making, written}
+use Rattle.rz_tools_answer.specs.declared.made.Failing.{Failing}
 use Rattle.rz_tools_values.specs.Around.{Around}
 use Rattle.rz_tools_values.specs.declared.setting.Setting.{Setting}
 use Rattle.rz_tools_output.specs.Base.{base_of, Base}

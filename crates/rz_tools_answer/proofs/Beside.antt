@@ -5,7 +5,7 @@ use Rattle.rz_core.specs.declared.fault.Fault.{Fault}
 use Rattle.rz_core.specs.declared.stop.Halt.TheVariants as halts
 use Rattle.rz_core.specs.declared.stop.Stop.{Stop}
 use Rattle.rz_core.specs.declared.stop.Stop.TheVariants.{Refused, NoMemory}
-use Rattle.rz_tools_answer.specs.Answer.{Failing}
+use Rattle.rz_tools_answer.specs.declared.made.Failing.{Failing}
 use Rattle.rz_tools_answer.specs.Made.{SaysBeside}
 use Rattle.rz_tools_answer.specs.Warning.{warning_lines}
 

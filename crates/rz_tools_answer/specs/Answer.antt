@@ -5,7 +5,7 @@ use Rattle.std.specs.FinMap as map
 use Rattle.rz_core.specs.Message.{fault_line}
 use Rattle.rz_folder.specs.Folder.{Files}
 use Rattle.rz_tools_answer.specs.Message.{usage_line}
-pub use Rattle.rz_tools_answer.specs.declared.made.Failing.{Failing}
+use Rattle.rz_tools_answer.specs.declared.made.Failing.{Failing}
 use Rattle.rz_tools_answer.specs.declared.outcome.Outcome.{Outcome}
 use Rattle.rz_tools_answer.specs.declared.outcome.Outcome.TheVariants.{Done, Refused, Usage}
 

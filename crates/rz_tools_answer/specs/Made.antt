@@ -8,7 +8,8 @@ use Rattle.rz_core.specs.declared.stop.Halt.{Halt}
 use Rattle.rz_core.specs.declared.stop.Halt.TheVariants as halts
 use Rattle.rz_core.specs.declared.stop.Stop.{Stop}
 use Rattle.rz_core.specs.declared.stop.Stop.TheVariants.{Refused, NoMemory}
-use Rattle.rz_tools_answer.specs.Answer.{Failing, Making}
+use Rattle.rz_tools_answer.specs.Answer.{Making}
+use Rattle.rz_tools_answer.specs.declared.made.Failing.{Failing}
 use Rattle.rz_tools_answer.specs.Warning.{said_beside, IsWarningText}
 use Rattle.rz_tools_answer.specs.declared.made.Made.{Made}
 

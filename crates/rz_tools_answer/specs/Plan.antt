@@ -10,7 +10,8 @@ use Rattle.rz_folder.specs.declared.folder.Written.TheVariants as ends
 use Rattle.rz_tools_answer.specs.Answer as answer
 use Rattle.rz_core.specs.declared.stop.Halt.{Halt}
 use Rattle.rz_core.specs.declared.stop.Halt.TheVariants as halts
-use Rattle.rz_tools_answer.specs.Answer.{files_after, refused, Answer, Failing}
+use Rattle.rz_tools_answer.specs.Answer.{files_after, refused, Answer}
+use Rattle.rz_tools_answer.specs.declared.made.Failing.{Failing}
 use Rattle.rz_tools_answer.specs.declared.outcome.Outcome.{Outcome}
 use Rattle.rz_tools_answer.specs.declared.outcome.Outcome.TheVariants.{Done, Refused}
 use Rattle.rz_tools_answer.specs.declared.plan.Plan.{Plan}

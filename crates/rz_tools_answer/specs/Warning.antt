@@ -2,7 +2,8 @@
 use Rattle.std.specs.Prelude.{◌≡◌, ℕ, List, length, Ok, Err}
 use Rattle.std.specs.List.{flat_map, AllByRecursion}
 use Rattle.std.specs.declared.result.Result.{Result}
-use Rattle.rz_tools_answer.specs.Answer.{Failing, Making}
+use Rattle.rz_tools_answer.specs.Answer.{Making}
+use Rattle.rz_tools_answer.specs.declared.made.Failing.{Failing}
 use Rattle.rz_core.specs.Message.{fault_line, IsNameable}
 use Rattle.rz_core.specs.declared.fault.Fault.{Fault}
 

@@ -2,7 +2,8 @@
 use Rattle.std.specs.Prelude.{◌≡◌, ◌<◌, ◌^◌, length, List}
 use Rattle.std.specs.List.{AllByRecursion}
 use Rattle.rz_core.specs.Message.{IsNameable}
-use Rattle.rz_tools_answer.specs.Answer.{misused, refused, Answer, Failing, Write}
+use Rattle.rz_tools_answer.specs.Answer.{misused, refused, Answer, Write}
+use Rattle.rz_tools_answer.specs.declared.made.Failing.{Failing}
 use Rattle.rz_tools_answer.specs.Warning.{IsWarningText}
 use Rattle.rz_tools_answer.specs.declared.outcome.Outcome.{Outcome}
 use Rattle.rz_tools_answer.specs.declared.outcome.Outcome.TheVariants.{Done, Usage, Refused, ReadFault, WriteFault, NoMemory}

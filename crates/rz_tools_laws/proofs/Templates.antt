@@ -30,7 +30,7 @@ use Rattle.rz_tools.specs.DeRez.{derez_around, TypesAre}
 use Rattle.rz_tools.specs.Rez.{around_of}
 use Rattle.rz_tools.specs.Sources.{compiled, Compiled, HasWork, IsProgramOf}
 use Rattle.rz_tools.specs.Step.{Means, Steps, WarnedFault}
-use Rattle.rz_tools_answer.specs.Answer.{Failing}
+use Rattle.rz_tools_answer.specs.declared.made.Failing.{Failing}
 use Rattle.rz_tools_args.specs.Command.{DeRez, DeRezAsked, IsCommand, Rez, RezAsked}
 use Rattle.rz_tools_laws.specs.Templates.{AreTemplates, IsTemplate}
 use Rattle.rz_tools_work.proofs.Numbered.{still_lexed}

@@ -3,7 +3,7 @@ use Rattle.std.specs.Prelude.{IfSome}
 use Rattle.rz_pre.specs.Program.{ProgramGoes}
 use Rattle.rz_core.specs.Stop.{Yields}
 use Rattle.rz_core.specs.declared.stop.Halt.{Halt}
-use Rattle.rz_pre.specs.Program.{Failure}
+use Rattle.rz_pre.specs.declared.program.Failure.{Failure}
 use Rattle.rz_pre.specs.Reading.{OfProgram}
 use Rattle.rz_tools.proofs.Sourced.{no_program}
 use Rattle.rz_tools.proofs.sources.read_program.Goals as goal
