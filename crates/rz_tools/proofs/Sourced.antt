@@ -1,10 +1,10 @@
 -- What sources make, and what is made of it.
-use Rattle.std.proofs.Common.{◌≡◌, inl, ℕ, List, [], Ok, Err, Some, None, refl, sym, ap, subst, ◌∙◌}
+use Rattle.std.proofs.Common.{◌≡◌, inl, inr, ℕ, List, [], Ok, Err, Some, None, refl, sym, subst}
 use Rattle.std.specs.Prelude.{IfSome}
 use Rattle.std.specs.Str.{str_to_ascii_lowercase}
 use Rattle.std.specs.declared.option.Option.{Option}
 use Rattle.std.specs.declared.result.Result.{Result}
-use Rattle.rz_core.proofs.Stops.{then_halts, yields_so}
+use Rattle.rz_core.proofs.Stops.{halt_so, then_halts, yields_so}
 use Rattle.rz_core.specs.Answers.{Then}
 use Rattle.rz_core.specs.Stop.{seen, Meets, Yields}
 use Rattle.rz_core.specs.declared.fault.Fault.{Fault}
@@ -59,7 +59,7 @@ module _ (around : Around) (list : List Resource) (cut : List (List Token)) (pro
     (
       record { fault = fault; warnings = warnings },
       means,
-      refuses ∙ ap (λ (f : List (List ℕ)). record { fault = fault; files = f; said = warning_lines f warnings }) is.files,
+      subst (λ (f : List (List ℕ)). failing ≡ record { fault = fault; files = f; said = warning_lines f warnings }) is.files refuses,
     ),
   )
 
@@ -120,6 +120,13 @@ module _ {X : Type 0} (First : Files → Result X Failing → Type 0) (Next : Fi
       → IfSome before (λ files. Yields (seen making_of (Err stop)) (Then (First files) (Next files)))
   then_stopped None stop first = tt
   then_stopped (Some files) stop first = then_halts (First files) (Next files) stop first
+
+-- nothing is made where the program was not read
+pub read_stopped : (First : Files → Result State Failing → Type 0) (Next : Files → State → Result Making Failing → Type 0) (before : Option Files) (stop : Halt Failing)
+    → IfSome before (λ files. Yields (Err stop) (OfProgram (First files))) → IfSome before (λ files. Yields (seen making_of (Err stop)) (Then (First files) (Next files)))
+read_stopped First Next None stop read = tt
+read_stopped First Next (Some files) stop read =
+    halt_so stop (OfProgram (First files)) (Then (First files) (Next files)) (λ failing is. inr (failing, is, refl)) read
 
 -- what is made behind a program that was read, whose state is not told
 pub read_made : (First : Files → Result State Failing → Type 0) (Next : Files → State → Result Making Failing → Type 0) (program : Program) (before : Option Files)

@@ -24,14 +24,14 @@ pub fn put(
 
 /// What a call of the list answers, with its fault on this line; of a resource that there isn't it keeps what was looked for.
 pub fn on_line(
-    left: Result<(), Stop<SetFault>>,
+    ended: Result<(), Stop<SetFault>>,
     mark: Mark,
     sought: Kept,
 ) -> Result<(), Stop<Fault>>
-    ensures left { result ≡ fault_seen (set_fault mark sought) left }
+    ensures left { result ≡ fault_seen (set_fault mark sought) ended }
     ensures nameable { (files : ℕ) → mark.file < files → OnFault result (IsNameable files) }
 {
-    match left {
+    match ended {
         Ok(()) => Ok(()),
         Err(Stop::Refused(fault)) => Err(Stop::Refused(set_fault(fault, mark, sought))),
         Err(Stop::NoMemory) => Err(Stop::NoMemory),

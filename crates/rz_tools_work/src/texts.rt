@@ -10,7 +10,9 @@ use crate::include::list_named;
 use crate::pick::id_said;
 use crate::read::{bytes_halted, file_named};
 use crate::renaming::chosen_in_list;
-use rz_core::{Bytes, Facts, Fault, FileNames, Halt, Mark, NoMemory, OsType, Resource, Resources, Stop};
+use rz_core::{
+    Bytes, Facts, Fault, FileNames, Halt, Mark, NoMemory, OsType, Resource, Resources, Stop,
+};
 use rz_folder::Folder;
 use rz_set::Pick;
 use rz_types_fields::{FormatArg, FormatArgs, ResKey, TextPart, Texts, text_of};

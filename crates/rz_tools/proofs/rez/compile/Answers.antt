@@ -6,7 +6,7 @@ use Rattle.rz_tools_answer.specs.Made.{making_of}
 use Rattle.rz_tools.specs.Rez.{around_of, IsMadeOf}
 use Rattle.rz_tools.specs.Sources.{IsProgramOf}
 use Rattle.rz_tools.proofs.Compiling.{still_told}
-use Rattle.rz_tools.proofs.Sourced.{read_made, then_stopped}
+use Rattle.rz_tools.proofs.Sourced.{read_made, read_stopped}
 use Rattle.rz_tools.proofs.rez.compile.Goals as goal
 
 pub returns-in-Ok-clause-made : goal.returns-in-Ok-clause-made
@@ -20,5 +20,5 @@ returns-in-Ok-clause-made g c =
 pub returns-in-Err-clause-made : goal.returns-in-Err-clause-made
 returns-in-Err-clause-made g c =
     let asked = rez c.args.words.now in
-    then_stopped (λ files. IsProgramOf (around_of c.args.moment asked files) asked.files asked.paths asked.defs) (IsMadeOf c.args.moment asked)
+    read_stopped (λ files. IsProgramOf (around_of c.args.moment asked files) asked.files asked.paths asked.defs) (IsMadeOf c.args.moment asked)
     (g.F.Folder.files c.args.folder.now) c.in-Err.stop c.in-Err.ensures.read
