@@ -1,3 +1,5 @@
+//! One case: what a run is given, and what it must leave.
+
 use std::alloc::Global;
 
 /// One run of a command: what it is given, and what it must leave.

@@ -1,3 +1,5 @@
+//! What a run left, compared with what its case wants.
+
 use crate::case::Case;
 use crate::difference::{Difference, Found, What};
 use crate::runner::Ran;

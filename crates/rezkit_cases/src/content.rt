@@ -1,3 +1,5 @@
+//! The bytes that the content of an entry spells.
+
 use crate::entry::Entry;
 use crate::trouble::Trouble;
 use std::alloc::Global;

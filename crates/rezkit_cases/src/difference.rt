@@ -1,3 +1,5 @@
+//! A difference, as it is printed.
+
 use std::fmt;
 
 /// The most bytes that are shown of what was wanted and of what came.

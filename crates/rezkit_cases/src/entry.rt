@@ -1,3 +1,5 @@
+//! The entries of a case file: keys, arguments and contents.
+
 use crate::trouble::Trouble;
 use std::alloc::Global;
 

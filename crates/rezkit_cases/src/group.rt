@@ -1,3 +1,5 @@
+//! The case files of a folder, and the cases of each.
+
 use crate::case::Case;
 use crate::compare::differences;
 use crate::reader::read_cases;

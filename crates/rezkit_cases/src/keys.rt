@@ -1,3 +1,5 @@
+//! What each key of an entry says of its case. A new key is an arm here, and a line of the README.
+
 use crate::case::{Case, Left, Piece, Stored};
 use crate::content::{append_bytes, content_of};
 use crate::entry::Entry;

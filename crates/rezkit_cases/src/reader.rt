@@ -1,3 +1,5 @@
+//! A case file, read as its cases.
+
 use crate::case::Case;
 use crate::entry::entries;
 use crate::keys::add_entry;

@@ -1,3 +1,5 @@
+//! A case is run over a folder and streams in memory.
+
 use crate::case::Case;
 use crate::trouble::Trouble;
 use rz_core::Moment;

@@ -1,3 +1,5 @@
+//! How many cases were run, and how many differ.
+
 use std::fmt;
 use std::process::ExitCode;
 

@@ -1,3 +1,5 @@
+//! Why a case can't be read or run.
+
 use rz_core::NoMemory;
 use std::alloc::{AllocError, AllocFailed};
 use std::error::Error;

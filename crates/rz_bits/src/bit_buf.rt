@@ -1,3 +1,5 @@
+//! A list of bits that grows at its end and becomes bytes. See `specs/Bits` and `specs/BitBuf`.
+
 ghost use Rattle.std.specs.Prelude.{◌≡◌, ◌+◌, ◌^◌, ◌<◌, ◌≤◌, [], ◌++◌, length, OnOk, OnErr};
 ghost use Rattle.rz_bits.specs.Bits.{number_bits, bits_of, bytes_of};
 ghost use Rattle.rz_bits.specs.BitBuf.{missing, filled};

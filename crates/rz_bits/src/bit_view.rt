@@ -1,3 +1,5 @@
+//! The bits of bytes, read in place from any bit on. What they are is in `specs/Bits`.
+
 ghost use Rattle.std.specs.Prelude.{◌≡◌, ◌+◌, ◌*◌, ◌^◌, ◌==◌, ◌<◌, ◌≤◌, length, take, drop, IfOk, IfSome};
 ghost use Rattle.rz_bits.specs.Bits.{bits_of, front_bytes, number_bits, number_of};
 

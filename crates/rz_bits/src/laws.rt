@@ -1,3 +1,5 @@
+//! Laws: numbers and bytes are read back from bits, and bits fill a unit. See `specs/Bits`, `specs/BitBuf`.
+
 ghost use Rattle.std.specs.Prelude.{◌≡◌, ℕ, ◌%◌, ◌^◌, ◌<◌, Bool, List, length, slice_index};
 ghost use Rattle.rz_bits.specs.Bits.{number_bits, number_of, bits_of, bytes_of};
 ghost use Rattle.rz_bits.specs.BitBuf.{missing, filled};

@@ -1,3 +1,5 @@
+//! How bits are appended to those in bytes, the last of them open; changed only with `specs/Held`.
+
 ghost use Rattle.std.specs.Prelude.{◌≡◌, ◌+◌, ◌-◌, ◌*◌, ◌/◌, ◌%◌, ◌^◌, ◌<◌, ◌≤◌, ◌++◌, length, take, slice_index, OnOk, OnErr};
 ghost use Rattle.rz_bits.specs.Bits.{number_bits, bits_of, bytes_of};
 ghost use Rattle.rz_bits.specs.BitBuf.{missing};

@@ -1,3 +1,5 @@
+//! The CRC of 16 bits, by a table. What it is is in `specs/Check`.
+
 ghost use Rattle.std.specs.Prelude.{◌≡◌, ◌<◌, slice_index};
 ghost use Rattle.rz_bridge.specs.Check.{byte_more, crc_of};
 

@@ -1,3 +1,5 @@
+//! The rules of a header file of AppleDouble, and the first broken one. See `specs/AppleDouble`.
+
 ghost use Rattle.std.specs.Prelude.{◌≡◌, ◌≤◌, ◌<◌, ◌+◌, ◌*◌, ◌^◌, length, map, IfNone, IfSome};
 ghost use Rattle.rz_core.specs.Lists.{first_of};
 ghost use Rattle.rz_bridge.specs.Faults.{IsSayable};

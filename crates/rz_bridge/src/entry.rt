@@ -1,3 +1,5 @@
+//! The entries of AppleDouble and their bytes. What they are is in `specs/AppleDouble`.
+
 ghost use Rattle.std.specs.Prelude.{◌≡◌, ◌<◌, ◌≤◌, ◌+◌, ◌*◌, ◌==◌, ◌^◌, length};
 ghost use Rattle.std.specs.List.{find};
 ghost use Rattle.rz_bridge.specs.AppleDouble.{entry_at, entry_count, entries, part};

@@ -1,3 +1,5 @@
+//! A broken rule of a form, with a table of the rules. What a fault keeps is in `specs/Faults`.
+
 ghost use Rattle.std.specs.Prelude.{◌≡◌, ◌<◌, ◌^◌};
 ghost use Rattle.rz_bridge.specs.Faults.{fault};
 

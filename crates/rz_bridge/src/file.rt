@@ -1,3 +1,5 @@
+//! A file of the classic Macintosh, and what the Finder keeps of it; ranges are in `specs/Ranges`.
+
 ghost use Rattle.rz_bridge.specs.Ranges.{IsStored};
 
 use rz_core::{Bytes, OsType};

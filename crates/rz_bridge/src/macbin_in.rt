@@ -1,3 +1,5 @@
+//! The reader of MacBinary II; changed only with `specs/MacBinary`.
+
 ghost use Rattle.std.specs.Prelude.{◌≡◌, ◌≤◌, ◌<◌, ◌^◌, length, IfOk};
 ghost use Rattle.rz_core.specs.Stop.{Gives, OnFault};
 ghost use Rattle.rz_bridge.specs.Faults.{IsSayable};

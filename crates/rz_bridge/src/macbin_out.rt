@@ -1,3 +1,5 @@
+//! The writer of MacBinary II, header and forks; changed only with `specs/MacBinary`.
+
 ghost use Rattle.std.specs.Prelude.{◌≡◌, ◌≤◌, ◌<◌, ◌^◌, ◌++◌, if◌then◌else◌, length, IfOk, OnOk, Ok};
 ghost use Rattle.std.specs.Int.{cast_unsigned, w16};
 ghost use Rattle.rz_core.specs.Numbers.{be};

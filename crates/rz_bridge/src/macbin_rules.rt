@@ -1,3 +1,5 @@
+//! The places of MacBinary's forks, its rules, and the first broken one. See `specs/MacBinary`.
+
 ghost use Rattle.std.specs.Prelude.{◌≡◌, ◌≤◌, ◌<◌, ◌+◌, ◌^◌, length, IfNone, IfSome};
 ghost use Rattle.rz_bridge.specs.Faults.{IsSayable};
 ghost use Rattle.rz_bridge.specs.MacBinary.{data_place, data_length, resource_place, resource_length, short_header, not_zero, below_129, newer_version, bad_crc, bad_length, truncated, header_torn, macbin_torn};

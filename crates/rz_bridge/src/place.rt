@@ -1,3 +1,5 @@
+//! Pieces of bytes, and bytes filled to a multiple of 128; changed only with `specs/Places`.
+
 ghost use Rattle.std.specs.Prelude.{◌≡◌, ◌<◌, ◌≤◌, ◌+◌, ◌^◌, ◌++◌, length, OnOk};
 ghost use Rattle.rz_bridge.specs.Places.{piece, filled, with_filler};
 

@@ -1,3 +1,5 @@
+//! What a writer refuses: a fork that is too long, a bad name; changed only with `specs/Faults`.
+
 ghost use Rattle.std.specs.Prelude.{◌≡◌, ◌≤◌, length, IfNone, IfSome};
 ghost use Rattle.rz_bridge.specs.Faults.{fork_too_long, bad_name, forks_refused, file_refused, IsSayable};
 

@@ -1,3 +1,5 @@
+//! The file in bytes of a form, and the resources of its fork. What they are is in `specs/Contents`.
+
 ghost use Rattle.std.specs.Prelude.{◌≡◌, ℕ, ◌<◌, ◌≤◌, ◌^◌, [], length, IfOk};
 ghost use Rattle.std.specs.List.{AllByRecursion};
 ghost use Rattle.rz_core.specs.Message.{IsMarked, IsNameable};

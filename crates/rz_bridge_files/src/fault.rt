@@ -1,3 +1,5 @@
+//! The faults of forms and of forks, with the mark of a line; changed only with `specs/Faults`.
+
 ghost use Rattle.std.specs.Prelude.{◌≡◌, ℕ};
 ghost use Rattle.rz_core.specs.Message.{IsMarked, IsNameable};
 ghost use Rattle.rz_bridge.specs.Faults.{IsSayable};

@@ -1,3 +1,5 @@
+//! Laws: files are named in one way, and forks of resources are found to be raw. See `specs/Names`.
+
 ghost use Rattle.std.specs.Prelude.{◌≡◌, ◌∷◌, ℕ, List, Result};
 ghost use Rattle.rz_core.specs.declared.fault.Fault.{Fault};
 ghost use Rattle.rz_core.specs.declared.resource.Resource.{Resource};

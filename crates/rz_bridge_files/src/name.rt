@@ -1,3 +1,5 @@
+//! The name that a file takes from the path it is written to; changed only with `specs/Names`.
+
 ghost use Rattle.std.specs.Prelude.{◌≡◌, ◌<◌, ◌^◌, ◌++◌, ◌↔◌, ℕ, length, IfOk, IsTrue};
 ghost use Rattle.std.specs.Str.{chars};
 ghost use Rattle.rz_core.specs.Stop.{Meets, OnFault};

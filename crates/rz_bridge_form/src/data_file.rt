@@ -1,3 +1,5 @@
+//! The name of the data file beside a header file of AppleDouble; changed only with `specs/DataFile`.
+
 ghost use Rattle.std.specs.Prelude.{◌≡◌, ◌≢◌, ◌++◌, ℕ, [], IfOk, List, MatchOption, codes};
 ghost use Rattle.std.specs.String.{string_bytes};
 ghost use Rattle.rz_folder.specs.Temporary.{IsParted};

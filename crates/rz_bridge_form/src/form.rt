@@ -1,3 +1,5 @@
+//! The four forms, and which of them bytes have; changed only with `specs/Forms`.
+
 ghost use Rattle.std.specs.Prelude.{◌≡◌, ◌≤◌, length};
 ghost use Rattle.rz_bridge_form.specs.Forms.{is_header, form_of};
 

@@ -1,3 +1,5 @@
+//! Laws of the forms of written files, and of names of data files. See `specs/Forms` and `specs/DataFile`.
+
 ghost use Rattle.std.specs.Prelude.{◌≡◌, nat_eq, ℕ, List, false, Ok};
 ghost use Rattle.std.specs.List.{starts_with};
 ghost use Rattle.rz_bridge.specs.AppleDouble.{double_image};

@@ -1,3 +1,5 @@
+//! The attribute byte of a resource; each of its 256 values is kept.
+
 ghost use Rattle.std.specs.Prelude.{◌≡◌, ℕ};
 
 use std::marker::Model;

@@ -1,3 +1,5 @@
+//! The date and the time of a moment as text in UTC; changed only with `specs/DateText`.
+
 ghost use Rattle.std.specs.Prelude.{◌≡◌, ◌++◌, OnOk, OnErr};
 ghost use Rattle.rz_core.specs.DateText.{date_text, digit, time_text};
 

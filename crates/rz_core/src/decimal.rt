@@ -1,3 +1,5 @@
+//! Numbers in decimal, with and without a sign; changed only with `specs/Decimal`.
+
 ghost use Rattle.std.specs.Prelude.{◌≡◌, ◌++◌, OnOk, OnErr};
 ghost use Rattle.rz_core.specs.Decimal.{decimal_of, signed_of};
 

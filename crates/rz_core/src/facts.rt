@@ -1,3 +1,5 @@
+//! What is known of a resource beside its bytes while it is compiled or shown.
+
 use crate::{Attr, Bytes, Moment, OsType};
 
 /// What is known of a resource beside its bytes while it is compiled or shown.

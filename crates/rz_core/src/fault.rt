@@ -1,3 +1,5 @@
+//! A broken rule: its number, the file and line where it has a place, and what is kept of its cause.
+
 use crate::{Bytes, OsType};
 
 /// The place of a fault: a line of a file.

@@ -1,3 +1,5 @@
+//! A list of the names of files in UTF-8, which grows at its end.
+
 ghost use Rattle.std.specs.Prelude.{◌≡◌, ◌<◌, [], ◌∷◌, ◌++◌, length, slice_get, OnOk, OnErr};
 
 use crate::NoMemory;

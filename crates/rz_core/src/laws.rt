@@ -1,3 +1,5 @@
+//! A law with nothing to run: two moments of one second have the same date, day of the week and time.
+
 ghost use Rattle.std.specs.Prelude.{◌≡◌};
 ghost use Rattle.rz_core.specs.declared.moment.Moment.{Moment};
 

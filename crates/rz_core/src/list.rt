@@ -1,3 +1,5 @@
+//! The list that all lists of rezkit are, and the list of bytes. Each is seen as the list of its items.
+
 ghost use Rattle.std.specs.Prelude.{◌≡◌, ◌<◌, [], ◌∷◌, ◌++◌, length, slice_get, ◌↔◌, IfOk, IsTrue, OnOk, OnErr};
 
 use crate::NoMemory;

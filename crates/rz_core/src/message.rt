@@ -1,3 +1,5 @@
+//! The message line of a fault, and the name of each fault; changed only with `specs/Message`.
+
 ghost use Rattle.std.specs.Prelude.{◌≡◌, ◌++◌, length, true, OnOk, OnErr};
 ghost use Rattle.std.specs.Option.{option_copied};
 ghost use Rattle.rz_core.specs.Message.{is_fault, fault_name, source_fault, statement_fault, declaration_fault, fork_fault, bridge_fault, severity, place_text, kept_text, rule_text, fault_line, IsMarked, IsNameable};

@@ -1,3 +1,5 @@
+//! A moment in the years 1904 to 2039, and the Macintosh's count of its seconds. See `specs/Moment`.
+
 ghost use Rattle.std.specs.Prelude.{◌≡◌, ◌↔◌, ◌+ℤ◌, ◌*ℤ◌, pos, IsSome, IfSome};
 ghost use Rattle.jiff_core.specs.DateTime.{civil_nanos};
 ghost use Rattle.rz_core.specs.Moment.{IsCivil, IsInRange};

@@ -1,3 +1,5 @@
+//! Numbers at a place of bytes, the highest byte first. What they are is in `specs/Numbers`.
+
 ghost use Rattle.std.specs.Prelude.{◌≡◌, ◌<◌, ◌≤◌, ◌+◌, ◌^◌, ◌++◌, length, drop, replicate, OnOk};
 ghost use Rattle.rz_core.specs.Numbers.{be, number};
 

@@ -1,3 +1,5 @@
+//! Bytes and types as they are shown between quote marks, and hex digits; changed only with `specs/Quoted`.
+
 ghost use Rattle.std.specs.Prelude.{◌≡◌, ◌<◌, ◌++◌, OnOk, OnErr};
 ghost use Rattle.rz_core.specs.Quoted.{quoted, shown_byte, hex_byte, hex_digit, literal_text};
 

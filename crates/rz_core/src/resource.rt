@@ -1,3 +1,5 @@
+//! A resource and its type, lists of resources, and names of the language.
+
 use crate::{Attr, Bytes, Listing};
 
 /// The type of a resource: four bytes in Mac Roman, as one number with the first byte highest.

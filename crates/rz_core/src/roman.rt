@@ -1,3 +1,5 @@
+//! Mac Roman: the character of a byte and back, and case in names; changed only with `specs/Roman`.
+
 ghost use Rattle.std.specs.Prelude.{◌≡◌, ◌≤◌, length};
 ghost use Rattle.rz_core.specs.Roman.{folded, place_from, roman_byte, roman_char, IsOneToOne};
 

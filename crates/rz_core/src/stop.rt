@@ -1,3 +1,5 @@
+//! Why a call gave no answer: a fault, refused memory or a failed read. See `specs/Stop`.
+
 ghost use Rattle.std.specs.Prelude.{◌≡◌};
 ghost use Rattle.rz_core.specs.Stop.{halt_of};
 ghost use Rattle.rz_core.specs.declared.stop.Halt.TheVariants.{NoMemory as halted_by_memory};

@@ -1,3 +1,5 @@
+//! Copies of names of the language, and their comparison without case, whose fold is in `specs/Roman`.
+
 ghost use Rattle.std.specs.Prelude.{◌≡◌, ◌↔◌, ℕ, List, map, true, IfOk};
 ghost use Rattle.std.specs.Str.{str_eq_ignore_ascii_case, str_to_ascii_lowercase};
 ghost use Rattle.rz_core.specs.Roman.{folded};

@@ -1,3 +1,5 @@
+//! Constants: expressions without names and functions, and their values. They are defined in `specs/Constant`.
+
 ghost use Rattle.std.specs.Prelude.{◌≡◌, IfOk, option_map};
 ghost use Rattle.std.proofs.Common.{rules};
 ghost use Rattle.rz_expr.specs.Constant.{constant_of, constant_sight, is_constant, IsConstant};

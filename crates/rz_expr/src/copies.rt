@@ -1,3 +1,5 @@
+//! Copies of expressions. An expression as contracts see it is in `specs/Term`.
+
 ghost use Rattle.std.specs.Prelude.{◌≡◌, IfOk};
 ghost use Rattle.rz_expr.specs.Term.{term_of};
 

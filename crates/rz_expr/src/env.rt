@@ -1,3 +1,5 @@
+//! What an expression sees: names, bits and facts. What an environment must give is in `specs/Environment`.
+
 ghost use Rattle.std.specs.Prelude.{◌≡◌, ◌≤◌, ◌+ℤ◌, pos, ℤ, ◌≤ℤ◌, IfSome, option_map};
 ghost use Rattle.rz_expr.specs.Environment.{Sight, IsSeenIn, count_key, place_key, predefined};
 ghost use Rattle.rz_expr.specs.Value.{reduced};

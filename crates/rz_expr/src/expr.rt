@@ -1,3 +1,5 @@
+//! Expressions as trees, and their operators; a new operator changes `specs/Term` and `specs/Value` too.
+
 use crate::FactWord;
 use rz_core::Word;
 

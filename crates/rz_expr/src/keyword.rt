@@ -1,3 +1,5 @@
+//! The table of reserved words that name nothing; a new word changes `specs/Keyword` too.
+
 ghost use Rattle.std.specs.Prelude.{◌≡◌, ℕ, true, List, Some, None};
 ghost use Rattle.std.specs.Str.{str_eq_ignore_ascii_case};
 ghost use Rattle.rz_expr.specs.Keyword.{every_keyword, is_keyword, keyword_in, keyword_of, spelled_among, spelling};

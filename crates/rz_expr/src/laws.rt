@@ -1,3 +1,5 @@
+//! Laws of expressions: tokens are one at most, values and faults stay, and words are spelled in one way.
+
 ghost use Rattle.std.specs.Prelude.{◌≡◌, ◌↔◌, ℕ, ℤ, Bool, List, MatchOption, Ok, Err, Option, Some, true};
 ghost use Rattle.std.specs.Str.{str_eq_ignore_ascii_case};
 ghost use Rattle.rz_core.specs.Decided.{Decided};

@@ -1,3 +1,5 @@
+//! Signs and words within an expression, and how tightly operators bind. The grammar is in `specs/Grammar`.
+
 ghost use Rattle.std.specs.Prelude.{◌≡◌, ◌≤◌, length};
 ghost use Rattle.std.specs.Option.{option_copied};
 ghost use Rattle.rz_expr.specs.Fronts.{ends};

@@ -1,3 +1,5 @@
+//! The reader of expressions, from loose operators down to operands. The grammar is in `specs/Grammar`.
+
 ghost use Rattle.std.specs.Prelude.{◌≡◌, ◌+◌, ◌*◌, ◌%◌, ◌^◌, ◌<◌, ◌≤◌, true, None, pos, length, drop, List, IfOk, IfSome, MatchOption};
 ghost use Rattle.rz_expr.specs.Fronts.{NoneBegins};
 ghost use Rattle.rz_expr.specs.Grammar.{bytes_number, is_bracket, loosest, sign_start, word_start, Bracket, Calls, IsExpression, LongestExpression, NoExpression};

@@ -1,3 +1,5 @@
+//! The value of an expression, or its first fault. What each operator gives is in `specs/Value`.
+
 ghost use Rattle.std.specs.Prelude.{◌≡◌, ◌≢◌, ◌^◌, ◌+ℤ◌, ◌*ℤ◌, false, pos, int_div, int_rem, IfOk, Some, None, Ok, Err};
 ghost use Rattle.std.specs.Int.{int_shr};
 ghost use Rattle.rz_core.specs.Stop.{Gives};

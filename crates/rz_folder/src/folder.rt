@@ -1,3 +1,5 @@
+//! The trait of files by name, with counts of its faults. What its calls do is in `specs/Folder`.
+
 ghost use Rattle.std.specs.Prelude.{◌≡◌, ◌<◌, ◌≤◌, ◌^◌, ℕ, length};
 ghost use Rattle.std.specs.declared.option.Option.{Option};
 ghost use Rattle.rz_folder.specs.Counts.{Rose};

@@ -1,3 +1,5 @@
+//! A folder in memory whose calls fail where they are told to. What its entries hold is in `specs/Entries`.
+
 ghost use Rattle.std.specs.Prelude.{◌≡◌, ◌≤◌, ◌↔◌, ◌<◌, ◌+◌, ◌^◌, length, max, Some, None, OnOk, OnErr, ◌++◌, IfSome, IsTrue, ◌⊎◌, vec_len, vec_capacity};
 ghost use Rattle.std.specs.Option.{option_copied};
 ghost use Rattle.std.specs.VecDeque.{deque_len, deque_capacity};

@@ -1,3 +1,5 @@
+//! A sink in memory whose puts fail where they are told to. What a put does is in `specs/Sink`.
+
 ghost use Rattle.std.specs.Prelude.{◌≡◌, ◌≤◌, ◌↔◌, ◌⊎◌, length, max, Some, OnOk, OnErr};
 ghost use Rattle.rz_folder.specs.Counts.{Rose};
 ghost use Rattle.rz_folder.specs.Sink.{Puts};

@@ -1,3 +1,5 @@
+//! The host's files by their paths: a trusted edge. How its counts of faults rise is in `specs/Counts`.
+
 ghost use Rattle.std.specs.Prelude.{◌≡◌, ◌≤◌, ◌<◌, ◌^◌, None, IfOk, length};
 ghost use Rattle.rz_folder.specs.Counts.{Rose};
 ghost use Rattle.rz_folder.specs.Folder.{IsShort};

@@ -1,3 +1,5 @@
+//! A writer of the host's as a sink: a trusted edge. How its count of faults rises is in `specs/Counts`.
+
 ghost use Rattle.std.specs.Prelude.{◌≡◌, ◌≤◌, None, ℕ};
 ghost use Rattle.rz_folder.specs.Counts.{Rose};
 

@@ -1,3 +1,5 @@
+//! How a file of the host's is written: by a temporary file beside it; a link, device or pipe in place.
+
 use crate::temporary::temporary_name;
 use std::fs::{OpenFile, OpenOptions, Permissions};
 use std::io::{ErrorKind, Write};

@@ -1,3 +1,5 @@
+//! The trait of a place to write to, with a count of its faults. What a put does is in `specs/Sink`.
+
 ghost use Rattle.std.specs.Prelude.{◌≡◌, ◌≤◌, ℕ, List};
 ghost use Rattle.std.specs.declared.option.Option.{Option};
 ghost use Rattle.rz_folder.specs.Counts.{Rose};

@@ -1,3 +1,5 @@
+//! The name of a temporary file beside a path; changed only with `specs/Temporary`.
+
 ghost use Rattle.std.specs.Prelude.{◌≡◌, ◌<◌, ◌++◌, ℕ, List, length, codes, decimal, MatchOption};
 ghost use Rattle.rz_folder.specs.Temporary.{IsNameBeside};
 

@@ -1,3 +1,5 @@
+//! The first file that stands under some names, and the fault where none does. See `specs/Names`.
+
 ghost use Rattle.std.specs.Prelude.{◌≡◌, ℕ, ◌<◌, ◌^◌, length, IfOk, IfSome, option_map};
 ghost use Rattle.rz_core.specs.Message.{IsMarked, IsNameable};
 ghost use Rattle.rz_folder.specs.OnlyReads.{OnlyReads};

@@ -1,3 +1,5 @@
+//! The names under which an included file is looked for, in their order; changed only with `specs/Names`.
+
 ghost use Rattle.std.specs.Prelude.{◌≡◌, ◌∷◌, ◌++◌, IfOk};
 ghost use Rattle.std.specs.String.{string_bytes};
 ghost use Rattle.rz_folder_paths.specs.Names.{names_of, utf8_name};

@@ -1,3 +1,5 @@
+//! Whether bytes are a fork: the rules in their order, over all types and references. See `specs/Admit`.
+
 ghost use Rattle.std.specs.Prelude.{◌≡◌, ◌<◌, ◌≤◌, ◌+◌, ◌*◌, ◌^◌, ◌==◌, [], length, take, slice_get, IfNone, IfSome, IfOk, IfErr, MatchResult, Some, None};
 ghost use Rattle.std.specs.List.{list_any};
 ghost use Rattle.rz_core.specs.Lists.{first_in};

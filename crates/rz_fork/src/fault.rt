@@ -1,3 +1,5 @@
+//! The faults of forks: a limit that a writer passes, and the rules of admission in a table.
+
 use thiserror::Error;
 
 /// A part of a fork that is longer than its limit. (The offsets of the format have 24 and 16 bits:

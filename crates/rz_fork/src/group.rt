@@ -1,3 +1,5 @@
+//! Resources by type, the types in the order of their first resources; changed only with `specs/Groups`.
+
 ghost use Rattle.std.specs.Prelude.{◌≡◌, IfOk};
 ghost use Rattle.std.specs.List.{flat_map};
 ghost use Rattle.rz_fork.specs.Groups.{shown, members_of, AreGroups};

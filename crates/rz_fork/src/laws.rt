@@ -1,3 +1,5 @@
+//! A law with nothing to run: admitted forks hold what a fork can hold. See `specs/Admit`, `specs/Contents`.
+
 ghost use Rattle.std.specs.Prelude.{◌≡◌, ◌<◌, ℕ, [], List, Ok};
 ghost use Rattle.std.specs.List.{AllByRecursion};
 ghost use Rattle.rz_core.specs.Resources.{KeysDiffer};

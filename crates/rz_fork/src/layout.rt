@@ -1,3 +1,5 @@
+//! Where the parts of a fork lie: header, outline, types and references; changed only with `specs/Layout`.
+
 ghost use Rattle.std.specs.Prelude.{◌≡◌, ◌<◌, ◌≤◌, ◌+◌, ◌^◌, length};
 ghost use Rattle.rz_fork.specs.Layout.{count_at, header_of, types_of, outline_of, types_place, entry_at, reference_at};
 ghost use Rattle.rz_fork.specs.Admit.{HasMap};

@@ -1,3 +1,5 @@
+//! The lengths that a fork to be written must not pass. What passes them is in `specs/Image`.
+
 ghost use Rattle.std.specs.Prelude.{◌≡◌, ◌<◌, ◌≤◌, ◌^◌, ℕ, length, IfNone};
 ghost use Rattle.rz_core.specs.Numbers.{kept_length};
 ghost use Rattle.rz_fork.specs.Groups.{shown};

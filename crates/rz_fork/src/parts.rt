@@ -1,3 +1,5 @@
+//! The parts of a fork as they are written: data area, names, references and types. See `specs/Image`.
+
 ghost use Rattle.std.specs.Prelude.{◌≡◌, ◌<◌, ◌≤◌, ◌+◌, ◌*◌, ◌^◌, ◌==◌, ◌++◌, if◌then◌else◌, length, OnOk, FitsSigned};
 ghost use Rattle.std.specs.Int.{w16};
 ghost use Rattle.std.specs.List.{flat_map, AllByRecursion};

@@ -1,3 +1,5 @@
+//! What a fork holds, copied once it is admitted. What that is is in `specs/Contents`.
+
 ghost use Rattle.std.specs.Prelude.{◌≡◌, ◌<◌, ◌≤◌, ◌+◌, ◌^◌, ◌++◌, [], length, take, drop, IfOk, OnOk, None};
 ghost use Rattle.std.specs.List.{AllByRecursion};
 ghost use Rattle.rz_core.specs.Stop.{seen, Gives, OnFault};

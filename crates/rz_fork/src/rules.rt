@@ -1,3 +1,5 @@
+//! Rules by which a fork is admitted, most as a function each; changed only with `specs/Admit`.
+
 ghost use Rattle.std.specs.Prelude.{◌≡◌, ◌<◌, ◌≤◌, ◌+◌, ◌*◌, ◌^◌, length, IfNone, IfSome};
 ghost use Rattle.rz_fork.specs.Layout.{types_place};
 ghost use Rattle.rz_fork.specs.Admit.{short_header, data_area_outside, map_outside, short_map, type_list_outside, types_outside, references_outside, data_outside, name_outside, IsSayable};

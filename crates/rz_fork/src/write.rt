@@ -1,3 +1,5 @@
+//! The one fork of some resources, or the first limit that it passes; changed only with `specs/Image`.
+
 ghost use Rattle.std.specs.Prelude.{◌≡◌, ◌<◌, ◌≤◌, ◌+◌, ◌-◌, ◌*◌, ◌^◌, ◌++◌, length, replicate, IfOk, OnOk, Ok};
 ghost use Rattle.std.specs.List.{flat_map};
 ghost use Rattle.rz_core.specs.Stop.{Gives};

@@ -1,3 +1,5 @@
+//! The bytes that run codes stand for, or the first fault. What those are is in `specs/Runs`.
+
 ghost use Rattle.std.specs.Prelude.{◌≡◌, ◌<◌, ◌≤◌, ◌+◌, ◌-◌, ◌^◌, ◌++◌, length, replicate, IfOk, OnOk, Ok};
 ghost use Rattle.rz_core.specs.Stop.{Gives, OnFault};
 ghost use Rattle.rz_bridge.specs.Faults.{IsSayable};

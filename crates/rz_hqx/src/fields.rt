@@ -1,3 +1,5 @@
+//! The fields of the decoded bytes, their rules, and the first broken one. See `specs/BinHex`.
+
 ghost use Rattle.std.specs.Prelude.{◌≡◌, ◌≤◌, ◌<◌, ◌+◌, ◌^◌, length, IfNone, IfSome};
 ghost use Rattle.rz_bridge.specs.Faults.{IsSayable};
 ghost use Rattle.rz_hqx.specs.BinHex.{name_length, kind_place, data_length, resource_length, data_place, resource_place, cut, bad_length, bad_crc, checked, header_torn, fields_torn};

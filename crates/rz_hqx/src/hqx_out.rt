@@ -1,3 +1,5 @@
+//! The writer of BinHex 4.0; changed only with `specs/BinHex` and `specs/Text`.
+
 ghost use Rattle.std.specs.Prelude.{◌≡◌, ◌≤◌, ◌<◌, ◌^◌, ◌++◌, length, IfOk, OnOk, Ok};
 ghost use Rattle.std.specs.List.{AllByRecursion};
 ghost use Rattle.rz_core.specs.Stop.{Gives, OnFault};

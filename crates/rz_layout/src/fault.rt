@@ -1,3 +1,5 @@
+//! Why a row has no bytes. How faults stand for the refusals of the definitions is in `specs/Fault`.
+
 ghost use Rattle.std.specs.Prelude.{◌≡◌};
 ghost use Rattle.rz_expr.specs.Unvalued.{fault_of};
 ghost use Rattle.rz_layout.specs.Fault.{refusal_of};

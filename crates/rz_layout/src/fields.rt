@@ -1,3 +1,5 @@
+//! Rows laid as bytes, field by field, with arrays and switches. What is answered is in `specs/Compiled`.
+
 ghost use Rattle.std.specs.Prelude.{IfOk, ◌≡◌, ◌≤◌, length, option_map, true, List, ℕ, []};
 ghost use Rattle.std.specs.declared.result.Result.{Result as Answer};
 ghost use Rattle.rz_layout.specs.Compiled.{is_compile_fault, IsCompiled, MeetsLaid};

@@ -1,3 +1,5 @@
+//! The bits that are laid so far, and the room that is left. What they are is in `specs/Laid`.
+
 ghost use Rattle.std.specs.Prelude.{IfOk, ◌≡◌, ◌<◌, ◌≤◌, ◌^◌, length, pos};
 ghost use Rattle.rz_bits.specs.BitBuf.{missing, zeros};
 ghost use Rattle.rz_bits.specs.Bits.{number_bits};

@@ -1,3 +1,5 @@
+//! The law that a row spells one list of bytes or has one refusal. Both are defined in `specs/Compiled`.
+
 ghost use Rattle.std.specs.Prelude.{◌≡◌, true, ℕ, List};
 ghost use Rattle.std.specs.declared.result.Result.{Result};
 ghost use Rattle.rz_core.specs.declared.facts.Facts.{Facts};

@@ -1,3 +1,5 @@
+//! The names of the arrays of a body, with the numbers of their rows, where the body is entered.
+
 ghost use Rattle.std.specs.Prelude.{◌≡◌, OnOk, length, option_map, pos};
 ghost use Rattle.rz_types_fields.specs.Known.{known, Grew};
 ghost use Rattle.rz_types_fields.specs.Laid.{counted, with_count, with_field};

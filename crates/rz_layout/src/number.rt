@@ -1,3 +1,5 @@
+//! Numbers laid as pieces: those of the row, or the values of expressions. What is laid is in `specs/Laid`.
+
 ghost use Rattle.std.specs.Prelude.{IfOk, ◌≡◌, ◌≤◌, length, nat_abs, option_map};
 ghost use Rattle.rz_expr.specs.Term.{term_of};
 ghost use Rattle.rz_layout.specs.Laid.{draft_of, GivesLaid, Lays};

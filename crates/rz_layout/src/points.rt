@@ -1,3 +1,5 @@
+//! Points and rectangles laid as two or four numbers. What is laid is in `specs/Laid`.
+
 ghost use Rattle.std.specs.Prelude.{IfOk, ◌≡◌, ◌≤◌, [], length, map, option_map, replicate, None};
 ghost use Rattle.rz_expr.specs.Term.{term_of};
 ghost use Rattle.rz_layout.specs.Laid.{draft_of, Lays};

@@ -1,3 +1,5 @@
+//! The stored forms of texts, appended to the bits. How long they are is in `specs/Text`.
+
 ghost use Rattle.std.specs.Prelude.{◌≡◌, ◌+◌, ◌*◌, ◌<◌, ◌^◌, ◌++◌, length, OnOk};
 ghost use Rattle.rz_bits.specs.Bits.{bits_of};
 ghost use Rattle.rz_layout.specs.Text.{sized_length, stored_length};

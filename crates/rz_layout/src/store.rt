@@ -1,3 +1,5 @@
+//! Zero bits and whole bytes, appended to the bits.
+
 ghost use Rattle.std.specs.Prelude.{◌≡◌, ◌+◌, ◌*◌, ◌<◌, ◌^◌, ◌++◌, length, OnOk};
 ghost use Rattle.rz_bits.specs.BitBuf.{zeros};
 ghost use Rattle.rz_bits.specs.Bits.{bits_of};

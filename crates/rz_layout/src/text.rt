@@ -1,3 +1,5 @@
+//! Texts laid as pieces, with their sizes and formats. How long they are is in `specs/Text`.
+
 ghost use Rattle.std.specs.Prelude.{IfOk, ◌≡◌, ◌<◌, ◌≤◌, ◌^◌, length, nat_abs, option_map, None};
 ghost use Rattle.rz_expr.specs.Term.{term_of};
 ghost use Rattle.rz_layout.specs.Laid.{draft_of, sized_put, text_put, GivesLaid, Lays};

@@ -1,3 +1,5 @@
+//! The first number in the formats of a text that has no value. Its refusal is in `specs/Fault`.
+
 ghost use Rattle.std.specs.Prelude.{◌≡◌, IfOk, map, option_map};
 ghost use Rattle.rz_core.specs.Lists.{first_of};
 ghost use Rattle.rz_expr.specs.Term.{term_of};

@@ -1,3 +1,5 @@
+//! The classes of bytes in a line: blanks, digits, letters, quote marks. They are defined in `specs/Classes`.
+
 ghost use Rattle.std.specs.Prelude.{◌≡◌};
 ghost use Rattle.rz_lex.specs.Classes.{is_blank, is_digit, is_hex_digit, is_letter, is_quote, is_word_byte};
 

@@ -1,3 +1,5 @@
+//! The parts of a joined text: comments, quoted parts, single bytes. They are defined in `specs/Cover`.
+
 ghost use Rattle.std.specs.Prelude.{◌≡◌, ◌≢◌, ◌↔◌, ◌⊎◌, ◌+◌, ◌<◌, ◌≤◌, ◌^◌, ◌++◌, [], length, drop, Option, Some, None, false, MatchOption, IfNone, IfOk, IfSome, ℕ, List};
 ghost use Rattle.rz_lex.specs.Joined.{ahead, is_at, IsOn, IsFurther};
 ghost use Rattle.rz_lex.specs.Classes.{is_quote};

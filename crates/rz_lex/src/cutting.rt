@@ -1,3 +1,5 @@
+//! The tokens of a line, or its first fault. How a line is cut is in `specs/Cutting`.
+
 ghost use Rattle.std.specs.Prelude.{◌≡◌, ◌≢◌, ◌+◌, ◌<◌, ◌≤◌, ℕ, List, [], length, IfOk, IfSome, MatchOption, Ok, Err};
 ghost use Rattle.rz_core.specs.Message.{IsNameable};
 ghost use Rattle.rz_core.specs.Stop.{Gives, OnFault};

@@ -1,3 +1,5 @@
+//! The values of digits and of numbers in each base. What digits stand for is in `specs/Digits`.
+
 ghost use Rattle.std.specs.Prelude.{◌≡◌, ◌<◌, ◌≤◌};
 ghost use Rattle.rz_lex.specs.Digits.{digit_value, digits_value, number_value, value_behind_0};
 

@@ -1,3 +1,5 @@
+//! The bytes between quote marks, with their escapes resolved; a new escape changes `specs/Escape` too.
+
 ghost use Rattle.std.specs.Prelude.{◌≡◌, ◌+◌, ◌<◌, ◌≤◌, [], ◌∷◌, length, drop, IfOk, IfSome, MatchOption, None};
 ghost use Rattle.rz_lex.specs.Escape.{before, digits_escape, escape_at, escape_behind_0, letter_escape, text_value};
 

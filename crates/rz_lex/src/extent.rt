@@ -1,3 +1,5 @@
+//! How far the longest lexeme at the front of a line goes. It is defined in `specs/Extent` and `specs/Scan`.
+
 ghost use Rattle.std.specs.Prelude.{◌≡◌, ◌≤◌, length, IfSome, MatchOption, None};
 ghost use Rattle.rz_lex.specs.Seen.{seen};
 ghost use Rattle.rz_lex.specs.Extent.{is_lexeme, Longest, NoFront};

@@ -1,3 +1,5 @@
+//! The bytes of a hex text, whose digits stand in pairs. What they spell is in `specs/Hex`.
+
 ghost use Rattle.std.specs.Prelude.{◌≡◌, ◌≤◌, length, IfOk};
 ghost use Rattle.rz_lex.specs.Escape.{before};
 ghost use Rattle.rz_lex.specs.Hex.{hex_value};

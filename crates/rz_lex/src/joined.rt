@@ -1,3 +1,5 @@
+//! The joined text of a source, byte by byte, with physical lines. What is left out of it is in `specs/Joined`.
+
 ghost use Rattle.std.specs.Prelude.{◌≡◌, ◌+◌, ◌<◌, ◌≤◌, ◌^◌, ◌∷◌, [], length, MatchOption, IfSome};
 ghost use Rattle.rz_lex.specs.Joined.{ahead, IsOn};
 

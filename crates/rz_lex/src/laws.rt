@@ -1,3 +1,5 @@
+//! Laws of lines and tokens: one answer for each, and tokens that are written are cut again as they were.
+
 ghost use Rattle.std.specs.Prelude.{◌≡◌, ◌⊎◌, ◌<◌, ◌≤◌, ◌^◌, ℕ, List, [], ◌∷◌, ◌++◌, false, length, None, Some, true};
 ghost use Rattle.std.specs.List.{AllByRecursion};
 ghost use Rattle.rz_core.specs.Decimal.{decimal_of};

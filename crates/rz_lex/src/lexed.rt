@@ -1,3 +1,5 @@
+//! The tokens of all lines of a text, or its first fault. They are defined in `specs/Lexed`.
+
 ghost use Rattle.std.specs.Prelude.{◌≡◌, ◌+◌, ◌<◌, ◌++◌, ◌^◌, ℕ, List, length, Ok, Err, IfOk, OnOk};
 ghost use Rattle.rz_core.specs.Message.{IsNameable};
 ghost use Rattle.rz_core.specs.Stop.{Gives, OnFault};

@@ -1,3 +1,5 @@
+//! The logical lines of a source, one by one, and the laws of them. They are defined in `specs/Lines`.
+
 ghost use Rattle.std.specs.Prelude.{◌≡◌, ℕ, ◌+◌, ◌≤◌, ◌^◌, [], length, List, Option, None, Ok, Err, IfNone, IfOk, IfSome};
 ghost use Rattle.rz_core.specs.Message.{IsNameable};
 ghost use Rattle.rz_core.specs.Stop.{Gives, OnFault};

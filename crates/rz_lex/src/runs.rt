@@ -1,3 +1,5 @@
+//! Runs of bytes that are taken in one piece. Which bytes end a run is in `specs/Runs`.
+
 ghost use Rattle.std.specs.Prelude.{◌≡◌, ◌+◌, ◌≤◌, drop, length, take};
 ghost use Rattle.std.specs.List.{prefix_len};
 ghost use Rattle.rz_lex.specs.Joined.{ahead, IsOn};

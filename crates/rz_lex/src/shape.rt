@@ -1,3 +1,5 @@
+//! The shape of a lexeme, or its fault, and which fault comes first. All of this is in `specs/Shape`.
+
 ghost use Rattle.std.specs.Prelude.{◌≡◌, ◌+◌, ◌<◌, ◌≤◌, ◌∷◌, length, take, true, IfOk};
 ghost use Rattle.rz_core.specs.Stop.{Gives};
 ghost use Rattle.rz_lex.specs.Escape.{text_value};

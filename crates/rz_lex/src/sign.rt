@@ -1,3 +1,5 @@
+//! The signs of the language, of one byte or of two; a new sign changes `specs/Sign` too.
+
 ghost use Rattle.std.specs.Prelude.{◌≡◌};
 ghost use Rattle.rz_lex.specs.Sign.{sign_of, sign_of_one, sign_of_two};
 

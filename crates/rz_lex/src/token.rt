@@ -1,3 +1,5 @@
+//! Tokens: what each may be, and where it stands. Which sign a token is, is in `specs/Token`.
+
 ghost use Rattle.std.specs.Prelude.{◌≡◌, ◌↔◌, true};
 ghost use Rattle.rz_lex.specs.Token.{is_the_sign};
 ghost use Rattle.rz_lex.specs.declared.sign.Sign.{Sign};

@@ -1,3 +1,5 @@
+//! The acts of logical lines, from nothing to the end of a conditional; a new act changes `specs/Line` too.
+
 use crate::conditional::Part;
 use rz_core::{Bytes, Word};
 use rz_lex::Tokens;

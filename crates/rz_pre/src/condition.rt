@@ -1,3 +1,5 @@
+//! The conditions of `#if` and `#elif`, and the tool that asks. What they mean is in `specs/Condition`.
+
 ghost use Rattle.std.specs.Prelude.{◌≡◌, ◌<◌, ◌≤◌, [], ℤ, Ok, Err, Some, length, IfOk, IfSome, MatchOption, option_map};
 ghost use Rattle.std.proofs.Common.{rules};
 ghost use Rattle.rz_core.specs.Stop.{Meets};

@@ -1,3 +1,5 @@
+//! Open conditionals: where each begins, and whether its part is read. Lines change them by `specs/Line`.
+
 use rz_core::Mark;
 
 /// What is done with the part of a conditional that is being read.

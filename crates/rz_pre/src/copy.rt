@@ -1,3 +1,5 @@
+//! Copies of tokens, and of a shape at another place.
+
 ghost use Rattle.std.specs.Prelude.{◌≡◌, IfOk};
 ghost use Rattle.rz_lex.specs.Printed.{token_of};
 

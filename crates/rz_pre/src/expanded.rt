@@ -1,3 +1,5 @@
+//! The tokens of a line with their macros replaced, from left to right. It is defined in `specs/Expanded`.
+
 ghost use Rattle.std.specs.Prelude.{◌≡◌, ◌++◌, Ok, Err, IfOk, OnOk};
 ghost use Rattle.rz_core.specs.Stop.{OnFault};
 ghost use Rattle.rz_core.specs.declared.fault.Fault.{Fault};

@@ -1,3 +1,5 @@
+//! The expansion of one macro, without recursion. What it is, is in `specs/Expand`, and its steps in `specs/Steps`.
+
 ghost use Rattle.std.specs.Prelude.{◌≡◌, ◌∷◌, ◌++◌, [], false, Some, IfOk, OnOk};
 ghost use Rattle.rz_core.specs.Stop.{OnFault};
 ghost use Rattle.rz_pre.specs.Expand.{ExpandsTo, IsTooLong};

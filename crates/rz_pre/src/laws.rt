@@ -1,3 +1,5 @@
+//! Laws of the preprocessor: named files mean one program at most, and a token has one expansion at most.
+
 ghost use Rattle.std.specs.Prelude.{◌≡◌, ℕ, List, Result};
 ghost use Rattle.rz_folder.specs.Folder.{Files};
 ghost use Rattle.rz_lex.specs.declared.token.Shape.{Shape};

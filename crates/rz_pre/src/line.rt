@@ -1,3 +1,5 @@
+//! What a logical line does: its directive, or the tokens that it puts out; a new directive changes `specs/Line`.
+
 ghost use Rattle.std.specs.Prelude.{◌≡◌, ◌+◌, IfOk, Ok};
 ghost use Rattle.rz_core.specs.Stop.{OnFault, Meets};
 ghost use Rattle.rz_pre.specs.Placed.{IsSourceFault};

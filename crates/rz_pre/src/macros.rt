@@ -1,3 +1,5 @@
+//! The table of macros, by their names in lower case. Which of them are live is in `specs/Live`.
+
 ghost use Rattle.std.specs.Prelude.{◌≡◌, ◌≤◌, ℕ, List, [], length, IfOk, OnOk, option_map, is_some};
 ghost use Rattle.std.specs.Str.{str_to_ascii_lowercase};
 ghost use Rattle.rz_pre.specs.Live.{body_at, live_in, live_row, put, shapes_of, token_row};

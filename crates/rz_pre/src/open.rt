@@ -1,3 +1,5 @@
+//! Files that are opened, and their texts in Mac Roman. What opening gives is in `specs/Program`.
+
 ghost use Rattle.std.specs.Prelude.{◌≡◌, ◌+◌, ◌<◌, ◌^◌, OnOk, length, IfOk, IfSome};
 ghost use Rattle.rz_core.specs.Message.{IsMarked};
 ghost use Rattle.rz_core.specs.Stop.{IsReadFault, Meets, OnFault, OnRefusal, Yields};

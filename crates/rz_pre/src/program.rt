@@ -1,3 +1,5 @@
+//! What the preprocessor is given and gives: definitions of the words, the program, or why there is none.
+
 use rz_core::{Fault, FileNames, Listing, Word, Words};
 use rz_lex::Tokens;
 use rz_pre_tokens::TokenStore;

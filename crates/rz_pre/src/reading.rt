@@ -1,3 +1,5 @@
+//! What was read so far, and the step over one line. What a step leaves is in `specs/Program` and `specs/Reading`.
+
 ghost use Rattle.std.specs.Prelude.{◌≡◌, ◌+◌, [], reverse, IfOk, OnOk};
 ghost use Rattle.rz_core.specs.Stop.{OnFault};
 ghost use Rattle.rz_pre.specs.Placed.{IsSourceFault};

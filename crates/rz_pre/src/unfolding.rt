@@ -1,3 +1,5 @@
+//! The named files as one program, with the files that they include. What they mean is in `specs/Program`.
+
 ghost use Rattle.std.specs.Prelude.{◌≡◌, ℕ, ◌+◌, ◌<◌, ◌≤◌, ◌^◌, [], length, reverse, Result, Err, IfOk, IfSome, OnOk};
 ghost use Rattle.rz_lex.specs.Lexeme.{AreLexed};
 ghost use Rattle.rz_pre.specs.Lexed.{HaveLexedTexts, IsLexedReading};

@@ -1,3 +1,5 @@
+//! Laws of programs: entries, definitions, groups of lines. Their terms are in `specs/`, and in that of `rz_pre`.
+
 ghost use Rattle.std.specs.Prelude.{◌≡◌, ◌↔◌, ◌⊎◌, ◌∷◌, ◌++◌, ℕ, true, false, List, Ok, Option, None, Result, reverse};
 ghost use Rattle.rz_core.specs.declared.fault.Fault.{Fault};
 ghost use Rattle.rz_folder.specs.Folder.{Files};

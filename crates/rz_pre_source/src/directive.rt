@@ -1,3 +1,5 @@
+//! The directives, and how a line is told to be one; a new directive changes `specs/Directive` too.
+
 ghost use Rattle.std.specs.Prelude.{◌≡◌, ◌≤◌, length, option_map};
 ghost use Rattle.std.specs.List.{prefix_len};
 ghost use Rattle.rz_lex.specs.Classes.{is_word_byte};

@@ -1,3 +1,5 @@
+//! Laws of sources and directives: a source has one text or one first fault, and a line's word is its directive.
+
 ghost use Rattle.std.specs.Prelude.{◌≡◌, ◌≢◌, ◌↔◌, ◌⊎◌, ℕ, true, false, List, [], ◌∷◌, ◌++◌, Some};
 ghost use Rattle.rz_lex.specs.Classes.{AreBlanks, is_blank, is_word_byte};
 ghost use Rattle.rz_lex.specs.Extent.{are_word_bytes};

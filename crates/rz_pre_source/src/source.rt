@@ -1,3 +1,5 @@
+//! The text of a source in Mac Roman, also where the source is UTF-8. It is defined in `specs/Source`.
+
 ghost use Rattle.std.specs.Prelude.{◌≡◌, ℕ, ◌+◌, ◌^◌, ◌<◌, ◌≤◌, List, ◌++◌, length, IfOk, MatchOption, Ok, Err};
 ghost use Rattle.rz_core.specs.Stop.{Gives, OnFault};
 ghost use Rattle.rz_pre_source.specs.declared.source.BadText.{BadText};

@@ -1,3 +1,5 @@
+//! Tokens without their bytes, and back. How a token becomes a piece is in `specs/Piece`.
+
 ghost use Rattle.std.specs.Prelude.{◌≡◌, ◌<◌, ◌^◌, length, IfOk};
 ghost use Rattle.rz_pre_tokens.specs.Piece.{held_of, kind_of, mark_of, piece_of, shape_of, size_of, IsShort};
 

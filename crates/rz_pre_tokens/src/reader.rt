@@ -1,3 +1,5 @@
+//! The reader of a store of tokens, from the first on. What it gives is in `specs/Reader`.
+
 ghost use Rattle.std.specs.Prelude.{◌≡◌, ◌↔◌, [], length, IsTrue, IfOk, OnErr};
 ghost use Rattle.rz_pre_tokens.specs.Reader.{GivesFirst};
 ghost use Rattle.rz_pre_tokens.specs.Store.{size_of_all, tokens_of};

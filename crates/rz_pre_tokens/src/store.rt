@@ -1,3 +1,5 @@
+//! The store of tokens, which grows at its end. Which tokens it holds is in `specs/Store`.
+
 ghost use Rattle.std.specs.Prelude.{◌≡◌, ◌+◌, ◌<◌, ◌≤◌, ◌↔◌, [], ◌++◌, length, vec_len, vec_capacity, IfSome, IsTrue, OnOk, OnErr};
 ghost use Rattle.rz_pre_tokens.specs.Store.{bytes_of, pieces_of, AreShort};
 

@@ -1,3 +1,5 @@
+//! What a pick chooses in a list, by id or by name; changed only with `specs/Choice`.
+
 ghost use Rattle.std.specs.Prelude.{◌≡◌, None, Some, IfOk, IfErr};
 ghost use Rattle.std.specs.Option.{option_copied};
 ghost use Rattle.rz_set.specs.Choice.{chooses, found_name, missing, picked};

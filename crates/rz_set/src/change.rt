@@ -1,3 +1,5 @@
+//! What a change makes of a resource, and a resource under a head. See `specs/Fates` and `specs/After`.
+
 ghost use Rattle.std.specs.Prelude.{◌≡◌, IfOk};
 ghost use Rattle.rz_set.specs.After.{under_head};
 ghost use Rattle.rz_set.specs.Fates.{left};

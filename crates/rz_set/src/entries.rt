@@ -1,3 +1,5 @@
+//! A map of resources by type and id, and how resources get into it. See `specs/ResSet`.
+
 ghost use Rattle.std.specs.Prelude.{◌≡◌, ◌+◌, ◌<◌, ◌≤◌, length};
 ghost use Rattle.rz_core.specs.Resources.{put, put_all};
 ghost use Rattle.rz_set.specs.Fates.{all_left};

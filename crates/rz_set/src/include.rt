@@ -1,3 +1,5 @@
+//! The included resources of a list, and their copies under a head. See `specs/Choice` and `specs/After`.
+
 ghost use Rattle.std.specs.Prelude.{◌≡◌, filter, map, IfOk, IfErr, None, Some};
 ghost use Rattle.std.specs.Option.{option_copied};
 ghost use Rattle.rz_set.specs.After.{under, under_head};

@@ -1,3 +1,5 @@
+//! Laws of finding, putting, choosing and changing. See `specs/ResSet`, `specs/Choice`, `specs/Change`.
+
 ghost use Rattle.std.specs.Prelude.{◌≡◌, [], ℕ, ℤ, true, false, filter, fold, not, List, None, Some};
 ghost use Rattle.std.specs.List.{list_any};
 ghost use Rattle.rz_core.specs.Resources.{put, same_key, KeysDiffer};

@@ -1,3 +1,5 @@
+//! What a statement asks of a set: picks, heads and choices; and why a set refuses a call.
+
 use rz_core::{Attr, Bytes, OsType};
 
 /// Which resources of a type a statement is for.

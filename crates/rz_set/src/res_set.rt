@@ -1,3 +1,5 @@
+//! The set of resources, with each change or refusal of its calls. Those are in `specs/After` and `specs/Change`.
+
 ghost use Rattle.std.specs.Prelude.{◌≡◌, ◌<◌, [], length, filter, map, not, slice_get, None, Some, IfOk, IfErr, OnOk, OnErr};
 ghost use Rattle.std.specs.Option.{option_copied};
 ghost use Rattle.rz_core.specs.Resources.{put, put_all, KeysDiffer};

@@ -1,3 +1,5 @@
+//! Which resources are wanted or included, by type and id alone; changed only with `specs/Wanted`.
+
 ghost use Rattle.std.specs.Prelude.{◌≡◌, List, None, Some, IfOk, IfErr};
 ghost use Rattle.std.specs.Option.{option_copied};
 ghost use Rattle.rz_core.specs.declared.resource.Resource.{Resource};

@@ -1,3 +1,5 @@
+//! Resources as `data` statements, in hexadecimal; a new layout changes `specs/Data` too.
+
 ghost use Rattle.std.specs.Prelude.{◌≡◌, ◌++◌, IfOk, OnOk, OnErr};
 ghost use Rattle.rz_core.specs.Lists.{each_with_front};
 ghost use Rattle.rz_show.specs.Data.{byte_gap, data_byte, data_text, lines_text, resource_text, statement_text};

@@ -1,3 +1,5 @@
+//! Digits of a number in a base up to 16. How many octal ones it has is in `specs/Written`.
+
 ghost use Rattle.std.specs.Prelude.{◌≡◌, ◌<◌, ◌≤◌, ◌∷◌, ◌++◌, ◌%◌, pos, List, [], OnOk};
 ghost use Rattle.rz_core.specs.Decimal.{signed_of};
 ghost use Rattle.rz_core.specs.Quoted.{hex_digit};

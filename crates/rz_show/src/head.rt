@@ -1,3 +1,5 @@
+//! The line that begins a statement: type, id, name and attributes; changes with `specs/Head`.
+
 ghost use Rattle.std.specs.Prelude.{◌≡◌, ◌==◌, ◌<◌, ◌++◌, ◌/◌, ◌%◌, OnOk};
 ghost use Rattle.rz_core.specs.Lists.{each_with_front};
 ghost use Rattle.rz_show.specs.Head.{attr_text, head_text, name_byte, name_gap, name_text, word_text};

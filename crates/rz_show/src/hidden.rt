@@ -1,3 +1,5 @@
+//! The names of live macros, which no row may show; changes with `specs/Hidden`.
+
 ghost use Rattle.std.specs.Prelude.{◌≡◌, ◌≤◌, ℕ, List, length, IfOk};
 ghost use Rattle.std.specs.List.{list_any};
 ghost use Rattle.std.specs.Str.{bytes_eq, str_to_ascii_lowercase};

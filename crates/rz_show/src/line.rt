@@ -1,3 +1,5 @@
+//! Margins, commas and line ends between items; changes with `specs/Put`, the depth with `specs/Print`.
+
 ghost use Rattle.std.specs.Prelude.{◌≡◌, ◌∷◌, ◌++◌, [], OnOk};
 ghost use Rattle.rz_show.specs.Print.{deeper};
 ghost use Rattle.rz_show.specs.Put.{comma_text, end_text, margin_text};

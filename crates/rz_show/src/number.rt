@@ -1,3 +1,5 @@
+//! Number fields as they are shown, by symbol or by value; changes with `specs/Number`.
+
 ghost use Rattle.std.specs.Prelude.{◌≡◌, ◌<◌, ◌≤◌, ◌/◌, ◌∷◌, ◌++◌, pos, nat_abs, List, [], map, option_map, true, OnOk};
 ghost use Rattle.rz_core.specs.Numbers.{be};
 ghost use Rattle.rz_show.specs.Hidden.{hides};

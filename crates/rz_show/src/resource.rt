@@ -1,3 +1,5 @@
+//! Resources as `resource` statements; changes with `specs/Resource`.
+
 ghost use Rattle.std.specs.Prelude.{◌≡◌, ◌++◌, true, OnErr, OnOk};
 ghost use Rattle.rz_show.specs.Hidden.{hides};
 ghost use Rattle.rz_show.specs.Resource.{resource_row};

@@ -1,3 +1,5 @@
+//! The items of a row as lines; a new kind of field changes `specs/Shown` too.
+
 ghost use Rattle.std.specs.Prelude.{◌≡◌, ◌++◌, option_map, true, IfOk, OnOk};
 ghost use Rattle.rz_show.specs.Hidden.{hides};
 ghost use Rattle.rz_show.specs.Print.{block, no_prints};

@@ -1,3 +1,5 @@
+//! Texts as they are shown, in pieces on lines; changes with `specs/Shown` and `specs/Written`.
+
 ghost use Rattle.std.specs.Prelude.{◌≡◌, ◌∷◌, ◌++◌, [], OnOk};
 ghost use Rattle.rz_core.specs.Quoted.{quoted};
 ghost use Rattle.rz_show.specs.Print.{piece_written};

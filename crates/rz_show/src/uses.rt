@@ -1,3 +1,5 @@
+//! Whether a row chooses a case whose name is a live macro; changes with `specs/Shown`.
+
 ghost use Rattle.std.specs.Prelude.{◌≡◌, option_map, IfOk};
 ghost use Rattle.std.specs.List.{list_any};
 ghost use Rattle.rz_show.specs.Hidden.{hides};

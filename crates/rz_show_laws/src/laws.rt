@@ -1,3 +1,5 @@
+//! Laws: the text that is shown is read again as what was shown. They speak of the definitions in `specs`.
+
 ghost use Rattle.std.specs.Prelude.{◌≡◌, ◌++◌, true, false, ℕ, List, Bool, map};
 ghost use Rattle.rz_lex.specs.declared.token.Shape.{Shape};
 ghost use Rattle.rz_show_laws.specs.Page.{AreCutBack, ArePrinted, IsPage};

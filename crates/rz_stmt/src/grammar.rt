@@ -1,3 +1,5 @@
+//! Which statement the tokens of a span are, or their first fault; changes with `specs/Grammar`.
+
 ghost use Rattle.std.specs.Prelude.{◌≡◌, ◌<◌, ◌≤◌, ◌-◌, ℕ, true, IfOk, Some, drop, length, take};
 ghost use Rattle.rz_lex.specs.Within.{AreWithin};
 ghost use Rattle.rz_core.specs.Message.{IsNameable};

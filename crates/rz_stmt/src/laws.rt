@@ -1,3 +1,5 @@
+//! Laws: tokens are one statement, or have one fault, and never both. They speak of `specs/Grammar`.
+
 ghost use Rattle.std.specs.Prelude.{◌≡◌, List, Result};
 ghost use Rattle.rz_core.specs.declared.fault.Fault.{Fault};
 ghost use Rattle.rz_lex.specs.declared.token.Token.{Token};

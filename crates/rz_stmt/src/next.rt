@@ -1,3 +1,5 @@
+//! The first statement of the tokens that a reader still has; changes with `specs/Next`.
+
 ghost use Rattle.std.specs.Prelude.{List, IfOk};
 ghost use Rattle.rz_stmt_brackets.specs.Statements.{AreStatements};
 ghost use Rattle.rz_lex.specs.declared.token.Token.{Token};

@@ -1,3 +1,5 @@
+//! Brackets at the front of tokens, what stands in them and what behind; changes with `specs/Bracket`.
+
 ghost use Rattle.std.specs.Prelude.{◌≡◌, IfSome, option_map};
 ghost use Rattle.rz_stmt_brackets.specs.Bracket.{begins, closer, opens, IsBracketed};
 ghost use Rattle.rz_stmt_brackets.specs.Held.{held_split};

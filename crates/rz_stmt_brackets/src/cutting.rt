@@ -1,3 +1,5 @@
+//! The tokens of a program cut into statements; changes with `specs/Statements` and `specs/Cutting`.
+
 ghost use Rattle.std.specs.Prelude.{◌≡◌, ◌+◌, ◌<◌, ◌≤◌, ◌^◌, List, length, IfOk};
 ghost use Rattle.rz_lex.specs.declared.token.Token.{Token};
 ghost use Rattle.rz_stmt_brackets.specs.Statements.{is_empty, is_end, is_semicolon, open_behind, AreStatements, HasSpans};

@@ -1,3 +1,5 @@
+//! The resource type that a token is. What that is stands in `specs/Kind`.
+
 ghost use Rattle.std.specs.Prelude.{◌≡◌};
 ghost use Rattle.rz_stmt_brackets.specs.Kind.{kind_in};
 

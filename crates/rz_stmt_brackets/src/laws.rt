@@ -1,3 +1,5 @@
+//! Laws of statements, their limits, and their pieces. They speak of the definitions in `specs`.
+
 ghost use Rattle.std.specs.Prelude.{◌≡◌, ◌↔◌, true, List, Option};
 ghost use Rattle.rz_core.specs.Decided.{Decided};
 ghost use Rattle.rz_lex.specs.declared.token.Token.{Token};

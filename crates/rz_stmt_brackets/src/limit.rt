@@ -1,3 +1,5 @@
+//! How deep brackets may be open, and how long a row of tokens may be; changes with `specs/Limit`.
+
 ghost use Rattle.std.specs.Prelude.{◌≡◌, ◌+◌, ◌<◌, ◌≤◌, ◌^◌};
 ghost use Rattle.rz_stmt_brackets.specs.Limit.{depth_limit, ends_row, is_text, is_within_limits, row_behind};
 

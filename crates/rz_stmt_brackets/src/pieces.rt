@@ -1,3 +1,5 @@
+//! Tokens cut where a sign or `case` stands outside brackets; changes with `specs/Pieces`.
+
 ghost use Rattle.std.specs.Prelude.{◌≡◌, ◌<◌, IfNone, IfOk, IfSome, List, Some, false, length, map, option_map};
 ghost use Rattle.rz_lex.specs.declared.token.Token.{Token};
 ghost use Rattle.rz_stmt_brackets.specs.Held.{held_split};

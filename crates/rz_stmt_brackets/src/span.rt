@@ -1,3 +1,5 @@
+//! Where a statement stands among the tokens of a program; changes with `specs/Statements`.
+
 use rz_core::Listing;
 
 /// Where a statement stands among the tokens of a program.

@@ -1,3 +1,5 @@
+//! The name of a file, as one text or more that are joined; changes with `specs/Files`.
+
 ghost use Rattle.std.specs.Prelude.{◌≡◌, IfOk};
 ghost use Rattle.rz_core.specs.Decided.{Decided};
 ghost use Rattle.rz_stmt_data.specs.Files.{begins_with_text, behind_texts, file_in, texts_at_front, IsFile};

@@ -1,3 +1,5 @@
+//! The frame of `data` and `resource` statements: type, head and braces; changes with `specs/Frame`.
+
 ghost use Rattle.std.specs.Prelude.{◌≡◌, IfOk, option_map};
 ghost use Rattle.rz_core.specs.Decided.{Decided};
 ghost use Rattle.rz_stmt_data.specs.Frame.{frame_of, IsBody, IsFrame};

@@ -1,3 +1,5 @@
+//! Heads: an id, a name and attributes, of new or of chosen resources; changes with `specs/Head`.
+
 ghost use Rattle.std.specs.Prelude.{◌≡◌, IfOk, map, option_map};
 ghost use Rattle.rz_expr.specs.Term.{term_of};
 ghost use Rattle.rz_expr.specs.Attribute.{attribute_word};

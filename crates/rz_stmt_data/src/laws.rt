@@ -1,3 +1,5 @@
+//! Laws of texts, names of files, heads and `data` statements. They speak of the definitions in `specs`.
+
 ghost use Rattle.std.specs.Prelude.{◌≡◌, ℕ, false, true, List, Option};
 ghost use Rattle.rz_core.specs.Decided.{Decided};
 ghost use Rattle.rz_expr.specs.Grammar.{IsExpression};

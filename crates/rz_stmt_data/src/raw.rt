@@ -1,3 +1,5 @@
+//! The `data` statement: a frame, and the text that is its bytes; changes with `specs/Raw`.
+
 ghost use Rattle.std.specs.Prelude.{◌≡◌, IfOk, map, option_map};
 ghost use Rattle.rz_types_fields.specs.Text.{plain_parts};
 ghost use Rattle.rz_core.specs.Decided.{Decided};

@@ -1,3 +1,5 @@
+//! Texts as they are written: text tokens, words, and functions; changes with `specs/Texts`.
+
 ghost use Rattle.std.specs.Prelude.{◌≡◌, IfOk, map, option_map};
 ghost use Rattle.rz_core.specs.Decided.{Decided};
 ghost use Rattle.rz_expr.specs.Words.{role_of};

@@ -1,3 +1,5 @@
+//! A keyword and a type in front of tokens; changes with `specs/Typed`.
+
 ghost use Rattle.std.specs.Prelude.{option_map};
 ghost use Rattle.rz_core.specs.Decided.{Decided};
 ghost use Rattle.rz_stmt_data.specs.Typed.{typed_of, IsTyped};

@@ -1,3 +1,5 @@
+//! Fields without fields of their own, texts aside, read from tokens; changes with `specs/FieldForm`.
+
 ghost use Rattle.std.specs.Prelude.{◌≡◌, IfOk, map, option_map};
 ghost use Rattle.rz_expr.specs.Term.{term_of};
 ghost use Rattle.rz_types_fields.specs.Field.{plain_points};

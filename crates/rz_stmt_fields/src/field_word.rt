@@ -1,3 +1,5 @@
+//! The words that a field begins with, and the words of units; changes with `specs/FieldWord`.
+
 ghost use Rattle.std.specs.Prelude.{◌≡◌, false, None, option_map};
 ghost use Rattle.rz_stmt_fields.specs.FieldWord.{align_unit, field_word, field_word_in, front_in, hex_of, modifier_in, modifier_word, text_form, unit_in, unit_word};
 ghost use Rattle.rz_stmt_fields.specs.Held.{held_front};

@@ -1,3 +1,5 @@
+//! A `type` statement as it is written, as the code holds it; changes with `specs/Form`.
+
 use rz_core::{Listing, OsType, Word};
 use rz_expr::Expr;
 use rz_types_fields::{NumForm, PointField, Radix, TextField};

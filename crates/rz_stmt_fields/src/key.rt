@@ -1,3 +1,5 @@
+//! The key of a case; changes with `specs/Key`.
+
 ghost use Rattle.std.specs.Prelude.{◌≡◌, IfOk, option_map};
 ghost use Rattle.rz_core.specs.Decided.{Decided};
 ghost use Rattle.rz_expr.specs.Term.{term_of};

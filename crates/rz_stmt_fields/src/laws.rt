@@ -1,3 +1,5 @@
+//! Laws of fields and their fronts, keys, and expressions of sizes. They speak of the definitions in `specs`.
+
 ghost use Rattle.std.specs.Prelude.{◌≡◌, ◌↔◌, false, None, List, Option, Some};
 ghost use Rattle.rz_core.specs.Decided.{Decided};
 ghost use Rattle.rz_expr.specs.Term.{Term};

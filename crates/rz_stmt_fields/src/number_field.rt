@@ -1,3 +1,5 @@
+//! Number fields: width, symbols and fixed value; changes with `specs/NumberField`.
+
 ghost use Rattle.std.specs.Prelude.{◌≡◌, IfOk, option_map};
 ghost use Rattle.rz_core.specs.Decided.{Decided};
 ghost use Rattle.rz_stmt_fields.specs.Form.{number_form, width_form};

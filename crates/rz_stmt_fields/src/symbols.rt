@@ -1,3 +1,5 @@
+//! The symbols of a number field, as they are written; changes with `specs/Symbols`.
+
 ghost use Rattle.std.specs.Prelude.{◌≡◌, IfOk, map, option_map};
 ghost use Rattle.std.specs.Option.{option_copied};
 ghost use Rattle.rz_expr.specs.Term.{term_of};

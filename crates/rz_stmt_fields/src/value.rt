@@ -1,3 +1,5 @@
+//! Expressions of sizes, fixed values, and values of symbols; changes with `specs/FieldValue`.
+
 ghost use Rattle.std.specs.Prelude.{◌≡◌, IfOk, map, option_map};
 ghost use Rattle.rz_expr.specs.Term.{term_of};
 ghost use Rattle.rz_core.specs.Decided.{Decided};

@@ -1,3 +1,5 @@
+//! The `resource` statement: a frame, and its items; changes with `specs/Compile`.
+
 ghost use Rattle.std.specs.Prelude.{◌≡◌, IfOk, option_map};
 ghost use Rattle.rz_core.specs.Decided.{Decided};
 ghost use Rattle.rz_stmt_items.specs.Compile.{compile_of, IsCompile};

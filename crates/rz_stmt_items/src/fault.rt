@@ -1,3 +1,5 @@
+//! The faults of items that don't fit the fields of a type; changes with `specs/Unfit`.
+
 ghost use Rattle.std.specs.Prelude.{◌≡◌, ◌<◌, ◌^◌, IfOk};
 ghost use Rattle.rz_core.specs.declared.stop.Stop.TheVariants.{Refused};
 ghost use Rattle.rz_stmt_items.specs.Item.{plain_item, plain_items};

@@ -1,3 +1,5 @@
+//! The numbers that items give to a point or a rectangle; changes with `specs/Matched`.
+
 ghost use Rattle.std.specs.Prelude.{◌≡◌, ◌<◌, ◌^◌, None};
 ghost use Rattle.rz_core.specs.Stop.{Gives};
 ghost use Rattle.rz_stmt_items.specs.Item.{plain_item, plain_items};

@@ -1,3 +1,5 @@
+//! The items of a `resource` statement, as the code holds them; changes with `specs/Item`.
+
 use rz_core::{Listing, Mark, Word};
 use rz_expr::Expr;
 use rz_types_fields::Texts;

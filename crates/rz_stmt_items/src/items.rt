@@ -1,3 +1,5 @@
+//! Items, and items in braces, read from tokens; changes with `specs/Items`.
+
 ghost use Rattle.std.specs.Prelude.{◌≡◌, ◌≤◌, IfOk, length, map, option_map, take};
 ghost use Rattle.rz_core.specs.Decided.{Decided};
 ghost use Rattle.rz_stmt_items.specs.Item.{items_of, plain_item, plain_items, Braced, Named};

@@ -1,3 +1,5 @@
+//! Laws of `resource` statements, and of items under fields. They speak of the definitions in `specs`.
+
 ghost use Rattle.std.specs.Prelude.{◌≡◌, ℕ, List, Option, true, Ok};
 ghost use Rattle.rz_core.specs.Decided.{Decided};
 ghost use Rattle.rz_lex.specs.Within.{AreWithin};

@@ -1,3 +1,5 @@
+//! Items under the fields of a type: the row that they are, or their first fault; changes with `specs/Match`.
+
 ghost use Rattle.std.specs.Prelude.{◌≡◌, ◌<◌, ◌^◌, ℕ, List, IfOk, drop, length};
 ghost use Rattle.std.specs.declared.result.Result.{Result as result_of};
 ghost use Rattle.rz_stmt_items.specs.Line.{line_of};

@@ -1,3 +1,5 @@
+//! The number that an item gives to a number field, or its fault; changes with `specs/Matched`.
+
 ghost use Rattle.std.specs.Prelude.{◌≡◌, ◌<◌, ◌^◌, nat_abs, IfOk, ◌↔◌, IsTrue};
 ghost use Rattle.rz_core.specs.Stop.{Gives};
 ghost use Rattle.rz_expr.specs.Term.{term_of};

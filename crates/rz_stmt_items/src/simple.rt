@@ -1,3 +1,5 @@
+//! Items without braces, texts and numbers, read from tokens; changes with `specs/Simple`.
+
 ghost use Rattle.std.specs.Prelude.{◌≡◌, pos, IfOk, IfSome, option_map};
 ghost use Rattle.rz_core.specs.Decided.{Decided};
 ghost use Rattle.rz_expr.specs.Term.{term_of, Constant};

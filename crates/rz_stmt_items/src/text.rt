@@ -1,3 +1,5 @@
+//! The bytes that an item gives to a text field, or their fault; changes with `specs/Matched`.
+
 ghost use Rattle.std.specs.Prelude.{◌≡◌, ◌<◌, ◌^◌};
 ghost use Rattle.rz_core.specs.Stop.{Gives};
 ghost use Rattle.rz_stmt_items.specs.Item.{plain_item};

@@ -1,3 +1,5 @@
+//! Round brackets at the front of tokens, which may be left out; changes with `specs/Brackets`.
+
 ghost use Rattle.std.specs.Prelude.{◌≡◌, IfSome, List, Option, Some, option_map};
 ghost use Rattle.rz_lex.specs.declared.token.Token.{Token};
 ghost use Rattle.rz_stmt_lists.specs.Steps.{held_maybe, IsMaybePair};

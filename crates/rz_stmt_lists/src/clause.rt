@@ -1,3 +1,5 @@
+//! A keyword, a type, and brackets that may be left out; changes with `specs/Clause`.
+
 ghost use Rattle.std.specs.Prelude.{option_map};
 ghost use Rattle.rz_core.specs.Decided.{Decided};
 ghost use Rattle.rz_stmt_lists.specs.Clause.{clause_of, IsClause};

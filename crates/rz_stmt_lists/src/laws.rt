@@ -1,3 +1,5 @@
+//! Laws of the statements over lists of resources. They speak of `specs/Lists`.
+
 ghost use Rattle.std.specs.Prelude.{◌≡◌, List, Option};
 ghost use Rattle.rz_core.specs.Decided.{Decided};
 ghost use Rattle.rz_lex.specs.declared.token.Token.{Token};

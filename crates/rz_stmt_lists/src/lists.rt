@@ -1,3 +1,5 @@
+//! The four statements over lists of resources, as one; a fifth changes `specs/Lists` too.
+
 ghost use Rattle.std.specs.Prelude.{IfOk, option_map};
 ghost use Rattle.rz_core.specs.Decided.{Decided};
 ghost use Rattle.rz_stmt_lists.specs.Lists.{list_of, IsListed};

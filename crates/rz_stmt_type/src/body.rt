@@ -1,3 +1,5 @@
+//! Bodies of `type` statements, with arrays, switches and cases; changes with `specs/Body`.
+
 ghost use Rattle.std.specs.Prelude.{IfOk, option_map};
 ghost use Rattle.rz_core.specs.Decided.{Decided};
 ghost use Rattle.rz_stmt_type.specs.Body.{AreCases, IsArray, IsBody, IsCase, IsField, IsSwitch};

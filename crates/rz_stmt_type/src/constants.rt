@@ -1,3 +1,5 @@
+//! A `type` statement with the values of its constants, or its fault; changes with `specs/Constants`.
+
 ghost use Rattle.std.specs.Prelude.{◌≡◌, ◌<◌, ℕ, map, option_map};
 ghost use Rattle.rz_core.specs.Message.{IsNameable};
 ghost use Rattle.rz_core.specs.Stop.{Gives, OnFault, seen};

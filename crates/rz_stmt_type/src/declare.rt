@@ -1,3 +1,5 @@
+//! The `type` statement as it is written: its ids, and its fields or a copy; changes with `specs/Declare`.
+
 ghost use Rattle.std.specs.Prelude.{◌≡◌, IfOk, map, option_map};
 ghost use Rattle.rz_expr.specs.Term.{term_of};
 ghost use Rattle.rz_stmt_type.specs.Declare.{AreIds, IsDeclare, IsMade, IsScope};

@@ -1,3 +1,5 @@
+//! Fields without fields of their own, texts among them; changes with `specs/Flat`.
+
 ghost use Rattle.std.specs.Prelude.{◌≡◌, IfOk, option_map};
 ghost use Rattle.rz_core.specs.Decided.{Decided};
 ghost use Rattle.rz_stmt_type.specs.Flat.{IsFixed, IsFlat, IsFlatFront, IsSized, IsText, IsTextField, IsUnsized};

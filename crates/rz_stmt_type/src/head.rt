@@ -1,3 +1,5 @@
+//! Arrays and cases up to their fields; changes with `specs/Head`.
+
 ghost use Rattle.std.specs.Prelude.{◌≡◌, IfOk, map, option_map};
 ghost use Rattle.rz_core.specs.Decided.{Decided};
 ghost use Rattle.rz_stmt_type.specs.Head.{behind_empty, case_front, is_colon, IsArrayFront, IsBare, IsBraced, IsCounted, IsNamed};

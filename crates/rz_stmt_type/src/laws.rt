@@ -1,3 +1,5 @@
+//! Laws of `type` statements, and of the values of symbols. They speak of the definitions in `specs`.
+
 ghost use Rattle.std.specs.Prelude.{◌≡◌, ◌↔◌, true, Bool, ℤ, List, Err, Ok, Option};
 ghost use Rattle.rz_core.specs.Decided.{Decided};
 ghost use Rattle.rz_core.specs.declared.fault.Fault.{Fault};

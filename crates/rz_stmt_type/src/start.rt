@@ -1,3 +1,5 @@
+//! The first word of a field, and what it begins; changes with `specs/Start`.
+
 ghost use Rattle.std.specs.Prelude.{◌≡◌};
 ghost use Rattle.rz_stmt_type.specs.Held.{held_start};
 ghost use Rattle.rz_stmt_type.specs.Start.{start_of, wide_start};

@@ -1,3 +1,5 @@
+//! The values of the symbols of a number field, or their first fault; changes with `specs/Values`.
+
 ghost use Rattle.std.specs.Prelude.{◌≡◌, ◌+ℤ◌, map, option_map, pos};
 ghost use Rattle.rz_core.specs.Stop.{Gives};
 ghost use Rattle.rz_expr.specs.Term.{term_of};

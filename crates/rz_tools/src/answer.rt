@@ -1,3 +1,5 @@
+//! The answer to arguments, with nothing of it carried out. A new command is an arm here and a case of `specs/Program`.
+
 ghost use Rattle.std.specs.Prelude.{◌≡◌, ◌⊎◌, ℕ, List, map, IfOk, IfSome, IsOkAnd, Err};
 ghost use Rattle.std.specs.String.{string_bytes};
 ghost use Rattle.std.specs.FinMap as finite;

@@ -1,3 +1,5 @@
+//! Which resources `-only` and `-skip` leave to be shown, as `specs/Chosen` says.
+
 ghost use Rattle.std.specs.Prelude.{◌≡◌};
 ghost use Rattle.rz_tools.specs.Chosen.{is_chosen, is_in};
 

@@ -1,3 +1,5 @@
+//! `derez`: the type files, the fork of the file, and the text of its resources. What it answers is in `specs/DeRez`.
+
 ghost use Rattle.std.specs.Prelude.{◌≡◌, ◌++◌, ◌∷◌, [], ◌<◌, ◌^◌, Err, ℕ, List, length, None, IfOk, IfSome, OnOk};
 ghost use Rattle.std.specs.FinMap as map;
 ghost use Rattle.std.specs.String.{string_bytes};

@@ -1,3 +1,5 @@
+//! Laws of answers and of the text of `derez`; `run` rests on them, and has nothing else to say of a text read again.
+
 ghost use Rattle.std.specs.Prelude.{◌≡◌, List, [], ℕ, Ok};
 ghost use Rattle.rz_core.specs.declared.moment.Moment.{Moment};
 ghost use Rattle.rz_folder.specs.Folder.{Files};

@@ -1,3 +1,5 @@
+//! The top call: an answer is made, and then carried out. What a run promises is the contract of `run`.
+
 ghost use Rattle.std.specs.Prelude.{◌≡◌, ◌⊎◌, ℕ, List, map, IfSome};
 ghost use Rattle.std.specs.String.{string_bytes};
 ghost use Rattle.rz_tools.specs.Again.{ShowsAgain};

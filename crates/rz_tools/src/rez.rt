@@ -1,3 +1,5 @@
+//! `rez`: the sources, the file to begin with, and the file that is written. What it answers is in `specs/Rez`.
+
 ghost use Rattle.std.specs.Prelude.{◌≡◌, ◌≤◌, [], ◌<◌, ◌^◌, List, length, IfSome, IfOk, Err};
 ghost use Rattle.rz_core.specs.Stop.{seen, OnRefusal, Yields};
 ghost use Rattle.rz_core.specs.declared.stop.Halt.TheVariants.{ReadFault};

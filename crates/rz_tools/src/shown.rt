@@ -1,3 +1,5 @@
+//! One resource as text: by a row of its type if there is one, else by its bytes, as `specs/Shown` says.
+
 ghost use Rattle.std.specs.Prelude.{◌≡◌, ◌++◌, ℕ, if◌then◌else◌, List, Some, None, option_map, IfOk, OnOk};
 ghost use Rattle.rz_core.specs.Decided.{Decided};
 ghost use Rattle.rz_show.specs.Hidden.{hides};

@@ -1,3 +1,5 @@
+//! Sources as both commands take them: the program, and what its statements make. What they mean is in `specs/Sources`.
+
 ghost use Rattle.std.specs.Prelude.{◌≡◌, [], length, Err, IfOk, IfSome};
 ghost use Rattle.rz_core.specs.Stop.{seen, OnRefusal, Yields};
 ghost use Rattle.rz_core.specs.declared.stop.Halt.TheVariants.{ReadFault};

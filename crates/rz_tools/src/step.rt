@@ -1,3 +1,5 @@
+//! The statements of a program, one after the other. A new statement is an arm here and a case of `specs/Step`.
+
 ghost use Rattle.std.specs.Prelude.{◌≡◌, ◌<◌, ℕ, List, length, map, IfSome};
 ghost use Rattle.rz_tools_answer.specs.Warning.{AreWarnings};
 ghost use Rattle.rz_core.specs.Message.{IsNameable};

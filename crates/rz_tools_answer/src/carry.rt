@@ -1,3 +1,5 @@
+//! An answer is carried out: files, output, messages. What a run then leaves is in `specs/Carried`.
+
 ghost use Rattle.std.specs.Prelude.{◌≡◌, ◌≤◌, ◌⊎◌, ◌++◌, [], map, take};
 ghost use Rattle.rz_folder.specs.Counts.{Rose};
 ghost use Rattle.rz_folder.specs.Sink.{Puts};

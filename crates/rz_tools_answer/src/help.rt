@@ -1,3 +1,5 @@
+//! The texts of `--help` and `--version`, as `specs/Help` has them.
+
 ghost use Rattle.std.specs.Prelude.{◌≡◌};
 ghost use Rattle.rz_tools_answer.specs.Help.{help_text, version_text};
 

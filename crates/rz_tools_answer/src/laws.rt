@@ -1,3 +1,5 @@
+//! The law of runs: an answer is carried out, but for want of memory, a failed read or a failed write.
+
 ghost use Rattle.std.specs.Prelude.{◌≡◌, ◌⊎◌};
 ghost use Rattle.rz_tools_answer.specs.Answer.{Answer};
 ghost use Rattle.rz_tools_answer.specs.Carried.{CarriesOut};

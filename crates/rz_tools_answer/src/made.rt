@@ -1,3 +1,5 @@
+//! What a command makes, and what stops it. What calls give of both is in `specs/Made`.
+
 use rz_core::{Bytes, Fault, FileNames};
 
 /// What a command makes.

@@ -1,3 +1,5 @@
+//! The lines of outcomes that are no fault, as `specs/Message` has them.
+
 ghost use Rattle.std.specs.Prelude.{◌≡◌, IfOk};
 ghost use Rattle.rz_tools_answer.specs.Message.{usage_line};
 

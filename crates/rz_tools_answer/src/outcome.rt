@@ -1,3 +1,5 @@
+//! How a run ends, and the exit status of each end, as `specs/Outcome` says.
+
 ghost use Rattle.std.specs.Prelude.{◌≡◌};
 ghost use Rattle.rz_tools_answer.specs.Outcome.{status_of};
 

@@ -1,3 +1,5 @@
+//! An answer before it is carried out: outcome, writes, output and messages, as `specs/Plan` sees them.
+
 ghost use Rattle.std.specs.Prelude.{◌≡◌, length, [], map, Err, IfOk};
 ghost use Rattle.rz_core.specs.Message.{IsNameable};
 ghost use Rattle.rz_tools_answer.specs.Answer.{misused, refused, shown, written};

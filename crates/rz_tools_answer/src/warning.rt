@@ -1,3 +1,5 @@
+//! The lines of warnings, before a command's work or its refusal. A new warning is one more number of `specs/Warning`.
+
 ghost use Rattle.std.specs.Prelude.{◌≡◌, length, Err, IfOk, Ok};
 ghost use Rattle.rz_core.specs.Message.{IsNameable};
 ghost use Rattle.rz_core.specs.Stop.{OnFault, OnRefusal};

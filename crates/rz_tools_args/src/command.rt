@@ -1,3 +1,5 @@
+//! Commands as their arguments ask for them. What each holds is in `specs/Command`.
+
 use rz_bridge_form::Form;
 use rz_core::{FileNames, Listing, OsType};
 use rz_pre::Defs;

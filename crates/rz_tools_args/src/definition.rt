@@ -1,3 +1,5 @@
+//! What `-d` and `-u` define. What may be defined is in `specs/Definition`.
+
 ghost use Rattle.std.specs.Prelude.{◌≡◌, ◌&&◌, IfOk};
 ghost use Rattle.rz_expr.specs.Words.{is_label, role_of};
 ghost use Rattle.rz_tools_args.specs.Definition.{Alone, Defines, IsName, IsText, Undefines, WithText};

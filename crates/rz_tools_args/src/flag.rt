@@ -1,3 +1,5 @@
+//! The options of each command, those with a value and those without. Their tables are in `specs/Command` and here.
+
 ghost use Rattle.std.specs.Prelude.{◌≡◌};
 ghost use Rattle.rz_tools_args.specs.Command.{bridge_flag, derez_flag, flag_of, rez_flag, rez_switch, shared_flag, shared_switch, switch_of};
 

@@ -1,3 +1,5 @@
+//! The names of the forms of files.
+
 ghost use Rattle.std.specs.Prelude.{◌≡◌};
 ghost use Rattle.rz_tools_args.specs.Command.{form_named};
 

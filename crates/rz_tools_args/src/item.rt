@@ -1,3 +1,5 @@
+//! One item of a command: a file, or an option with its value, at the front of arguments. What it is is in `specs/Item`.
+
 ghost use Rattle.std.specs.Prelude.{◌≡◌, ℕ, IfOk, ◌∷◌, map, option_map};
 ghost use Rattle.std.specs.String.{string_bytes};
 ghost use Rattle.rz_core.specs.Decided.{Decided};

@@ -1,3 +1,5 @@
+//! A resource type as an argument, as `specs/Kind` says.
+
 ghost use Rattle.std.specs.Prelude.{◌≡◌, IfOk};
 ghost use Rattle.rz_core.specs.Decided.{Decided};
 ghost use Rattle.rz_tools_args.specs.Kind.{kind_of, IsKind};

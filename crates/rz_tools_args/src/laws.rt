@@ -1,3 +1,5 @@
+//! Laws of arguments: they are one command or have one misplaced argument, and define no reserved word.
+
 ghost use Rattle.std.specs.Prelude.{◌≡◌, ◌⊎◌, ℕ, List};
 ghost use Rattle.rz_pre.specs.Lexed.{HaveLexedTexts};
 ghost use Rattle.rz_tools_args.specs.Definition.{AreFree};

@@ -1,3 +1,5 @@
+//! An argument as one line of tokens, as `specs/Line` says.
+
 ghost use Rattle.std.specs.Prelude.{◌≡◌, IfOk, List};
 ghost use Rattle.rz_lex.specs.Cutting.{Cuts};
 ghost use Rattle.rz_tools_args.specs.Definition.{nowhere};

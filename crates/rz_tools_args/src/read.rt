@@ -1,3 +1,5 @@
+//! All arguments, read as a command or as the position of the first misplaced one. What they are is in `specs/Command`.
+
 ghost use Rattle.std.specs.Prelude.{◌≡◌, ℕ, ◌∷◌, Ok, Err, IfOk, codes, map};
 ghost use Rattle.std.specs.String.{string_bytes};
 ghost use Rattle.rz_core.specs.Stop.{fault_seen, seen, Gives, OnFault};

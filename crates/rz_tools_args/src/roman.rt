@@ -1,3 +1,5 @@
+//! The characters of an argument in Mac Roman.
+
 ghost use Rattle.std.specs.Prelude.{IfOk, ◌++◌};
 ghost use Rattle.rz_core.specs.Decided.{Decided};
 ghost use Rattle.rz_pre_source.specs.Source.{mark, IsTextOf};

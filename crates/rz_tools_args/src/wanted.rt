@@ -1,3 +1,5 @@
+//! What the items of a command want, gathered one after the other. What items come to is in `specs/Item`.
+
 ghost use Rattle.std.specs.Prelude.{◌≡◌, ◌≢◌, ◌<◌, ◌≤◌, [], IfOk, OnOk, drop, length, option_map};
 ghost use Rattle.rz_core.specs.Decided.{Decided};
 ghost use Rattle.rz_tools_args.specs.Command.{and_item, and_switch, derez_asked, nothing_wanted, rez_asked, IsBridgeAsked};

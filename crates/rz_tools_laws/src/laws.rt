@@ -1,3 +1,5 @@
+//! Laws of the whole: what sources declare is a template, and what `rez` writes raw is found raw.
+
 ghost use Rattle.std.specs.Prelude.{◌≡◌, ℕ, [], List, Ok, None};
 ghost use Rattle.std.specs.List.{AllByRecursion};
 ghost use Rattle.rz_core.specs.declared.moment.Moment.{Moment};

@@ -1,3 +1,5 @@
+//! What `rez` begins with: a new file, or with `-a` one that is there. What is taken of it is in `specs/Base`.
+
 ghost use Rattle.std.specs.Prelude.{◌≡◌, ◌<◌, ◌≤◌, ◌^◌, [], ℕ, length, IfOk, IfSome};
 ghost use Rattle.rz_core.specs.Message.{IsNameable};
 ghost use Rattle.rz_core.specs.Resources.{KeysDiffer};

@@ -1,3 +1,5 @@
+//! The file that `rez` writes of the resources. What it holds is in `specs/Output`.
+
 ghost use Rattle.std.specs.Prelude.{◌≡◌, ◌≤◌, ◌<◌, ◌^◌, [], ℕ, List, length, IfOk};
 ghost use Rattle.rz_core.specs.Stop.{Meets, Gives, OnFault};
 ghost use Rattle.rz_core.specs.Message.{IsNameable};

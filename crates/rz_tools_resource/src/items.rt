@@ -1,3 +1,5 @@
+//! Items with what the files give that their strings name, as `specs/Items` says.
+
 ghost use Rattle.std.specs.Prelude.{◌≡◌, ◌<◌, ℕ, IfSome, IfOk};
 ghost use Rattle.rz_core.specs.Message.{IsNameable};
 ghost use Rattle.rz_folder.specs.OnlyReads.{OnlyReads};

@@ -1,3 +1,5 @@
+//! Which items name a file. A new form of an item is a case here and in `specs/Named`.
+
 ghost use Rattle.std.specs.Prelude.{◌≡◌};
 ghost use Rattle.rz_stmt_items.specs.Item.{items_of, plain_item, plain_items};
 ghost use Rattle.rz_tools_resource.specs.Named.{item_names, items_name};

@@ -1,3 +1,5 @@
+//! The resource of a `data` statement, as `specs/Raw` says.
+
 ghost use Rattle.std.specs.Prelude.{◌≡◌, ◌<◌, ℕ, length, IfOk, IfSome};
 ghost use Rattle.rz_core.specs.Message.{IsNameable};
 ghost use Rattle.rz_stmt_data.specs.Raw.{raw_of};

@@ -1,3 +1,5 @@
+//! The one resource that an id or a name is for, or 218, as `specs/Chosen` says.
+
 ghost use Rattle.std.specs.Prelude.{◌≡◌, ◌<◌, ℕ, IfOk, Some};
 ghost use Rattle.rz_core.specs.Message.{IsNameable};
 ghost use Rattle.rz_core.specs.Stop.{Gives, OnFault, seen};

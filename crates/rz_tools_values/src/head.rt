@@ -1,3 +1,5 @@
+//! The values of a header, from left to right. A new part of a header changes `specs/Head` too.
+
 ghost use Rattle.std.specs.Prelude.{◌≡◌, ◌<◌, ℕ, true, length, map, option_map, IfOk};
 ghost use Rattle.rz_core.specs.Message.{IsNameable, is_fault};
 ghost use Rattle.rz_core.specs.Stop.{Gives, OnFault};

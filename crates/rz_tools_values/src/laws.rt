@@ -1,3 +1,5 @@
+//! The law of strings that name no file.
+
 ghost use Rattle.std.specs.Prelude.{◌≡◌, false, ℕ, List, Ok};
 ghost use Rattle.rz_core.specs.declared.facts.Facts.{Facts};
 ghost use Rattle.rz_core.specs.declared.fault.Mark.{Mark};

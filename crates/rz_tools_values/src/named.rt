@@ -1,3 +1,5 @@
+//! Which strings name a file. A new part that reads one is a case here and in `specs/Named`.
+
 ghost use Rattle.std.specs.Prelude.{◌≡◌};
 ghost use Rattle.rz_tools_values.specs.Named.{argument_names, arguments_name, part_names, texts_name};
 ghost use Rattle.rz_types_fields.specs.Text.{arguments_of, plain_argument, plain_arguments, plain_part, plain_parts};

@@ -1,3 +1,5 @@
+//! What holds for all statements of a program.
+
 use rz_core::Moment;
 use rz_pre::Tool;
 

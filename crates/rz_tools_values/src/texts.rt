@@ -1,3 +1,5 @@
+//! Strings with what the files give that they name. What takes the place of each part is in `specs/Texts`.
+
 ghost use Rattle.std.specs.Prelude.{◌≡◌, ◌<◌, ℕ, IfOk, IfSome};
 ghost use Rattle.std.specs.Option.{option_copied};
 ghost use Rattle.rz_core.specs.Message.{IsNameable};

@@ -1,3 +1,5 @@
+//! The statements `change` and `delete`. What they leave of the list is in `specs/Change`.
+
 ghost use Rattle.std.specs.Prelude.{◌≡◌, ◌<◌, ℕ, IfOk, Some};
 ghost use Rattle.rz_core.specs.Message.{IsNameable};
 ghost use Rattle.rz_core.specs.Stop.{Gives, OnFault, left, Meets};

@@ -1,3 +1,5 @@
+//! The statement `type`. What it declares, and the order of its faults, is in `specs/Declare`.
+
 ghost use Rattle.std.specs.Prelude.{◌≡◌, ◌<◌, ℕ, true, Err};
 ghost use Rattle.rz_core.specs.Message.{IsNameable};
 ghost use Rattle.rz_core.specs.Stop.{Gives, OnFault, left, Meets, seen, fault_seen};

@@ -1,3 +1,5 @@
+//! The statement `include`. What it leaves of the list is in `specs/Include`.
+
 ghost use Rattle.std.specs.Prelude.{◌≡◌, ◌<◌, ℕ, None, Some, IfOk, IfSome};
 ghost use Rattle.rz_core.specs.Message.{IsNameable};
 ghost use Rattle.rz_core.specs.Stop.{Gives, OnFault, IsReadFault, OnRefusal, Yields, left, Meets};

@@ -1,3 +1,5 @@
+//! The statements over the list, each handed on to its module. A new one is a case of `specs/Lists`.
+
 ghost use Rattle.std.specs.Prelude.{◌≡◌, ◌<◌, ℕ, IfSome};
 ghost use Rattle.rz_core.specs.Message.{IsNameable};
 ghost use Rattle.rz_folder.specs.OnlyReads.{OnlyReads};

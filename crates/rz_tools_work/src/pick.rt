@@ -1,3 +1,5 @@
+//! The values of a pick. Which resources it is for is in `specs/Pick`.
+
 ghost use Rattle.std.specs.Prelude.{◌<◌, ℕ};
 ghost use Rattle.rz_core.specs.Message.{IsNameable};
 ghost use Rattle.rz_core.specs.Stop.{Gives, OnFault};

@@ -1,3 +1,5 @@
+//! A resource that is put into the list, and the list's faults on a line, as `specs/Put` says.
+
 ghost use Rattle.std.specs.Prelude.{◌≡◌, ◌<◌, ℕ, length};
 ghost use Rattle.rz_core.specs.Message.{IsNameable};
 ghost use Rattle.rz_core.specs.Stop.{OnFault, left, Meets, fault_seen};

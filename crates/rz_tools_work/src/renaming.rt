@@ -1,3 +1,5 @@
+//! What chosen resources become. The values of their header are in `specs/Pick`.
+
 ghost use Rattle.std.specs.Prelude.{◌≡◌, ◌<◌, [], ℕ, length, map, option_map, IfOk, Some};
 ghost use Rattle.std.specs.Option.{option_copied, unwrap_or};
 ghost use Rattle.rz_core.specs.Message.{IsNameable};

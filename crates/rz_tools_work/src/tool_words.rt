@@ -1,3 +1,5 @@
+//! The words `rez` and `derez`, which are numbers in statements, as `specs/ToolWords` says.
+
 ghost use Rattle.std.specs.Prelude.{◌≡◌, map};
 ghost use Rattle.rz_tools_work.specs.ToolWords.{number_in, numbered, tool_in};
 

@@ -1,3 +1,5 @@
+//! What the statements so far have made: types, resources, warnings. What each does to it is in `specs/Work`.
+
 ghost use Rattle.std.specs.Prelude.{◌≡◌, [], IfOk};
 ghost use Rattle.rz_core.specs.Resources.{KeysDiffer};
 ghost use Rattle.rz_set.specs.ResSet.{AreNamed};

@@ -1,3 +1,5 @@
+//! Laws of the rules of declarations, of keys, and of values. See `specs/Rules` and `specs/Kept`.
+
 ghost use Rattle.std.specs.Prelude.{◌≡◌, ◌↔◌, true, List, None, Some};
 ghost use Rattle.rz_core.specs.declared.facts.Facts.{Facts};
 ghost use Rattle.rz_expr.specs.Term.{Term};

@@ -1,3 +1,5 @@
+//! The bits that a field has at least, counted up to 8. What those are is in `specs/Readable`.
+
 ghost use Rattle.std.specs.Prelude.{◌≡◌, min};
 ghost use Rattle.std.specs.Option.{unwrap_or};
 ghost use Rattle.rz_types_fields.specs.Field.{plain_body, plain_cases, plain_field, plain_text};

@@ -1,3 +1,5 @@
+//! What the fields before one tell of names, as notes. What is known by them is in `specs/Notes`.
+
 ghost use Rattle.std.specs.Prelude.{◌≡◌, ◌||◌, Bool, IfOk, map, option_map};
 ghost use Rattle.std.specs.List.{list_all};
 ghost use Rattle.std.specs.Option.{unwrap_or};

@@ -1,3 +1,5 @@
+//! Whether a resource of a declaration can be read; changed only with `specs/Readable`.
+
 ghost use Rattle.std.specs.Prelude.{◌≡◌, ◌≤◌, ◌||◌, IfOk, OnOk, true, false, length, drop, map, option_map, Bool};
 ghost use Rattle.rz_expr.specs.Term.{term_of};
 ghost use Rattle.rz_types_fields.specs.Field.{plain_array, plain_body, plain_cases, plain_field, plain_points, plain_text, Points};

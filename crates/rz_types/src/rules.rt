@@ -1,3 +1,5 @@
+//! A broken rule of a type declaration, its field, and what is kept of the cause.
+
 use rz_core::Kept;
 
 /// A broken rule of a type declaration.

@@ -1,3 +1,5 @@
+//! A body that keeps the rules, and whether it can be read. See `specs/Rules` and `specs/Readable`.
+
 ghost use Rattle.std.specs.Prelude.{◌≡◌, true};
 ghost use Rattle.rz_types_fields.specs.Field.{plain_body};
 ghost use Rattle.rz_types_fields.specs.Shape.{is_well_shaped};

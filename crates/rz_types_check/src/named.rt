@@ -1,3 +1,5 @@
+//! Arrays that expressions name and that aren't known there. They are defined in `specs/Rules` of `rz_types`.
+
 ghost use Rattle.std.specs.Prelude.{◌≡◌, IfOk, map, option_map};
 ghost use Rattle.rz_core.specs.Lists.{first_of};
 ghost use Rattle.rz_expr.specs.Term.{term_of};

@@ -1,3 +1,5 @@
+//! The rules of fields and cases, and the check of a body. The rules are defined in `specs/Rules` of `rz_types`.
+
 ghost use Rattle.std.specs.Prelude.{IfOk, ◌≡◌, map, option_map, true};
 ghost use Rattle.rz_types.specs.Template.{template_of};
 ghost use Rattle.rz_core.specs.Stop.{Gives, seen};

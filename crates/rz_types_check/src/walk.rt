@@ -1,3 +1,5 @@
+//! The walk over the fields of a declaration, depth first. Its steps are in `specs/Walked`.
+
 ghost use Rattle.std.specs.Prelude.{IfOk, OnOk, ◌≡◌, ◌+◌, ◌++◌, [], map, option_map};
 ghost use Rattle.std.specs.Option.{option_to_list};
 ghost use Rattle.rz_core.specs.Stop.{Gives};

@@ -1,3 +1,5 @@
+//! The fields of type declarations, their types, and which take a value. See `specs/Field`.
+
 ghost use Rattle.std.specs.Prelude.{◌≡◌};
 ghost use Rattle.rz_types_fields.specs.Field.{plain_field, takes_value};
 

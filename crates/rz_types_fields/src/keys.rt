@@ -1,3 +1,5 @@
+//! The keys of cases, and the widths of fields and rows; changed only with `specs/Width`.
+
 ghost use Rattle.std.specs.Prelude.{IfOk, OnOk, ◌≡◌, ◌<◌, ◌^◌, ◌++◌, option_map};
 ghost use Rattle.rz_types_fields.specs.Field.{plain_body, plain_field, plain_number, plain_text};
 ghost use Rattle.rz_types_fields.specs.Shape.{numbers_of};

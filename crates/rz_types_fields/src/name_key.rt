@@ -1,3 +1,5 @@
+//! Names in expressions, and the fields that give or tell them. See `specs/Passed` and `specs/Solve`.
+
 ghost use Rattle.std.specs.Prelude.{◌≡◌, ◌||◌, ◌&&◌, not, if◌then◌else◌};
 ghost use Rattle.rz_expr.specs.Term.{term_of};
 ghost use Rattle.rz_types_fields.specs.Field.{plain_body, plain_field};

@@ -1,3 +1,5 @@
+//! What the parts of a text and their expressions may be, by where it stands. See `specs/Place`.
+
 ghost use Rattle.std.specs.Prelude.{◌≡◌};
 ghost use Rattle.rz_expr.specs.Term.{term_of};
 ghost use Rattle.rz_types_fields.specs.Place.{may_ask, may_have, may_have_argument, may_have_arguments, may_name, may_read, may_say, may_stand};

@@ -1,3 +1,5 @@
+//! Ranges of numbers and of the sizes of texts, by type; changed only with `specs/Range`.
+
 ghost use Rattle.std.specs.Prelude.{◌≡◌, ◌≤◌, ◌≤ℤ◌, ◌^◌, pos};
 ghost use Rattle.rz_types_fields.specs.Range.{fits_bits, fits_number, may_be_size, own_width};
 

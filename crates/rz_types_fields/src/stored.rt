@@ -1,3 +1,5 @@
+//! How a number is stored, and which texts are too long; changed only with `specs/Stored`.
+
 ghost use Rattle.std.specs.Prelude.{◌≡◌, ◌<◌, ◌^◌, nat_abs, None};
 ghost use Rattle.rz_types_fields.specs.Stored.{is_too_long, stored_number};
 

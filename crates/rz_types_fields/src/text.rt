@@ -1,3 +1,5 @@
+//! The parts of a text, and the bytes that they give; changed only with `specs/Text`.
+
 ghost use Rattle.std.specs.Prelude.{◌≡◌, ◌<◌, ℕ};
 ghost use Rattle.rz_core.specs.Message.{IsNameable};
 ghost use Rattle.rz_core.specs.Stop.{Gives, OnFault};

@@ -1,3 +1,5 @@
+//! The values of a row, as trees: numbers, texts, rows of arrays and cases of switches.
+
 use rz_core::{Bytes, Listing, Word};
 
 /// A value of a row. (MPW Rez.)

@@ -1,3 +1,5 @@
+//! What an expression of a field sees, and its value or first fault. See `specs/Value`.
+
 ghost use Rattle.std.specs.Prelude.{◌≡◌, ◌<◌, ℕ, true};
 ghost use Rattle.std.proofs.Common.{rules};
 ghost use Rattle.rz_core.specs.Message.{IsNameable};

@@ -1,3 +1,5 @@
+//! The values of a row, taken one after another. See `specs/Laid` and `specs/Spells`.
+
 ghost use Rattle.std.specs.Prelude.{◌≡◌, option_map};
 ghost use Rattle.rz_types_fields.specs.Laid.{first_value, line_in, number_in, other_values, rows_in, text_in};
 ghost use Rattle.rz_types_fields.specs.Spells.{choice_in, group_in};

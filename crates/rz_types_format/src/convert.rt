@@ -1,3 +1,5 @@
+//! What a conversion of a format makes of its argument; changed only with `specs/Format`.
+
 ghost use Rattle.std.specs.Prelude.{◌≡◌, ◌++◌, false, IfOk, OnOk};
 ghost use Rattle.std.specs.Fmt.{digits};
 ghost use Rattle.rz_types_format.specs.Format.{converted, number_converted};

@@ -1,3 +1,5 @@
+//! What `$$Format` gives, byte by byte of its text. See `specs/Format` and `specs/Filling`.
+
 ghost use Rattle.std.specs.Prelude.{◌≡◌, [], ◌∷◌, ℕ, IfOk, List, None, if◌then◌else◌, map};
 ghost use Rattle.rz_types_format.specs.Format.{formatted};
 ghost use Rattle.rz_types_format.specs.Filling.{given, given_behind};

@@ -1,3 +1,5 @@
+//! Laws of plain texts, of the number of arguments, and of digits. See `specs/Format`.
+
 ghost use Rattle.std.specs.Prelude.{◌≡◌, ◌==◌, ◌^◌, ◌<◌, ℕ, [], false, List, Some, length, option_map, slice_index};
 ghost use Rattle.std.specs.List.{list_any};
 ghost use Rattle.std.specs.Fmt.{digits};

@@ -1,3 +1,5 @@
+//! Copies of templates, with all that is in them; a new kind of field is a case here.
+
 ghost use Rattle.std.specs.Prelude.{◌≡◌, IfOk, map, option_map};
 ghost use Rattle.rz_expr.specs.Term.{term_of};
 ghost use Rattle.rz_types_fields.specs.Field.{plain_array, plain_body, plain_case, plain_cases, plain_field, plain_number, plain_points, plain_text};

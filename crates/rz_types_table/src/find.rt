@@ -1,3 +1,5 @@
+//! Which declaration counts for an id, and which one `as` names. Both are defined in `specs/Table`.
+
 ghost use Rattle.std.specs.Prelude.{◌≡◌, ◌==◌, if◌then◌else◌, map, option_map, Some};
 ghost use Rattle.rz_core.specs.Lists.{or_else};
 ghost use Rattle.rz_types_table.specs.Listed.{codes_of, declaration_of, IsFirst};

@@ -1,3 +1,5 @@
+//! Laws of the table of declarations. How scopes stand to each other is in `specs/Scopes`.
+
 ghost use Rattle.std.specs.Prelude.{◌≡◌, ◌∷◌, ◌++◌, ℤ, [], false, true, List, Some};
 ghost use Rattle.std.specs.List.{list_any};
 ghost use Rattle.rz_core.specs.declared.resource.OsType.{OsType};

@@ -1,3 +1,5 @@
+//! Where the declarations of each type stand in the list. What is held is in `specs/Positions`.
+
 ghost use Rattle.std.specs.Prelude.{◌≡◌, ◌+◌, ◌<◌, ◌^◌, ◌==◌, ℕ, List, [], ◌∷◌, ◌++◌, length, if◌then◌else◌, IfOk, OnErr, OnOk};
 ghost use Rattle.std.specs.List.{remove};
 ghost use Rattle.rz_types_table.specs.Listed.{codes_of};

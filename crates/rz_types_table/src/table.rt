@@ -1,3 +1,5 @@
+//! The table of type declarations, and their scopes. What a declaration changes is in `specs/Table`.
+
 ghost use Rattle.rz_types_table.specs.Listed.{codes_of};
 ghost use Rattle.rz_types_table.specs.Positions.{ArePlaced};
 

@@ -1,3 +1,5 @@
+//! What the reader gives of a body and of an array. How definitions see it is in `specs/Came`.
+
 use rz_types_fields::{Row, RowList};
 
 /// The row of a body.

@@ -1,3 +1,5 @@
+//! The keys of a case: whether they stand where they should. It is defined in `specs/Cursor`.
+
 ghost use Rattle.std.specs.Prelude.{◌≡◌, ◌≤◌, length, nat_abs, option_map};
 ghost use Rattle.rz_bits.specs.View.{seen};
 ghost use Rattle.rz_types.specs.Field.{plain_body, plain_field, plain_number};

@@ -1,3 +1,5 @@
+//! The reader of fields, rows and cases, from left to right. What it finds is in `specs/Cursor`.
+
 ghost use Rattle.std.specs.Prelude.{◌≡◌, ◌+◌, ◌≤◌, pos, suc, length, drop, IfOk, IfSome, OnOk, option_map};
 ghost use Rattle.rz_bits.specs.View.{seen};
 ghost use Rattle.rz_types_fields.specs.Spells.{values_in};

@@ -1,3 +1,5 @@
+//! Laws of reading: plain rows are read, one at most for given bytes. What bytes tell is in `specs/Reading`.
+
 ghost use Rattle.std.specs.Prelude.{◌≡◌, true, ℕ, List, Option, Some};
 ghost use Rattle.rz_core.specs.Decided.{Decided};
 ghost use Rattle.rz_core.specs.declared.facts.Facts.{Facts};

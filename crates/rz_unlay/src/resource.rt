@@ -1,3 +1,5 @@
+//! The row that the bytes of a resource tell, or that there is none. It is defined in `specs/Reading`.
+
 ghost use Rattle.std.specs.Prelude.{◌≡◌, false, IfOk, IfSome, List, Some};
 ghost use Rattle.rz_core.specs.Decided.{Decided};
 ghost use Rattle.rz_types_fields.specs.declared.tree.Tree.{Tree};

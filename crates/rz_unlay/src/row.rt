@@ -1,3 +1,5 @@
+//! The row of a whole resource, behind which less than a byte is left. Its end is defined in `specs/Rows`.
+
 ghost use Rattle.std.specs.Prelude.{◌≡◌, ◌≤◌, true, length, IfOk};
 ghost use Rattle.rz_bits.specs.View.{seen};
 ghost use Rattle.rz_types.specs.Field.{plain_body};

@@ -1,3 +1,5 @@
+//! Laws of what is read and spelled: rows that are read spell their bytes. Reading is defined in `specs/Cursor`.
+
 ghost use Rattle.std.specs.Prelude.{◌≡◌, ◌≤◌, ◌<◌, Bool, false, true, ℕ, length, List, slice_index, Some};
 ghost use Rattle.rz_core.specs.declared.facts.Facts.{Facts};
 ghost use Rattle.rz_types_fields.specs.declared.tree.Tree.{Tree};

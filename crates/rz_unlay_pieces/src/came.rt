@@ -1,3 +1,5 @@
+//! What stands at a piece or a field: its value, the place behind it, and how many values it counts or leaves.
+
 ghost use Rattle.std.specs.Prelude.{◌≡◌};
 ghost use Rattle.rz_unlay_pieces.specs.Few.{value_count};
 

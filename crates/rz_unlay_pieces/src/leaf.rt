@@ -1,3 +1,5 @@
+//! The pieces of one field, of whatever kind; a new kind of piece changes `specs/Pieces` too.
+
 ghost use Rattle.std.specs.Prelude.{◌≡◌, ◌+◌, ◌≤◌, length, IfOk, IfSome, Some, option_map};
 ghost use Rattle.rz_bits.specs.View.{seen};
 ghost use Rattle.rz_expr.specs.Environment.{Environment};

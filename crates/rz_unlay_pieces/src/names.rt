@@ -1,3 +1,5 @@
+//! What is known of the names of arrays. What a claim tells is in `specs/Pieces`, what is noted in `specs/Names`.
+
 ghost use Rattle.std.specs.Prelude.{◌≡◌, IfOk, OnOk, Some, pos};
 ghost use Rattle.rz_types_fields.specs.Field.{plain_body};
 ghost use Rattle.rz_types_fields.specs.Known.{known, names_inside, Grew};

@@ -1,3 +1,5 @@
+//! Numbers at a place: those of the row, and those with fixed values. They are defined in `specs/Pieces`.
+
 ghost use Rattle.std.specs.Prelude.{◌≡◌, ◌+◌, ◌<◌, ◌≤◌, ◌^◌, nat_abs, true, length, IfOk, IfSome, None, Some, option_map};
 ghost use Rattle.rz_bits.specs.View.{number_at, seen};
 ghost use Rattle.rz_expr.specs.Environment.{Environment};

@@ -1,3 +1,5 @@
+//! The bytes of a text, taken from its stored form. Which they are is in `specs/Pieces`.
+
 ghost use Rattle.std.specs.Prelude.{◌≡◌, ◌<◌, ◌≤◌, ◌^◌, length, take, drop};
 ghost use Rattle.rz_unlay_pieces.specs.Pieces.{one_byte_size, or_none, plain_text, trimmed, two_byte_size, up_to_zero};
 

@@ -1,3 +1,5 @@
+//! Points and rectangles at a place, number by number. How they are read is in `specs/Points`.
+
 ghost use Rattle.std.specs.Prelude.{◌≡◌, ◌≤◌, true, length, map, IfOk, IfSome, None, Some, option_map, replicate};
 ghost use Rattle.std.specs.List.{AllByRecursion};
 ghost use Rattle.rz_bits.specs.View.{seen};

@@ -1,3 +1,5 @@
+//! Expressions solved for the numbers of rows that they name. What is solved is in `specs/Pieces`.
+
 ghost use Rattle.std.specs.Prelude.{◌≡◌, ◌≤◌, ◌%◌, ◌^◌, ◌+ℤ◌, ◌-ℤ◌, ◌*ℤ◌, neg_ℤ, pos, true, IfOk, Some, option_and_then, option_map};
 ghost use Rattle.std.specs.Int.{cast_unsigned, w64};
 ghost use Rattle.std.specs.Result.{result_ok};

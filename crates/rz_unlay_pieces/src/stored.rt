@@ -1,3 +1,5 @@
+//! Whether bytes are the stored form of a text, and how long that is. The counts are in `specs/Texts`.
+
 ghost use Rattle.std.specs.Prelude.{◌≡◌, ◌-◌, ◌%◌, ◌<◌, ◌^◌, length, map, replicate};
 ghost use Rattle.rz_types_fields.specs.declared.field.TextForm.TheVariants.{Pascal, WordLong, Zero};
 ghost use Rattle.rz_types_fields.specs.Stored.{before_zero, in_size, sized, stored_text, to_size};

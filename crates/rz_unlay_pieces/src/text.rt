@@ -1,3 +1,5 @@
+//! Texts at a place, with their sizes and fixed parts. What is read is in `specs/Pieces`.
+
 ghost use Rattle.std.specs.Prelude.{◌≡◌, ◌+◌, ◌-◌, ◌*◌, ◌/◌, ◌<◌, ◌≤◌, ◌^◌, length, IfOk, IfSome, option_and_then, option_map};
 ghost use Rattle.rz_bits.specs.View.{bytes_at, number_at, seen};
 ghost use Rattle.rz_expr.specs.Environment.{Environment};

@@ -1,3 +1,5 @@
+//! Zero bits at a place, a count of them or up to a multiple of a unit. They are defined in `specs/Pieces`.
+
 ghost use Rattle.std.specs.Prelude.{◌≡◌, ◌<◌, ◌≤◌, length, IfSome, option_map};
 ghost use Rattle.rz_bits.specs.BitBuf.{missing};
 ghost use Rattle.rz_bits.specs.View.{seen};
