@@ -21,6 +21,7 @@ use Rattle.rz_tools_work.specs.declared.include.Asked.{Asked}
 use Rattle.rz_tools_values.specs.declared.setting.Setting.{Setting}
 use Rattle.rz_stmt_lists.specs.Include as include
 use Rattle.rz_set.specs.declared.pick.Choice.TheVariants as choices
+use Rattle.rz_tools_values.specs.Files.{list_named}
 
 -- which resources of a file are put, under which head, and what is kept where there is none
 abbrev pub all_of : Choice → Asked

@@ -17,6 +17,7 @@ use Rattle.rz_tools_values.specs.Head.{bits_behind_all, name_of}
 use Rattle.rz_tools_values.specs.declared.setting.Setting.{Setting}
 use Rattle.rz_stmt_lists.specs.Pick as said
 use Rattle.rz_set.specs.declared.pick.Head as set
+use Rattle.rz_tools_values.specs.Chosen.{id_said}
 
 -- Picks.
 

@@ -12,6 +12,7 @@ use Rattle.rz_tools_values.specs.Around.{Around}
 use Rattle.rz_tools_values.specs.Contents.{short_bytes, with_bytes}
 use Rattle.rz_tools_values.specs.Head.{facts_of}
 use Rattle.rz_tools_work.specs.Put.{list_with}
+use Rattle.rz_tools_values.specs.Files.{file_named}
 
 -- the file as it is, and 301 for more than 16,777,212 bytes
 abbrev pub contents_named : List (List ℕ) → Files → Mark → List ℕ → Result (List ℕ) Fault
