@@ -1,4 +1,4 @@
-use Rattle.std.proofs.Common.{[], length, Err, sym, subst}
+use Rattle.std.proofs.Common.{◌≡◌, [], length, Err, sym, subst}
 use Rattle.std.specs.Prelude.{IfSome}
 use Rattle.rz_core.specs.declared.stop.Halt.{Halt}
 use Rattle.rz_pre.specs.Program.{State}

@@ -1,6 +1,7 @@
 use Rattle.std.proofs.Common.{List, length, subst, Err}
 use Rattle.std.specs.Prelude.{IfSome}
 use Rattle.rz_core.specs.Stop.{Yields}
+use Rattle.rz_core.specs.declared.fault.Fault.{Fault}
 use Rattle.rz_lex.specs.declared.token.Token.{Token}
 use Rattle.rz_core.specs.declared.stop.Halt.{Halt}
 use Rattle.rz_stmt.specs.Statements.{AreStatements}

@@ -1,4 +1,4 @@
-use Rattle.std.proofs.Common.{Err, subst}
+use Rattle.std.proofs.Common.{[], Err, subst}
 use Rattle.std.specs.Prelude.{IfSome}
 use Rattle.rz_pre.specs.Program.{ProgramGoes}
 use Rattle.rz_core.specs.Stop.{Yields}
@@ -14,3 +14,9 @@ returns-in-Err-Refused-clause-read g c =
     (g.F.Folder.files c.args.folder.now)
     (subst (λ (h : Halt Failure). IfSome (g.F.Folder.files c.args.folder.now) (λ files. Yields (Err h) (OfProgram (ProgramGoes files c.args.tool c.args.names.now c.args.paths.now c.args.defs.now))))
     c.in-Err-Refused.field-0-is c.in-Err-Refused.ensures.program)
+
+pub returns-in-Err-Refused-clause-sayable : goal.returns-in-Err-Refused-clause-sayable
+returns-in-Err-Refused-clause-sayable g c = record {
+  nameable = (rw c.in-Err-Refused.field-0-is at c.in-Err-Refused.ensures.nameable).nameable;
+  warned = ([], [], tt, c.new.ensures);
+}
