@@ -1,15 +1,14 @@
 -- What `compile` answers, from what is laid.
 use Rattle.std.proofs.Common.{◌≡◌, ℕ, ◌%◌, ◌<◌, Bool, true, List, length, Result, Ok, Err, refl, subst}
 use Rattle.std.specs.Prelude.{slice_index}
-use Rattle.rz_core.specs.Stop.{OnFault}
+use Rattle.rz_core.specs.Stop.{OnFault, Gives, Meets, fault_seen}
 use Rattle.rz_core.specs.declared.facts.Facts.{Facts}
 use Rattle.rz_core.specs.declared.stop.Stop.{Stop}
 use Rattle.rz_core.specs.declared.stop.Stop.TheVariants.{NoMemory, Refused}
 use Rattle.rz_bits.specs.Bits.{bits_of, bytes_of}
 use Rattle.rz_bits.specs.BitBuf.{filled}
-use Rattle.rz_layout.specs.Compiled.{is_compile_fault, IsCompiled, MeetsLaid}
+use Rattle.rz_layout.specs.Compiled.{is_compile_fault, IsCompiled}
 use Rattle.rz_layout.specs.Fault.{refusal_of}
-use Rattle.rz_layout.specs.Laid.{GivesLaid}
 use Rattle.rz_layout.specs.declared.fault.LayFault.{LayFault}
 use Rattle.rz_types_fields.specs.declared.tree.Tree.{Tree}
 use Rattle.rz_types_fields.specs.Laid.{laid, Refusal}
@@ -37,15 +36,15 @@ module _ (read : (bytes : List ℕ) → ((k : ℕ) → slice_index bytes k < 256
     pub one_answer : (answer : Result (List ℕ) Refusal) × IsCompiled known body row answer
     one_answer = (laid known body row, laid_is (laid known body row) refl)
 
-    pub compiled : (result : Result (List ℕ) (Stop LayFault)) → GivesLaid (laid known body row) result → MeetsLaid result (IsCompiled known body row)
+    pub compiled : (result : Result (List ℕ) (Stop LayFault)) → Gives (laid known body row) (fault_seen refusal_of result) → Meets (fault_seen refusal_of result) (IsCompiled known body row)
     compiled (Ok bytes) gives = laid_is (Ok bytes) gives
     compiled (Err (Refused fault)) gives = laid_is (Err (refusal_of fault)) gives
     compiled (Err NoMemory) gives = tt
 
-  pub every_answer : (result : Result (List ℕ) (Stop LayFault)) → GivesLaid (laid known body row) result → (answer : Result (List ℕ) Refusal) → IsCompiled known body row answer → GivesLaid answer result
-  every_answer result gives answer it = subst (λ (a : Result (List ℕ) Refusal). GivesLaid a result) (answer_is answer it) gives
+  pub every_answer : (result : Result (List ℕ) (Stop LayFault)) → Gives (laid known body row) (fault_seen refusal_of result) → (answer : Result (List ℕ) Refusal) → IsCompiled known body row answer → Gives answer (fault_seen refusal_of result)
+  every_answer result gives answer it = subst (λ (a : Result (List ℕ) Refusal). Gives a (fault_seen refusal_of result)) (answer_is answer it) gives
 
-pub known_number : (known : Result (List ℕ) Refusal) → Known known → (result : Result (List ℕ) (Stop LayFault)) → GivesLaid known result
+pub known_number : (known : Result (List ℕ) Refusal) → Known known → (result : Result (List ℕ) (Stop LayFault)) → Gives known (fault_seen refusal_of result)
     → OnFault result (λ fault. is_compile_fault fault.number ≡ true)
 known_number known is (Ok bytes) gives = tt
 known_number known is (Err (Refused fault)) gives = subst Known gives is

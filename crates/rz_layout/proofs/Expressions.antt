@@ -1,15 +1,15 @@
 -- Expressions of a point or a rectangle, one more at a time.
 use Rattle.std.proofs.Common.{◌≡◌, ℕ, ◌+◌, ◌<◌, List, [], length, get_or, drop, map, Result, Ok, Err, sym, ap, ◌∙◌}
+use Rattle.rz_layout.specs.Fault.{refusal_of}
 use Rattle.std.specs.Prelude.{None}
 use Rattle.std.proofs.lemmas.List.{drop_more}
-use Rattle.rz_core.specs.Stop.{◌>>=◌}
+use Rattle.rz_core.specs.Stop.{◌>>=◌, Gives, fault_seen, left}
 use Rattle.rz_core.specs.declared.facts.Facts.{Facts}
 use Rattle.rz_core.specs.declared.stop.Stop.{Stop}
 use Rattle.rz_core.specs.declared.stop.Stop.TheVariants.{NoMemory, Refused}
 use Rattle.rz_expr.specs.Environment.{Environment}
 use Rattle.rz_expr.specs.Term.{term_of}
 use Rattle.rz_expr.specs.declared.expr.Expr.{Expr}
-use Rattle.rz_layout.specs.Laid.{Lays}
 use Rattle.rz_layout.specs.declared.fault.LayFault.{LayFault}
 use Rattle.rz_types_fields.specs.Laid.{in_order, lay, takes_one, Draft, Refusal}
 use Rattle.rz_types.specs.Piece.{fixed_integer}
@@ -25,9 +25,9 @@ module _ (known : Facts) (names : Environment) (exprs : List Expr) (i : ℕ) (ex
       ∙ sym (ap (λ (es : List Expr). in_order takes_one (lay known names) draft (map fixed_integer (map term_of es)) []) (drop_more exprs i expr less))
       ∙ so
 
-  pub expression_refused : (stop : Stop LayFault) (left : Draft) → Lays (lay known names draft (fixed_integer (term_of expr)) None) (Err stop) left → (other : Draft) → Lays all (Err stop) other
-  expression_refused NoMemory left laid other = tt
-  expression_refused (Refused fault) left laid other = sym all_is ∙ ap (λ (r : Result Draft Refusal). r >>= behind) laid
+  pub expression_refused : (stop : Stop LayFault) (after : Draft) → Gives (lay known names draft (fixed_integer (term_of expr)) None) (fault_seen refusal_of (left after (Err stop))) → (other : Draft) → Gives all (fault_seen refusal_of (left other (Err stop)))
+  expression_refused NoMemory after laid other = tt
+  expression_refused (Refused fault) after laid other = sym all_is ∙ ap (λ (r : Result Draft Refusal). r >>= behind) laid
 
   pub expression_more : (next : Draft) → lay known names draft (fixed_integer (term_of expr)) None ≡ Ok next → behind next ≡ all
   expression_more next laid = sym (ap (λ (r : Result Draft Refusal). r >>= behind) laid) ∙ all_is

@@ -1,14 +1,14 @@
 -- Numbers of a point or a rectangle, one more at a time.
 use Rattle.std.proofs.Common.{◌≡◌, ℕ, ◌+◌, ◌<◌, List, length, get_or, drop, map, Result, Ok, Err, sym, ap, ◌∙◌}
+use Rattle.rz_layout.specs.Fault.{refusal_of}
 use Rattle.std.specs.Prelude.{replicate}
 use Rattle.std.proofs.lemmas.List.{drop_more}
-use Rattle.rz_core.specs.Stop.{◌>>=◌}
+use Rattle.rz_core.specs.Stop.{◌>>=◌, Gives, fault_seen, left}
 use Rattle.rz_core.specs.declared.facts.Facts.{Facts}
 use Rattle.rz_core.specs.declared.stop.Stop.{Stop}
 use Rattle.rz_core.specs.declared.stop.Stop.TheVariants.{NoMemory, Refused}
 use Rattle.rz_bits.specs.Bits.{number_bits}
 use Rattle.rz_expr.specs.Environment.{Environment}
-use Rattle.rz_layout.specs.Laid.{Lays}
 use Rattle.rz_layout.specs.declared.fault.LayFault.{LayFault}
 use Rattle.rz_types_fields.specs.declared.tree.Tree.TheVariants as trees
 use Rattle.rz_types_fields.specs.Laid.{in_order, lay, takes_one, with_bits, Draft, Refusal}
@@ -27,9 +27,9 @@ module _ (known : Facts) (names : Environment) where
         ∙ sym (ap (λ (ns : List ℕ). in_order takes_one (lay known names) draft (replicate (length ns) free_integer) (map trees.Number ns)) (drop_more numbers i 0 less))
         ∙ so
 
-    pub number_refused : (stop : Stop LayFault) (left : Draft) → Lays (with_bits draft (number_bits 16 (get_or numbers i 0))) (Err stop) left → (other : Draft) → Lays all (Err stop) other
-    number_refused NoMemory left laid other = tt
-    number_refused (Refused fault) left laid other = sym all_is ∙ ap (λ (r : Result Draft Refusal). r >>= group_behind) laid
+    pub number_refused : (stop : Stop LayFault) (after : Draft) → Gives (with_bits draft (number_bits 16 (get_or numbers i 0))) (fault_seen refusal_of (left after (Err stop))) → (other : Draft) → Gives all (fault_seen refusal_of (left other (Err stop)))
+    number_refused NoMemory after laid other = tt
+    number_refused (Refused fault) after laid other = sym all_is ∙ ap (λ (r : Result Draft Refusal). r >>= group_behind) laid
 
     pub number_more : (next : Draft) → with_bits draft (number_bits 16 (get_or numbers i 0)) ≡ Ok next → group_behind next ≡ all
     number_more next laid = sym (ap (λ (r : Result Draft Refusal). r >>= group_behind) laid) ∙ all_is

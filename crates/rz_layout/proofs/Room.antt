@@ -1,12 +1,14 @@
 -- Bits that are laid as a piece, and those for which there is no room.
 use Rattle.std.proofs.Common.{◌≡◌, ℕ, zero, suc, ◌+◌, ◌<◌, ◌≤◌, Bool, true, false, List, ◌++◌, length, Result, Ok, Err, refl, sym, ap, subst, ◌∙◌, arith}
+use Rattle.rz_layout.specs.Fault.{refusal_of}
+use Rattle.rz_core.specs.Stop.{Gives, fault_seen, left}
 use Rattle.std.specs.Prelude.{if◌then◌else◌, nat_lt}
 use Rattle.std.proofs.lemmas.Bool.{le-ltb, ltb-false}
 use Rattle.rz_core.specs.declared.stop.Stop.{Stop}
 use Rattle.rz_core.specs.declared.stop.Stop.TheVariants.{NoMemory, Refused}
 use Rattle.std.proofs.lemmas.List.{length-append}
 use Rattle.rz_bits.specs.Bits.{number_bits}
-use Rattle.rz_layout.specs.Laid.{HasRoom, Lays}
+use Rattle.rz_layout.specs.Laid.{HasRoom}
 use Rattle.rz_layout.specs.declared.fault.LayFault.{LayFault}
 use Rattle.rz_types_fields.specs.Laid.{one_more, too_long, with_bits, Draft, Refusal}
 use Rattle.rz_types_fields.specs.Spells.{most_bits}
@@ -35,11 +37,11 @@ pub some_room : (draft : Draft) (bits : List Bool) (count : ℕ) → length bits
     → with_bits draft bits ≡ Ok (record { piece = one_more draft.piece; bits = draft.bits ++ bits })
 some_room draft bits count size fits = laid_in draft bits (subst (λ n. length draft.bits + n ≤ most_bits) (sym size) fits)
 
-pub no_room : (draft : Draft) (bits : List Bool) (count : ℕ) → length bits ≡ count → (stop : Stop LayFault) → HasRoom draft count (Err stop) → (left : Draft)
-    → Lays (with_bits draft bits) (Err stop) left
+pub no_room : (draft : Draft) (bits : List Bool) (count : ℕ) → length bits ≡ count → (stop : Stop LayFault) → HasRoom draft count (Err stop) → (after : Draft)
+    → Gives (with_bits draft bits) (fault_seen refusal_of (left after (Err stop)))
 unfolding over
-no_room draft bits count size NoMemory room left = tt
-no_room draft bits count size (Refused fault) room left =
+no_room draft bits count size NoMemory room after = tt
+no_room draft bits count size (Refused fault) room after =
     ap (λ test. over draft (length draft.bits + length bits) test bits) (test_over most_bits (length draft.bits + length bits) (subst (λ n. most_bits < length draft.bits + n) (sym size) room.0))
     ∙ ap (λ n. no (too_long draft (length draft.bits + n))) size
     ∙ ap no (sym room.1)

@@ -16,12 +16,6 @@ abbrev pub IsCompiled : Facts → PlainBody → List Tree → Result (List ℕ) 
 IsCompiled known body row (Ok bytes) = Spells false known body row bytes
 IsCompiled known body row (Err fault) = Refuses known body row fault
 
--- the call gave what is answered, or memory was refused
-abbrev pub MeetsLaid : {X : Type 0} → Result X (Stop LayFault) → (Result X Refusal → Type 0) → Type 0
-MeetsLaid (Ok value) answers = answers (Ok value)
-MeetsLaid (Err (Refused fault)) answers = answers (Err (refusal_of fault))
-MeetsLaid (Err NoMemory) answers = Unit {0}
-
 -- the faults that a row can have
 abbrev pub is_compile_fault : ℕ → Bool
 is_compile_fault number = (number == 207) || (number == 211) || (number == 215) || (number == 216) || (number == 222) || (number == 301)

@@ -18,18 +18,6 @@ use Rattle.rz_types.specs.Field.{PlainText}
 abbrev pub draft_of : Laid → Draft
 draft_of laid = record { piece = laid.piece; bits = laid.bits }
 
--- the call gave this value or this refusal, or memory was refused
-abbrev pub GivesLaid : {X : Type 0} → Result X Refusal → Result X (Stop LayFault) → Type 0
-GivesLaid answer (Ok value) = answer ≡ Ok value
-GivesLaid answer (Err (Refused fault)) = answer ≡ Err (refusal_of fault)
-GivesLaid answer (Err NoMemory) = Unit {0}
-
--- the call left this draft, or gave this refusal, or memory was refused
-abbrev pub Lays : Result Draft Refusal → Result (Unit {0}) (Stop LayFault) → Draft → Type 0
-Lays answer (Ok nothing) draft = answer ≡ Ok draft
-Lays answer (Err (Refused fault)) draft = answer ≡ Err (refusal_of fault)
-Lays answer (Err NoMemory) draft = Unit {0}
-
 -- so many bits more are allowed, or are refused as 301
 abbrev pub HasRoom : Draft → ℕ → Result (Unit {0}) (Stop LayFault) → Type 0
 HasRoom draft count (Ok nothing) = length draft.bits + count ≤ most_bits

@@ -1,12 +1,13 @@
 //! Rows laid as bytes, field by field, with arrays and switches. What is answered is in `specs/Compiled`.
 
 ghost use Rattle.std.specs.Prelude.{IfOk, ◌≡◌, ◌≤◌, length, option_map, true, List, ℕ, []};
+ghost use Rattle.rz_layout.specs.Fault.{refusal_of};
 ghost use Rattle.std.specs.declared.result.Result.{Result as Answer};
-ghost use Rattle.rz_layout.specs.Compiled.{is_compile_fault, IsCompiled, MeetsLaid};
-ghost use Rattle.rz_layout.specs.Laid.{draft_of, GivesLaid, Lays};
+ghost use Rattle.rz_layout.specs.Compiled.{is_compile_fault, IsCompiled};
+ghost use Rattle.rz_layout.specs.Laid.{draft_of};
 ghost use Rattle.rz_types_fields.specs.Known.{known};
 ghost use Rattle.rz_layout.specs.Sound.{AreSound, IsCaseSound, IsSound};
-ghost use Rattle.rz_core.specs.Stop.{OnFault};
+ghost use Rattle.rz_core.specs.Stop.{OnFault, Gives, Meets, fault_seen, left};
 ghost use Rattle.std.specs.List.{AllByRecursion};
 ghost use Rattle.rz_types_fields.specs.Laid.{body_laid, case_laid, counted, field_laid, laid, rows_laid, Refusal};
 ghost use Rattle.rz_types_fields.specs.Row.{IsRow};
@@ -55,8 +56,8 @@ pub fn compile(
     facts: &Facts,
 ) -> Result<Bytes, Stop<LayFault>>
     requires row { IsRow (template_of template.now) row.now }
-    ensures compiled { MeetsLaid result (IsCompiled facts.now (template_of template.now) row.now) }
-    ensures every { (answer : Answer (List ℕ) Refusal) → IsCompiled facts.now (template_of template.now) row.now answer → GivesLaid answer result }
+    ensures compiled { Meets (fault_seen refusal_of result) (IsCompiled facts.now (template_of template.now) row.now) }
+    ensures every { (answer : Answer (List ℕ) Refusal) → IsCompiled facts.now (template_of template.now) row.now answer → Gives answer (fault_seen refusal_of result) }
     ensures number { OnFault result (λ fault. is_compile_fault fault.number ≡ true) }
 {
     bytes_are_read_back();
@@ -77,7 +78,7 @@ fn compile_fields(
     facts: &Facts,
 ) -> Result<Bytes, Stop<LayFault>>
     requires { AreSound (plain_body fields.now) row.now }
-    ensures { GivesLaid (laid facts.now (plain_body fields.now) row.now) result }
+    ensures { Gives (laid facts.now (plain_body fields.now) row.now) (fault_seen refusal_of result) }
 {
     let mut laid = Laid::new(alloc);
     let mut notes = Vec::new(alloc);
@@ -98,8 +99,7 @@ fn lay_body<'a>(
 ) -> Result<(), Stop<LayFault>>
     requires sound { AreSound (plain_body fields.now) row.now }
     requires short { length laid.old.bits ≤ most_bits }
-    ensures laid { Lays (body_laid facts.now (counted (plain_body fields.now) row.now (known notes.old.items)) (draft_of laid.old) (plain_body fields.now) row.now)
-        result (draft_of laid.new) }
+    ensures laid { Gives (body_laid facts.now (counted (plain_body fields.now) row.now (known notes.old.items)) (draft_of laid.old) (plain_body fields.now) row.now) (fault_seen refusal_of (left (draft_of laid.new) result)) }
     ensures short { IfOk result (λ _. length laid.new.bits ≤ most_bits) }
     ensures notes { IfOk result (λ _. notes.new.items ≡ notes.old.items) }
 {
@@ -125,7 +125,7 @@ fn lay_fields<'a>(
 ) -> Result<(), Stop<LayFault>>
     requires sound { AreSound (plain_body fields.now) row.now }
     requires short { length laid.old.bits ≤ most_bits }
-    ensures laid { Lays (body_laid facts.now (known notes.old.items) (draft_of laid.old) (plain_body fields.now) row.now) result (draft_of laid.new) }
+    ensures laid { Gives (body_laid facts.now (known notes.old.items) (draft_of laid.old) (plain_body fields.now) row.now) (fault_seen refusal_of (left (draft_of laid.new) result)) }
     ensures short { IfOk result (λ _. length laid.new.bits ≤ most_bits) }
     ensures notes { IfOk result (λ _. notes.new.items ≡ notes.old.items) }
 {
@@ -152,8 +152,7 @@ fn lay_field<'a>(
 ) -> Result<(), Stop<LayFault>>
     requires sound { IsSound (plain_field field.now) (option_map (λ v. v.now) value) }
     requires short { length laid.old.bits ≤ most_bits }
-    ensures laid { Lays (field_laid facts.now (known notes.old.items) (draft_of laid.old) (plain_field field.now) (option_map (λ v. v.now) value.entry))
-        result (draft_of laid.new) }
+    ensures laid { Gives (field_laid facts.now (known notes.old.items) (draft_of laid.old) (plain_field field.now) (option_map (λ v. v.now) value.entry)) (fault_seen refusal_of (left (draft_of laid.new) result)) }
     ensures short { IfOk result (λ _. length laid.new.bits ≤ most_bits) }
     ensures notes { IfOk result (λ _. notes.new.items ≡ notes.old.items) }
 {
@@ -189,8 +188,7 @@ fn lay_rows<'a>(
 ) -> Result<(), Stop<LayFault>>
     requires sound { AllByRecursion (AreSound (plain_body fields.now)) rows.now }
     requires short { length laid.old.bits ≤ most_bits }
-    ensures laid { Lays (rows_laid (λ draft line. body_laid facts.now (counted (plain_body fields.now) line (known notes.old.items)) draft (plain_body fields.now) line) (draft_of laid.old) rows.now)
-        result (draft_of laid.new) }
+    ensures laid { Gives (rows_laid (λ draft line. body_laid facts.now (counted (plain_body fields.now) line (known notes.old.items)) draft (plain_body fields.now) line) (draft_of laid.old) rows.now) (fault_seen refusal_of (left (draft_of laid.new) result)) }
     ensures short { IfOk result (λ _. length laid.new.bits ≤ most_bits) }
     ensures notes { IfOk result (λ _. notes.new.items ≡ notes.old.items) }
 {
@@ -215,8 +213,7 @@ fn lay_case<'a>(
 ) -> Result<(), Stop<LayFault>>
     requires sound { IsCaseSound (plain_cases cases.now) (option_map (λ v. v.now) value) }
     requires short { length laid.old.bits ≤ most_bits }
-    ensures laid { Lays (case_laid facts.now (known notes.old.items) (draft_of laid.old) (plain_cases cases.now) (option_map (λ v. v.now) value.entry))
-        result (draft_of laid.new) }
+    ensures laid { Gives (case_laid facts.now (known notes.old.items) (draft_of laid.old) (plain_cases cases.now) (option_map (λ v. v.now) value.entry)) (fault_seen refusal_of (left (draft_of laid.new) result)) }
     ensures short { IfOk result (λ _. length laid.new.bits ≤ most_bits) }
     ensures notes { IfOk result (λ _. notes.new.items ≡ notes.old.items) }
 {

@@ -1,9 +1,11 @@
 //! The bits that are laid so far, and the room that is left. What they are is in `specs/Laid`.
 
 ghost use Rattle.std.specs.Prelude.{IfOk, ◌≡◌, ◌<◌, ◌≤◌, ◌^◌, length, pos};
+ghost use Rattle.rz_layout.specs.Fault.{refusal_of};
+ghost use Rattle.rz_core.specs.Stop.{Gives, fault_seen, left};
 ghost use Rattle.rz_bits.specs.BitBuf.{missing, zeros};
 ghost use Rattle.rz_bits.specs.Bits.{number_bits};
-ghost use Rattle.rz_layout.specs.Laid.{draft_of, HasRoom, Lays};
+ghost use Rattle.rz_layout.specs.Laid.{draft_of, HasRoom};
 ghost use Rattle.rz_types_fields.specs.Laid.{in_bytes, nothing_laid, one_more, with_bits};
 ghost use Rattle.rz_types_fields.specs.Spells.{most_bits};
 
@@ -43,7 +45,7 @@ impl Laid {
     pub fn put_number(&mut self, number: u32, width: u8) -> Result<(), Stop<LayFault>>
         requires width { width ≤ 32 }
         requires short { length self.old.bits ≤ most_bits }
-        ensures laid { Lays (with_bits (draft_of self.old) (number_bits width number)) result (draft_of self.new) }
+        ensures laid { Gives (with_bits (draft_of self.old) (number_bits width number)) (fault_seen refusal_of (left (draft_of self.new) result)) }
         ensures short { IfOk result (λ _. length self.new.bits ≤ most_bits) }
     {
         match self.room(width as u128) {
@@ -59,7 +61,7 @@ impl Laid {
     pub fn put_zeros(&mut self, count: u64) -> Result<(), Stop<LayFault>>
         requires few { count < 2 ^ 40 }
         requires short { length self.old.bits ≤ most_bits }
-        ensures laid { Lays (with_bits (draft_of self.old) (zeros count)) result (draft_of self.new) }
+        ensures laid { Gives (with_bits (draft_of self.old) (zeros count)) (fault_seen refusal_of (left (draft_of self.new) result)) }
         ensures short { IfOk result (λ _. length self.new.bits ≤ most_bits) }
     {
         match self.room(count as u128) {
@@ -75,7 +77,7 @@ impl Laid {
     pub fn put_filler(&mut self, unit: u8) -> Result<(), Stop<LayFault>>
         requires unit { 0 < unit }
         requires short { length self.old.bits ≤ most_bits }
-        ensures laid { Lays (with_bits (draft_of self.old) (zeros (missing unit (length self.old.bits)))) result (draft_of self.new) }
+        ensures laid { Gives (with_bits (draft_of self.old) (zeros (missing unit (length self.old.bits)))) (fault_seen refusal_of (left (draft_of self.new) result)) }
         ensures short { IfOk result (λ _. length self.new.bits ≤ most_bits) }
     {
         let count = missing(unit, self.bits.len());

@@ -1,8 +1,10 @@
 //! Numbers laid as pieces: those of the row, or the values of expressions. What is laid is in `specs/Laid`.
 
 ghost use Rattle.std.specs.Prelude.{IfOk, ◌≡◌, ◌≤◌, length, nat_abs, option_map};
+ghost use Rattle.rz_layout.specs.Fault.{refusal_of};
+ghost use Rattle.rz_core.specs.Stop.{Gives, fault_seen, left};
 ghost use Rattle.rz_expr.specs.Term.{term_of};
-ghost use Rattle.rz_layout.specs.Laid.{draft_of, GivesLaid, Lays};
+ghost use Rattle.rz_layout.specs.Laid.{draft_of};
 ghost use Rattle.rz_layout.specs.Sound.{IsWidth};
 ghost use Rattle.rz_types.specs.Field.{plain_number};
 ghost use Rattle.rz_types_fields.specs.Known.{known};
@@ -28,7 +30,7 @@ pub fn lay_number(
 ) -> Result<(), Stop<LayFault>>
     requires width { IsWidth field.now.width }
     requires short { length laid.old.bits ≤ most_bits }
-    ensures laid { Lays (lay names.now.facts.now (known names.now.notes.now) (draft_of laid.old) (OneNumber (plain_number field.now)) (option_map (λ v. v.now) value.entry)) result (draft_of laid.new) }
+    ensures laid { Gives (lay names.now.facts.now (known names.now.notes.now) (draft_of laid.old) (OneNumber (plain_number field.now)) (option_map (λ v. v.now) value.entry)) (fault_seen refusal_of (left (draft_of laid.new) result)) }
     ensures short { IfOk result (λ _. length laid.new.bits ≤ most_bits) }
 {
     match number_given(field, value, names, laid.piece) {
@@ -45,7 +47,7 @@ fn number_given(
     piece: u64,
 ) -> Result<u32, Stop<LayFault>>
     requires width { IsWidth field.now.width }
-    ensures { GivesLaid (number_given piece names.now.facts.now (known names.now.notes.now) field.now.form field.now.width (option_map term_of field.now.fixed) (option_map (λ v. v.now) value.entry)) result }
+    ensures { Gives (number_given piece names.now.facts.now (known names.now.notes.now) field.now.form field.now.width (option_map term_of field.now.fixed) (option_map (λ v. v.now) value.entry)) (fault_seen refusal_of result) }
 {
     match &field.fixed {
         Some(expr) => fixed_number(expr, field.form, field.width, names, piece),
@@ -62,7 +64,7 @@ pub fn fixed_number(
     piece: u64,
 ) -> Result<u32, Stop<LayFault>>
     requires { IsWidth width }
-    ensures { GivesLaid (fixed_number piece names.now.facts.now (known names.now.notes.now) form width (term_of expr.now)) result }
+    ensures { Gives (fixed_number piece names.now.facts.now (known names.now.notes.now) form width (term_of expr.now)) (fault_seen refusal_of result) }
 {
     let value = match expression_value(expr, names, piece) {
         Ok(value) => value,
@@ -84,7 +86,7 @@ pub fn expression_value(
     names: &NamesEnv<'_>,
     piece: u64,
 ) -> Result<i32, Stop<LayFault>>
-    ensures { GivesLaid (value_in piece names.now.facts.now (known names.now.notes.now) (term_of expr.now)) result }
+    ensures { Gives (value_in piece names.now.facts.now (known names.now.notes.now) (term_of expr.now)) (fault_seen refusal_of result) }
 {
     match value_in(expr, names) {
         Ok(value) => Ok(value),

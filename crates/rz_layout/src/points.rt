@@ -1,8 +1,10 @@
 //! Points and rectangles laid as two or four numbers. What is laid is in `specs/Laid`.
 
 ghost use Rattle.std.specs.Prelude.{IfOk, ◌≡◌, ◌≤◌, [], length, map, option_map, replicate, None};
+ghost use Rattle.rz_layout.specs.Fault.{refusal_of};
+ghost use Rattle.rz_core.specs.Stop.{Gives, fault_seen, left};
 ghost use Rattle.rz_expr.specs.Term.{term_of};
-ghost use Rattle.rz_layout.specs.Laid.{draft_of, Lays};
+ghost use Rattle.rz_layout.specs.Laid.{draft_of};
 ghost use Rattle.rz_types_fields.specs.Known.{known};
 ghost use Rattle.rz_layout.specs.Sound.{IsGroupOf};
 ghost use Rattle.rz_types_fields.specs.declared.tree.Tree.TheVariants as trees;
@@ -30,7 +32,7 @@ pub fn lay_points(
 ) -> Result<(), Stop<LayFault>>
     requires value { IsGroupOf (plain_points field.now) (option_map (λ v. v.now) value) }
     requires short { length laid.old.bits ≤ most_bits }
-    ensures laid { Lays (field_laid names.now.facts.now (known names.now.notes.now) (draft_of laid.old) (Points (plain_points field.now)) (option_map (λ v. v.now) value.entry)) result (draft_of laid.new) }
+    ensures laid { Gives (field_laid names.now.facts.now (known names.now.notes.now) (draft_of laid.old) (Points (plain_points field.now)) (option_map (λ v. v.now) value.entry)) (fault_seen refusal_of (left (draft_of laid.new) result)) }
     ensures short { IfOk result (λ _. length laid.new.bits ≤ most_bits) }
 {
     match &field.fixed {
@@ -42,8 +44,7 @@ pub fn lay_points(
 /// Lays numbers of a row, each an `integer`.
 fn lay_group(numbers: &[u16], _names: &NamesEnv<'_>, laid: &mut Laid) -> Result<(), Stop<LayFault>>
     requires short { length laid.old.bits ≤ most_bits }
-    ensures laid { Lays (in_order takes_one (lay _names.now.facts.now (known _names.now.notes.now)) (draft_of laid.old) (replicate (length numbers.now) free_integer) (map trees.Number numbers.now))
-        result (draft_of laid.new) }
+    ensures laid { Gives (in_order takes_one (lay _names.now.facts.now (known _names.now.notes.now)) (draft_of laid.old) (replicate (length numbers.now) free_integer) (map trees.Number numbers.now)) (fault_seen refusal_of (left (draft_of laid.new) result)) }
     ensures short { IfOk result (λ _. length laid.new.bits ≤ most_bits) }
 {
     for number in numbers {
@@ -58,7 +59,7 @@ fn lay_group(numbers: &[u16], _names: &NamesEnv<'_>, laid: &mut Laid) -> Result<
 /// Lays the values of expressions, each an `integer`.
 fn lay_fixed(exprs: &[Expr], names: &NamesEnv<'_>, laid: &mut Laid) -> Result<(), Stop<LayFault>>
     requires short { length laid.old.bits ≤ most_bits }
-    ensures laid { Lays (in_order takes_one (lay names.now.facts.now (known names.now.notes.now)) (draft_of laid.old) (map fixed_integer (map term_of exprs.now)) []) result (draft_of laid.new) }
+    ensures laid { Gives (in_order takes_one (lay names.now.facts.now (known names.now.notes.now)) (draft_of laid.old) (map fixed_integer (map term_of exprs.now)) []) (fault_seen refusal_of (left (draft_of laid.new) result)) }
     ensures short { IfOk result (λ _. length laid.new.bits ≤ most_bits) }
 {
     for expr in exprs {
@@ -73,7 +74,7 @@ fn lay_fixed(exprs: &[Expr], names: &NamesEnv<'_>, laid: &mut Laid) -> Result<()
 /// Lays the value of an expression as an `integer`.
 fn lay_expression(expr: &Expr, names: &NamesEnv<'_>, laid: &mut Laid) -> Result<(), Stop<LayFault>>
     requires short { length laid.old.bits ≤ most_bits }
-    ensures laid { Lays (lay names.now.facts.now (known names.now.notes.now) (draft_of laid.old) (fixed_integer (term_of expr.now)) None) result (draft_of laid.new) }
+    ensures laid { Gives (lay names.now.facts.now (known names.now.notes.now) (draft_of laid.old) (fixed_integer (term_of expr.now)) None) (fault_seen refusal_of (left (draft_of laid.new) result)) }
     ensures short { IfOk result (λ _. length laid.new.bits ≤ most_bits) }
 {
     match fixed_number(expr, NumForm::Integer, 16, names, laid.piece) {

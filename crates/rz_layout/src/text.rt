@@ -1,8 +1,9 @@
 //! Texts laid as pieces, with their sizes and formats. How long they are is in `specs/Text`.
 
 ghost use Rattle.std.specs.Prelude.{IfOk, ◌≡◌, ◌<◌, ◌≤◌, ◌^◌, length, nat_abs, option_map, None};
+ghost use Rattle.rz_core.specs.Stop.{Gives, fault_seen, left};
 ghost use Rattle.rz_expr.specs.Term.{term_of};
-ghost use Rattle.rz_layout.specs.Laid.{draft_of, sized_put, text_put, GivesLaid, Lays};
+ghost use Rattle.rz_layout.specs.Laid.{draft_of, sized_put, text_put};
 ghost use Rattle.rz_layout.specs.Fault.{refusal_of};
 ghost use Rattle.rz_types_fields.specs.Known.{known};
 ghost use Rattle.rz_layout.specs.Text.{sized_length, stored_length};
@@ -35,7 +36,7 @@ pub fn lay_text(
     laid: &mut Laid,
 ) -> Result<(), Stop<LayFault>>
     requires short { length laid.old.bits ≤ most_bits }
-    ensures laid { Lays (lay names.now.facts.now (known names.now.notes.now) (draft_of laid.old) (OneText (plain_text field.now)) (option_map (λ v. v.now) value.entry)) result (draft_of laid.new) }
+    ensures laid { Gives (lay names.now.facts.now (known names.now.notes.now) (draft_of laid.old) (OneText (plain_text field.now)) (option_map (λ v. v.now) value.entry)) (fault_seen refusal_of (left (draft_of laid.new) result)) }
     ensures short { IfOk result (λ _. length laid.new.bits ≤ most_bits) }
 {
     match size_in(&field.size, names, laid.piece) {
@@ -54,7 +55,7 @@ fn lay_sized(
     laid: &mut Laid,
 ) -> Result<(), Stop<LayFault>>
     requires short { length laid.old.bits ≤ most_bits }
-    ensures laid { Lays (sized_put names.now.facts.now (known names.now.notes.now) (draft_of laid.old) (plain_text field.now) size (option_map (λ v. v.now) value.entry)) result (draft_of laid.new) }
+    ensures laid { Gives (sized_put names.now.facts.now (known names.now.notes.now) (draft_of laid.old) (plain_text field.now) size (option_map (λ v. v.now) value.entry)) (fault_seen refusal_of (left (draft_of laid.new) result)) }
     ensures short { IfOk result (λ _. length laid.new.bits ≤ most_bits) }
 {
     match &field.fixed {
@@ -72,7 +73,7 @@ fn size_in(
     names: &NamesEnv<'_>,
     piece: u64,
 ) -> Result<Option<i32>, Stop<LayFault>>
-    ensures { GivesLaid (size_in piece names.now.facts.now (known names.now.notes.now) (option_map term_of size.now)) result }
+    ensures { Gives (size_in piece names.now.facts.now (known names.now.notes.now) (option_map term_of size.now)) (fault_seen refusal_of result) }
 {
     match size {
         Some(expr) => match expression_value(expr, names, piece) {
@@ -91,7 +92,7 @@ fn fixed_bytes(
     names: &NamesEnv<'_>,
     piece: u64,
 ) -> Result<Bytes, Stop<LayFault>>
-    ensures { GivesLaid (fixed_bytes piece names.now.facts.now (known names.now.notes.now) (plain_parts parts.now)) result }
+    ensures { Gives (fixed_bytes piece names.now.facts.now (known names.now.notes.now) (plain_parts parts.now)) (fault_seen refusal_of result) }
 {
     let unvalued = unvalued_in(alloc, parts, names, piece)?;
     match unvalued {
@@ -107,7 +108,7 @@ fn joined_bytes(
     names: &NamesEnv<'_>,
     piece: u64,
 ) -> Result<Bytes, Stop<LayFault>>
-    ensures { GivesLaid (joined piece (bytes_seen nowhere names.now.facts.now (names_sight names.now.facts.now (known names.now.notes.now)) (plain_parts parts.now))) result }
+    ensures { Gives (joined piece (bytes_seen nowhere names.now.facts.now (names_sight names.now.facts.now (known names.now.notes.now)) (plain_parts parts.now))) (fault_seen refusal_of result) }
 {
     match text_seen(alloc, parts, Mark { file: 0, line: 0 }, names.facts, names) {
         Ok(bytes) => Ok(bytes),
@@ -135,7 +136,7 @@ fn put_text(
     laid: &mut Laid,
 ) -> Result<(), Stop<LayFault>>
     requires short { length laid.old.bits ≤ most_bits }
-    ensures laid { Lays (text_put (draft_of laid.old) form size bytes.now) result (draft_of laid.new) }
+    ensures laid { Gives (text_put (draft_of laid.old) form size bytes.now) (fault_seen refusal_of (left (draft_of laid.new) result)) }
     ensures short { IfOk result (λ _. length laid.new.bits ≤ most_bits) }
 {
     if let Some(fault) = text_refusal(form, size, bytes.len() as u64, laid.piece) {

@@ -1,5 +1,6 @@
 use Rattle.std.proofs.Common.{List, ap, subst, sym, ◌∙◌}
-use Rattle.rz_layout.specs.Laid.{GivesLaid}
+use Rattle.rz_layout.specs.Fault.{refusal_of}
+use Rattle.rz_core.specs.Stop.{Gives, fault_seen}
 use Rattle.rz_layout.specs.Sound.{AreSound}
 use Rattle.rz_types_fields.specs.declared.tree.Tree.{Tree}
 use Rattle.rz_types_fields.specs.Laid.{laid}
@@ -19,27 +20,27 @@ compile_fields-requires c =
 
 pub returns-clause-compiled : goal.returns-clause-compiled
 returns-clause-compiled c =
-    let gives : GivesLaid (laid c.args.facts.now (template_of c.args.template.now) c.args.row.now) c.compile_fields.result =
-    subst (λ (body : PlainBody). GivesLaid (laid c.args.facts.now body c.args.row.now) c.compile_fields.result) (ap plain_body c.as_slice.ensures ∙ c.body.ensures.body)
-    (subst (λ (row : List Tree). GivesLaid (laid c.args.facts.now (plain_body c.as_slice.result.now) row) c.compile_fields.result) c.as_slice-2.ensures c.compile_fields.ensures) in
+    let gives : Gives (laid c.args.facts.now (template_of c.args.template.now) c.args.row.now) (fault_seen refusal_of c.compile_fields.result) =
+    subst (λ (body : PlainBody). Gives (laid c.args.facts.now body c.args.row.now) (fault_seen refusal_of c.compile_fields.result)) (ap plain_body c.as_slice.ensures ∙ c.body.ensures.body)
+    (subst (λ (row : List Tree). Gives (laid c.args.facts.now (plain_body c.as_slice.result.now) row) (fault_seen refusal_of c.compile_fields.result)) c.as_slice-2.ensures c.compile_fields.ensures) in
     compiled c.bytes_are_read_back.ensures c.bits_are_written_back.ensures c.filled_to_a_multiple.ensures.multiple
     (small_bytes c.numbers_are_read_back.ensures c.numbers_are_written_back.ensures) c.args.facts.now (template_of c.args.template.now) c.args.row.now
     (c.rules_hold_within.ensures (template_of c.args.template.now) c.body.ensures.kept) c.requires.row c.compile_fields.result gives
 
 pub returns-clause-every : goal.returns-clause-every
 returns-clause-every c =
-    let gives : GivesLaid (laid c.args.facts.now (template_of c.args.template.now) c.args.row.now) c.compile_fields.result =
-    subst (λ (body : PlainBody). GivesLaid (laid c.args.facts.now body c.args.row.now) c.compile_fields.result) (ap plain_body c.as_slice.ensures ∙ c.body.ensures.body)
-    (subst (λ (row : List Tree). GivesLaid (laid c.args.facts.now (plain_body c.as_slice.result.now) row) c.compile_fields.result) c.as_slice-2.ensures c.compile_fields.ensures) in
+    let gives : Gives (laid c.args.facts.now (template_of c.args.template.now) c.args.row.now) (fault_seen refusal_of c.compile_fields.result) =
+    subst (λ (body : PlainBody). Gives (laid c.args.facts.now body c.args.row.now) (fault_seen refusal_of c.compile_fields.result)) (ap plain_body c.as_slice.ensures ∙ c.body.ensures.body)
+    (subst (λ (row : List Tree). Gives (laid c.args.facts.now (plain_body c.as_slice.result.now) row) (fault_seen refusal_of c.compile_fields.result)) c.as_slice-2.ensures c.compile_fields.ensures) in
     every_answer c.bytes_are_read_back.ensures c.bits_are_written_back.ensures c.filled_to_a_multiple.ensures.multiple
     (small_bytes c.numbers_are_read_back.ensures c.numbers_are_written_back.ensures) c.args.facts.now (template_of c.args.template.now) c.args.row.now
     c.compile_fields.result gives
 
 pub returns-clause-number : goal.returns-clause-number
 returns-clause-number c =
-    let gives : GivesLaid (laid c.args.facts.now (template_of c.args.template.now) c.args.row.now) c.compile_fields.result =
-    subst (λ (body : PlainBody). GivesLaid (laid c.args.facts.now body c.args.row.now) c.compile_fields.result) (ap plain_body c.as_slice.ensures ∙ c.body.ensures.body)
-    (subst (λ (row : List Tree). GivesLaid (laid c.args.facts.now (plain_body c.as_slice.result.now) row) c.compile_fields.result) c.as_slice-2.ensures c.compile_fields.ensures) in
+    let gives : Gives (laid c.args.facts.now (template_of c.args.template.now) c.args.row.now) (fault_seen refusal_of c.compile_fields.result) =
+    subst (λ (body : PlainBody). Gives (laid c.args.facts.now body c.args.row.now) (fault_seen refusal_of c.compile_fields.result)) (ap plain_body c.as_slice.ensures ∙ c.body.ensures.body)
+    (subst (λ (row : List Tree). Gives (laid c.args.facts.now (plain_body c.as_slice.result.now) row) (fault_seen refusal_of c.compile_fields.result)) c.as_slice-2.ensures c.compile_fields.ensures) in
     known_number (laid c.args.facts.now (template_of c.args.template.now) c.args.row.now)
     (row_known c.field_expressions_have_values.ensures.sizes c.field_expressions_have_values.ensures.values c.args.facts.now (template_of c.args.template.now) c.args.row.now
     c.body.ensures.shaped (c.rules_hold_within.ensures (template_of c.args.template.now) c.body.ensures.kept))

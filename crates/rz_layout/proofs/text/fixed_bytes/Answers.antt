@@ -1,7 +1,7 @@
 use Rattle.std.proofs.Common.{Option, sym, ap, subst, ◌∙◌}
+use Rattle.rz_core.specs.Stop.{Gives, fault_seen}
 use Rattle.std.specs.Prelude.{option_map}
 use Rattle.rz_layout.specs.Fault.{refusal_of}
-use Rattle.rz_layout.specs.Laid.{GivesLaid}
 use Rattle.rz_types_fields.specs.Known.{known}
 use Rattle.rz_types_fields.specs.Laid.{behind_refusal, joined, Refusal}
 use Rattle.rz_types_fields.specs.Spells.{nowhere}
@@ -17,4 +17,4 @@ returns-in-Some c =
 pub returns-in-None : goal.returns-in-None
 returns-in-None c =
     let given = joined c.args.piece (bytes_seen nowhere c.args.names.now.facts.now (names_sight c.args.names.now.facts.now (known c.args.names.now.notes.now)) (plain_parts c.args.parts.now)) in
-    subst (λ (found : Option Refusal). GivesLaid (behind_refusal found given) c.joined_bytes.result) (ap (option_map refusal_of) (sym c.in-None.is) ∙ c.in_ok-unvalued.ensures) c.joined_bytes.ensures
+    subst (λ (found : Option Refusal). Gives (behind_refusal found given) (fault_seen refusal_of c.joined_bytes.result)) (ap (option_map refusal_of) (sym c.in-None.is) ∙ c.in_ok-unvalued.ensures) c.joined_bytes.ensures
