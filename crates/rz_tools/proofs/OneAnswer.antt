@@ -120,7 +120,7 @@ one_row rows known r body other row others same tells also =
     (λ i. by_row r body (rows (facts_of known r) body row others r.bytes tells.shaped tells.kept tells.told.0 tells.told.1 there.told.1 i))
     ∙ (λ i. by_row r (same i) others)
 
-one_showing : OnePlainRow → (known : Known) (r : Resource) (showing other : Showing) → IsShownBy known r showing → IsShownBy known r other → showing ≡ other
+pub one_showing : OnePlainRow → (known : Known) (r : Resource) (showing other : Showing) → IsShownBy known r showing → IsShownBy known r other → showing ≡ other
 one_showing rows known r showing other (its_row body row tells is) (its_row another others also so) =
     is ∙ one_row rows known r body another row others (same_body body another (sym tells.declared ∙ also.declared)) tells also ∙ sym so
 one_showing rows known r showing other (its_row body row tells is) (its_bytes none so) = absurd (none body row tells)

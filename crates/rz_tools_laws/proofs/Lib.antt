@@ -1,2 +1,3 @@
 pub mod Templates
+pub mod Shown
 pub mod Raw

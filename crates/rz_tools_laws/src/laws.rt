@@ -1,6 +1,6 @@
-//! Laws of the whole: what sources declare is a template, and what `rez` writes raw is found raw.
+//! Laws of the whole: what sources declare is a template, how `derez` shows under it, and that raw files are found raw.
 
-ghost use Rattle.std.specs.Prelude.{◌≡◌, ℕ, [], List, Ok, None};
+ghost use Rattle.std.specs.Prelude.{◌≡◌, ◌↔◌, ℕ, [], List, Ok, None};
 ghost use Rattle.std.specs.List.{AllByRecursion};
 ghost use Rattle.rz_core.specs.declared.moment.Moment.{Moment};
 ghost use Rattle.rz_core.specs.declared.resource.Resource.{Resource};
@@ -13,12 +13,16 @@ ghost use Rattle.rz_bridge_form.specs.declared.form.Form.TheVariants.{Raw};
 ghost use Rattle.rz_pre.specs.Lexed.{HaveLexedTexts};
 ghost use Rattle.rz_pre.specs.Program.{State};
 ghost use Rattle.rz_pre.specs.declared.program.Def.{Def};
-ghost use Rattle.rz_tools.specs.DeRez.{TypesAre};
+ghost use Rattle.rz_show.specs.Showing.{by_bytes, by_row, Showing};
+ghost use Rattle.rz_types.specs.Field.{PlainBody};
+ghost use Rattle.rz_types_fields.specs.declared.tree.Tree.{Tree};
+ghost use Rattle.rz_tools.specs.DeRez.{known_by, TypesAre};
 ghost use Rattle.rz_tools.specs.Rez.{around_of};
+ghost use Rattle.rz_tools.specs.Shown.{IsShownBy};
 ghost use Rattle.rz_tools.specs.Sources.{Compiled, HasWork, IsProgramOf};
 ghost use Rattle.rz_tools.specs.Step.{Means};
 ghost use Rattle.rz_tools_args.specs.Command.{DeRez, DeRezAsked, IsCommand, Rez, RezAsked};
-ghost use Rattle.rz_tools_laws.specs.Templates.{AreTemplates};
+ghost use Rattle.rz_tools_laws.specs.Templates.{AreTemplates, TellsDeclared};
 ghost use Rattle.rz_tools_output.specs.Base.{Base};
 ghost use Rattle.rz_tools_output.specs.Output.{form_asked, IsOutput};
 ghost use Rattle.rz_tools_values.specs.Around.{Around};
@@ -28,6 +32,7 @@ use rz_bridge_files::forks_are_found_raw;
 use rz_pre_laws::programs_are_lexed;
 use rz_stmt_type::declarations_are_shaped;
 use rz_tools_args::definitions_are_lexed;
+use rz_unlay::one_plain_row;
 
 /// A law, with nothing to run: what statements declare that are read without a fault is a template: the fields of each
 /// declaration are well shaped and keep the rules, where the tokens are such as lines can be cut into. So it is behind
@@ -46,6 +51,23 @@ pub fn declared_types_are_templates()
     declarations_are_shaped();
     programs_are_lexed();
     definitions_are_lexed();
+}
+
+/// A law, with nothing to run: behind type files that `derez` reads without a fault, a resource is shown in a `resource`
+/// statement exactly if its bytes tell a row of the fields that are declared for it in which no case has the name of a
+/// macro, and then by this row; else in a `data` statement. Nothing more is asked of the fields.
+pub fn declared_rows_are_shown()
+    ensures row { (words : List (List ℕ)) (asked : DeRezAsked) (files : Files) (moment : Moment) (compiled : Compiled)
+        → IsCommand words (DeRez asked) → TypesAre moment asked files (Ok compiled)
+        → (r : Resource) (body : PlainBody) (row : List Tree) → TellsDeclared (known_by moment compiled) r body row
+        → (showing : Showing) → IsShownBy (known_by moment compiled) r showing ↔ (showing ≡ by_row r body row) }
+    ensures bytes { (words : List (List ℕ)) (asked : DeRezAsked) (files : Files) (moment : Moment) (compiled : Compiled)
+        → IsCommand words (DeRez asked) → TypesAre moment asked files (Ok compiled)
+        → (r : Resource) → ((body : PlainBody) (row : List Tree) → TellsDeclared (known_by moment compiled) r body row → ⊥)
+        → (showing : Showing) → IsShownBy (known_by moment compiled) r showing ↔ (showing ≡ by_bytes r) }
+{
+    declared_types_are_templates();
+    one_plain_row();
 }
 
 /// A law, with nothing to run: what `rez` writes raw is found to be raw, and is read as a raw file without a word of its
