@@ -36,5 +36,5 @@ module _ (rows : OnePlainRow) (known : Known) (all : AreTemplates known.types) (
 
   pub bytes_shown : ((body : PlainBody) (row : List Tree) → TellsDeclared known r body row → ⊥) → (showing : Showing) → IsShownBy known r showing ↔ (showing ≡ by_bytes r)
   bytes_shown untold showing =
-      let none = λ (body : PlainBody) (row : List Tree) tells. untold body row (tells_declared body row tells) in
+      let none : (body : PlainBody) (row : List Tree) → TellsRow known r body row → ⊥ = λ body row tells. untold body row (tells_declared body row tells) in
       (λ by. one_showing rows known r showing (by_bytes r) by (its_bytes none refl), λ is. its_bytes none is)
