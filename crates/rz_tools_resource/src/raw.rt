@@ -7,12 +7,16 @@ ghost use Rattle.rz_types_fields.specs.Text.{plain_parts};
 ghost use Rattle.rz_folder.specs.OnlyReads.{OnlyReads};
 ghost use Rattle.rz_core.specs.Stop.{IsReadFault, OnRefusal, Yields};
 ghost use Rattle.rz_tools_values.specs.Around.{around};
+ghost use Rattle.rz_tools_values.specs.Texts.{texts_given, texts_read};
 ghost use Rattle.rz_tools_resource.specs.Raw.{contents_read, resource_of, with_text};
 
 use rz_core::{Bytes, Facts, Fault, FileNames, Halt, Mark, Resource};
 use rz_folder::Folder;
 use rz_stmt_data::RawStmt;
-use rz_tools_values::{Setting, bytes_halted, contents_of, facts_of, read_texts, with_bytes};
+use rz_tools_values::{
+    Setting, bytes_halted, contents_of, facts_of, fileless_texts_stay, names_file, read_texts,
+    with_bytes,
+};
 use rz_types_fields::Texts;
 use std::alloc::Global;
 
@@ -73,8 +77,29 @@ fn contents_read<F: Folder>(
     ensures nameable { (files : ℕ) → mark.file < files → OnRefusal result (IsNameable files) }
     ensures reads { OnlyReads F.files F.read_faults F.write_faults folder.old folder.new (IsReadFault result) }
 {
-    match read_texts(alloc, folder, paths, texts, mark, known) {
+    match with_files(alloc, folder, paths, texts, mark, known) {
         Ok(texts) => bytes_halted(contents_of(alloc, &texts, mark, known)),
         Err(halt) => Err(halt),
     }
+}
+
+/// The same text as `read_texts` gives; one that names no file is given back as it is, and no memory is taken.
+fn with_files<F: Folder>(
+    alloc: Global,
+    folder: &mut F,
+    paths: &FileNames,
+    texts: Texts,
+    mark: Mark,
+    known: &Facts,
+) -> Result<Texts, Halt<Fault>>
+    ensures read { IfSome (F.files folder.old) (λ files.
+        Yields result (λ answer. texts_given answer ≡ texts_read paths.now files mark known.now (plain_parts texts))) }
+    ensures nameable { (files : ℕ) → mark.file < files → OnRefusal result (IsNameable files) }
+    ensures reads { OnlyReads F.files F.read_faults F.write_faults folder.old folder.new (IsReadFault result) }
+{
+    if names_file(&texts) {
+        return read_texts(alloc, folder, paths, texts, mark, known);
+    }
+    fileless_texts_stay();
+    Ok(texts)
 }
