@@ -1,9 +1,9 @@
 #!/usr/bin/env python3
-"""Runs the commands that README.md shows, and compares what they print with what stands there.
+"""Runs the commands that README.md and docs/TOUR.md show, and compares what they print with what stands there.
 
     python3 tools/tour.py [PROGRAM]
 
-In the code blocks of README.md a line that begins with `$ ` is a command, and the lines after it are its output, up to
+In the code blocks of both a line that begins with `$ ` is a command, and the lines after it are its output, up to
 the next command or the end of the block. The commands of all blocks are run in their order, by `sh`, in one folder of
 their own that has `examples` and, as `./rezkit`, the built program (crates/rezkit/out/rezkit unless another is named).
 What differs is printed. The status is 1 if anything does. This is no part of the gate.
@@ -14,6 +14,7 @@ import sys
 import tempfile
 
 TOP = os.path.join(os.path.dirname(os.path.abspath(__file__)), "..")
+DOCUMENTS = ("README.md", "docs/TOUR.md")  # the second goes on from the first
 
 
 def steps_of(text):
@@ -33,8 +34,10 @@ def steps_of(text):
 
 def main():
     program = os.path.abspath(sys.argv[1] if len(sys.argv) > 1 else os.path.join(TOP, "crates", "rezkit", "out", "rezkit"))
-    with open(os.path.join(TOP, "README.md"), encoding="utf-8") as file:
-        steps = steps_of(file.read())
+    steps = []
+    for document in DOCUMENTS:
+        with open(os.path.join(TOP, document), encoding="utf-8") as file:
+            steps += steps_of(file.read())
     wrong = 0
     with tempfile.TemporaryDirectory(prefix="rezkit-tour-") as folder:
         os.symlink(os.path.abspath(os.path.join(TOP, "examples")), os.path.join(folder, "examples"))
@@ -44,7 +47,7 @@ def main():
             came = ran.stdout.decode("utf-8", "replace")
             if came != wanted:
                 wrong += 1
-                print("$ %s\n--- README.md\n%s--- the program\n%s" % (command, wanted, came))
+                print("$ %s\n--- the document\n%s--- the program\n%s" % (command, wanted, came))
     print("%d commands, %d print something else" % (len(steps), wrong))
     sys.exit(1 if wrong else 0)
 
