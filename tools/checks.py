@@ -4,8 +4,8 @@
     python3 tools/checks.py
 
 The files of cases that a script writes are what it would write now; the documents name what is there; and the tour of
-README.md prints what stands there, with the program that the gate built. A check whose program isn't there is skipped and
-says so. The status is 1 if one fails.
+README.md and docs/TOUR.md prints what stands there, with the program that the gate built. A check whose program isn't
+there is skipped and says so. The status is 1 if one fails.
 """
 import glob
 import os

@@ -6,7 +6,7 @@
 In the code blocks of both a line that begins with `$ ` is a command, and the lines after it are its output, up to
 the next command or the end of the block. The commands of all blocks are run in their order, by `sh`, in one folder of
 their own that has `examples` and, as `./rezkit`, the built program (crates/rezkit/out/rezkit unless another is named).
-What differs is printed. The status is 1 if anything does. This is no part of the gate.
+What differs is printed. The status is 1 if anything does. The gate runs it after `rt ci`.
 """
 import os
 import subprocess
