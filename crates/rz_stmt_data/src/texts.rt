@@ -15,7 +15,9 @@ use rz_core::{Bytes, NoMemory, OsType};
 use rz_expr::{Role, TextWord, read_whole, role_of};
 use rz_lex::{Shape, Token};
 use rz_stmt_brackets::{Bracket, Divider, bracketed, kind_in, pieces_by};
-use rz_types_fields::{FormatArg, FormatArgs, ResKey, TextPart, TextPlace, Texts, may_stand};
+use rz_types_fields::{
+    FileResource, Format, FormatArg, FormatArgs, ResKey, TextPart, TextPlace, Texts, may_stand,
+};
 use std::alloc::Global;
 
 /// A function that is a part of a text, by what stands in its brackets. (MPW Rez.)
@@ -81,7 +83,7 @@ fn starts_text(shape: &Shape) -> bool
 fn read_parts(alloc: Global, tokens: &[Token]) -> Result<Option<Texts>, NoMemory>
     ensures { IfOk result (λ texts. Decided (AreParts tokens.now) (option_map plain_parts texts)) }
 {
-    let mut texts = Texts::new(alloc);
+    let mut texts = Texts::with_capacity(alloc, tokens_alone(tokens))?;
     let mut rest = tokens;
     while !rest.is_empty() {
         let Some(front) = read_front(alloc, rest)? else {
@@ -91,6 +93,15 @@ fn read_parts(alloc: Global, tokens: &[Token]) -> Result<Option<Texts>, NoMemory
         rest = front.behind;
     }
     Ok(Some(texts))
+}
+
+/// How many text tokens stand at the front, each of them a part: so much memory is taken at once. Most texts are one
+/// token, and those of `data` statements may be millions.
+fn tokens_alone(tokens: &[Token]) -> usize {
+    let other = tokens
+        .iter()
+        .position(|token| !matches!(token.shape, Shape::Text(_)));
+    other.unwrap_or(tokens.len())
 }
 
 /// The part at the front.
@@ -182,7 +193,14 @@ fn read_asked(
         return Ok(None);
     };
     match read_argument(alloc, asked)? {
-        Some(key) => Ok(Some(TextPart::FileResource(file, OsType { code }, key_by(key)))),
+        Some(key) => {
+            let asked = FileResource {
+                file,
+                kind: OsType { code },
+                key: key_by(key),
+            };
+            Ok(Some(TextPart::FileResource(Box::new(alloc, asked)?)))
+        }
         None => Ok(None),
     }
 }
@@ -212,7 +230,10 @@ fn read_formatted(
         return Ok(None);
     };
     match read_arguments(alloc, others)? {
-        Some(arguments) => Ok(Some(TextPart::Format(text, arguments))),
+        Some(arguments) => {
+            let format = Format { text, arguments };
+            Ok(Some(TextPart::Format(Box::new(alloc, format)?)))
+        }
         None => Ok(None),
     }
 }

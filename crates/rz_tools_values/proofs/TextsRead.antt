@@ -39,7 +39,7 @@ one_read (Ok one) (Err fault) chain same = ap (λ (r : Result PlainParts Fault).
 -- An argument that is a text.
 
 text_is : (texts : List TextPart) → plain_argument (arguments.Text texts) ≡ Text (parts_of (plain_parts texts))
-text_is texts = ap plain_argument (sym (rolls-Text texts)) ∙ fold-roll-FormatArg PlainArgument PlainKey PlainPart argument_step key_step part_step (FormatArg-F.Text texts)
+text_is texts = ap plain_argument (sym (rolls-Text texts)) ∙ fold-roll-FormatArg PlainArgument PlainKey PlainPart PlainPart PlainPart argument_step key_step part_step resource_step format_step (FormatArg-F.Text texts)
 
 with_parts : (r : Result (List PlainPart) Fault) → ((r >>= λ parts. Ok (parts_of parts)) >>= λ parts. Ok (Text parts)) ≡ (r >>= λ parts. Ok (Text (parts_of parts)))
 with_parts (Ok parts) = refl

@@ -26,8 +26,8 @@ fn part_names(part: &TextPart) -> bool
     ensures { result ≡ part_names (plain_part part.now) }
 {
     match part {
-        TextPart::FileBytes(_) | TextPart::FileResource(..) => true,
-        TextPart::Format(_, arguments) => arguments_name(arguments),
+        TextPart::FileBytes(_) | TextPart::FileResource(_) => true,
+        TextPart::Format(format) => arguments_name(&format.arguments),
         TextPart::Plain(_)
         | TextPart::NameFact
         | TextPart::DateFact

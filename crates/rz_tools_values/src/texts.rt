@@ -4,7 +4,7 @@ ghost use Rattle.std.specs.Prelude.{◌≡◌, ◌<◌, ℕ, IfOk, IfSome};
 ghost use Rattle.std.specs.Option.{option_copied};
 ghost use Rattle.rz_core.specs.Message.{IsNameable};
 ghost use Rattle.rz_core.specs.Stop.{Gives, OnFault, IsReadFault, OnRefusal, Yields};
-ghost use Rattle.rz_types_fields.specs.Text.{arguments_of, plain_argument, plain_arguments, plain_key, plain_part, plain_parts};
+ghost use Rattle.rz_types_fields.specs.Text.{arguments_of, plain_argument, plain_arguments, plain_key, plain_part, plain_parts, Format};
 ghost use Rattle.rz_folder.specs.OnlyReads.{OnlyReads};
 ghost use Rattle.rz_tools_values.specs.Texts.{argument_given, argument_read, arguments_given, arguments_read, bytes_chosen, bytes_of_one, key_said, part_given, part_read, resource_bytes, resource_named, texts_given, texts_read};
 
@@ -15,7 +15,7 @@ use rz_core::{
 };
 use rz_folder::Folder;
 use rz_set::Pick;
-use rz_types_fields::{FormatArg, FormatArgs, ResKey, TextPart, Texts, text_of};
+use rz_types_fields::{Format, FormatArg, FormatArgs, ResKey, TextPart, Texts, text_of};
 use std::alloc::Global;
 
 /// A text in which what the files give that it names has taken the place of the parts that name them, those in the
@@ -74,20 +74,30 @@ fn read_part<F: Folder>(
                 Err(halt) => Err(halt),
             }
         }
-        TextPart::FileResource(name, kind, key) => {
-            let name = name.as_slice();
-            match resource_named(alloc, folder, paths, name, kind, &key, mark, known) {
+        TextPart::FileResource(asked) => {
+            let name = asked.file.as_slice();
+            match resource_named(
+                alloc, folder, paths, name, asked.kind, &asked.key, mark, known,
+            ) {
                 Ok(bytes) => Ok(TextPart::Plain(bytes)),
                 Err(halt) => Err(halt),
             }
         }
-        TextPart::Format(text, arguments) => {
+        TextPart::Format(format) => {
+            let Format { text, arguments } = Box::into_inner(format);
             match read_arguments(alloc, folder, paths, arguments, mark, known) {
-                Ok(arguments) => Ok(TextPart::Format(text, arguments)),
+                Ok(arguments) => Ok(format_of(alloc, text, arguments)?),
                 Err(halt) => Err(halt),
             }
         }
     }
+}
+
+/// The part that is a format with these arguments.
+fn format_of(alloc: Global, text: Bytes, arguments: FormatArgs) -> Result<TextPart, NoMemory>
+    ensures { IfOk result (λ part. plain_part part ≡ Format text (arguments_of (plain_arguments arguments))) }
+{
+    Ok(TextPart::Format(Box::new(alloc, Format { text, arguments })?))
 }
 
 /// The arguments of a format, from left to right.

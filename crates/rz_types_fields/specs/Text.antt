@@ -1,5 +1,5 @@
 -- Texts, and their bytes. (MPW Rez.)
-use Rattle.std.specs.Prelude.{ℕ, codes, List, [], ◌∷◌, ◌++◌, map, Option, Some, None, Ok, Err}
+use Rattle.std.specs.Prelude.{ℕ, box_value, codes, List, [], ◌∷◌, ◌++◌, map, Option, Some, None, Ok, Err}
 use Rattle.std.specs.declared.result.Result.{Result}
 use Rattle.rz_core.specs.DateText.{date_text, time_text}
 use Rattle.rz_core.specs.Stop.{◌>>=◌}
@@ -15,11 +15,12 @@ use Rattle.rz_types_format.specs.Format.{formatted}
 use Rattle.rz_types_format.specs.declared.format.Argument.{Argument}
 use Rattle.rz_types_format.specs.declared.format.Argument.TheVariants as values
 use Rattle.rz_types_fields.specs.Value.{field_sight, with_fault}
+use Rattle.rz_types_fields.specs.declared.text.Format as formats
 use Rattle.rz_types_fields.specs.declared.text.FormatArg.{FormatArg}
 use Rattle.rz_types_fields.specs.declared.text.ResKey.{ResKey}
 use Rattle.rz_types_fields.specs.declared.text.TextPart.{TextPart}
-use Rattle.rz_types_fields.specs.declared.text.FormatArg.TheFolds.{fold-FormatArg, fold-ResKey, fold-TextPart}
-use Rattle.rz_types_fields.specs.declared.text.FormatArg.TheOpen.{FormatArg-F, ResKey-F, TextPart-F}
+use Rattle.rz_types_fields.specs.declared.text.FormatArg.TheFolds.{fold-FileResource, fold-Format, fold-FormatArg, fold-ResKey, fold-TextPart}
+use Rattle.rz_types_fields.specs.declared.text.FormatArg.TheOpen.{FileResource-F, Format-F, FormatArg-F, ResKey-F, TextPart-F}
 
 mutual
   -- a part of a text, as contracts see it
@@ -141,32 +142,41 @@ text_terms parts = parts_terms (parts_of parts)
 
 -- What the code holds.
 
-abbrev pub key_step : ResKey-F PlainArgument PlainKey PlainPart → PlainKey
-key_step (ResKey-F.Id expr) = ById (term_of expr)
-key_step (ResKey-F.Name texts) = ByName (parts_of texts)
-
-abbrev pub argument_step : FormatArg-F PlainArgument PlainKey PlainPart → PlainArgument
+abbrev pub argument_step : FormatArg-F PlainArgument PlainKey PlainPart PlainPart PlainPart → PlainArgument
 argument_step (FormatArg-F.Number expr) = Number (term_of expr)
 argument_step (FormatArg-F.Text texts) = Text (parts_of texts)
 
-abbrev pub part_step : TextPart-F PlainArgument PlainKey PlainPart → PlainPart
+abbrev pub key_step : ResKey-F PlainArgument PlainKey PlainPart PlainPart PlainPart → PlainKey
+key_step (ResKey-F.Id expr) = ById (term_of expr)
+key_step (ResKey-F.Name texts) = ByName (parts_of texts)
+
+abbrev pub resource_step : FileResource-F PlainArgument PlainKey PlainPart PlainPart PlainPart → PlainPart
+resource_step asked = FileResource asked.file asked.kind asked.key
+
+abbrev pub format_step : Format-F PlainArgument PlainKey PlainPart PlainPart PlainPart → PlainPart
+format_step format = Format format.text (arguments_of format.arguments)
+
+abbrev pub part_step : TextPart-F PlainArgument PlainKey PlainPart PlainPart PlainPart → PlainPart
 part_step (TextPart-F.Plain bytes) = Plain bytes
 part_step TextPart-F.NameFact = NameFact
 part_step TextPart-F.DateFact = DateFact
 part_step TextPart-F.TimeFact = TimeFact
 part_step TextPart-F.VersionFact = VersionFact
 part_step (TextPart-F.FileBytes file) = FileBytes file
-part_step (TextPart-F.FileResource file kind key) = FileResource file kind key
-part_step (TextPart-F.Format text arguments) = Format text (arguments_of arguments)
+part_step (TextPart-F.FileResource asked) = box_value asked
+part_step (TextPart-F.Format format) = box_value format
 
 abbrev pub plain_part : TextPart → PlainPart
-plain_part = fold-TextPart PlainArgument PlainKey PlainPart argument_step key_step part_step
+plain_part = fold-TextPart PlainArgument PlainKey PlainPart PlainPart PlainPart argument_step key_step part_step resource_step format_step
+
+abbrev pub plain_format : formats.Format → PlainPart
+plain_format = fold-Format PlainArgument PlainKey PlainPart PlainPart PlainPart argument_step key_step part_step resource_step format_step
 
 abbrev pub plain_argument : FormatArg → PlainArgument
-plain_argument = fold-FormatArg PlainArgument PlainKey PlainPart argument_step key_step part_step
+plain_argument = fold-FormatArg PlainArgument PlainKey PlainPart PlainPart PlainPart argument_step key_step part_step resource_step format_step
 
 abbrev pub plain_key : ResKey → PlainKey
-plain_key = fold-ResKey PlainArgument PlainKey PlainPart argument_step key_step part_step
+plain_key = fold-ResKey PlainArgument PlainKey PlainPart PlainPart PlainPart argument_step key_step part_step resource_step format_step
 
 abbrev pub plain_parts : List TextPart → List PlainPart
 plain_parts parts = map plain_part parts

@@ -119,14 +119,14 @@ fn push_part<'a>(part: &'a TextPart, exprs: &mut Vec<&'a Expr>) -> Result<(), No
         ≡ map (λ expr. term_of expr.now) exprs.old.items ++ part_terms (plain_part part.now)) }
 {
     match part {
-        TextPart::Format(_, arguments) => push_arguments(arguments, exprs),
+        TextPart::Format(format) => push_arguments(&format.arguments, exprs),
         TextPart::Plain(_)
         | TextPart::NameFact
         | TextPart::DateFact
         | TextPart::TimeFact
         | TextPart::VersionFact
         | TextPart::FileBytes(_)
-        | TextPart::FileResource(..) => Ok(()),
+        | TextPart::FileResource(_) => Ok(()),
     }
 }
 

@@ -41,7 +41,9 @@ pub use names::{NamesEnv, Note, rows_of};
 pub use place::{TextPlace, may_say, may_stand};
 pub use range::{fits_number, may_be_size, own_width};
 pub use stored::{is_too_long, stored_number};
-pub use text::{FormatArg, FormatArgs, ResKey, TextPart, Texts, text_of, text_seen};
+pub use text::{
+    FileResource, Format, FormatArg, FormatArgs, ResKey, TextPart, Texts, text_of, text_seen,
+};
 pub use tree::{Numbers, Row, RowList, Tree};
 pub use value::{
     constant_value, fact_of, is_field_expression, is_fixed_expression, is_item_expression,

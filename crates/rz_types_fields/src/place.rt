@@ -50,8 +50,8 @@ fn may_have(place: TextPlace, part: &TextPart) -> bool
         }
         TextPart::NameFact => may_name(place),
         TextPart::FileBytes(_) => may_read(place),
-        TextPart::FileResource(_, _, key) => may_read(place) && may_ask(key),
-        TextPart::Format(_, arguments) => may_have_arguments(place, arguments),
+        TextPart::FileResource(asked) => may_read(place) && may_ask(&asked.key),
+        TextPart::Format(format) => may_have_arguments(place, &format.arguments),
     }
 }
 

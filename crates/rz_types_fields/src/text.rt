@@ -5,7 +5,7 @@ ghost use Rattle.rz_core.specs.Message.{IsNameable};
 ghost use Rattle.rz_core.specs.Stop.{Gives, OnFault};
 ghost use Rattle.rz_types_format.specs.Format.{formatted};
 ghost use Rattle.rz_types_fields.specs.Appended.{Appends};
-ghost use Rattle.rz_types_fields.specs.Text.{argument_value, argument_values, arguments_of, bytes_of, bytes_seen, format_bytes, or_bad_format, part_bytes, parts_of, plain_argument, plain_arguments, plain_part, plain_parts};
+ghost use Rattle.rz_types_fields.specs.Text.{argument_value, argument_values, arguments_of, bytes_of, bytes_seen, or_bad_format, part_bytes, parts_of, plain_argument, plain_arguments, plain_format, plain_part, plain_parts};
 
 use crate::value::{FieldEnv, value_seen};
 use rz_core::{Bytes, Facts, Fault, Kept, Listing, Mark, OsType, Stop, write_date, write_time};
@@ -36,7 +36,30 @@ pub enum ResKey {
     Name(Texts),
 }
 
-/// A part of a text. (MPW Rez.)
+/// A resource of a file that a `$$Resource` names. (MPW Rez.)
+#[derive(Drop)]
+#[cycle(text)]
+pub struct FileResource {
+    /// The name of the file.
+    pub file: Bytes,
+    /// The type of the resource.
+    pub kind: OsType,
+    /// By what it is found.
+    pub key: ResKey,
+}
+
+/// A format and its arguments, as a `$$Format` has them. (MPW Rez.)
+#[derive(Drop)]
+#[cycle(text)]
+pub struct Format {
+    /// The format.
+    pub text: Bytes,
+    /// The arguments, in order.
+    pub arguments: FormatArgs,
+}
+
+/// A part of a text. What few parts have stands behind a `Box`, so that millions of plain ones take little memory.
+/// (MPW Rez.)
 #[derive(Drop)]
 #[cycle(text)]
 pub enum TextPart {
@@ -52,10 +75,10 @@ pub enum TextPart {
     VersionFact,
     /// `$$Read`, what a file holds.
     FileBytes(Bytes),
-    /// `$$Resource`, the bytes of a resource of a file: its type, and by what it is found.
-    FileResource(Bytes, OsType, ResKey),
+    /// `$$Resource`, the bytes of a resource of a file.
+    FileResource(Box<FileResource>),
     /// `$$Format`, what a format gives with its arguments.
-    Format(Bytes, FormatArgs),
+    Format(Box<Format>),
 }
 
 /// The parts of a text, in order.
@@ -124,10 +147,8 @@ fn append_part<E: Env>(
         TextPart::DateFact => Ok(write_date(facts.moment, into)?),
         TextPart::TimeFact => Ok(write_time(facts.moment, into)?),
         TextPart::VersionFact => Ok(into.append(b"V1.0")?),
-        TextPart::FileBytes(_) | TextPart::FileResource(..) => Ok(()),
-        TextPart::Format(text, arguments) => {
-            append_format(alloc, text.as_slice(), arguments, place, facts, env, into)
-        }
+        TextPart::FileBytes(_) | TextPart::FileResource(_) => Ok(()),
+        TextPart::Format(format) => append_format(alloc, format, place, facts, env, into),
     }
 }
 
@@ -135,18 +156,23 @@ fn append_part<E: Env>(
 #[cycle(texts)]
 fn append_format<E: Env>(
     alloc: Global,
-    text: &[u8],
-    arguments: &FormatArgs,
+    format: &Format,
     place: Mark,
     facts: &Facts,
     env: &E,
     into: &mut Bytes,
 ) -> Result<(), Stop<Fault>>
-    ensures appended { Appends (format_bytes place text.now (argument_values place facts.now (E.view env.now) (arguments_of (plain_arguments arguments.now)))) into.old result into.new }
+    ensures appended { Appends (part_bytes place facts.now (E.view env.now) (plain_format format.now)) into.old result into.new }
     ensures nameable { (files : ℕ) → place.file < files → OnFault result (IsNameable files) }
 {
-    let values = values_of(alloc, arguments, place, facts, env)?;
-    append_filled(alloc, text, values.as_slice(), place, into)
+    let values = values_of(alloc, &format.arguments, place, facts, env)?;
+    append_filled(
+        alloc,
+        format.text.as_slice(),
+        values.as_slice(),
+        place,
+        into,
+    )
 }
 
 /// Appends what a format gives with these values.

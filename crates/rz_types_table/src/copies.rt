@@ -10,8 +10,8 @@ use rz_core::{Bytes, NoMemory, Word};
 use rz_expr::{Expr, copy};
 use rz_types::{Template, is_readable};
 use rz_types_fields::{
-    ArrayField, Body, Case, Cases, Exprs, Field, FormatArg, FormatArgs, NumField, PointField,
-    ResKey, Symbol, Symbols, TextField, TextPart, Texts,
+    ArrayField, Body, Case, Cases, Exprs, Field, FileResource, Format, FormatArg, FormatArgs,
+    NumField, PointField, ResKey, Symbol, Symbols, TextField, TextPart, Texts,
 };
 use std::alloc::Global;
 
@@ -190,15 +190,20 @@ fn copy_part(alloc: Global, part: &TextPart) -> Result<TextPart, NoMemory>
         TextPart::TimeFact => Ok(TextPart::TimeFact),
         TextPart::VersionFact => Ok(TextPart::VersionFact),
         TextPart::FileBytes(file) => Ok(TextPart::FileBytes(Bytes::of(alloc, file.as_slice())?)),
-        TextPart::FileResource(file, kind, key) => {
-            let file = Bytes::of(alloc, file.as_slice())?;
-            let key = copy_key(alloc, key)?;
-            Ok(TextPart::FileResource(file, *kind, key))
+        TextPart::FileResource(asked) => {
+            let asked = FileResource {
+                file: Bytes::of(alloc, asked.file.as_slice())?,
+                kind: asked.kind,
+                key: copy_key(alloc, &asked.key)?,
+            };
+            Ok(TextPart::FileResource(Box::new(alloc, asked)?))
         }
-        TextPart::Format(text, arguments) => {
-            let text = Bytes::of(alloc, text.as_slice())?;
-            let arguments = copy_arguments(alloc, arguments)?;
-            Ok(TextPart::Format(text, arguments))
+        TextPart::Format(format) => {
+            let format = Format {
+                text: Bytes::of(alloc, format.text.as_slice())?,
+                arguments: copy_arguments(alloc, &format.arguments)?,
+            };
+            Ok(TextPart::Format(Box::new(alloc, format)?))
         }
     }
 }
