@@ -4,9 +4,10 @@
     python3 tools/calls.py            writes docs/CALLS.md
     python3 tools/calls.py --check    says whether docs/CALLS.md is what would be written now
 
-Of each library of crates.txt but those of tests it lists, from the sources alone: the first sentence of the crate, each
-public type that has calls or invariants, and each public call with its parameters, the first sentence of its comment and
-its clauses with the definitions that they cite. The status is 1 if `--check` finds a difference, or if a definition that
+Of each library of crates.txt but those of tests it lists, from the sources alone: the first sentence of the crate; each
+public type that contracts see as something else, or that has invariants; each public call with its parameters, the first
+sentence of its comment, and its clauses with the definitions that they cite; its laws likewise; and its definitions,
+first those that the contract of `run` rests on. The status is 1 if `--check` finds a difference, or if a definition that
 a clause cites doesn't stand where its `ghost use` says; else it is 0.
 """
 import os
@@ -37,6 +38,8 @@ kit's library. A clause without a name stands alone: it says what the call gives
 lent before, after and during the call.
 - A call that can give `NoMemory` may do so instead of any other answer, unless a clause says when.
 - **Law**: the contract of a function with nothing to run. It says what holds of the definitions, whatever the code does.
+- **Definitions**: the files of `specs`, each behind those that it cites. The contract of `run` rests on %d of them; \
+their order here, crate by crate, is one in which all can be read.
 
 """
 
@@ -281,13 +284,14 @@ def call_row(call, path, definitions):
     """The row of a call, or that of a law."""
     name = "%s::%s" % (call.owner, call.name) if call.owner else call.name
     says = call.says or ("As `%s` says." % call.trait if call.trait else "")
-    if is_law(call):
+    if says.startswith(LAW):
         says = says[len(LAW) :]
     return row(name, "" if is_law(call) else call.shape, path, says[:1].upper() + says[1:], call.clauses, definitions)
 
 
 def is_law(call):
-    return call.says.startswith(LAW)
+    """Whether a function has nothing to run: it takes nothing, gives nothing and promises something."""
+    return not call.owner and call.shape == "()" and bool(call.clauses)
 
 
 def rows_of(crate):
@@ -302,11 +306,53 @@ def rows_of(crate):
     return rows, laws
 
 
+def cited_files(path):
+    """The files of definitions that a file of definitions cites."""
+    cited = re.findall(r"(?m)^(?:pub )?use Rattle\.(\w+)\.specs\.(\w+)(?=\.\{| as |$)", text_of(path))
+    return [handed_on(crate, file) for crate, file in cited if os.path.isdir("crates/" + crate)]
+
+
+def beneath_run():
+    """The files of definitions that the contract of `run` rests on, each behind those that it cites."""
+    found, entered = [], set()
+
+    def enter(path):
+        if path not in entered:
+            entered.add(path)
+            for cited in cited_files(path):
+                enter(cited)
+            found.append(path)
+
+    for _, path in definitions_of("rz_tools", "program").values():
+        enter(path)
+    return found
+
+
+def definition_row(path):
+    lines = text_of(path).split("\n")
+    comment = [line[2:] for line in lines[: next(number for number, line in enumerate(lines) if not line.startswith("--"))]]
+    name = os.path.basename(path)[: -len(".antt")]
+    return "| %s | %s |" % (link(name, path), first_sentence(comment).replace("|", "\\|"))
+
+
+def definitions_in(crate, beneath):
+    """The tables of a crate's definitions: those that `run` rests on, in order, and the others."""
+    folder = "crates/%s/specs/" % crate
+    first = [path for path in beneath if path.startswith(folder)]
+    names = sorted(os.listdir(folder)) if os.path.isdir(folder) else []
+    others = [folder + name for name in names if name.endswith(".antt") and name != "Lib.antt" and folder + name not in first]
+    parts = []
+    for title, paths in (("Definitions that `run` rests on", first), ("Other definitions", others)):
+        if paths:
+            parts.append("\n".join(["| %s | What they say |" % title, "|---|---|"] + [definition_row(path) for path in paths]))
+    return parts
+
+
 def table(title, rows):
     return "\n".join([title, "|---|---|---|"] + rows)
 
 
-def section(crate):
+def section(crate, beneath):
     path = "crates/%s/src/lib.rt" % crate
     comment = [line[3:] for line in text_of(path).split("\n") if line.startswith("//!")]
     parts = ["## " + crate, "%s: %s" % (link("lib.rt", path), first_sentence(comment))]
@@ -315,12 +361,13 @@ def section(crate):
         parts.append(table("| Call | What it does | Clauses |", rows))
     if laws:
         parts.append(table("| Law | What it says | Definitions |", laws))
-    return "\n\n".join(parts)
+    return "\n\n".join(parts + definitions_in(crate, beneath))
 
 
 def main():
     os.chdir(TOP)
-    page = HEAD + "\n\n".join(section(crate) for crate in libraries()) + "\n"
+    beneath = beneath_run()
+    page = HEAD % len(beneath) + "\n\n".join(section(crate, beneath) for crate in libraries()) + "\n"
     if sys.argv[1:] == ["--check"]:
         same = os.path.exists(TARGET) and text_of(TARGET) == page
         print("%s is %s" % (TARGET, "as its script writes it" if same else "NOT as its script writes it: run tools/calls.py"))
