@@ -61,10 +61,11 @@ def libraries():
 
 def first_sentence(lines):
     """The first sentence of a comment's lines, on one line."""
-    text = " ".join(line.strip() for line in lines)
-    text = re.sub(r"\[(`[^`]*`)\]", r"\1", text)
+    end = next((number for number, line in enumerate(lines) if not line.strip()), len(lines))
+    text = " ".join(line.strip() for line in lines[:end])
+    text = re.sub(r"\[(`[^`]*`)\](\(crate::[^)]*\))?", r"\1", text)
     text = re.sub(r":(?: - .*|)$", ".", text)
-    found = re.match(r".*?\.(?= [A-Z`'(]| *$)", text)
+    found = re.match(r".*?\.(?= [A-Z0-9`'(]| *$)", text)
     return found[0] if found else text
 
 
