@@ -34,18 +34,21 @@ the call may change. The name leads to the source, whose contract is the promise
 - **What it does**: the first sentence of its comment. The code calls the arguments of the command line `words`.
 - **Clauses**: what is proved, `needs` before what the caller has to know, and the definitions that each clause cites, \
 which lead to their files. A clause that cites none is shown itself, if it is short; the words in it are those of the \
-kit's library. A clause without a name stands alone: it says what the call gives. `.old`, `.new` and `.now` are what is \
-lent before, after and during the call.
+kit's library. A clause without a name says what the call gives. `as` names a trait whose contract holds too, `always` \
+stands before an invariant of a type, and `seen as` before what contracts see of it. `.old`, `.new` and `.now` are what \
+is lent before, after and during the call.
 - A call that can give `NoMemory` may do so instead of any other answer, unless a clause says when.
 - **Law**: the contract of a function with nothing to run. It says what holds of the definitions, whatever the code does.
-- **Definitions**: the files of `specs`, each behind those that it cites. The contract of `run` rests on %d of them; \
-their order here, crate by crate, is one in which all can be read.
+- **Definitions**: the files of `specs`. The contract of `run` rests on %d of them, and each of these stands after those \
+that it cites, so that they can be read in this order, crate by crate.
+
+%s
 
 """
 
 Clause = namedtuple("Clause", "kind name text")
 Call = namedtuple("Call", "owner trait name shape says clauses")
-Kind = namedtuple("Kind", "name module says clauses")
+Kind = namedtuple("Kind", "name says clauses")
 
 
 def text_of(path):
@@ -70,7 +73,7 @@ def first_sentence(lines):
 
 
 def exported(crate):
-    """The modules of a crate, each with the set of names that others see, or None where they see all public ones."""
+    """The modules of a crate, each with the set of names that others see, or None if they see all public ones."""
     root = text_of("crates/%s/src/lib.rt" % crate)
     inner = re.findall(r"(?m)^(?:pub )?mod (\w+);", root)
     seen = {module: set() for module in inner}
@@ -84,7 +87,7 @@ def exported(crate):
 
 
 def matching(text, start):
-    """The position behind the brace that closes the one at `start`."""
+    """The position after the brace that closes the one at `start`."""
     depth = 0
     for place in range(start, len(text)):
         depth += {"{": 1, "}": -1}.get(text[place], 0)
@@ -106,7 +109,7 @@ def clauses_from(text, place):
 
 
 def comment_above(lines, number):
-    """The lines of the comment above a line, behind which attributes may stand."""
+    """The lines of the comment above a line, with attributes between them or not."""
     above = []
     while number > 0 and lines[number - 1].strip():
         number -= 1
@@ -119,7 +122,7 @@ def comment_above(lines, number):
 
 
 def parameter(text):
-    """A parameter in short: its name, behind `&mut` where the call may change what is lent."""
+    """A parameter in short: its name, after `&mut` if the call may change what is lent."""
     text = text.strip()
     if re.match(r"(&('\w+ )?(mut )?|mut )?self$", text):
         return re.sub(r"'\w+ |^mut ", "", text)
@@ -130,7 +133,7 @@ def parameter(text):
 def split_parameters(text):
     """The parameters of a list, cut at the commas outside brackets."""
     parts, depth = [""], 0
-    for char in text.replace("->", "\u2192"):
+    for char in text.replace("->", ""):
         depth += (char in "(<[") - (char in ")>]")
         if char == "," and depth == 0:
             parts.append("")
@@ -212,7 +215,7 @@ def kinds_in(crate, module, seen):
         view = re.search(r"ghost Value = \{ (.*?) \};", models.get(head[1], ""))
         if view:
             clauses.append(Clause("seen as", "", view[1]))
-        found.append(Kind(head[1], module, first_sentence(comment_above(lines, number)), clauses))
+        found.append(Kind(head[1], first_sentence(comment_above(lines, number)), clauses))
     return found
 
 
@@ -314,7 +317,7 @@ def cited_files(path):
 
 
 def beneath_run():
-    """The files of definitions that the contract of `run` rests on, each behind those that it cites."""
+    """The files of definitions that the contract of `run` rests on, each after those that it cites."""
     found, entered = [], set()
 
     def enter(path):
@@ -368,7 +371,8 @@ def section(crate, beneath):
 def main():
     os.chdir(TOP)
     beneath = beneath_run()
-    page = HEAD % len(beneath) + "\n\n".join(section(crate, beneath) for crate in libraries()) + "\n"
+    contents = ", ".join("[%s](#%s)" % (crate, crate) for crate in libraries())
+    page = HEAD % (len(beneath), contents) + "\n\n".join(section(crate, beneath) for crate in libraries()) + "\n"
     if sys.argv[1:] == ["--check"]:
         same = os.path.exists(TARGET) and text_of(TARGET) == page
         print("%s is %s" % (TARGET, "as its script writes it" if same else "NOT as its script writes it: run tools/calls.py"))
