@@ -31,7 +31,8 @@ promises.
 
 - **Call**: what other crates can call, with the names of its parameters and what it gives. `&mut` stands before what \
 the call may change. The name leads to the source, whose contract is the promise.
-- **What it does**: the first sentence of its comment. The code calls the arguments of the command line `words`.
+- **What it does**: the first sentence of its comment. It isn't the promise; the clauses are. The code calls the \
+arguments of the command line `words`.
 - **Clauses**: what is proved, `needs` before what the caller has to know, and the definitions that each clause cites, \
 which lead to their files. A clause that cites none is shown itself, if it is short; the words in it are those of the \
 kit's library. A clause without a name says what the call gives. `as` names a trait whose contract holds too, `always` \
