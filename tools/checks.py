@@ -21,6 +21,7 @@ def checks():
     scripts = sorted(glob.glob("tools/*_cases.py"))
     found = [(script, [script, "--check"], None) for script in scripts if "--check" in open(script, encoding="utf-8").read()]
     found.append(("tools/fork.py", ["tools/fork.py", "--check", *sorted(glob.glob("crates/rezkit_cases/data/*.cases"))], None))
+    found.append(("tools/calls.py", ["tools/calls.py", "--check"], None))
     found.append(("tools/links.py", ["tools/links.py"], None))
     found.append(("tools/tour.py", ["tools/tour.py"], PROGRAM))
     return found
