@@ -3,9 +3,10 @@
 
     python3 tools/checks.py
 
-The files of cases that a script writes are what it would write now; the documents name what is there; and the tour of
-README.md and docs/TOUR.md prints what stands there, with the program that the gate built. A check whose program isn't
-there is skipped and says so. The status is 1 if one fails.
+The files of cases that a script writes are what it would write now; the documents name what is there; docs/MESSAGES.md
+has each message; and the commands that README.md, docs/TOUR.md, docs/MESSAGES.md and docs/PORTING.md show print what
+stands there, with the program that the gate built. A check whose program isn't there is skipped and says so. The status
+is 1 if one fails.
 """
 import glob
 import os
@@ -23,6 +24,7 @@ def checks():
     found.append(("tools/fork.py", ["tools/fork.py", "--check", *sorted(glob.glob("crates/rezkit_cases/data/*.cases"))], None))
     found.append(("tools/calls.py", ["tools/calls.py", "--check"], None))
     found.append(("tools/links.py", ["tools/links.py"], None))
+    found.append(("tools/messages.py", ["tools/messages.py"], None))
     found.append(("tools/tour.py", ["tools/tour.py"], PROGRAM))
     return found
 

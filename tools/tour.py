@@ -1,54 +1,105 @@
 #!/usr/bin/env python3
-"""Runs the commands that README.md and docs/TOUR.md show, and compares what they print with what stands there.
+"""Runs the commands that the documents for people show, and compares what they print with what stands there.
 
-    python3 tools/tour.py [PROGRAM]
+    python3 tools/tour.py [--write] [PROGRAM]
 
-In the code blocks of both a line that begins with `$ ` is a command, and the lines after it are its output, up to
-the next command or the end of the block. The commands of all blocks are run in their order, by `sh`, in one folder of
-their own that has `examples` and, as `./rezkit`, the built program (crates/rezkit/out/rezkit unless another is named).
-What differs is printed. The status is 1 if anything does. The gate runs it after `rt ci`.
+In the code blocks of WALKS a line that begins with `$ ` is a command, lines that begin with `> ` right after it go on
+with it, and what follows, up to the next command or the end of the block, is its output. The commands of the documents
+of one walk are run in their order, by `sh`, in a folder of their own that has `examples`, `types` and, as `./rezkit`,
+the built program (crates/rezkit/out/rezkit unless another is named). A command that names a tool of TOOLS which isn't
+installed is skipped. What differs is printed, and with `--write` put into the document. The status is 1 if anything
+differs. The gate runs it after `rt ci`.
 """
 import os
+import re
+import shutil
 import subprocess
 import sys
 import tempfile
 
-TOP = os.path.join(os.path.dirname(os.path.abspath(__file__)), "..")
-DOCUMENTS = ("README.md", "docs/TOUR.md")  # the second goes on from the first
+TOP = os.path.abspath(os.path.join(os.path.dirname(os.path.abspath(__file__)), ".."))
+WALKS = (("README.md", "docs/TOUR.md"), ("docs/MESSAGES.md",), ("docs/PORTING.md",))
+TOOLS = ("cpp", "git", "make", "xxd")
 
 
-def steps_of(text):
-    """The commands of the code blocks, each with the output that stands there."""
-    steps = []
-    for block in text.split("```\n")[1::2]:
-        lines = block.split("\n")[:-1]
-        if not lines or not lines[0].startswith("$ "):
+def parts_of(text):
+    """The lines of a document, cut into the text and the commands: (lines, None), or (command, lines of its output)."""
+    parts, inside, tour = [([], None)], False, False
+    for line in text.split("\n"):
+        if line.startswith("```"):
+            inside, tour = not inside, False
+        if inside and line.startswith("$ "):
+            parts.append(([line], []))
+            tour = True
+        elif not tour:
+            if parts[-1][1] is not None:
+                parts.append(([], None))
+            parts[-1][0].append(line)
+        elif line.startswith("> ") and not parts[-1][1]:
+            parts[-1][0].append(line)
+        else:
+            parts[-1][1].append(line)
+    return parts
+
+
+def text_of(parts):
+    return "\n".join("\n".join(head + (output or [])) for head, output in parts if head)
+
+
+def missing_tool(command):
+    words = re.findall(r"[\w./-]+", command)
+    return next((tool for tool in TOOLS if tool in words and not shutil.which(tool)), None)
+
+
+def printed(command, folder):
+    """What a command prints, as lines, and anything behind the last line end as a line that no document has."""
+    ran = subprocess.run(["sh", "-c", command], cwd=folder, stdout=subprocess.PIPE, stderr=subprocess.STDOUT)
+    lines = ran.stdout.decode("utf-8", "replace").split("\n")
+    return lines[:-1] if not lines[-1] else lines[:-1] + [lines[-1] + " (without a line end)"]
+
+
+def walk_document(document, folder, write):
+    """Runs the commands of a document in the folder; gives how many there are, how many differ, how many are skipped."""
+    path = os.path.join(TOP, document)
+    with open(path, encoding="utf-8") as file:
+        parts = parts_of(file.read())
+    count = wrong = skipped = 0
+    for head, output in parts:
+        if output is None:
             continue
-        for line in lines:
-            if line.startswith("$ "):
-                steps.append((line[2:], []))
-            else:
-                steps[-1][1].append(line)
-    return [(command, "".join(line + "\n" for line in lines)) for command, lines in steps]
+        count += 1
+        command = "\n".join(line[2:] for line in head)
+        tool = missing_tool(command)
+        if tool:
+            skipped += 1
+            print("%s: skipped, for there is no %s: %s" % (document, tool, head[0]))
+            continue
+        came = printed(command, folder)
+        if came != output:
+            wrong += 1
+            print("%s\n%s\n--- the document\n%s\n--- the program\n%s" % (document, "\n".join(head), "\n".join(output), "\n".join(came)))
+            output[:] = came
+    if write and wrong:
+        with open(path, "w", encoding="utf-8") as file:
+            file.write(text_of(parts))
+    return count, wrong, skipped
+
+
+def walk(documents, program, write):
+    """The same of all documents of a walk, in one folder."""
+    with tempfile.TemporaryDirectory(prefix="rezkit-tour-") as folder:
+        for name in ("examples", "types"):
+            os.symlink(os.path.join(TOP, name), os.path.join(folder, name))
+        os.symlink(program, os.path.join(folder, "rezkit"))
+        return [sum(column) for column in zip(*(walk_document(document, folder, write) for document in documents))]
 
 
 def main():
-    program = os.path.abspath(sys.argv[1] if len(sys.argv) > 1 else os.path.join(TOP, "crates", "rezkit", "out", "rezkit"))
-    steps = []
-    for document in DOCUMENTS:
-        with open(os.path.join(TOP, document), encoding="utf-8") as file:
-            steps += steps_of(file.read())
-    wrong = 0
-    with tempfile.TemporaryDirectory(prefix="rezkit-tour-") as folder:
-        os.symlink(os.path.abspath(os.path.join(TOP, "examples")), os.path.join(folder, "examples"))
-        os.symlink(program, os.path.join(folder, "rezkit"))
-        for command, wanted in steps:
-            ran = subprocess.run(["sh", "-c", command], cwd=folder, stdout=subprocess.PIPE, stderr=subprocess.STDOUT)
-            came = ran.stdout.decode("utf-8", "replace")
-            if came != wanted:
-                wrong += 1
-                print("$ %s\n--- the document\n%s--- the program\n%s" % (command, wanted, came))
-    print("%d commands, %d print something else" % (len(steps), wrong))
+    arguments = [argument for argument in sys.argv[1:] if argument != "--write"]
+    program = os.path.abspath(arguments[0] if arguments else os.path.join(TOP, "crates", "rezkit", "out", "rezkit"))
+    sums = [walk(documents, program, "--write" in sys.argv[1:]) for documents in WALKS]
+    count, wrong, skipped = (sum(column) for column in zip(*sums))
+    print("%d commands, %d print something else, %d skipped" % (count, wrong, skipped))
     sys.exit(1 if wrong else 0)
 
 
