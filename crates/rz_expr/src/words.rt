@@ -97,8 +97,8 @@ impl Role {
     }
 }
 
-/// What a word may be. Case doesn't matter. What is no word, as `1a` or nothing, is told like a name. (MPW
-/// Rez.)
+/// What a word may be: a reserved word, the name of a `$$` function, or a name. Case doesn't matter.
+/// What is no word, as `1a` or nothing, is told like a name. (MPW Rez.)
 pub fn role_of(word: &Word) -> Role
     ensures { result ≡ role_of word.now.bytes }
 {

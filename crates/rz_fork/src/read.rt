@@ -29,7 +29,7 @@ pub struct ForkList {
     pub reserved: Bytes,
 }
 
-/// Copies what a fork holds. No bytes hold no resources, the attributes 0 and no reserved bytes. Other
+/// Copies what a fork holds, or gives the first rule that the bytes break. No bytes hold no resources, the attributes 0 and no reserved bytes. Other
 /// bytes are admitted where no rule of [`ForkFault`] is broken, and are else refused with the first
 /// broken rule, each tested over all types and references, in map order, before the next. Counts are
 /// stored less one, modulo 65,536, so that FFFF means none. A name offset of FFFF and a name without

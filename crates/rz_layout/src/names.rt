@@ -10,7 +10,7 @@ use rz_types::{Field, takes_value};
 use rz_types_fields::values::{next_value, rows_in};
 use rz_types_fields::{Note, Row, Tree};
 
-/// Enters a body: the names of its arrays have the numbers of their rows.
+/// Enters a body: from here on the names of its arrays have the numbers of their rows, before those of the bodies around.
 pub fn enter<'a>(
     fields: &'a [Field],
     row: &[Tree],

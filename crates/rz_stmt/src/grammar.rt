@@ -33,7 +33,7 @@ pub enum Stmt {
     Declare(DeclareStmt),
 }
 
-/// The statement that the tokens of a span are. A refusal has the mark of its first token: 221 where more
+/// The statement that the tokens of a span are, or its first fault. A refusal has the mark of its first token: 221 where more
 /// than 64 brackets are open, in a `type` statement 60, or more than 1,024 tokens other than texts stand in a
 /// row without one of `{ } , ;`; else 201 where the tokens are no statement; else that of the first constant of
 /// a `type` statement, from left to right, without a value: 211 for a zero divisor, 215 for a shift by a count

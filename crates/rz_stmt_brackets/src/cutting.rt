@@ -52,7 +52,7 @@ fn statement_size(tokens: &[Token]) -> usize
     size
 }
 
-/// Whether it is `;`.
+/// Whether a token is the sign `;`, which ends a statement.
 pub fn is_semicolon(token: &Token) -> bool
     ensures { result ≡ is_semicolon token.now.shape }
 {

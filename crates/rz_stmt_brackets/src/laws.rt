@@ -35,7 +35,7 @@ pub fn pieces_are_cut()
         → IsBracketed bracket tokens parted → IsBracketed bracket tokens other → parted ≡ other }
 {}
 
-/// A law, with nothing to run: of all tokens it is decided what stands before the first such token outside brackets, and
+/// A law, with nothing to run: of all tokens it is decided what stands before the first dividing token outside brackets, and
 /// what behind it, and what stands in brackets at their front, and behind them: there is such a thing, or none.
 pub fn partings_are_decided()
     ensures first { (divider : Divider) (tokens : List Token) → (answer : Option Parted) × Decided (IsParted divider tokens) answer }

@@ -114,7 +114,7 @@ pub fn read_expressions(alloc: Global, pieces: &[&[Token]]) -> Result<Option<Exp
     Ok(Some(exprs))
 }
 
-/// Whether it is `=`.
+/// Whether a token is the sign `=`.
 pub fn is_equals(token: &Token) -> bool
     ensures { result ≡ is_equals token.now.shape }
 {

@@ -20,11 +20,12 @@ use rz_tools_answer::{NO_MEMORY, Outcome, READ_FAULT, carry_out, put_line};
 use rz_tools_args::{definitions_are_free, one_command};
 use std::alloc::Global;
 
-/// Does all that the program does. `words` are the words after the program's name.
+/// Carries out the one answer to the arguments: its outcome, the files, and what `out` and `err` get are the answer's.
+/// `words` are the arguments after the program's name. They have exactly one answer, if the folder tells its files
+/// ([`every_answer`], [`one_answer`]).
 ///
-/// The run carries out the answer to the words: its outcome, the files, and what `out` and `err` get are the
-/// answer's. Words have exactly one answer ([`every_answer`], [`one_answer`]). Usage comes exactly where the words are no command, and
-/// Refused only with the first fault. ReadFault and WriteFault come only where a read, or a write of the folder or of
+/// Usage comes exactly where the words are no command, and, if the folder tells its files, Refused only with the first
+/// fault. ReadFault and WriteFault come only where a read, or a write of the folder or of
 /// `out`, failed in this call. After Usage, Refused, ReadFault and NoMemory the folder is as before and `out` has got
 /// nothing; after WriteFault the writes before the one that failed are done, and all else is as before. After `derez`
 /// of a fork, where the resources that are shown have at most 16,777,212 bytes each, the text on `out` means these
@@ -47,7 +48,7 @@ pub fn run<F: Folder, O: Sink, E: Sink>(
         (world F.files F.read_faults F.write_faults O.written O.faults E.written E.faults folder.new out.new err.new) result) }
 
     // Where the folder tells its files, the words have exactly one answer, and a run that meets neither want of memory nor a
-    // fault of files ends with it.
+    // failed read or write ends with it.
     ensures complete { IfSome (F.files folder.old) (λ files. (answer : Answer) × IsOnlyAnswer (map string_bytes words.now) files moment answer
         × (IsUnhindered result → EndsWith answer
         (world F.files F.read_faults F.write_faults O.written O.faults E.written E.faults folder.old out.old err.old)

@@ -22,7 +22,7 @@ const NO_WORDS: u8 = 5;
 /// The status where there is no memory for the words.
 const NO_MEMORY: u8 = 4;
 
-/// Does all that the program does on the host.
+/// Runs the command of the host's arguments over the host's files, streams and clock, and gives the exit status.
 pub fn start(rt: HostRuntime) -> ExitCode {
     let mut err = RealSink::new(rt.stderr());
     let args = match env::args(&rt) {

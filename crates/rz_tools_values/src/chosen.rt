@@ -36,7 +36,7 @@ pub fn chosen_in_list<'a>(
     }
 }
 
-/// The same of the resources of a program.
+/// The resource of a program that a pick by id or name chooses, as `chosen_in_list` says it of the list of a file.
 pub fn chosen_in_set<'a>(
     alloc: Global,
     set: &'a ResSet,

@@ -31,7 +31,7 @@ pub fn file_named<F: Folder>(
     read_file(alloc, folder, &names, mark, name)
 }
 
-/// What a call gives that reads no files, as that of one that does.
+/// The bytes or the refusal of a call that reads no files, as a call gives them that does.
 pub fn bytes_halted(given: Result<Bytes, Stop<Fault>>) -> Result<Bytes, Halt<Fault>>
     ensures { result ≡ halted given }
 {

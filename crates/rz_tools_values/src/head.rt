@@ -71,7 +71,7 @@ pub fn head_facts(alloc: Global, kind: OsType, setting: Setting) -> Facts
     }
 }
 
-/// The id that a value is.
+/// The id that a value is, or 204 if it is outside -32768 to 32767.
 pub fn id_of(value: i32, mark: Mark) -> Result<i16, Stop<Fault>>
     ensures id { Gives (id_of mark value) result }
     ensures nameable { (files : ℕ) → mark.file < files → OnFault result (IsNameable files) }
@@ -83,7 +83,8 @@ pub fn id_of(value: i32, mark: Mark) -> Result<i16, Stop<Fault>>
     }
 }
 
-/// The name that a text is, or none.
+/// The name that the string of a header gives, no bytes if it has none, or the first fault: of the string, and then 216 of a
+/// name of more than 255 bytes.
 pub fn name_of(
     alloc: Global,
     name: &Option<Texts>,
@@ -104,7 +105,7 @@ pub fn name_of(
     Ok(bytes)
 }
 
-/// The bits behind the attributes, which begin from 0.
+/// The attributes that the words and numbers of a header give together, from 0 on, or the first fault.
 pub fn bits_of(
     alloc: Global,
     attributes: &AttrParts,

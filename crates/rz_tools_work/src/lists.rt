@@ -18,7 +18,7 @@ use rz_stmt_lists::ListStmt;
 use rz_tools_values::Setting;
 use std::alloc::Global;
 
-/// Does what a statement over lists on this line says, or answers with its first fault. What each statement is tested for,
+/// Does what an `include`, `read`, `change` or `delete` statement on this line says, or answers with its first fault. What each statement is tested for,
 /// in this order:
 ///
 /// - `include`: its file is there (101), is of a form and has a fork that break no rule; the ids of its pick (211, 215,

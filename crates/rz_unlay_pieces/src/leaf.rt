@@ -61,7 +61,7 @@ pub fn read_pieces<'a>(
     }
 }
 
-/// What was read, where there may be so many values. `None` where it counts more.
+/// What was read, if it has no more values than are left. `None` if it has more.
 pub fn spend(came: Came, left: u32) -> Option<Met>
     ensures met { (names : Environment) → option_map (met_in names) result ≡ few step_count left (Some (step_in names came)) }
     ensures after { IfSome result (λ met. met.after ≡ came.after) }

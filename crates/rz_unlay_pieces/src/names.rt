@@ -18,7 +18,7 @@ pub fn enter<'a>(fields: &'a [Field], notes: &mut Vec<Note<'a>>) -> Result<(), N
     Ok(())
 }
 
-/// The array of this name, where it has one, has so many rows. False where it is known to have another number.
+/// Notes that the array of this name, if it has one, has so many rows. False if it is known to have another number.
 pub fn claim_count<'a>(
     name: &'a Option<Word>,
     rows: u32,
