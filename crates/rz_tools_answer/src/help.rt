@@ -18,7 +18,7 @@ pub fn help_text() -> &'static [u8]
 
 rez compiles the sources into one resource fork. derez writes the resources of a fork
 as text to standard output; the files after the fork declare types. bridge writes a file
-in another form. The words of each command stand in any order:
+in another form. The arguments of each command stand in any order:
   -o NAME         the file that rez or bridge writes; of rez Rez.Out if none is named
   -a              rez starts from the file that has this name, and adds to it
   -ov             protected resources may be replaced, changed and deleted
@@ -29,7 +29,7 @@ in another form. The words of each command stand in any order:
   -from FORM      the form of the file that derez or bridge reads; else it is found
   -to FORM        the form in which bridge writes
   -i PATH         a folder in which included sources are looked for
-  -s PATH         a folder in which the files of include and read statements are looked for
+  -s PATH         a folder in which files of include and read statements are looked for
   -d NAME[=TEXT]  a macro that stands for the text, or for nothing
   -u NAME         a macro that is undefined again
   -rd             types may be declared again without a warning
@@ -38,10 +38,16 @@ in another form. The words of each command stand in any order:
                   derez doesn't show the resources of these types
 
 A form is raw (the resource fork alone), double (AppleDouble), macbin (MacBinary II) or
-hqx (BinHex 4.0).
+hqx (BinHex 4.0). With -form double or -to double, -o ._NAME is the header file, and the
+data fork is the file NAME beside it: bridge writes it if it isn't empty, rez doesn't.
+-to raw drops the data fork, the type and the creator.
 
-exit status: 0 done, 1 the words are no command, 2 refused, 3 a file can't be read
-or written, 4 no memory, 5 the host gives no words
+The moment of a run is SOURCE_DATE_EPOCH, if the environment has it: the seconds since
+1970, a decimal number up to 2208988799, the end of 2039. Else it is the clock's.
+
+exit status: 0 done, 1 the arguments are no command, 2 refused, 3 a file can't be read
+or written, 4 out of memory, 5 the host gives no arguments, or SOURCE_DATE_EPOCH is no
+moment
 "
 }
 

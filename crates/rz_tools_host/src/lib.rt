@@ -1,6 +1,6 @@
-//! The edge to the host: it gets the words, the files, the streams and the moment of the host, runs the command
-//! and gives the status of the run. It is proved to be safe and to return; what the host gives and does is
-//! trusted.
+//! The edge to the host: it gets the arguments, the files, the streams and the moment of the host, runs the command
+//! and gives the status of the run. It is proved to be safe and to return, and of the moment that it is the one that a
+//! text or a number of seconds tells; what the host gives and does is trusted.
 //! It rests on `rz_core`, `rz_folder` and `rz_tools`. The programs `rezkit` and `rezkit_refusal` are `start`
 //! alone.
 //! A status of its own, as 5, stands in the help text of `rz_tools_answer` and in README.md too.
@@ -8,54 +8,94 @@
 
 ghost use Rattle.rz_tools_host.specs.Clock.{IsMomentAt};
 
+mod epoch;
+
+use crate::epoch::moment_told;
 use rz_core::Moment;
 use rz_folder::{RealFolder, RealSink, Sink};
 use rz_tools::run;
 use std::env;
+use std::env::VarError;
 use std::io::ErrorKind;
 use std::process::ExitCode;
 use std::time::{Clock, SystemTime, UNIX_EPOCH};
 
-/// The status where the host gives no words, or one that isn't UTF-8.
-const NO_WORDS: u8 = 5;
+/// Why no run begins.
+#[derive(Clone, Copy)]
+enum Hindrance {
+    /// The host gives no arguments, or one that isn't UTF-8.
+    NoArguments,
+    /// `SOURCE_DATE_EPOCH` tells no moment.
+    NoMoment,
+    /// There is no memory for what the host gives.
+    NoMemory,
+}
 
-/// The status where there is no memory for the words.
-const NO_MEMORY: u8 = 4;
+impl Hindrance {
+    /// What is said of it.
+    fn line(self) -> &'static [u8] {
+        match self {
+            Hindrance::NoArguments => b"rezkit: no words\n",
+            Hindrance::NoMoment => b"rezkit: SOURCE_DATE_EPOCH isn't a decimal number from 0 to 2208988799\n",
+            Hindrance::NoMemory => b"rezkit: no memory\n",
+        }
+    }
+
+    /// The status with which the program ends.
+    fn status(self) -> u8 {
+        match self {
+            Hindrance::NoArguments | Hindrance::NoMoment => 5,
+            Hindrance::NoMemory => 4,
+        }
+    }
+}
 
 /// Runs the command of the host's arguments over the host's files, streams and clock, and gives the exit status.
 pub fn start(rt: HostRuntime) -> ExitCode {
     let mut err = RealSink::new(rt.stderr());
-    let args = match env::args(&rt) {
-        Ok(args) => args,
-        Err(error) if error.kind() == ErrorKind::OutOfMemory => return without_memory(&mut err),
-        Err(_) => {
-            let _ = err.put(b"rezkit: no words\n");
-            return ExitCode::from(NO_WORDS);
+    let (args, moment) = match given(&rt) {
+        Ok(given) => given,
+        Err(hindrance) => {
+            let _ = err.put(hindrance.line());
+            return ExitCode::from(hindrance.status());
         }
     };
-    let mut words = Vec::new(rt.alloc());
-    for word in args.skip(1) {
-        if words.push(word).is_err() {
-            return without_memory(&mut err);
-        }
-    }
-    let moment = moment_of(&rt);
     let mut out = RealSink::new(rt.stdout());
     let alloc = rt.alloc();
     let mut folder = RealFolder::new(rt);
-    let outcome = run(alloc, &words, &mut folder, &mut out, &mut err, moment);
+    let outcome = run(alloc, &args, &mut folder, &mut out, &mut err, moment);
     ExitCode::from(outcome.status())
 }
 
-/// Says that there is no memory for the words.
-fn without_memory<E: Sink>(err: &mut E) -> ExitCode {
-    let _ = err.put(b"rezkit: no memory\n");
-    ExitCode::from(NO_MEMORY)
+/// What the host gives to a run: its arguments, without the program's name, and its moment.
+fn given(rt: &HostRuntime) -> Result<(Vec<String>, Moment), Hindrance> {
+    Ok((args_of(rt)?, moment_of(rt)?))
 }
 
-/// The moment of the host's clock.
-fn moment_of(clock: &impl Clock) -> Moment {
-    moment_at(unix_seconds(clock))
+/// The arguments of the host, without the program's name.
+fn args_of(rt: &HostRuntime) -> Result<Vec<String>, Hindrance> {
+    let given = match env::args(rt) {
+        Ok(given) => given,
+        Err(error) if error.kind() == ErrorKind::OutOfMemory => return Err(Hindrance::NoMemory),
+        Err(_) => return Err(Hindrance::NoArguments),
+    };
+    let mut args = Vec::new(rt.alloc());
+    for arg in given.skip(1) {
+        if args.push(arg).is_err() {
+            return Err(Hindrance::NoMemory);
+        }
+    }
+    Ok(args)
+}
+
+/// The moment of the run: the one that `SOURCE_DATE_EPOCH` tells, if the environment has it, and else the clock's.
+fn moment_of(rt: &HostRuntime) -> Result<Moment, Hindrance> {
+    match env::var(rt, "SOURCE_DATE_EPOCH") {
+        Ok(text) => moment_told(&text).ok_or(Hindrance::NoMoment),
+        Err(VarError::NotPresent) => Ok(moment_at(unix_seconds(rt))),
+        Err(VarError::NotUnicode) => Err(Hindrance::NoMoment),
+        Err(VarError::OutOfMemory) => Err(Hindrance::NoMemory),
+    }
 }
 
 /// The moment so many seconds after the first second of 1970. One that is outside the range of moments, or can't be
