@@ -16,7 +16,7 @@ use rz_expr::{Role, TextWord, read_whole, role_of};
 use rz_lex::{Shape, Token};
 use rz_stmt_brackets::{Bracket, Divider, bracketed, kind_in, pieces_by};
 use rz_types_fields::{
-    FileResource, Format, FormatArg, FormatArgs, ResKey, TextPart, TextPlace, Texts, may_stand,
+    FileResource, FormatArg, FormatArgs, ResKey, TextPart, TextPlace, Texts, may_stand,
 };
 use std::alloc::Global;
 
@@ -231,7 +231,7 @@ fn read_formatted(
     };
     match read_arguments(alloc, others)? {
         Some(arguments) => {
-            let format = Format { text, arguments };
+            let format = rz_types_fields::Format { text, arguments };
             Ok(Some(TextPart::Format(Box::new(alloc, format)?)))
         }
         None => Ok(None),

@@ -6,7 +6,7 @@ use Rattle.rz_core.specs.declared.facts.Facts.{Facts}
 use Rattle.rz_core.specs.declared.fault.Fault.{Fault}
 use Rattle.rz_core.specs.declared.fault.Mark.{Mark}
 use Rattle.rz_core.proofs.SoFar.{so_far}
-use Rattle.rz_types_fields.specs.Text.{argument_and, argument_step, arguments_of, key_step, no_arguments, part_and, part_step, parts_of, plain_argument, plain_parts, Text, PlainArgument, PlainArguments, PlainKey, PlainPart, PlainParts}
+use Rattle.rz_types_fields.specs.Text.{argument_and, argument_step, arguments_of, format_step, key_step, no_arguments, part_and, part_step, resource_step, parts_of, plain_argument, plain_parts, Text, PlainArgument, PlainArguments, PlainKey, PlainPart, PlainParts}
 use Rattle.rz_types_fields.specs.declared.text.FormatArg.{FormatArg}
 use Rattle.rz_types_fields.specs.declared.text.FormatArg.TheFolds.{fold-roll-FormatArg}
 use Rattle.rz_types_fields.specs.declared.text.FormatArg.TheOpen.{FormatArg-F}

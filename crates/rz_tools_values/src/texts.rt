@@ -15,7 +15,7 @@ use rz_core::{
 };
 use rz_folder::Folder;
 use rz_set::Pick;
-use rz_types_fields::{Format, FormatArg, FormatArgs, ResKey, TextPart, Texts, text_of};
+use rz_types_fields::{FormatArg, FormatArgs, ResKey, TextPart, Texts, text_of};
 use std::alloc::Global;
 
 /// A text in which what the files give that it names has taken the place of the parts that name them, those in the
@@ -84,9 +84,9 @@ fn read_part<F: Folder>(
             }
         }
         TextPart::Format(format) => {
-            let Format { text, arguments } = Box::into_inner(format);
-            match read_arguments(alloc, folder, paths, arguments, mark, known) {
-                Ok(arguments) => Ok(format_of(alloc, text, arguments)?),
+            let format = Box::into_inner(format);
+            match read_arguments(alloc, folder, paths, format.arguments, mark, known) {
+                Ok(arguments) => Ok(format_of(alloc, format.text, arguments)?),
                 Err(halt) => Err(halt),
             }
         }
@@ -97,7 +97,8 @@ fn read_part<F: Folder>(
 fn format_of(alloc: Global, text: Bytes, arguments: FormatArgs) -> Result<TextPart, NoMemory>
     ensures { IfOk result (λ part. plain_part part ≡ Format text (arguments_of (plain_arguments arguments))) }
 {
-    Ok(TextPart::Format(Box::new(alloc, Format { text, arguments })?))
+    let format = rz_types_fields::Format { text, arguments };
+    Ok(TextPart::Format(Box::new(alloc, format)?))
 }
 
 /// The arguments of a format, from left to right.
