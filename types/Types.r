@@ -385,10 +385,10 @@ type 'dftb' {
                     kDialogFontUseFaceMask = 0x0002, kDialogFontUseSizeMask = 0x0004,
                     kDialogFontUseForeColorMask = 0x0008, kDialogFontUseBackColorMask = 0x0010,
                     kDialogFontUseModeMask = 0x0020, kDialogFontUseJustMask = 0x0040,
-                    kDialogFontUseAllMask = 0x00FF, kDialogFontAddFontSizeMask = 0x0100,
-                    kDialogFontUseFontNameMask = 0x0200;
+                    kDialogFontUseThemeFontIDMask = 0x0080, kDialogFontUseAllMask = 0x00FF,
+                    kDialogFontAddFontSizeMask = 0x0100, kDialogFontUseFontNameMask = 0x0200;
                 integer kControlFontBigSystemFont = -1, kControlFontSmallSystemFont = -2,
-                    kControlFontSmallBoldSystemFont = -3;
+                    kControlFontSmallBoldSystemFont = -3, kControlFontViewSystemFont = -4;
                 integer;                                // size
                 integer;                                // style
                 integer;                                // mode
@@ -407,6 +407,25 @@ type 'actb' as 'wctb';
 
 
 /* ---- Controls ---- */
+
+/* What a pop-up menu has in the value of its control, and what is added to popupMenuProc. They are macros, so the
+   values of other controls aren't shown by them. */
+#define popupMenuCDEFproc popupMenuProc
+#define popupTitleLeftJust 0x0000
+#define popupTitleCenterJust 0x0001
+#define popupTitleRightJust 0x00FF
+#define popupTitleBold 0x0100
+#define popupTitleItalic 0x0200
+#define popupTitleUnderline 0x0400
+#define popupTitleOutline 0x0800
+#define popupTitleShadow 0x1000
+#define popupTitleCondense 0x2000
+#define popupTitleExtend 0x4000
+#define popupTitleNoStyle 0x8000
+#define popupFixedWidth 1
+#define popupVariableWidth 2
+#define popupUseAddResMenu 4
+#define popupUseWFont 8
 
 /* A control. Items: {top, left, bottom, right}, value, visible or not, maximum, minimum, what it is drawn by, a
    number for the program, "title". Essentials, Control Manager. */
@@ -432,8 +451,7 @@ type 'CNTL' {
         kControlListBoxProc = 352, kControlListBoxAutoSizeProc = 353, kControlPushButtonProc = 368,
         kControlCheckBoxProc = 369, kControlRadioButtonProc = 370, kControlScrollBarProc = 384,
         kControlScrollBarLiveProc = 386, kControlPopupButtonProc = 400, kControlRadioGroupProc = 416,
-        popupMenuProc = 1008, popupMenuCDEFproc = 1008,
-        popupFixedWidth = 1, popupUseAddResMenu = 4, popupUseWFont = 8;
+        popupMenuProc = 1008;
     longint;                                            // for the program
     pstring;                                            // title
 };
