@@ -139,7 +139,7 @@ def menus():
     one("MBAR", "{\n128; 129; 130\n}", "0003 0080 0081 0082")
     one("mctb", "{\nmctAllItems; 0\n{\n0; 0; 0; 1; 1; 1; 2; 2; 2; 65535; 65535; 65535\n}\n129; 1\n{\n9; 8; 7; 6; 5; 4; 3; 2; 1; 0; 0; 0\n}\n}",
         "0002 FF9E 0000 0000*3 0001*3 0002*3 FFFF*3 0000 0081 0001 0009 0008 0007 0006 0005 0004 0003 0002 0001 0000*3 0000")
-    one("xmnu", "versionZero {\n{\ndataItem {\n16; 0x02; currScript; 7; 0; noHierID; sysFont; naturalGlyph\n}\nskipItem {\n}\n}\n}",
+    one("xmnu", "versionZero {\n{\ndataItem {\n16; kMenuOptionModifier; currScript; 7; 0; noHierID; sysFont; naturalGlyph\n}\nskipItem {\n}\n}\n}",
         "0000 0002 0001 00000010 02 00 00000000 FFFFFFFE 00000007 00000000 0000 0000 0000 0000")
 
 
@@ -325,7 +325,7 @@ def words():
         0001 "cobj" 0002 "indx" "name"
         0001 06 "starts" 00 "bgwt" 00 00
         0001 "savo" 0001 03 "yes" "yes " 03 "Yes" """, 0)
-    one("aeut", "0x01; 0x00; japanese; 1\n{\n}", "01 00 000B 0001 0000", 0)
+    one("aeut", "0x01; 0x00; japanese; japanese\n{\n}", "01 00 000B 0001 0000", 0)
 
 
 def helps():

@@ -164,7 +164,8 @@ type 'xmnu' {
             case dataItem:
                 key integer = 1;
                 unsigned longint;                       // command
-                unsigned hex byte;                      // modifiers of the key
+                unsigned hex byte kMenuNoModifiers = 0, kMenuShiftModifier = 1, kMenuOptionModifier = 2,
+                    kMenuControlModifier = 4, kMenuNoCommandModifier = 8;
                 fill byte;                              // kind of icon
                 fill long;                              // handle of the icon
                 longint sysScript = -1, currScript = -2; // text encoding
@@ -312,7 +313,7 @@ type 'DITL' {
                 byte = 6;
                 key integer = 8;
                 integer;                                // id of the hdlg
-                integer;                                // number of the item that its first part is for, less one
+                integer;                                // offset of its first item
             };
         case Button:
             boolean enabled, disabled;
@@ -920,8 +921,10 @@ type 'aete' {
     hex byte;
     integer english = 0, french = 1, german = 2, italian = 3, dutch = 4, swedish = 5, spanish = 6, danish = 7,
         portuguese = 8, norwegian = 9, hebrew = 10, japanese = 11, arabic = 12, finnish = 13, greek = 14,
-        icelandic = 15;
-    integer roman = 0, tradChinese = 2, korean = 3, cyrillic = 7, simpChinese = 25;
+        icelandic = 15, maltese = 16, turkish = 17, croatian = 18, tradChinese = 19, urdu = 20, hindi = 21, thai = 22,
+        korean = 23;
+    integer roman = 0, japanese = 1, tradChinese = 2, korean = 3, arabic = 4, hebrew = 5, greek = 6, cyrillic = 7,
+        simpChinese = 25;
     integer = $$CountOf(Suites);
     array Suites {
         pstring;                                        // name
@@ -1043,7 +1046,7 @@ type 'hwin' {
     wide array HelpWindowArray {
         integer;                                        // id
         literal longint;                                // hrct or hdlg
-        integer;                                        // how many bytes of the title; a kind if negative
+        integer;                                        // how many bytes of the title, or the kind
         pstring;
         align word;
     };
