@@ -12,7 +12,8 @@ type 'vers' {
     pstring; pstring;
 };
 
-// A menu: its id, which items can be chosen, its title and its items.
+// A menu: its id, which items can be chosen, its title and its items. It is shorter than the standard MENU, which is in
+// types/Types.r and takes `textMenuProc` and `enabled` as items too, so that the example stands for itself.
 type 'MENU' {
     integer; fill word[2]; integer = 0; fill word;
     unsigned hex longint allEnabled = 0xFFFFFFFF;
