@@ -1,18 +1,18 @@
 /* Types.r: the standard types of the Toolbox, the Finder and the system, as declarations for rezkit.
 
-   rez -i types SOURCE.r         a source has #include "Types.r", or one of the names beside this file, as "SysTypes.r"
-   derez FORK types/Types.r      shows a fork by these types
+   rez -i types SOURCE.r      the source has #include "Types.r", or the name of a file beside this one, as "SysTypes.r"
+   derez FORK types/Types.r   shows a fork by these types
 
-   All types stand in this one file, since a type file of derez finds what it includes by -i alone. Including it
-   twice, by whatever names, declares nothing twice.
+   All types stand in this one file, since a type file of derez finds what it includes by -i alone. If it is included
+   twice, by whatever names, nothing is declared twice.
 
    Macros that choose (by -d, or by #define before the #include):
 
    SystemSevenOrLater   1 unless stated: the items of WIND, DLOG and ALRT end in a position on the screen. 0 is the
                         form of before System 7, without it.
-   EitherSystem         For derez of whatever there is, and for rez of what it shows; not for sources. The position
+   EitherSystem         For derez of a fork of any age, and for rez of its text; not for other sources. The position
                         of WIND, DLOG and ALRT is a list of none or one, the width and height of a MENU are items,
-                        and what stands behind the short form of a thng is shown as bytes.
+                        and what stands behind the short form of a thng is a string.
    thng_RezTemplateVersion, UseExtendedThingTemplate
                         which form of thng: 0 (the short one, unless stated), 1 (also by UseExtendedThingTemplate) or 2.
 
@@ -33,15 +33,18 @@
    help        hwin hrct
    tools       DRVW TMPL MPSR Estr
 
-   Names of books in the comments are those of Inside Macintosh: Essentials is Macintosh Toolbox Essentials, More is
-   More Macintosh Toolbox, and Text, Sound, Imaging (With QuickDraw), Advanced Color Imaging, Processes, Devices and
-   Interapplication Communication are themselves. Behind "Items:" stands what a source writes, in order; [..] marks
-   an item that not all forms have.
+   Macros that stay, for sources: apple, Untitled, those of pop-up menus (popupTitleLeftJust and so on), Reserved8,
+   Reserved9, Reserved12 and Reserved13.
 
-   Not here, since they need labels in types, which the language doesn't have yet: hmnu, hdlg, hfdr and hovr, whose
-   parts begin with their length; cfrg; ictb; the parts of cicn, ppat, crsr, snd, NFNT and FOND behind the fields that
-   are shown, which stand as bytes; and those DITL whose padding byte behind an odd text isn't zero, as ResEdit
-   leaves some, which derez shows as data. */
+   Each comment says behind "Items:" what a source writes, in order, where [..] is an item that not all forms have, and
+   then the book of Inside Macintosh that has the layout, and its chapter: Essentials is Macintosh Toolbox Essentials,
+   More is More Macintosh Toolbox, Imaging is Imaging With QuickDraw, and the others have their own names. Types
+   without a book are of Mac OS 8 or of a tool.
+
+   What needs labels in types, which the language doesn't have yet: hmnu, hdlg, hfdr and hovr, whose parts begin with
+   their length, cfrg and ictb, which aren't here; of cicn, ppat, crsr, snd, NFNT, FONT and FOND the parts behind the
+   fields that stand here, which are one string; and a DITL whose padding behind an odd text isn't zero, as ResEdit
+   leaves it now and then, which derez shows as data. */
 #ifndef __TYPES_R__
 #define __TYPES_R__
 
@@ -151,7 +154,7 @@ type 'mctb' {
 };
 
 /* What Mac OS 8 keeps of a menu beside MENU. Items: versionZero { { dataItem { command, modifiers, text encoding,
-   two numbers for the program, id of a submenu, font, glyph of the key }; skipItem { }; .. } }. */
+   two refCons, id of a submenu, font, glyph of the key }; skipItem { }; .. } }. */
 type 'xmnu' {
     switch {
     case versionZero:
@@ -169,8 +172,8 @@ type 'xmnu' {
                 fill byte;                              // kind of icon
                 fill long;                              // handle of the icon
                 longint sysScript = -1, currScript = -2; // text encoding
-                unsigned longint;                       // for the program
-                unsigned longint;
+                unsigned longint;                       // refCon
+                unsigned longint;                       // another one
                 unsigned integer noHierID = 0;          // id of the submenu
                 unsigned integer sysFont = 0;
                 integer naturalGlyph = 0;
@@ -182,7 +185,7 @@ type 'xmnu' {
 
 /* ---- Windows ---- */
 
-/* What a WIND and a DLOG are drawn by: the definition's id times 16, and a variation. */
+/* The procID of a WIND and a DLOG: 16 times the id of a WDEF, and a variation. */
 #define WINDOWPROCS documentProc = 0, dBoxProc = 1, plainDBox = 2, altDBoxProc = 3, noGrowDocProc = 4, \
     movableDBoxProc = 5, zoomDocProc = 8, zoomNoGrow = 12, rDocProc = 16, \
     kWindowDocumentProc = 1024, kWindowGrowDocumentProc = 1025, kWindowVertZoomDocumentProc = 1026, \
@@ -211,8 +214,8 @@ type 'xmnu' {
 /* The title that a new window has in many sources. */
 #define Untitled "Untitled"
 
-/* A window. Items: {top, left, bottom, right}, what it is drawn by, visible or not, goAway or not, a number for the
-   program, "title", [position]. Essentials, Window Manager. */
+/* A window. Items: {top, left, bottom, right}, procID, visible or not, goAway or not, refCon, "title", [position].
+   Essentials, Window Manager. */
 type 'WIND' {
     rect;
     integer WINDOWPROCS;
@@ -220,8 +223,8 @@ type 'WIND' {
     fill byte;
     byte noGoAway, goAway;
     fill byte;
-    unsigned hex longint;
-    pstring;
+    unsigned hex longint;                               // refCon
+    pstring;                                            // title
 #ifdef EitherSystem
     array {
         align word;
@@ -256,9 +259,9 @@ type 'DLOG' {
     fill byte;
     byte noGoAway, goAway;
     fill byte;
-    unsigned hex longint;
+    unsigned hex longint;                               // refCon
     integer;                                            // id of the DITL
-    pstring;
+    pstring;                                            // title
 #ifdef EitherSystem
     array {
         align word;
@@ -428,8 +431,8 @@ type 'actb' as 'wctb';
 #define popupUseAddResMenu 4
 #define popupUseWFont 8
 
-/* A control. Items: {top, left, bottom, right}, value, visible or not, maximum, minimum, what it is drawn by, a
-   number for the program, "title". Essentials, Control Manager. */
+/* A control. Items: {top, left, bottom, right}, value, visible or not, maximum, minimum, procID, refCon, "title".
+   Essentials, Control Manager. */
 type 'CNTL' {
     rect;
     integer;                                            // value
@@ -453,7 +456,7 @@ type 'CNTL' {
         kControlCheckBoxProc = 369, kControlRadioButtonProc = 370, kControlScrollBarProc = 384,
         kControlScrollBarLiveProc = 386, kControlPopupButtonProc = 400, kControlRadioGroupProc = 416,
         popupMenuProc = 1008;
-    longint;                                            // for the program
+    longint;                                            // refCon
     pstring;                                            // title
 };
 
@@ -1059,8 +1062,8 @@ type 'hrct' {
     integer HelpMgrVersion = 2;
     longint hmDefaultOptions = 0, hmUseSubID = 1, hmAbsoluteCoords = 2, hmSaveBitsNoWindow = 4, hmSaveBitsWindow = 8,
         hmMatchInTitle = 16;
-    integer;                                            // what a balloon is drawn by
-    integer;                                            // which form of it
+    integer;                                            // id of the WDEF of balloons
+    integer;                                            // variation
     integer = $$CountOf(HelpRectArray);
     wide array HelpRectArray {
         switch {
