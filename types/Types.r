@@ -60,9 +60,9 @@
 #endif
 #endif
 
-/* Lists that several types share. They are undefined at the end. */
-#define STYLES plain = 0, bold = 1, italic = 2, underline = 4, outline = 8, shadow = 16, condense = 32, extend = 64
-#define RGB unsigned integer; unsigned integer; unsigned integer
+/* What several types share. Macros that begin with types_ are undefined at the end. */
+#define types_styles plain = 0, bold = 1, italic = 2, underline = 4, outline = 8, shadow = 16, condense = 32, extend = 64
+#define types_rgb unsigned integer; unsigned integer; unsigned integer
 
 
 /* ---- Texts ---- */
@@ -94,10 +94,10 @@ type 'styl' {
         integer;                                        // height of the line
         integer;                                        // ascent
         integer;                                        // font
-        unsigned hex byte STYLES;
+        unsigned hex byte types_styles;
         fill byte;
         integer;                                        // size
-        RGB;
+        types_rgb;
     };
 };
 
@@ -126,7 +126,7 @@ type 'MENU' {
         unsigned byte noIcon;                           // number of an icon, less 256
         char noKey = "\0x00", hierarchicalMenu = "\0x1B";
         char noMark = "\0x00", check = "\0x12";         // or the id of the menu that hangs here
-        unsigned hex byte STYLES;
+        unsigned hex byte types_styles;
     };
     byte = 0;
 };
@@ -147,7 +147,7 @@ type 'mctb' {
         integer mctAllItems = -98, mctLastIDIndic = -99;
         integer;                                        // number of the item
         wide array [4] {
-            RGB;
+            types_rgb;
         };
         fill word;
     };
@@ -186,7 +186,7 @@ type 'xmnu' {
 /* ---- Windows ---- */
 
 /* The procID of a WIND and a DLOG: 16 times the id of a WDEF, and a variation. */
-#define WINDOWPROCS documentProc = 0, dBoxProc = 1, plainDBox = 2, altDBoxProc = 3, noGrowDocProc = 4, \
+#define types_window_procs documentProc = 0, dBoxProc = 1, plainDBox = 2, altDBoxProc = 3, noGrowDocProc = 4, \
     movableDBoxProc = 5, zoomDocProc = 8, zoomNoGrow = 12, rDocProc = 16, \
     kWindowDocumentProc = 1024, kWindowGrowDocumentProc = 1025, kWindowVertZoomDocumentProc = 1026, \
     kWindowVertZoomGrowDocumentProc = 1027, kWindowHorizZoomDocumentProc = 1028, \
@@ -201,7 +201,7 @@ type 'xmnu' {
     floatSideGrowProc = 1995, floatSideZoomProc = 1997, floatSideZoomGrowProc = 1999
 
 /* Where a window, a dialog or an alert comes up, from System 7 on. */
-#define POSITIONS noAutoCenter = 0x0000, staggerParentWindow = 0xB80A, alertPositionParentWindow = 0xB00A, \
+#define types_positions noAutoCenter = 0x0000, staggerParentWindow = 0xB80A, alertPositionParentWindow = 0xB00A, \
     centerParentWindow = 0xA80A, staggerParentWindowScreen = 0x780A, \
     alertPositionParentWindowScreen = 0x700A, centerParentWindowScreen = 0x680A, \
     staggerMainScreen = 0x380A, alertPositionMainScreen = 0x300A, centerMainScreen = 0x280A, \
@@ -218,7 +218,7 @@ type 'xmnu' {
    Essentials, Window Manager. */
 type 'WIND' {
     rect;
-    integer WINDOWPROCS;
+    integer types_window_procs;
     byte invisible, visible;
     fill byte;
     byte noGoAway, goAway;
@@ -228,11 +228,11 @@ type 'WIND' {
 #ifdef EitherSystem
     array {
         align word;
-        unsigned hex integer POSITIONS;
+        unsigned hex integer types_positions;
     };
 #elif SystemSevenOrLater
     align word;
-    unsigned hex integer POSITIONS;
+    unsigned hex integer types_positions;
 #endif
 };
 
@@ -244,7 +244,7 @@ type 'wctb' {
     wide array ColorSpec {
         integer wContentColor, wFrameColor, wTextColor, wHiliteColor, wTitleBarColor, wHiliteColorLight,
             wHiliteColorDark, wTitleBarLight, wTitleBarDark, wDialogLight, wDialogDark, wTingeLight, wTingeDark;
-        RGB;
+        types_rgb;
     };
 };
 
@@ -254,7 +254,7 @@ type 'wctb' {
 /* A dialog. Items: those of a WIND, with the id of its DITL before the title. Essentials, Dialog Manager. */
 type 'DLOG' {
     rect;
-    integer WINDOWPROCS;
+    integer types_window_procs;
     byte invisible, visible;
     fill byte;
     byte noGoAway, goAway;
@@ -265,11 +265,11 @@ type 'DLOG' {
 #ifdef EitherSystem
     array {
         align word;
-        unsigned hex integer POSITIONS;
+        unsigned hex integer types_positions;
     };
 #elif SystemSevenOrLater
     align word;
-    unsigned hex integer POSITIONS;
+    unsigned hex integer types_positions;
 #endif
 };
 
@@ -285,10 +285,10 @@ type 'ALRT' {
     };
 #ifdef EitherSystem
     array {
-        unsigned hex integer POSITIONS;
+        unsigned hex integer types_positions;
     };
 #elif SystemSevenOrLater
-    unsigned hex integer POSITIONS;
+    unsigned hex integer types_positions;
 #endif
 };
 
@@ -397,8 +397,8 @@ type 'dftb' {
                 integer;                                // style
                 integer;                                // mode
                 integer;                                // justification
-                RGB;
-                RGB;
+                types_rgb;
+                types_rgb;
                 pstring;                                // name of the font
             };
         };
@@ -467,7 +467,7 @@ type 'cctb' {
     integer = $$CountOf(ColorSpec) - 1;
     wide array ColorSpec {
         integer cFrameColor, cBodyColor, cTextColor, cThumbColor;
-        RGB;
+        types_rgb;
     };
 };
 
@@ -550,20 +550,20 @@ type 'SICN' {
 /* A picture of points in memory, as it stands in cicn, crsr and ppat: where its points are, 8000 and the bytes of a
    row, its place, version, packing and packed size, points to the inch, kind, bits of a point, parts of a point, bits
    of a part, distance of planes, where its colour table is, reserved. Imaging, Color QuickDraw. */
-#define PIXMAP unsigned hex longint; unsigned hex integer; rect; integer; integer unpacked = 0; unsigned longint; \
+#define types_pixmap unsigned hex longint; unsigned hex integer; rect; integer; integer unpacked = 0; unsigned longint; \
     unsigned hex longint; unsigned hex longint; integer chunky, chunkyPlanar, planar; integer; integer; integer; \
     unsigned longint; unsigned longint; unsigned hex longint
 
 /* The same with one bit for each point: where its bits are, the bytes of a row, its place. Imaging, Basic QuickDraw. */
-#define BITMAP unsigned hex longint; integer; rect
+#define types_bitmap unsigned hex longint; integer; rect
 
 /* An icon in colour. Items: the fields of its three pictures (in colour, mask, bits), and then as one string the
    points of the mask, those of the bits, the colour table and the points in colour, which sources for MPW write as
    items of their own; that takes labels. */
 type 'cicn' {
-    PIXMAP;
-    BITMAP;                                             // mask
-    BITMAP;                                             // bits
+    types_pixmap;
+    types_bitmap;                                             // mask
+    types_bitmap;                                             // bits
     unsigned hex longint;                               // handle of the points
     hex string;
 };
@@ -604,7 +604,7 @@ type 'crsr' {
     point;
     unsigned longint;                                   // seed of the colour table
     unsigned longint;                                   // id
-    PIXMAP;
+    types_pixmap;
     hex string;
 };
 
@@ -629,7 +629,7 @@ type 'ppat' {
     integer;                                            // -1: to be expanded
     fill long;
     hex string[8];
-    PIXMAP;
+    types_pixmap;
     hex string;
 };
 
@@ -651,7 +651,7 @@ type 'clut' {
     integer = $$CountOf(ColorSpec) - 1;
     wide array ColorSpec {
         integer;
-        RGB;
+        types_rgb;
     };
 };
 
@@ -660,7 +660,7 @@ type 'pltt' {
     integer = $$CountOf(ColorInfo);
     fill word[7];
     wide array ColorInfo {
-        RGB;
+        types_rgb;
         unsigned hex integer pmCourteous = 0x0000, pmDithered = 0x0001, pmTolerant = 0x0002, pmAnimated = 0x0004,
             pmExplicit = 0x0008, pmWhite = 0x0010, pmBlack = 0x0020, pmInhibitG2 = 0x0100, pmInhibitC2 = 0x0200,
             pmInhibitG4 = 0x0400, pmInhibitC4 = 0x0800, pmInhibitG8 = 0x1000, pmInhibitC8 = 0x2000;
@@ -722,7 +722,7 @@ type 'FOND' {
     integer = $$CountOf(FontAssociation) - 1;
     wide array FontAssociation {
         integer;                                        // size; 0 is an outline
-        unsigned hex integer STYLES;
+        unsigned hex integer types_styles;
         integer;                                        // id of the FONT, NFNT or sfnt
     };
     hex string;
@@ -913,8 +913,8 @@ type 'nrct' {
 #define Reserved12 Reserved8, reserved, reserved, reserved, reserved
 #define Reserved13 Reserved12, reserved
 
-#define FLAG boolean reserved
-#define FLAGS8 FLAG; FLAG; FLAG; FLAG; FLAG; FLAG; FLAG; FLAG
+#define types_flag boolean reserved
+#define types_flags8 types_flag; types_flag; types_flag; types_flag; types_flag; types_flag; types_flag; types_flag
 
 /* What an application can be told by Apple events (id 0). Items: 0x01, 0x00, english, roman, { suites }; a suite is its
    name, a text, 'code', level, version, { events }, { classes }, { comparisons }, { enumerations }, and what these are
@@ -950,7 +950,7 @@ type 'aete' {
             boolean singleItem, listOfItems, reserved = 0;
             boolean notEnumerated, enumerated, reserved = 0;
             boolean notTightBindingFunction, tightBindingFunction, reserved = 0;
-            FLAG; FLAG; FLAG; FLAG; FLAGS8;
+            types_flag; types_flag; types_flag; types_flag; types_flags8;
             literal longint noParams = 'null';          // type of the direct parameter
             pstring;                                    // its text
             align word;
@@ -958,7 +958,7 @@ type 'aete' {
             boolean singleItem, listOfItems, reserved = 0;
             boolean notEnumerated, enumerated, reserved = 0;
             boolean doesntChangeState, changesState, reserved = 0;
-            FLAG; FLAG; FLAG; FLAG; FLAGS8;
+            types_flag; types_flag; types_flag; types_flag; types_flags8;
             integer = $$CountOf(OtherParams);
             array OtherParams {
                 pstring;                                // name
@@ -970,7 +970,7 @@ type 'aete' {
                 boolean required, optional;
                 boolean singleItem, listOfItems, reserved = 0;
                 boolean notEnumerated, enumerated, reserved = 0;
-                FLAG; FLAGS8;
+                types_flag; types_flags8;
                 boolean prepositionParam, labeledParam, reserved = 0;
                 boolean notFeminine, feminine, reserved = 0;
                 boolean notMasculine, masculine, reserved = 0;
@@ -992,11 +992,11 @@ type 'aete' {
                 literal longint;                        // type
                 pstring;                                // text
                 align word;
-                FLAG;
+                types_flag;
                 boolean singleItem, listOfItems, reserved = 0;
                 boolean notEnumerated, enumerated, reserved = 0;
                 boolean readOnly, readWrite, reserved = 0;
-                FLAGS8;
+                types_flags8;
                 boolean noApostrophe, apostrophe, reserved = 0;
                 boolean notFeminine, feminine, reserved = 0;
                 boolean notMasculine, masculine, reserved = 0;
@@ -1153,13 +1153,12 @@ type 'MPSR' (1007) {
 type 'Estr' as 'STR ';
 
 
-/* Names of this file alone. */
-#undef STYLES
-#undef RGB
-#undef WINDOWPROCS
-#undef POSITIONS
-#undef PIXMAP
-#undef BITMAP
-#undef FLAG
-#undef FLAGS8
+#undef types_styles
+#undef types_rgb
+#undef types_window_procs
+#undef types_positions
+#undef types_pixmap
+#undef types_bitmap
+#undef types_flag
+#undef types_flags8
 #endif
