@@ -506,7 +506,7 @@ type 'ICN#' {
     };
 };
 
-/* Icons of 32 by 32 points with 4 and with 8 bits each. Items: $"..". */
+/* Icons of 32 by 32 pixels with 4 and with 8 bits each. Items: $"..". */
 type 'icl4' {
     hex string[512];
 };
@@ -514,7 +514,7 @@ type 'icl8' {
     hex string[1024];
 };
 
-/* Small icons, 16 by 16 points: of bits with a mask, and with 4 and 8 bits. Items: as above. */
+/* Small icons, 16 by 16 pixels: of bits with a mask, and with 4 and 8 bits. Items: as above. */
 type 'ics#' {
     array {
         hex string[32];
@@ -527,7 +527,7 @@ type 'ics8' {
     hex string[256];
 };
 
-/* Mini icons, 12 lines of 16 points: of bits with a mask, and with 4 and 8 bits. Items: as above. */
+/* Mini icons, 12 rows of 16 pixels: of bits with a mask, and with 4 and 8 bits. Items: as above. */
 type 'icm#' {
     array {
         hex string[24];
@@ -547,31 +547,31 @@ type 'SICN' {
     };
 };
 
-/* A picture of points in memory, as it stands in cicn, crsr and ppat: where its points are, 8000 and the bytes of a
-   row, its place, version, packing and packed size, points to the inch, kind, bits of a point, parts of a point, bits
-   of a part, distance of planes, where its colour table is, reserved. Imaging, Color QuickDraw. */
+/* A pixel map, as it stands in cicn, crsr and ppat: where its pixels are, 8000 and the bytes of a row, bounds, version,
+   packing and packed size, pixels to the inch (across and down), kind, bits of a pixel, components, bits of one,
+   distance of planes, where its colour table is, reserved. Imaging, Color QuickDraw. */
 #define types_pixmap unsigned hex longint; unsigned hex integer; rect; integer; integer unpacked = 0; unsigned longint; \
     unsigned hex longint; unsigned hex longint; integer chunky, chunkyPlanar, planar; integer; integer; integer; \
     unsigned longint; unsigned longint; unsigned hex longint
 
-/* The same with one bit for each point: where its bits are, the bytes of a row, its place. Imaging, Basic QuickDraw. */
+/* A bit map: where its bits are, the bytes of a row, bounds. Imaging, Basic QuickDraw. */
 #define types_bitmap unsigned hex longint; integer; rect
 
-/* An icon in colour. Items: the fields of its three pictures (in colour, mask, bits), and then as one string the
-   points of the mask, those of the bits, the colour table and the points in colour, which sources for MPW write as
+/* An icon in colour. Items: the fields of its pixel map and of its two bit maps (mask and icon), a handle, and then as
+   one string the bits of the mask, those of the icon, the colour table and the pixels, which sources for MPW write as
    items of their own; that takes labels. */
 type 'cicn' {
     types_pixmap;
-    types_bitmap;                                             // mask
-    types_bitmap;                                             // bits
-    unsigned hex longint;                               // handle of the points
+    types_bitmap;                                       // mask
+    types_bitmap;                                       // bits
+    unsigned hex longint;                               // handle of the pixels
     hex string;
 };
 
 
 /* ---- Cursors, patterns and pictures ---- */
 
-/* A cursor: 16 by 16 bits, its mask, and the point that counts. Items: $"..", $"..", {down, right}. Imaging, Cursor
+/* A cursor: 16 by 16 bits, its mask, and its hot spot. Items: $"..", $"..", {down, right}. Imaging, Cursor
    Utilities. */
 type 'CURS' {
     hex string[32];
@@ -589,13 +589,12 @@ type 'acur' {
     };
 };
 
-/* A cursor in colour. Items: kind, two that the system sets, $"..", $"..", {down, right}, two more, the fields of its
-   picture in colour, and then its points and its colour table as one string; to part them takes labels. Imaging,
-   Cursor Utilities. */
+/* A cursor in colour. Items: kind, $"..", $"..", {down, right}, seed, id, the fields of its pixel map, and then its
+   pixels and its colour table as one string; to part them takes labels. Imaging, Cursor Utilities. */
 type 'crsr' {
     unsigned hex integer oldCursor = 0x8000, newCursor = 0x8001;
-    longint = 96;                                       // where the picture in colour begins
-    longint = 146;                                      // where its points begin
+    longint = 96;                                       // where the pixel map begins
+    longint = 146;                                      // where its pixels begin
     fill long;
     fill word;
     fill long;
@@ -608,7 +607,7 @@ type 'crsr' {
     hex string;
 };
 
-/* A pattern of 8 by 8 bits, and a list of them. Items: $"0102030405060708"; { $".."; .. }. Imaging, Basic QuickDraw. */
+/* A pattern of 8 by 8 bits, and a list of them. Items: $".."; { $".."; .. }. Imaging, QuickDraw Drawing. */
 type 'PAT ' {
     hex string[8];
 };
@@ -619,12 +618,12 @@ type 'PAT#' {
     };
 };
 
-/* A pattern in colour. Items: kind, one that the system sets, the pattern of bits, the fields of the picture in colour,
-   and then its points and its colour table as one string; to part them takes labels. Imaging, Color QuickDraw. */
+/* A pattern in colour. Items: kind, -1, the pattern of bits, the fields of its pixel map, and then its pixels and its
+   colour table as one string; to part them takes labels. Imaging, Color QuickDraw. */
 type 'ppat' {
     integer oldPattern, newPattern, ditherPattern;
-    longint = 28;                                       // where the picture in colour begins
-    longint = 78;                                       // where its points begin
+    longint = 28;                                       // where the pixel map begins
+    longint = 78;                                       // where its pixels begin
     fill long;
     integer;                                            // -1: to be expanded
     fill long;
@@ -633,8 +632,8 @@ type 'ppat' {
     hex string;
 };
 
-/* A picture. Items: the low half of its length, {top, left, bottom, right}, its commands as one string. Imaging,
-   Pictures. Pict.r of MPW has each command as an item; here they are bytes. */
+/* A picture. Items: the low half of its length, {top, left, bottom, right}, its opcodes as one string. Imaging,
+   Pictures. Pict.r of MPW has each opcode as an item; here they are bytes. */
 type 'PICT' {
     unsigned integer;
     rect;
@@ -673,7 +672,7 @@ type 'pltt' {
 /* ---- Fonts ---- */
 
 /* A font of bits. Items: kind, first and last character, widest width, kerning, 0 less the descent, width and height of
-   the box, where the table of widths begins (in words from here), ascent, descent, leading, words of a row, and then
+   the box, where the offsets and widths begin (in words from here), ascent, descent, leading, words of a row, and then
    as one string the rows of bits, the places of characters, and their offsets and widths. Text, Font Manager. */
 type 'NFNT' {
     unsigned hex integer propFont = 0x9000, prpFntH = 0x9001, prpFntW = 0x9002, prpFntHW = 0x9003,
@@ -685,7 +684,7 @@ type 'NFNT' {
     integer;                                            // 0 less the descent
     integer;                                            // width of the box
     integer;                                            // height of the box
-    unsigned integer;                                   // where the table of widths begins
+    unsigned integer;                                   // where the offsets and widths begin
     integer;                                            // ascent
     integer;                                            // descent
     integer;                                            // leading
@@ -770,7 +769,7 @@ type 'snd ' {
    Essentials, Finder Interface, as all of this section. */
 type 'BNDL' {
     literal longint;                                    // creator
-    integer;                                            // id of the resource with its text
+    integer;                                            // id of the resource of the creator
     integer = $$CountOf(TypeArray) - 1;
     array TypeArray {
         literal longint;
