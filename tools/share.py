@@ -15,8 +15,9 @@ layout, other reserved bytes or attributes of its map, which text doesn't keep, 
 ("same resources"). Then a table says for each type how many resources are shown by fields, and of the others
 
     no declaration   `rez` says 202 of an empty `resource` statement with the type and id
-    don't fit        the type can be read, since a resource of it was shown, here or of zero bytes; so the bytes are
-                     of no plain row of the fields, or a case of the row has the name of a macro
+    don't fit        the type can be read, since a resource of it was shown: one of the forks, or one that is tried,
+                     of zero bytes alone or behind the first bytes of one of those that weren't shown. So the bytes
+                     are of no plain row of the fields, or a case of the row has the name of a macro
     not readable?    nothing of the type was shown. The type can't be read, or no bytes that were tried fit it: the
                      program doesn't say which
 
@@ -35,7 +36,7 @@ from forms import Refused
 
 TOP = os.path.join(os.path.dirname(os.path.abspath(__file__)), "..")
 HEAD = re.compile(rb"^(data|resource) '((?:\\0x..|\\.|[^'\\])*)' \((-?\d+)", re.M)
-LENGTHS = range(601)  # of the resources of zero bytes that show that a type can be read
+ZEROS, FRONT, FRONTS = 601, 48, 4  # so many zero bytes are tried, and so many behind as many bytes of so many resources
 
 
 class Failed(Exception):
@@ -48,7 +49,7 @@ class Program:
     def __init__(self, name, types, defines, folder):
         self.name, self.types, self.folder = os.path.abspath(name), os.path.abspath(types), folder
         self.options = ["-i", os.path.dirname(self.types)] + [word for each in defines for word in ("-d", each)]
-        self.undeclared, self.readable = {}, {}
+        self.undeclared, self.readable, self.hidden = {}, {}, {}
 
     def path(self, name):
         return os.path.join(self.folder, name)
@@ -84,9 +85,12 @@ class Program:
         return self.undeclared[kind, ident]
 
     def can_be_read(self, kind):
-        """Whether zero bytes, as many as it takes, are shown by the fields of a type; ids count from 0."""
+        """Whether some bytes that are tried are shown by the fields of a type, with ids from 0 on."""
         if kind not in self.readable:
-            fork = self.write("zeros", image([(kind, ident, b"", 0, bytes(ident)) for ident in LENGTHS]))
+            tried = [bytes(count) for count in range(ZEROS)]
+            tried += [content[:front] + bytes(count) for content in self.hidden[kind]
+                      for front in range(1, FRONT + 1) for count in range(FRONT + 1)]
+            fork = self.write("tried", image([(kind, ident, b"", 0, each) for ident, each in enumerate(tried)]))
             self.readable[kind] = any(self.derez(fork)[1])
         return self.readable[kind]
 
@@ -127,8 +131,11 @@ def looked_at(program, fork, table):
     resources = admitted(fork)[0]
     if len(shown) != len(resources):
         return "OTHER STATEMENTS: %d for %d resources" % (len(shown), len(resources))
-    for (kind, ident, *_), is_shown in zip(resources, shown):
+    for (kind, ident, _, _, content), is_shown in zip(resources, shown):
         table.setdefault(kind, []).append((ident, is_shown))
+        hidden = program.hidden.setdefault(kind, [])
+        if not is_shown and len(hidden) < FRONTS:
+            hidden.append(content)
     return "%d of %d resources by fields, %s" % (sum(shown), len(shown), came_back(program, fork, text))
 
 

@@ -5,12 +5,12 @@
 
 For each resource below stand its items and its bytes, both written by hand: the bytes by the layouts in Inside
 Macintosh, never by the program. Of each two cases are made: `derez` shows the items, and `rez` makes the bytes of them.
-The type file of a case is the declaration as it stands in types/Types.r, with what it needs of the lines before it. With
---check nothing is written, and the status is 1 where the file would change, or if a type of types/Types.r has no
-resource here.
+The type file of a case is the declaration as it stands in types/Types.r, with what it needs of the lines before it; a
+macro is one line there, for tools/shown.py, which knows no joined lines. With --check nothing is written, and the
+status is 1 where the file would change, or if a type of types/Types.r has no resource here.
 
-Items stand as derez shows them, but for the layout: several on a line with `; ` between them, no commas and no blanks in
-front, and a string of hexadecimal digits as `$` and pieces, as fork.py spells bytes.
+Items stand as derez shows them, but for the layout: several on a line with `; ` between them, no commas and no blanks
+in front, and a string of hexadecimal digits as `$` and pieces, as fork.py spells bytes.
 """
 import os
 import re
@@ -45,7 +45,7 @@ def blocks_of(text):
         elif define:
             while lines[at].endswith("\\"):
                 at += 1
-            macros[define[1]] = "\n".join(lines[first:at + 1])
+            macros[define[1]] = re.sub(r"\\\n *", "", "\n".join(lines[first:at + 1]))
         elif kind:
             while not re.match(r"};$|type .* as .*;$", lines[at]):
                 at += 1

@@ -1,18 +1,18 @@
 /* Types.r: the standard types of the Toolbox, the Finder and the system, as declarations for rezkit.
 
-   rez -i types SOURCE.r         a source has #include "Types.r", or one of the names beside this file, as "SysTypes.r"
-   derez FORK types/Types.r      shows a fork by these types
+   rez -i types SOURCE.r      the source has #include "Types.r", or the name of a file beside this one, as "SysTypes.r"
+   derez FORK types/Types.r   shows a fork by these types
 
-   All types stand in this one file, since a type file of derez finds what it includes by -i alone. Including it
-   twice, by whatever names, declares nothing twice.
+   All types stand in this one file, since a type file of derez finds what it includes by -i alone. If it is included
+   twice, by whatever names, nothing is declared twice.
 
    Macros that choose (by -d, or by #define before the #include):
 
    SystemSevenOrLater   1 unless stated: the items of WIND, DLOG and ALRT end in a position on the screen. 0 is the
                         form of before System 7, without it.
-   EitherSystem         For derez of whatever there is, and for rez of what it shows; not for sources. The position
+   EitherSystem         For derez of a fork of any age, and for rez of its text; not for other sources. The position
                         of WIND, DLOG and ALRT is a list of none or one, the width and height of a MENU are items,
-                        and what stands behind the short form of a thng is shown as bytes.
+                        and what stands behind the short form of a thng is a string.
    thng_RezTemplateVersion, UseExtendedThingTemplate
                         which form of thng: 0 (the short one, unless stated), 1 (also by UseExtendedThingTemplate) or 2.
 
@@ -33,15 +33,18 @@
    help        hwin hrct
    tools       DRVW TMPL MPSR Estr
 
-   Names of books in the comments are those of Inside Macintosh: Essentials is Macintosh Toolbox Essentials, More is
-   More Macintosh Toolbox, and Text, Sound, Imaging (With QuickDraw), Advanced Color Imaging, Processes, Devices and
-   Interapplication Communication are themselves. Behind "Items:" stands what a source writes, in order; [..] marks
-   an item that not all forms have.
+   Macros that stay, for sources: apple, Untitled, those of pop-up menus (popupTitleLeftJust and so on), Reserved8,
+   Reserved9, Reserved12 and Reserved13.
 
-   Not here, since they need labels in types, which the language doesn't have yet: hmnu, hdlg, hfdr and hovr, whose
-   parts begin with their length; cfrg; ictb; the parts of cicn, ppat, crsr, snd, NFNT and FOND behind the fields that
-   are shown, which stand as bytes; and those DITL whose padding byte behind an odd text isn't zero, as ResEdit
-   leaves some, which derez shows as data. */
+   Each comment says behind "Items:" what a source writes, in order, where [..] is an item that not all forms have, and
+   then the book of Inside Macintosh that has the layout, and its chapter: Essentials is Macintosh Toolbox Essentials,
+   More is More Macintosh Toolbox, Imaging is Imaging With QuickDraw, and the others have their own names. Types
+   without a book are of Mac OS 8 or of a tool.
+
+   What needs labels in types, which the language doesn't have yet: hmnu, hdlg, hfdr and hovr, whose parts begin with
+   their length, cfrg and ictb, which aren't here; of cicn, ppat, crsr, snd, NFNT, FONT and FOND the parts behind the
+   fields that stand here, which are one string; and a DITL whose padding behind an odd text isn't zero, as ResEdit
+   leaves it now and then, which derez shows as data. */
 #ifndef __TYPES_R__
 #define __TYPES_R__
 
@@ -57,9 +60,9 @@
 #endif
 #endif
 
-/* Lists that several types share. They are undefined at the end. */
-#define STYLES plain = 0, bold = 1, italic = 2, underline = 4, outline = 8, shadow = 16, condense = 32, extend = 64
-#define RGB unsigned integer; unsigned integer; unsigned integer
+/* What several types share. Macros that begin with types_ are undefined at the end. */
+#define types_styles plain = 0, bold = 1, italic = 2, underline = 4, outline = 8, shadow = 16, condense = 32, extend = 64
+#define types_rgb unsigned integer; unsigned integer; unsigned integer
 
 
 /* ---- Texts ---- */
@@ -91,10 +94,10 @@ type 'styl' {
         integer;                                        // height of the line
         integer;                                        // ascent
         integer;                                        // font
-        unsigned hex byte STYLES;
+        unsigned hex byte types_styles;
         fill byte;
         integer;                                        // size
-        RGB;
+        types_rgb;
     };
 };
 
@@ -123,7 +126,7 @@ type 'MENU' {
         unsigned byte noIcon;                           // number of an icon, less 256
         char noKey = "\0x00", hierarchicalMenu = "\0x1B";
         char noMark = "\0x00", check = "\0x12";         // or the id of the menu that hangs here
-        unsigned hex byte STYLES;
+        unsigned hex byte types_styles;
     };
     byte = 0;
 };
@@ -144,14 +147,14 @@ type 'mctb' {
         integer mctAllItems = -98, mctLastIDIndic = -99;
         integer;                                        // number of the item
         wide array [4] {
-            RGB;
+            types_rgb;
         };
         fill word;
     };
 };
 
 /* What Mac OS 8 keeps of a menu beside MENU. Items: versionZero { { dataItem { command, modifiers, text encoding,
-   two numbers for the program, id of a submenu, font, glyph of the key }; skipItem { }; .. } }. */
+   two refCons, id of a submenu, font, glyph of the key }; skipItem { }; .. } }. */
 type 'xmnu' {
     switch {
     case versionZero:
@@ -169,8 +172,8 @@ type 'xmnu' {
                 fill byte;                              // kind of icon
                 fill long;                              // handle of the icon
                 longint sysScript = -1, currScript = -2; // text encoding
-                unsigned longint;                       // for the program
-                unsigned longint;
+                unsigned longint;                       // refCon
+                unsigned longint;                       // another one
                 unsigned integer noHierID = 0;          // id of the submenu
                 unsigned integer sysFont = 0;
                 integer naturalGlyph = 0;
@@ -182,8 +185,8 @@ type 'xmnu' {
 
 /* ---- Windows ---- */
 
-/* What a WIND and a DLOG are drawn by: the definition's id times 16, and a variation. */
-#define WINDOWPROCS documentProc = 0, dBoxProc = 1, plainDBox = 2, altDBoxProc = 3, noGrowDocProc = 4, \
+/* The procID of a WIND and a DLOG: 16 times the id of a WDEF, and a variation. */
+#define types_window_procs documentProc = 0, dBoxProc = 1, plainDBox = 2, altDBoxProc = 3, noGrowDocProc = 4, \
     movableDBoxProc = 5, zoomDocProc = 8, zoomNoGrow = 12, rDocProc = 16, \
     kWindowDocumentProc = 1024, kWindowGrowDocumentProc = 1025, kWindowVertZoomDocumentProc = 1026, \
     kWindowVertZoomGrowDocumentProc = 1027, kWindowHorizZoomDocumentProc = 1028, \
@@ -198,7 +201,7 @@ type 'xmnu' {
     floatSideGrowProc = 1995, floatSideZoomProc = 1997, floatSideZoomGrowProc = 1999
 
 /* Where a window, a dialog or an alert comes up, from System 7 on. */
-#define POSITIONS noAutoCenter = 0x0000, staggerParentWindow = 0xB80A, alertPositionParentWindow = 0xB00A, \
+#define types_positions noAutoCenter = 0x0000, staggerParentWindow = 0xB80A, alertPositionParentWindow = 0xB00A, \
     centerParentWindow = 0xA80A, staggerParentWindowScreen = 0x780A, \
     alertPositionParentWindowScreen = 0x700A, centerParentWindowScreen = 0x680A, \
     staggerMainScreen = 0x380A, alertPositionMainScreen = 0x300A, centerMainScreen = 0x280A, \
@@ -211,25 +214,25 @@ type 'xmnu' {
 /* The title that a new window has in many sources. */
 #define Untitled "Untitled"
 
-/* A window. Items: {top, left, bottom, right}, what it is drawn by, visible or not, goAway or not, a number for the
-   program, "title", [position]. Essentials, Window Manager. */
+/* A window. Items: {top, left, bottom, right}, procID, visible or not, goAway or not, refCon, "title", [position].
+   Essentials, Window Manager. */
 type 'WIND' {
     rect;
-    integer WINDOWPROCS;
+    integer types_window_procs;
     byte invisible, visible;
     fill byte;
     byte noGoAway, goAway;
     fill byte;
-    unsigned hex longint;
-    pstring;
+    unsigned hex longint;                               // refCon
+    pstring;                                            // title
 #ifdef EitherSystem
     array {
         align word;
-        unsigned hex integer POSITIONS;
+        unsigned hex integer types_positions;
     };
 #elif SystemSevenOrLater
     align word;
-    unsigned hex integer POSITIONS;
+    unsigned hex integer types_positions;
 #endif
 };
 
@@ -241,7 +244,7 @@ type 'wctb' {
     wide array ColorSpec {
         integer wContentColor, wFrameColor, wTextColor, wHiliteColor, wTitleBarColor, wHiliteColorLight,
             wHiliteColorDark, wTitleBarLight, wTitleBarDark, wDialogLight, wDialogDark, wTingeLight, wTingeDark;
-        RGB;
+        types_rgb;
     };
 };
 
@@ -251,22 +254,22 @@ type 'wctb' {
 /* A dialog. Items: those of a WIND, with the id of its DITL before the title. Essentials, Dialog Manager. */
 type 'DLOG' {
     rect;
-    integer WINDOWPROCS;
+    integer types_window_procs;
     byte invisible, visible;
     fill byte;
     byte noGoAway, goAway;
     fill byte;
-    unsigned hex longint;
+    unsigned hex longint;                               // refCon
     integer;                                            // id of the DITL
-    pstring;
+    pstring;                                            // title
 #ifdef EitherSystem
     array {
         align word;
-        unsigned hex integer POSITIONS;
+        unsigned hex integer types_positions;
     };
 #elif SystemSevenOrLater
     align word;
-    unsigned hex integer POSITIONS;
+    unsigned hex integer types_positions;
 #endif
 };
 
@@ -282,10 +285,10 @@ type 'ALRT' {
     };
 #ifdef EitherSystem
     array {
-        unsigned hex integer POSITIONS;
+        unsigned hex integer types_positions;
     };
 #elif SystemSevenOrLater
-    unsigned hex integer POSITIONS;
+    unsigned hex integer types_positions;
 #endif
 };
 
@@ -394,8 +397,8 @@ type 'dftb' {
                 integer;                                // style
                 integer;                                // mode
                 integer;                                // justification
-                RGB;
-                RGB;
+                types_rgb;
+                types_rgb;
                 pstring;                                // name of the font
             };
         };
@@ -428,8 +431,8 @@ type 'actb' as 'wctb';
 #define popupUseAddResMenu 4
 #define popupUseWFont 8
 
-/* A control. Items: {top, left, bottom, right}, value, visible or not, maximum, minimum, what it is drawn by, a
-   number for the program, "title". Essentials, Control Manager. */
+/* A control. Items: {top, left, bottom, right}, value, visible or not, maximum, minimum, procID, refCon, "title".
+   Essentials, Control Manager. */
 type 'CNTL' {
     rect;
     integer;                                            // value
@@ -453,7 +456,7 @@ type 'CNTL' {
         kControlCheckBoxProc = 369, kControlRadioButtonProc = 370, kControlScrollBarProc = 384,
         kControlScrollBarLiveProc = 386, kControlPopupButtonProc = 400, kControlRadioGroupProc = 416,
         popupMenuProc = 1008;
-    longint;                                            // for the program
+    longint;                                            // refCon
     pstring;                                            // title
 };
 
@@ -464,7 +467,7 @@ type 'cctb' {
     integer = $$CountOf(ColorSpec) - 1;
     wide array ColorSpec {
         integer cFrameColor, cBodyColor, cTextColor, cThumbColor;
-        RGB;
+        types_rgb;
     };
 };
 
@@ -503,7 +506,7 @@ type 'ICN#' {
     };
 };
 
-/* Icons of 32 by 32 points with 4 and with 8 bits each. Items: $"..". */
+/* Icons of 32 by 32 pixels with 4 and with 8 bits each. Items: $"..". */
 type 'icl4' {
     hex string[512];
 };
@@ -511,7 +514,7 @@ type 'icl8' {
     hex string[1024];
 };
 
-/* Small icons, 16 by 16 points: of bits with a mask, and with 4 and 8 bits. Items: as above. */
+/* Small icons, 16 by 16 pixels: of bits with a mask, and with 4 and 8 bits. Items: as above. */
 type 'ics#' {
     array {
         hex string[32];
@@ -524,7 +527,7 @@ type 'ics8' {
     hex string[256];
 };
 
-/* Mini icons, 12 lines of 16 points: of bits with a mask, and with 4 and 8 bits. Items: as above. */
+/* Mini icons, 12 rows of 16 pixels: of bits with a mask, and with 4 and 8 bits. Items: as above. */
 type 'icm#' {
     array {
         hex string[24];
@@ -544,31 +547,31 @@ type 'SICN' {
     };
 };
 
-/* A picture of points in memory, as it stands in cicn, crsr and ppat: where its points are, 8000 and the bytes of a
-   row, its place, version, packing and packed size, points to the inch, kind, bits of a point, parts of a point, bits
-   of a part, distance of planes, where its colour table is, reserved. Imaging, Color QuickDraw. */
-#define PIXMAP unsigned hex longint; unsigned hex integer; rect; integer; integer unpacked = 0; unsigned longint; \
+/* A pixel map, as it stands in cicn, crsr and ppat: where its pixels are, 8000 and the bytes of a row, bounds, version,
+   packing and packed size, pixels to the inch (across and down), kind, bits of a pixel, components, bits of one,
+   distance of planes, where its colour table is, reserved. Imaging, Color QuickDraw. */
+#define types_pixmap unsigned hex longint; unsigned hex integer; rect; integer; integer unpacked = 0; unsigned longint; \
     unsigned hex longint; unsigned hex longint; integer chunky, chunkyPlanar, planar; integer; integer; integer; \
     unsigned longint; unsigned longint; unsigned hex longint
 
-/* The same with one bit for each point: where its bits are, the bytes of a row, its place. Imaging, Basic QuickDraw. */
-#define BITMAP unsigned hex longint; integer; rect
+/* A bit map: where its bits are, the bytes of a row, bounds. Imaging, Basic QuickDraw. */
+#define types_bitmap unsigned hex longint; integer; rect
 
-/* An icon in colour. Items: the fields of its three pictures (in colour, mask, bits), and then as one string the
-   points of the mask, those of the bits, the colour table and the points in colour, which sources for MPW write as
+/* An icon in colour. Items: the fields of its pixel map and of its two bit maps (mask and icon), a handle, and then as
+   one string the bits of the mask, those of the icon, the colour table and the pixels, which sources for MPW write as
    items of their own; that takes labels. */
 type 'cicn' {
-    PIXMAP;
-    BITMAP;                                             // mask
-    BITMAP;                                             // bits
-    unsigned hex longint;                               // handle of the points
+    types_pixmap;
+    types_bitmap;                                       // mask
+    types_bitmap;                                       // bits
+    unsigned hex longint;                               // handle of the pixels
     hex string;
 };
 
 
 /* ---- Cursors, patterns and pictures ---- */
 
-/* A cursor: 16 by 16 bits, its mask, and the point that counts. Items: $"..", $"..", {down, right}. Imaging, Cursor
+/* A cursor: 16 by 16 bits, its mask, and its hot spot. Items: $"..", $"..", {down, right}. Imaging, Cursor
    Utilities. */
 type 'CURS' {
     hex string[32];
@@ -586,13 +589,12 @@ type 'acur' {
     };
 };
 
-/* A cursor in colour. Items: kind, two that the system sets, $"..", $"..", {down, right}, two more, the fields of its
-   picture in colour, and then its points and its colour table as one string; to part them takes labels. Imaging,
-   Cursor Utilities. */
+/* A cursor in colour. Items: kind, $"..", $"..", {down, right}, seed, id, the fields of its pixel map, and then its
+   pixels and its colour table as one string; to part them takes labels. Imaging, Cursor Utilities. */
 type 'crsr' {
     unsigned hex integer oldCursor = 0x8000, newCursor = 0x8001;
-    longint = 96;                                       // where the picture in colour begins
-    longint = 146;                                      // where its points begin
+    longint = 96;                                       // where the pixel map begins
+    longint = 146;                                      // where its pixels begin
     fill long;
     fill word;
     fill long;
@@ -601,11 +603,11 @@ type 'crsr' {
     point;
     unsigned longint;                                   // seed of the colour table
     unsigned longint;                                   // id
-    PIXMAP;
+    types_pixmap;
     hex string;
 };
 
-/* A pattern of 8 by 8 bits, and a list of them. Items: $"0102030405060708"; { $".."; .. }. Imaging, Basic QuickDraw. */
+/* A pattern of 8 by 8 bits, and a list of them. Items: $".."; { $".."; .. }. Imaging, QuickDraw Drawing. */
 type 'PAT ' {
     hex string[8];
 };
@@ -616,22 +618,22 @@ type 'PAT#' {
     };
 };
 
-/* A pattern in colour. Items: kind, one that the system sets, the pattern of bits, the fields of the picture in colour,
-   and then its points and its colour table as one string; to part them takes labels. Imaging, Color QuickDraw. */
+/* A pattern in colour. Items: kind, -1, the pattern of bits, the fields of its pixel map, and then its pixels and its
+   colour table as one string; to part them takes labels. Imaging, Color QuickDraw. */
 type 'ppat' {
     integer oldPattern, newPattern, ditherPattern;
-    longint = 28;                                       // where the picture in colour begins
-    longint = 78;                                       // where its points begin
+    longint = 28;                                       // where the pixel map begins
+    longint = 78;                                       // where its pixels begin
     fill long;
     integer;                                            // -1: to be expanded
     fill long;
     hex string[8];
-    PIXMAP;
+    types_pixmap;
     hex string;
 };
 
-/* A picture. Items: the low half of its length, {top, left, bottom, right}, its commands as one string. Imaging,
-   Pictures. Pict.r of MPW has each command as an item; here they are bytes. */
+/* A picture. Items: the low half of its length, {top, left, bottom, right}, its opcodes as one string. Imaging,
+   Pictures. Pict.r of MPW has each opcode as an item; here they are bytes. */
 type 'PICT' {
     unsigned integer;
     rect;
@@ -648,7 +650,7 @@ type 'clut' {
     integer = $$CountOf(ColorSpec) - 1;
     wide array ColorSpec {
         integer;
-        RGB;
+        types_rgb;
     };
 };
 
@@ -657,7 +659,7 @@ type 'pltt' {
     integer = $$CountOf(ColorInfo);
     fill word[7];
     wide array ColorInfo {
-        RGB;
+        types_rgb;
         unsigned hex integer pmCourteous = 0x0000, pmDithered = 0x0001, pmTolerant = 0x0002, pmAnimated = 0x0004,
             pmExplicit = 0x0008, pmWhite = 0x0010, pmBlack = 0x0020, pmInhibitG2 = 0x0100, pmInhibitC2 = 0x0200,
             pmInhibitG4 = 0x0400, pmInhibitC4 = 0x0800, pmInhibitG8 = 0x1000, pmInhibitC8 = 0x2000;
@@ -670,7 +672,7 @@ type 'pltt' {
 /* ---- Fonts ---- */
 
 /* A font of bits. Items: kind, first and last character, widest width, kerning, 0 less the descent, width and height of
-   the box, where the table of widths begins (in words from here), ascent, descent, leading, words of a row, and then
+   the box, where the offsets and widths begin (in words from here), ascent, descent, leading, words of a row, and then
    as one string the rows of bits, the places of characters, and their offsets and widths. Text, Font Manager. */
 type 'NFNT' {
     unsigned hex integer propFont = 0x9000, prpFntH = 0x9001, prpFntW = 0x9002, prpFntHW = 0x9003,
@@ -682,7 +684,7 @@ type 'NFNT' {
     integer;                                            // 0 less the descent
     integer;                                            // width of the box
     integer;                                            // height of the box
-    unsigned integer;                                   // where the table of widths begins
+    unsigned integer;                                   // where the offsets and widths begin
     integer;                                            // ascent
     integer;                                            // descent
     integer;                                            // leading
@@ -719,7 +721,7 @@ type 'FOND' {
     integer = $$CountOf(FontAssociation) - 1;
     wide array FontAssociation {
         integer;                                        // size; 0 is an outline
-        unsigned hex integer STYLES;
+        unsigned hex integer types_styles;
         integer;                                        // id of the FONT, NFNT or sfnt
     };
     hex string;
@@ -767,7 +769,7 @@ type 'snd ' {
    Essentials, Finder Interface, as all of this section. */
 type 'BNDL' {
     literal longint;                                    // creator
-    integer;                                            // id of the resource with its text
+    integer;                                            // id of the resource of the creator
     integer = $$CountOf(TypeArray) - 1;
     array TypeArray {
         literal longint;
@@ -910,8 +912,8 @@ type 'nrct' {
 #define Reserved12 Reserved8, reserved, reserved, reserved, reserved
 #define Reserved13 Reserved12, reserved
 
-#define FLAG boolean reserved
-#define FLAGS8 FLAG; FLAG; FLAG; FLAG; FLAG; FLAG; FLAG; FLAG
+#define types_flag boolean reserved
+#define types_flags8 types_flag; types_flag; types_flag; types_flag; types_flag; types_flag; types_flag; types_flag
 
 /* What an application can be told by Apple events (id 0). Items: 0x01, 0x00, english, roman, { suites }; a suite is its
    name, a text, 'code', level, version, { events }, { classes }, { comparisons }, { enumerations }, and what these are
@@ -947,7 +949,7 @@ type 'aete' {
             boolean singleItem, listOfItems, reserved = 0;
             boolean notEnumerated, enumerated, reserved = 0;
             boolean notTightBindingFunction, tightBindingFunction, reserved = 0;
-            FLAG; FLAG; FLAG; FLAG; FLAGS8;
+            types_flag; types_flag; types_flag; types_flag; types_flags8;
             literal longint noParams = 'null';          // type of the direct parameter
             pstring;                                    // its text
             align word;
@@ -955,7 +957,7 @@ type 'aete' {
             boolean singleItem, listOfItems, reserved = 0;
             boolean notEnumerated, enumerated, reserved = 0;
             boolean doesntChangeState, changesState, reserved = 0;
-            FLAG; FLAG; FLAG; FLAG; FLAGS8;
+            types_flag; types_flag; types_flag; types_flag; types_flags8;
             integer = $$CountOf(OtherParams);
             array OtherParams {
                 pstring;                                // name
@@ -967,7 +969,7 @@ type 'aete' {
                 boolean required, optional;
                 boolean singleItem, listOfItems, reserved = 0;
                 boolean notEnumerated, enumerated, reserved = 0;
-                FLAG; FLAGS8;
+                types_flag; types_flags8;
                 boolean prepositionParam, labeledParam, reserved = 0;
                 boolean notFeminine, feminine, reserved = 0;
                 boolean notMasculine, masculine, reserved = 0;
@@ -989,11 +991,11 @@ type 'aete' {
                 literal longint;                        // type
                 pstring;                                // text
                 align word;
-                FLAG;
+                types_flag;
                 boolean singleItem, listOfItems, reserved = 0;
                 boolean notEnumerated, enumerated, reserved = 0;
                 boolean readOnly, readWrite, reserved = 0;
-                FLAGS8;
+                types_flags8;
                 boolean noApostrophe, apostrophe, reserved = 0;
                 boolean notFeminine, feminine, reserved = 0;
                 boolean notMasculine, masculine, reserved = 0;
@@ -1059,8 +1061,8 @@ type 'hrct' {
     integer HelpMgrVersion = 2;
     longint hmDefaultOptions = 0, hmUseSubID = 1, hmAbsoluteCoords = 2, hmSaveBitsNoWindow = 4, hmSaveBitsWindow = 8,
         hmMatchInTitle = 16;
-    integer;                                            // what a balloon is drawn by
-    integer;                                            // which form of it
+    integer;                                            // id of the WDEF of balloons
+    integer;                                            // variation
     integer = $$CountOf(HelpRectArray);
     wide array HelpRectArray {
         switch {
@@ -1150,13 +1152,12 @@ type 'MPSR' (1007) {
 type 'Estr' as 'STR ';
 
 
-/* Names of this file alone. */
-#undef STYLES
-#undef RGB
-#undef WINDOWPROCS
-#undef POSITIONS
-#undef PIXMAP
-#undef BITMAP
-#undef FLAG
-#undef FLAGS8
+#undef types_styles
+#undef types_rgb
+#undef types_window_procs
+#undef types_positions
+#undef types_pixmap
+#undef types_bitmap
+#undef types_flag
+#undef types_flags8
 #endif
