@@ -36,7 +36,8 @@ impl Hindrance {
     fn line(self) -> &'static [u8] {
         match self {
             Hindrance::NoArguments => b"rezkit: no words\n",
-            Hindrance::NoMoment => b"rezkit: SOURCE_DATE_EPOCH isn't a decimal number from 0 to 2208988799\n",
+            Hindrance::NoMoment =>
+                b"rezkit: SOURCE_DATE_EPOCH isn't a decimal number from 0 to 2208988799\n",
             Hindrance::NoMemory => b"rezkit: no memory\n",
         }
     }
