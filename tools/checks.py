@@ -4,9 +4,9 @@
     python3 tools/checks.py
 
 The files of cases that a script writes are what it would write now; the documents name what is there; docs/MESSAGES.md
-has each message; and the commands that README.md, docs/TOUR.md, docs/MESSAGES.md and docs/PORTING.md show print what
-stands there, with the program that the gate built. A check whose program isn't there is skipped and says so. The status
-is 1 if one fails.
+has each message; the help text describes each option; and, with the program that the gate built, the commands that
+README.md, docs/TOUR.md, docs/MESSAGES.md and docs/PORTING.md show print what stands there, and SOURCE_DATE_EPOCH is the
+moment of a run. A check whose program isn't there is skipped and says so. The status is 1 if one fails.
 """
 import glob
 import os
@@ -25,7 +25,9 @@ def checks():
     found.append(("tools/calls.py", ["tools/calls.py", "--check"], None))
     found.append(("tools/links.py", ["tools/links.py"], None))
     found.append(("tools/messages.py", ["tools/messages.py"], None))
+    found.append(("tools/help.py", ["tools/help.py", "--check"], None))
     found.append(("tools/tour.py", ["tools/tour.py"], PROGRAM))
+    found.append(("tools/epoch.py", ["tools/epoch.py"], PROGRAM))
     return found
 
 

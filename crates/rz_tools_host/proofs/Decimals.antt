@@ -75,6 +75,7 @@ nothing_told {X} found text number small is there = by found there
   where
     same : (other : ℕ) → text ≡ decimal_of other → IsInRange (pos other) → other ≡ number
     same other told range = decimal_injective other number (omega (arith, ints, range.1)) (omega arith) (sym told ∙ is)
+
     by : (found : Option X) → (IsInRange (pos number) → IsSome found) → IfNone found ((seconds : ℤ) → Tells text seconds → ⊥)
     by (Some moment) there = tt
     by None there = none

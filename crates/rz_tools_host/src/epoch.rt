@@ -20,7 +20,11 @@ fn number_told(text: &str) -> Option<u32>
     ensures some { IfSome result (λ number. text.now ≡ decimal_of number) }
     ensures none { IfNone result ((number : ℕ) → number < 2 ^ 32 → text.now ≡ decimal_of number → ⊥) }
 {
-    if begins_as_decimal(text.as_bytes()) { text.parse().ok() } else { None }
+    if begins_as_decimal(text.as_bytes()) {
+        text.parse().ok()
+    } else {
+        None
+    }
 }
 
 /// Whether the text is one digit, or begins with another digit than zero.

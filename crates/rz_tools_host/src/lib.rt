@@ -1,9 +1,9 @@
 //! The edge to the host: it gets the arguments, the files, the streams and the moment of the host, runs the command
-//! and gives the status of the run. It is proved to be safe and to return, and of the moment that it is the one that a
-//! text or a number of seconds tells; what the host gives and does is trusted.
+//! and gives the status of the run. It is proved to be safe and to return, and which moment a text or a number of seconds
+//! tells; what the host gives and does is trusted.
 //! It rests on `rz_core`, `rz_folder` and `rz_tools`. The programs `rezkit` and `rezkit_refusal` are `start`
 //! alone.
-//! A status of its own, as 5, stands in the help text of `rz_tools_answer` and in README.md too.
+//! A status of its own, as 5, stands in the help text of `rz_tools_answer`, in docs/LANGUAGE.md and docs/MESSAGES.md too.
 #![tactic(auto)]
 
 ghost use Rattle.rz_tools_host.specs.Clock.{IsMomentAt};
@@ -36,7 +36,8 @@ impl Hindrance {
     fn line(self) -> &'static [u8] {
         match self {
             Hindrance::NoArguments => b"rezkit: no words\n",
-            Hindrance::NoMoment => b"rezkit: SOURCE_DATE_EPOCH isn't a decimal number from 0 to 2208988799\n",
+            Hindrance::NoMoment =>
+                b"rezkit: SOURCE_DATE_EPOCH isn't a decimal number from 0 to 2208988799\n",
             Hindrance::NoMemory => b"rezkit: no memory\n",
         }
     }

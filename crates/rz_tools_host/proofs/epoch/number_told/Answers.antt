@@ -1,4 +1,4 @@
-use Rattle.std.proofs.Common.{refl, sym, subst, ◌∙◌, ◌<◌, ◌^◌, ℕ, ◌≡◌, IfNone, IfSome}
+use Rattle.std.proofs.Common.{refl, sym, subst, ◌<◌, ◌^◌, ℕ, ◌≡◌, IfNone, IfSome}
 use Rattle.std.proofs.lemmas.Bool.{false≢true}
 use Rattle.rz_core.specs.Decimal.{decimal_of}
 use Rattle.rz_tools_host.specs.Epoch.{BeginsAsDecimal}
