@@ -1,8 +1,7 @@
 //! The edge to the host: it gets the arguments, the files, the streams and the moment of the host, runs the command
 //! and gives the status of the run. It is proved to be safe and to return, and which moment a text or a number of seconds
 //! tells; what the host gives and does is trusted.
-//! It rests on `rz_core`, `rz_folder` and `rz_tools`. The programs `rezkit` and `rezkit_refusal` are `start`
-//! alone.
+//! It rests on `rz_core`, `rz_folder` and `rz_tools`. The program `rezkit` is `start` alone.
 //! A status of its own, as 5, stands in the help text of `rz_tools_answer`, in docs/LANGUAGE.md and docs/MESSAGES.md too.
 #![tactic(auto)]
 
