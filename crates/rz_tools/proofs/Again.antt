@@ -1,16 +1,15 @@
 -- The text that is shown of a list means the list again.
-use Rattle.std.proofs.Common.{◌≡◌, ◌≢◌, ◌≤◌, ℕ, Bool, true, false, List, [], ◌∷◌, ◌++◌, map, length, Option, Some, None, Ok, inl, refl, sym, ap, subst, ◌∙◌, append_assoc, arith}
+use Rattle.std.proofs.Common.{◌≡◌, ◌≢◌, ◌≤◌, ℕ, Bool, true, false, List, [], ◌∷◌, ◌++◌, map, length, Option, Some, None, Ok, inl, refl, sym, ap, subst, ◌∙◌, append_assoc}
 use Rattle.std.specs.Prelude.{◌==◌, ◌&&◌, ◌||◌, not, is_some}
 use Rattle.std.specs.List.{flat_map, list_any, AllByRecursion}
 use Rattle.std.specs.Option.{ok_or}
 use Rattle.std.specs.Str.{bytes_eq, str_to_ascii_lowercase}
-use Rattle.std.proofs.lemmas.Bool.{or_parts, false≢true}
-use Rattle.std.proofs.lemmas.Bool.Decides.{nat_tests}
+use Rattle.std.proofs.lemmas.Bool.{not-true, or_parts, false≢true}
 use Rattle.std.proofs.lemmas.List.{append-nil}
 use Rattle.std.proofs.lemmas.List.Concat.{flat_map-cons}
 use Rattle.std.proofs.lemmas.Slice.Eq.{bytes_eq-Decides}
 use Rattle.rz_show_laws.proofs.Split.{shapes_in}
-use Rattle.rz_core.specs.Resources.{id_bits, put, same_key, KeysDiffer}
+use Rattle.rz_core.specs.Resources.{put, same_key, KeysDiffer}
 use Rattle.rz_core.specs.Stop.{◌>>=◌}
 use Rattle.rz_core.specs.declared.facts.Facts.{Facts}
 use Rattle.rz_core.specs.declared.fault.Fault.{Fault}
@@ -45,6 +44,7 @@ use Rattle.rz_pre_source.specs.Source.{mark, IsTextOf, IsUnmarked}
 use Rattle.rz_stmt.specs.Grammar.{mark_of, Compiles, Data, IsStatement, Parses}
 use Rattle.rz_stmt.specs.Raw.{Raw}
 use Rattle.rz_stmt.specs.Statements.{AreStatements}
+use Rattle.rz_set.proofs.Puts.{flipped}
 use Rattle.rz_tools.specs.Again.{AreShort, HasMacros, MeanResources, MeansAgain, SparesWords}
 use Rattle.rz_tools.specs.DeRez.{ShowsEach}
 use Rattle.rz_tools_resource.specs.Items.{items_read}
@@ -53,8 +53,8 @@ use Rattle.rz_tools.specs.Shown.{facts_of, its_bytes, its_row, IsShownBy, Known,
 use Rattle.rz_set.specs.After.{forbidden}
 use Rattle.rz_tools_values.specs.Around.{Around}
 use Rattle.rz_tools_work.specs.Put.{list_with}
-use Rattle.rz_tools_work.specs.Work.{Work}
-use Rattle.rz_tools.specs.Step.{list_behind, IsListBehind, Means, Steps}
+use Rattle.rz_tools_work.specs.Work.{with_list, Work}
+use Rattle.rz_tools.specs.Step.{Means, Steps}
 use Rattle.rz_set.specs.ResSet.{found}
 use Rattle.rz_types_fields.specs.Row.{IsRow}
 use Rattle.rz_types_fields.specs.Spells.{Spells}
@@ -64,7 +64,7 @@ use Rattle.rz_tools_work.specs.ToolWords.{number_in, numbered, tool_in}
 use Rattle.rz_tools_work.proofs.Named.{names_no_tool}
 use Rattle.rz_tools.proofs.PutOut.{lines_go, tokens_of, AreBare}
 use Rattle.rz_tools.proofs.Fileless.{compile_same, names_call_none, shown_call_none, CallsNone}
-use Rattle.rz_tools.proofs.Stepping.{changes}
+use Rattle.rz_tools.proofs.Stepping.{rez_behind}
 use Rattle.rz_core.proofs.Tests.{both, by_test}
 use Rattle.rz_tools.proofs.Values.{facts_again, resource_again}
 
@@ -94,10 +94,6 @@ among P word (shown ∷ words) all is = by_test (P word) (bytes_eq shown word)
     (λ h. subst P ((bytes_eq-Decides shown word).0 h) all.0)
     (λ h. among P word words all.1 (rw h at is))
 
-not_true : (b : Bool) → not b ≡ true → b ≡ false
-not_true true is = sym is
-not_true false is = refl
-
 shown_tools : AllByRecursion (λ word. tool_in (word_of word) ≡ None) shown_words
 shown_tools = (refl, (refl, (refl, (refl, (refl, (refl, (refl, (refl, (refl, (refl, tt))))))))))
 
@@ -113,7 +109,7 @@ module _ (is_macro : List ℕ → Bool) where
       where
         by : (test : Bool) → list_any (λ shown. bytes_eq shown word) shown_words ≡ test → (test || (is_name (role_of word) && not (is_macro word))) ≡ true → P word
         by true found is = among P word shown_words all found
-        by false none is = let each = both (is_name (role_of word)) (not (is_macro word)) is in named each.0 (not_true (is_macro word) each.1)
+        by false none is = let each = both (is_name (role_of word)) (not (is_macro word)) is in named each.0 (not-true (is_macro word) each.1)
 
   none_live : (o : Option (List Shape)) → is_some o ≡ false → o ≡ None
   none_live None is = refl
@@ -165,23 +161,17 @@ module _ (is_macro : List ℕ → Bool) where
 
 -- Putting resources whose keys differ.
 
-key_sym : (a b : Resource) → same_key a b ≡ same_key b a
-key_sym a b = λ i. same_sym a.kind.code b.kind.code i && same_sym (id_bits a) (id_bits b) i
-  where
-    same_sym : (m n : ℕ) → (m == n) ≡ (n == m)
-    same_sym m n = by_test ((m == n) ≡ (n == m)) (m == n) (λ is. grind (arith, nat_tests)) (λ is. grind (arith, nat_tests))
-
 new_name : (front : List Resource) (r : Resource) → list_any (λ b. same_key b r) front ≡ false → found r.kind r.id front ≡ None
 new_name [] r new = refl
 new_name (x ∷ front) r new =
     let parts = or_parts (same_key x r) (list_any (λ b. same_key b r) front) new in
-    rw (key_sym r x ∙ parts.0) (new_name front r parts.1)
+    rw (flipped r x ∙ parts.0) (new_name front r parts.1)
 
 put_new : (front : List Resource) (r : Resource) → list_any (λ b. same_key b r) front ≡ false → put front r ≡ front ++ r ∷ []
 put_new [] r new = refl
 put_new (x ∷ front) r new =
     let parts = or_parts (same_key x r) (list_any (λ b. same_key b r) front) new in
-    rw (key_sym r x ∙ parts.0) (ap (λ (l : List Resource). x ∷ l) (put_new front r parts.1))
+    rw (flipped r x ∙ parts.0) (ap (λ (l : List Resource). x ∷ l) (put_new front r parts.1))
 
 -- where none is replaced, none is protected
 none_forbidden : (over : Bool) → forbidden over [] ≡ None
@@ -272,12 +262,8 @@ module _ (laws : Laws) (known : Known) (around : Around) (warnings : List Fault)
       inl (
         Data raw,
         Parses.statement whole.is.within (IsStatement.data_statement raw whole.is.is refl),
-        (
-          Ok (front ++ r ∷ []),
-          changes around.setting.tool front (λ list. list ≡ list_behind around (mark_of tokens) front raw) (Ok (front ++ r ∷ [])) rez
-              (sym (ap (λ o. o >>= list_with (mark_of tokens) around.setting.over front) value ∙ put_behind (mark_of tokens) around.setting.over front r new)),
-          refl,
-        ),
+        rez_behind around (mark_of tokens) (work known.types warnings front) (Data raw) (Ok (work known.types warnings (front ++ r ∷ []))) rez
+            (ap (with_list (work known.types warnings front)) (sym (ap (λ o. o >>= list_with (mark_of tokens) around.setting.over front) value ∙ put_behind (mark_of tokens) around.setting.over front r new))),
       )
 
   -- what is known of the resource where its statement is read
@@ -307,12 +293,8 @@ module _ (laws : Laws) (known : Known) (around : Around) (warnings : List Fault)
       inl (
         Compiles one,
         Parses.statement whole.within (IsStatement.resource_statement one whole.is refl),
-        (
-          Ok (front ++ r ∷ []),
-          changes around.setting.tool front (IsListBehind around (mark_of tokens) known.types front one) (Ok (front ++ r ∷ [])) rez
-              (inl (r, is, sym (put_behind (mark_of tokens) around.setting.over front r new))),
-          refl,
-        ),
+        rez_behind around (mark_of tokens) (work known.types warnings front) (Compiles one) (Ok (work known.types warnings (front ++ r ∷ []))) rez
+            (Ok (front ++ r ∷ []), inl (r, is, sym (put_behind (mark_of tokens) around.setting.over front r new)), refl),
       )
 
   one_step : (front : List Resource) (tokens : List Token) (r : Resource) (showing : Showing) → IsShownBy known r showing → IsWholeOf tokens showing

@@ -1,9 +1,10 @@
 -- The text that is shown of resources, as the one source of rez.
-use Rattle.std.proofs.Common.{◌≡◌, inl, ℕ, Bool, false, if◌then◌else◌, List, [], ◌∷◌, Option, Some, None, Ok, refl, sym, ap, subst, ◌∙◌}
+use Rattle.std.proofs.Common.{◌≡◌, inl, ℕ, Bool, false, if◌then◌else◌, List, [], ◌∷◌, Some, Ok, refl, sym, ap, subst, ◌∙◌}
 use Rattle.std.specs.Prelude.{is_some, option_map}
 use Rattle.std.specs.Str.{str_to_ascii_lowercase}
 use Rattle.std.specs.FinMap as finite
 use Rattle.std.specs.declared.result.Result.{Result}
+use Rattle.std.proofs.lemmas.Option.{none-some}
 use Rattle.rz_core.specs.declared.fault.Fault.{Fault}
 use Rattle.rz_core.specs.declared.moment.Moment.{Moment}
 use Rattle.rz_core.specs.declared.resource.Resource.{Resource}
@@ -35,10 +36,7 @@ bare_known live moment = record { types = []; is_macro = λ name. is_some (live 
 -- where no types are declared no row is told, whatever the macros and the moment are
 no_row : (known : Known) (r : Resource) (body : PlainBody) (row : List Tree) → known.types ≡ [] → TellsRow known r body row → ⊥
 no_row known r body row none tells =
-    nothing_is body (sym (ap (λ (types : List Declaration). option_map (λ one. one.template) (found r.kind r.id types)) none) ∙ tells.declared)
-  where
-    nothing_is : (body : PlainBody) → ◌≡◌ {A = Option PlainBody} None (Some body) → ⊥
-    nothing_is body is = cc
+    none-some body (sym (ap (λ (types : List Declaration). option_map (λ one. one.template) (found r.kind r.id types)) none) ∙ tells.declared)
 
 pub none_declared : (known other : Known) → known.types ≡ [] → other.types ≡ [] → (list : List Resource) (text : List ℕ) → ShowsEach known list text → ShowsEach other list text
 none_declared known other none too [] text shows = shows

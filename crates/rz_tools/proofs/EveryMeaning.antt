@@ -11,8 +11,6 @@ use Rattle.rz_stmt_items.specs.Compile.{Compile}
 use Rattle.rz_lex.specs.declared.token.Token.{Token}
 use Rattle.rz_pre.specs.Program.{State}
 use Rattle.rz_pre.specs.declared.program.Failure.{Failure}
-use Rattle.rz_pre.specs.declared.condition.Tool.{Tool}
-use Rattle.rz_pre.specs.declared.condition.Tool.TheVariants as tools
 use Rattle.rz_stmt.specs.Grammar.{mark_of, Compiles, Data, Declares, Empty, Lists, Parses, Statement}
 use Rattle.rz_stmt.specs.Statements.{AreStatements}
 use Rattle.rz_types_table.specs.Table.{Declaration}
@@ -20,12 +18,12 @@ use Rattle.rz_tools_answer.specs.Warning.{said_beside, warning_lines}
 use Rattle.rz_tools.proofs.EveryResource.{declared_so, AreKept, AreSo, HoldsOfMade, IsKept}
 use Rattle.rz_types.specs.Field.{PlainBody}
 use Rattle.rz_tools.specs.Sources.{compiled, Compiled, HasWork, InProgram, SaidBeside, Unsaid}
-use Rattle.rz_tools.specs.Step.{list_behind, Changes, IsBehind, IsListBehind, MakesList, Means, Steps, WarnedFault, WithWarnings}
+use Rattle.rz_tools.proofs.Stepping.{done_so}
+use Rattle.rz_tools.specs.Step.{done_by, list_behind, IsBehind, IsListBehind, Means, Steps, WarnedFault, WithWarnings}
 use Rattle.rz_tools_values.specs.Around.{Around}
 use Rattle.rz_tools_work.specs.Lists.{list_after}
 use Rattle.rz_tools_work.specs.ToolWords.{numbered}
 use Rattle.rz_tools_work.specs.Work.{begun, declared, with_list, Work}
-use Rattle.rz_tools_values.specs.declared.setting.Setting.{Setting}
 
 -- An answer, and what is said with it.
 
@@ -47,15 +45,6 @@ has_beside made answers (output, is) = (said_beside made.files made.work.warning
 
 -- A statement.
 
-has_changes : (tool : Tool) (list : List Resource) (answers : Result (List Resource) Fault → Type 0) → Has answers → Has (Changes tool list answers)
-has_changes tools.Rez list answers has = has
-has_changes tools.DeRez list answers has = has_is (Ok list)
-
-has_list_made : (setting : Setting) (work : Work) (answers : Result (List Resource) Fault → Type 0) → Has answers → Has (MakesList setting work answers)
-has_list_made setting work answers has =
-    let changes = has_changes setting.tool work.list answers has in
-    (with_list work changes.0, (changes.0, changes.1, refl))
-
 -- what holds of the fields of all declarations, and of those of a `type` statement where they keep the rules, holds behind
 -- the statement; what changes the list alone leaves the declarations as they are
 module _ (Q : PlainBody → Type 0) where
@@ -73,15 +62,15 @@ module _ (Q : PlainBody → Type 0) where
   statement_so : (around : Around) (mark : Mark) (work : Work) (statement : Statement) (next : Work) → IsBehind around mark work statement (Ok next)
       → HoldsOf statement → AreSo Q work.types → AreSo Q next.types
   statement_so around mark work Empty next is holds so = subst (λ (w : Work). AreSo Q w.types) (sym (same_ok {F = Fault} next work is)) so
-  statement_so around mark work (Data raw) next is holds so = list_so work next is.0 is.2 so
+  statement_so around mark work (Data raw) next is holds so = list_so work next (list_behind around mark work.list raw) is so
   statement_so around mark work (Compiles one) next is holds so = list_so work next is.0 is.2 so
-  statement_so around mark work (Lists one) next is holds so = list_so work next is.0 is.2 so
+  statement_so around mark work (Lists one) next is holds so = list_so work next (list_after around mark work.list one) is so
   statement_so around mark work (Declares one) next is holds so = declared_so Q around.setting mark work one next holds so (sym is)
 
   pub steps_so : (around : Around) (work : Work) (tokens : List Token) (next : Work) → Steps around work tokens (Ok next)
       → ((statement : Statement) → Parses tokens (Ok statement) → HoldsOf statement) → AreSo Q work.types → AreSo Q next.types
   steps_so around work tokens next (inl (statement, parses, is)) holds so =
-      statement_so around (mark_of tokens) work statement next is (holds statement parses) so
+      statement_so around (mark_of tokens) work (done_by around.setting.tool statement) next is (done_so HoldsOf around.setting.tool statement tt (holds statement parses)) so
   steps_so around work tokens next (inr (fault, parses, is)) holds so = absurd (ok_or_err {F = Fault} next fault is)
 
 -- fields that are taken keep the rules
@@ -101,18 +90,18 @@ module _ (parsed : (tokens : List Token) → Has (Parses tokens)) (parted : (tok
     (resources : (around : Around) (mark : Mark) (types : List Declaration) → AreKept types → (list : List Resource) (one : Compile) → Has (IsListBehind around mark types list one)) where
   has_behind : (around : Around) (mark : Mark) (work : Work) → AreKept work.types → (statement : Statement) → Has (IsBehind around mark work statement)
   has_behind around mark work kept Empty = has_is (Ok work)
-  has_behind around mark work kept (Data raw) =
-      has_list_made around.setting work (λ list. list ≡ list_behind around mark work.list raw) (has_is (list_behind around mark work.list raw))
+  has_behind around mark work kept (Data raw) = has_is (with_list work (list_behind around mark work.list raw))
+  has_behind around mark work kept (Lists one) = has_is (with_list work (list_after around mark work.list one))
   has_behind around mark work kept (Compiles one) =
-      has_list_made around.setting work (IsListBehind around mark work.types work.list one) (resources around mark work.types kept work.list one)
-  has_behind around mark work kept (Lists one) =
-      has_list_made around.setting work (λ list. list ≡ list_after around mark work.list one) (has_is (list_after around mark work.list one))
+      let list = resources around mark work.types kept work.list one in
+      (with_list work list.0, (list.0, list.1, refl))
   has_behind around mark work kept (Declares one) = has_is (declared around.setting mark work one)
 
   has_step : (around : Around) (work : Work) → AreKept work.types → (tokens : List Token) → Has (Steps around work tokens)
   has_step around work kept tokens =
-      has_warned work.warnings (Then (Parses tokens) (IsBehind around (mark_of tokens) work))
-      (has_then (Parses tokens) (IsBehind around (mark_of tokens) work) (parsed tokens) (λ statement is. has_behind around (mark_of tokens) work kept statement))
+      let behind = λ (statement : Statement). IsBehind around (mark_of tokens) work (done_by around.setting.tool statement) in
+      has_warned work.warnings (Then (Parses tokens) behind)
+      (has_then (Parses tokens) behind (parsed tokens) (λ statement is. has_behind around (mark_of tokens) work kept (done_by around.setting.tool statement)))
 
   has_meaning : (around : Around) (work : Work) → AreKept work.types → (statements : List (List Token)) → Has (Means around work statements)
   has_meaning around work kept [] = has_is (Ok work)

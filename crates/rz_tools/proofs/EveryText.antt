@@ -2,6 +2,7 @@
 use Rattle.std.proofs.Common.{◌≡◌, ℕ, true, List, [], ◌∷◌, ◌++◌, Option, Some, None, Ok, Err, refl, sym, ap, subst, ◌∙◌}
 use Rattle.std.specs.Prelude.{option_map}
 use Rattle.std.specs.declared.result.Result.{Result}
+use Rattle.std.proofs.lemmas.Option.{none-some}
 use Rattle.rz_core.proofs.Has.{has_is, Has}
 use Rattle.rz_core.proofs.Tests.{by_test, same_some, true_false}
 use Rattle.rz_core.specs.Decided.{Decided}
@@ -70,10 +71,7 @@ module _ (tells : Tells) (known : Known) (r : Resource) where
         (λ other. none_of (λ row tells_row. true_false (sym tells_row.shaped ∙ other)))
 
   resource_shown : (body : Option PlainBody) → IsDeclared body → IsBy
-  resource_shown None none = bytes_shown (λ body row told. nothing body (sym none ∙ told.declared))
-    where
-      nothing : (body : PlainBody) → ◌≡◌ {A = Option PlainBody} None (Some body) → ⊥
-      nothing body is = cc is
+  resource_shown None none = bytes_shown (λ body row told. none-some body (sym none ∙ told.declared))
   resource_shown (Some body) declared = body_shown body declared
 
   has_shown : (text : List ℕ) × Shown known r text

@@ -2,6 +2,7 @@
 use Rattle.std.proofs.Common.{◌≡◌, inl, inr, ℕ, true, List, [], ◌∷◌, ◌++◌, map, Option, Some, None, Ok, Err, sym, ap, subst, ◌∙◌}
 use Rattle.std.specs.FinMap as finite
 use Rattle.std.specs.declared.result.Result.{Result}
+use Rattle.std.proofs.lemmas.Option.{same_Some}
 use Rattle.rz_core.specs.declared.facts.Facts.{Facts}
 use Rattle.rz_core.specs.declared.fault.Fault.{Fault}
 use Rattle.rz_core.specs.declared.fault.Mark.{Mark}
@@ -13,7 +14,6 @@ use Rattle.rz_folder_paths.specs.Names.{missing_file}
 use Rattle.rz_pre.specs.Program.{ProgramGoes, State}
 use Rattle.rz_pre.specs.declared.program.Failure.{Failure}
 use Rattle.rz_pre.specs.declared.condition.Tool.{Tool}
-use Rattle.rz_pre.specs.declared.condition.Tool.TheVariants as tools
 use Rattle.rz_pre.specs.declared.program.Def.{Def}
 use Rattle.rz_stmt.specs.Statements.{AreStatements}
 use Rattle.rz_tools_args.specs.Command.{Asked, BridgeAsked, DeRezAsked, Rez, DeRez, Bridge, Help, Version, IsCommand, IsMisplaced, RezAsked}
@@ -40,11 +40,10 @@ use Rattle.rz_tools_answer.specs.Warning.{said_beside, warning_lines}
 use Rattle.rz_tools_values.specs.Around.{Around}
 use Rattle.rz_tools_work.specs.Lists.{list_after}
 use Rattle.rz_tools_work.specs.Work.{begun, declared, with_list, Work}
-use Rattle.rz_tools.specs.Step.{list_behind, Changes, IsBehind, IsListBehind, MakesList, Means, Steps, WarnedFault, WithWarnings}
+use Rattle.rz_tools.specs.Step.{done_by, list_behind, IsBehind, Means, Steps, WarnedFault, WithWarnings}
 use Rattle.rz_stmt.specs.Grammar.{mark_of, Compiles as compiled_statement, Data, Declares, Empty, Lists, Parses, Statement}
 use Rattle.rz_core.specs.Answers.{Then}
 use Rattle.rz_tools_work.specs.ToolWords.{numbered}
-use Rattle.rz_tools_values.specs.declared.setting.Setting.{Setting}
 use Rattle.rz_stmt_items.specs.Item.{PlainItem}
 use Rattle.rz_layout.specs.Compiled.{IsCompiled}
 use Rattle.rz_stmt_items.specs.Match.{IsMatch}
@@ -98,19 +97,12 @@ once_in program answers once (Err a) (Err b) is also =
 once_beside : (made : Compiled) (answers : Result (List ℕ) Fault → Type 0) → Once answers → Once (SaidBeside made answers)
 once_beside made answers once a b is also = is.2 ∙ ap (said_beside made.files made.work.warnings) (once is.0 also.0 is.1 also.1) ∙ sym also.2
 
-once_changes : (tool : Tool) (list : List Resource) (answers : Result (List Resource) Fault → Type 0) → Once answers → Once (Changes tool list answers)
-once_changes tools.Rez list answers once = once
-once_changes tools.DeRez list answers once = once_is (Ok list)
-
 -- The text of a fork.
 
 abbrev pub OnePlainRow : Type 0
 OnePlainRow =
     (known : Facts) (body : PlainBody) (row other : List Tree) (bytes : List ℕ) → is_well_shaped body ≡ true → keeps_rules body ≡ true
     → is_readable body ≡ true → Spells true known body row bytes → Spells true known body other bytes → row ≡ other
-
-same_body : (body other : PlainBody) → ◌≡◌ {A = Option PlainBody} (Some body) (Some other) → body ≡ other
-same_body body other is = cc
 
 -- one row is told, of one body of fields
 one_row : OnePlainRow → (known : Known) (r : Resource) (body other : PlainBody) (row others : List Tree) → body ≡ other → TellsRow known r body row → TellsRow known r other others
@@ -122,7 +114,7 @@ one_row rows known r body other row others same tells also =
 
 pub one_showing : OnePlainRow → (known : Known) (r : Resource) (showing other : Showing) → IsShownBy known r showing → IsShownBy known r other → showing ≡ other
 one_showing rows known r showing other (its_row body row tells is) (its_row another others also so) =
-    is ∙ one_row rows known r body another row others (same_body body another (sym tells.declared ∙ also.declared)) tells also ∙ sym so
+    is ∙ one_row rows known r body another row others (same_Some body another (sym tells.declared ∙ also.declared)) tells also ∙ sym so
 one_showing rows known r showing other (its_row body row tells is) (its_bytes none so) = absurd (none body row tells)
 one_showing rows known r showing other (its_bytes none is) (its_row body row tells so) = absurd (none body row tells)
 one_showing rows known r showing other (its_bytes none is) (its_bytes nothing so) = is ∙ sym so
@@ -218,23 +210,19 @@ once_bridges named beside asked files =
     (λ bytes a b is also. is.2 ∙ ap ok (once_writes beside asked file bytes is.0 also.0 is.1 also.1) ∙ sym also.2)))
 
 module _ (cutting : OneCutting) (statement_law : OneStatement) (matching : OneMatch) (spelling : OneSpelling) (rows : OnePlainRow) where
-  once_made : (setting : Setting) (work : Work) (answers : Result (List Resource) Fault → Type 0) → Once answers → Once (MakesList setting work answers)
-  once_made setting work answers once a b is also = is.2 ∙ ap (with_list work) (once_changes setting.tool work.list answers once is.0 also.0 is.1 also.1) ∙ sym also.2
-
   once_behind : (around : Around) (mark : Mark) (work : Work) (statement : Statement) → Once (IsBehind around mark work statement)
   once_behind around mark work Empty = once_is (Ok work)
-  once_behind around mark work (Data raw) =
-      once_made around.setting work (λ list. list ≡ list_behind around mark work.list raw) (once_is (list_behind around mark work.list raw))
-  once_behind around mark work (compiled_statement one) =
-      once_made around.setting work (IsListBehind around mark work.types work.list one) (once_list matching spelling around mark work.types work.list one)
-  once_behind around mark work (Lists one) =
-      once_made around.setting work (λ list. list ≡ list_after around mark work.list one) (once_is (list_after around mark work.list one))
+  once_behind around mark work (Data raw) = once_is (with_list work (list_behind around mark work.list raw))
+  once_behind around mark work (Lists one) = once_is (with_list work (list_after around mark work.list one))
+  once_behind around mark work (compiled_statement one) = λ a b is also.
+      is.2 ∙ ap (with_list work) (once_list matching spelling around mark work.types work.list one is.0 also.0 is.1 also.1) ∙ sym also.2
   once_behind around mark work (Declares one) = once_is (declared around.setting mark work one)
 
   one_step : (around : Around) (work : Work) (tokens : List Token) → Once (Steps around work tokens)
   one_step around work tokens =
-      once_with work.warnings (Then (Parses tokens) (IsBehind around (mark_of tokens) work))
-      (once_then (Parses tokens) (IsBehind around (mark_of tokens) work) (statement_law tokens) (once_behind around (mark_of tokens) work))
+      let behind = λ (statement : Statement). IsBehind around (mark_of tokens) work (done_by around.setting.tool statement) in
+      once_with work.warnings (Then (Parses tokens) behind)
+      (once_then (Parses tokens) behind (statement_law tokens) (λ statement. once_behind around (mark_of tokens) work (done_by around.setting.tool statement)))
 
   one_meaning : (around : Around) (work : Work) (statements : List (List Token)) → Once (Means around work statements)
   one_meaning around work [] = once_is (Ok work)

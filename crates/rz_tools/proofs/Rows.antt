@@ -5,6 +5,7 @@ use Rattle.std.specs.List.{list_any}
 use Rattle.std.specs.Str.{bytes_eq, str_to_ascii_lowercase}
 use Rattle.std.specs.declared.result.Result.{Result}
 use Rattle.std.proofs.lemmas.Bool.{false≢true}
+use Rattle.std.proofs.lemmas.Option.{none-some, same_Some}
 use Rattle.rz_core.specs.Decided.{Decided}
 use Rattle.rz_core.specs.declared.facts.Facts.{Facts}
 use Rattle.rz_core.specs.declared.moment.Moment.{Moment}
@@ -51,18 +52,6 @@ known_so types macros moment given names same held = λ i. record {
 
 -- Rows.
 
-some_row : (row other : List Tree) → ◌≡◌ {A = Option (List Tree)} (Some row) (Some other) → row ≡ other
-some_row row other is = cc
-
-no_row : (row : List Tree) → ◌≡◌ {A = Option (List Tree)} None (Some row) → ⊥
-no_row row is = cc
-
-some_body : (body other : PlainBody) → ◌≡◌ {A = Option PlainBody} (Some body) (Some other) → body ≡ other
-some_body body other is = cc
-
-no_body : (body : PlainBody) → ◌≡◌ {A = Option PlainBody} None (Some body) → ⊥
-no_body body is = cc
-
 abbrev pub Declared : Known → Resource → Option PlainBody → Type 0
 Declared known r body = option_map (λ one. one.template) (found r.kind r.id known.types) ≡ body
 
@@ -70,7 +59,7 @@ Declared known r body = option_map (λ one. one.template) (found r.kind r.id kno
 pub undeclared_shown : (known : Known) (r : Resource) → Declared known r None → (before after : List ℕ) (result : Result (Unit {0}) NoMemory)
     → OnOk result (after ≡ before ++ resource_text r) → OnOk result ((text : List ℕ) × (after ≡ before ++ text) × Shown known r text)
 undeclared_shown known r none before after (Ok nothing) is =
-    (resource_text r, is, (by_bytes r, its_bytes (λ body row tells. no_body body (sym none ∙ tells.declared)) refl, refl))
+    (resource_text r, is, (by_bytes r, its_bytes (λ body row tells. none-some body (sym none ∙ tells.declared)) refl, refl))
 undeclared_shown known r none before after (Err refused) is = tt
 
 module _ (known : Known) (r : Resource) (body : PlainBody) (declared : Declared known r (Some body)) where
@@ -84,7 +73,7 @@ module _ (known : Known) (r : Resource) (body : PlainBody) (declared : Declared 
     is,
     (
       by_bytes r,
-      its_bytes (λ other row tells. none row (subst (λ (b : PlainBody). TellsRow known r b row) (sym (some_body body other (sym declared ∙ tells.declared))) tells)) refl,
+      its_bytes (λ other row tells. none row (subst (λ (b : PlainBody). TellsRow known r b row) (sym (same_Some body other (sym declared ∙ tells.declared))) tells)) refl,
       refl,
     ),
   )
@@ -110,12 +99,12 @@ module _ (known : Known) (r : Resource) (body : PlainBody) (declared : Declared 
     here row is = subst (λ (b : List ℕ). IsTold facts body b row) (sym bytes_are) (subst (λ (f : Facts). IsTold f body r.bytes row) (sym facts_are) is)
 
     pub none_read : row_in reading ≡ None → (row : List Tree) → Tells row → ⊥
-    none_read none row tells = no_row row (sym none ∙ every row (here row tells.told))
+    none_read none row tells = none-some row (sym none ∙ every row (here row tells.told))
 
     row_decided : (row : List Tree) → row_in reading ≡ Some row → is_well_shaped body ≡ true → keeps_rules body ≡ true → (uses : Bool)
         → row_uses known.is_macro body row ≡ uses → Decided Tells (if uses then None else Some row)
     row_decided row is shaped kept true uses = λ other tells.
-        let same = some_row row other (sym is ∙ every other (here other tells.told)) in
+        let same = same_Some row other (sym is ∙ every other (here other tells.told)) in
         false≢true (sym tells.bare ∙ sym (ap (row_uses known.is_macro body) same) ∙ uses)
     row_decided row is shaped kept false bare = record {
       declared = declared;

@@ -10,18 +10,14 @@ use Rattle.rz_core.specs.declared.fault.Fault.{Fault}
 use Rattle.rz_core.specs.declared.fault.Mark.{Mark}
 use Rattle.rz_core.specs.declared.resource.Resource.{Resource}
 use Rattle.rz_lex.specs.declared.token.Token.{Token}
-use Rattle.rz_core.specs.Stop.{OnFault, halt_of, halted, left, Meets, Yields, seen}
+use Rattle.rz_core.specs.Stop.{halt_of, left, Meets, OnRefusal, Yields, seen}
 use Rattle.rz_core.specs.declared.stop.Stop.{Stop}
 use Rattle.rz_core.specs.declared.stop.Stop.TheVariants as stops
 use Rattle.rz_core.specs.declared.stop.Halt.{Halt}
 use Rattle.rz_core.specs.declared.stop.Halt.TheVariants.{NoMemory, ReadFault, Refused}
 use Rattle.rz_pre.specs.declared.condition.Tool.{Tool}
 use Rattle.rz_pre.specs.declared.condition.Tool.TheVariants as tools
-use Rattle.rz_stmt.specs.Constants as declare
 use Rattle.rz_stmt.specs.Grammar.{mark_of, Compiles, Data, Declares, Empty, Lists, Parses, Statement, statement_of}
-use Rattle.rz_stmt_items.specs.Compile.{Compile}
-use Rattle.rz_stmt_lists.specs.Lists.{ListForm}
-use Rattle.rz_stmt.specs.Raw.{Raw}
 use Rattle.rz_stmt.specs.Statements.{AreStatements}
 use Rattle.rz_stmt.specs.Next.{BeginsWith}
 use Rattle.rz_lex.specs.Lexeme.{AreLexed}
@@ -30,9 +26,8 @@ use Rattle.rz_stmt_brackets.specs.declared.span.Span.{Span}
 use Rattle.rz_core.specs.Answers.{Then}
 use Rattle.rz_folder.specs.Folder.{Files}
 use Rattle.rz_tools_values.specs.Around.{around, Around}
-use Rattle.rz_tools_work.specs.Lists.{list_after}
-use Rattle.rz_tools_work.specs.Work.{declared, with_list, Work}
-use Rattle.rz_tools.specs.Step.{list_behind, tokens_at, Changes, IsBehind, IsListBehind, IsSpan, MakesList, Means, Steps, WarnedFault, with_work}
+use Rattle.rz_tools_work.specs.Work.{with_list, Work}
+use Rattle.rz_tools.specs.Step.{done_by, tokens_at, IsBehind, IsSpan, Means, Steps, WarnedFault, with_work}
 use Rattle.rz_tools_values.specs.declared.setting.Setting.{Setting}
 
 -- whatever the rest of the statements means after this, all mean so
@@ -148,113 +143,62 @@ module _ (tokens : List Token) where
 
 -- One statement.
 
--- What changes the list for Rez, and leaves it for DeRez.
+-- Rez does it
+pub rez_behind : (around : Around) (mark : Mark) (work : Work) (statement : Statement) (answer : Result Work Fault) → around.setting.tool ≡ tools.Rez
+    → IsBehind around mark work statement answer → IsBehind around mark work (done_by around.setting.tool statement) answer
+rez_behind around mark work statement answer rez so = by around.setting.tool rez
+  where
+    by : (tool : Tool) → tool ≡ tools.Rez → IsBehind around mark work (done_by tool statement) answer
+    by tools.Rez is = so
+    by tools.DeRez is = absurd (cc is)
 
-pub changes : (tool : Tool) (list : List Resource) (answers : Result (List Resource) Fault → Type 0) (answer : Result (List Resource) Fault) → tool ≡ tools.Rez → answers answer
-    → Changes tool list answers answer
-changes tools.Rez list answers answer is so = so
-changes tools.DeRez list answers answer is so = absurd (cc is)
-
-derez_changes : (tool : Tool) (list : List Resource) (answers : Result (List Resource) Fault → Type 0) → tool ≡ tools.DeRez → Changes tool list answers (Ok list)
-derez_changes tools.Rez list answers is = absurd (cc is)
-derez_changes tools.DeRez list answers is = refl
-
--- the same of a call that may read files, where they are told
-pub rez_went : (told : Option Files) (tool : Tool) (list : List Resource) (answers : Files → Result (List Resource) Fault → Type 0) (result : Result (Unit {0}) (Halt Fault)) (after : List Resource)
-    → tool ≡ tools.Rez → IfSome told (λ files. Yields (left after result) (answers files)) → IfSome told (λ files. Yields (left after result) (Changes tool list (answers files)))
-rez_went None tool list answers result after is went = tt
-rez_went (Some files) tool list answers (Ok nothing) after is went = changes tool list (answers files) (Ok after) is went
-rez_went (Some files) tool list answers (Err (Refused fault)) after is went = changes tool list (answers files) (Err fault) is went
-rez_went (Some files) tool list answers (Err ReadFault) after is went = tt
-rez_went (Some files) tool list answers (Err NoMemory) after is went = tt
-
-pub derez_went : (told : Option Files) (tool : Tool) (list : List Resource) (answers : Files → Result (List Resource) Fault → Type 0)
-    → tool ≡ tools.DeRez → IfSome told (λ files. Changes tool list (answers files) (Ok list))
-derez_went None tool list answers is = tt
-derez_went (Some files) tool list answers is = derez_changes tool list (answers files) is
+-- what holds of a statement, and of one that does nothing, holds of what a tool does of it
+pub done_so : (P : Statement → Type 0) (tool : Tool) (statement : Statement) → P Empty → P statement → P (done_by tool statement)
+done_so P tools.Rez statement nothing so = so
+done_so P tools.DeRez Empty nothing so = nothing
+done_so P tools.DeRez (Data raw) nothing so = nothing
+done_so P tools.DeRez (Lists one) nothing so = nothing
+done_so P tools.DeRez (Compiles one) nothing so = nothing
+done_so P tools.DeRez (Declares one) nothing so = so
 
 module _ (around : Around) (work : Work) (ts : List Token) where
-  stopped : (stop : Stop Fault) → Meets (seen statement_of (Err stop)) (Parses ts) → Yields (with_work work (Err (halt_of stop))) (Steps around work ts)
-  stopped (stops.Refused fault) parsed = (inr (fault, parsed, refl), refl)
-  stopped stops.NoMemory parsed = tt
+  pub stopped : (stop : Stop Fault) (given : Result (Unit {0}) (Halt Fault)) → Meets (seen statement_of (Err stop)) (Parses ts) → given ≡ Err (halt_of stop)
+      → Yields (with_work work given) (Steps around work ts)
+  stopped stop given parsed is = subst (λ (r : Result (Unit {0}) (Halt Fault)). Yields (with_work work r) (Steps around work ts)) (sym is) (by stop parsed)
+    where
+      by : (stop : Stop Fault) → Meets (seen statement_of (Err stop)) (Parses ts) → Yields (with_work work (Err (halt_of stop))) (Steps around work ts)
+      by (stops.Refused fault) parsed = (inr (fault, parsed, refl), refl)
+      by stops.NoMemory parsed = tt
 
-  nothing_done : Parses ts (Ok Empty) → Steps around work ts (Ok work)
-  nothing_done parsed = inl (Empty, parsed, refl)
-
-  -- a statement that changes the list alone
-  module _ (statement : Statement) (mark : Mark) (answers : Mark → Result (List Resource) Fault → Type 0)
-      (parsed : Parses ts (Ok statement)) (same : mark_of ts ≡ mark)
-      (behind : IsBehind around (mark_of ts) work statement ≡ MakesList around.setting work (answers (mark_of ts))) where
-    list_done : (answer : Result (List Resource) Fault) → Changes around.setting.tool work.list (answers mark) answer
-        → Then (Parses ts) (IsBehind around (mark_of ts) work) (with_list work answer)
-    list_done answer done =
+  -- what the tool does of the statement that stands there
+  module _ (mark : Mark) (same : mark_of ts ≡ mark) (statement does : Statement) (parsed : Parses ts (Ok statement)) (is : does ≡ done_by around.setting.tool statement) where
+    answered : (answer : Result Work Fault) → IsBehind around mark work does answer
+        → Then (Parses ts) (λ one. IsBehind around (mark_of ts) work (done_by around.setting.tool one)) answer
+    answered answer so =
         inl (
           statement,
           parsed,
-          subst (λ (P : Result Work Fault → Type 0). P (with_list work answer)) (sym behind)
-              (answer, subst (λ (m : Mark). Changes around.setting.tool work.list (answers m) answer) (sym same) done, refl),
+          subst (λ (one : Statement). IsBehind around (mark_of ts) work one answer) is
+              (subst (λ (m : Mark). IsBehind around m work does answer) (sym same) so),
         )
 
-    listed : (result : Result (Unit {0}) (Halt Fault)) (after : List Resource) → Yields (left after result) (Changes around.setting.tool work.list (answers mark))
+    -- a call did it
+    pub did : (result : Result (Unit {0}) (Halt Fault)) (after : Work) → Yields (left after result) (IsBehind around mark work does)
+        → OnRefusal result (λ fault. after.warnings ≡ work.warnings) → Yields (with_work after result) (Steps around work ts)
+    did (Ok nothing) after so kept = answered (Ok after) so
+    did (Err (Refused fault)) after so kept = (answered (Err fault) so, kept)
+    did (Err ReadFault) after so kept = tt
+    did (Err NoMemory) after so kept = tt
+
+    -- and one that changes the list alone
+    pub listed : (answers : Result (List Resource) Fault → Type 0)
+        → ((list : Result (List Resource) Fault) → answers list → IsBehind around mark work does (with_list work list))
+        → (result : Result (Unit {0}) (Halt Fault)) (after : List Resource) → Yields (left after result) answers
         → Yields (with_work (record work { list = after }) result) (Steps around work ts)
-    listed (Ok nothing) after done = list_done (Ok after) done
-    listed (Err (Refused fault)) after done = (list_done (Err fault) done, refl)
-    listed (Err ReadFault) after done = tt
-    listed (Err NoMemory) after done = tt
-
-  declare_done : (one : declare.Declare) (mark : Mark) (result : Result (Unit {0}) (Stop Fault)) (after : Work) → Parses ts (Ok (Declares one)) → mark_of ts ≡ mark
-      → Meets (left after result) (λ answer. answer ≡ declared around.setting mark work one) → OnFault result (λ fault. after.warnings ≡ work.warnings)
-      → Yields (with_work after (halted result)) (Steps around work ts)
-  declare_done one mark (Ok nothing) after parsed same done kept = inl (Declares one, parsed, done ∙ ap (λ m. declared around.setting m work one) (sym same))
-  declare_done one mark (Err (stops.Refused fault)) after parsed same done kept =
-      (inl (Declares one, parsed, done ∙ ap (λ m. declared around.setting m work one) (sym same)), kept)
-  declare_done one mark (Err stops.NoMemory) after parsed same done kept = tt
-
--- The same where the files are told.
-
-module _ (setting : Setting) (paths : List (List ℕ)) (work : Work) (ts : List Token) where
-  pub nothing_told : (told : Option Files) → Parses ts (Ok Empty) → IfSome told (λ files. Yields (with_work work (Ok tt)) (Steps (around setting paths files) work ts))
-  nothing_told None parsed = tt
-  nothing_told (Some files) parsed = nothing_done (around setting paths files) work ts parsed
-
-  pub stopped_told : (told : Option Files) (stop : Stop Fault) (given : Result (Unit {0}) (Halt Fault)) → Meets (seen statement_of (Err stop)) (Parses ts) → given ≡ Err (halt_of stop)
-      → IfSome told (λ files. Yields (with_work work given) (Steps (around setting paths files) work ts))
-  stopped_told None stop given parsed is = tt
-  stopped_told (Some files) stop given parsed is =
-      subst (λ (r : Result (Unit {0}) (Halt Fault)). Yields (with_work work r) (Steps (around setting paths files) work ts)) (sym is) (stopped (around setting paths files) work ts stop parsed)
-
-  -- of what a call gave that reads no file
-  pub declared_told : (mark : Mark) → mark_of ts ≡ mark → (result : Result (Unit {0}) (Stop Fault)) (given : Result (Unit {0}) (Halt Fault)) → given ≡ halted result
-      → (told : Option Files) (one : declare.Declare) (after : Work) → Parses ts (Ok (Declares one))
-      → Meets (left after result) (λ answer. answer ≡ declared setting mark work one) → OnFault result (λ fault. after.warnings ≡ work.warnings)
-      → IfSome told (λ files. Yields (with_work after given) (Steps (around setting paths files) work ts))
-  declared_told mark same result given is None one after parsed done kept = tt
-  declared_told mark same result given is (Some files) one after parsed done kept =
-      subst (λ (r : Result (Unit {0}) (Halt Fault)). Yields (with_work after r) (Steps (around setting paths files) work ts)) (sym is)
-      (declare_done (around setting paths files) work ts one mark result after parsed same done kept)
-
-  -- and of one that may read files
-  module _ (mark : Mark) (same : mark_of ts ≡ mark) (result : Result (Unit {0}) (Halt Fault)) (after : List Resource) where
-    pub raw_told : (told : Option Files) (raw : Raw) → Parses ts (Ok (Data raw))
-        → IfSome told (λ files. Yields (left after result) (Changes setting.tool work.list (λ answer. answer ≡ list_behind (around setting paths files) mark work.list raw)))
-        → IfSome told (λ files. Yields (with_work (record work { list = after }) result) (Steps (around setting paths files) work ts))
-    raw_told None raw parsed done = tt
-    raw_told (Some files) raw parsed done =
-        listed (around setting paths files) work ts (Data raw) mark (λ m answer. answer ≡ list_behind (around setting paths files) m work.list raw) parsed same refl result after done
-
-    pub compiled_told : (told : Option Files) (one : Compile) → Parses ts (Ok (Compiles one))
-        → IfSome told (λ files. Yields (left after result) (Changes setting.tool work.list (IsListBehind (around setting paths files) mark work.types work.list one)))
-        → IfSome told (λ files. Yields (with_work (record work { list = after }) result) (Steps (around setting paths files) work ts))
-    compiled_told None one parsed done = tt
-    compiled_told (Some files) one parsed done =
-        listed (around setting paths files) work ts (Compiles one) mark (λ m. IsListBehind (around setting paths files) m work.types work.list one) parsed same refl result after done
-
-    pub lists_told : (told : Option Files) (one : ListForm) → Parses ts (Ok (Lists one))
-        → IfSome told (λ files. Yields (left after result) (Changes setting.tool work.list (λ answer. answer ≡ list_after (around setting paths files) mark work.list one)))
-        → IfSome told (λ files. Yields (with_work (record work { list = after }) result) (Steps (around setting paths files) work ts))
-    lists_told None one parsed done = tt
-    lists_told (Some files) one parsed done =
-        listed (around setting paths files) work ts (Lists one) mark (λ m answer. answer ≡ list_after (around setting paths files) m work.list one) parsed same refl result after done
+    listed answers makes (Ok nothing) after so = answered (Ok (record work { list = after })) (makes (Ok after) so)
+    listed answers makes (Err (Refused fault)) after so = (answered (Err fault) (makes (Err fault) so), refl)
+    listed answers makes (Err ReadFault) after so = tt
+    listed answers makes (Err NoMemory) after so = tt
 
 -- each token is where all are
 pub within_at : (files : ℕ) (tokens : List Token) (k : ℕ) (token : Token) → AreWithin files tokens → slice_get tokens k ≡ Some token → token.mark.file < files

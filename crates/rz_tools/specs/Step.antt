@@ -19,16 +19,19 @@ use Rattle.rz_tools_work.specs.Lists.{list_after}
 use Rattle.rz_tools_work.specs.Put.{list_with}
 use Rattle.rz_tools_work.specs.ToolWords.{numbered}
 use Rattle.rz_tools_work.specs.Work.{declared, with_list, Work}
-use Rattle.rz_tools_values.specs.declared.setting.Setting.{Setting}
 use Rattle.rz_stmt_data.specs.Raw.{Raw}
 use Rattle.rz_core.specs.Stop.{◌>>=◌}
 use Rattle.rz_tools_resource.specs.Raw.{resource_of}
 use Rattle.rz_tools_resource.specs.Resource.{IsResource}
 
--- what a statement other than `type` does to the list: DeRez leaves it as it is
-abbrev pub Changes : Tool → List Resource → (Result (List Resource) Fault → Type 0) → Result (List Resource) Fault → Type 0
-Changes tools.Rez list answers answer = answers answer
-Changes tools.DeRez list answers answer = answer ≡ Ok list
+-- what a tool does of a statement: DeRez declares types, and nothing else
+abbrev pub done_by : Tool → Statement → Statement
+done_by tools.Rez statement = statement
+done_by tools.DeRez Empty = Empty
+done_by tools.DeRez (Data raw) = Empty
+done_by tools.DeRez (Lists one) = Empty
+done_by tools.DeRez (Compiles one) = Empty
+done_by tools.DeRez (Declares one) = Declares one
 
 -- the list behind a `data` statement on this line
 abbrev pub list_behind : Around → Mark → List Resource → Raw → Result (List Resource) Fault
@@ -39,17 +42,13 @@ abbrev pub IsListBehind : Around → Mark → List Declaration → List Resource
 IsListBehind around mark types list one =
     Then (IsResource around mark types one) (λ resource answer. answer ≡ list_with mark around.setting.over list resource)
 
--- what is made where a statement changes the list alone
-abbrev pub MakesList : Setting → Work → (Result (List Resource) Fault → Type 0) → Result Work Fault → Type 0
-MakesList setting work answers answer =
-    (list : Result (List Resource) Fault) × Changes setting.tool work.list answers list × (answer ≡ with_list work list)
-
 -- what is made behind a statement on this line
 abbrev pub IsBehind : Around → Mark → Work → Statement → Result Work Fault → Type 0
 IsBehind around mark work Empty = λ answer. answer ≡ Ok work
-IsBehind around mark work (Data raw) = MakesList around.setting work (λ list. list ≡ list_behind around mark work.list raw)
-IsBehind around mark work (Compiles one) = MakesList around.setting work (IsListBehind around mark work.types work.list one)
-IsBehind around mark work (Lists one) = MakesList around.setting work (λ list. list ≡ list_after around mark work.list one)
+IsBehind around mark work (Data raw) = λ answer. answer ≡ with_list work (list_behind around mark work.list raw)
+IsBehind around mark work (Lists one) = λ answer. answer ≡ with_list work (list_after around mark work.list one)
+IsBehind around mark work (Compiles one) = λ answer.
+    (list : Result (List Resource) Fault) × IsListBehind around mark work.types work.list one list × (answer ≡ with_list work list)
 IsBehind around mark work (Declares one) = λ answer. answer ≡ declared around.setting mark work one
 
 -- a fault, and what was warned of before it
@@ -64,7 +63,7 @@ WithWarnings warnings answers (Err stopped) = answers (Err stopped.fault) × (st
 
 abbrev pub Steps : Around → Work → List Token → Result Work WarnedFault → Type 0
 Steps around work tokens =
-    WithWarnings work.warnings (Then (Parses tokens) (IsBehind around (mark_of tokens) work))
+    WithWarnings work.warnings (Then (Parses tokens) (λ statement. IsBehind around (mark_of tokens) work (done_by around.setting.tool statement)))
 
 -- what is made after all statements, or the first fault; in each the words `rez` and `derez` are numbers
 abbrev pub Means : Around → Work → List (List Token) → Result Work WarnedFault → Type 0

@@ -1,37 +1,31 @@
 //! The statements of a program, one after the other. A new statement is an arm here and a case of `specs/Step`.
 
-ghost use Rattle.std.specs.Prelude.{◌≡◌, ◌<◌, ℕ, List, length, map, IfSome};
+ghost use Rattle.std.specs.Prelude.{◌≡◌, ◌<◌, ℕ, List, length, map, Err, IfErr, IfOk, IfSome};
 ghost use Rattle.rz_tools_answer.specs.Warning.{AreWarnings};
 ghost use Rattle.rz_core.specs.Message.{IsNameable};
 ghost use Rattle.rz_core.specs.Stop.{OnFault, IsReadFault, OnRefusal, halted, left, Yields};
 ghost use Rattle.rz_folder.specs.OnlyReads.{OnlyReads};
-ghost use Rattle.rz_stmt_items.specs.Compile.{compile_of};
-ghost use Rattle.rz_stmt_items.specs.Item.{plain_items};
-ghost use Rattle.rz_stmt_items.specs.Places.{AreItemsWithin};
 ghost use Rattle.rz_lex.specs.Lexeme.{AreLexed};
 ghost use Rattle.rz_lex.specs.Within.{AreWithin};
 ghost use Rattle.rz_lex.specs.declared.token.Token.{Token};
-ghost use Rattle.rz_stmt_lists.specs.Lists.{list_of};
-ghost use Rattle.rz_stmt.specs.Raw.{raw_of};
+ghost use Rattle.rz_stmt.specs.Grammar.{statement_of};
 ghost use Rattle.rz_stmt.specs.Statements.{AreStatements};
-ghost use Rattle.rz_types_table.specs.TypeTable.{table_of};
 ghost use Rattle.rz_tools_values.specs.Around.{around};
 ghost use Rattle.rz_tools_work.specs.Held.{work_of};
-ghost use Rattle.rz_tools_work.specs.Lists.{list_after};
+ghost use Rattle.rz_tools_work.specs.Put.{list_with};
 ghost use Rattle.rz_tools_work.specs.ToolWords.{numbered};
-ghost use Rattle.rz_tools.specs.Step.{list_behind, tokens_at, Changes, IsListBehind, IsSpan, Means, Steps, with_work};
+ghost use Rattle.rz_tools.specs.Step.{done_by, tokens_at, IsSpan, Means, Steps, with_work};
 
-use rz_core::{Fault, FileNames, Halt, Mark, Stop};
+use rz_core::{Fault, FileNames, Halt, Mark, Resource, Stop};
 use rz_folder::Folder;
 use rz_lex::Tokens;
 use rz_pre::Tool;
 use rz_pre_tokens::TokenStore;
 use rz_set::ResSet;
-use rz_stmt::{CompileStmt, ListStmt, RawStmt, Span, Stmt, next_statement, parse};
+use rz_stmt::{Span, Stmt, next_statement, parse};
 use rz_tools_resource::{resource_of, resource_of_items};
 use rz_tools_values::Setting;
 use rz_tools_work::{Work, declare_type, list_step, number_tool_words, put};
-use rz_types_table::TypeTable;
 use std::alloc::Global;
 
 /// Does what the statements of a program say, one after the other, up to the first fault. For DeRez each one is read,
@@ -112,32 +106,35 @@ fn step_at<F: Folder>(
 {
     let mark = tokens.at(span.start).mark;
     match parse(alloc, tokens, span) {
-        Ok(Stmt::Empty) => Ok(()),
-        Ok(Stmt::Raw(raw)) => {
-            let resources = &mut work.resources;
-            put_raw(alloc, folder, paths, raw, mark, setting, resources)
-        }
-        Ok(Stmt::Compile(stmt)) => put_compiled(
-            alloc,
-            folder,
-            paths,
-            stmt,
-            mark,
-            setting,
-            &work.types,
-            &mut work.resources,
-        ),
-        Ok(Stmt::List(stmt)) => change_list(
-            alloc,
-            folder,
-            paths,
-            &stmt,
-            mark,
-            setting,
-            &mut work.resources,
-        ),
-        Ok(Stmt::Declare(declare)) => halted(declare_type(alloc, declare, mark, setting, work)),
+        Ok(stmt) => match done_by(setting.tool, stmt) {
+            Stmt::Empty => Ok(()),
+            Stmt::Raw(raw) => {
+                let made = resource_of(alloc, folder, paths, raw, mark, setting);
+                put_made(made, mark, setting, &mut work.resources)
+            }
+            Stmt::List(stmt) => {
+                let resources = &mut work.resources;
+                list_step(alloc, folder, paths, &stmt, mark, setting, resources)
+            }
+            Stmt::Compile(stmt) => {
+                let types = &work.types;
+                let made = resource_of_items(alloc, folder, paths, stmt, mark, setting, types);
+                put_made(made, mark, setting, &mut work.resources)
+            }
+            Stmt::Declare(stmt) => halted(declare_type(alloc, stmt, mark, setting, work)),
+        },
         Err(stop) => halted(Err(stop)),
+    }
+}
+
+/// What a tool does of a statement: DeRez declares types, and nothing else.
+fn done_by(tool: Tool, stmt: Stmt) -> Stmt
+    ensures { statement_of result ≡ done_by tool (statement_of stmt) }
+{
+    match (tool, stmt) {
+        (Tool::Rez, stmt) => stmt,
+        (Tool::DeRez, Stmt::Declare(stmt)) => Stmt::Declare(stmt),
+        (Tool::DeRez, _) => Stmt::Empty,
     }
 }
 
@@ -153,108 +150,20 @@ fn halted(ended: Result<(), Stop<Fault>>) -> Result<(), Halt<Fault>>
     }
 }
 
-/// What a statement over lists on this line does. For DeRez it does nothing, and reads no file.
-fn change_list<F: Folder>(
-    alloc: Global,
-    folder: &mut F,
-    paths: &FileNames,
-    stmt: &ListStmt,
+/// Puts the resource of a statement on this line, if one was made.
+fn put_made(
+    made: Result<Resource, Halt<Fault>>,
     mark: Mark,
     setting: Setting,
     resources: &mut ResSet,
 ) -> Result<(), Halt<Fault>>
-    ensures changed { IfSome (F.files folder.old) (λ files.
-        Yields (left resources.new result) (Changes setting.tool resources.old (λ answer. answer ≡ list_after (around setting paths.now files) mark resources.old (list_of stmt.now)))) }
-    ensures nameable { (files : ℕ) → mark.file < files → OnRefusal result (IsNameable files) }
-    ensures reads { OnlyReads F.files F.read_faults F.write_faults folder.old folder.new (IsReadFault result) }
+    requires named { IfOk made (λ resource. length resource.name < 256) }
+    ensures put { IfOk made (λ resource. Yields (left resources.new result) (λ answer. answer ≡ list_with mark setting.over resources.old resource)) }
+    ensures stopped { IfErr made (λ halt. result ≡ Err halt) }
+    ensures nameable { (files : ℕ) → mark.file < files → OnRefusal made (IsNameable files) → OnRefusal result (IsNameable files) }
+    ensures unread { IsReadFault result → IsReadFault made }
 {
-    match setting.tool {
-        Tool::Rez => list_step(alloc, folder, paths, stmt, mark, setting, resources),
-        Tool::DeRez => Ok(()),
-    }
-}
-
-/// What a `data` statement on this line does. For DeRez it does nothing, and reads no file.
-fn put_raw<F: Folder>(
-    alloc: Global,
-    folder: &mut F,
-    paths: &FileNames,
-    raw: RawStmt,
-    mark: Mark,
-    setting: Setting,
-    resources: &mut ResSet,
-) -> Result<(), Halt<Fault>>
-    ensures put { IfSome (F.files folder.old) (λ files.
-        Yields (left resources.new result) (Changes setting.tool resources.old (λ answer. answer ≡ list_behind (around setting paths.now files) mark resources.old (raw_of raw)))) }
-    ensures nameable { (files : ℕ) → mark.file < files → OnRefusal result (IsNameable files) }
-    ensures reads { OnlyReads F.files F.read_faults F.write_faults folder.old folder.new (IsReadFault result) }
-{
-    match setting.tool {
-        Tool::Rez => put_data(alloc, folder, paths, raw, mark, setting, resources),
-        Tool::DeRez => Ok(()),
-    }
-}
-
-/// What a `data` statement on this line does for Rez.
-fn put_data<F: Folder>(
-    alloc: Global,
-    folder: &mut F,
-    paths: &FileNames,
-    raw: RawStmt,
-    mark: Mark,
-    setting: Setting,
-    resources: &mut ResSet,
-) -> Result<(), Halt<Fault>>
-    ensures put { IfSome (F.files folder.old) (λ files.
-        Yields (left resources.new result) (λ answer. answer ≡ list_behind (around setting paths.now files) mark resources.old (raw_of raw))) }
-    ensures nameable { (files : ℕ) → mark.file < files → OnRefusal result (IsNameable files) }
-    ensures reads { OnlyReads F.files F.read_faults F.write_faults folder.old folder.new (IsReadFault result) }
-{
-    match resource_of(alloc, folder, paths, raw, mark, setting) {
-        Ok(resource) => halted(put(resources, resource, setting.over, mark)),
-        Err(halt) => Err(halt),
-    }
-}
-
-/// What a `resource` statement on this line does. For DeRez it does nothing, and reads no file.
-fn put_compiled<F: Folder>(
-    alloc: Global,
-    folder: &mut F,
-    paths: &FileNames,
-    stmt: CompileStmt,
-    mark: Mark,
-    setting: Setting,
-    types: &TypeTable,
-    resources: &mut ResSet,
-) -> Result<(), Halt<Fault>>
-    ensures put { IfSome (F.files folder.old) (λ files.
-        Yields (left resources.new result) (Changes setting.tool resources.old (IsListBehind (around setting paths.now files) mark (table_of types.now) resources.old (compile_of stmt)))) }
-    ensures nameable { (files : ℕ) → mark.file < files → AreItemsWithin files (plain_items stmt.items) → OnRefusal result (IsNameable files) }
-    ensures reads { OnlyReads F.files F.read_faults F.write_faults folder.old folder.new (IsReadFault result) }
-{
-    match setting.tool {
-        Tool::Rez => put_items(alloc, folder, paths, stmt, mark, setting, types, resources),
-        Tool::DeRez => Ok(()),
-    }
-}
-
-/// What a `resource` statement on this line does for Rez.
-fn put_items<F: Folder>(
-    alloc: Global,
-    folder: &mut F,
-    paths: &FileNames,
-    stmt: CompileStmt,
-    mark: Mark,
-    setting: Setting,
-    types: &TypeTable,
-    resources: &mut ResSet,
-) -> Result<(), Halt<Fault>>
-    ensures put { IfSome (F.files folder.old) (λ files.
-        Yields (left resources.new result) (IsListBehind (around setting paths.now files) mark (table_of types.now) resources.old (compile_of stmt))) }
-    ensures nameable { (files : ℕ) → mark.file < files → AreItemsWithin files (plain_items stmt.items) → OnRefusal result (IsNameable files) }
-    ensures reads { OnlyReads F.files F.read_faults F.write_faults folder.old folder.new (IsReadFault result) }
-{
-    match resource_of_items(alloc, folder, paths, stmt, mark, setting, types) {
+    match made {
         Ok(resource) => halted(put(resources, resource, setting.over, mark)),
         Err(halt) => Err(halt),
     }
