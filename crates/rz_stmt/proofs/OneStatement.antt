@@ -81,7 +81,7 @@ module _ (spelled : (name : List ℕ) (keyword : Keyword) → (keyword_of name �
   worded tokens a (data_statement one is says) = inr (keywords.Data, typed_begins keywords.Data tokens _ is.frame.typed, (one, is, says))
   worded tokens a (list_statement one is says) = inr (word_of one, list_begins tokens one is, subst (λ (kind : Kind). Says kind tokens a) (sym (kind_of_list one)) (one, is, says))
   worded tokens a (resource_statement one is says) = inr (keywords.Resource, typed_begins keywords.Resource tokens _ is.frame.typed, (one, is, says))
-  worded tokens a (type_statement form is says) = inr (keywords.Kind, (is.word, is.kind ∷ is.behind, is.are, is.is_word), (form, is, says))
+  worded tokens a (type_statement form is says) = inr (keywords.Kind, typed_begins keywords.Kind tokens _ is.typed, (form, is, says))
 
   -- two statements of one kind
   one_said : (kind : Kind) (tokens : List Token) (a b : Result Statement Fault) → Says kind tokens a → Says kind tokens b → a ≡ b

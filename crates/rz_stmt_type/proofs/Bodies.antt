@@ -1,11 +1,9 @@
 -- The values of fields and of cases, one more at a time.
-use Rattle.std.proofs.Common.{◌≡◌, List, [], ◌∷◌, ◌++◌, Ok, Err, refl, sym, ap, ◌∙◌}
+use Rattle.std.proofs.Common.{◌≡◌, List, [], ◌∷◌, Ok, Err, refl, ap}
 use Rattle.std.specs.declared.result.Result.{Result}
-use Rattle.rz_core.specs.Stop.{◌>>=◌, Gives}
+use Rattle.rz_core.specs.Stop.{◌>>=◌}
 use Rattle.rz_core.specs.declared.fault.Fault.{Fault}
 use Rattle.rz_core.specs.declared.fault.Mark.{Mark}
-use Rattle.rz_core.specs.declared.stop.Stop.{Stop}
-use Rattle.rz_core.specs.declared.stop.Stop.TheVariants.{NoMemory, Refused}
 use Rattle.rz_stmt_type.specs.Constants.{body_value, cases_value, case_value}
 use Rattle.rz_stmt_fields.specs.Form as form
 use Rattle.rz_stmt_fields.specs.Form.{CaseForm, CasesForm}

@@ -380,9 +380,9 @@ module _ (mark : Mark) (most : ℕ) (value : PlainMade) where
     where
       lower : (n : ℕ) → n + (count + 1) ≤ most → n ≤ most
       lower n low = omega arith
-  made_fits count tokens own (copied word kind behind code these as_word has_kind ends so) room has =
+  made_fits count tokens own (copied behind code typed ends so) room has =
       copy_fits code None (subst (λ (o : MadeForm). made_value mark o ≡ Ok value) so has)
-  made_fits count tokens own (copied_of word kind behind code parted id these as_word has_kind is ends constant so) room has =
+  made_fits count tokens own (copied_of behind code parted id typed is ends constant so) room has =
       copy_fits code (Some id) (subst (λ (o : MadeForm). made_value mark o ≡ Ok value) so has)
 
   scoped_fits : (count : ℕ) (tokens : List Token) (scope : ScopeForm) (own : MadeForm) → IsScoped tokens scope own → HasRoom most count tokens → made_value mark own ≡ Ok value
@@ -393,12 +393,12 @@ module _ (mark : Mark) (most : ℕ) (value : PlainMade) where
       made_fits behind.0 parted.behind own made_so behind.1 has
 
 type_room : (tokens : List Token) (stmt : DeclareForm) (is : IsDeclare tokens stmt) → is_within_limits tokens ≡ true
-    → HasRoom deepest_type (open_behind is.kind.shape (open_behind is.word.shape 0)) is.behind
+    → HasRoom deepest_type (open_behind is.typed.kind.shape (open_behind is.typed.word.shape 0)) is.behind
 type_room tokens stmt is limits =
-    let here : keeps_limits (depth_limit (is.word ∷ is.kind ∷ is.behind)) 0 0 (is.word ∷ is.kind ∷ is.behind) ≡ true = subst (λ (ts : List Token). is_within_limits ts ≡ true) is.are limits in
-    let of_type : keeps_limits deepest_type 0 0 (is.word ∷ is.kind ∷ is.behind) ≡ true =
-    subst (λ (b : Bool). keeps_limits (if b then deepest_type else deepest) 0 0 (is.word ∷ is.kind ∷ is.behind) ≡ true) is.is_word here in
-    (limits_leave deepest_type 0 0 (is.word ∷ is.kind ∷ is.behind) of_type).1.1
+    let here : keeps_limits (depth_limit (is.typed.word ∷ is.typed.kind ∷ is.behind)) 0 0 (is.typed.word ∷ is.typed.kind ∷ is.behind) ≡ true = subst (λ (ts : List Token). is_within_limits ts ≡ true) is.typed.are limits in
+    let of_type : keeps_limits deepest_type 0 0 (is.typed.word ∷ is.typed.kind ∷ is.behind) ≡ true =
+    subst (λ (b : Bool). keeps_limits (if b then deepest_type else deepest) 0 0 (is.typed.word ∷ is.typed.kind ∷ is.behind) ≡ true) is.typed.is_word here in
+    (limits_leave deepest_type 0 0 (is.typed.word ∷ is.typed.kind ∷ is.behind) of_type).1.1
 
 pub declare_fits : (tokens : List Token) (stmt : DeclareForm) (mark : Mark) (declare : Declare) → is_within_limits tokens ≡ true → IsDeclare tokens stmt → declared mark stmt ≡ Ok declare
     → IsMadeWithin deepest_type declare.made
@@ -406,4 +406,4 @@ declare_fits tokens stmt mark declare limits is has =
     let bounds = then_ok (scope_value mark stmt.scope) _ declare has in
     let made = then_ok (made_value mark stmt.made) _ declare bounds.2 in
     subst (λ (d : Declare). IsMadeWithin deepest_type d.made) (same_ok (record { kind = stmt.kind; bounds = bounds.0; made = made.0 }) declare made.2)
-    (scoped_fits mark deepest_type made.0 (open_behind is.kind.shape (open_behind is.word.shape 0)) is.behind stmt.scope stmt.made is.scoped (type_room tokens stmt is limits) made.1)
+    (scoped_fits mark deepest_type made.0 (open_behind is.typed.kind.shape (open_behind is.typed.word.shape 0)) is.behind stmt.scope stmt.made is.scoped (type_room tokens stmt is limits) made.1)

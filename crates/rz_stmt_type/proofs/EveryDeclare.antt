@@ -1,24 +1,23 @@
 -- Of all tokens it is decided which `type` statement they are.
-use Rattle.std.proofs.Common.{◌≡◌, ℕ, Bool, true, false, List, [], ◌∷◌, Option, Some, None, refl, sym, ap, subst, ◌∙◌}
+use Rattle.std.proofs.Common.{◌≡◌, Bool, true, false, List, [], ◌∷◌, Option, Some, None, refl}
 use Rattle.std.proofs.Math.Decide.{map_dec}
-use Rattle.rz_core.proofs.EveryCut.{all_three, answer_of, both, is_true, some_of}
+use Rattle.rz_core.proofs.EveryCut.{answer_of, both, is_true, known_with}
 use Rattle.rz_core.specs.Decided.{Decided}
 use Rattle.rz_stmt_brackets.specs.Bracket.{begins, IsBracketed}
-use Rattle.rz_stmt_brackets.specs.Kind.{kind_in}
 use Rattle.rz_stmt_brackets.specs.Pieces.{AreCut, Parted}
 use Rattle.rz_stmt_brackets.specs.Statements.{is_empty}
 use Rattle.rz_stmt_brackets.specs.declared.bracket.Bracket.TheVariants.{Curly, Round}
 use Rattle.rz_stmt_brackets.specs.declared.pieces.Divider.TheVariants.{Colon}
-use Rattle.rz_stmt_data.proofs.InFront.{same_tokens}
+use Rattle.rz_stmt_data.proofs.InFront.{is_typed, one_typed}
 use Rattle.rz_stmt_data.specs.Texts.{IsText}
+use Rattle.rz_stmt_data.specs.Typed.{IsTyped, Typed}
 use Rattle.rz_stmt_type.proofs.EveryBody.{has_body, HasBody}
 use Rattle.rz_stmt_type.proofs.EveryFlat.{of_brackets, of_pieces, Decides}
 use Rattle.rz_stmt_type.proofs.MadeSo.{any_back, any_forth, copy_back, copy_forth, fields_back, fields_forth, ids_back, ids_forth}
-use Rattle.rz_stmt_type.specs.Declare.{AreIds, IsDeclare, IsMade, IsScope, IsScoped}
+use Rattle.rz_stmt_type.specs.Declare.{AreIds, IsDeclare, IsMade, IsScope}
 use Rattle.rz_stmt_type.specs.DeclareSteps.{AreScoped, IsCopy, IsCopyId, IsCopyIdBy}
 use Rattle.rz_expr.proofs.OneTerm.{OneExpression}
 use Rattle.rz_expr.specs.Constant.{IsConstant}
-use Rattle.rz_expr.specs.Keyword.{is_keyword}
 use Rattle.rz_expr.specs.Term.{Term}
 use Rattle.rz_expr.specs.declared.keyword.Keyword.TheVariants as keywords
 use Rattle.rz_types_fields.specs.declared.place.TextPlace.{TextPlace}
@@ -31,12 +30,6 @@ use Rattle.rz_stmt_fields.specs.FieldWord.{FieldFront}
 use Rattle.rz_stmt_fields.specs.Form.{Any, CopyOf, DeclareForm, FieldForm, Fields, MadeForm, One, ScopeForm, Two}
 use Rattle.rz_stmt_fields.specs.Key.{IsKey}
 use Rattle.rz_lex.specs.declared.token.Token.{Token}
-
-no_tokens : (x y : Token) (us : List Token) → [] ≡ x ∷ y ∷ us → ⊥
-no_tokens x y us is = cc is
-
-one_token : (a x y : Token) (us : List Token) → a ∷ [] ≡ x ∷ y ∷ us → ⊥
-one_token a x y us is = cc is
 
 abbrev HasScope : List Token → Type 0
 HasScope tokens = (scope : ScopeForm) × IsScope tokens scope
@@ -113,35 +106,15 @@ module _ (one : OneExpression) (expression : EveryExpression) (within : EveryWit
       from h = (h.1.0, h.1.2, (h.1.3, (h.1.1, h.1.4)))
 
   has_copy : (tokens : List Token) → Dec (HasCopy tokens)
-  has_copy [] = no (λ h. no_tokens h.1.word h.1.kind h.1.behind h.1.are)
-  has_copy (token ∷ []) = no (λ h. one_token token h.1.word h.1.kind h.1.behind h.1.are)
-  has_copy (word ∷ kind ∷ behind) =
-      map_dec to from (all_three (is_true (is_keyword keywords.As word.shape)) (some_of (kind_in kind.shape)) (copy_id_by (is_empty behind) behind))
+  has_copy tokens =
+      map_dec to from (known_with (IsTyped keywords.As tokens) (λ typed. HasCopyId typed.behind) (one_typed keywords.As tokens) (is_typed keywords.As tokens)
+      (λ typed is. copy_id_by (is_empty typed.behind) typed.behind))
     where
-      to : (is_keyword keywords.As word.shape ≡ true) × ((code : ℕ) × (kind_in kind.shape ≡ Some code)) × HasCopyId behind → HasCopy (word ∷ kind ∷ behind)
-      to (is, code, id) = (
-        CopyOf code.0 id.0,
-        record {
-          word = word;
-          kind = kind;
-          behind = behind;
-          code = code.0;
-          id = id.0;
-          are = refl;
-          is_word = is;
-          has_kind = code.1;
-          has_id = id.1;
-          made_so = refl;
-        },
-      )
+      to : (typed : Typed) × IsTyped keywords.As tokens typed × HasCopyId typed.behind → HasCopy tokens
+      to (typed, is, (id, has)) = (CopyOf typed.kind id, record { behind = typed.behind; code = typed.kind; id = id; typed = is; has_id = has; made_so = refl })
 
-      from : HasCopy (word ∷ kind ∷ behind) → (is_keyword keywords.As word.shape ≡ true) × ((code : ℕ) × (kind_in kind.shape ≡ Some code)) × HasCopyId behind
-      from h =
-          let same = same_tokens word kind h.1.word h.1.kind behind h.1.behind h.1.are in (
-            ap (λ (t : Token). is_keyword keywords.As t.shape) same.0 ∙ h.1.is_word,
-            (h.1.code, ap (λ (t : Token). kind_in t.shape) same.1 ∙ h.1.has_kind),
-            (h.1.id, subst (λ (ts : List Token). IsCopyId ts h.1.id) (sym same.2) h.1.has_id),
-          )
+      from : HasCopy tokens → (typed : Typed) × IsTyped keywords.As tokens typed × HasCopyId typed.behind
+      from (made, h) = (record { kind = h.code; behind = h.behind }, h.typed, (h.id, h.has_id))
 
   module _ (text : (place : TextPlace) → Decides (IsText place)) (front : Decides IsFront)
       (field : (front : FieldFront) → (answer : Option FieldForm) × Decided (IsFieldFront front) answer) (keys : Decides IsKey)
@@ -196,23 +169,15 @@ module _ (one : OneExpression) (expression : EveryExpression) (within : EveryWit
     -- The statement.
 
     has_declare : (tokens : List Token) → Dec (HasDeclare tokens)
-    has_declare [] = no (λ h. no_tokens h.1.word h.1.kind h.1.behind h.1.are)
-    has_declare (token ∷ []) = no (λ h. one_token token h.1.word h.1.kind h.1.behind h.1.are)
-    has_declare (word ∷ kind ∷ behind) = map_dec to from (all_three (is_true (is_keyword keywords.Kind word.shape)) (some_of (kind_in kind.shape)) (has_scoped behind))
+    has_declare tokens =
+        map_dec to from (known_with (IsTyped keywords.Kind tokens) (λ typed. HasScoped typed.behind) (one_typed keywords.Kind tokens) (is_typed keywords.Kind tokens)
+        (λ typed is. has_scoped typed.behind))
       where
-        to : (is_keyword keywords.Kind word.shape ≡ true) × ((code : ℕ) × (kind_in kind.shape ≡ Some code)) × HasScoped behind → HasDeclare (word ∷ kind ∷ behind)
-        to (is, code, scoped) = (
-          record { kind = code.0; scope = scoped.0.0; made = scoped.0.1 },
-          record { word = word; kind = kind; behind = behind; are = refl; is_word = is; has_kind = code.1; scoped = scoped.1 },
-        )
+        to : (typed : Typed) × IsTyped keywords.Kind tokens typed × HasScoped typed.behind → HasDeclare tokens
+        to (typed, is, ((scope, made), scoped)) = (record { kind = typed.kind; scope = scope; made = made }, record { behind = typed.behind; typed = is; scoped = scoped })
 
-        from : HasDeclare (word ∷ kind ∷ behind) → (is_keyword keywords.Kind word.shape ≡ true) × ((code : ℕ) × (kind_in kind.shape ≡ Some code)) × HasScoped behind
-        from h =
-            let same = same_tokens word kind h.1.word h.1.kind behind h.1.behind h.1.are in (
-              ap (λ (t : Token). is_keyword keywords.Kind t.shape) same.0 ∙ h.1.is_word,
-              (h.0.kind, ap (λ (t : Token). kind_in t.shape) same.1 ∙ h.1.has_kind),
-              ((h.0.scope, h.0.made), subst (λ (ts : List Token). IsScoped ts h.0.scope h.0.made) (sym same.2) h.1.scoped),
-            )
+        from : HasDeclare tokens → (typed : Typed) × IsTyped keywords.Kind tokens typed × HasScoped typed.behind
+        from (form, h) = (record { kind = form.kind; behind = h.behind }, h.typed, ((form.scope, form.made), h.scoped))
 
     pub every_declare : (tokens : List Token) → (answer : Option DeclareForm) × Decided (IsDeclare tokens) answer
     every_declare tokens = answer_of (IsDeclare tokens) (has_declare tokens)

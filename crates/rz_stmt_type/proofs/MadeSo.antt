@@ -14,6 +14,7 @@ use Rattle.rz_stmt_brackets.specs.Pieces.{Parted}
 use Rattle.rz_stmt_brackets.specs.Statements.{is_empty}
 use Rattle.rz_stmt_brackets.specs.declared.bracket.Bracket.{Bracket}
 use Rattle.rz_stmt_brackets.specs.declared.bracket.Bracket.TheVariants.{Curly, Round, Square}
+use Rattle.rz_stmt_data.specs.Typed.{IsTyped, Typed}
 use Rattle.rz_stmt_type.specs.Declare.{copied, copied_of, for_any, for_ids, in_braces, IsMade}
 use Rattle.rz_stmt_type.specs.DeclareSteps.{AreFieldsMade, AreForAny, AreForIds, AreScoped, IsCopy, IsCopyId, IsCopyIdBy}
 use Rattle.rz_stmt_fields.specs.Form.{CopyOf, MadeForm, ScopeForm}
@@ -34,9 +35,8 @@ two_brackets _ is = absurd (true_false (sym is))
 pub begins_so : (bracket : Bracket) (tokens : List Token) (parted : Parted) → IsBracketed bracket tokens parted → begins bracket tokens ≡ true
 begins_so bracket tokens parted is = ap (begins bracket) is.are ∙ is.opens
 
-keyword_begins : (keyword : Keyword) (bracket : Bracket) (tokens behind : List Token) (word : Token) → tokens ≡ word ∷ behind → is_keyword keyword word.shape ≡ true
-    → begins bracket tokens ≡ true → ⊥
-keyword_begins keyword bracket tokens behind word are is opens = no_keyword keyword bracket word.shape (ap (begins bracket) (sym are) ∙ opens) is
+typed_begins : (bracket : Bracket) (tokens : List Token) (typed : Typed) → IsTyped keywords.As tokens typed → begins bracket tokens ≡ true → ⊥
+typed_begins bracket tokens typed is opens = no_keyword keywords.As bracket is.word.shape (ap (begins bracket) (sym is.are) ∙ opens) is.is_word
 
 curly_or_round : (tokens : List Token) → begins Curly tokens ≡ true → begins Round tokens ≡ true → ⊥
 curly_or_round [] is also = true_false (sym is)
@@ -61,9 +61,8 @@ fields_forth tokens made is = in_braces is.0 is.1 is.2 is.3 is.4 is.5
 
 pub fields_back : (tokens : List Token) → begins Curly tokens ≡ true → (made : MadeForm) → IsMade tokens made → AreFieldsMade tokens made
 fields_back tokens begin made (in_braces parted body bracketed ends is so) = (parted, body, bracketed, ends, is, so)
-fields_back tokens begin made (copied word kind behind code are is has ends so) = absurd (keyword_begins keywords.As Curly tokens (kind ∷ behind) word are is begin)
-fields_back tokens begin made (copied_of word kind behind code parted id are is has bracketed ends constant so) =
-    absurd (keyword_begins keywords.As Curly tokens (kind ∷ behind) word are is begin)
+fields_back tokens begin made (copied behind code typed ends so) = absurd (typed_begins Curly tokens _ typed begin)
+fields_back tokens begin made (copied_of behind code parted id typed bracketed ends constant so) = absurd (typed_begins Curly tokens _ typed begin)
 
 copy_by : (empty : Bool) (behind : List Token) (id : Option Term) → is_empty behind ≡ empty → IsCopyIdBy empty behind id → IsCopyId behind id
 copy_by empty behind id same is = subst (λ (b : Bool). IsCopyIdBy b behind id) (sym same) is
@@ -72,33 +71,25 @@ pub copy_forth : (tokens : List Token) (made : MadeForm) → IsCopy tokens made 
 copy_forth tokens made is = by (is_empty is.behind) refl is.has_id
   where
     by : (empty : Bool) → is_empty is.behind ≡ empty → IsCopyIdBy empty is.behind is.id → IsMade tokens made
-    by true ends none = copied is.word is.kind is.behind is.code is.are is.is_word is.has_kind ends (is.made_so ∙ ap (λ (o : Option Term). CopyOf is.code o) none)
+    by true ends none = copied is.behind is.code is.typed ends (is.made_so ∙ ap (λ (o : Option Term). CopyOf is.code o) none)
     by false ends (parted, term, bracketed, end, constant, so) =
-        copied_of is.word is.kind is.behind is.code parted term is.are is.is_word is.has_kind bracketed end constant (is.made_so ∙ ap (λ (o : Option Term). CopyOf is.code o) so)
+        copied_of is.behind is.code parted term is.typed bracketed end constant (is.made_so ∙ ap (λ (o : Option Term). CopyOf is.code o) so)
 
 pub copy_back : (tokens : List Token) → begins Curly tokens ≡ false → (made : MadeForm) → IsMade tokens made → IsCopy tokens made
 copy_back tokens begin made (in_braces parted body bracketed ends is so) = absurd (true_false (sym (begins_so Curly tokens parted bracketed) ∙ begin))
-copy_back tokens begin made (copied word kind behind code are is has ends so) = record {
-  word = word;
-  kind = kind;
+copy_back tokens begin made (copied behind code typed ends so) = record {
   behind = behind;
   code = code;
   id = None;
-  are = are;
-  is_word = is;
-  has_kind = has;
+  typed = typed;
   has_id = copy_by true behind None ends refl;
   made_so = so;
 }
-copy_back tokens begin made (copied_of word kind behind code parted id are is has bracketed ends constant so) = record {
-  word = word;
-  kind = kind;
+copy_back tokens begin made (copied_of behind code parted id typed bracketed ends constant so) = record {
   behind = behind;
   code = code;
   id = Some id;
-  are = are;
-  is_word = is;
-  has_kind = has;
+  typed = typed;
   has_id = copy_by false behind (Some id) (not_empty Round behind parted bracketed) (parted, id, bracketed, ends, constant, refl);
   made_so = so;
 }
@@ -107,9 +98,8 @@ copy_back tokens begin made (copied_of word kind behind code parted id are is ha
 
 never_round : (tokens : List Token) (made : MadeForm) → begins Round tokens ≡ true → IsMade tokens made → ⊥
 never_round tokens made round (in_braces parted body bracketed ends is so) = curly_or_round tokens (begins_so Curly tokens parted bracketed) round
-never_round tokens made round (copied word kind behind code are is has ends so) = keyword_begins keywords.As Round tokens (kind ∷ behind) word are is round
-never_round tokens made round (copied_of word kind behind code parted id are is has bracketed ends constant so) =
-    keyword_begins keywords.As Round tokens (kind ∷ behind) word are is round
+never_round tokens made round (copied behind code typed ends so) = typed_begins Round tokens _ typed round
+never_round tokens made round (copied_of behind code parted id typed bracketed ends constant so) = typed_begins Round tokens _ typed round
 
 pub any_forth : (tokens : List Token) (parts : ScopeForm × MadeForm) → AreForAny tokens parts → AreScoped tokens parts
 any_forth tokens parts is =

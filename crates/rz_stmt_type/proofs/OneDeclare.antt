@@ -1,15 +1,16 @@
 -- `type` statements are one at most.
 use Rattle.std.proofs.Common.{◌≡◌, Bool, true, false, List, [], ◌∷◌, Option, Some, refl, sym, ap, subst, ◌∙◌}
 use Rattle.rz_expr.proofs.OneTerm.{OneExpression}
-use Rattle.rz_core.proofs.Tests.{same_some}
 use Rattle.rz_stmt_brackets.specs.Bracket.{begins}
-use Rattle.rz_stmt_brackets.specs.Kind.{kind_in}
 use Rattle.rz_stmt_brackets.specs.Pieces.{Parted}
 use Rattle.rz_stmt_brackets.specs.Statements.{is_empty}
 use Rattle.rz_stmt_brackets.specs.declared.bracket.Bracket.TheVariants.{Curly, Round}
 use Rattle.rz_stmt_brackets.specs.declared.pieces.Divider.TheVariants.{Colon}
 use Rattle.rz_expr.specs.Term.{Term}
+use Rattle.rz_expr.specs.declared.keyword.Keyword.TheVariants.{As, Kind}
 use Rattle.rz_lex.specs.declared.token.Token.{Token}
+use Rattle.rz_stmt_data.proofs.InFront.{one_typed}
+use Rattle.rz_stmt_data.specs.Typed.{Typed}
 use Rattle.rz_stmt_type.specs.Body.{IsBody}
 use Rattle.rz_stmt_type.specs.Declare.{AreIds, IsDeclare, IsMade, IsScope, IsScoped}
 use Rattle.rz_stmt_type.specs.DeclareSteps.{AreFieldsMade, AreForAny, AreForIds, AreScoped, IsCopy, IsCopyId, IsCopyIdBy, IsGivenId}
@@ -19,15 +20,6 @@ use Rattle.rz_stmt_type.proofs.MadeSo.{any_back, copy_back, fields_back, ids_bac
 use Rattle.rz_stmt_type.proofs.OneBody.{one_body}
 use Rattle.rz_stmt_fields.proofs.OneTerm.{OneCut, OneWithin}
 use Rattle.rz_stmt_fields.proofs.OneValue.{one_constant}
-
-same_tokens : (tokens xs ys : List Token) (a b x y : Token) → tokens ≡ a ∷ x ∷ xs → tokens ≡ b ∷ y ∷ ys → (x ≡ y) × (xs ≡ ys)
-same_tokens tokens xs ys a b x y is also = (heads (sym is ∙ also), tails (sym is ∙ also))
-  where
-    heads : a ∷ x ∷ xs ≡ b ∷ y ∷ ys → x ≡ y
-    heads e = cc e
-
-    tails : a ∷ x ∷ xs ≡ b ∷ y ∷ ys → xs ≡ ys
-    tails e = cc e
 
 abbrev pair_any : MadeForm → ScopeForm × MadeForm
 pair_any made = (Any, made)
@@ -62,10 +54,9 @@ module _ (one : OneExpression) (cut : OneCut) (within : OneWithin) where
 
   one_copy : (tokens : List Token) (a b : MadeForm) → IsCopy tokens a → IsCopy tokens b → a ≡ b
   one_copy tokens a b is also =
-      let same = same_tokens tokens is.behind also.behind is.word also.word is.kind also.kind is.are also.are in
-      let code : is.code ≡ also.code = same_some (kind_in also.kind.shape) is.code also.code (ap (λ (t : Token). kind_in t.shape) (sym same.0) ∙ is.has_kind) also.has_kind in
-      let id : is.id ≡ also.id = copy_id_by (is_empty also.behind) also.behind is.id also.id (subst (λ (ts : List Token). IsCopyId ts is.id) same.1 is.has_id) also.has_id in
-      is.made_so ∙ (λ i. CopyOf (code i) (id i)) ∙ sym also.made_so
+      let same = one_typed As tokens _ _ is.typed also.typed in
+      let id : is.id ≡ also.id = copy_id_by (is_empty also.behind) also.behind is.id also.id (subst (λ (t : Typed). IsCopyId t.behind is.id) same is.has_id) also.has_id in
+      is.made_so ∙ (λ i. CopyOf (same i).kind (id i)) ∙ sym also.made_so
 
   one_made : (tokens : List Token) (a b : MadeForm) → IsMade tokens a → IsMade tokens b → a ≡ b
   one_made tokens a b is also = by (begins Curly tokens) refl
@@ -93,7 +84,6 @@ module _ (one : OneExpression) (cut : OneCut) (within : OneWithin) where
 
   pub one_type_statement : (tokens : List Token) (a b : DeclareForm) → IsDeclare tokens a → IsDeclare tokens b → a ≡ b
   one_type_statement tokens a b is also =
-      let same = same_tokens tokens is.behind also.behind is.word also.word is.kind also.kind is.are also.are in
-      let kind : a.kind ≡ b.kind = same_some (kind_in also.kind.shape) a.kind b.kind (ap (λ (t : Token). kind_in t.shape) (sym same.0) ∙ is.has_kind) also.has_kind in
-      let parts = one_scoped also.behind (a.scope, a.made) (b.scope, b.made) (subst (λ (ts : List Token). IsScoped ts a.scope a.made) same.1 is.scoped) also.scoped in
-      λ i. record { kind = kind i; scope = (parts i).0; made = (parts i).1 }
+      let same = one_typed Kind tokens _ _ is.typed also.typed in
+      let parts = one_scoped also.behind (a.scope, a.made) (b.scope, b.made) (subst (λ (t : Typed). IsScoped t.behind a.scope a.made) same is.scoped) also.scoped in
+      λ i. record { kind = (same i).kind; scope = (parts i).0; made = (parts i).1 }

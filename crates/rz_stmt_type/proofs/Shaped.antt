@@ -28,8 +28,8 @@ IsMadeFormed (form.CopyOf kind id) = Unit {0}
 made_formed : (tokens : List Token) (made : MadeForm) → IsMade tokens made → AreLexed tokens → IsMadeFormed made
 made_formed tokens made (in_braces parted body is none fields so) are =
     subst IsMadeFormed (sym so) (body_formed false parted.front body fields (within_lexed Curly tokens parted is are))
-made_formed tokens made (copied word kind behind code these as_word has none so) are = subst IsMadeFormed (sym so) tt
-made_formed tokens made (copied_of word kind behind code parted id these as_word has is none constant so) are = subst IsMadeFormed (sym so) tt
+made_formed tokens made (copied behind code typed none so) are = subst IsMadeFormed (sym so) tt
+made_formed tokens made (copied_of behind code parted id typed is none constant so) are = subst IsMadeFormed (sym so) tt
 
 scoped_formed : (tokens : List Token) (scope : ScopeForm) (made : MadeForm) → IsScoped tokens scope made → AreLexed tokens → IsMadeFormed made
 scoped_formed tokens scope made (for_any any is) are = made_formed tokens made is are
@@ -62,7 +62,7 @@ fields_shaped : (tokens : List Token) (stmt : DeclareForm) (mark : Mark) (declar
 fields_shaped tokens stmt mark declare are is has =
     let bounds = then_ok (scope_value mark stmt.scope) _ declare has in
     let made = then_ok (made_value mark stmt.made) _ declare bounds.2 in
-    let formed = scoped_formed is.behind stmt.scope stmt.made is.scoped (subst AreLexed is.are are).1.1 in
+    let formed = scoped_formed is.behind stmt.scope stmt.made is.scoped (subst AreLexed is.typed.are are).1.1 in
     subst (λ (d : Declare). AreShapedFields d.made) (same_ok (record { kind = stmt.kind; bounds = bounds.0; made = made.0 }) declare made.2)
     (made_shaped mark stmt.made formed made.0 made.1)
 

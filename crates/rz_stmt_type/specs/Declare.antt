@@ -1,16 +1,15 @@
 -- A `type` statement as it is written: `type`, a type, maybe ids in brackets, and fields in braces, or `as` and another
 -- type. (MPW Rez.)
 use Rattle.std.specs.Prelude.{◌≡◌, ℕ, true, false, List, [], ◌∷◌, Some, None}
-use Rattle.rz_expr.specs.Keyword.{is_keyword}
 use Rattle.rz_expr.specs.Term.{Term}
 use Rattle.rz_expr.specs.declared.keyword.Keyword.TheVariants as keywords
 use Rattle.rz_lex.specs.declared.token.Token.{Token}
 use Rattle.rz_stmt_brackets.specs.Bracket.{IsBracketed}
-use Rattle.rz_stmt_brackets.specs.Kind.{kind_in}
 use Rattle.rz_stmt_brackets.specs.Pieces.{AreCut, Parted}
 use Rattle.rz_stmt_brackets.specs.Statements.{is_empty}
 use Rattle.rz_stmt_brackets.specs.declared.bracket.Bracket.TheVariants.{Curly, Round}
 use Rattle.rz_stmt_brackets.specs.declared.pieces.Divider.TheVariants.{Colon}
+use Rattle.rz_stmt_data.specs.Typed.{IsTyped}
 use Rattle.rz_stmt_type.specs.Body.{IsBody}
 use Rattle.rz_expr.specs.Constant.{IsConstant}
 use Rattle.rz_stmt_fields.specs.Form.{Any, BodyForm, CopyOf, DeclareForm, Fields, MadeForm, One, ScopeForm, Two}
@@ -31,12 +30,11 @@ pub data IsMade (tokens : List Token) (made : MadeForm) : Type 0 where
   in_braces : (parted : Parted) (body : BodyForm) → IsBracketed Curly tokens parted → is_empty parted.behind ≡ true → IsBody false parted.front body
       → made ≡ Fields body → IsMade tokens made
   -- `as` and another type
-  copied : (word kind : Token) (behind : List Token) (code : ℕ) → tokens ≡ word ∷ kind ∷ behind → is_keyword keywords.As word.shape ≡ true
-      → kind_in kind.shape ≡ Some code → is_empty behind ≡ true → made ≡ CopyOf code None → IsMade tokens made
+  copied : (behind : List Token) (code : ℕ) → IsTyped keywords.As tokens (record { kind = code; behind = behind }) → is_empty behind ≡ true
+      → made ≡ CopyOf code None → IsMade tokens made
   -- `as`, another type, and one of its ids in brackets
-  copied_of : (word kind : Token) (behind : List Token) (code : ℕ) (parted : Parted) (id : Term) → tokens ≡ word ∷ kind ∷ behind
-      → is_keyword keywords.As word.shape ≡ true → kind_in kind.shape ≡ Some code → IsBracketed Round behind parted → is_empty parted.behind ≡ true
-      → IsConstant parted.front id → made ≡ CopyOf code (Some id) → IsMade tokens made
+  copied_of : (behind : List Token) (code : ℕ) (parted : Parted) (id : Term) → IsTyped keywords.As tokens (record { kind = code; behind = behind })
+      → IsBracketed Round behind parted → is_empty parted.behind ≡ true → IsConstant parted.front id → made ≡ CopyOf code (Some id) → IsMade tokens made
 
 -- for which ids, and what the type is
 pub data IsScoped (tokens : List Token) (scope : ScopeForm) (made : MadeForm) : Type 0 where
@@ -47,10 +45,6 @@ pub data IsScoped (tokens : List Token) (scope : ScopeForm) (made : MadeForm) : 
 
 -- the tokens are this statement
 pub record IsDeclare (tokens : List Token) (form : DeclareForm) : Type 0 where
-  pub word : Token
-  pub kind : Token
   pub behind : List Token
-  pub are : tokens ≡ word ∷ kind ∷ behind
-  pub is_word : is_keyword keywords.Kind word.shape ≡ true
-  pub has_kind : kind_in kind.shape ≡ Some form.kind
+  pub typed : IsTyped keywords.Kind tokens (record { kind = form.kind; behind = behind })
   pub scoped : IsScoped behind form.scope form.made

@@ -1,14 +1,13 @@
 -- What the code asks of a `type` statement, part by part. `Declare` says the same in the words of the language.
-use Rattle.std.specs.Prelude.{◌≡◌, ℕ, Bool, true, false, List, ◌∷◌, Option, Some, None}
-use Rattle.rz_expr.specs.Keyword.{is_keyword}
+use Rattle.std.specs.Prelude.{◌≡◌, ℕ, Bool, true, false, List, Option, Some, None}
 use Rattle.rz_expr.specs.Term.{Term}
 use Rattle.rz_expr.specs.declared.keyword.Keyword.TheVariants as keywords
 use Rattle.rz_lex.specs.declared.token.Token.{Token}
 use Rattle.rz_stmt_brackets.specs.Bracket.{IsBracketed}
-use Rattle.rz_stmt_brackets.specs.Kind.{kind_in}
 use Rattle.rz_stmt_brackets.specs.Pieces.{Parted}
 use Rattle.rz_stmt_brackets.specs.Statements.{is_empty}
 use Rattle.rz_stmt_brackets.specs.declared.bracket.Bracket.TheVariants.{Curly, Round}
+use Rattle.rz_stmt_data.specs.Typed.{IsTyped}
 use Rattle.rz_stmt_type.specs.Body.{IsBody}
 use Rattle.rz_stmt_type.specs.Declare.{IsMade, IsScope, IsScoped}
 use Rattle.rz_expr.specs.Constant.{IsConstant}
@@ -36,14 +35,10 @@ abbrev pub IsCopyId : List Token → Option Term → Type 0
 IsCopyId tokens id = IsCopyIdBy (is_empty tokens) tokens id
 
 pub record IsCopy (tokens : List Token) (made : MadeForm) : Type 0 where
-  pub word : Token
-  pub kind : Token
   pub behind : List Token
   pub code : ℕ
   pub id : Option Term
-  pub are : tokens ≡ word ∷ kind ∷ behind
-  pub is_word : is_keyword keywords.As word.shape ≡ true
-  pub has_kind : kind_in kind.shape ≡ Some code
+  pub typed : IsTyped keywords.As tokens (record { kind = code; behind = behind })
   pub has_id : IsCopyId behind id
   pub made_so : made ≡ CopyOf code id
 

@@ -8,12 +8,11 @@ ghost use Rattle.rz_core.specs.Decided.{Decided};
 ghost use Rattle.rz_stmt_fields.specs.Form.{declare_form, made_form, scope_form};
 
 use crate::body::read_body;
-use rz_core::{NoMemory, OsType};
-use rz_expr::{Expr, Keyword, is_keyword, read_constant};
+use rz_core::NoMemory;
+use rz_expr::{Expr, Keyword, read_constant};
 use rz_lex::Token;
-use rz_stmt_brackets::{
-    Bracket, Divider, begins, bracketed, is_empty_statement, kind_in, pieces_by,
-};
+use rz_stmt_brackets::{Bracket, Divider, begins, bracketed, is_empty_statement, pieces_by};
+use rz_stmt_data::read_typed;
 use rz_stmt_fields::{DeclareExpr, MadeExpr, ScopeExpr};
 use std::alloc::Global;
 
@@ -23,18 +22,12 @@ use std::alloc::Global;
 pub fn read_declare(alloc: Global, tokens: &[Token]) -> Result<Option<DeclareExpr>, NoMemory>
     ensures { IfOk result (λ stmt. Decided (IsDeclare tokens.now) (option_map declare_form stmt)) }
 {
-    let [word, kind, behind @ ..] = tokens else {
+    let Some(typed) = read_typed(tokens, Keyword::Kind) else {
         return Ok(None);
     };
-    if !is_keyword(word, Keyword::Kind) {
-        return Ok(None);
-    }
-    let Some(code) = kind_in(kind) else {
-        return Ok(None);
-    };
-    match read_scoped(alloc, behind)? {
+    match read_scoped(alloc, typed.behind)? {
         Some(parts) => Ok(Some(DeclareExpr {
-            kind: OsType { code },
+            kind: typed.kind,
             scope: parts.scope,
             made: parts.made,
         })),
@@ -155,17 +148,11 @@ fn read_fields(alloc: Global, tokens: &[Token]) -> Result<Option<MadeExpr>, NoMe
 fn read_copy(alloc: Global, tokens: &[Token]) -> Result<Option<MadeExpr>, NoMemory>
     ensures { IfOk result (λ made. Decided (IsCopy tokens.now) (option_map made_form made)) }
 {
-    let [word, kind, behind @ ..] = tokens else {
+    let Some(typed) = read_typed(tokens, Keyword::As) else {
         return Ok(None);
     };
-    if !is_keyword(word, Keyword::As) {
-        return Ok(None);
-    }
-    let Some(code) = kind_in(kind) else {
-        return Ok(None);
-    };
-    match read_copy_id(alloc, behind)? {
-        Some(id) => Ok(Some(MadeExpr::Copy(OsType { code }, id))),
+    match read_copy_id(alloc, typed.behind)? {
+        Some(id) => Ok(Some(MadeExpr::Copy(typed.kind, id))),
         None => Ok(None),
     }
 }

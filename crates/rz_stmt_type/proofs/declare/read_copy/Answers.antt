@@ -1,13 +1,15 @@
-use Rattle.std.proofs.Common.{List, subst}
-use Rattle.rz_stmt_brackets.proofs.Slices.{behind_of, same_behind, two}
-use Rattle.rz_lex.specs.declared.token.Token.{Token}
+use Rattle.std.proofs.Common.{subst}
+use Rattle.rz_expr.specs.declared.keyword.Keyword.TheVariants.{As}
+use Rattle.rz_stmt_data.proofs.InFront.{one_typed}
+use Rattle.rz_stmt_data.specs.Typed.{Typed}
 use Rattle.rz_stmt_type.specs.DeclareSteps.{IsCopyId}
 use Rattle.rz_stmt_type.proofs.declare.read_copy.Goals as goal
 
+pub returns-in_default : goal.returns-in_default
+returns-in_default c made is = c.in_default.ensures _ is.typed
+
 pub returns-in-None : goal.returns-in-None
 returns-in-None c made is =
-    let tokens = c.args.tokens.now in
+    let same = one_typed As c.args.tokens.now _ _ is.typed c.in-Some.ensures in
     let never = rw c.in-None.is at c.in_ok-id.ensures in
-    never is.id (subst (λ (ts : List Token). IsCopyId ts is.id)
-    (same_behind tokens is.behind (behind_of 2 tokens) is.word c.word-item.result is.kind c.kind-item.result is.are
-    (two tokens c.word-item.result c.kind-item.result c.in-len2-up.len_at_least c.word-item.is c.kind-item.is)) is.has_id)
+    never is.id (subst (λ (t : Typed). IsCopyId t.behind is.id) same is.has_id)
