@@ -8,28 +8,30 @@ use rz_test_tables::{Case, Text, add_if_wrong, cases_of};
 use std::process::Abort;
 
 /// All tables, and what the cases of each call.
-const TABLES: [(Call, &str); 20] = [
-    (Call::Check, checks::CHECKS),
-    (Call::RunsWritten, runs::WRITTEN),
-    (Call::RunsRead, runs::READ),
-    (Call::Found, forms::EDGES),
-    (Call::DataFile, forms::DATA_FILES),
-    (Call::LastName, forms::LAST_NAMES),
-    (Call::Again(Form::Raw), forms::RAW_AGAIN),
-    (Call::Read(Form::Raw), forms::RAW_READ),
-    (Call::Written(Form::AppleDouble), headers::WRITTEN),
-    (Call::Again(Form::AppleDouble), headers::AGAIN),
-    (Call::Told(Form::AppleDouble), headers::TOLD),
-    (Call::Read(Form::AppleDouble), headers::READ),
-    (Call::Written(Form::MacBinary), macbinary::WRITTEN),
-    (Call::Again(Form::MacBinary), macbinary::AGAIN),
-    (Call::Told(Form::MacBinary), macbinary::TOLD),
-    (Call::Read(Form::MacBinary), macbinary::READ),
-    (Call::Written(Form::BinHex), binhex::WRITTEN),
-    (Call::Again(Form::BinHex), binhex::AGAIN),
-    (Call::Told(Form::BinHex), binhex::TOLD),
-    (Call::Read(Form::BinHex), binhex::READ),
-];
+fn tables() -> [(Call, &'static str); 20] {
+    [
+        (Call::Check, checks::CHECKS),
+        (Call::RunsWritten, runs::WRITTEN),
+        (Call::RunsRead, runs::READ),
+        (Call::Found, forms::EDGES),
+        (Call::DataFile, forms::DATA_FILES),
+        (Call::LastName, forms::LAST_NAMES),
+        (Call::Again(Form::Raw), forms::RAW_AGAIN),
+        (Call::Read(Form::Raw), forms::RAW_READ),
+        (Call::Written(Form::AppleDouble), headers::WRITTEN),
+        (Call::Again(Form::AppleDouble), headers::AGAIN),
+        (Call::Told(Form::AppleDouble), headers::TOLD),
+        (Call::Read(Form::AppleDouble), headers::READ),
+        (Call::Written(Form::MacBinary), macbinary::WRITTEN),
+        (Call::Again(Form::MacBinary), macbinary::AGAIN),
+        (Call::Told(Form::MacBinary), macbinary::TOLD),
+        (Call::Read(Form::MacBinary), macbinary::READ),
+        (Call::Written(Form::BinHex), binhex::WRITTEN),
+        (Call::Again(Form::BinHex), binhex::AGAIN),
+        (Call::Told(Form::BinHex), binhex::TOLD),
+        (Call::Read(Form::BinHex), binhex::READ),
+    ]
+}
 
 /// Adds a case that comes out otherwise, with what came.
 fn add_case(rt: &(impl Abort + AllocGlobal), call: Call, case: &Case<'_>, wrong: &mut String) {
@@ -49,7 +51,7 @@ fn add_wrong(rt: &(impl Abort + AllocGlobal), call: Call, table: &str, wrong: &m
 /// All cases that come out otherwise, each with what came.
 fn all_wrong(rt: &(impl Abort + AllocGlobal)) -> String {
     let mut wrong = String::new(rt.alloc());
-    for (call, table) in &TABLES {
+    for (call, table) in &tables() {
         add_wrong(rt, *call, table, &mut wrong);
     }
     wrong

@@ -6,19 +6,21 @@ use rz_test_tables::{Case, Text, add_if_wrong, cases_of};
 use std::process::Abort;
 
 /// All tables, and what the cases of each call.
-const TABLES: [(Call, &str); 11] = [
-    (Call::Role, roles::ROLES),
-    (Call::Constant, constants::CONSTANTS),
-    (Call::Value, operators::EDGES),
-    (Call::Value, operators::BITS),
-    (Call::Value, operators::LEVELS),
-    (Call::Value, expressions::LONGEST),
-    (Call::Value, expressions::OPERANDS),
-    (Call::ValueAt, expressions::STARTS),
-    (Call::Value, expressions::FUNCTIONS),
-    (Call::Value, expressions::LONG),
-    (Call::Value, faults::FAULTS),
-];
+fn tables() -> [(Call, &'static str); 11] {
+    [
+        (Call::Role, roles::ROLES),
+        (Call::Constant, constants::CONSTANTS),
+        (Call::Value, operators::EDGES),
+        (Call::Value, operators::BITS),
+        (Call::Value, operators::LEVELS),
+        (Call::Value, expressions::LONGEST),
+        (Call::Value, expressions::OPERANDS),
+        (Call::ValueAt, expressions::STARTS),
+        (Call::Value, expressions::FUNCTIONS),
+        (Call::Value, expressions::LONG),
+        (Call::Value, faults::FAULTS),
+    ]
+}
 
 /// Adds a case that comes out otherwise, with what came.
 fn add_case(rt: &(impl Abort + AllocGlobal), call: Call, case: &Case<'_>, wrong: &mut String) {
@@ -37,7 +39,7 @@ fn add_wrong(rt: &(impl Abort + AllocGlobal), call: Call, table: &str, wrong: &m
 /// All cases that come out otherwise, each with what came.
 fn all_wrong(rt: &(impl Abort + AllocGlobal)) -> String {
     let mut wrong = String::new(rt.alloc());
-    for (call, table) in &TABLES {
+    for (call, table) in &tables() {
         add_wrong(rt, *call, table, &mut wrong);
     }
     wrong
