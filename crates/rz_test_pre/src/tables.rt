@@ -9,34 +9,36 @@ use rz_test_tables::{Case, Text, add_if_wrong, cases_of};
 use std::process::Abort;
 
 /// All tables, and what the cases of each show.
-const TABLES: [(Call, &str); 26] = [
-    (Call::Meaning, conditionals::PARTS),
-    (Call::Meaning, conditionals::PASSED),
-    (Call::Meaning, conditionals::UNPAIRED),
-    (Call::Decision(Tool::Rez), conditions::VALUES),
-    (Call::Decision(Tool::Rez), conditions::NO_VALUES),
-    (Call::Decision(Tool::DeRez), conditions::OF_DEREZ),
-    (Call::Meaning, definitions::OF_WORDS),
-    (Call::Macros, definitions::AT_THE_END),
-    (Call::Meaning, directives::TOLD),
-    (Call::Meaning, directives::REFUSED),
-    (Call::Meaning, directives::LINES),
-    (Call::Meaning, expansions::REPLACED),
-    (Call::WordsAfterFifteen, expansions::MOST),
-    (Call::AfterFifteen, expansions::MORE),
-    (Call::Meaning, faults::INSIDE),
-    (Call::Meaning, faults::FIRST),
-    (Call::Meaning, faults::LONG),
-    (Call::Meaning, files::INCLUDED),
-    (Call::Meaning, files::DEEP),
-    (Call::Meaning, files::LOOKED_FOR),
-    (Call::Meaning, files::NAMED),
-    (Call::Meaning, files::ROMAN),
-    (Call::Meaning, files::FAILING),
-    (Call::FileAfter, files::UNCHANGED),
-    (Call::Meaning, sources::TURNED),
-    (Call::Meaning, sources::INCLUDED),
-];
+fn tables() -> [(Call, &'static str); 26] {
+    [
+        (Call::Meaning, conditionals::PARTS),
+        (Call::Meaning, conditionals::PASSED),
+        (Call::Meaning, conditionals::UNPAIRED),
+        (Call::Decision(Tool::Rez), conditions::VALUES),
+        (Call::Decision(Tool::Rez), conditions::NO_VALUES),
+        (Call::Decision(Tool::DeRez), conditions::OF_DEREZ),
+        (Call::Meaning, definitions::OF_WORDS),
+        (Call::Macros, definitions::AT_THE_END),
+        (Call::Meaning, directives::TOLD),
+        (Call::Meaning, directives::REFUSED),
+        (Call::Meaning, directives::LINES),
+        (Call::Meaning, expansions::REPLACED),
+        (Call::WordsAfterFifteen, expansions::MOST),
+        (Call::AfterFifteen, expansions::MORE),
+        (Call::Meaning, faults::INSIDE),
+        (Call::Meaning, faults::FIRST),
+        (Call::Meaning, faults::LONG),
+        (Call::Meaning, files::INCLUDED),
+        (Call::Meaning, files::DEEP),
+        (Call::Meaning, files::LOOKED_FOR),
+        (Call::Meaning, files::NAMED),
+        (Call::Meaning, files::ROMAN),
+        (Call::Meaning, files::FAILING),
+        (Call::FileAfter, files::UNCHANGED),
+        (Call::Meaning, sources::TURNED),
+        (Call::Meaning, sources::INCLUDED),
+    ]
+}
 
 /// Adds a case that comes out otherwise, with what came.
 fn add_case(rt: &(impl Abort + AllocGlobal), call: Call, case: &Case<'_>, wrong: &mut String) {
@@ -55,7 +57,7 @@ fn add_wrong(rt: &(impl Abort + AllocGlobal), call: Call, table: &str, wrong: &m
 /// All cases that come out otherwise, each with what came.
 fn all_wrong(rt: &(impl Abort + AllocGlobal)) -> String {
     let mut wrong = String::new(rt.alloc());
-    for (call, table) in &TABLES {
+    for (call, table) in &tables() {
         add_wrong(rt, *call, table, &mut wrong);
     }
     wrong
