@@ -47,10 +47,15 @@ fn add_case(rt: &(impl Abort + AllocGlobal), case: &Case<'_>, wrong: &mut String
     add_if_wrong(case.line, case.wanted.as_bytes(), came.as_slice(), wrong).expect(rt, "memory");
 }
 
+/// All cases, as a call, so that their text stands in no other proof.
+fn table() -> &'static str {
+    CASES
+}
+
 /// All cases that come out otherwise.
 fn all_wrong(rt: &(impl Abort + AllocGlobal)) -> String {
     let mut wrong = String::new(rt.alloc());
-    for case in &cases_of(rt.alloc(), CASES, "//").expect(rt, "cases") {
+    for case in &cases_of(rt.alloc(), table(), "//").expect(rt, "cases") {
         add_case(rt, case, &mut wrong);
     }
     wrong
