@@ -1,3 +1,5 @@
+//! Command lines.
+
 /// Words with a blank between them, and what they ask for; `~` is the empty word. `rez` shows its sources, the
 /// file to write, its paths for included files and for the files of statements, its definitions, each text by the number
 /// of its tokens, `-rd`, `-a`, `-ov`, `-ro`, its type and its creator, each by its number, and its form. `derez` shows

@@ -1,55 +1,68 @@
+//! The test of command lines.
+
 use crate::commands::CASES;
 use crate::shown::{show_bridge, show_derez, show_rez};
-use rz_core::{Bytes, Stop, write_decimal};
-use rz_test_tables::{add_if_wrong, cases_of};
+use rz_core::Stop;
+use rz_test_tables::{Case, Text, add_if_wrong, cases_of};
 use rz_tools_args::{Command, read_words};
 use std::alloc::Global;
-use std::test::Fail;
+use std::process::Abort;
 
 /// The words of a case.
-fn words_of(alloc: Global, text: &str) -> Result<Vec<String>, Fail> {
-    let mut words = Vec::new(alloc);
+fn words_of(rt: &(impl Abort + AllocGlobal), text: &str) -> Vec<String> {
+    let mut words = Vec::new(rt.alloc());
     if text.is_empty() {
-        return Ok(words);
+        return words;
     }
     for word in text.split(' ') {
         let word = if word == "~" { "" } else { word };
-        words.push(word.to_string(alloc)?)?;
+        words
+            .push(word.to_string(rt.alloc()).expect(rt, "memory"))
+            .expect(rt, "memory");
     }
-    Ok(words)
+    words
 }
 
-/// What words ask for, as text.
-fn outcome_of(alloc: Global, words: &[String]) -> Result<Bytes, Fail> {
-    let mut text = Bytes::new(alloc);
+/// Shows what words ask for.
+fn show_words(alloc: Global, words: &[String], came: &mut Text) {
     match read_words(alloc, words) {
-        Ok(Command::Rez(asked)) => show_rez(&asked, &mut text)?,
-        Ok(Command::DeRez(asked)) => show_derez(&asked, &mut text)?,
-        Ok(Command::Bridge(asked)) => show_bridge(&asked, &mut text)?,
-        Ok(Command::Help) => text.append(b"help")?,
-        Ok(Command::Version) => text.append(b"version")?,
+        Ok(Command::Rez(asked)) => show_rez(&asked, came),
+        Ok(Command::DeRez(asked)) => show_derez(&asked, came),
+        Ok(Command::Bridge(asked)) => show_bridge(&asked, came),
+        Ok(Command::Help) => came.put(b"help"),
+        Ok(Command::Version) => came.put(b"version"),
         Err(Stop::Refused(fault)) => {
-            text.append(b"word ")?;
-            write_decimal(fault.position, &mut text)?;
+            came.put(b"word ");
+            came.number(fault.position);
         }
-        Err(Stop::NoMemory) => return Err(Fail::from("no memory")),
+        Err(Stop::NoMemory) => came.fail(),
     }
-    Ok(text)
+}
+
+/// Adds a case that comes out otherwise, with what came.
+fn add_case(rt: &(impl Abort + AllocGlobal), case: &Case<'_>, wrong: &mut String) {
+    let words = words_of(rt, case.text);
+    let mut came = Text::new(rt.alloc());
+    show_words(rt.alloc(), words.as_slice(), &mut came);
+    add_if_wrong(case.line, case.wanted.as_bytes(), came.as_slice(), wrong).expect(rt, "memory");
+}
+
+/// All cases, as a call, so that their text stands in no other proof.
+fn table() -> &'static str {
+    CASES
+}
+
+/// All cases that come out otherwise.
+fn all_wrong(rt: &(impl Abort + AllocGlobal)) -> String {
+    let mut wrong = String::new(rt.alloc());
+    for case in &cases_of(rt.alloc(), table(), "//").expect(rt, "cases") {
+        add_case(rt, case, &mut wrong);
+    }
+    wrong
 }
 
 #[test]
-fn words_are_commands(rt: HostRuntime) -> Result<(), Fail> {
-    let mut wrong = String::new(rt.alloc());
-    for case in &cases_of(rt.alloc(), CASES, "//")? {
-        let words = words_of(rt.alloc(), case.text)?;
-        let came = outcome_of(rt.alloc(), words.as_slice())?;
-        add_if_wrong(
-            case.line,
-            case.wanted.as_bytes(),
-            came.as_slice(),
-            &mut wrong,
-        )?;
-    }
+fn words_are_commands(rt: HostRuntime) {
+    let wrong = all_wrong(&rt);
     assert_eq!(rt; wrong.as_str(), "");
-    Ok(())
 }

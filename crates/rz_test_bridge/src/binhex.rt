@@ -1,3 +1,5 @@
+//! BinHex.
+
 /// Names, both forks, and the text. Behind the line that says what it is stand 64 and 65 characters in the last two.
 /// Worked out by another program.
 pub const WRITTEN: &str = r##"

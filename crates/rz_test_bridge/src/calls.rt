@@ -1,12 +1,15 @@
+//! What the cases of tables call.
+
 use crate::edits::edited;
-use crate::outcome::{append_file, told};
+use crate::outcome::{show_fault, show_file};
 use crate::spelled::{file_of, spelled};
 use rz_bridge::{BridgeFault, MacFile, crc};
 use rz_bridge_form::{Form, data_file_name, form_of, last_name, read_form, write_form};
 use rz_core::{Bytes, Stop};
 use rz_hqx::{runs_read, runs_write};
+use rz_test_tables::Text;
 use std::alloc::Global;
-use std::test::Fail;
+use std::process::Abort;
 
 /// What the cases of a table call, and what the text of a case is for it.
 #[derive(Clone, Copy)]
@@ -35,51 +38,75 @@ pub enum Call {
     Told(Form),
 }
 
-/// What the text of a case gives.
-pub fn outcome_of(alloc: Global, call: Call, text: &str) -> Result<Bytes, Fail> {
+/// Shows what the text of a case gives.
+pub fn show_call(rt: &(impl Abort + AllocGlobal), call: Call, text: &str, came: &mut Text) {
     match call {
-        Call::Check => check_of(alloc, text),
-        Call::RunsWritten => Ok(runs_write(alloc, spelled(alloc, text)?.as_slice())?),
-        Call::RunsRead => runs_of(alloc, text),
-        Call::Found => found(alloc, text),
-        Call::DataFile => Ok(Bytes::of(alloc, data_file_name(alloc, text)?.as_bytes())?),
-        Call::LastName => Ok(Bytes::of(alloc, last_name(text).as_bytes())?),
-        Call::Written(form) => match write_form(alloc, form, &file_of(alloc, text)?) {
-            Ok(bytes) => Ok(bytes),
-            Err(stop) => told(alloc, stop),
-        },
-        Call::Again(form) => again(alloc, form, &file_of(alloc, text)?),
-        Call::Read(form) => outcome_read(alloc, form, text, true),
-        Call::Told(form) => outcome_read(alloc, form, text, false),
+        Call::Check => show_check(rt, text, came),
+        Call::RunsWritten => show_codes(rt, text, came),
+        Call::RunsRead => show_runs(rt, text, came),
+        Call::Found => show_found(rt, text, came),
+        Call::DataFile => show_data_file(rt, text, came),
+        Call::LastName => came.put(last_name(text).as_bytes()),
+        Call::Written(form) => show_written(rt.alloc(), form, &file_of(rt, text), came),
+        Call::Again(form) => show_again(rt.alloc(), form, &file_of(rt, text), came),
+        Call::Read(form) => show_read(rt, form, text, true, came),
+        Call::Told(form) => show_read(rt, form, text, false, came),
     }
 }
 
-/// The check of parts with `|` between them, as if they were one.
-fn check_of(alloc: Global, text: &str) -> Result<Bytes, Fail> {
+/// Shows the check of parts with `|` between them, as if they were one.
+fn show_check(rt: &(impl Abort + AllocGlobal), text: &str, came: &mut Text) {
     let mut check = 0;
     for part in text.split('|') {
-        check = crc(check, spelled(alloc, part)?.as_slice());
+        check = crc(check, spelled(rt, part).as_slice());
     }
-    Ok(Bytes::of(alloc, format!(in alloc; "{check:x}")?.as_bytes())?)
+    came.put(
+        format!(in rt.alloc(); "{check:x}")
+            .expect(rt, "memory")
+            .as_bytes(),
+    );
 }
 
-/// The bytes of codes, or the fault.
-fn runs_of(alloc: Global, text: &str) -> Result<Bytes, Fail> {
-    let codes = spelled(alloc, text)?;
+/// Shows the codes of bytes.
+fn show_codes(rt: &(impl Abort + AllocGlobal), text: &str, came: &mut Text) {
+    let codes = runs_write(rt.alloc(), spelled(rt, text).as_slice()).expect(rt, "memory");
+    came.put(codes.as_slice());
+}
+
+/// Shows the bytes of codes, or the fault.
+fn show_runs(rt: &(impl Abort + AllocGlobal), text: &str, came: &mut Text) {
+    let codes = spelled(rt, text);
     if codes.len() >= 1_000_000 {
-        return Err(Fail::from("too long for a test"));
+        panic!(rt; "too long for a test");
     }
-    match runs_read(alloc, codes.as_slice()) {
-        Ok(bytes) => Ok(bytes),
-        Err(stop) => told(alloc, stop),
+    match runs_read(rt.alloc(), codes.as_slice()) {
+        Ok(bytes) => came.put(bytes.as_slice()),
+        Err(stop) => show_fault(stop, came),
     }
 }
 
-/// The form of bytes with a header of MacBinary, after edits.
-fn found(alloc: Global, edits: &str) -> Result<Bytes, Fail> {
-    let header = spelled(alloc, r"\00\01a«\00×119»\81\81«\00×76»")?;
-    let form = form_of(edited(alloc, header, edits)?.as_slice());
-    Ok(Bytes::of(alloc, format!(in alloc; "{form:?}")?.as_bytes())?)
+/// Shows the form of bytes with a header of MacBinary, after edits.
+fn show_found(rt: &(impl Abort + AllocGlobal), edits: &str, came: &mut Text) {
+    let header = spelled(rt, r"\00\01a«\00×119»\81\81«\00×76»");
+    let form = form_of(edited(rt, header, edits).as_slice());
+    came.put(form_name(form));
+}
+
+/// Shows the data file beside a header file.
+fn show_data_file(rt: &(impl Abort + AllocGlobal), path: &str, came: &mut Text) {
+    came.put(
+        data_file_name(rt.alloc(), path)
+            .expect(rt, "memory")
+            .as_bytes(),
+    );
+}
+
+/// Shows the bytes of a file in a form, or the fault.
+fn show_written(alloc: Global, form: Form, file: &MacFile, came: &mut Text) {
+    match write_form(alloc, form, file) {
+        Ok(bytes) => came.put(bytes.as_slice()),
+        Err(stop) => show_fault(stop, came),
+    }
 }
 
 /// Reads bytes of a test.
@@ -95,55 +122,73 @@ fn read(
     read_form(alloc, form, bytes, data_file)
 }
 
-/// The form that is found of a file's bytes in a form, how many there are, and the file that is read of them.
-fn again(alloc: Global, form: Form, file: &MacFile) -> Result<Bytes, Fail> {
-    let bytes = match write_form(alloc, form, file) {
-        Ok(bytes) => bytes,
-        Err(stop) => return told(alloc, stop),
-    };
-    let found = form_of(bytes.as_slice());
-    let front = format!(in alloc; "{found:?} {} ", bytes.len())?;
-    let mut text = Bytes::of(alloc, front.as_bytes())?;
-    match read(alloc, form, bytes.as_slice(), file.data_fork.as_slice()) {
-        Ok(file) => append_file(alloc, form, &file, &mut text)?,
-        Err(stop) => text.append(told(alloc, stop)?.as_slice())?,
+/// Shows the form that is found of a file's bytes in a form, how many there are, and the file that is read of them.
+fn show_again(alloc: Global, form: Form, file: &MacFile, came: &mut Text) {
+    match write_form(alloc, form, file) {
+        Ok(bytes) => {
+            came.put(form_name(form_of(bytes.as_slice())));
+            came.put(b" ");
+            came.number(bytes.len());
+            came.put(b" ");
+            match read(alloc, form, bytes.as_slice(), file.data_fork.as_slice()) {
+                Ok(file) => show_file(alloc, form, &file, came),
+                Err(stop) => show_fault(stop, came),
+            }
+        }
+        Err(stop) => show_fault(stop, came),
     }
-    Ok(text)
+}
+
+/// The name of a form.
+fn form_name(form: Form) -> &'static [u8] {
+    match form {
+        Form::Raw => b"Raw",
+        Form::AppleDouble => b"AppleDouble",
+        Form::MacBinary => b"MacBinary",
+        Form::BinHex => b"BinHex",
+    }
 }
 
 /// The bytes in a form that the text of a case stands for.
-fn bytes_in(alloc: Global, form: Form, text: &str) -> Result<Bytes, Fail> {
+fn bytes_in(rt: &(impl Abort + AllocGlobal), form: Form, text: &str) -> Bytes {
     match form {
-        Form::Raw => spelled(alloc, text),
-        Form::BinHex => {
-            let Some(body) = text.strip_prefix('~') else {
-                return spelled(alloc, text);
-            };
-            let mut bytes = Bytes::of(alloc, b"(This file must be converted with BinHex 4.0)\n")?;
-            bytes.append(spelled(alloc, body)?.as_slice())?;
-            Ok(bytes)
-        }
+        Form::Raw => spelled(rt, text),
+        Form::BinHex => in_letters(rt, text),
         Form::MacBinary | Form::AppleDouble => {
             let (file, edits) = text.split_once(' ').unwrap_or((text, ""));
-            match write_form(alloc, form, &file_of(alloc, file)?) {
-                Ok(bytes) => edited(alloc, bytes, edits),
-                Err(stop) => told(alloc, stop),
+            match write_form(rt.alloc(), form, &file_of(rt, file)) {
+                Ok(bytes) => edited(rt, bytes, edits),
+                Err(_) => panic!(rt; "a file that can't be written"),
             }
         }
     }
 }
 
-/// The fault of bytes; where there is none, the file or `none`.
-fn outcome_read(alloc: Global, form: Form, text: &str, is_shown: bool) -> Result<Bytes, Fail> {
-    let bytes = bytes_in(alloc, form, text)?;
-    let file = match read(alloc, form, bytes.as_slice(), b"data") {
-        Ok(file) => file,
-        Err(stop) => return told(alloc, stop),
+/// A text of BinHex, where `~` stands for the line that says what it is.
+fn in_letters(rt: &(impl Abort + AllocGlobal), text: &str) -> Bytes {
+    let Some(body) = text.strip_prefix('~') else {
+        return spelled(rt, text);
     };
-    if !is_shown {
-        return Ok(Bytes::of(alloc, b"none")?);
+    let front = b"(This file must be converted with BinHex 4.0)\n";
+    let mut bytes = Bytes::of(rt.alloc(), front).expect(rt, "memory");
+    bytes
+        .append(spelled(rt, body).as_slice())
+        .expect(rt, "memory");
+    bytes
+}
+
+/// Shows the fault of bytes; where there is none, the file or `none`.
+fn show_read(
+    rt: &(impl Abort + AllocGlobal),
+    form: Form,
+    text: &str,
+    is_shown: bool,
+    came: &mut Text,
+) {
+    let bytes = bytes_in(rt, form, text);
+    match read(rt.alloc(), form, bytes.as_slice(), b"data") {
+        Ok(file) if is_shown => show_file(rt.alloc(), form, &file, came),
+        Ok(_) => came.put(b"none"),
+        Err(stop) => show_fault(stop, came),
     }
-    let mut shown = Bytes::new(alloc);
-    append_file(alloc, form, &file, &mut shown)?;
-    Ok(shown)
 }

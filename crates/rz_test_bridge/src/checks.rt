@@ -1,3 +1,5 @@
+//! Checks of bytes.
+
 /// Bytes and their check, worked out by Python's `binascii.crc_hqx`.
 pub const CHECKS: &str = r#"
  => 0

@@ -1,3 +1,5 @@
+//! The form of bytes, names of files, and forks as files of their own.
+
 /// Edits of bytes with a header of MacBinary, and the form of what is left of them.
 pub const EDGES: &str = r#"
 ..0 => Raw

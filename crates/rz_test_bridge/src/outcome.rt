@@ -1,8 +1,10 @@
+//! Files and faults as text.
+
 use rz_bridge::{BridgeFault, MacFile};
 use rz_bridge_form::Form;
-use rz_core::{Bytes, Kept, Stop};
+use rz_core::{Kept, Stop};
+use rz_test_tables::Text;
 use std::alloc::Global;
-use std::test::Fail;
 
 /// The numbers that a fault keeps.
 fn numbers(kept: &Kept) -> (i64, i64, i64) {
@@ -17,15 +19,20 @@ fn numbers(kept: &Kept) -> (i64, i64, i64) {
     }
 }
 
-/// A fault as text: its number, the offset, and the three numbers that it keeps.
-pub fn told(alloc: Global, stop: Stop<BridgeFault>) -> Result<Bytes, Fail> {
+/// Shows a fault: its number, the offset, and the three numbers that it keeps.
+pub fn show_fault(stop: Stop<BridgeFault>, came: &mut Text) {
     let Stop::Refused(fault) = stop else {
-        return Err(Fail::from("out of memory"));
+        came.fail();
+        return;
     };
     let (first, second, third) = numbers(&fault.kept);
-    let (number, offset) = (fault.number, fault.offset);
-    let text = format!(in alloc; "{number} {offset} {first} {second} {third}")?;
-    Ok(Bytes::of(alloc, text.as_bytes())?)
+    came.number(u64::from(fault.number));
+    came.put(b" ");
+    came.number(fault.offset);
+    for number in [first, second, third] {
+        came.put(b" ");
+        came.signed(number);
+    }
 }
 
 /// What a form keeps of the fields that all files of the tests have, as text.
@@ -42,24 +49,21 @@ fn kept_in(form: Form) -> &'static str {
     }
 }
 
-/// Appends a file as text: `NAME|DATA|RESOURCES`, and behind `|` the other fields, unless they are what the form keeps of
-/// those that all files of the tests have.
-pub fn append_file(
-    alloc: Global,
-    form: Form,
-    file: &MacFile,
-    text: &mut Bytes,
-) -> Result<(), Fail> {
-    text.append(file.name.as_slice())?;
-    text.push(b'|')?;
-    text.append(file.data_fork.as_slice())?;
-    text.push(b'|')?;
-    text.append(file.res_fork.as_slice())?;
+/// Shows a file: `NAME|DATA|RESOURCES`, and after `|` the other fields, unless they are what the form keeps of those
+/// that all files of the tests have.
+pub fn show_file(alloc: Global, form: Form, file: &MacFile, came: &mut Text) {
+    came.put(file.name.as_slice());
+    came.put(b"|");
+    came.put(file.data_fork.as_slice());
+    came.put(b"|");
+    came.put(file.res_fork.as_slice());
     let (locked, created, modified) = (file.locked, file.created, file.modified);
-    let fields = format!(in alloc; "{locked} {created} {modified} {:?}", file.finder)?;
-    if fields.as_str() != kept_in(form) {
-        text.push(b'|')?;
-        text.append(fields.as_bytes())?;
+    match format!(in alloc; "{locked} {created} {modified} {:?}", file.finder) {
+        Ok(fields) if fields.as_str() == kept_in(form) => {}
+        Ok(fields) => {
+            came.put(b"|");
+            came.put(fields.as_bytes());
+        }
+        Err(_) => came.fail(),
     }
-    Ok(())
 }

@@ -1,3 +1,5 @@
+//! Run codes.
+
 /// Runs of any length, and their codes.
 pub const WRITTEN: &str = r#"
  => «\00×0»

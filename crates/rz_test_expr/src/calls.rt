@@ -1,9 +1,10 @@
+//! What the cases of tables call.
+
 use crate::fixed::Fixed;
 use rz_core::{Bytes, Stop, Word};
 use rz_expr::{EvalFault, constant_of, copy, eval, is_constant, read_expr, role_of};
-use rz_test_tables::{CaseFault, expanded, tokens_of};
-use std::alloc::Global;
-use std::test::Fail;
+use rz_test_tables::{Text, expanded, tokens_of};
+use std::process::Abort;
 
 /// What the cases of a table call, and what the text of a case is for it.
 #[derive(Clone, Copy)]
@@ -19,68 +20,88 @@ pub enum Call {
     Role,
 }
 
-/// What the text of a case gives, as `expanded` reads it.
-pub fn outcome_of(alloc: Global, call: Call, text: &str) -> Result<Bytes, Fail> {
-    let text = expanded(alloc, text)?;
+/// Shows what the text of a case gives, as `expanded` reads it.
+pub fn show_call(rt: &(impl Abort + AllocGlobal), call: Call, text: &str, came: &mut Text) {
+    let text = expanded(rt.alloc(), text).expect(rt, "memory");
     match call {
-        Call::Value => value_at(alloc, &text, 0),
-        Call::ValueAt => match text.split_once(": ") {
-            Some((start, text)) => value_at(alloc, text, start.parse::<u64>()?),
-            None => Err(Fail::from(CaseFault::NoCase)),
-        },
-        Call::Constant => constant(alloc, &text),
-        Call::Role => {
-            let bytes = Bytes::of(alloc, text.as_bytes())?;
-            let role = format!(in alloc; "{:?}", role_of(&Word { bytes }))?;
-            Ok(Bytes::of(alloc, role.as_bytes())?)
+        Call::Value => show_value(rt, &text, 0, came),
+        Call::ValueAt => {
+            let (start, text) = text
+                .split_once(": ")
+                .ok_or("no case")
+                .expect(rt, "two parts");
+            show_value(rt, text, start.parse::<u64>().expect(rt, "a number"), came);
         }
+        Call::Constant => show_constant(rt, &text, came),
+        Call::Role => show_role(rt, &text, came),
     }
 }
 
-/// The value of the longest expression that begins at a token of a text, or its fault, and where it ends.
-fn value_at(alloc: Global, text: &str, start: u64) -> Result<Bytes, Fail> {
-    let tokens = tokens_of(alloc, text.as_bytes())?;
+/// Shows the role of a word.
+fn show_role(rt: &(impl Abort + AllocGlobal), text: &str, came: &mut Text) {
+    let bytes = Bytes::of(rt.alloc(), text.as_bytes()).expect(rt, "memory");
+    let role = format!(in rt.alloc(); "{:?}", role_of(&Word { bytes })).expect(rt, "memory");
+    came.put(role.as_bytes());
+}
+
+/// Shows the value of the longest expression that begins at a token of a text, or its fault, and where it ends.
+fn show_value(rt: &(impl Abort + AllocGlobal), text: &str, start: u64, came: &mut Text) {
+    let tokens = tokens_of(rt.alloc(), text.as_bytes()).expect(rt, "tokens");
     if start > tokens.len() {
-        return Err(Fail::from("no such token"));
+        panic!(rt; "no such token");
     }
-    let Some(found) = read_expr(alloc, &tokens, start)? else {
-        return Ok(Bytes::of(alloc, b"none")?);
+    let Some(found) = read_expr(rt.alloc(), &tokens, start).expect(rt, "memory") else {
+        came.put(b"none");
+        return;
     };
-    let mut outcome = match eval(alloc, &found.expr, &Fixed) {
-        Ok(value) => format!(in alloc; "{value}")?,
-        Err(Stop::Refused(fault)) => told(alloc, &fault)?,
-        Err(Stop::NoMemory) => return Err(Fail::from(CaseFault::NoMemory)),
-    };
+    match eval(rt.alloc(), &found.expr, &Fixed) {
+        Ok(value) => came.signed(i64::from(value)),
+        Err(Stop::Refused(fault)) => show_fault(&fault, came),
+        Err(Stop::NoMemory) => came.fail(),
+    }
     if found.end < tokens.len() {
-        outcome.push_str(&format!(in alloc; " to {}", found.end)?)?;
+        came.put(b" to ");
+        came.number(found.end);
     }
-    Ok(Bytes::of(alloc, outcome.as_bytes())?)
 }
 
-/// The name of a fault and what it keeps.
-fn told(alloc: Global, fault: &EvalFault) -> Result<String, Fail> {
+/// Shows the name of a fault and what it keeps.
+fn show_fault(fault: &EvalFault, came: &mut Text) {
     match fault {
-        EvalFault::ZeroDivisor => Ok(format!(in alloc; "ZeroDivisor")?),
+        EvalFault::ZeroDivisor => came.put(b"ZeroDivisor"),
         EvalFault::UnknownName(name) => {
-            let mut text = format!(in alloc; "UnknownName ")?;
-            for byte in name.bytes.as_slice() {
-                text.push(char::from(*byte))?;
-            }
-            Ok(text)
+            came.put(b"UnknownName ");
+            came.put(name.bytes.as_slice());
         }
-        EvalFault::LaterData(first, end) => Ok(format!(in alloc; "LaterData {first} {end}")?),
-        EvalFault::DataWidth(width) => Ok(format!(in alloc; "DataWidth {width}")?),
-        EvalFault::BadShift(count) => Ok(format!(in alloc; "BadShift {count}")?),
+        EvalFault::LaterData(first, end) => {
+            came.put(b"LaterData ");
+            came.signed(i64::from(*first));
+            came.put(b" ");
+            came.signed(i64::from(*end));
+        }
+        EvalFault::DataWidth(width) => {
+            came.put(b"DataWidth ");
+            came.signed(i64::from(*width));
+        }
+        EvalFault::BadShift(count) => {
+            came.put(b"BadShift ");
+            came.signed(i64::from(*count));
+        }
     }
 }
 
-/// Whether a copy of the expression of a text is a constant, and its value.
-fn constant(alloc: Global, text: &str) -> Result<Bytes, Fail> {
-    let tokens = tokens_of(alloc, text.as_bytes())?;
-    let Some(found) = read_expr(alloc, &tokens, 0)? else {
-        return Ok(Bytes::of(alloc, b"none")?);
+/// Shows whether a copy of the expression of a text is a constant, and its value.
+fn show_constant(rt: &(impl Abort + AllocGlobal), text: &str, came: &mut Text) {
+    let tokens = tokens_of(rt.alloc(), text.as_bytes()).expect(rt, "tokens");
+    let Some(found) = read_expr(rt.alloc(), &tokens, 0).expect(rt, "memory") else {
+        came.put(b"none");
+        return;
     };
-    let copied = copy(alloc, &found.expr)?;
-    let outcome = format!(in alloc; "{} {:?}", is_constant(&copied), constant_of(&copied))?;
-    Ok(Bytes::of(alloc, outcome.as_bytes())?)
+    let copied = copy(rt.alloc(), &found.expr).expect(rt, "memory");
+    let (is_constant, value) = (is_constant(&copied), constant_of(&copied));
+    came.put(
+        format!(in rt.alloc(); "{is_constant} {value:?}")
+            .expect(rt, "memory")
+            .as_bytes(),
+    );
 }

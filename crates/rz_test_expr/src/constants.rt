@@ -1,3 +1,5 @@
+//! Constants.
+
 /// Constants have no names and no functions.
 pub const CONSTANTS: &str = r"
 7 => true Some(7)

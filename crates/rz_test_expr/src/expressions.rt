@@ -1,3 +1,5 @@
+//! Expressions, where they end, and their operands.
+
 /// The longest expression is read.
 pub const LONGEST: &str = r#"
 // where operands end

@@ -1,3 +1,5 @@
+//! Faults of expressions.
+
 /// The first fault of an expression is given.
 pub const FAULTS: &str = r"
 // quotients and shifts

@@ -1,3 +1,5 @@
+//! Operators: their edges, their bits and their levels.
+
 /// Numbers and literals, and operators at the ends of their range.
 pub const EDGES: &str = r"
 // numbers and literals

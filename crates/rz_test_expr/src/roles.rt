@@ -1,3 +1,5 @@
+//! What words may be.
+
 /// Words and their roles.
 pub const ROLES: &str = r"
 // labels

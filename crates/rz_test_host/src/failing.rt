@@ -1,3 +1,5 @@
+//! The host's files, one call of which fails.
+
 use std::alloc::Allocator;
 use std::cell::Cell;
 use std::fs::{File, Metadata, OpenFile, OpenOptions, Permissions};

@@ -1,70 +1,92 @@
-use crate::steps::{in_two, said, text_of};
+//! Calls of the host's files, and what they give, as text.
+
+use crate::steps::{in_two, show_bytes, show_done};
 use rz_folder::{Folder, RealFolder, Written};
-use rz_test_tables::CaseFault;
-use std::fs;
+use rz_test_tables::Text;
+use std::alloc::Global;
 use std::fs::{OpenOptions, Permissions};
 use std::os::unix::fs::{PermissionsExt, symlink};
-use std::test::Fail;
+use std::{fs, io};
 
-/// What a call of the host's gives.
-pub fn file_step(rt: HostRuntime, call: &str) -> Result<String, Fail> {
-    let alloc = rt.alloc();
-    match in_two(call)? {
-        ("make-folder", name) => fs::create_dir(&rt, name)?,
-        ("remove-folder", name) => fs::remove_dir(&rt, name)?,
-        ("remove", name) => fs::remove_file(&rt, name)?,
+/// Makes a call of the host's, or shows what the host tells of a file.
+pub fn show_file_call(rt: HostRuntime, call: &str, came: &mut Text) {
+    match in_two(call) {
+        ("make-folder", name) => show_done(fs::create_dir(&rt, name), came),
+        ("remove-folder", name) => show_done(fs::remove_dir(&rt, name), came),
+        ("remove", name) => show_done(fs::remove_file(&rt, name), came),
         ("write", rest) => {
-            let (name, content) = in_two(rest)?;
-            fs::write(&rt, name, content.as_bytes())?;
+            let (name, content) = in_two(rest);
+            show_done(fs::write(&rt, name, content.as_bytes()), came);
         }
         ("link", rest) => {
-            let (target, link) = in_two(rest)?;
-            symlink(&rt, target, link)?;
+            let (target, link) = in_two(rest);
+            show_done(symlink(&rt, target, link), came);
         }
-        ("allow", rest) => {
-            let (mode, name) = in_two(rest)?;
-            let mode = u32::from_str_radix(mode, 8)?;
-            fs::set_permissions(&rt, name, Permissions::from_mode(mode))?;
+        ("allow", rest) => show_allow(rt, rest, came),
+        ("read", name) => match fs::read(&rt, name) {
+            Ok(bytes) => show_bytes(bytes.as_slice(), came),
+            Err(_) => came.put(b"refused"),
+        },
+        ("mode", name) => match fs::metadata(&rt, name) {
+            Ok(facts) => show_mode(rt.alloc(), facts.permissions().mode() & 0o777, came),
+            Err(_) => came.put(b"refused"),
+        },
+        ("is-link", name) => {
+            let facts = fs::symlink_metadata(&rt, name);
+            show_truth(facts.map(|facts| facts.is_symlink()), came);
         }
-        _ => return fact(rt, call),
+        ("exists", name) => show_truth(fs::exists(&rt, name), came),
+        _ => came.fail(),
     }
-    said(alloc, "")
 }
 
-/// What the host tells of a file.
-fn fact(rt: HostRuntime, call: &str) -> Result<String, Fail> {
-    let alloc = rt.alloc();
-    match in_two(call)? {
-        ("read", name) => text_of(alloc, fs::read(&rt, name)?.as_slice()),
-        ("mode", name) => {
-            let mode = fs::metadata(&rt, name)?.permissions().mode() & 0o777;
-            Ok(format!(in alloc; "{mode:o}")?)
+/// Sets the permissions of a file.
+fn show_allow(rt: HostRuntime, call: &str, came: &mut Text) {
+    let (mode, name) = in_two(call);
+    match u32::from_str_radix(mode, 8) {
+        Ok(mode) => {
+            let permissions = Permissions::from_mode(mode);
+            show_done(fs::set_permissions(&rt, name, permissions), came);
         }
-        ("is-link", name) => {
-            let is_link = fs::symlink_metadata(&rt, name)?.is_symlink();
-            Ok(format!(in alloc; "{is_link}")?)
-        }
-        ("exists", name) => Ok(format!(in alloc; "{}", fs::exists(&rt, name)?)?),
-        _ => Err(Fail::from(CaseFault::NoCase)),
+        Err(_) => came.fail(),
+    }
+}
+
+/// Shows permissions in octal.
+fn show_mode(alloc: Global, mode: u32, came: &mut Text) {
+    match format!(in alloc; "{mode:o}") {
+        Ok(mode) => came.put(mode.as_bytes()),
+        Err(_) => came.fail(),
+    }
+}
+
+/// Shows whether something is so.
+fn show_truth(is_so: io::Result<bool>, came: &mut Text) {
+    match is_so {
+        Ok(true) => came.put(b"true"),
+        Ok(false) => came.put(b"false"),
+        Err(_) => came.put(b"refused"),
     }
 }
 
 /// Writes a file that is there: `Done` where the host lets it be written, else `Failed`. What gives the other of both is
 /// `wrong`.
-pub fn rewrite(
+pub fn show_rewrite(
     rt: HostRuntime,
     folder: &mut RealFolder<HostRuntime>,
     call: &str,
-) -> Result<String, Fail> {
-    let (name, content) = in_two(call)?;
+    came: &mut Text,
+) {
+    let (name, content) = in_two(call);
     if content.len() > 1_000 {
-        return Err(Fail::from(CaseFault::TooLong));
+        came.fail();
+        return;
     }
     let may_write = OpenOptions::new().write(true).open(&rt, name).is_ok();
     let is_done = matches!(folder.write(name, content.as_bytes()), Written::Done);
     if is_done == may_write {
-        said(rt.alloc(), "as the host lets it")
+        came.put(b"as the host lets it");
     } else {
-        said(rt.alloc(), "wrong")
+        came.put(b"wrong");
     }
 }

@@ -1,9 +1,9 @@
-use crate::steps::said;
+//! The layout of a fork.
+
 use rz_core::{Attr, Bytes, OsType, Resource, Resources};
 use rz_fork::{ForkList, read_fork, write_fork};
-use rz_test_tables::CaseFault;
+use rz_test_tables::Text;
 use std::alloc::Global;
-use std::test::Fail;
 
 /// The map of the fork.
 const MAP: [u8; 37] = [
@@ -13,31 +13,30 @@ const MAP: [u8; 37] = [
     2, b'a', b'b',
 ];
 
-/// What is wrong with the fork of one resource, as it is written, or as it is read again.
-pub fn fork_step(alloc: Global, call: &str) -> Result<String, Fail> {
+/// Shows whether the fork of one resource is right, as it is written, or as it is read again.
+pub fn show_fork(alloc: Global, call: &str, came: &mut Text) {
+    match fork_of_one(alloc) {
+        Some(fork) => came.put(match call {
+            "written" if is_written(fork.as_slice()) => b"right",
+            "read" if is_read(alloc, fork.as_slice()) => b"right",
+            _ => b"wrong",
+        }),
+        None => came.fail(),
+    }
+}
+
+/// The fork of one resource.
+fn fork_of_one(alloc: Global) -> Option<Bytes> {
     let mut list = Resources::new(alloc);
-    list.push(Resource {
+    let resource = Resource {
         kind: OsType { code: 0x5465_7374 },
         id: -1,
-        name: Bytes::of(alloc, b"ab")?,
+        name: Bytes::of(alloc, b"ab").ok()?,
         attr: Attr::of(0x81),
         bytes: Bytes::new(alloc),
-    })?;
-    let Ok(fork) = write_fork(alloc, &list, 0x0080, b"rez") else {
-        return Err(Fail::from("refused"));
     };
-    if fork.len() > 1_000 {
-        return Err(Fail::from(CaseFault::TooLong));
-    }
-    let Ok(held) = read_fork(alloc, fork.as_slice()) else {
-        return Err(Fail::from("not admitted"));
-    };
-    let is_right = match call {
-        "written" => is_written(fork.as_slice()),
-        "read" => is_read(&held),
-        _ => return Err(Fail::from(CaseFault::NoCase)),
-    };
-    said(alloc, if is_right { "right" } else { "wrong" })
+    list.push(resource).ok()?;
+    write_fork(alloc, &list, 0x0080, b"rez").ok()
 }
 
 /// Whether names, attributes and reserved bytes are as they are to be written.
@@ -50,7 +49,18 @@ fn is_written(fork: &[u8]) -> bool {
 }
 
 /// Whether they are as they are to be read again.
-fn is_read(held: &ForkList) -> bool {
+fn is_read(alloc: Global, fork: &[u8]) -> bool {
+    if fork.len() > 1_000 {
+        return false;
+    }
+    match read_fork(alloc, fork) {
+        Ok(held) => is_held(&held),
+        Err(_) => false,
+    }
+}
+
+/// Whether a fork that was read is as it is to be.
+fn is_held(held: &ForkList) -> bool {
     held.attributes == 0x0080
         && held.reserved.len() == 240
         && held.reserved.as_slice().starts_with(b"rez\x00")

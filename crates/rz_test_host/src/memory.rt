@@ -1,3 +1,5 @@
+//! Folders and streams in memory, and a fork.
+
 /// A folder in memory has room for what was reserved.
 pub const ROOM: &str = "
 memory insert a old =>\x20

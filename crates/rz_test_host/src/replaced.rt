@@ -1,3 +1,5 @@
+//! Files of the host, written, read and replaced.
+
 /// The host's files are written and read.
 pub const HOST: &str = "
 host write rezkit-test-of-a-host-file \x00\x01 => Done

@@ -1,12 +1,13 @@
+//! Calls of folders and streams, and what they give, as text.
+
 use crate::failing::{Calls, FailingFiles};
-use crate::files::{file_step, rewrite};
-use crate::forks::fork_step;
+use crate::files::{show_file_call, show_rewrite};
+use crate::forks::show_fork;
 use rz_folder::{Folder, MemFolder, MemSink, Put, Read, RealFolder, RealSink, Sink, Written};
-use rz_test_tables::CaseFault;
+use rz_test_tables::Text;
 use std::alloc::Global;
 use std::cell::Cell;
 use std::io::ErrorKind;
-use std::test::Fail;
 
 /// The most bytes of a content.
 const MOST: usize = 1_000_000;
@@ -31,153 +32,175 @@ impl World {
     }
 }
 
-/// What a call gives. Its first word names what it is made on.
-pub fn step(world: &mut World, text: &str) -> Result<String, Fail> {
-    let alloc = world.rt.alloc();
-    let (on, call) = in_two(text)?;
+/// Shows what a call gives. Its first word names what it is made on.
+pub fn show_call(world: &mut World, text: &str, came: &mut Text) {
+    let rt = world.rt;
+    let (on, call) = in_two(text);
     match on {
-        "memory" => memory_step(alloc, &mut world.memory, call),
-        "sink" => sink_step(alloc, &mut world.sink, call),
-        "host" => folder_step(alloc, &mut world.host, call),
-        "rewrite" => rewrite(world.rt, &mut world.host, call),
-        "failing" => failing_step(world.rt, call),
-        "files" => file_step(world.rt, call),
-        "stream" => {
-            let mut sink = RealSink::new(world.rt.stdout());
-            let put = sink.put(call.as_bytes());
-            Ok(format!(in alloc; "{put:?} {}", sink.faults())?)
-        }
-        "fork" => fork_step(alloc, call),
-        _ => Err(Fail::from(CaseFault::NoCase)),
+        "memory" => show_memory(rt.alloc(), &mut world.memory, call, came),
+        "sink" => show_sink(&mut world.sink, call, came),
+        "host" => show_folder(rt.alloc(), &mut world.host, call, came),
+        "rewrite" => show_rewrite(rt, &mut world.host, call, came),
+        "failing" => show_failing(rt, call, came),
+        "files" => show_file_call(rt, call, came),
+        "stream" => show_stream(rt, call, came),
+        "fork" => show_fork(rt.alloc(), call, came),
+        _ => came.fail(),
     }
 }
 
 /// The two parts of a text on both sides of its first blank.
-pub fn in_two(text: &str) -> Result<(&str, &str), Fail> {
-    match text.split_once(' ') {
-        Some(parts) => Ok(parts),
-        None => Err(Fail::from(CaseFault::NoCase)),
+pub fn in_two(text: &str) -> (&str, &str) {
+    text.split_once(' ').unwrap_or((text, ""))
+}
+
+/// Shows what a piece on the standard output gives, and the faults after it.
+fn show_stream(rt: HostRuntime, piece: &str, came: &mut Text) {
+    let mut sink = RealSink::new(rt.stdout());
+    show_put(&mut sink, piece, came);
+    came.put(b" ");
+    came.number(sink.faults());
+}
+
+/// Shows what a piece gives.
+fn show_put<S: Sink>(sink: &mut S, piece: &str, came: &mut Text) {
+    match sink.put(piece.as_bytes()) {
+        Put::Done => came.put(b"Done"),
+        Put::Failed => came.put(b"Failed"),
     }
 }
 
-/// What a call of a folder in memory gives.
-fn memory_step(alloc: Global, folder: &mut MemFolder, call: &str) -> Result<String, Fail> {
-    match in_two(call)? {
-        ("insert", rest) => {
-            let (name, content) = in_two(rest)?;
-            if content.len() > MOST {
-                return Err(Fail::from(CaseFault::TooLong));
-            }
-            folder.insert(name, content.as_bytes())?;
-            said(alloc, "")
+/// A number of a call.
+fn number_in(text: &str, came: &mut Text) -> u32 {
+    match text.parse::<u32>() {
+        Ok(number) => number,
+        Err(_) => {
+            came.fail();
+            0
         }
+    }
+}
+
+/// Shows where a call that gives nothing is refused.
+pub fn show_done<E: Drop>(done: Result<(), E>, came: &mut Text) {
+    if done.is_err() {
+        came.put(b"refused");
+    }
+}
+
+/// Shows what a call of a folder in memory gives.
+fn show_memory(alloc: Global, folder: &mut MemFolder, call: &str, came: &mut Text) {
+    match in_two(call) {
+        ("insert", rest) => show_insert(folder, rest, came),
         ("reserve", rest) => {
-            let (writes, bytes) = in_two(rest)?;
-            folder.reserve(writes.parse::<u32>()?, bytes.parse::<u32>()?)?;
-            said(alloc, "")
+            let (writes, bytes) = in_two(rest);
+            let (writes, bytes) = (number_in(writes, came), number_in(bytes, came));
+            show_done(folder.reserve(writes, bytes), came);
         }
-        ("fail", rest) => {
-            folder.fail_at(rest.parse::<u64>()?);
-            said(alloc, "")
-        }
+        ("fail", rest) => folder.fail_at(u64::from(number_in(rest, came))),
         ("bytes", name) => match folder.bytes(name) {
-            Some(bytes) => text_of(alloc, bytes),
-            None => said(alloc, "none"),
+            Some(bytes) => show_bytes(bytes, came),
+            None => came.put(b"none"),
         },
-        _ => folder_step(alloc, folder, call),
+        _ => show_folder(alloc, folder, call, came),
     }
 }
 
-/// What a call of any folder gives.
-pub fn folder_step<F: Folder>(alloc: Global, folder: &mut F, call: &str) -> Result<String, Fail> {
-    match in_two(call)? {
-        ("write", rest) => {
-            let (name, content) = in_two(rest)?;
-            if content.len() > MOST {
-                return Err(Fail::from(CaseFault::TooLong));
-            }
-            match folder.write(name, content.as_bytes()) {
-                Written::Done => said(alloc, "Done"),
-                Written::Failed => said(alloc, "Failed"),
-            }
-        }
+/// Lets a name hold a content.
+fn show_insert(folder: &mut MemFolder, call: &str, came: &mut Text) {
+    let (name, content) = in_two(call);
+    if content.len() > MOST {
+        came.fail();
+        return;
+    }
+    show_done(folder.insert(name, content.as_bytes()), came);
+}
+
+/// Shows what a call of any folder gives.
+pub fn show_folder<F: Folder>(alloc: Global, folder: &mut F, call: &str, came: &mut Text) {
+    match in_two(call) {
+        ("write", rest) => show_write(folder, rest, came),
         ("read", name) => match folder.read(alloc, name) {
-            Read::Bytes(bytes) => text_of(alloc, bytes.as_slice()),
-            Read::Missing => said(alloc, "Missing"),
-            Read::Failed => said(alloc, "Failed"),
-            Read::NoMemory => said(alloc, "NoMemory"),
+            Read::Bytes(bytes) => show_bytes(bytes.as_slice(), came),
+            Read::Missing => came.put(b"Missing"),
+            Read::Failed => came.put(b"Failed"),
+            Read::NoMemory => came.put(b"NoMemory"),
         },
         ("faults", _) => {
-            let (reads, writes) = (folder.read_faults(), folder.write_faults());
-            Ok(format!(in alloc; "{reads} {writes}")?)
+            came.number(folder.read_faults());
+            came.put(b" ");
+            came.number(folder.write_faults());
         }
-        _ => Err(Fail::from(CaseFault::NoCase)),
+        _ => came.fail(),
     }
 }
 
-/// What a call of a stream in memory gives.
-fn sink_step(alloc: Global, sink: &mut MemSink, call: &str) -> Result<String, Fail> {
-    match in_two(call)? {
+/// Shows what the write of a file gives.
+fn show_write<F: Folder>(folder: &mut F, call: &str, came: &mut Text) {
+    let (name, content) = in_two(call);
+    if content.len() > MOST {
+        came.fail();
+        return;
+    }
+    match folder.write(name, content.as_bytes()) {
+        Written::Done => came.put(b"Done"),
+        Written::Failed => came.put(b"Failed"),
+    }
+}
+
+/// Shows what a call of a stream in memory gives.
+fn show_sink(sink: &mut MemSink, call: &str, came: &mut Text) {
+    match in_two(call) {
         ("reserve", rest) => {
-            sink.reserve(rest.parse::<u32>()?)?;
-            said(alloc, "")
+            let bytes = number_in(rest, came);
+            show_done(sink.reserve(bytes), came);
         }
         ("fail", rest) => {
-            let (call, taken) = in_two(rest)?;
-            sink.fail_at(call.parse::<u64>()?, taken.parse::<u32>()?);
-            said(alloc, "")
+            let (call, taken) = in_two(rest);
+            let (call, taken) = (number_in(call, came), number_in(taken, came));
+            sink.fail_at(u64::from(call), taken);
         }
-        ("put", piece) => match sink.put(piece.as_bytes()) {
-            Put::Done => said(alloc, "Done"),
-            Put::Failed => said(alloc, "Failed"),
-        },
-        ("bytes", _) => text_of(alloc, sink.bytes()),
-        ("faults", _) => Ok(format!(in alloc; "{}", sink.faults())?),
-        _ => Err(Fail::from(CaseFault::NoCase)),
+        ("put", piece) => show_put(sink, piece, came),
+        ("bytes", _) => show_bytes(sink.bytes(), came),
+        ("faults", _) => came.number(sink.faults()),
+        _ => came.fail(),
     }
 }
 
-/// What a call of a folder of the host's gives where the host's call of that number fails so, and the faults after it.
-fn failing_step(runtime: HostRuntime, call: &str) -> Result<String, Fail> {
-    let (number, rest) = in_two(call)?;
-    let (error, call) = in_two(rest)?;
+/// Shows what a call of a folder of the host's gives where the host's call of that number fails so, and the faults after
+/// it.
+fn show_failing(runtime: HostRuntime, call: &str, came: &mut Text) {
+    let (number, rest) = in_two(call);
+    let (error, call) = in_two(rest);
     let made = Cell::new(0);
     let calls = Calls {
         made: &made,
-        failing: number.parse::<u32>()?,
-        error: error_of(error)?,
+        failing: number_in(number, came),
+        error: error_of(error, came),
     };
     let mut folder = RealFolder::new(FailingFiles { runtime, calls });
-    with_faults(runtime.alloc(), &mut folder, call)
+    show_folder(runtime.alloc(), &mut folder, call, came);
+    came.put(b" ");
+    show_folder(runtime.alloc(), &mut folder, "faults", came);
 }
 
-/// What a call of a folder gives, and the faults after it.
-fn with_faults<F: Folder>(alloc: Global, folder: &mut F, call: &str) -> Result<String, Fail> {
-    let mut outcome = folder_step(alloc, folder, call)?;
-    outcome.push(' ')?;
-    outcome.push_str(&folder_step(alloc, folder, "faults ")?)?;
-    Ok(outcome)
-}
-
-fn error_of(name: &str) -> Result<ErrorKind, Fail> {
+/// The error of a name.
+fn error_of(name: &str, came: &mut Text) -> ErrorKind {
     match name {
-        "full" => Ok(ErrorKind::StorageFull),
-        "denied" => Ok(ErrorKind::PermissionDenied),
-        "interrupted" => Ok(ErrorKind::Interrupted),
-        _ => Err(Fail::from(CaseFault::NoCase)),
+        "full" => ErrorKind::StorageFull,
+        "denied" => ErrorKind::PermissionDenied,
+        "interrupted" => ErrorKind::Interrupted,
+        _ => {
+            came.fail();
+            ErrorKind::Unsupported
+        }
     }
 }
 
-/// This text.
-pub fn said(alloc: Global, text: &str) -> Result<String, Fail> {
-    Ok(String::from_str(alloc, text)?)
-}
-
-/// Bytes, each as a character.
-pub fn text_of(alloc: Global, bytes: &[u8]) -> Result<String, Fail> {
-    let mut text = String::new(alloc);
+/// Shows bytes, each as a character.
+pub fn show_bytes(bytes: &[u8], came: &mut Text) {
     for byte in bytes {
-        text.push(char::from(*byte))?;
+        let mut utf8 = [0; 4];
+        came.put(char::from(*byte).encode_utf8(&mut utf8).as_bytes());
     }
-    Ok(text)
 }

@@ -1,12 +1,14 @@
+//! What the cases of tables show.
+
 use crate::asked::Asked;
 use crate::conditions::MACROS;
 use crate::expansions::FIFTEEN;
-use crate::outcome::{append_roman, text_of, text_of_names};
+use crate::outcome::{show_answer, show_names, show_roman};
 use rz_core::Bytes;
 use rz_lex::{Shape, Token};
-use rz_pre::Tool;
-use std::alloc::Global;
-use std::test::Fail;
+use rz_pre::{Program, Tool};
+use rz_test_tables::Text;
+use std::process::Abort;
 
 /// What the cases of a table show, and what the text of a case is for it.
 #[derive(Clone, Copy)]
@@ -25,40 +27,49 @@ pub enum Call {
     Decision(Tool),
 }
 
-/// What the text of a case gives.
-pub fn outcome_of(alloc: Global, call: Call, text: &str) -> Result<String, Fail> {
+/// Shows what the text of a case gives.
+pub fn show_call(rt: &(impl Abort + AllocGlobal), call: Call, text: &str, came: &mut Text) {
     match call {
-        Call::Meaning => meaning(alloc, &mut Asked::of_case(alloc, "", text)?),
-        Call::AfterFifteen => meaning(alloc, &mut Asked::of_case(alloc, FIFTEEN, text)?),
-        Call::WordsAfterFifteen => words_after_fifteen(alloc, text),
-        Call::Macros => macros_after(alloc, text),
-        Call::FileAfter => file_after(alloc, text),
-        Call::Decision(tool) => decision_of(alloc, tool, text),
+        Call::Meaning => show_meaning(rt, &mut Asked::of_case(rt, "", text), came),
+        Call::AfterFifteen => show_meaning(rt, &mut Asked::of_case(rt, FIFTEEN, text), came),
+        Call::WordsAfterFifteen => show_words(rt, text, came),
+        Call::Macros => show_macros(rt, text, came),
+        Call::FileAfter => show_file(rt, text, came),
+        Call::Decision(tool) => show_decision(rt, tool, text, came),
     }
 }
 
-/// The answer as text.
-fn meaning(alloc: Global, asked: &mut Asked) -> Result<String, Fail> {
-    let answer = asked.answer();
-    text_of(alloc, &answer)
+/// Shows the answer.
+fn show_meaning(rt: &(impl Abort + AllocGlobal), asked: &mut Asked, came: &mut Text) {
+    show_answer(rt, &asked.answer(), came);
 }
 
-/// How many words `P` a program is whose `main` begins with the fifteen macros, and the line of them all; `refused`, or
-/// `other tokens` where one isn't such a word or on another line.
-fn words_after_fifteen(alloc: Global, text: &str) -> Result<String, Fail> {
-    let Ok(program) = Asked::of_case(alloc, FIFTEEN, text)?.answer() else {
-        return Ok("refused".to_string(alloc)?);
-    };
+/// Shows how many words `P` a program is whose `main` begins with the fifteen macros, and the line of them all; or
+/// `refused`.
+fn show_words(rt: &(impl Abort + AllocGlobal), text: &str, came: &mut Text) {
+    match Asked::of_case(rt, FIFTEEN, text).answer() {
+        Ok(program) => show_count(rt, &program, came),
+        Err(_) => came.put(b"refused"),
+    }
+}
+
+/// Shows how many words `P` a program is, and the line of them all; `other tokens` where one isn't such a word or on
+/// another line.
+fn show_count(rt: &(impl Abort + AllocGlobal), program: &Program, came: &mut Text) {
     let mut reader = program.tokens.reader();
     let mut line = None;
     for _ in 0..program.tokens.len() {
-        let found = reader.next(alloc)?.as_ref().and_then(line_of_word);
+        let token = reader.next(rt.alloc()).expect(rt, "memory");
+        let found = token.as_ref().and_then(line_of_word);
         if found.is_none() || line.is_some() && line != found {
-            return Ok("other tokens".to_string(alloc)?);
+            came.put(b"other tokens");
+            return;
         }
         line = found;
     }
-    Ok(format!(in alloc; "{} on {}", program.tokens.len(), line.unwrap_or(0))?)
+    came.number(program.tokens.len());
+    came.put(b" on ");
+    came.number(u64::from(line.unwrap_or(0)));
 }
 
 /// The line of a token that is the word `P` in the first file.
@@ -71,34 +82,41 @@ fn line_of_word(token: &Token) -> Option<u32> {
     }
 }
 
-/// The names that are macros at the end of a program, or `refused`.
-fn macros_after(alloc: Global, text: &str) -> Result<String, Fail> {
-    match Asked::of_case(alloc, "", text)?.answer() {
-        Ok(program) => text_of_names(alloc, &program.macros),
-        Err(_) => Ok("refused".to_string(alloc)?),
+/// Shows the names that are macros at the end of a program, or `refused`.
+fn show_macros(rt: &(impl Abort + AllocGlobal), text: &str, came: &mut Text) {
+    match Asked::of_case(rt, "", text).answer() {
+        Ok(program) => show_names(rt, &program.macros, came),
+        Err(_) => came.put(b"refused"),
     }
 }
 
-/// What a program means, and what the file `f` holds afterwards.
-fn file_after(alloc: Global, text: &str) -> Result<String, Fail> {
-    let mut asked = Asked::of_case(alloc, "", text)?;
-    let mut outcome = meaning(alloc, &mut asked)?;
-    outcome.push_str(" f:")?;
-    append_roman(asked.folder.bytes("f").ok_or("no file")?, &mut outcome)?;
-    Ok(outcome)
+/// Shows what a program means, and what the file `f` holds afterwards.
+fn show_file(rt: &(impl Abort + AllocGlobal), text: &str, came: &mut Text) {
+    let mut asked = Asked::of_case(rt, "", text);
+    show_meaning(rt, &mut asked, came);
+    came.put(b" f:");
+    match asked.folder.bytes("f") {
+        Some(bytes) => show_roman(rt, bytes, came),
+        None => came.fail(),
+    }
 }
 
-/// What a file means whose first line brings the macros, whose second is an `#if` with this condition, and that has
+/// Shows what a file means whose first line brings the macros, whose second is an `#if` with this condition, and that has
 /// `yes` on its third line and `no` after an `#else`. The files, `main` and `macros`, are left out of it.
-fn decision_of(alloc: Global, tool: Tool, condition: &str) -> Result<String, Fail> {
-    let mut source = Bytes::of(alloc, b"#include \"macros\"\n#if ")?;
-    source.append(condition.as_bytes())?;
-    source.append(b"\nyes\n#else\nno\n#endif\n")?;
-    let mut asked = Asked::new(alloc);
+fn show_decision(rt: &(impl Abort + AllocGlobal), tool: Tool, condition: &str, came: &mut Text) {
+    let mut source = Bytes::of(rt.alloc(), b"#include \"macros\"\n#if ").expect(rt, "memory");
+    source.append(condition.as_bytes()).expect(rt, "memory");
+    source
+        .append(b"\nyes\n#else\nno\n#endif\n")
+        .expect(rt, "memory");
+    let mut asked = Asked::new(rt.alloc());
     asked.tool = tool;
-    asked.add_main(source.as_slice())?;
-    asked.insert("macros", MACROS.as_bytes())?;
-    let outcome = meaning(alloc, &mut asked)?;
-    let decision = outcome.as_str().strip_suffix(" in main macros");
-    Ok(decision.unwrap_or("other files").to_string(alloc)?)
+    asked.add_main(rt, source.as_slice());
+    asked.insert(rt, "macros", MACROS.as_bytes());
+    let mut meaning = Text::new(rt.alloc());
+    show_meaning(rt, &mut asked, &mut meaning);
+    let decision = meaning
+        .as_slice()
+        .strip_suffix(b" in main macros".as_slice());
+    came.put(decision.unwrap_or(b"other files"));
 }

@@ -1,3 +1,5 @@
+//! Conditionals.
+
 /// Parts of conditionals, of which the chosen one is read.
 pub const PARTS: &str = r#"
 // the first part whose condition holds

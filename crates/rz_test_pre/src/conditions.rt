@@ -1,3 +1,5 @@
+//! Conditions.
+
 /// Macros of these conditions. H, G and F are 8, 64 and 512 tokens, R 1,020, N 1,024 and M 1,025, and A is too many.
 pub const MACROS: &str = "
 #define one 1

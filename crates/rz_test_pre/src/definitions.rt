@@ -1,3 +1,5 @@
+//! Definitions of the words, and the macros at the end.
+
 /// Definitions of the words, which come before the lines.
 pub const OF_WORDS: &str = r#"
 // in their order

@@ -1,3 +1,5 @@
+//! Directives.
+
 /// Directives, which are told by their words.
 pub const TOLD: &str = r##"
 // no directive

@@ -1,3 +1,5 @@
+//! Macros and their expansion.
+
 /// Fifteen macros, each of which stands for two of the next: A for 32,768 words P, with 65,535 tokens handled.
 pub const FIFTEEN: &str = "\
 #define A B B

@@ -1,3 +1,5 @@
+//! Faults.
+
 /// Each fault in a file that is not the first, and its file and line.
 pub const INSIDE: &str = r#"
 // each fault in a file that another includes

@@ -1,3 +1,5 @@
+//! Included files, paths and calls that fail.
+
 /// Files that others include, which stand in their place.
 pub const INCLUDED: &str = r#"
 // the lines of a file stand after the line that includes it

@@ -1,133 +1,123 @@
-use rz_core::{
-    Bytes, Fault, FileNames, Halt, Kept, Mark, Words, from_roman, write_decimal, write_signed,
-};
+//! Programs and faults as text.
+
+use rz_core::{Fault, FileNames, Halt, Kept, Mark, Words, from_roman};
 use rz_pre::{Failure, Program};
 use rz_pre_tokens::TokenStore;
-use rz_test_tables::append_shape;
+use rz_test_tables::Text;
 use std::alloc::Global;
-use std::test::Fail;
+use std::process::Abort;
 
-/// An answer as text: the tokens with blanks between them, or the fault; and then the files, unless they
-/// are `main` alone.
-pub fn text_of(alloc: Global, answer: &Result<Program, Halt<Failure>>) -> Result<String, Fail> {
-    let mut text = String::new(alloc);
+/// Shows an answer: the tokens with blanks between them, or the fault; and then the files, unless they are `main`
+/// alone.
+pub fn show_answer(
+    rt: &(impl Abort + AllocGlobal),
+    answer: &Result<Program, Halt<Failure>>,
+    came: &mut Text,
+) {
     match answer {
         Ok(program) => {
-            append_roman(
-                text_of_tokens(alloc, &program.tokens)?.as_slice(),
-                &mut text,
-            )?;
-            append_files(&program.files, &mut text)?;
+            show_tokens(rt.alloc(), &program.tokens, came);
+            show_files(&program.files, came);
         }
         Err(Halt::Refused(failure)) => {
-            append_roman(text_of_fault(alloc, &failure.fault)?.as_slice(), &mut text)?;
-            append_files(&failure.files, &mut text)?;
+            show_fault(rt, &failure.fault, came);
+            show_files(&failure.files, came);
         }
-        Err(Halt::ReadFault) => text.push_str("read fault")?,
-        Err(Halt::NoMemory) => text.push_str("no memory")?,
+        Err(Halt::ReadFault) => came.put(b"read fault"),
+        Err(Halt::NoMemory) => came.put(b"no memory"),
     }
-    Ok(text)
 }
 
-/// Names in the order of their bytes, with blanks between them; `nothing` where there is none.
-pub fn text_of_names(alloc: Global, words: &Words) -> Result<String, Fail> {
-    let mut names = Vec::new(alloc);
+/// Shows names in the order of their bytes, with blanks between them; `nothing` where there is none.
+pub fn show_names(rt: &(impl Abort + AllocGlobal), words: &Words, came: &mut Text) {
+    let mut names = Vec::new(rt.alloc());
     for word in words.as_slice() {
-        names.push(word.bytes.as_slice())?;
+        names.push(word.bytes.as_slice()).expect(rt, "memory");
     }
-    names.sort()?;
-    joined(alloc, names.as_slice())
+    names.sort().expect(rt, "memory");
+    if names.is_empty() {
+        came.put(b"nothing");
+    }
+    let mut between: &[u8] = b"";
+    for name in &names {
+        came.put(between);
+        came.put(name);
+        between = b" ";
+    }
 }
 
-/// Names with blanks between them; `nothing` where there is none.
-fn joined(alloc: Global, names: &[&[u8]]) -> Result<String, Fail> {
-    let Some((first, others)) = names.split_first() else {
-        return Ok("nothing".to_string(alloc)?);
-    };
-    let mut text = String::new(alloc);
-    append_roman(first, &mut text)?;
-    for name in others {
-        text.push(' ')?;
-        append_roman(name, &mut text)?;
-    }
-    Ok(text)
-}
-
-/// Appends bytes of Mac Roman.
-pub fn append_roman(bytes: &[u8], text: &mut String) -> Result<(), Fail> {
+/// Shows bytes of Mac Roman.
+pub fn show_roman(rt: &(impl Abort + AllocGlobal), bytes: &[u8], came: &mut Text) {
+    let mut text = String::new(rt.alloc());
     for byte in bytes {
-        text.push(from_roman(*byte))?;
+        text.push(from_roman(*byte)).expect(rt, "memory");
     }
-    Ok(())
+    came.put(text.as_bytes());
 }
 
-/// Appends the files, unless they are `main` alone.
-fn append_files(files: &FileNames, text: &mut String) -> Result<(), Fail> {
+/// Shows the files, unless they are `main` alone.
+fn show_files(files: &FileNames, came: &mut Text) {
     if files.len() == 1 && files.at(0) == "main" {
-        return Ok(());
+        return;
     }
-    text.push_str(" in")?;
+    came.put(b" in");
     for k in 0..files.len() {
         let name = files.at(k);
-        text.push(' ')?;
-        text.push_str(if name.is_empty() { "empty" } else { name })?;
+        came.put(b" ");
+        came.put(if name.is_empty() { "empty" } else { name }.as_bytes());
     }
-    Ok(())
 }
 
-/// Each token after its place and a colon, with blanks between them; `nothing` where there is none.
-fn text_of_tokens(alloc: Global, store: &TokenStore) -> Result<Bytes, Fail> {
+/// Shows each token after its place and a colon, with blanks between them; `nothing` where there is none.
+fn show_tokens(alloc: Global, store: &TokenStore, came: &mut Text) {
     if store.is_empty() {
-        return Ok(Bytes::of(alloc, b"nothing")?);
+        came.put(b"nothing");
     }
-    let mut text = Bytes::new(alloc);
     let mut reader = store.reader();
+    let mut between: &[u8] = b"";
     for _ in 0..store.len() {
-        if let Some(token) = reader.next(alloc)? {
-            if !text.is_empty() {
-                text.push(b' ')?;
+        match reader.next(alloc) {
+            Ok(Some(token)) => {
+                came.put(between);
+                show_mark(token.mark, came);
+                came.put(b":");
+                came.shape(&token.shape);
             }
-            append_mark(token.mark, &mut text)?;
-            text.push(b':')?;
-            append_shape(&token.shape, &mut text)?;
+            Ok(None) => {}
+            Err(_) => came.fail(),
         }
+        between = b" ";
     }
-    Ok(text)
 }
 
-/// The line, in a file other than the first after the file's position and a slash.
-fn append_mark(mark: Mark, text: &mut Bytes) -> Result<(), Fail> {
+/// Shows the line, in a file other than the first after the file's position and a slash.
+fn show_mark(mark: Mark, came: &mut Text) {
     if mark.file > 0 {
-        write_decimal(mark.file, text)?;
-        text.push(b'/')?;
+        came.number(mark.file);
+        came.put(b"/");
     }
-    Ok(write_decimal(u64::from(mark.line), text)?)
+    came.number(u64::from(mark.line));
 }
 
-/// The fault's number, its place where it has one, and what it keeps: a number in decimal after `#`, a name
+/// Shows the fault's number, its place where it has one, and what it keeps: a number in decimal after `#`, a name
 /// as it is, and `empty` for one without bytes.
-fn text_of_fault(alloc: Global, fault: &Fault) -> Result<Bytes, Fail> {
-    let mut text = Bytes::new(alloc);
-    write_decimal(u64::from(fault.number), &mut text)?;
+fn show_fault(rt: &(impl Abort + AllocGlobal), fault: &Fault, came: &mut Text) {
+    came.number(u64::from(fault.number));
     if let Some(mark) = fault.mark {
-        text.append(b" on ")?;
-        append_mark(mark, &mut text)?;
+        came.put(b" on ");
+        show_mark(mark, came);
     }
     match &fault.kept {
         Kept::Nothing => {}
         Kept::Number(number) => {
-            text.append(b" #")?;
-            write_signed(*number, &mut text)?;
+            came.put(b" #");
+            came.signed(*number);
         }
+        Kept::Name(name) if name.is_empty() => came.put(b" empty"),
         Kept::Name(name) => {
-            text.push(b' ')?;
-            if name.is_empty() {
-                text.append(b"empty")?;
-            } else {
-                text.append(name.as_slice())?;
-            }
+            came.put(b" ");
+            show_roman(rt, name.as_slice(), came);
         }
-        _ => text.append(b" of another form")?,
+        _ => came.put(b" of another form"),
     }
-    Ok(text)
 }

@@ -1,3 +1,5 @@
+//! Sources and their turn into Mac Roman.
+
 /// Sources, which are turned into Mac Roman.
 pub const TURNED: &str = r##"
 // as it stands

@@ -1,17 +1,18 @@
+//! What the cases of tables call.
+
 ghost use Rattle.std.specs.Prelude.{◌≡◌};
 
 use crate::made::{declaration, fields_in, fields_of};
-use crate::rows::{Head, row_read, row_shown, rows_counted};
+use crate::rows::{Head, show_count, show_read, show_written};
 use rz_core::{Bytes, Kept, Stop, Word, Words};
 use rz_show::Hidden;
 use rz_stmt::{Bounds, Made};
-use rz_test_tables::{CaseFault, expanded};
+use rz_test_tables::{Text, expanded};
 use rz_types::{Template, TypeFault};
 use rz_types_check::check;
 use rz_types_fields::Field;
 use rz_types_table::{Scope, TypeTable};
-use std::alloc::Global;
-use std::test::Fail;
+use std::process::Abort;
 
 /// What the cases of a table call, and what the text of a case is for it.
 #[derive(Clone, Copy)]
@@ -33,125 +34,153 @@ pub enum Call {
     Hidden,
 }
 
-/// What the text of a case gives, as `expanded` reads it, after those before it declared these types.
-pub fn outcome_of(
-    alloc: Global,
+/// Shows what the text of a case gives, as `expanded` reads it, after those before it declared these types.
+pub fn show_call(
+    rt: &(impl Abort + AllocGlobal),
     call: Call,
     text: &str,
     types: &mut TypeTable,
-) -> Result<Bytes, Fail> {
-    let text = expanded(alloc, text)?;
+    came: &mut Text,
+) {
+    let text = expanded(rt.alloc(), text).expect(rt, "memory");
     match call {
-        Call::Checked => match check(alloc, fields_of(alloc, &text)?) {
-            Ok(template) => shown(alloc, &template),
-            Err(stop) => told(alloc, stop),
-        },
-        Call::Types => step(alloc, &text, types),
-        Call::Read => row_read(alloc, &text),
-        Call::Counted => rows_counted(alloc, &text),
-        Call::Shown => row_shown(alloc, &text, None),
-        Call::Statement(head) => row_shown(alloc, &text, Some(head)),
-        Call::Hidden => is_hidden(alloc, &text),
+        Call::Checked => show_checked(rt, &text, came),
+        Call::Types => show_step(rt, &text, types, came),
+        Call::Read => show_read(rt, &text, came),
+        Call::Counted => show_count(rt, &text, came),
+        Call::Shown => show_written(rt, &text, None, came),
+        Call::Statement(head) => show_written(rt, &text, Some(head), came),
+        Call::Hidden => show_hidden(rt, &text, came),
     }
 }
 
-/// A template as text: the count of the `fill` that it has alone, or else how many fields there are.
-fn shown(alloc: Global, template: &Template) -> Result<Bytes, Fail> {
-    let text = match template.body().as_slice() {
-        [Field::Fill(_, count)] => format!(in alloc; "fill {count}")?,
-        fields => format!(in alloc; "fields {}", fields.len())?,
-    };
-    Ok(Bytes::of(alloc, text.as_bytes())?)
+/// Shows the template of fields, or the rule that they break.
+fn show_checked(rt: &(impl Abort + AllocGlobal), text: &str, came: &mut Text) {
+    match check(rt.alloc(), fields_of(rt.alloc(), text).expect(rt, "fields")) {
+        Ok(template) => show_template(&template, came),
+        Err(stop) => show_fault(stop, came),
+    }
 }
 
-/// A broken rule as text: its number, the position of the field, and the number or the id that is kept.
-fn told(alloc: Global, stop: Stop<TypeFault>) -> Result<Bytes, Fail> {
+/// Shows a template: the count of the `fill` that it has alone, or else how many fields there are.
+fn show_template(template: &Template, came: &mut Text) {
+    match template.body().as_slice() {
+        [Field::Fill(_, count)] => {
+            came.put(b"fill ");
+            came.signed(i64::from(*count));
+        }
+        fields => {
+            came.put(b"fields ");
+            came.number(fields.len() as u64);
+        }
+    }
+}
+
+/// Shows a broken rule: its number, the position of the field, and the number or the id that is kept.
+fn show_fault(stop: Stop<TypeFault>, came: &mut Text) {
     let Stop::Refused(fault) = stop else {
-        return Err(Fail::from(CaseFault::NoMemory));
+        came.fail();
+        return;
     };
-    let kept = match fault.kept {
-        Kept::Number(number) => number,
-        Kept::Key(_, id) => i64::from(id),
-        _ => return Err(Fail::from("another answer")),
-    };
-    let text = format!(in alloc; "{} {} {kept}", fault.number, fault.field)?;
-    Ok(Bytes::of(alloc, text.as_bytes())?)
+    came.number(u64::from(fault.number));
+    came.put(b" ");
+    came.number(fault.field);
+    came.put(b" ");
+    match fault.kept {
+        Kept::Number(number) => came.signed(number),
+        Kept::Key(_, id) => came.signed(i64::from(id)),
+        _ => came.put(b"of another form"),
+    }
 }
 
 /// For which ids a declaration is.
-fn scope_of(bounds: Bounds) -> Result<Scope, Fail> {
+fn scope_of(rt: &impl Abort, bounds: Bounds) -> Scope {
     match bounds {
-        Bounds::Any => Ok(Scope::Any),
-        Bounds::One(id) => Ok(Scope::Id(i16::try_from(id)?)),
-        Bounds::Two(first, last) => Ok(Scope::Range(i16::try_from(first)?, i16::try_from(last)?)),
+        Bounds::Any => Scope::Any,
+        Bounds::One(id) => Scope::Id(id_of(rt, id)),
+        Bounds::Two(first, last) => Scope::Range(id_of(rt, first), id_of(rt, last)),
     }
 }
 
-/// What a step with types gives: whether there was a declaration of the same type and scope, the template that is found
-/// or copied, or what is told.
-fn step(alloc: Global, text: &str, types: &mut TypeTable) -> Result<Bytes, Fail> {
+/// A number as an id.
+fn id_of(rt: &impl Abort, number: i32) -> i16 {
+    i16::try_from(number).expect(rt, "an id")
+}
+
+/// Shows what a step with types gives: whether there was a declaration of the same type and scope, the template that is
+/// found or copied, or what is told.
+fn show_step(rt: &(impl Abort + AllocGlobal), text: &str, types: &mut TypeTable, came: &mut Text) {
     match text.split_once(' ') {
-        Some(("declare", text)) => declared(alloc, text, types),
-        Some(("find", text)) => found(alloc, text, types),
-        Some(("copy", text)) => copied(alloc, text, types),
-        _ => Err(Fail::from(CaseFault::NoCase)),
+        Some(("declare", text)) => show_declared(rt, text, types, came),
+        Some(("find", text)) => show_found(rt, text, types, came),
+        Some(("copy", text)) => show_copied(rt, text, types, came),
+        _ => came.put(b"no case"),
     }
 }
 
-/// Declares a type; `again` where there was a declaration of the same type and scope, else `new`.
-fn declared(alloc: Global, text: &str, types: &mut TypeTable) -> Result<Bytes, Fail> {
-    let declare = declaration(alloc, text)?;
-    let (kind, scope) = (declare.kind, scope_of(declare.bounds)?);
-    let Ok(template) = check(alloc, fields_in(declare.made)?) else {
-        return Err(Fail::from("a broken rule"));
+/// Declares a type, and shows `again` where there was a declaration of the same type and scope, else `new`.
+fn show_declared(
+    rt: &(impl Abort + AllocGlobal),
+    text: &str,
+    types: &mut TypeTable,
+    came: &mut Text,
+) {
+    let declare = declaration(rt.alloc(), text).expect(rt, "a declaration");
+    let (kind, scope) = (declare.kind, scope_of(rt, declare.bounds));
+    let fields = fields_in(declare.made).expect(rt, "fields");
+    let Ok(template) = check(rt.alloc(), fields) else {
+        panic!(rt; "a broken rule");
     };
-    let said: &[u8] = if types.declare(kind, scope, template)? {
-        b"again"
+    if types.declare(kind, scope, template).expect(rt, "memory") {
+        came.put(b"again");
     } else {
-        b"new"
-    };
-    Ok(Bytes::of(alloc, said)?)
-}
-
-/// The template that is found for a type and an id.
-fn found(alloc: Global, text: &str, types: &TypeTable) -> Result<Bytes, Fail> {
-    let Made::Copy(kind, Some(id)) = asked(alloc, text)? else {
-        return Err(Fail::from(CaseFault::NoCase));
-    };
-    match types.find(kind, i16::try_from(id)?) {
-        Some(template) => shown(alloc, template),
-        None => Ok(Bytes::of(alloc, b"none")?),
+        came.put(b"new");
     }
 }
 
-/// The copy for a type and maybe an id.
-fn copied(alloc: Global, text: &str, types: &TypeTable) -> Result<Bytes, Fail> {
-    let Made::Copy(kind, id) = asked(alloc, text)? else {
-        return Err(Fail::from(CaseFault::NoCase));
+/// Shows the template that is found for a type and an id.
+fn show_found(rt: &(impl Abort + AllocGlobal), text: &str, types: &TypeTable, came: &mut Text) {
+    let Made::Copy(kind, Some(id)) = asked(rt, text) else {
+        panic!(rt; "no case");
+    };
+    match types.find(kind, id_of(rt, id)) {
+        Some(template) => show_template(template, came),
+        None => came.put(b"none"),
+    }
+}
+
+/// Shows the copy for a type and maybe an id.
+fn show_copied(rt: &(impl Abort + AllocGlobal), text: &str, types: &TypeTable, came: &mut Text) {
+    let Made::Copy(kind, id) = asked(rt, text) else {
+        panic!(rt; "no case");
     };
     let id = match id {
-        Some(id) => Some(i16::try_from(id)?),
+        Some(id) => Some(id_of(rt, id)),
         None => None,
     };
     match types.copy_of(kind, id) {
-        Ok(template) => shown(alloc, &template),
-        Err(stop) => told(alloc, stop),
+        Ok(template) => show_template(&template, came),
+        Err(stop) => show_fault(stop, came),
     }
 }
 
 /// The type and the id that a case asks for.
-fn asked(alloc: Global, text: &str) -> Result<Made, Fail> {
-    let text = format!(in alloc; "'Test' as {text}")?;
-    Ok(declaration(alloc, text.as_str())?.made)
+fn asked(rt: &(impl Abort + AllocGlobal), text: &str) -> Made {
+    let text = format!(in rt.alloc(); "'Test' as {text}").expect(rt, "memory");
+    declaration(rt.alloc(), text.as_str())
+        .expect(rt, "a declaration")
+        .made
 }
 
-/// Whether a name is hidden by the macro `button`.
-fn is_hidden(alloc: Global, name: &str) -> Result<Bytes, Fail> {
-    let mut names = Words::new(alloc);
-    names.push(Word {
-        bytes: Bytes::of(alloc, b"button")?,
-    })?;
-    let hidden = Hidden::of(alloc, names.as_slice())?;
-    let said = format!(in alloc; "{}", hidden.has(alloc, name.as_bytes())?)?;
-    Ok(Bytes::of(alloc, said.as_bytes())?)
+/// Shows whether a name is hidden by the macro `button`.
+fn show_hidden(rt: &(impl Abort + AllocGlobal), name: &str, came: &mut Text) {
+    let bytes = Bytes::of(rt.alloc(), b"button").expect(rt, "memory");
+    let mut names = Words::new(rt.alloc());
+    names.push(Word { bytes }).expect(rt, "memory");
+    let hidden = Hidden::of(rt.alloc(), names.as_slice()).expect(rt, "memory");
+    if hidden.has(rt.alloc(), name.as_bytes()).expect(rt, "memory") {
+        came.put(b"true");
+    } else {
+        came.put(b"false");
+    }
 }

@@ -1,3 +1,5 @@
+//! What the `type` statements of cases declare.
+
 ghost use Rattle.std.specs.Prelude.{◌≡◌, true, IfOk};
 ghost use Rattle.rz_stmt_type.specs.Constants.{made_of};
 ghost use Rattle.rz_stmt_type.specs.Shaped.{IsShapedMade};
@@ -8,13 +10,13 @@ ghost use Rattle.rz_types.specs.Shape.{is_well_shaped};
 use rz_core::{Bytes, Mark};
 use rz_lex::{RawLine, Tokens, cut, tokens_are_lexed};
 use rz_stmt::{DeclareStmt, Made, Span, Stmt, parse};
+use rz_test_tables::CaseFault;
 use rz_types::{Body, Template};
 use rz_types_check::check;
 use std::alloc::Global;
-use std::test::Fail;
 
 /// The tokens of a line.
-fn tokens_in(alloc: Global, line: &str) -> Result<Tokens, Fail>
+fn tokens_in(alloc: Global, line: &str) -> Result<Tokens, CaseFault>
     ensures { IfOk result (λ tokens. AreLexed tokens) }
 {
     tokens_are_lexed();
@@ -24,39 +26,39 @@ fn tokens_in(alloc: Global, line: &str) -> Result<Tokens, Fail>
     };
     match cut(alloc, &line) {
         Ok(tokens) => Ok(tokens),
-        Err(_) => Err(Fail::from("no tokens")),
+        Err(_) => Err(CaseFault::NoTokens),
     }
 }
 
 /// The `type` statement with this text behind its word.
-pub fn declaration(alloc: Global, text: &str) -> Result<DeclareStmt, Fail>
+pub fn declaration(alloc: Global, text: &str) -> Result<DeclareStmt, CaseFault>
     ensures { IfOk result (λ declare. IsShapedMade (made_of declare.made)) }
 {
     let line = format!(in alloc; "type {text};")?;
     let tokens = tokens_in(alloc, line.as_str())?;
     let end = tokens.len();
     if end == 0 {
-        return Err(Fail::from("no tokens"));
+        return Err(CaseFault::NoTokens);
     }
     match parse(alloc, &tokens, Span { start: 0, end }) {
         Ok(Stmt::Declare(declare)) => Ok(declare),
-        _ => Err(Fail::from("no declaration")),
+        _ => Err(CaseFault::NoCase),
     }
 }
 
 /// The fields that a declaration has of its own.
-pub fn fields_in(made: Made) -> Result<Body, Fail>
+pub fn fields_in(made: Made) -> Result<Body, CaseFault>
     requires { IsShapedMade (made_of made) }
     ensures { IfOk result (λ body. is_well_shaped (plain_body body) ≡ true) }
 {
     match made {
         Made::Fields(body) => Ok(body),
-        Made::Copy(..) => Err(Fail::from("no fields")),
+        Made::Copy(..) => Err(CaseFault::NoCase),
     }
 }
 
 /// The fields of a `type` statement with these fields.
-pub fn fields_of(alloc: Global, fields: &str) -> Result<Body, Fail>
+pub fn fields_of(alloc: Global, fields: &str) -> Result<Body, CaseFault>
     ensures { IfOk result (λ body. is_well_shaped (plain_body body) ≡ true) }
 {
     let text = format!(in alloc; "'Test' {{ {fields} }}")?;
@@ -65,9 +67,9 @@ pub fn fields_of(alloc: Global, fields: &str) -> Result<Body, Fail>
 }
 
 /// The template of a declaration with these fields.
-pub fn template_of(alloc: Global, fields: &str) -> Result<Template, Fail> {
+pub fn template_of(alloc: Global, fields: &str) -> Result<Template, CaseFault> {
     match check(alloc, fields_of(alloc, fields)?) {
         Ok(template) => Ok(template),
-        Err(_) => Err(Fail::from("a broken rule")),
+        Err(_) => Err(CaseFault::NoCase),
     }
 }

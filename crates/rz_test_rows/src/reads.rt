@@ -1,3 +1,5 @@
+//! Rows that are read of bytes.
+
 /// Fields, and behind ` @` the bytes of a resource in hexadecimal; then the row that is read.
 pub const NUMBERS: &str = r#"
 // the ends of each width

@@ -1,18 +1,19 @@
-ghost use Rattle.std.specs.Prelude.{IfOk, IfSome};
+//! Rows that are read of bytes, and how they are shown.
+
+ghost use Rattle.std.specs.Prelude.{IfSome};
 ghost use Rattle.rz_types_fields.specs.Row.{IsRow};
 ghost use Rattle.rz_types.specs.Template.{template_of};
 
 use crate::made::template_of;
 use crate::show::show_row;
-use rz_core::{Attr, Bytes, Facts, Moment, OsType, Resource, Stop};
+use rz_core::{Attr, Bytes, Facts, Moment, OsType, Resource};
 use rz_layout::compile;
-use rz_show::{Hidden, show_row as show_statement, uses_hidden, write_row};
-use rz_test_tables::CaseFault;
+use rz_show::{Hidden, show_row as write_statement, uses_hidden, write_row};
+use rz_test_tables::Text;
 use rz_types::{Template, is_readable};
 use rz_types_fields::{Row, Tree};
 use rz_unlay::{Reading, read};
-use std::alloc::Global;
-use std::test::Fail;
+use std::process::Abort;
 
 /// The most bytes of a resource of a test.
 const MOST: usize = 16_777_212;
@@ -27,172 +28,163 @@ pub struct Head {
 }
 
 /// The fields of a case, and what stands behind ` @`.
-fn parts_of(text: &str) -> Result<(&str, &str), Fail> {
-    match text.split_once(" @") {
-        Some(parts) => Ok(parts),
-        None => Err(Fail::from(CaseFault::NoCase)),
-    }
+fn parts_of<'a>(rt: &impl Abort, text: &'a str) -> (&'a str, &'a str) {
+    text.split_once(" @")
+        .ok_or("no case")
+        .expect(rt, "two parts")
 }
 
 /// The bytes that hexadecimal digits spell, with blanks anywhere.
-fn bytes_of(alloc: Global, digits: &str) -> Result<Bytes, Fail> {
-    let mut bytes = Bytes::new(alloc);
+fn bytes_of(rt: &(impl Abort + AllocGlobal), digits: &str) -> Bytes {
+    let mut bytes = Bytes::new(rt.alloc());
     let mut high = None;
     for letter in digits.chars() {
         if letter == ' ' {
             continue;
         }
-        let Some(digit) = letter.to_digit(16) else {
-            return Err(Fail::from(CaseFault::NoCase));
-        };
+        let digit = letter.to_digit(16).ok_or("no case").expect(rt, "a digit");
         match high {
             None => high = Some(digit),
             Some(first) => {
-                bytes.push((first % 16 * 16 + digit % 16) as u8)?;
+                bytes
+                    .push((first % 16 * 16 + digit % 16) as u8)
+                    .expect(rt, "memory");
                 high = None;
             }
         }
     }
-    match high {
-        None => Ok(bytes),
-        Some(_) => Err(Fail::from("half a byte")),
+    if high.is_some() {
+        panic!(rt; "half a byte");
     }
+    bytes
 }
 
 /// What is known of the resource of a test: type 'Test', id 128, name `name`, attributes 0.
-fn facts_of(alloc: Global) -> Result<Facts, Fail> {
-    let Some(moment) = Moment::of_unix(0) else {
-        return Err(Fail::from("no moment"));
-    };
-    Ok(Facts {
+fn facts_of(rt: &(impl Abort + AllocGlobal)) -> Facts {
+    Facts {
         kind: OsType { code: 0x5465_7374 },
         id: 128,
-        name: Bytes::of(alloc, b"name")?,
+        name: Bytes::of(rt.alloc(), b"name").expect(rt, "memory"),
         attr: Attr::of(0),
-        moment,
-    })
+        moment: Moment::of_unix(0).ok_or("no moment").expect(rt, "a moment"),
+    }
 }
 
 /// The row that is read of bytes, where there is one.
 fn row_of(
-    alloc: Global,
+    rt: &(impl Abort + AllocGlobal),
     template: &Template,
     bytes: &[u8],
     facts: &Facts,
-) -> Result<Option<Row>, Fail>
-    ensures { IfOk result (λ row. IfSome row (IsRow (template_of template.now))) }
+) -> Option<Row>
+    ensures { IfSome result (IsRow (template_of template.now)) }
 {
     if bytes.len() > MOST {
-        return Err(Fail::from(CaseFault::TooLong));
+        panic!(rt; "too long for a test");
     }
-    match read(alloc, template, bytes, facts) {
-        Ok(Reading::Tree(row)) => Ok(Some(row)),
-        Ok(Reading::NoTree) => Ok(None),
-        Err(_) => Err(Fail::from(CaseFault::NoMemory)),
-    }
-}
-
-/// Whether a row is compiled to these bytes.
-fn is_again(
-    alloc: Global,
-    template: &Template,
-    row: &Row,
-    bytes: &[u8],
-    facts: &Facts,
-) -> Result<bool, Fail>
-    requires { IsRow (template_of template.now) row.now }
-{
-    match compile(alloc, template, row, facts) {
-        Ok(again) => Ok(again.as_slice() == bytes),
-        Err(Stop::Refused(_)) => Ok(false),
-        Err(Stop::NoMemory) => Err(Fail::from(CaseFault::NoMemory)),
+    match read(rt.alloc(), template, bytes, facts).expect(rt, "memory") {
+        Reading::Tree(row) => Some(row),
+        Reading::NoTree => None,
     }
 }
 
-/// The row that is read of bytes under fields, as text; `unreadable` where nothing can be read under them, `none` where
-/// the bytes are of no plain row; and an error where the row is not compiled to the bytes again.
-pub fn row_read(alloc: Global, text: &str) -> Result<Bytes, Fail> {
-    let (fields, digits) = parts_of(text)?;
-    let template = template_of(alloc, fields)?;
-    let bytes = bytes_of(alloc, digits)?;
-    let facts = facts_of(alloc)?;
-    let Some(row) = row_of(alloc, &template, bytes.as_slice(), &facts)? else {
-        let said: &[u8] = if is_readable(&template) {
-            b"none"
-        } else {
-            b"unreadable"
-        };
-        return Ok(Bytes::of(alloc, said)?);
-    };
-    if !is_again(alloc, &template, &row, bytes.as_slice(), &facts)? {
-        return Err(Fail::from("other bytes"));
+/// Shows the row that is read of bytes under fields, which is compiled to the bytes again; `unreadable` where nothing can
+/// be read under them, and `none` where the bytes are of no plain row.
+pub fn show_read(rt: &(impl Abort + AllocGlobal), text: &str, came: &mut Text) {
+    let (fields, digits) = parts_of(rt, text);
+    let template = template_of(rt.alloc(), fields).expect(rt, "a template");
+    let bytes = bytes_of(rt, digits);
+    let facts = facts_of(rt);
+    match row_of(rt, &template, bytes.as_slice(), &facts) {
+        Some(row) => {
+            show_row(rt.alloc(), row.as_slice(), came);
+            match compile(rt.alloc(), &template, &row, &facts) {
+                Ok(again) if again.as_slice() == bytes.as_slice() => {}
+                _ => came.put(b", other bytes"),
+            }
+        }
+        None if is_readable(&template) => came.put(b"none"),
+        None => came.put(b"unreadable"),
     }
-    let mut text = Bytes::new(alloc);
-    show_row(alloc, row.as_slice(), &mut text)?;
-    Ok(text)
 }
 
-/// How many rows the last value has that is read of so many zero bytes; `none` where nothing is read.
-pub fn rows_counted(alloc: Global, text: &str) -> Result<Bytes, Fail> {
-    let (fields, count) = parts_of(text)?;
-    let template = template_of(alloc, fields)?;
-    let bytes: Vec<u8> = vec![in alloc; 0; count.trim().parse::<usize>()?]?;
-    let count = match row_of(alloc, &template, bytes.as_slice(), &facts_of(alloc)?)? {
+/// Shows how many rows the last value has that is read of so many zero bytes; `none` where nothing is read.
+pub fn show_count(rt: &(impl Abort + AllocGlobal), text: &str, came: &mut Text) {
+    let (fields, count) = parts_of(rt, text);
+    let template = template_of(rt.alloc(), fields).expect(rt, "a template");
+    let count = count.trim().parse::<usize>().expect(rt, "a number");
+    let bytes: Vec<u8> = vec![in rt.alloc(); 0; count].expect(rt, "memory");
+    match row_of(rt, &template, bytes.as_slice(), &facts_of(rt)) {
         Some(row) => match row.as_slice().last() {
-            Some(Tree::Rows(rows)) => format!(in alloc; "{}", rows.len())?,
-            _ => return Err(Fail::from("no rows")),
+            Some(Tree::Rows(rows)) => came.number(rows.len()),
+            _ => came.put(b"no rows"),
         },
-        None => format!(in alloc; "none")?,
-    };
-    Ok(Bytes::of(alloc, count.as_bytes())?)
+        None => came.put(b"none"),
+    }
 }
 
-/// Text with `¶` for the end of a line.
-fn on_one_line(alloc: Global, text: &[u8]) -> Result<Bytes, Fail> {
-    let mut line = Bytes::new(alloc);
+/// Shows text with `¶` for the end of a line.
+fn show_lines(text: &[u8], came: &mut Text) {
     for &byte in text {
         if byte == b'\n' {
-            line.append("¶".as_bytes())?;
+            came.put("¶".as_bytes());
         } else {
-            line.push(byte)?;
+            came.put(&[byte]);
         }
     }
-    Ok(line)
 }
 
-/// The items of the row that is read of bytes under fields, as they stand in a statement, or of a resource with this head
-/// its statement behind a line of other text; `none` where nothing is read, and an error where no statement can show it.
-pub fn row_shown(alloc: Global, text: &str, head: Option<Head>) -> Result<Bytes, Fail> {
-    let (fields, digits) = parts_of(text)?;
-    let template = template_of(alloc, fields)?;
-    let bytes = bytes_of(alloc, digits)?;
-    let Some(row) = row_of(alloc, &template, bytes.as_slice(), &facts_of(alloc)?)? else {
-        return Ok(Bytes::of(alloc, b"none")?);
-    };
-    let (fields, row) = (template.body().as_slice(), row.as_slice());
-    let hidden = Hidden::of(alloc, &[])?;
-    if uses_hidden(alloc, fields, row, &hidden)? {
-        return Err(Fail::from("a hidden name"));
+/// Shows the items of the row that is read of bytes under fields, as they stand in a statement, or of a resource with
+/// this head its statement behind a line of other text; `none` where nothing is read.
+pub fn show_written(
+    rt: &(impl Abort + AllocGlobal),
+    text: &str,
+    head: Option<Head>,
+    came: &mut Text,
+) {
+    let (fields, digits) = parts_of(rt, text);
+    let template = template_of(rt.alloc(), fields).expect(rt, "a template");
+    let bytes = bytes_of(rt, digits);
+    match row_of(rt, &template, bytes.as_slice(), &facts_of(rt)) {
+        Some(row) => {
+            let shown = written(rt, &template, row.as_slice(), head);
+            show_lines(shown.as_slice(), came);
+        }
+        None => came.put(b"none"),
     }
-    let mut text = Bytes::new(alloc);
+}
+
+/// The items of a row, or the statement of a resource with this head behind a line of other text.
+fn written(
+    rt: &(impl Abort + AllocGlobal),
+    template: &Template,
+    row: &[Tree],
+    head: Option<Head>,
+) -> Bytes {
+    let fields = template.body().as_slice();
+    let hidden = Hidden::of(rt.alloc(), &[]).expect(rt, "memory");
+    if uses_hidden(rt.alloc(), fields, row, &hidden).expect(rt, "memory") {
+        panic!(rt; "a hidden name");
+    }
+    let mut shown = Bytes::new(rt.alloc());
     match head {
-        None => write_row(fields, row, 1, &hidden, &mut text)?,
+        None => write_row(fields, row, 1, &hidden, &mut shown).expect(rt, "memory"),
         Some(head) => {
-            text.append(b"first\n")?;
-            let resource = resource_of(alloc, head)?;
-            show_statement(&resource, fields, row, &hidden, &mut text)?;
+            shown.append(b"first\n").expect(rt, "memory");
+            let resource = resource_of(rt, head);
+            write_statement(&resource, fields, row, &hidden, &mut shown).expect(rt, "memory");
         }
     }
-    on_one_line(alloc, text.as_slice())
+    shown
 }
 
 /// A resource with this head and no bytes.
-fn resource_of(alloc: Global, head: Head) -> Result<Resource, Fail> {
-    Ok(Resource {
+fn resource_of(rt: &(impl Abort + AllocGlobal), head: Head) -> Resource {
+    Resource {
         kind: OsType { code: head.kind },
         id: head.id,
-        name: Bytes::of(alloc, head.name.as_bytes())?,
+        name: Bytes::of(rt.alloc(), head.name.as_bytes()).expect(rt, "memory"),
         attr: Attr::of(head.attr),
-        bytes: Bytes::new(alloc),
-    })
+        bytes: Bytes::new(rt.alloc()),
+    }
 }

@@ -1,7 +1,8 @@
-use rz_core::{Bytes, write_decimal, write_quoted};
+//! Rows as text.
+
+use rz_test_tables::Text;
 use rz_types_fields::{Numbers, Row, Tree};
 use std::alloc::{AllocFailed, Global};
-use std::test::Fail;
 
 /// The most parts of a row that is shown.
 const MOST_PARTS: u32 = 1_000_000;
@@ -13,20 +14,32 @@ enum Part<'a> {
     Sign(u8),
 }
 
-/// Appends the values of a row with blanks between them: a number in decimal, a text in quote marks, the numbers of a
+/// Shows the values of a row with blanks between them: a number in decimal, a text in quote marks, the numbers of a
 /// point or a rectangle in brackets, the rows of an array in braces with `|` between them, and a case as its name and
 /// its row in parentheses.
-pub fn show_row(alloc: Global, row: &[Tree], text: &mut Bytes) -> Result<(), Fail> {
+pub fn show_row(alloc: Global, row: &[Tree], came: &mut Text) {
+    if show_parts(alloc, row, came).is_err() {
+        came.fail();
+    }
+}
+
+/// Shows the values of a row, if memory is there for what is left to show.
+fn show_parts<'a>(
+    alloc: Global,
+    row: &'a [Tree],
+    came: &mut Text,
+) -> Result<(), AllocFailed<Part<'a>>> {
     let mut parts = Vec::new(alloc);
     push_row(row, &mut parts)?;
     for _ in 0..MOST_PARTS {
         match parts.pop() {
-            Some(Part::Value(value)) => show_value(value, &mut parts, text)?,
-            Some(Part::Sign(sign)) => text.push(sign)?,
+            Some(Part::Value(value)) => show_value(value, &mut parts, came)?,
+            Some(Part::Sign(sign)) => came.put(&[sign]),
             None => return Ok(()),
         }
     }
-    Err(Fail::from("too many parts"))
+    came.fail();
+    Ok(())
 }
 
 /// Leaves the values of a row to be shown, the first on top.
@@ -53,24 +66,24 @@ fn push_rows<'a>(rows: &'a [Row], parts: &mut Vec<Part<'a>>) -> Result<(), Alloc
     Ok(())
 }
 
-/// Appends the front of a value, and leaves the rest to be shown.
+/// Shows the front of a value, and leaves the rest to be shown.
 fn show_value<'a>(
     value: &'a Tree,
     parts: &mut Vec<Part<'a>>,
-    text: &mut Bytes,
-) -> Result<(), Fail> {
+    came: &mut Text,
+) -> Result<(), AllocFailed<Part<'a>>> {
     match value {
-        Tree::Number(number) => write_decimal(u64::from(*number), text)?,
-        Tree::Text(bytes) => write_quoted(bytes.as_slice(), b'"', text)?,
-        Tree::Group(numbers) => show_numbers(numbers, text)?,
+        Tree::Number(number) => came.number(u64::from(*number)),
+        Tree::Text(bytes) => came.quoted(bytes.as_slice(), b'"'),
+        Tree::Group(numbers) => show_numbers(numbers, came),
         Tree::Rows(rows) => {
-            text.push(b'{')?;
+            came.put(b"{");
             parts.push(Part::Sign(b'}'))?;
             push_rows(rows.as_slice(), parts)?;
         }
         Tree::Choice(name, row) => {
-            text.append(name.bytes.as_slice())?;
-            text.push(b'(')?;
+            came.put(name.bytes.as_slice());
+            came.put(b"(");
             parts.push(Part::Sign(b')'))?;
             push_row(row.as_slice(), parts)?;
         }
@@ -78,16 +91,16 @@ fn show_value<'a>(
     Ok(())
 }
 
-fn show_numbers(numbers: &Numbers, text: &mut Bytes) -> Result<(), Fail> {
-    text.push(b'[')?;
-    let mut first = true;
+/// Shows the numbers of a point or a rectangle.
+fn show_numbers(numbers: &Numbers, came: &mut Text) {
+    came.put(b"[");
+    let mut is_first = true;
     for number in numbers.as_slice() {
-        if !first {
-            text.push(b' ')?;
+        if !is_first {
+            came.put(b" ");
         }
-        write_decimal(u64::from(*number), text)?;
-        first = false;
+        came.number(u64::from(*number));
+        is_first = false;
     }
-    text.push(b']')?;
-    Ok(())
+    came.put(b"]");
 }

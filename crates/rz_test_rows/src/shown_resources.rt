@@ -1,36 +1,35 @@
+//! Resources that are shown by their bytes.
+
 use rz_core::{Attr, Bytes, Facts, Moment, OsType, Resource};
 use rz_show::{show_bytes, show_resource};
-use std::test::Fail;
+use rz_test_tables::add_if_wrong;
+use std::process::Abort;
 
-#[test]
-fn resource_is_shown_after_another_text(rt: HostRuntime) -> Result<(), Fail> {
-    let alloc = rt.alloc();
+/// Adds a resource if it is shown otherwise behind another text.
+pub fn add_resource(rt: &(impl Abort + AllocGlobal), wrong: &mut String) {
     let resource = Resource {
         kind: OsType { code: 0x5465_7374 },
         id: 128,
-        name: Bytes::new(alloc),
+        name: Bytes::new(rt.alloc()),
         attr: Attr::of(0),
-        bytes: Bytes::of(alloc, b"\x01\x02")?,
+        bytes: Bytes::of(rt.alloc(), b"\x01\x02").expect(rt, "memory"),
     };
-    let mut text = Bytes::of(alloc, b"first\n")?;
-    show_resource(&resource, &mut text)?;
+    let mut text = Bytes::of(rt.alloc(), b"first\n").expect(rt, "memory");
+    show_resource(&resource, &mut text).expect(rt, "memory");
     let wanted = b"first\ndata 'Test' (128) {\n    $\"0102\"\n};\n\n";
-    assert_eq!(rt; text.as_slice(), wanted.as_slice());
-    Ok(())
+    add_if_wrong("a resource", wanted, text.as_slice(), wrong).expect(rt, "memory");
 }
 
-#[test]
-fn bytes_are_shown_by_their_facts(rt: HostRuntime) -> Result<(), Fail> {
-    let alloc = rt.alloc();
+/// Adds bytes if they are shown otherwise by their facts.
+pub fn add_bytes(rt: &(impl Abort + AllocGlobal), wrong: &mut String) {
     let facts = Facts {
         kind: OsType { code: 0x5465_7374 },
         id: -1,
-        name: Bytes::of(alloc, b"n")?,
+        name: Bytes::of(rt.alloc(), b"n").expect(rt, "memory"),
         attr: Attr::of(0x20),
-        moment: Moment::of_unix(0).ok_or("a moment")?,
+        moment: Moment::of_unix(0).ok_or("no moment").expect(rt, "a moment"),
     };
-    let text = show_bytes(alloc, &facts, b"")?;
+    let text = show_bytes(rt.alloc(), &facts, b"").expect(rt, "memory");
     let wanted = b"data 'Test' (-1, \"n\", purgeable) {\n    $\"\"\n};\n\n";
-    assert_eq!(rt; text.as_slice(), wanted.as_slice());
-    Ok(())
+    add_if_wrong("bytes", wanted, text.as_slice(), wrong).expect(rt, "memory");
 }

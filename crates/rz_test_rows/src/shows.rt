@@ -1,3 +1,5 @@
+//! Rows that are shown, and names that are hidden.
+
 /// Fields and bytes, and the items that are shown of the row.
 pub const SHOWN: &str = r#"
 byte; @ FF =>     -1¶

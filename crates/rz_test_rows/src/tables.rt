@@ -1,10 +1,13 @@
-use crate::calls::{Call, outcome_of};
+//! All tables, and the test that tries them.
+
+use crate::bits::add_bits;
+use crate::calls::{Call, show_call};
 use crate::rows::Head;
+use crate::shown_resources::{add_bytes, add_resource};
 use crate::{reads, shows, types};
-use rz_test_tables::{add_if_wrong, cases_of};
+use rz_test_tables::{Text, add_if_wrong, cases_of};
 use rz_types_table::TypeTable;
-use std::alloc::Global;
-use std::test::Fail;
+use std::process::Abort;
 
 /// A resource with a name and attributes, and one without.
 const GORF: Head = Head {
@@ -21,46 +24,51 @@ const STRINGS: Head = Head {
     attr: 0,
 };
 
-/// All tables but that of many rows, and what the cases of each call.
-const TABLES: [(Call, &str); 11] = [
-    (Call::Checked, types::CHECKS),
-    (Call::Types, types::FINDS),
-    (Call::Read, reads::NUMBERS),
-    (Call::Read, reads::TEXTS),
-    (Call::Read, reads::ARRAYS),
-    (Call::Read, reads::SWITCHES),
-    (Call::Read, reads::EMPTY_ROWS),
-    (Call::Shown, shows::SHOWN),
-    (Call::Statement(GORF), shows::NAMED),
-    (Call::Statement(STRINGS), shows::LISTS),
-    (Call::Hidden, shows::HIDDEN),
-];
+/// All tables, and what the cases of each call.
+fn tables() -> [(Call, &'static str); 12] {
+    [
+        (Call::Checked, types::CHECKS),
+        (Call::Types, types::FINDS),
+        (Call::Read, reads::NUMBERS),
+        (Call::Read, reads::TEXTS),
+        (Call::Read, reads::ARRAYS),
+        (Call::Read, reads::SWITCHES),
+        (Call::Read, reads::EMPTY_ROWS),
+        (Call::Shown, shows::SHOWN),
+        (Call::Statement(GORF), shows::NAMED),
+        (Call::Statement(STRINGS), shows::LISTS),
+        (Call::Hidden, shows::HIDDEN),
+        (Call::Counted, reads::MANY),
+    ]
+}
 
 /// Adds the cases of a table that come out otherwise, each with what came. A line that begins with `//` says what is
 /// tried.
-fn add_wrong(alloc: Global, call: Call, table: &str, wrong: &mut String) -> Result<(), Fail> {
-    let mut types = TypeTable::new(alloc);
-    for case in &cases_of(alloc, table, "//")? {
-        let came = outcome_of(alloc, call, case.text, &mut types)?;
-        add_if_wrong(case.line, case.wanted.as_bytes(), came.as_slice(), wrong)?;
+fn add_wrong(rt: &(impl Abort + AllocGlobal), call: Call, table: &str, wrong: &mut String) {
+    let mut types = TypeTable::new(rt.alloc());
+    for case in &cases_of(rt.alloc(), table, "//").expect(rt, "cases") {
+        let mut came = Text::new(rt.alloc());
+        show_call(rt, call, case.text, &mut types, &mut came);
+        add_if_wrong(case.line, case.wanted.as_bytes(), came.as_slice(), wrong).expect(
+            rt, "memory",
+        );
     }
-    Ok(())
+}
+
+/// All cases that come out otherwise, each with what came.
+fn all_wrong(rt: &(impl Abort + AllocGlobal)) -> String {
+    let mut wrong = String::new(rt.alloc());
+    for (call, table) in &tables() {
+        add_wrong(rt, *call, table, &mut wrong);
+    }
+    add_resource(rt, &mut wrong);
+    add_bytes(rt, &mut wrong);
+    add_bits(rt, &mut wrong);
+    wrong
 }
 
 #[test]
-fn all_cases_come_out_as_their_tables_say(rt: HostRuntime) -> Result<(), Fail> {
-    let mut wrong = String::new(rt.alloc());
-    for (call, table) in TABLES {
-        add_wrong(rt.alloc(), call, table, &mut wrong)?;
-    }
+fn all_cases_come_out_as_they_are_to(rt: HostRuntime) {
+    let wrong = all_wrong(&rt);
     assert_eq!(rt; wrong.as_str(), "");
-    Ok(())
-}
-
-#[test]
-fn many_rows_are_counted(rt: HostRuntime) -> Result<(), Fail> {
-    let mut wrong = String::new(rt.alloc());
-    add_wrong(rt.alloc(), Call::Counted, reads::MANY, &mut wrong)?;
-    assert_eq!(rt; wrong.as_str(), "");
-    Ok(())
 }

@@ -1,3 +1,5 @@
+//! Rules of type declarations, and declarations that are found.
+
 /// Fields, and their template or the rule that they break.
 pub const CHECKS: &str = r#"
 // widths are 1 to 32

@@ -1,11 +1,13 @@
+//! What the cases of tables call.
+
 use crate::shown::{show_compile, show_declare, show_list, show_raw};
-use crate::values::show_fault;
-use rz_core::Bytes;
+use crate::values::{Seen, show_fault};
+use rz_core::{Attr, Bytes, Facts, Moment, OsType};
 use rz_lex::Tokens;
 use rz_stmt::{Span, Stmt, parse, statements};
-use rz_test_tables::{expanded, tokens_of};
+use rz_test_tables::{Text, expanded, tokens_of};
 use std::alloc::Global;
-use std::test::Fail;
+use std::process::Abort;
 
 /// What the cases of a table call.
 #[derive(Clone, Copy)]
@@ -16,48 +18,66 @@ pub enum Call {
     Parse,
 }
 
-/// What the text of a case gives. In it `|` is the line end LF, and `«TEXT×N»` is TEXT N times.
-pub fn outcome_of(alloc: Global, call: Call, text: &str) -> Result<Bytes, Fail> {
-    let text = expanded(alloc, text)?.replace(alloc, '|', "\n")?;
-    let tokens = tokens_of(alloc, text.as_bytes())?;
-    let mut outcome = Bytes::new(alloc);
+/// Shows what the text of a case gives. In it `|` is the line end LF, and `«TEXT×N»` is TEXT N times.
+pub fn show_call(rt: &(impl Abort + AllocGlobal), call: Call, text: &str, came: &mut Text) {
+    let text = expanded(rt.alloc(), text).expect(rt, "memory");
+    let text = text.replace(rt.alloc(), '|', "\n").expect(rt, "memory");
+    let tokens = tokens_of(rt.alloc(), text.as_bytes()).expect(rt, "tokens");
     match call {
-        Call::Cut => show_spans(&tokens, &mut outcome)?,
-        Call::Parse => show_statement(&tokens, &mut outcome)?,
+        Call::Cut => show_spans(rt.alloc(), &tokens, came),
+        Call::Parse => {
+            let facts = no_facts(rt);
+            let seen = Seen {
+                alloc: rt.alloc(),
+                facts: &facts,
+            };
+            show_statement(seen, &tokens, came);
+        }
     }
-    Ok(outcome)
 }
 
-/// Appends where the statements among tokens stand.
-fn show_spans(tokens: &Tokens, text: &mut Bytes) -> Result<(), Fail> {
-    let spans = statements(text.allocator(), tokens)?;
+/// The facts of a resource of which nothing is known, in the first second of 1970.
+fn no_facts(rt: &(impl Abort + AllocGlobal)) -> Facts {
+    Facts {
+        kind: OsType { code: 0 },
+        id: 0,
+        name: Bytes::new(rt.alloc()),
+        attr: Attr::of(0),
+        moment: Moment::of_unix(0).ok_or("no moment").expect(rt, "a moment"),
+    }
+}
+
+/// Shows where the statements among tokens stand.
+fn show_spans(alloc: Global, tokens: &Tokens, came: &mut Text) {
+    let Ok(spans) = statements(alloc, tokens) else {
+        came.fail();
+        return;
+    };
     if spans.is_empty() {
-        text.append(b"none")?;
+        came.put(b"none");
     }
     for span in spans.as_slice() {
-        let (start, end) = (span.start, span.end);
-        let shown = format!(in text.allocator(); "{start}-{end}.")?;
-        text.append(shown.as_bytes())?;
+        came.number(span.start);
+        came.put(b"-");
+        came.number(span.end);
+        came.put(b".");
     }
-    Ok(())
 }
 
-/// Appends what all tokens are as one statement, or the fault.
-fn show_statement(tokens: &Tokens, text: &mut Bytes) -> Result<(), Fail> {
+/// Shows what all tokens are as one statement, or the fault.
+fn show_statement(seen: Seen<'_>, tokens: &Tokens, came: &mut Text) {
     let end = tokens.len();
     if end == 0 {
-        return Err(Fail::from("no statement"));
+        came.fail();
+        return;
     }
     let mark = tokens.at(0).mark;
-    match parse(text.allocator(), tokens, Span { start: 0, end }) {
-        Ok(Stmt::Empty) => {
-            text.append(b"empty")?;
-            Ok(())
-        }
-        Ok(Stmt::Raw(stmt)) => show_raw(&stmt, mark, text),
-        Ok(Stmt::List(stmt)) => show_list(&stmt, mark, text),
-        Ok(Stmt::Compile(stmt)) => show_compile(&stmt, mark, text),
-        Ok(Stmt::Declare(stmt)) => show_declare(&stmt, mark, text),
-        Err(stop) => show_fault(stop, text),
+    match parse(seen.alloc, tokens, Span { start: 0, end }) {
+        Ok(Stmt::Empty) => came.put(b"empty"),
+        Ok(Stmt::Raw(stmt)) => show_raw(seen, &stmt, mark, came),
+        Ok(Stmt::List(stmt)) => show_list(seen, &stmt, mark, came),
+        Ok(Stmt::Compile(stmt)) => show_compile(seen, &stmt, mark, came),
+        Ok(Stmt::Declare(stmt)) => show_declare(seen, &stmt, mark, came),
+        Err(stop) => show_fault(stop, came),
     }
 }

@@ -1,3 +1,5 @@
+//! Where statements are cut.
+
 /// Texts, and where their statements stand among their tokens: the position of the first token, a `-` and the position
 /// behind the last, each with a `.` behind it.
 pub const CUTS: &str = r#"

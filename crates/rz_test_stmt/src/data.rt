@@ -1,3 +1,5 @@
+//! `data` statements.
+
 /// `data` statements, and what they are: a type, the value of the id, a name between `<` and `>`, attributes (`+` a bit
 /// that is set, `-` one that is cleared, `=` a number) and bytes in decimal; or a fault with its line and what it keeps.
 pub const DATA: &str = r#"

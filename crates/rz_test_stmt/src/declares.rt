@@ -1,3 +1,5 @@
+//! `type` statements.
+
 /// `type` statements, and what they are: a type, ids and fields, or another type; or a fault with its line and what it
 /// keeps.
 pub const DECLARES: &str = r#"

@@ -1,9 +1,11 @@
-use crate::values::{bytes_of, show_value};
-use rz_core::{Bytes, Mark, write_decimal, write_signed};
+//! Fields as text.
+
+use crate::values::{Seen, bytes_of, show_value};
+use rz_core::Mark;
+use rz_test_tables::Text;
 use rz_types_fields::{
     ArrayField, Body, Cases, Field, NumField, NumForm, PointField, Radix, TextField, TextForm,
 };
-use std::test::Fail;
 
 /// The word of a number.
 fn form_name(form: NumForm) -> &'static str {
@@ -39,127 +41,120 @@ fn text_name(form: TextForm) -> &'static str {
     }
 }
 
-/// Appends a number.
-fn show_number(number: &NumField, mark: Mark, text: &mut Bytes) -> Result<(), Fail> {
+/// Shows a number.
+fn show_number(seen: Seen<'_>, number: &NumField, mark: Mark, text: &mut Text) {
     if number.key {
-        text.append(b"key ")?;
+        text.put(b"key ");
     }
-    text.append(form_name(number.form).as_bytes())?;
+    text.put(form_name(number.form).as_bytes());
     if number.form == NumForm::Bits {
-        text.push(b' ')?;
-        write_signed(i64::from(number.width), text)?;
+        text.put(b" ");
+        text.signed(i64::from(number.width));
     }
     if number.unsigned {
-        text.append(b" unsigned")?;
+        text.put(b" unsigned");
     }
-    text.append(radix_name(number.radix).as_bytes())?;
+    text.put(radix_name(number.radix).as_bytes());
     for symbol in number.symbols.as_slice() {
-        text.push(b' ')?;
-        text.append(symbol.name.bytes.as_slice())?;
-        text.push(b':')?;
-        write_signed(i64::from(symbol.value), text)?;
+        text.put(b" ");
+        text.put(symbol.name.bytes.as_slice());
+        text.put(b":");
+        text.signed(i64::from(symbol.value));
     }
     if let Some(fixed) = &number.fixed {
-        text.append(b" =")?;
-        show_value(fixed, mark, text)?;
+        text.put(b" =");
+        show_value(seen, fixed, mark, text);
     }
-    Ok(())
 }
 
-/// Appends a text; a byte that is no plain one is a `.`.
-fn show_text(field: &TextField, mark: Mark, text: &mut Bytes) -> Result<(), Fail> {
-    text.append(text_name(field.form).as_bytes())?;
+/// Shows a text; a byte that is no plain one is a `.`.
+fn show_text(seen: Seen<'_>, field: &TextField, mark: Mark, text: &mut Text) {
+    text.put(text_name(field.form).as_bytes());
     if field.hex {
-        text.append(b" hex")?;
+        text.put(b" hex");
     }
     if let Some(size) = &field.size {
-        text.append(b" [")?;
-        show_value(size, mark, text)?;
-        text.push(b']')?;
+        text.put(b" [");
+        show_value(seen, size, mark, text);
+        text.put(b"]");
     }
     if let Some(fixed) = &field.fixed {
-        text.append(b" <")?;
-        for byte in bytes_of(text.allocator(), fixed)?.as_slice() {
-            text.push(if byte.is_ascii_graphic() { *byte } else { b'.' })?;
+        text.put(b" <");
+        for byte in bytes_of(seen, fixed, text).as_slice() {
+            text.put(&[if byte.is_ascii_graphic() { *byte } else { b'.' }]);
         }
-        text.push(b'>')?;
+        text.put(b">");
     }
-    Ok(())
 }
 
-/// Appends a point or a rectangle.
-fn show_points(field: &PointField, mark: Mark, text: &mut Bytes) -> Result<(), Fail> {
+/// Shows a point or a rectangle.
+fn show_points(seen: Seen<'_>, field: &PointField, mark: Mark, text: &mut Text) {
     let name = if field.rect { "rect" } else { "point" };
-    text.append(name.as_bytes())?;
+    text.put(name.as_bytes());
     if let Some(fixed) = &field.fixed {
         for expr in fixed.as_slice() {
-            text.push(b' ')?;
-            show_value(expr, mark, text)?;
+            text.put(b" ");
+            show_value(seen, expr, mark, text);
         }
     }
-    Ok(())
 }
 
-/// Appends an array.
+/// Shows an array.
 #[cycle(show)]
-fn show_array(array: &ArrayField, mark: Mark, text: &mut Bytes) -> Result<(), Fail> {
-    text.append(b"array ")?;
+fn show_array(seen: Seen<'_>, array: &ArrayField, mark: Mark, text: &mut Text) {
+    text.put(b"array ");
     if let Some(name) = &array.name {
-        text.append(name.bytes.as_slice())?;
-        text.push(b' ')?;
+        text.put(name.bytes.as_slice());
+        text.put(b" ");
     }
     if let Some(count) = array.count {
-        write_signed(i64::from(count), text)?;
-        text.push(b' ')?;
+        text.signed(i64::from(count));
+        text.put(b" ");
     }
-    show_body(&array.row, mark, text)
+    show_body(seen, &array.row, mark, text)
 }
 
-/// Appends a switch.
+/// Shows a switch.
 #[cycle(show)]
-fn show_switch(cases: &Cases, mark: Mark, text: &mut Bytes) -> Result<(), Fail> {
-    text.append(b"switch")?;
+fn show_switch(seen: Seen<'_>, cases: &Cases, mark: Mark, text: &mut Text) {
+    text.put(b"switch");
     for case in cases.as_slice() {
-        text.push(b' ')?;
-        text.append(case.name.bytes.as_slice())?;
-        text.push(b' ')?;
-        show_body(&case.row, mark, text)?;
+        text.put(b" ");
+        text.put(case.name.bytes.as_slice());
+        text.put(b" ");
+        show_body(seen, &case.row, mark, text);
     }
-    Ok(())
 }
 
-/// Appends a field.
+/// Shows a field.
 #[cycle(show)]
-fn show_field(field: &Field, mark: Mark, text: &mut Bytes) -> Result<(), Fail> {
+fn show_field(seen: Seen<'_>, field: &Field, mark: Mark, text: &mut Text) {
     match field {
-        Field::Num(number) => show_number(number, mark, text),
-        Field::Text(field) => show_text(field, mark, text),
-        Field::Points(field) => show_points(field, mark, text),
+        Field::Num(number) => show_number(seen, number, mark, text),
+        Field::Text(field) => show_text(seen, field, mark, text),
+        Field::Points(field) => show_points(seen, field, mark, text),
         Field::Fill(unit, count) => {
-            text.append(b"fill ")?;
-            write_decimal(u64::from(*unit), text)?;
-            text.push(b' ')?;
-            write_signed(i64::from(*count), text)?;
-            Ok(())
+            text.put(b"fill ");
+            text.number(u64::from(*unit));
+            text.put(b" ");
+            text.signed(i64::from(*count));
         }
         Field::Align(unit) => {
-            text.append(b"align ")?;
-            write_decimal(u64::from(*unit), text)?;
-            Ok(())
+            text.put(b"align ");
+            text.number(u64::from(*unit));
         }
-        Field::Array(array) => show_array(array, mark, text),
-        Field::Switch(cases) => show_switch(cases, mark, text),
+        Field::Array(array) => show_array(seen, array, mark, text),
+        Field::Switch(cases) => show_switch(seen, cases, mark, text),
     }
 }
 
-/// Appends fields, each with a `;` behind it.
+/// Shows fields, each with a `;` behind it.
 #[cycle(show)]
-pub fn show_body(body: &Body, mark: Mark, text: &mut Bytes) -> Result<(), Fail> {
-    text.push(b'{')?;
+pub fn show_body(seen: Seen<'_>, body: &Body, mark: Mark, text: &mut Text) {
+    text.put(b"{");
     for field in body.as_slice() {
-        show_field(field, mark, text)?;
-        text.append(b"; ")?;
+        show_field(seen, field, mark, text);
+        text.put(b"; ");
     }
-    text.push(b'}')?;
-    Ok(())
+    text.put(b"}");
 }

@@ -1,3 +1,5 @@
+//! The limits of depth.
+
 /// Statements as deep and as long as they may be, and more, and what they are, as in the other tables.
 pub const LIMITS: &str = r#"
 // 64 brackets may be open, that of the head among them

@@ -1,3 +1,5 @@
+//! Statements over the list.
+
 /// `include`, `read`, `change` and `delete` statements, and what they are: the word, a file between `<` and `>`, a type
 /// and `all`, an id, two ids or a name between `<` and `>`; and behind `as` or `to` another type and a head in brackets,
 /// as those of `data`; or a fault with its line. `$$` functions are here of a resource of which nothing is known.

@@ -1,3 +1,5 @@
+//! `resource` statements.
+
 /// `resource` statements, and what they are: type and head as those of `data`, and behind a `:` the items: a value or
 /// its fault, a text in quote marks, items in braces, or a name and items in braces; then `@` and a line, where that
 /// isn't the first.

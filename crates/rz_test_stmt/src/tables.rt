@@ -1,35 +1,47 @@
-use crate::calls::{Call, outcome_of};
+//! All tables, and the test that tries them.
+
+use crate::calls::{Call, show_call};
 use crate::{cuts, data, declares, limits, lists, resources};
-use rz_test_tables::{add_if_wrong, cases_of};
-use std::alloc::Global;
-use std::test::Fail;
+use rz_test_tables::{Case, Text, add_if_wrong, cases_of};
+use std::process::Abort;
 
 /// All tables, and what the cases of each call.
-const TABLES: [(Call, &str); 6] = [
-    (Call::Cut, cuts::CUTS),
-    (Call::Parse, data::DATA),
-    (Call::Parse, declares::DECLARES),
-    (Call::Parse, limits::LIMITS),
-    (Call::Parse, lists::LISTS),
-    (Call::Parse, resources::RESOURCES),
-];
+fn tables() -> [(Call, &'static str); 6] {
+    [
+        (Call::Cut, cuts::CUTS),
+        (Call::Parse, data::DATA),
+        (Call::Parse, declares::DECLARES),
+        (Call::Parse, limits::LIMITS),
+        (Call::Parse, lists::LISTS),
+        (Call::Parse, resources::RESOURCES),
+    ]
+}
 
-/// Adds the cases of a table that come out otherwise, each with what came. A line that begins with `//` says what is
-/// tried.
-fn add_wrong(alloc: Global, call: Call, table: &str, wrong: &mut String) -> Result<(), Fail> {
-    for case in &cases_of(alloc, table, "//")? {
-        let came = outcome_of(alloc, call, case.text)?;
-        add_if_wrong(case.line, case.wanted.as_bytes(), came.as_slice(), wrong)?;
+/// Adds a case that comes out otherwise, with what came.
+fn add_case(rt: &(impl Abort + AllocGlobal), call: Call, case: &Case<'_>, wrong: &mut String) {
+    let mut came = Text::new(rt.alloc());
+    show_call(rt, call, case.text, &mut came);
+    add_if_wrong(case.line, case.wanted.as_bytes(), came.as_slice(), wrong).expect(rt, "memory");
+}
+
+/// Adds the cases of a table that come out otherwise. A line that begins with `//` says what is tried.
+fn add_wrong(rt: &(impl Abort + AllocGlobal), call: Call, table: &str, wrong: &mut String) {
+    for case in &cases_of(rt.alloc(), table, "//").expect(rt, "cases") {
+        add_case(rt, call, case, wrong);
     }
-    Ok(())
+}
+
+/// All cases that come out otherwise, each with what came.
+fn all_wrong(rt: &(impl Abort + AllocGlobal)) -> String {
+    let mut wrong = String::new(rt.alloc());
+    for (call, table) in &tables() {
+        add_wrong(rt, *call, table, &mut wrong);
+    }
+    wrong
 }
 
 #[test]
-fn all_cases_come_out_as_their_tables_say(rt: HostRuntime) -> Result<(), Fail> {
-    let mut wrong = String::new(rt.alloc());
-    for (call, table) in TABLES {
-        add_wrong(rt.alloc(), call, table, &mut wrong)?;
-    }
+fn all_cases_come_out_as_their_tables_say(rt: HostRuntime) {
+    let wrong = all_wrong(&rt);
     assert_eq!(rt; wrong.as_str(), "");
-    Ok(())
 }

@@ -1,61 +1,52 @@
-use rz_core::{
-    Attr, Bytes, Facts, Fault, Kept, Mark, Moment, OsType, Stop, write_decimal, write_signed,
-};
+//! Values, strings and faults as text.
+
+use rz_core::{Bytes, Facts, Fault, Kept, Mark, Stop};
 use rz_expr::Expr;
 use rz_stmt::{number_of, text_of};
-use rz_test_tables::CaseFault;
+use rz_test_tables::Text;
 use rz_types_fields::Texts;
 use std::alloc::Global;
-use std::test::Fail;
 
-/// The facts of a resource of which nothing is known, in the first second of 1970.
-fn no_facts(alloc: Global) -> Result<Facts, Fail> {
-    let Some(moment) = Moment::of_unix(0) else {
-        return Err(Fail::from("no moment"));
-    };
-    Ok(Facts {
-        kind: OsType { code: 0 },
-        id: 0,
-        name: Bytes::new(alloc),
-        attr: Attr::of(0),
-        moment,
-    })
+/// What expressions and strings are read with.
+#[derive(Clone, Copy)]
+pub struct Seen<'a> {
+    pub alloc: Global,
+    pub facts: &'a Facts,
 }
 
-/// Appends a fault: its number, its line and the number that it keeps.
-pub fn show_fault(stop: Stop<Fault>, text: &mut Bytes) -> Result<(), Fail> {
+/// Shows a fault: its number, its line and the number that it keeps.
+pub fn show_fault(stop: Stop<Fault>, text: &mut Text) {
     let Stop::Refused(fault) = stop else {
-        return Err(Fail::from(CaseFault::NoMemory));
+        text.fail();
+        return;
     };
-    write_decimal(u64::from(fault.number), text)?;
+    text.number(u64::from(fault.number));
     if let Some(mark) = fault.mark {
-        text.append(b" on ")?;
-        write_decimal(u64::from(mark.line), text)?;
+        text.put(b" on ");
+        text.number(u64::from(mark.line));
     }
     if let Kept::Number(number) = &fault.kept {
-        text.push(b' ')?;
-        write_signed(*number, text)?;
+        text.put(b" ");
+        text.signed(*number);
     }
-    Ok(())
 }
 
-/// Appends the value of an expression, or its fault.
-pub fn show_value(expr: &Expr, mark: Mark, text: &mut Bytes) -> Result<(), Fail> {
-    let alloc = text.allocator();
-    match number_of(alloc, expr, mark, &no_facts(alloc)?) {
-        Ok(value) => {
-            write_signed(i64::from(value), text)?;
-            Ok(())
-        }
+/// Shows the value of an expression, or its fault.
+pub fn show_value(seen: Seen<'_>, expr: &Expr, mark: Mark, text: &mut Text) {
+    match number_of(seen.alloc, expr, mark, seen.facts) {
+        Ok(value) => text.signed(i64::from(value)),
         Err(stop) => show_fault(stop, text),
     }
 }
 
-/// The bytes of a text.
-pub fn bytes_of(alloc: Global, texts: &Texts) -> Result<Bytes, Fail> {
+/// The bytes of a string. Where it has none, what is shown is not whole.
+pub fn bytes_of(seen: Seen<'_>, texts: &Texts, text: &mut Text) -> Bytes {
     let mark = Mark { file: 0, line: 1 };
-    match text_of(alloc, texts, mark, &no_facts(alloc)?) {
-        Ok(bytes) => Ok(bytes),
-        Err(_) => Err(Fail::from("no bytes")),
+    match text_of(seen.alloc, texts, mark, seen.facts) {
+        Ok(bytes) => bytes,
+        Err(_) => {
+            text.fail();
+            Bytes::new(seen.alloc)
+        }
     }
 }

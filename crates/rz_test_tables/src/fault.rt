@@ -1,3 +1,5 @@
+//! Why a case can't be tried.
+
 use rz_core::NoMemory;
 use std::alloc::{AllocError, AllocFailed};
 

@@ -1,3 +1,5 @@
+//! The runs in the text of a case.
+
 use crate::CaseFault;
 use std::alloc::Global;
 

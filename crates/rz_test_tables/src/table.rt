@@ -1,3 +1,5 @@
+//! Tables of cases, one on a line, and the lines that come out otherwise.
+
 ghost use Rattle.std.specs.Prelude.{◌≡◌, ◌≢◌, ◌<◌, OnOk};
 ghost use Rattle.std.specs.String.{string_bytes, string_len};
 

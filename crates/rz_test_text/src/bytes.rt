@@ -1,61 +1,70 @@
-use crate::outcome::outcome_of;
-use rz_core::{Attr, Bytes, write_decimal, write_quoted};
-use std::alloc::Global;
-use std::test::Fail;
+//! Each byte alone, between quote marks and behind a backslash.
 
-/// What a byte alone gives. Signs are tried elsewhere.
-fn alone(alloc: Global, byte: u8) -> Result<Bytes, Fail> {
-    let mut wanted = Bytes::new(alloc);
+use crate::outcome::show_outcome;
+use rz_core::Attr;
+use rz_test_tables::{Text, add_if_wrong};
+use std::alloc::Global;
+use std::process::Abort;
+
+/// Shows what a byte alone is to give. Signs are tried elsewhere.
+fn show_meaning(byte: u8, wanted: &mut Text) {
     match byte {
         b'a'..=b'z' | b'A'..=b'Z' | b'_' | b'0'..=b'9' => {
-            wanted.append(b"1:")?;
-            wanted.push(byte)?;
-            wanted.append(b" ")?;
+            wanted.put(b"1:");
+            wanted.put(&[byte]);
+            wanted.put(b" ");
         }
         b' ' | 0x09 | 0x0A | 0x0B | 0x0C | 0x0D => {}
-        b'"' | b'\'' => wanted.append(b"108 on 1")?,
+        b'"' | b'\'' => wanted.put(b"108 on 1"),
         _ => {
-            wanted.append(b"111 on 1 ")?;
-            write_decimal(u64::from(byte), &mut wanted)?;
+            wanted.put(b"111 on 1 ");
+            wanted.number(u64::from(byte));
         }
     }
-    Ok(wanted)
 }
 
-/// What a byte in a text between quote marks gives.
-fn quoted(alloc: Global, byte: u8) -> Result<Bytes, Fail> {
-    let mut wanted = Bytes::of(alloc, b"1:")?;
-    write_quoted(&[byte], b'"', &mut wanted)?;
-    wanted.push(b' ')?;
-    Ok(wanted)
+/// Shows what a byte alone gives, and what it is to give.
+fn show_alone(alloc: Global, byte: u8, wanted: &mut Text, came: &mut Text) {
+    if !b"{}()[],;:=+-*/%<>&|^~!".contains(&byte) {
+        show_meaning(byte, wanted);
+        show_outcome(alloc, &[byte], came);
+    }
 }
 
-/// What a byte behind a backslash gives, where it makes no escape.
-fn escaped(alloc: Global, byte: u8) -> Result<Bytes, Fail> {
-    let mut wanted = Bytes::of(alloc, b"109 on 1 \"\\")?;
-    wanted.push(byte)?;
-    wanted.push(b'"')?;
-    Ok(wanted)
+/// The same of a byte in a text between quote marks.
+fn show_quoted(alloc: Global, byte: u8, wanted: &mut Text, came: &mut Text) {
+    if !b"\"\\\n\r".contains(&byte) {
+        wanted.put(b"1:");
+        wanted.quoted(&[byte], b'"');
+        wanted.put(b" ");
+        show_outcome(alloc, &[b'"', byte, b'"'], came);
+    }
 }
 
-#[test]
-fn every_byte(rt: HostRuntime) -> Result<(), Fail> {
-    let alloc = rt.alloc();
+/// The same of a byte behind a backslash, where it makes no escape.
+fn show_escaped(alloc: Global, byte: u8, wanted: &mut Text, came: &mut Text) {
+    if !b"\n\r".contains(&byte) && !(b' '..=b'~').contains(&byte) {
+        wanted.put(b"109 on 1 \"\\");
+        wanted.put(&[byte]);
+        wanted.put(b"\"");
+        show_outcome(alloc, &[b'"', b'\\', byte, b'"'], came);
+    }
+}
+
+/// Adds a byte that comes out otherwise, or that as attributes is another.
+fn add_byte(rt: &(impl Abort + AllocGlobal), byte: u8, wrong: &mut String) {
+    let (mut wanted, mut came) = (Text::new(rt.alloc()), Text::new(rt.alloc()));
+    wanted.put(&[byte]);
+    came.put(&[Attr::of(byte).byte()]);
+    show_alone(rt.alloc(), byte, &mut wanted, &mut came);
+    show_quoted(rt.alloc(), byte, &mut wanted, &mut came);
+    show_escaped(rt.alloc(), byte, &mut wanted, &mut came);
+    add_if_wrong("a byte", wanted.as_slice(), came.as_slice(), wrong).expect(rt, "memory");
+}
+
+/// Adds each byte that comes out otherwise.
+pub fn add_bytes(rt: &(impl Abort + AllocGlobal), wrong: &mut String) {
     for byte in 0..=u8::MAX {
-        assert_eq!(rt; Attr::of(byte).byte(), byte);
-        if !b"{}()[],;:=+-*/%<>&|^~!".contains(&byte) {
-            let came = outcome_of(alloc, &[byte])?;
-            assert_eq!(rt; came.as_slice(), alone(alloc, byte)?.as_slice(), "{byte}");
-        }
-        if matches!(byte, b'"' | b'\\' | b'\n' | b'\r') {
-            continue;
-        }
-        let came = outcome_of(alloc, &[b'"', byte, b'"'])?;
-        assert_eq!(rt; came.as_slice(), quoted(alloc, byte)?.as_slice(), "{byte}");
-        if byte < b' ' || byte > b'~' {
-            let came = outcome_of(alloc, &[b'"', b'\\', byte, b'"'])?;
-            assert_eq!(rt; came.as_slice(), escaped(alloc, byte)?.as_slice(), "{byte}");
-        }
+        add_byte(rt, byte, wrong);
     }
-    Ok(())
 }

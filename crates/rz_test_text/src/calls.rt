@@ -1,17 +1,28 @@
-use crate::messages::message_of;
-use crate::outcome::outcome_of;
-use rz_core::{Bytes, Moment, fold, from_roman, to_roman, write_decimal, write_signed};
-use rz_test_tables::CaseFault;
-use std::alloc::Global;
-use std::test::Fail;
+//! What the cases of tables call.
+
+use crate::core_calls::{show_between, show_lists, show_shown};
+use crate::messages::show_message;
+use crate::outcome::show_outcome;
+use crate::taken::show_lines;
+use rz_core::{Moment, fold, from_roman, to_roman};
+use rz_test_tables::Text;
+use std::process::Abort;
 
 /// What the cases of a table call, and what the text of a case is for it.
 #[derive(Clone, Copy)]
 pub enum Call {
     /// The tokens of a text, or its first fault.
     Lex,
-    /// The message of a fault, by its number.
+    /// The lines of a text, taken and cut one by one.
+    Lines,
+    /// The message of a fault, by its number, and by its place and what it keeps where they stand after it.
     Message,
+    /// A byte as it is shown.
+    Shown,
+    /// Bytes between quote marks.
+    Between,
+    /// Lists of names.
+    Lists,
     /// The moment of seconds.
     Moment,
     /// A number in decimal.
@@ -24,42 +35,74 @@ pub enum Call {
     Fold,
 }
 
-/// What the text of a case gives.
-pub fn call_of(alloc: Global, call: Call, text: &str) -> Result<Bytes, Fail> {
-    let given = match call {
-        Call::Lex => return outcome_of(alloc, text.as_bytes()),
-        Call::Message => return message_of(alloc, text.parse::<u16>()?),
-        Call::Decimal => return decimal_of(alloc, text),
-        Call::Moment => {
-            let seconds = Moment::of_unix(text.parse::<i64>()?).map(|moment| moment.unix);
-            format!(in alloc; "{seconds:?}")?
-        }
-        Call::FromRoman => {
-            let code = u32::from(from_roman(u8::from_str_radix(text, 16)?));
-            format!(in alloc; "{code:X}")?
-        }
-        Call::ToRoman => {
-            let Some(character) = char::from_u32(u32::from_str_radix(text, 16)?) else {
-                return Err(Fail::from(CaseFault::NoCase));
-            };
-            let byte = to_roman(character);
-            format!(in alloc; "{byte:?}")?
-        }
-        Call::Fold => {
-            let byte = fold(u8::from_str_radix(text, 16)?);
-            format!(in alloc; "{byte:X}")?
-        }
-    };
-    Ok(Bytes::of(alloc, given.as_bytes())?)
+/// Shows what the text of a case gives.
+pub fn show_call(rt: &(impl Abort + AllocGlobal), call: Call, text: &str, came: &mut Text) {
+    match call {
+        Call::Lex => show_outcome(rt.alloc(), text.as_bytes(), came),
+        Call::Lines => show_lines(rt.alloc(), text.as_bytes(), came),
+        Call::Message => show_message(rt, text, came),
+        Call::Shown => show_shown(rt, text, came),
+        Call::Between => show_between(rt, text, came),
+        Call::Lists => show_lists(rt, text, came),
+        Call::Decimal => show_decimal(rt, text, came),
+        Call::Moment => show_moment(rt, text, came),
+        Call::FromRoman => show_roman(rt, text, came),
+        Call::ToRoman => show_byte(rt, text, came),
+        Call::Fold => show_folded(rt, text, came),
+    }
 }
 
-/// A number in decimal.
-fn decimal_of(alloc: Global, text: &str) -> Result<Bytes, Fail> {
-    let mut shown = Bytes::new(alloc);
+/// Shows the seconds of a moment.
+fn show_moment(rt: &(impl Abort + AllocGlobal), text: &str, came: &mut Text) {
+    let seconds = text.parse::<i64>().expect(rt, "a number");
+    let moment = Moment::of_unix(seconds).map(|moment| moment.unix);
+    came.put(
+        format!(in rt.alloc(); "{moment:?}")
+            .expect(rt, "memory")
+            .as_bytes(),
+    );
+}
+
+/// Shows the character of a byte.
+fn show_roman(rt: &(impl Abort + AllocGlobal), text: &str, came: &mut Text) {
+    let code = u32::from(from_roman(u8::from_str_radix(text, 16).expect(rt, "a number")));
+    came.put(
+        format!(in rt.alloc(); "{code:X}")
+            .expect(rt, "memory")
+            .as_bytes(),
+    );
+}
+
+/// Shows the byte of a character.
+fn show_byte(rt: &(impl Abort + AllocGlobal), text: &str, came: &mut Text) {
+    let code = u32::from_str_radix(text, 16).expect(rt, "a number");
+    let byte = to_roman(
+        char::from_u32(code)
+            .ok_or("no case")
+            .expect(rt, "a character"),
+    );
+    came.put(
+        format!(in rt.alloc(); "{byte:?}")
+            .expect(rt, "memory")
+            .as_bytes(),
+    );
+}
+
+/// Shows the byte that a byte folds to.
+fn show_folded(rt: &(impl Abort + AllocGlobal), text: &str, came: &mut Text) {
+    let byte = fold(u8::from_str_radix(text, 16).expect(rt, "a number"));
+    came.put(
+        format!(in rt.alloc(); "{byte:X}")
+            .expect(rt, "memory")
+            .as_bytes(),
+    );
+}
+
+/// Shows a number in decimal.
+fn show_decimal(rt: &(impl Abort + AllocGlobal), text: &str, came: &mut Text) {
     if text.starts_with('-') {
-        write_signed(text.parse::<i64>()?, &mut shown)?;
+        came.signed(text.parse::<i64>().expect(rt, "a number"));
     } else {
-        write_decimal(text.parse::<u64>()?, &mut shown)?;
+        came.number(text.parse::<u64>().expect(rt, "a number"));
     }
-    Ok(shown)
 }

@@ -1,3 +1,5 @@
+//! Conversions of moments, numbers and characters.
+
 /// Seconds from 1970 on, and those of the moment: moments are of 1904 to 2039.
 pub const MOMENTS: &str = r"
 -2082844801 => [None]

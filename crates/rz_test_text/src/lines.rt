@@ -1,3 +1,5 @@
+//! Line ends and comments.
+
 /// Line ends, and backslashes before them.
 pub const LINE_ENDS: &str = r#"
 # CR LF is one line end

@@ -1,11 +1,13 @@
+//! Faults and their message lines.
+
 ghost use Rattle.std.specs.Prelude.{◌≡◌, true, IsTrue};
 ghost use Rattle.rz_core.specs.Message.{is_fault};
 
-use rz_core::{Bytes, Fault, FileNames, Kept, Mark, OsType, write_fault};
-use std::alloc::Global;
-use std::test::Fail;
+use rz_core::{Bytes, Fault, FileNames, Kept, Mark, OsType, to_roman, write_fault};
+use rz_test_tables::Text;
+use std::process::Abort;
 
-/// The number of each fault, and its message with nothing kept.
+/// The number of each fault, and its message with no place and nothing kept.
 pub const NAMES: &str = r"
 101 => [rezkit: error 101 MissingFile␊]
 102 => [rezkit: error 102 BadText␊]
@@ -86,6 +88,26 @@ pub const NAMES: &str = r"
 447 => [rezkit: error 447 BadName␊]
 ";
 
+/// Faults: the number, the position of a file and its line or `-`, and what is kept. A type is in hexadecimal.
+pub const KEPT: &str = r#"
+101 - name a "b\'é␊ => [rezkit: error 101 MissingFile: "a \"b\\'\0x8E\0x0A"␊]
+109 1:4294967295 name "\q" => [rezkit: two.r:4294967295: error 109 BadEscape: "\"\\q\""␊]
+203 0:7 name => [rezkit: one.r:7: error 203 UnknownName: ""␊]
+115 0:7 number 256 => [rezkit: one.r:7: error 115 WordTooLong: 256␊]
+201 1:4294967295 nothing => [rezkit: two.r:4294967295: error 201 Syntax␊]
+222 - nothing => [rezkit: error 222 BadFormat␊]
+204 - number -9223372036854775808 => [rezkit: error 204 BadId: -9223372036854775808␊]
+207 0:7 number -129 => [rezkit: one.r:7: error 207 OutOfRange: -129␊]
+202 0:7 key 54657374 -32768 => [rezkit: one.r:7: error 202 NoType: 'Test' -32768␊]
+240 0:7 key 00275CFF 0 => [rezkit: one.r:7: warning 240 Redeclared: '\0x00\'\\\0xFF' 0␊]
+240 - key 54657374 32767 => [rezkit: warning 240 Redeclared: 'Test' 32767␊]
+303 - number 65536 => [rezkit: error 303 MapFull: 65536␊]
+403 - pair 4 50 => [rezkit: error 403 MapOutside: 4 50␊]
+217 0:7 pair -1 0 => [rezkit: one.r:7: error 217 ArrayCount: -1 0␊]
+424 - check 0 65535 0 => [rezkit: error 424 BadCrc: 0 65535 0␊]
+444 - check 3 1 49374 => [rezkit: error 444 BadCrc: 3 1 49374␊]
+"#;
+
 /// Whether the table has a fault of this number.
 fn is_in_table(number: u16) -> bool
     ensures { IsTrue result → is_fault number ≡ true }
@@ -93,89 +115,101 @@ fn is_in_table(number: u16) -> bool
     matches!(number, 101..=115 | 201..=222 | 230..=240 | 301..=304 | 401..=410 | 421..=428 | 441..=447)
 }
 
-/// Appends the message line of a fault.
-fn append_line(
-    number: u16,
-    mark: Option<Mark>,
-    kept: Kept,
-    files: &FileNames,
-    text: &mut Bytes,
-) -> Result<(), Fail> {
-    if !is_in_table(number) {
-        return Err(Fail::from("no fault of this number"));
-    }
-    if let Some(mark) = mark {
-        if mark.file >= files.len() {
-            return Err(Fail::from("no such file"));
-        }
+/// Shows the message line of a fault, with two files.
+pub fn show_message(rt: &(impl Abort + AllocGlobal), text: &str, came: &mut Text) {
+    let (number, rest) = text.split_once(' ').unwrap_or((text, "- nothing"));
+    let (mark, kept) = in_two(rt, rest);
+    let number = number.parse::<u16>().expect(rt, "a number");
+    let (mark, kept) = (mark_of(rt, mark), kept_of(rt, kept));
+    let files = two_files(rt);
+    if !is_in_table(number) || mark.is_some_and(|mark| mark.file >= files.len()) {
+        panic!(rt; "no case");
     }
     let fault = Fault { number, mark, kept };
-    write_fault(&fault, files, text)?;
-    Ok(())
+    let mut message = Bytes::new(rt.alloc());
+    write_fault(&fault, &files, &mut message).expect(rt, "memory");
+    came.put(message.as_slice());
 }
 
-/// The message line of a fault with nothing kept.
-pub fn message_of(alloc: Global, number: u16) -> Result<Bytes, Fail> {
-    let mut text = Bytes::new(alloc);
-    append_line(
-        number,
-        None,
-        Kept::Nothing,
-        &FileNames::new(alloc),
-        &mut text,
-    )?;
-    Ok(text)
+/// The files that marks name.
+fn two_files(rt: &(impl Abort + AllocGlobal)) -> FileNames {
+    let mut files = FileNames::new(rt.alloc());
+    files.push("one.r").expect(rt, "memory");
+    files.push("two.r").expect(rt, "memory");
+    files
 }
 
-#[test]
-fn fault_lines_say_what_is_kept(rt: HostRuntime) -> Result<(), Fail> {
-    let alloc = rt.alloc();
-    let mut files = FileNames::new(alloc);
-    files.push("one.r")?;
-    files.push("two.r")?;
-    let test = OsType { code: 0x5465_7374 };
-    let odd = OsType { code: 0x0027_5CFF };
-    let first = Some(Mark { file: 0, line: 7 });
-    let second = Some(Mark {
-        file: 1,
-        line: 4_294_967_295,
-    });
-    let file = Kept::Name(Bytes::of(alloc, b"a \"b\\'\x8E\n")?);
-    let escape = Kept::Name(Bytes::of(alloc, b"\"\\q\"")?);
-    let nothing = Kept::Name(Bytes::new(alloc));
-    let mut text = Bytes::new(alloc);
-    append_line(101, None, file, &files, &mut text)?;
-    append_line(109, second, escape, &files, &mut text)?;
-    append_line(203, first, nothing, &files, &mut text)?;
-    append_line(115, first, Kept::Number(256), &files, &mut text)?;
-    append_line(201, second, Kept::Nothing, &files, &mut text)?;
-    append_line(222, None, Kept::Nothing, &files, &mut text)?;
-    append_line(204, None, Kept::Number(i64::MIN), &files, &mut text)?;
-    append_line(207, first, Kept::Number(-129), &files, &mut text)?;
-    append_line(202, first, Kept::Key(test, -32_768), &files, &mut text)?;
-    append_line(240, first, Kept::Key(odd, 0), &files, &mut text)?;
-    append_line(240, None, Kept::Key(test, 32_767), &files, &mut text)?;
-    append_line(303, None, Kept::Number(65_536), &files, &mut text)?;
-    append_line(403, None, Kept::Pair(4, 50), &files, &mut text)?;
-    append_line(217, first, Kept::Pair(-1, 0), &files, &mut text)?;
-    append_line(424, None, Kept::Check(0, 65_535, 0), &files, &mut text)?;
-    append_line(444, None, Kept::Check(3, 1, 49_374), &files, &mut text)?;
-    let wanted = b"rezkit: error 101 MissingFile: \"a \\\"b\\\\'\\0x8E\\0x0A\"\n\
-        rezkit: two.r:4294967295: error 109 BadEscape: \"\\\"\\\\q\\\"\"\n\
-        rezkit: one.r:7: error 203 UnknownName: \"\"\n\
-        rezkit: one.r:7: error 115 WordTooLong: 256\n\
-        rezkit: two.r:4294967295: error 201 Syntax\n\
-        rezkit: error 222 BadFormat\n\
-        rezkit: error 204 BadId: -9223372036854775808\n\
-        rezkit: one.r:7: error 207 OutOfRange: -129\n\
-        rezkit: one.r:7: error 202 NoType: 'Test' -32768\n\
-        rezkit: one.r:7: warning 240 Redeclared: '\\0x00\\'\\\\\\0xFF' 0\n\
-        rezkit: warning 240 Redeclared: 'Test' 32767\n\
-        rezkit: error 303 MapFull: 65536\n\
-        rezkit: error 403 MapOutside: 4 50\n\
-        rezkit: one.r:7: error 217 ArrayCount: -1 0\n\
-        rezkit: error 424 BadCrc: 0 65535 0\n\
-        rezkit: error 444 BadCrc: 3 1 49374\n";
-    assert_eq!(rt; text.as_slice(), wanted.as_slice());
-    Ok(())
+/// A mark, or none for `-`.
+fn mark_of(rt: &(impl Abort + AllocGlobal), text: &str) -> Option<Mark> {
+    if text == "-" {
+        return None;
+    }
+    let Some((file, line)) = text.split_once(':') else {
+        panic!(rt; "no case");
+    };
+    Some(Mark {
+        file: file.parse::<u64>().expect(rt, "a number"),
+        line: line.parse::<u32>().expect(rt, "a number"),
+    })
+}
+
+/// What a fault keeps.
+fn kept_of(rt: &(impl Abort + AllocGlobal), text: &str) -> Kept {
+    let (form, rest) = text.split_once(' ').unwrap_or((text, ""));
+    match form {
+        "nothing" => Kept::Nothing,
+        "name" => Kept::Name(roman(rt, rest)),
+        "number" => Kept::Number(rest.parse::<i64>().expect(rt, "a number")),
+        "key" => key_of(rt, rest),
+        "pair" => pair_of(rt, rest),
+        "check" => check_of(rt, rest),
+        _ => panic!(rt; "no case"),
+    }
+}
+
+/// A type and an id.
+fn key_of(rt: &(impl Abort + AllocGlobal), text: &str) -> Kept {
+    let (kind, id) = in_two(rt, text);
+    let code = u32::from_str_radix(kind, 16).expect(rt, "a number");
+    Kept::Key(OsType { code }, id.parse::<i32>().expect(rt, "a number"))
+}
+
+/// Two numbers.
+fn pair_of(rt: &(impl Abort + AllocGlobal), text: &str) -> Kept {
+    let (first, second) = in_two(rt, text);
+    Kept::Pair(
+        first.parse::<i64>().expect(rt, "a number"),
+        second.parse::<i64>().expect(rt, "a number"),
+    )
+}
+
+/// A check that is wrong.
+fn check_of(rt: &(impl Abort + AllocGlobal), text: &str) -> Kept {
+    let (which, numbers) = in_two(rt, text);
+    let (stored, computed) = in_two(rt, numbers);
+    Kept::Check(
+        which.parse::<u8>().expect(rt, "a number"),
+        stored.parse::<u16>().expect(rt, "a number"),
+        computed.parse::<u16>().expect(rt, "a number"),
+    )
+}
+
+/// The two parts of a text on both sides of its first blank.
+fn in_two<'a>(rt: &impl Abort, text: &'a str) -> (&'a str, &'a str) {
+    match text.split_once(' ') {
+        Some(parts) => parts,
+        None => panic!(rt; "no case"),
+    }
+}
+
+/// The bytes of a text in Mac Roman.
+fn roman(rt: &(impl Abort + AllocGlobal), text: &str) -> Bytes {
+    let mut bytes = Bytes::new(rt.alloc());
+    for character in text.chars() {
+        match to_roman(character) {
+            Some(byte) => bytes.push(byte).expect(rt, "memory"),
+            None => panic!(rt; "no case"),
+        }
+    }
+    bytes
 }

@@ -1,56 +1,56 @@
-use rz_core::{Bytes, Fault, Kept, Stop, write_decimal, write_signed};
+//! What texts give, as text: tokens, or a fault.
+
+use rz_core::{Fault, Kept, Stop};
 use rz_lex::{Tokens, lex};
-use rz_test_tables::append_shape;
+use rz_test_tables::Text;
 use std::alloc::Global;
-use std::test::Fail;
 
 /// The most bytes of a text of a test.
 const MOST: usize = 1_000_000;
 
-/// What a text gives, as text: its tokens, or its first fault.
-pub fn outcome_of(alloc: Global, text: &[u8]) -> Result<Bytes, Fail> {
+/// Shows what a text gives: its tokens, or its first fault.
+pub fn show_outcome(alloc: Global, text: &[u8], came: &mut Text) {
     if text.len() > MOST {
-        return Err(Fail::from("too long for a test"));
+        came.fail();
+        return;
     }
     match lex(alloc, text, 0) {
-        Ok(tokens) => text_of_tokens(alloc, &tokens),
-        Err(Stop::Refused(fault)) => text_of_fault(alloc, &fault),
-        Err(Stop::NoMemory) => Err(Fail::from("no memory")),
+        Ok(tokens) => show_tokens(&tokens, came),
+        Err(Stop::Refused(fault)) => show_fault(&fault, came),
+        Err(Stop::NoMemory) => came.fail(),
     }
 }
 
-/// Each token after its line and a colon, with a blank after it, as `append_shape` writes it.
-pub fn text_of_tokens(alloc: Global, tokens: &Tokens) -> Result<Bytes, Fail> {
-    let mut text = Bytes::new(alloc);
+/// Shows each token after its line and a colon, with a blank after it.
+pub fn show_tokens(tokens: &Tokens, came: &mut Text) {
     for token in tokens.as_slice() {
-        write_decimal(u64::from(token.mark.line), &mut text)?;
-        text.append(b":")?;
-        append_shape(&token.shape, &mut text)?;
-        text.append(b" ")?;
+        came.number(u64::from(token.mark.line));
+        came.put(b":");
+        came.shape(&token.shape);
+        came.put(b" ");
     }
-    Ok(text)
 }
 
-/// The fault's number, its line, and what it keeps: a number in decimal, bytes as they are.
-fn text_of_fault(alloc: Global, fault: &Fault) -> Result<Bytes, Fail> {
-    let Some(mark) = fault.mark else {
-        return Err(Fail::from("no mark"));
-    };
-    let mut text = Bytes::new(alloc);
-    write_decimal(u64::from(fault.number), &mut text)?;
-    text.append(b" on ")?;
-    write_decimal(u64::from(mark.line), &mut text)?;
+/// Shows the fault's number, its line, and what it keeps: a number in decimal, bytes as they are.
+fn show_fault(fault: &Fault, came: &mut Text) {
+    came.number(u64::from(fault.number));
+    match fault.mark {
+        Some(mark) => {
+            came.put(b" on ");
+            came.number(u64::from(mark.line));
+        }
+        None => came.fail(),
+    }
     match &fault.kept {
         Kept::Nothing => {}
         Kept::Number(number) => {
-            text.append(b" ")?;
-            write_signed(*number, &mut text)?;
+            came.put(b" ");
+            came.signed(*number);
         }
         Kept::Name(name) => {
-            text.append(b" ")?;
-            text.append(name.as_slice())?;
+            came.put(b" ");
+            came.put(name.as_slice());
         }
-        _ => text.append(b" of another form")?,
+        _ => came.put(b" of another form"),
     }
-    Ok(text)
 }

@@ -1,3 +1,5 @@
+//! Literals, texts and their escapes.
+
 /// Escapes, which are their bytes.
 pub const ESCAPES: &str = r#"
 # one letter or mark

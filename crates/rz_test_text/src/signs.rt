@@ -1,3 +1,5 @@
+//! Signs.
+
 /// Each sign and its name, those of two bytes first.
 pub const SIGNS: &str = r"
 << => [1:ShiftLeft ]

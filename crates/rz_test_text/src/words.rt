@@ -1,3 +1,5 @@
+//! Words and numbers.
+
 /// Words and numbers.
 pub const WORDS: &str = r#"
 # decimal
