@@ -1,5 +1,5 @@
--- The head of a statement: an id, and then maybe a name and attributes. A head of a new resource has constants and
--- the date alone; one of a resource that is chosen may speak of that too. (MPW Rez.)
+-- The head of a statement: an id, and then maybe a name and attributes. A head of a new resource has constants, the
+-- moment and `$$Version` alone; one of a resource that is chosen may speak of that too. (MPW Rez.)
 use Rattle.std.specs.Prelude.{◌≡◌, ℕ, Bool, true, false, if◌then◌else◌, List, [], ◌∷◌, map, Option, Some, None, option_map}
 use Rattle.rz_expr.specs.Attribute.{attribute_word}
 use Rattle.rz_expr.specs.declared.attribute.AttributeWord.{AttributeWord}

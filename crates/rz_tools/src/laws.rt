@@ -1,4 +1,4 @@
-//! Laws of answers and of the text of `derez`; `run` rests on them, and has nothing else to say of a text read again.
+//! Laws of answers and of the text of `derez`. `run` rests on those of answers and on that of a text read again.
 
 ghost use Rattle.std.specs.Prelude.{◌≡◌, List, [], ℕ, Ok};
 ghost use Rattle.rz_core.specs.declared.moment.Moment.{Moment};
@@ -81,8 +81,8 @@ pub fn reserved_words_are_spared()
 }
 
 /// A law, with nothing to run: the text that is shown of a fork means again the resources that are shown, where each has
-/// at most 16,777,212 bytes: where the same types are declared, the same names are macros, none of which is reserved, and
-/// the moment is the same.
+/// at most 16,777,212 bytes: where the same types are declared, the same names are macros, none of them a word of
+/// statements and attributes, `true` or `false`, and the moment is the same.
 pub fn shown_forks_are_read_again()
     ensures { (bytes : List ℕ) → IsFile bytes → (fork : Fork) → admitted bytes ≡ Ok fork → (only skip : List OsType) → AreShort (chosen only skip fork.list)
         → (known : Known) → SparesWords known.is_macro → (text : List ℕ) → ShowsEach known (chosen only skip fork.list) text
@@ -96,8 +96,9 @@ pub fn shown_forks_are_read_again()
 }
 
 /// A law, with nothing to run: as the one source of `rez` the text that is shown of a fork where no types are declared,
-/// and each resource that is shown has at most 16,777,212 bytes, is compiled to the fork of the same resources, whatever
-/// else the words ask for: no definition of theirs makes a reserved word a macro.
+/// and each resource that is shown has at most 16,777,212 bytes, is compiled to the file of the same resources, or to the
+/// first fault of such a file, whatever else the words ask for but `-a`: no definition of theirs makes a reserved word a
+/// macro.
 pub fn shown_forks_are_compiled_again()
     ensures { (bytes : List ℕ) → IsFile bytes → (fork : Fork) → admitted bytes ≡ Ok fork → (only skip : List OsType) → AreShort (chosen only skip fork.list)
         → (known : Known) → known.types ≡ [] → (text : List ℕ) → ShowsEach known (chosen only skip fork.list) text

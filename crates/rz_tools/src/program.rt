@@ -25,11 +25,12 @@ use std::alloc::Global;
 /// ([`every_answer`], [`one_answer`]).
 ///
 /// Usage comes exactly where the words are no command, and, if the folder tells its files, Refused only with the first
-/// fault. ReadFault and WriteFault come only where a read, or a write of the folder or of
-/// `out`, failed in this call. After Usage, Refused, ReadFault and NoMemory the folder is as before and `out` has got
-/// nothing; after WriteFault the writes before the one that failed are done, and all else is as before. After `derez`
-/// of a fork, where the resources that are shown have at most 16,777,212 bytes each, the text on `out` means these
-/// resources again to `rez`. What `err` does changes no outcome. NoMemory may come in place of any other answer.
+/// fault. ReadFault and WriteFault come only where a read, or a write of the folder or of `out`, failed in this call.
+/// After Usage, Refused, ReadFault and NoMemory the folder is as before and `out` has got nothing; after WriteFault the
+/// writes before the one that failed are done, and but for that one's file and a front of `out` all else is as before.
+/// After `derez` of a fork, where the resources that are shown have at most 16,777,212 bytes each, the text on `out`
+/// means these resources again to `rez`. What `err` does changes no outcome. NoMemory may come in place of any other
+/// answer.
 pub fn run<F: Folder, O: Sink, E: Sink>(
     alloc: Global,
     words: &[String],
