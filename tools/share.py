@@ -175,6 +175,9 @@ def arguments():
 
 def main():
     options = arguments()
+    for wanted in (options.program, options.types):
+        if not os.path.isfile(wanted):
+            sys.exit("no %s: build the program by ./rezkit, or name both by --program and --types" % wanted)
     chance, table, failed = random.Random(options.seed), {}, 0
     with tempfile.TemporaryDirectory() as folder:
         program = Program(options.program, options.types, options.define, folder)
