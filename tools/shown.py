@@ -82,7 +82,7 @@ def expand(tokens, macros, hidden=()):
 def program_of(name, files, paths, macros):
     """The tokens of a type file; the macros change on the way."""
     out = []
-    for line in files[name].split("\n"):
+    for line in files[name].replace("\\\n", "").split("\n"):
         if not line.lstrip().startswith("#"):
             out += expand(tokens_of(line), macros)
             continue
