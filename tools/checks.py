@@ -3,7 +3,7 @@
 
     python3 tools/checks.py
 
-The files of cases that a script writes are what it would write now; the documents name what is there; docs/MESSAGES.md
+The files of cases that a script writes are what it would write now, and a second reading shows what they show; the documents name what is there; docs/MESSAGES.md
 has each message; the help text describes each option; and, with the program that the gate built, the commands that
 README.md, docs/TOUR.md, docs/MESSAGES.md and docs/PORTING.md show print what stands there, and SOURCE_DATE_EPOCH is the
 moment of a run. A check whose program isn't there is skipped and says so. The status is 1 if one fails.
@@ -21,7 +21,9 @@ def checks():
     """Each check: its name, its command, and a file without which it is skipped."""
     scripts = sorted(glob.glob("tools/*_cases.py"))
     found = [(script, [script, "--check"], None) for script in scripts if "--check" in open(script, encoding="utf-8").read()]
-    found.append(("tools/fork.py", ["tools/fork.py", "--check", *sorted(glob.glob("crates/rezkit_cases/data/*.cases"))], None))
+    cases = sorted(glob.glob("crates/rezkit_cases/data/*.cases"))
+    found.append(("tools/fork.py", ["tools/fork.py", "--check", *cases], None))
+    found.append(("tools/shown.py", ["tools/shown.py", *cases], None))
     found.append(("tools/calls.py", ["tools/calls.py", "--check"], None))
     found.append(("tools/links.py", ["tools/links.py"], None))
     found.append(("tools/messages.py", ["tools/messages.py"], None))

@@ -6,7 +6,7 @@
 
 goes over the cases of files and compares what each case of `derez` has on `out` with what is worked out here.
 With --print the text of the cases whose names hold the words is printed. Cases of other commands, cases with
-another status than 0, and type files with conditionals are passed over, and counted. It knows nothing of the
+another status than 0, and type files with conditionals or formats are passed over, and counted. It knows nothing of the
 code: a row is looked for by reading bits from left to right, and counts only if it is laid out to the same bytes.
 
 A declaration is a list of fields, each a dictionary:
@@ -85,6 +85,8 @@ def program_of(name, files, paths, macros):
     for line in files[name].replace("\\\n", "").split("\n"):
         if not line.lstrip().startswith("#"):
             out += expand(tokens_of(line), macros)
+            if "$$format" in (token.lower() for token in out):
+                raise NotImplementedError("$$Format")
             continue
         word, *rest = tokens_of(line.lstrip()[1:])
         if word == "define":
