@@ -3,10 +3,11 @@
 
     python3 tools/checks.py
 
-The files of cases that a script writes are what it would write now, and a second reading shows what they show; the documents name what is there; docs/MESSAGES.md
-has each message; the help text describes each option; and, with the program that the gate built, the commands that
-README.md, docs/TOUR.md, docs/MESSAGES.md and docs/PORTING.md show print what stands there, and SOURCE_DATE_EPOCH is the
-moment of a run. A check whose program isn't there is skipped and says so. The status is 1 if one fails.
+The files of cases that a script writes are what it would write now, and a second reading shows what they show; the
+documents name what is there; docs/MESSAGES.md has each message; the help text describes each option; and, with the
+program that the gate built, the commands that README.md, docs/TOUR.md, docs/MESSAGES.md and docs/PORTING.md show print
+what stands there, and SOURCE_DATE_EPOCH is the moment of a run. A check whose program isn't there is skipped and says
+so. The status is 1 if one fails.
 """
 import glob
 import os
