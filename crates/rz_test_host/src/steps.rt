@@ -22,6 +22,7 @@ pub struct World {
 }
 
 impl World {
+    /// The world before the first step: nothing is in memory, and the host is as it is.
     pub fn new(rt: HostRuntime) -> World {
         World {
             rt,
