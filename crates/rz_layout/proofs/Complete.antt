@@ -16,7 +16,7 @@ use Rattle.rz_types_fields.specs.Spells.{is_case, values_for, BodySpells, CaseSp
 use Rattle.rz_types.specs.Field.{case_and, field_and, no_cases, no_fields, takes_value, Align, Array, Fill, Number, PlainBody, PlainCases, PlainField, Points, Switch, Text}
 use Rattle.rz_types.specs.Passed.{at_front, behind, nothing_passed, outside, Passed}
 use Rattle.rz_types.specs.Piece.{pieces_of, Filler, OneNumber, OneText, Zeros}
-use Rattle.rz_layout.proofs.Own.{alike_own, alike_same, Alike, AreCounted, FieldCounted}
+use Rattle.rz_layout.proofs.Own.{own_same, AreCounted, FieldCounted}
 use Rattle.rz_layout.proofs.Spelling.{first_is, good, group_taken, one_taken, others_are, pieces_goes, then_goes, Fits, Goes}
 use Rattle.rz_layout.proofs.Trees.{line_is, rows_are}
 
@@ -39,11 +39,11 @@ module _ (known : Facts) (all : List Bool) where
 
     field_taken : (passed : Passed) (field : PlainField) (value : Option Tree) (at after : ℕ) (late late_after : Late)
         → FieldSpells false known all field names passed value at late after late_after → is_some value ≡ takes_value field
-    field_taken passed (Number number) value at after late late_after it = one_taken all known names names (alike_same names) passed (OneNumber number) value at after late late_after it.1
-    field_taken passed (Text text) value at after late late_after it = one_taken all known names names (alike_same names) passed (OneText text) value at after late late_after it.1
+    field_taken passed (Number number) value at after late late_after it = one_taken all known names passed (OneNumber number) value at after late late_after it.1
+    field_taken passed (Text text) value at after late late_after it = one_taken all known names passed (OneText text) value at after late late_after it.1
     field_taken passed (Points points) value at after late late_after it = group_taken points.fixed value it.0
-    field_taken passed (Fill unit count) value at after late late_after it = one_taken all known names names (alike_same names) passed (Zeros _) value at after late late_after it.1
-    field_taken passed (Align unit) value at after late late_after it = one_taken all known names names (alike_same names) passed (Filler unit) value at after late late_after it.1
+    field_taken passed (Fill unit count) value at after late late_after it = one_taken all known names passed (Zeros _) value at after late late_after it.1
+    field_taken passed (Align unit) value at after late late_after it = one_taken all known names passed (Filler unit) value at after late late_after it.1
     field_taken passed (Array name count row) value at after late late_after it = ap is_some it.1
     field_taken passed (Switch cases) value at after late late_after it = case_taken passed cases value at after late late_after it
 
@@ -71,56 +71,56 @@ module _ (known : Facts) (all : List Bool) where
               (body_counted (behind field passed) fields rest mid after late_mid late_after others),
         )
 
-  -- What a body spells is laid, with other names that are alike.
+  -- What a body spells is laid.
 
   abbrev BodyGoes : PlainBody → Type 0
-  BodyGoes body = (passed : Passed) (own inner : Environment) → Alike own inner → (values : List Tree) (at after : ℕ) (late late_after : Late)
+  BodyGoes body = (passed : Passed) (own : Environment) (values : List Tree) (at after : ℕ) (late late_after : Late)
       → BodySpells false known all body own passed values at late after late_after → (draft : Draft) → Fits all draft at
-      → Goes all (body_laid known inner draft body values) after
+      → Goes all (body_laid known own draft body values) after
 
-  inside_goes : (row : PlainBody) → BodyGoes row → (passed : Passed) (number : Option ℕ) (names inner : Environment) → Alike names inner → (line : List Tree) (at after : ℕ) (late late_after : Late)
+  inside_goes : (row : PlainBody) → BodyGoes row → (passed : Passed) (number : Option ℕ) (names : Environment) (line : List Tree) (at after : ℕ) (late late_after : Late)
       → Inside row number names (λ own. BodySpells false known all row own (at_front row passed) line) at late after late_after → (draft : Draft) → Fits all draft at
-      → Goes all (body_laid known (counted row line inner) draft row line) after
-  inside_goes row goes passed number names inner alike line at after late late_after (own, within, spells) draft fits =
-      goes (at_front row passed) own (counted row line inner)
-      (alike_own row number line names own inner within (body_counted own (at_front row passed) row line at after late late_after spells) alike)
-      line at after late late_after spells draft fits
+      → Goes all (body_laid known (counted row line names) draft row line) after
+  inside_goes row goes passed number names line at after late late_after (own, within, spells) draft fits =
+      subst (λ (inside : Environment). Goes all (body_laid known inside draft row line) after)
+      (own_same row number line names own within (body_counted own (at_front row passed) row line at after late late_after spells))
+      (goes (at_front row passed) own line at after late late_after spells draft fits)
 
-  rows_goes : (row : PlainBody) → BodyGoes row → (passed : Passed) (names inner : Environment) → Alike names inner → (number : ℕ) (rows : List (List Tree)) (at after : ℕ) (late late_after : Late)
+  rows_goes : (row : PlainBody) → BodyGoes row → (passed : Passed) (names : Environment) (number : ℕ) (rows : List (List Tree)) (at after : ℕ) (late late_after : Late)
       → RowsSpell (λ number line. Inside row (Some number) names (λ own. BodySpells false known all row own (at_front row passed) line)) number rows at late after late_after
-      → (draft : Draft) → Fits all draft at → Goes all (rows_laid (λ draft line. body_laid known (counted row line inner) draft row line) draft rows) after
-  rows_goes row goes passed names inner alike number [] at after late late_after it draft fits = record { next = draft; is = refl; fits = subst (Fits all draft) (sym it.0) fits }
-  rows_goes row goes passed names inner alike number (line ∷ rows) at after late late_after (mid, late_mid, one, others) draft fits =
-      let first = inside_goes row goes passed (Some number) names inner alike line at mid late late_mid one draft fits in
-      let more = rows_goes row goes passed names inner alike (number + 1) rows mid after late_mid late_after others first.next first.fits in
+      → (draft : Draft) → Fits all draft at → Goes all (rows_laid (λ draft line. body_laid known (counted row line names) draft row line) draft rows) after
+  rows_goes row goes passed names number [] at after late late_after it draft fits = record { next = draft; is = refl; fits = subst (Fits all draft) (sym it.0) fits }
+  rows_goes row goes passed names number (line ∷ rows) at after late late_after (mid, late_mid, one, others) draft fits =
+      let first = inside_goes row goes passed (Some number) names line at mid late late_mid one draft fits in
+      let more = rows_goes row goes passed names (number + 1) rows mid after late_mid late_after others first.next first.fits in
       record {
         next = more.next;
-        is = ap (λ (r : Result Draft Refusal). r >>= λ next. rows_laid (λ draft line. body_laid known (counted row line inner) draft row line) next rows) first.is ∙ more.is;
+        is = ap (λ (r : Result Draft Refusal). r >>= λ next. rows_laid (λ draft line. body_laid known (counted row line names) draft row line) next rows) first.is ∙ more.is;
         fits = more.fits;
       }
 
-  pieces_go : (passed : Passed) (field : PlainField) (names inner : Environment) → Alike names inner → (value : Option Tree) (at after : ℕ) (late late_after : Late)
+  pieces_go : (passed : Passed) (field : PlainField) (names : Environment) (value : Option Tree) (at after : ℕ) (late late_after : Late)
       → PiecesSpell false known all field names passed value at late after late_after → (draft : Draft) → Fits all draft at
-      → Goes all (pieces_laid known inner draft field value) after
-  pieces_go passed field names inner alike value at after late late_after it draft fits =
-      pieces_goes all known names inner alike passed (pieces_of field) (values_for field value) at after late late_after it.1 draft fits
+      → Goes all (pieces_laid known names draft field value) after
+  pieces_go passed field names value at after late late_after it draft fits =
+      pieces_goes all known names passed (pieces_of field) (values_for field value) at after late late_after it.1 draft fits
 
   abbrev FieldGoes : PlainField → Type 0
-  FieldGoes field = (passed : Passed) (names inner : Environment) → Alike names inner → (value : Option Tree) (at after : ℕ) (late late_after : Late)
+  FieldGoes field = (passed : Passed) (names : Environment) (value : Option Tree) (at after : ℕ) (late late_after : Late)
       → FieldSpells false known all field names passed value at late after late_after → (draft : Draft) → Fits all draft at
-      → Goes all (field_laid known inner draft field value) after
+      → Goes all (field_laid known names draft field value) after
 
   abbrev CasesGo : PlainCases → Type 0
-  CasesGo cases = (passed : Passed) (names inner : Environment) → Alike names inner → (value : Option Tree) (at after : ℕ) (late late_after : Late)
+  CasesGo cases = (passed : Passed) (names : Environment) (value : Option Tree) (at after : ℕ) (late late_after : Late)
       → CaseSpells false known all cases names passed value at late after late_after → (draft : Draft) → Fits all draft at
-      → Goes all (case_laid known inner draft cases value) after
+      → Goes all (case_laid known names draft cases value) after
 
-  case_goes : (row : PlainBody) → BodyGoes row → (passed : Passed) (names inner : Environment) → Alike names inner → (name : Word) (value : Option Tree) (at after : ℕ) (late late_after : Late)
+  case_goes : (row : PlainBody) → BodyGoes row → (passed : Passed) (names : Environment) (name : Word) (value : Option Tree) (at after : ℕ) (late late_after : Late)
       → (line : List Tree) × (value ≡ Some (trees.Choice name line)) × Inside row None names (λ own. BodySpells false known all row own (at_front row passed) line) at late after late_after
-      → (draft : Draft) → Fits all draft at → Goes all (body_laid known (counted row (line_in value) inner) draft row (line_in value)) after
-  case_goes row goes passed names inner alike name value at after late late_after (line, is, inside) draft fits =
-      subst (λ (l : List Tree). Goes all (body_laid known (counted row l inner) draft row l) after) (sym (ap line_in is ∙ line_is name line))
-      (inside_goes row goes passed None names inner alike line at after late late_after inside draft fits)
+      → (draft : Draft) → Fits all draft at → Goes all (body_laid known (counted row (line_in value) names) draft row (line_in value)) after
+  case_goes row goes passed names name value at after late late_after (line, is, inside) draft fits =
+      subst (λ (l : List Tree). Goes all (body_laid known (counted row l names) draft row l) after) (sym (ap line_in is ∙ line_is name line))
+      (inside_goes row goes passed None names line at after late late_after inside draft fits)
 
   by_test : (This Other : Type 0) (this other : Result Draft Refusal) (after : ℕ) → (This → Goes all this after) → (Other → Goes all other after)
       → (test : Bool) → By test This Other → Goes all (if test then this else other) after
@@ -128,44 +128,44 @@ module _ (known : Facts) (all : List Bool) where
   by_test This Other this other after one more false it = more it
 
   array_goes : (name : Option Word) (count : Option ℤ) (row : PlainBody) → BodyGoes row → FieldGoes (Array name count row)
-  array_goes name count row goes passed names inner alike value at after late late_after (rows, is, stated, counts, spells) draft fits =
-      subst (λ (lines : List (List Tree)). Goes all (rows_laid (λ draft line. body_laid known (counted row line inner) draft row line) draft lines) after)
+  array_goes name count row goes passed names value at after late late_after (rows, is, stated, counts, spells) draft fits =
+      subst (λ (lines : List (List Tree)). Goes all (rows_laid (λ draft line. body_laid known (counted row line names) draft row line) draft lines) after)
       (sym (ap rows_in is ∙ rows_are rows))
-      (rows_goes row goes passed names inner alike 0 rows at after late late_after spells draft fits)
+      (rows_goes row goes passed names 0 rows at after late late_after spells draft fits)
 
   mutual
     field_goes : (field : PlainField) → FieldGoes field
-    field_goes (Number number) passed names inner alike = pieces_go passed (Number number) names inner alike
-    field_goes (Text text) passed names inner alike = pieces_go passed (Text text) names inner alike
-    field_goes (Points points) passed names inner alike = pieces_go passed (Points points) names inner alike
-    field_goes (Fill unit count) passed names inner alike = pieces_go passed (Fill unit count) names inner alike
-    field_goes (Align unit) passed names inner alike = pieces_go passed (Align unit) names inner alike
-    field_goes (Array name count row) passed names inner alike = array_goes name count row (body_goes row) passed names inner alike
-    field_goes (Switch cases) passed names inner alike = cases_go cases passed names inner alike
+    field_goes (Number number) passed names = pieces_go passed (Number number) names
+    field_goes (Text text) passed names = pieces_go passed (Text text) names
+    field_goes (Points points) passed names = pieces_go passed (Points points) names
+    field_goes (Fill unit count) passed names = pieces_go passed (Fill unit count) names
+    field_goes (Align unit) passed names = pieces_go passed (Align unit) names
+    field_goes (Array name count row) passed names = array_goes name count row (body_goes row) passed names
+    field_goes (Switch cases) passed names = cases_go cases passed names
 
     cases_go : (cases : PlainCases) → CasesGo cases
-    cases_go no_cases passed names inner alike value at after late late_after it draft fits = absurd it
-    cases_go (case_and name row others) passed names inner alike value at after late late_after it draft fits =
+    cases_go no_cases passed names value at after late late_after it draft fits = absurd it
+    cases_go (case_and name row others) passed names value at after late late_after it draft fits =
         by_test ((line : List Tree) × (value ≡ Some (trees.Choice name line)) × Inside row None names (λ own. BodySpells false known all row own (at_front row passed) line) at late after late_after)
         (CaseSpells false known all others names passed value at late after late_after)
-        (body_laid known (counted row (line_in value) inner) draft row (line_in value)) (case_laid known inner draft others value) after
-        (λ one. case_goes row (body_goes row) passed names inner alike name value at after late late_after one draft fits)
-        (λ other. cases_go others passed names inner alike value at after late late_after other draft fits)
+        (body_laid known (counted row (line_in value) names) draft row (line_in value)) (case_laid known names draft others value) after
+        (λ one. case_goes row (body_goes row) passed names name value at after late late_after one draft fits)
+        (λ other. cases_go others passed names value at after late late_after other draft fits)
         (is_case name value) it
 
     body_goes : (body : PlainBody) → BodyGoes body
-    body_goes no_fields passed own inner alike values at after late late_after it draft fits = record { next = draft; is = refl; fits = subst (Fits all draft) (sym it.1) fits }
-    body_goes (field_and field fields) passed own inner alike values at after late late_after (value, rest, mid, late_mid, are, one, others) draft fits =
-        let first = field_goes field passed own inner alike value at mid late late_mid one draft fits in
-        then_goes all (takes_value field) value rest values are (field_taken own passed field value at mid late late_mid one) (field_laid known inner draft field)
-        (λ next values. body_laid known inner next fields values) mid after first
-        (body_goes fields (behind field passed) own inner alike rest mid after late_mid late_after others first.next first.fits)
+    body_goes no_fields passed own values at after late late_after it draft fits = record { next = draft; is = refl; fits = subst (Fits all draft) (sym it.1) fits }
+    body_goes (field_and field fields) passed own values at after late late_after (value, rest, mid, late_mid, are, one, others) draft fits =
+        let first = field_goes field passed own value at mid late late_mid one draft fits in
+        then_goes all (takes_value field) value rest values are (field_taken own passed field value at mid late late_mid one) (field_laid known own draft field)
+        (λ next values. body_laid known own next fields values) mid after first
+        (body_goes fields (behind field passed) own rest mid after late_mid late_after others first.next first.fits)
 
 module _ (read : (bytes : List ℕ) → ((k : ℕ) → slice_index bytes k < 256) → bytes_of (bits_of bytes) ≡ bytes) where
   pub complete : (known : Facts) (body : PlainBody) (row : List Tree) (bytes : List ℕ) → Spells false known body row bytes → laid known body row ≡ Ok bytes
   complete known body row bytes it =
       let all = bits_of bytes in
-      let goes = inside_goes known all body (body_goes known all body) nothing_passed None outside outside (alike_same outside) row 0 it.end [] it.late
+      let goes = inside_goes known all body (body_goes known all body) nothing_passed None outside row 0 it.end [] it.late
       (it.names, it.own, it.fields) nothing_laid (record { front = refl; size = refl }) in
       ap (λ (r : Result Draft Refusal). r >>= λ draft. good (bytes_of (filled 8 draft.bits))) goes.is
       ∙ ap good (ap (λ (bits : List Bool). bytes_of (filled 8 bits)) goes.fits.front ∙ ap bytes_of (sym it.filled) ∙ read bytes it.are_bytes)

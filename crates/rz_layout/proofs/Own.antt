@@ -1,18 +1,14 @@
 -- The names of a body: what they have inside, and what outside.
-use Rattle.std.proofs.Common.{◌≡◌, ℕ, ℤ, pos, Bool, true, false, ◌||◌, List, [], ◌++◌, length, Option, Some, None, Ok, refl, sym, ap, ◌∙◌}
-use Rattle.std.specs.Prelude.{◌+ℤ◌, if◌then◌else◌}
+use Rattle.std.proofs.Common.{◌≡◌, ℕ, ℤ, pos, Bool, true, false, ◌||◌, List, [], ◌++◌, length, Option, Some, None, refl, sym, ap, ◌∙◌}
+use Rattle.std.specs.Prelude.{if◌then◌else◌}
 use Rattle.std.specs.List.{AllByRecursion}
 use Rattle.std.specs.Str.{str_eq_ignore_ascii_case, str_to_ascii_lowercase}
 use Rattle.std.proofs.lemmas.List.Folds.{list_any-append}
 use Rattle.rz_core.proofs.Folds.{same_lower}
 use Rattle.rz_core.proofs.Tests.{by_test, or_false, true_false}
-use Rattle.rz_core.specs.Stop.{◌>>=◌}
-use Rattle.rz_core.specs.declared.facts.Facts.{Facts}
 use Rattle.rz_core.specs.declared.resource.Word.{Word}
 use Rattle.rz_expr.proofs.Cases.{same_value}
-use Rattle.rz_expr.specs.Environment.{count_key, count_of, place_key, place_of, Environment, Key}
-use Rattle.rz_expr.specs.Term.{BitsAt, Constant, FactOf, Named, OfOne, OfTwo, RowsOf, Term}
-use Rattle.rz_expr.specs.Value.{known_value, number_at, operate, operate_one, value_of}
+use Rattle.rz_expr.specs.Environment.{count_key, place_key, place_of, Environment, Key}
 use Rattle.rz_types_fields.specs.declared.tree.Tree.{Tree}
 use Rattle.rz_types_fields.specs.Laid.{counted, first_value, other_values, rows_in, with_count, with_field}
 use Rattle.rz_types_fields.specs.Spells.{IsCounted, Within}
@@ -20,9 +16,8 @@ use Rattle.rz_types.specs.Field.{field_and, no_fields, takes_value, Align, Array
 use Rattle.rz_types.specs.Kept.{Differ}
 use Rattle.rz_types.specs.Names.{GivesCounts, GivesPredefined}
 use Rattle.rz_types.specs.Passed.{declares, gives_count, gives_key, outside}
-use Rattle.rz_types.specs.Value.{names_sight}
 use Rattle.rz_types.specs.Walk.{is_among, names_of}
-use Rattle.rz_types_fields.proofs.SameNames.{lower_name}
+use Rattle.rz_types_fields.proofs.SameNames.{key_is, key_itself, same_name as folded_name}
 
 -- Names in whatever case.
 
@@ -34,32 +29,6 @@ other_name one other is =
     by_test (str_eq_ignore_ascii_case other one ≡ false) (str_eq_ignore_ascii_case other one)
     (λ same. absurd (true_false (sym ((same_lower one other).1 (sym ((same_lower other one).0 same))) ∙ is)))
     (λ no. no)
-
-same_key : (one name : List ℕ) → str_eq_ignore_ascii_case one (str_to_ascii_lowercase name) ≡ true → count_key one ≡ count_key name
-same_key one name is = ap (λ (n : List ℕ). count_of n) ((same_lower one name).0 (sym (lower_name one name) ∙ is))
-
--- Names with the same values, as expressions see them.
-
-pub record Alike (one other : Environment) : Type 0 where
-  pub place : (name : List ℕ) → one.give (place_key name) ≡ other.give (place_key name)
-  pub count : (name : List ℕ) → one.give (count_key name) ≡ other.give (count_key name)
-
-pub alike_same : (names : Environment) → Alike names names
-alike_same names = record { place = λ name. refl; count = λ name. refl }
-
-module _ (known : Facts) (one other : Environment) (alike : Alike one other) where
-  pub seen : (term : Term) → value_of term (names_sight known one) ≡ value_of term (names_sight known other)
-  seen (Constant number) = refl
-  seen (Named name) = ap (known_value name) (alike.place name)
-  seen (RowsOf name) = ap (known_value name) (alike.count name)
-  seen (BitsAt name start width) = λ i.
-      known_value name (alike.place name i)
-      >>= λ place. seen start i
-      >>= λ behind. seen width i
-      >>= λ size. number_at (names_sight known one) (place +ℤ behind) size
-  seen (FactOf which) = refl
-  seen (OfOne op operand) = λ i. seen operand i >>= λ value. Ok (operate_one op value)
-  seen (OfTwo op left right) = λ i. seen left i >>= λ one. seen right i >>= λ other. operate op one other
 
 -- What a body gives no value has that of outside.
 
@@ -105,15 +74,15 @@ AreCounted (field_and field fields) values own = FieldCounted field (first_value
 
 -- so its names have these numbers of rows
 
-array_own : (name : Option Word) (rows : ℕ) (own outer : Environment) (key : List ℕ) → IsCounted name rows own → gives_count name (count_key key) ≡ true
-    → own.give (count_key key) ≡ (with_count name rows outer).give (count_key key)
+array_own : (name : Option Word) (rows : ℕ) (own outer : Environment) (key : Key) → IsCounted name rows own → gives_count name key ≡ true
+    → own.give key ≡ (with_count name rows outer).give key
 array_own None rows own outer key counted gives = absurd (true_false (sym gives))
 array_own (Some name) rows own outer key counted gives =
-    sym (ap own.give (same_key name.bytes key gives)) ∙ counted
-    ∙ sym (ap (λ (test : Bool). if test then Some (pos rows) else outer.give (count_key key)) gives)
+    sym (ap own.give (key_is (count_key name.bytes) key gives)) ∙ counted
+    ∙ sym (ap (λ (test : Bool). if test then Some (pos rows) else outer.give key) gives)
 
-field_own : (field : PlainField) (value : Option Tree) (own outer : Environment) (key : List ℕ) → FieldCounted field value own → gives_key field (count_key key) ≡ true
-    → own.give (count_key key) ≡ (with_field field value outer).give (count_key key)
+field_own : (field : PlainField) (value : Option Tree) (own outer : Environment) (key : Key) → FieldCounted field value own → gives_key field key ≡ true
+    → own.give key ≡ (with_field field value outer).give key
 field_own (Number number) value own outer key counted gives = absurd (true_false (sym gives))
 field_own (Text text) value own outer key counted gives = absurd (true_false (sym gives))
 field_own (Points points) value own outer key counted gives = absurd (true_false (sym gives))
@@ -126,27 +95,25 @@ or_first : (a b : Bool) → (a || b) ≡ true → b ≡ false → a ≡ true
 or_first true b is none = refl
 or_first false b is none = sym none ∙ is
 
-own_is : (body : PlainBody) (values : List Tree) (own outer : Environment) (key : List ℕ) → AreCounted body values own → declares body (count_key key) ≡ true
-    → own.give (count_key key) ≡ (counted body values outer).give (count_key key)
+own_is : (body : PlainBody) (values : List Tree) (own outer : Environment) (key : Key) → AreCounted body values own → declares body key ≡ true
+    → own.give key ≡ (counted body values outer).give key
 own_is no_fields values own outer key are gives = absurd (true_false (sym gives))
 own_is (field_and field fields) values own outer key are gives =
     let next = with_field field (first_value (takes_value field) values) outer in
     let others = other_values (takes_value field) values in
-    by_test (own.give (count_key key) ≡ (counted fields others next).give (count_key key)) (declares fields (count_key key))
+    by_test (own.give key ≡ (counted fields others next).give key) (declares fields key)
     (λ later. own_is fields others own next key are.1 later)
-    (λ none. field_own field (first_value (takes_value field) values) own outer key are.0 (or_first (gives_key field (count_key key)) (declares fields (count_key key)) gives none)
-    ∙ sym (counted_none fields others next (count_key key) none))
+    (λ none. field_own field (first_value (takes_value field) values) own outer key are.0 (or_first (gives_key field key) (declares fields key) gives none)
+    ∙ sym (counted_none fields others next key none))
 
--- names of a body that are what they are to be, inside others that are
-pub alike_own : (body : PlainBody) (number : Option ℕ) (values : List Tree) (outer own inner : Environment) → Within body number outer own → AreCounted body values own → Alike outer inner
-    → Alike own (counted body values inner)
-alike_own body number values outer own inner within are alike = record {
-  place = λ name. within.give (place_key name) (no_place body (str_to_ascii_lowercase name)) ∙ alike.place name
-      ∙ sym (counted_none body values inner (place_key name) (no_place body (str_to_ascii_lowercase name)));
-  count = λ name. by_test (own.give (count_key name) ≡ (counted body values inner).give (count_key name)) (declares body (count_key name))
-      (λ gives. own_is body values own inner name are gives)
-      (λ none. within.give (count_key name) none ∙ alike.count name ∙ sym (counted_none body values inner (count_key name) none));
-}
+-- names of a body that are what they are to be
+pub own_same : (body : PlainBody) (number : Option ℕ) (values : List Tree) (outer own : Environment) → Within body number outer own → AreCounted body values own → own ≡ counted body values outer
+own_same body number values outer own within are = λ i. record { give = λ key. each key i }
+  where
+    each : (key : Key) → own.give key ≡ (counted body values outer).give key
+    each key = by_test (own.give key ≡ (counted body values outer).give key) (declares body key)
+        (λ gives. own_is body values own outer key are gives)
+        (λ none. within.give key none ∙ sym (counted_none body values outer key none))
 
 -- Different names.
 
@@ -162,13 +129,13 @@ no_count one (field_and (Fill unit count) fields) differs = no_count one fields 
 no_count one (field_and (Align unit) fields) differs = no_count one fields differs
 no_count one (field_and (Array None count row) fields) differs = no_count one fields differs
 no_count one (field_and (Array (Some name) count row) fields) differs =
-    ap (λ (test : Bool). test || declares fields (count_key one)) (lower_name name.bytes one ∙ other_name one name.bytes differs.0)
+    ap (λ (test : Bool). test || declares fields (count_key one)) (sym (folded_name name.bytes one) ∙ other_name one name.bytes differs.0)
     ∙ no_count one fields differs.1
 no_count one (field_and (Switch cases) fields) differs = no_count one fields differs
 
 -- the number of rows of an array, by its own name
 own_count : (name : Word) (rows : ℕ) (outer : Environment) → (with_count (Some name) rows outer).give (count_key name.bytes) ≡ Some (pos rows)
-own_count name rows outer = ap (λ (test : Bool). if test then Some (pos rows) else outer.give (count_key name.bytes)) (lower_name name.bytes name.bytes ∙ same_name name.bytes)
+own_count name rows outer = ap (λ (test : Bool). if test then Some (pos rows) else outer.give (count_key name.bytes)) (key_itself (count_key name.bytes))
 
 pub counted_are : (body : PlainBody) (values : List Tree) (outer : Environment) → Differ (names_of body) → AreCounted body values (counted body values outer)
 counted_are no_fields values outer differ = tt
@@ -225,7 +192,7 @@ among_is name (field_and (Points points) fields) = among_is name fields
 among_is name (field_and (Fill unit count) fields) = among_is name fields
 among_is name (field_and (Align unit) fields) = among_is name fields
 among_is name (field_and (Array None count row) fields) = among_is name fields
-among_is name (field_and (Array (Some own) count row) fields) = λ i. sym (lower_name own.bytes name) i || among_is name fields i
+among_is name (field_and (Array (Some own) count row) fields) = λ i. folded_name own.bytes name i || among_is name fields i
 among_is name (field_and (Switch cases) fields) = among_is name fields
 
 pub gives_counts : (scope : List Word) (body : PlainBody) (values : List Tree) (outer : Environment) → GivesCounts scope outer → GivesCounts (scope ++ names_of body) (counted body values outer)

@@ -23,8 +23,7 @@ use Rattle.rz_types.specs.Piece.{Filler, OneNumber, OneText, Piece, Zeros}
 use Rattle.rz_types.specs.Stored.{is_too_long, stored_number, stored_text}
 use Rattle.rz_types.specs.Text.{bytes_seen, text_terms, PlainPart}
 use Rattle.rz_types.specs.Value.{names_sight}
-use Rattle.rz_types.proofs.Texts.{bytes_kept, bytes_valued, Keeps}
-use Rattle.rz_layout.proofs.Own.{seen, Alike}
+use Rattle.rz_types.proofs.Texts.{bytes_valued}
 use Rattle.rz_layout.proofs.Room.{laid_in}
 use Rattle.rz_layout.proofs.Trees.{number_is, text_is}
 
@@ -41,14 +40,13 @@ take_more (suc a) b n [] is = no_take n ∙ sym (no_take b)
 take_more (suc a) b zero (x ∷ xs) is = absurd (omega (arith, is))
 take_more (suc a) b (suc n) (x ∷ xs) is = ap (λ (ys : List Bool). x ∷ ys) (take_more a b n xs (omega (arith, is)))
 
--- `names` are those of the spelling, and `inner` those of what is laid.
-module _ (known : Facts) (names inner : Environment) (alike : Alike names inner) where
-  value_spelled : (piece : ℕ) (term : Term) (v : ℤ) → value_of term (names_sight known names) ≡ Ok v → value_in piece known inner term ≡ Ok v
-  value_spelled piece term v found = ap (valued piece) (sym (seen known names inner alike term) ∙ found)
+module _ (known : Facts) (names : Environment) where
+  value_spelled : (piece : ℕ) (term : Term) (v : ℤ) → value_of term (names_sight known names) ≡ Ok v → value_in piece known names term ≡ Ok v
+  value_spelled piece term v found = ap (valued piece) found
 
   number_spelled : (passed : Passed) (piece : ℕ) (form : NumForm) (width : ℤ) (fixed : Option Term) (value : Option Tree) (bits : List Bool)
       → IsNumber false passed form width fixed (names_sight known names) value bits
-      → (number_given piece known inner form width fixed value >>= λ n. Ok (number_bits (nat_abs width) n)) ≡ Ok bits
+      → (number_given piece known names form width fixed value >>= λ n. Ok (number_bits (nat_abs width) n)) ≡ Ok bits
   number_spelled passed piece form width None value bits it =
       ap (λ (o : Option Tree). good (number_bits (nat_abs width) (number_in o))) it.1
       ∙ ap (λ (n : ℕ). good (number_bits (nat_abs width) n)) (number_is it.0)
@@ -65,7 +63,7 @@ module _ (known : Facts) (names inner : Environment) (alike : Alike names inner)
   -- the size of a text, as the code has it
   record HasSize (piece : ℕ) (form : TextForm) (term : Option Term) (size : Option ℕ) : Type 0 where
     found : Option ℤ
-    is : size_in piece known inner term ≡ Ok found
+    is : size_in piece known names term ≡ Ok found
     same : option_map nat_abs found ≡ size
     allowed : bad_size piece form found ≡ None
 
@@ -78,27 +76,23 @@ module _ (known : Facts) (names inner : Environment) (alike : Alike names inner)
     allowed = ap (λ (b : Bool). unless b (refusal 207 piece (pos it.0))) it.2;
   }
 
-  same_terms : (terms : List Term) → AllByRecursion (Keeps (names_sight known names) (names_sight known inner)) terms
-  same_terms [] = tt
-  same_terms (term ∷ terms) = ((λ v found. sym (seen known names inner alike term) ∙ found), same_terms terms)
-
   terms_spelled : (piece : ℕ) (terms : List Term) → AllByRecursion (λ term. (v : ℤ) × (value_of term (names_sight known names) ≡ Ok v)) terms
-      → first_of (map (unvalued piece known inner) terms) ≡ None
+      → first_of (map (unvalued piece known names) terms) ≡ None
   terms_spelled piece [] each = refl
   terms_spelled piece (term ∷ terms) each =
-      ap (λ (r : Result ℤ Refusal). or_else (refusal_in r) (first_of (map (unvalued piece known inner) terms))) (value_spelled piece term each.0.0 each.0.1)
+      ap (λ (r : Result ℤ Refusal). or_else (refusal_in r) (first_of (map (unvalued piece known names) terms))) (value_spelled piece term each.0.0 each.0.1)
       ∙ terms_spelled piece terms each.1
 
   bytes_spelled : (piece : ℕ) (form : TextForm) (fixed : Option (List PlainPart)) (size : Option ℕ) (value : Option Tree) (bytes : List ℕ)
-      → AreBytes false form known (names_sight known names) fixed size value bytes → bytes_given piece known inner fixed value ≡ Ok bytes
+      → AreBytes false form known (names_sight known names) fixed size value bytes → bytes_given piece known names fixed value ≡ Ok bytes
   bytes_spelled piece form None size value bytes it = ap (λ (o : Option Tree). good (text_in o)) it.0 ∙ ap good (text_is bytes)
   bytes_spelled piece form (Some parts) size value bytes it =
-      ap (λ (o : Option Refusal). behind_refusal o (joined piece (bytes_seen nowhere known (names_sight known inner) parts)))
+      ap (λ (o : Option Refusal). behind_refusal o (joined piece (bytes_seen nowhere known (names_sight known names) parts)))
       (terms_spelled piece (text_terms parts) (bytes_valued nowhere known (names_sight known names) parts bytes it.1))
-      ∙ ap (joined piece) (bytes_kept nowhere known (names_sight known names) (names_sight known inner) parts (same_terms (text_terms parts)) bytes it.1)
+      ∙ ap (joined piece) it.1
 
   text_spelled : (piece : ℕ) (text : PlainText) (value : Option Tree) (bits : List Bool) → IsText false text known (names_sight known names) value bits
-      → text_laid piece known inner text value ≡ Ok bits
+      → text_laid piece known names text value ≡ Ok bits
   text_spelled piece text value bits it =
       let s = size_spelled piece text.form text.size it.size it.has_size in
       let b = bytes_spelled piece text.form text.fixed it.size value it.bytes it.are_bytes in
@@ -110,7 +104,7 @@ module _ (known : Facts) (names inner : Environment) (alike : Alike names inner)
       ∙ ap good (sym it.are_bits)
 
   pub stored_spelled : (passed : Passed) (piece : Piece) (draft : Draft) (value : Option Tree) (bits : List Bool)
-      → IsStored false passed piece known (length draft.bits) (names_sight known names) value bits → piece_laid known inner draft piece value ≡ Ok bits
+      → IsStored false passed piece known (length draft.bits) (names_sight known names) value bits → piece_laid known names draft piece value ≡ Ok bits
   stored_spelled passed (OneNumber number) draft value bits it =
       number_spelled passed draft.piece number.form number.width number.fixed value bits it
   stored_spelled passed (OneText text) draft value bits it = text_spelled draft.piece text value bits it
@@ -172,15 +166,15 @@ module _ (all : List Bool) where
 
   -- Pieces.
 
-  module _ (known : Facts) (names inner : Environment) (alike : Alike names inner) where
+  module _ (known : Facts) (names : Environment) where
     pub piece_spelled : (passed : Passed) (piece : Piece) (value : Option Tree) (at after : ℕ) (late late_after : Late)
-        → PieceSpells false known all names passed piece value at late after late_after → (draft : Draft) → Fits draft at → Goes (lay known inner draft piece value) after
+        → PieceSpells false known all names passed piece value at late after late_after → (draft : Draft) → Fits draft at → Goes (lay known names draft piece value) after
     piece_spelled passed piece value at after late late_after it draft fits =
         let stored = subst (λ (n : ℕ). IsStored false passed piece known n (names_sight known names) value it.bits) (sym fits.size) it.stored in
         let ends : length draft.bits + length it.bits ≡ after = ap (λ n. n + length it.bits) fits.size ∙ sym it.ends in
         record {
           next = record { piece = one_more draft.piece; bits = draft.bits ++ it.bits };
-          is = ap (λ (r : Result (List Bool) Refusal). r >>= with_bits draft) (stored_spelled known names inner alike passed piece draft value it.bits stored)
+          is = ap (λ (r : Result (List Bool) Refusal). r >>= with_bits draft) (stored_spelled known names passed piece draft value it.bits stored)
               ∙ laid_in draft it.bits (subst (λ n. n ≤ most_bits) (sym ends) it.short);
           fits = record {
             front = (λ i. fits.front i ++ sym it.there i) ∙ sym (take_more at (length it.bits) after all it.ends);
@@ -197,12 +191,12 @@ module _ (all : List Bool) where
 
     pub pieces_goes : (passed : Passed) (pieces : List Piece) (values : List Tree) (at after : ℕ) (late late_after : Late)
         → InOrder (PieceSpells false known all names) passed pieces values at late after late_after
-        → (draft : Draft) → Fits draft at → Goes (in_order takes_one (lay known inner) draft pieces values) after
+        → (draft : Draft) → Fits draft at → Goes (in_order takes_one (lay known names) draft pieces values) after
     pieces_goes passed [] values at after late late_after it draft fits = record { next = draft; is = refl; fits = subst (Fits draft) (sym it.1) fits }
     pieces_goes passed (piece ∷ pieces) values at after late late_after (value, rest, mid, late_mid, are, one, others) draft fits =
         let first = piece_spelled passed piece value at mid late late_mid one draft fits in
-        then_goes (takes_one piece) value rest values are (piece_taken passed piece value at mid late late_mid one) (lay known inner draft piece)
-        (λ next values. in_order takes_one (lay known inner) next pieces values) mid after first
+        then_goes (takes_one piece) value rest values are (piece_taken passed piece value at mid late late_mid one) (lay known names draft piece)
+        (λ next values. in_order takes_one (lay known names) next pieces values) mid after first
         (pieces_goes (behind_piece piece passed) pieces rest mid after late_mid late_after others first.next first.fits)
 
     -- a single piece takes the value that there is

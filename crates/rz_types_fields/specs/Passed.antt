@@ -1,13 +1,12 @@
 -- The names that fields give values, and what the fields before one tell of them. (MPW Rez.)
 use Rattle.std.specs.Prelude.{ℕ, ℤ, Bool, false, ◌&&◌, ◌||◌, not, if◌then◌else◌, List, [], ◌∷◌, Option, Some, None}
 use Rattle.std.specs.Option.{is_some}
-use Rattle.std.specs.Str.{str_eq_ignore_ascii_case}
 use Rattle.rz_core.specs.declared.resource.Word.{Word}
-use Rattle.rz_expr.specs.Environment.{count_of, place_of, Environment, Key}
+use Rattle.rz_expr.specs.Environment.{count_key, Environment, Key}
 use Rattle.rz_expr.specs.Term.{Term}
 use Rattle.rz_types_fields.specs.Field.{field_and, no_fields, Array, PlainBody, PlainField}
 use Rattle.rz_types_fields.specs.Piece.{pieces_of, OneNumber, Piece}
-use Rattle.rz_types_fields.specs.Solve.{has_key}
+use Rattle.rz_types_fields.specs.Solve.{has_key, is_same_key}
 use Rattle.rz_types_fields.specs.Value.{symbol_key}
 
 abbrev pub Names : Type 0
@@ -17,10 +16,9 @@ Names = Key → Bool
 abbrev pub outside : Environment
 outside = record { give = symbol_key [] }
 
--- the key is the number of rows of an array of this name, in whatever case
+-- the key is the number of rows of an array of this name
 abbrev pub counts_rows : List ℕ → Key → Bool
-counts_rows name (place_of other) = false
-counts_rows name (count_of other) = str_eq_ignore_ascii_case name other
+counts_rows name key = is_same_key (count_key name) key
 
 -- the name of an array gives this key a value
 abbrev pub gives_count : Option Word → Key → Bool

@@ -9,7 +9,7 @@ use Rattle.rz_core.specs.declared.fault.Fault.{Fault}
 use Rattle.rz_core.specs.declared.fault.Kept.TheVariants as kept
 use Rattle.rz_core.specs.declared.fault.Mark.{Mark}
 use Rattle.rz_expr.specs.Constant.{constant_sight}
-use Rattle.rz_expr.specs.Environment.{count_of, place_of, predefined, Environment, Key, Sight}
+use Rattle.rz_expr.specs.Environment.{place_of, predefined, Environment, Key, Sight}
 use Rattle.rz_expr.specs.Term.{BitsAt, Constant, FactOf, Named, OfOne, OfTwo, RowsOf, Term}
 use Rattle.rz_expr.specs.Value.{value_of}
 use Rattle.rz_expr.specs.declared.value.EvalFault.{EvalFault}
@@ -93,7 +93,7 @@ symbol_value (symbol ∷ symbols) name = if str_eq_ignore_ascii_case symbol.name
 -- a name is a symbol of the field, else `true` or `false`
 abbrev pub symbol_key : List Symbol → Key → Option ℤ
 symbol_key symbols (place_of name) = or_else (symbol_value symbols name) (predefined name)
-symbol_key symbols (count_of name) = None
+symbol_key symbols key = None
 
 -- with the facts of a resource and a field's symbols
 abbrev pub field_sight : Facts → List Symbol → Sight

@@ -44,14 +44,10 @@ pub fn is_same_key(one: KeyRef<'_>, other: KeyRef<'_>) -> bool
 }
 
 /// Whether a name is the number of rows of an array of this name.
-#[tactic(auto, using(crate::proofs::SameNames::lower_name))]
 pub fn counts_rows(name: &Word, key: KeyRef<'_>) -> bool
     ensures { result ≡ counts_rows name.now.bytes (key_of key.entry) }
 {
-    match key {
-        KeyRef::Place(_) => false,
-        KeyRef::Count(other) => name.is(other.bytes.as_slice()),
-    }
+    is_same_key(KeyRef::Count(name), key)
 }
 
 /// Whether the name of an array gives this name a value.

@@ -21,12 +21,14 @@ use Rattle.rz_types_fields.specs.Known.{names_inside}
 use Rattle.rz_unlay.proofs.ReadsBits.{length_zeros, number_zeros}
 use Rattle.rz_unlay.proofs.ReadsPieces.{align_field, fill_field, number_field, points_field, text_field}
 use Rattle.rz_unlay.proofs.ReadsKeys.{case_keys_there, keys_absent, keys_found}
-use Rattle.rz_unlay.proofs.ReadsNames.{folded, knows_inside, knows_outside, part_inside, part_outside, places_inside, places_outside, HasPlaces, Knows, Steps}
+use Rattle.rz_unlay.proofs.ReadsNames.{knows_inside, knows_outside, part_inside, places_inside, places_outside, HasPlaces}
+use Rattle.rz_unlay.proofs.ReadsNumber.{Knows, Steps}
 use Rattle.rz_unlay.proofs.ReadsRows.{count_claims, rows_go}
 use Rattle.rz_unlay.proofs.ReadsTests.{at_most, below}
 use Rattle.rz_unlay.proofs.ReadsText.{EndsAt}
 use Rattle.rz_unlay.proofs.ReadsWidths.{body_wide, by_choice}
 use Rattle.rz_unlay.proofs.Sees.{both_true}
+use Rattle.rz_unlay.proofs.Told.{same_part}
 
 -- the reader is behind a body, with its row
 record Reaches (facts : Facts) (all : List Bool) (body : PlainBody) (names : Environment) (line : List Tree) (at after : ℕ) : Type 0 where
@@ -47,7 +49,7 @@ module _ (read : (width number : ℕ) → number_of (number_bits width number) �
   mutual
     step_goes : (outermost in_case : Bool) (field : PlainField) (rest : PlainBody) (env : Environment) (passed : Passed) (names : Environment) (value : Option Tree)
         (at : ℕ) (late : List Bool) (after : ℕ) (late_after : List Bool) → is_shaped in_case field ≡ true → AreKeysApartIn field → is_read outermost rest passed field ≡ true → HasPlaces env → Knows passed names
-        → IsPartOf names (folded env) → FieldSpells true facts all field env passed value at late after late_after → after ≤ length all → EndsAt outermost all rest after
+        → IsPartOf names env → FieldSpells true facts all field env passed value at late after late_after → after ≤ length all → EndsAt outermost all rest after
         → Steps (behind field passed) env value after (field_found facts all rest field names at)
     step_goes outermost in_case (Number number) rest env passed names value at late after late_after shaped apart reads places knows part it within end =
         number_field read written again back facts all env outermost rest passed names knows part value at late after late_after within number reads it
@@ -89,7 +91,7 @@ module _ (read : (width number : ℕ) → number_of (number_bits width number) �
     }
 
     cases_go : (cases : PlainCases) (env : Environment) (passed : Passed) (names : Environment) (value : Option Tree) (at : ℕ) (late : List Bool) (after : ℕ) (late_after : List Bool)
-        → are_cases_shaped cases ≡ true → AreCasesApart cases → are_cases_read passed cases ≡ true → HasPlaces env → Knows passed names → IsPartOf names (folded env)
+        → are_cases_shaped cases ≡ true → AreCasesApart cases → are_cases_read passed cases ≡ true → HasPlaces env → Knows passed names → IsPartOf names env
         → CaseSpells true facts all cases env passed value at late after late_after → after ≤ length all
         → case_found facts all cases names at ≡ Some (record { value = value; after = after; names = names })
     cases_go no_cases env passed names value at late after late_after shaped apart reads places knows part it within = absurd it
@@ -115,7 +117,7 @@ module _ (read : (width number : ℕ) → number_of (number_bits width number) �
         (is_case name value) it
 
     reaches : (outermost in_case : Bool) (body : PlainBody) (env : Environment) (passed : Passed) (names : Environment) (line : List Tree) (at : ℕ) (late : List Bool) (after : ℕ) (late_after : List Bool)
-        → are_shaped in_case body ≡ true → AreKeysApart body → are_read outermost passed body ≡ true → HasPlaces env → Knows passed names → IsPartOf names (folded env)
+        → are_shaped in_case body ≡ true → AreKeysApart body → are_read outermost passed body ≡ true → HasPlaces env → Knows passed names → IsPartOf names env
         → BodySpells true facts all body env passed line at late after late_after → after ≤ length all → (outermost ≡ true → length all < after + 8) → Reaches facts all body names line at after
     reaches outermost in_case no_fields env passed names line at late after late_after shaped apart reads places knows part it within over =
         record { more = names; is = λ i. Some (record { row = sym it.0 i; after = sym it.1 i; names = names }) }
@@ -168,6 +170,6 @@ pub plain_row_read : ((width number : ℕ) → number_of (number_bits width numb
 plain_row_read read written again fewer known body row bytes shaped apart reads it =
     let goes = reaches read written again known (bits_of bytes) true false body it.names (at_front body nothing_passed) (names_inside body outside) row 0 [] it.end it.late (both_true _ _ shaped).0 apart reads
     (places_inside body None outside it.names it.own places_outside) (knows_inside body nothing_passed outside knows_outside)
-    (part_inside known (bits_of bytes) body None outside outside it.names (at_front body nothing_passed) row 0 [] it.end it.late part_outside it.own it.fields) it.fields it.within
+    (part_inside known (bits_of bytes) body None outside outside it.names (at_front body nothing_passed) row 0 [] it.end it.late (same_part outside) it.own it.fields) it.fields it.within
     (λ outer. left_few fewer (bits_of bytes) it.end it.within it.filled) in
     ap (ended (bits_of bytes)) goes.is ∙ ended_is fewer (bits_of bytes) it.end it.within it.filled row goes.more it.few

@@ -27,7 +27,8 @@ use Rattle.rz_types.specs.Value.{names_sight}
 use Rattle.rz_unlay.proofs.Sees.{both_true, by_test, solve_same, value_same, Covers}
 use Rattle.rz_unlay.proofs.SpelledNames.{either_of, left_true, right_true}
 use Rattle.rz_unlay.proofs.Teller.{teller}
-use Rattle.rz_unlay.proofs.Told.{all_told, key_is, own_key, AreTold, IsTold}
+use Rattle.rz_types_fields.proofs.SameNames.{key_is, key_itself}
+use Rattle.rz_unlay.proofs.Told.{all_told, AreTold, IsTold}
 
 -- Names of an expression.
 
@@ -71,10 +72,10 @@ solved_at known solved names key unknown (OfTwo op left right) are has =
 -- names that stand in it are all its names
 all_of_its : (known : Names) (term : Term) → ((key : Key) → has_key key term ≡ true → known key ≡ true) → all_known known term ≡ true
 all_of_its known (Constant number) each = refl
-all_of_its known (Named name) each = each (place_key name) (own_key (place_key name))
-all_of_its known (RowsOf name) each = each (count_key name) (own_key (count_key name))
+all_of_its known (Named name) each = each (place_key name) (key_itself (place_key name))
+all_of_its known (RowsOf name) each = each (count_key name) (key_itself (count_key name))
 all_of_its known (BitsAt name start width) each = rw (
-  each (place_key name) (left_true _ (has_key (place_key name) width) (left_true _ (has_key (place_key name) start) (own_key (place_key name)))),
+  each (place_key name) (left_true _ (has_key (place_key name) width) (left_true _ (has_key (place_key name) start) (key_itself (place_key name)))),
   all_of_its known start (λ key has. each key (left_true _ (has_key key width) (right_true (is_same_key key (place_key name)) (has_key key start) has))),
   all_of_its known width (λ key has. each key (right_true _ (has_key key width) has)),
 ) refl
@@ -196,47 +197,51 @@ number_there back all at width number small within there =
     ∙ ap (λ (bits : List Bool). Some (number_of bits)) there
     ∙ ap (λ (n : ℕ). Some n) (back width number small)
 
--- the reader is behind a number, with its value, and knows a part of the finished names
-pub record Goes (passed : Passed) (env : Environment) (value : Option Tree) (after : ℕ) (step : Option Step) : Type 0 where
+-- the names that are known have values
+abbrev pub Knows : Passed → Environment → Type 0
+Knows passed names = Covers (is_known passed) names
+
+-- the reader is behind a piece or a field, with its value, and knows a part of the finished names
+pub record Steps (passed : Passed) (env : Environment) (value : Option Tree) (after : ℕ) (step : Option Step) : Type 0 where
   pub names : Environment
   pub is : step ≡ Some (record { value = value; after = after; names = names })
-  pub covers : Covers (is_known passed) names
+  pub knows : Knows passed names
   pub part : IsPartOf names env
 
-told_covers : (term : Term) (passed : Passed) (names more : Environment) → Covers (is_known passed) names → IsPartOf names more
-    → ((key : Key) → has_key key term ≡ true → (value : ℤ) × (more.give key ≡ Some value)) → Covers (is_known (told_by (Some term) passed)) more
-told_covers term passed names more covers kept has key is =
+told_knows : (term : Term) (passed : Passed) (names more : Environment) → Knows passed names → IsPartOf names more
+    → ((key : Key) → has_key key term ≡ true → (value : ℤ) × (more.give key ≡ Some value)) → Knows (told_by (Some term) passed) more
+told_knows term passed names more knows kept has key is =
     either_of (passed.met key) (has_key key term || passed.told key)
     (λ met. before (left_true (passed.met key) (passed.told key) met))
     (either_of (has_key key term) (passed.told key) (has key) (λ told. before (right_true (passed.met key) (passed.told key) told)))
     is
   where
     before : is_known passed key ≡ true → (value : ℤ) × (more.give key ≡ Some value)
-    before known = let it = covers key known in (it.0, kept.give key it.0 it.1)
+    before known = let it = knows key known in (it.0, kept.give key it.0 it.1)
 
 module _ (back : (width number : ℕ) → number < 2 ^ width → number_of (number_bits width number) ≡ number) (facts : Facts) (rest : PlainBody) (all : List Bool) (env : Environment) where
-  pub number_goes : (passed : Passed) (names : Environment) → Covers (is_known passed) names → IsPartOf names env → (form : NumForm) (width : ℤ) (fixed : Option Term) (value : Option Tree)
+  pub number_steps : (passed : Passed) (names : Environment) → Knows passed names → IsPartOf names env → (form : NumForm) (width : ℤ) (fixed : Option Term) (value : Option Tree)
       (bits : List Bool) (at : ℕ) → is_number_read rest passed fixed ≡ true → IsNumber true passed form width fixed (names_sight facts env) value bits
       → take (length bits) (drop at all) ≡ bits → at + length bits ≤ length all
-      → Goes (told_by fixed passed) env value (at + length bits) (number_step facts all form width fixed names at)
-  number_goes passed names covers part form width None value bits at reads (n, is, small, are) there within =
+      → Steps (told_by fixed passed) env value (at + length bits) (number_step facts all form width fixed names at)
+  number_steps passed names knows part form width None value bits at reads (n, is, small, are) there within =
       let long : length bits ≡ nat_abs width = ap length are ∙ length_is (nat_abs width) n in
       let found = number_there back all at (nat_abs width) n small (subst (λ (l : ℕ). at + l ≤ length all) long within) (sym (ap (λ (l : ℕ). take l (drop at all)) long) ∙ there ∙ are) in
       record {
         names = names;
         is = ap (option_map (λ n. record { value = Some (trees.Number n); after = at + nat_abs width; names = names })) found
             ∙ sym (λ i. Some (record { value = is i; after = at + long i; names = names }));
-        covers = covers;
+        knows = knows;
         part = part;
       }
-  number_goes passed names covers part form width (Some term) value bits at reads (v, is, valued, fits, are, solves) there within =
+  number_steps passed names knows part form width (Some term) value bits at reads (v, is, valued, fits, are, solves) there within =
       let w = nat_abs width in
       let n = stored_number w v in
       let long : length bits ≡ w = ap length are ∙ length_is w n in
       let small : n < 2 ^ w = mod-lt _ (pow_pos w) in
       let found = number_there back all at w n small (subst (λ (l : ℕ). at + l ≤ length all) long within) (sym (ap (λ (l : ℕ). take l (drop at all)) long) ∙ there ∙ are) in
       let told = names_told facts rest (is_known passed) env w term n v valued solves reads in
-      let goes = all_told (is_known passed) env (λ key seen. solved_count w key (names_sight facts seen) term n) term names covers part told in
+      let goes = all_told (is_known passed) env (λ key seen. solved_count w key (names_sight facts seen) term n) term names knows part told in
       let now : value_of term (names_sight facts goes.more) ≡ Ok v =
       value_same facts (λ key. has_key key term) goes.more env goes.has goes.part term (all_of_its (λ key. has_key key term) term (λ key has. has)) ∙ valued in
       let same : (n == n) ≡ true = grind (arith, nat_tests) in
@@ -250,6 +255,6 @@ module _ (back : (width number : ℕ) → number < 2 ^ width → number_of (numb
             ∙ ap (option_and_then (λ more. if is_stored form width (value_of term (names_sight facts more)) n then Some (record { value = None; after = at + w; names = more }) else None)) goes.is
             ∙ ap (λ (b : Bool). if b then Some (record { value = None; after = at + w; names = goes.more }) else None) stored
             ∙ sym (λ i. Some (record { value = is i; after = at + long i; names = goes.more }));
-        covers = told_covers term passed names goes.more covers goes.kept goes.has;
+        knows = told_knows term passed names goes.more knows goes.kept goes.has;
         part = goes.part;
       }

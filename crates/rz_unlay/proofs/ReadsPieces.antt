@@ -17,7 +17,7 @@ use Rattle.rz_types.specs.Piece.{fixed_integer, free_integer, integers, Filler, 
 use Rattle.rz_types.specs.Shape.{numbers_of}
 use Rattle.rz_unlay_pieces.specs.Pieces.{field_of_pieces, first_of_row, grouped, number_of_value, numbers_of_values, piece_step, pieces_found, with_value, zeros_step, Found, Step}
 use Rattle.rz_unlay.proofs.ReadsBits.{length_zeros, zeros_found}
-use Rattle.rz_unlay.proofs.ReadsNames.{folded, number_steps, Knows, Steps}
+use Rattle.rz_unlay.proofs.ReadsNumber.{number_steps, Knows, Steps}
 use Rattle.rz_unlay.proofs.ReadsText.{text_steps, EndsAt}
 use Rattle.rz_unlay.proofs.ReadsWidths.{single}
 use Rattle.rz_unlay.proofs.Sees.{both_true}
@@ -86,11 +86,11 @@ record Finds (passed : Passed) (env : Environment) (values : List Tree) (after :
   names : Environment
   is : found ≡ Some (record { row = values; after = after; names = names })
   knows : Knows passed names
-  part : IsPartOf names (folded env)
+  part : IsPartOf names env
 
 module _ (back : (width number : ℕ) → number < 2 ^ width → number_of (number_bits width number) ≡ number) (facts : Facts) (all : List Bool) (env : Environment) (outermost : Bool) (rest : PlainBody) where
   one_number : (number : PlainNumber) (passed : Passed) (names : Environment) (value : Option Tree) (at : ℕ) (late : List Bool) (after : ℕ) (late_after : List Bool)
-      → Knows passed names → IsPartOf names (folded env) → is_number_read rest passed number.fixed ≡ true → PieceSpells true facts all env passed (OneNumber number) value at late after late_after → after ≤ length all
+      → Knows passed names → IsPartOf names env → is_number_read rest passed number.fixed ≡ true → PieceSpells true facts all env passed (OneNumber number) value at late after late_after → after ≤ length all
       → Steps (behind_piece (OneNumber number) passed) env value after (piece_step facts all rest (OneNumber number) names at)
   one_number number passed names value at late after late_after knows part reads it within =
       let goes = number_steps back facts rest all env passed names knows part number.form number.width number.fixed value it.bits at reads it.stored it.there
@@ -103,7 +103,7 @@ module _ (back : (width number : ℕ) → number < 2 ^ width → number_of (numb
       }
 
   numbers_go : (pieces : List Piece) (passed : Passed) (names : Environment) (values : List Tree) (at : ℕ) (late : List Bool) (after : ℕ) (late_after : List Bool)
-      → AreNumbers pieces → Knows passed names → IsPartOf names (folded env) → are_pieces_read outermost rest passed pieces ≡ true → InOrder (PieceSpells true facts all env) passed pieces values at late after late_after
+      → AreNumbers pieces → Knows passed names → IsPartOf names env → are_pieces_read outermost rest passed pieces ≡ true → InOrder (PieceSpells true facts all env) passed pieces values at late after late_after
       → after ≤ length all → Finds (behind_pieces pieces passed) env values after (pieces_found facts all rest pieces names at)
   numbers_go [] passed names values at late after late_after are knows part reads it within = record {
     names = names;
@@ -145,7 +145,7 @@ group_again (Some terms) value is = sym is
 module _ (read : (width number : ℕ) → number_of (number_bits width number) ≡ number % 2 ^ width) (written : (bits : List Bool) → number_bits (length bits) (number_of bits) ≡ bits)
     (again : (bytes : List ℕ) → ((k : ℕ) → slice_index bytes k < 256) → bytes_of (bits_of bytes) ≡ bytes)
     (back : (width number : ℕ) → number < 2 ^ width → number_of (number_bits width number) ≡ number) (facts : Facts) (all : List Bool) (env : Environment) (outermost : Bool) (rest : PlainBody)
-    (passed : Passed) (names : Environment) (knows : Knows passed names) (part : IsPartOf names (folded env)) (value : Option Tree) (at : ℕ) (late : List Bool) (after : ℕ) (late_after : List Bool)
+    (passed : Passed) (names : Environment) (knows : Knows passed names) (part : IsPartOf names env) (value : Option Tree) (at : ℕ) (late : List Bool) (after : ℕ) (late_after : List Bool)
     (within : after ≤ length all) where
   pub number_field : (number : PlainNumber) → is_read outermost rest passed (Number number) ≡ true → FieldSpells true facts all (Number number) env passed value at late after late_after
       → Steps (behind (Number number) passed) env value after (field_of_pieces facts all rest (Number number) names at)

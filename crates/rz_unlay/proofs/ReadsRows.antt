@@ -11,12 +11,14 @@ use Rattle.rz_types_fields.specs.Row.{IsStated}
 use Rattle.rz_types_fields.specs.Spells.{IsCounted, RowSpells, RowsSpell}
 use Rattle.rz_types.specs.Field.{PlainBody}
 use Rattle.rz_types.specs.Readable.{ends_at_end, is_count_known, least_widths, rows_end}
-use Rattle.rz_types.specs.Passed.{gives_count, is_known, Passed}
+use Rattle.rz_types.specs.Passed.{gives_count, Passed}
 use Rattle.rz_types.specs.Width.{fixed_widths}
 use Rattle.rz_unlay_pieces.specs.Pieces.{claim_count, count_claimed, known_count}
 use Rattle.rz_types_fields.specs.Laid.{with_count}
 use Rattle.rz_unlay.specs.Cursor.{count_known, rows_at, rows_by, rows_while, up_to_end, Line}
-use Rattle.rz_unlay.proofs.ReadsNames.{count_same, counted_at, folded, is_lower, known_same, lower_own, Knows}
+use Rattle.rz_types_fields.proofs.SameNames.{key_is}
+use Rattle.rz_unlay.proofs.ReadsNames.{counted_at}
+use Rattle.rz_unlay.proofs.ReadsNumber.{Knows}
 use Rattle.rz_unlay.proofs.ReadsTests.{below, not_below, some_is, there_is}
 use Rattle.rz_unlay.proofs.ReadsText.{EndsAt}
 use Rattle.rz_unlay.proofs.Sees.{both_true}
@@ -61,13 +63,10 @@ module _ (f : ℕ → Option Line) (Row : ℕ → List Tree → RowSpells) (leas
 
 -- Their number.
 
-same_name : (name : Word) (rows : ℕ) (env : Environment) → IsCounted (Some name) rows env → (folded env).give (count_key name.bytes) ≡ Some (pos rows)
-same_name name rows env counted = count_same env name.bytes ∙ counted
-
 -- a number that is known is that of the rows
-known_is : (name : Option Word) (rows : ℕ) (names env : Environment) (v : ℤ) → IsPartOf names (folded env) → IsCounted name rows env → known_count name names ≡ Some v → v ≡ pos rows
+known_is : (name : Option Word) (rows : ℕ) (names env : Environment) (v : ℤ) → IsPartOf names env → IsCounted name rows env → known_count name names ≡ Some v → v ≡ pos rows
 known_is None rows names env v part counted is = absurd cc
-known_is (Some name) rows names env v part counted is = some_is v (pos rows) (sym (part.give (count_key name.bytes) v is) ∙ same_name name rows env counted)
+known_is (Some name) rows names env v part counted is = some_is v (pos rows) (sym (part.give (count_key name.bytes) v is) ∙ counted)
 
 or_other : (a b : Bool) → (a || b) ≡ true → (a ≡ true) ⊎ (b ≡ true)
 or_other true b is = inl refl
@@ -75,7 +74,7 @@ or_other false b is = inr is
 
 count_given : (passed : Passed) (name : Option Word) (names : Environment) → Knows passed names → is_count_known passed name ≡ true → (v : ℤ) × (known_count name names ≡ Some v)
 count_given passed None names knows is = absurd cc
-count_given passed (Some name) names knows is = knows (count_key name.bytes) (known_same (is_known passed) name.bytes ∙ is)
+count_given passed (Some name) names knows is = knows (count_key name.bytes) is
 
 le_is : (a b : ℕ) → nat_le a b ≡ true → a ≤ b
 le_is a b is = grind (arith, nat_tests)
@@ -84,7 +83,7 @@ module _ (f : ℕ → Option Line) (Row : ℕ → List Tree → RowSpells) (leas
     (one : (number : ℕ) (line : List Tree) (at : ℕ) (late : List Bool) (after : ℕ) (late_after : List Bool) → after ≤ last → Row number line at late after late_after → f at ≡ Some (line, after))
     (rise : (number : ℕ) (line : List Tree) (at : ℕ) (late : List Bool) (after : ℕ) (late_after : List Bool) → Row number line at late after late_after → at + least ≤ after) where
   pub rows_go : (outermost : Bool) (all : List Bool) (rest row : PlainBody) (name : Option Word) (count : Option ℤ) (rows : List (List Tree)) (names env : Environment) (passed : Passed)
-      (at : ℕ) (late : List Bool) (after : ℕ) (late_after : List Bool) → least ≡ least_widths row → rows_end outermost rest passed name count row ≡ true → Knows passed names → IsPartOf names (folded env)
+      (at : ℕ) (late : List Bool) (after : ℕ) (late_after : List Bool) → least ≡ least_widths row → rows_end outermost rest passed name count row ≡ true → Knows passed names → IsPartOf names env
       → IsStated count (length rows) → IsCounted name (length rows) env → RowsSpell Row 0 rows at late after late_after → EndsAt outermost all rest after → after ≤ last → after ≤ length all
       → rows_by f (length all) rest (count_known names name count) at ≡ Some (rows, after)
   rows_go outermost all rest row name (Some count) rows names env passed at late after late_after low ends knows part stated counted it end within below =
@@ -124,27 +123,27 @@ pub record Claims (passed : Passed) (env : Environment) (name : Option Word) (ro
   pub more : Environment
   pub is : claim_count name rows names ≡ Some more
   pub knows : Knows (passed_behind passed name) more
-  pub part : IsPartOf more (folded env)
+  pub part : IsPartOf more env
 
-without_own : (low own met told : Bool) → own ≡ false → (low && ((own || met) || told)) ≡ true → (low && (met || told)) ≡ true
-without_own low true met told none is = absurd cc
-without_own low false met told none is = is
+without_own : (own met told : Bool) → own ≡ false → ((own || met) || told) ≡ true → (met || told) ≡ true
+without_own true met told none is = absurd cc
+without_own false met told none is = is
 
 still_knows : (name : Option Word) (rows : ℕ) (passed : Passed) (names : Environment) → Knows passed names → Knows (passed_behind passed name) (with_count name rows names)
 still_knows name rows passed names knows key is = by (gives_count name key) refl
   where
     by : (own : Bool) → gives_count name key ≡ own → (v : ℤ) × ((if own then Some (pos rows) else names.give key) ≡ Some v)
     by true gives = (pos rows, refl)
-    by false none = knows key (without_own (is_lower key) (gives_count name key) (passed.met key) (passed.told key) none is)
+    by false none = knows key (without_own (gives_count name key) (passed.met key) (passed.told key) none is)
 
-count_part : (name : Option Word) (rows : ℕ) (names env : Environment) → IsCounted name rows env → IsPartOf names (folded env) → IsPartOf (with_count name rows names) (folded env)
+count_part : (name : Option Word) (rows : ℕ) (names env : Environment) → IsCounted name rows env → IsPartOf names env → IsPartOf (with_count name rows names) env
 count_part name rows names env counted part = record { give = λ key v is. by key v (gives_count name key) refl is }
   where
-    by : (key : Key) (v : ℤ) (own : Bool) → gives_count name key ≡ own → (if own then Some (pos rows) else names.give key) ≡ Some v → (folded env).give key ≡ Some v
+    by : (key : Key) (v : ℤ) (own : Bool) → gives_count name key ≡ own → (if own then Some (pos rows) else names.give key) ≡ Some v → env.give key ≡ Some v
     by key v true gives is = counted_at name rows env key counted gives ∙ is
     by key v false none is = part.give key v is
 
-pub count_claims : (passed : Passed) (env : Environment) (name : Option Word) (rows : ℕ) (names : Environment) → Knows passed names → IsPartOf names (folded env) → IsCounted name rows env
+pub count_claims : (passed : Passed) (env : Environment) (name : Option Word) (rows : ℕ) (names : Environment) → Knows passed names → IsPartOf names env → IsCounted name rows env
     → Claims passed env name rows names
 count_claims passed env None rows names knows part counted = record {
   more = with_count None rows names;
@@ -158,8 +157,8 @@ count_claims passed env (Some name) rows names knows part counted = by (names.gi
     own_known v given key is = each (gives_count (Some name) key) refl
       where
         each : (own : Bool) → gives_count (Some name) key ≡ own → (v : ℤ) × (names.give key ≡ Some v)
-        each true gives = (v, ap names.give (lower_own name key (both_true (is_lower key) _ is).0 gives) ∙ given)
-        each false none = knows key (without_own (is_lower key) (gives_count (Some name) key) (passed.met key) (passed.told key) none is)
+        each true gives = (v, sym (ap names.give (key_is (count_key name.bytes) key gives)) ∙ given)
+        each false none = knows key (without_own (gives_count (Some name) key) (passed.met key) (passed.told key) none is)
 
     by : (o : Option ℤ) → names.give (count_key name.bytes) ≡ o → Claims passed env (Some name) rows names
     by None is = record {

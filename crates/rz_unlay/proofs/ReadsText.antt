@@ -31,7 +31,7 @@ use Rattle.rz_bits.specs.View.{bytes_at}
 use Rattle.rz_unlay_pieces.specs.Pieces.{bytes_left, fixed_read, same_bytes, size_found, size_read, stored_size, text_read, text_size, text_step, up_to_zero}
 use Rattle.rz_types.proofs.Texts.{bytes_kept, Keeps}
 use Rattle.rz_unlay.proofs.ReadsBits.{all_append, bits_there, each_small, front_there, length_bits, length_number, number_append, number_found, reduced_are, reduced_bits, take_are, zero_there, zeros_are, AreBytes}
-use Rattle.rz_unlay.proofs.ReadsNames.{folded, known_lower, lower, seen, Knows}
+use Rattle.rz_unlay.proofs.ReadsNumber.{Knows}
 use Rattle.rz_unlay.proofs.ReadsTests.{itself, not_below, some_is, there_is}
 use Rattle.rz_unlay.proofs.Sees.{both_true, value_same}
 use Rattle.rz_unlay.proofs.PlainText.{plain_text_is}
@@ -134,13 +134,13 @@ size_may : (form : TextForm) (facts : Facts) (env : Environment) (term : Option 
 size_may form facts env None size is = subst (λ (o : Option ℕ). MayBe form o) (sym is) tt
 size_may form facts env (Some term) size (n, valued, may, is) = subst (λ (o : Option ℕ). MayBe form o) (sym is) may
 
-module _ (facts : Facts) (all : List Bool) (env : Environment) (passed : Passed) (names : Environment) (knows : Knows passed names) (part : IsPartOf names (folded env)) where
+module _ (facts : Facts) (all : List Bool) (env : Environment) (passed : Passed) (names : Environment) (knows : Knows passed names) (part : IsPartOf names env) where
   size_is_read : (form : TextForm) (term : Option Term) (size : Option ℕ) (at : ℕ) → ((t : Term) → term ≡ Some t → all_known (is_known passed) t ≡ true)
       → IsSize form (names_sight facts env) term size → size_read facts all form term names at ≡ Some size
   size_is_read form None size at known is = ap (λ (o : Option ℕ). Some o) (sym is)
   size_is_read form (Some term) size at known (n, valued, may, is) =
       let now : value_of term (names_sight facts names) ≡ Ok (pos n) =
-      value_same facts (lower (is_known passed)) names (folded env) knows part term (known_lower (is_known passed) term ∙ known term refl) ∙ seen facts env term ∙ valued in
+      value_same facts (is_known passed) names env knows part term (known term refl) ∙ valued in
       ap (size_found form) now
       ∙ ap (λ (b : Bool). if b then Some (Some n) else None) may
       ∙ ap (λ (o : Option ℕ). Some o) (sym is)
@@ -230,11 +230,10 @@ others_known : (known : Names) (size : Option Term) (others : List Term) → lis
 others_known known None others reads = reads
 others_known known (Some size) others reads = (both_true (all_known known size) (list_all (all_known known) others) reads).1
 
-module _ (facts : Facts) (env : Environment) (passed : Passed) (names : Environment) (knows : Knows passed names) (part : IsPartOf names (folded env)) where
+module _ (facts : Facts) (env : Environment) (passed : Passed) (names : Environment) (knows : Knows passed names) (part : IsPartOf names env) where
   -- a known expression has the value that it has in the finished names
   known_value : (term : Term) → all_known (is_known passed) term ≡ true → value_of term (names_sight facts names) ≡ value_of term (names_sight facts env)
-  known_value term known =
-      value_same facts (lower (is_known passed)) names (folded env) knows part term (known_lower (is_known passed) term ∙ known) ∙ seen facts env term
+  known_value term known = value_same facts (is_known passed) names env knows part term known
 
   known_terms : (terms : List Term) → list_all (all_known (is_known passed)) terms ≡ true → AllByRecursion (Keeps (names_sight facts env) (names_sight facts names)) terms
   known_terms [] known = tt
@@ -287,7 +286,7 @@ module _ (read : (width number : ℕ) → number_of (number_bits width number) �
         are_bits = are ∙ same;
       }
 
-  pub text_steps : (text : PlainText) (passed : Passed) (names : Environment) → Knows passed names → IsPartOf names (folded env) → (value : Option Tree) (bits : List Bool) (at : ℕ)
+  pub text_steps : (text : PlainText) (passed : Passed) (names : Environment) → Knows passed names → IsPartOf names env → (value : Option Tree) (bits : List Bool) (at : ℕ)
       → is_text_read outermost rest passed text ≡ true → IsText true text facts (names_sight facts env) value bits
       → EndsAt outermost all rest (at + length bits) → at + length bits ≤ length all → take (length bits) (drop at all) ≡ bits
       → text_step facts all rest text names at ≡ Some (record { value = value; after = at + length bits; names = names })

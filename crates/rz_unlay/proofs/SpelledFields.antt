@@ -9,7 +9,7 @@ use Rattle.std.proofs.lemmas.List.{length-append, length-drop, length-take, take
 use Rattle.rz_core.proofs.Folds.{same_lower}
 use Rattle.rz_core.specs.declared.facts.Facts.{Facts}
 use Rattle.rz_core.specs.declared.resource.Word.{Word}
-use Rattle.rz_expr.specs.Environment.{Environment, Key}
+use Rattle.rz_expr.specs.Environment.{Environment, IsPartOf, Key}
 use Rattle.rz_bits.specs.Bits.{bits_of, number_bits, number_of}
 use Rattle.rz_bits.specs.BitBuf.{filled, missing, zeros}
 use Rattle.rz_unlay.specs.Cursor.{body_found, case_found, count_known, ended, field_found, has_keys, line_of, reading, rows_by, Line, Lines}
@@ -27,7 +27,8 @@ use Rattle.rz_types.specs.Passed.{at_front, behind, declares, gives_count, gives
 use Rattle.rz_types.specs.Piece.{Filler, OneNumber, OneText, Zeros}
 use Rattle.rz_types.specs.Walk.{names_of}
 use Rattle.rz_types.specs.Width.{case_keys}
-use Rattle.rz_unlay.proofs.SpelledNames.{and_then, if_false, left_true, mapped, neither, none_is, part_same, part_then, some_same, Came, Grows, Knows, Part}
+use Rattle.rz_unlay.proofs.SpelledNames.{and_then, if_false, left_true, mapped, neither, none_is, some_same, Came, Grows, Knows}
+use Rattle.rz_unlay.proofs.Told.{part_of_part, same_part}
 use Rattle.rz_unlay.proofs.SpelledPieces.{field_pieces, points_fit, single_row, then_came, wide, Tells}
 use Rattle.rz_unlay.proofs.SpelledRows.{claim_came, counted_knows, inside_came, inside_knows, lines_came}
 use Rattle.rz_unlay.proofs.SpelledText.{zero_bits}
@@ -45,7 +46,7 @@ own_name name line = choice_name name name line ∙ (same_lower name.bytes name.
 record CaseCame (facts : Facts) (all : List Bool) (cases : PlainCases) (passed : Passed) (names : Environment) (at : ℕ) (step : Step) : Type 0 where
   same : names ≡ step.names
   differs : (name : Word) → AllByRecursion (λ later. str_eq_ignore_ascii_case name.bytes later.bytes ≡ false) (case_names cases) → is_case name step.value ≡ false
-  spells : (env : Environment) → Part names env → (late : Late) → (late_after : Late) × CaseSpells true facts all cases env passed step.value at late step.after late_after
+  spells : (env : Environment) → IsPartOf names env → (late : Late) → (late_after : Late) × CaseSpells true facts all cases env passed step.value at late step.after late_after
 
 first_or : {A P : Type 0} (test : Bool) (x y : Option A) (z : A) → (x ≡ Some z → P) → (y ≡ Some z → P) → (if test then x else y) ≡ Some z → P
 first_or true x y z one other is = one is
@@ -65,7 +66,7 @@ module _ (tells : Tells) (facts : Facts) (all : List Bool) (short : length all �
   CasesCame passed cases = (names : Environment) (at : ℕ) (step : Step) → Knows (is_known passed) names → case_found facts all cases names at ≡ Some step → CaseCame facts all cases passed names at step
 
   -- a row within
-  line_came : (row : PlainBody) (passed : Passed) → BodyCame (at_front row passed) row → (names env : Environment) → Knows (is_known passed) names → Part names env
+  line_came : (row : PlainBody) (passed : Passed) → BodyCame (at_front row passed) row → (names env : Environment) → Knows (is_known passed) names → IsPartOf names env
       → (number : Option ℕ) (at : ℕ) (line : Line) → line_of (body_found facts all row (names_inside row names) at) ≡ Some line → (late : Late)
       → (late_after : Late) × Inside row number env (λ own. BodySpells true facts all row own (at_front row passed) line.0) at late line.1 late_after
   line_came row passed came names env knows part number at line is late =
@@ -90,7 +91,7 @@ module _ (tells : Tells) (facts : Facts) (all : List Bool) (short : length all �
           spells = λ env part late.
               let come = lines_came (λ place. line_of (body_found facts all row (names_inside row names) place))
               (λ number line. Inside row (Some number) env (λ own. BodySpells true facts all row own (at_front row passed) line))
-              (λ number place line found. line_came row passed came names env knows (part_then names more env claimed.kept part) (Some number) place line found)
+              (λ number place line found. line_came row passed came names env knows (part_of_part names more env claimed.kept part) (Some number) place line found)
               (length all) rest names name count at lines one.1 in
               let rows = come.1 late in
               (rows.0, (lines.0, refl, come.0, claimed.counted env part, rows.1));
@@ -103,8 +104,8 @@ module _ (tells : Tells) (facts : Facts) (all : List Bool) (short : length all �
       let it = came names at step knows is in
       let same = it.same in (
         record {
-          grows = subst (Grows (declares (field_and (Switch cases) rest)) names) same (record { kept = part_same names; same = λ key none. refl });
-          spells = λ env part late. it.spells env (subst (λ (known : Environment). Part known env) (sym same) part) late;
+          grows = subst (Grows (declares (field_and (Switch cases) rest)) names) same (record { kept = same_part names; same = λ key none. refl });
+          spells = λ env part late. it.spells env (subst (λ (known : Environment). IsPartOf known env) (sym same) part) late;
         },
         subst (Knows (is_known passed)) same knows,
       )
@@ -190,7 +191,7 @@ module _ (tells : Tells) (facts : Facts) (all : List Bool) (short : length all �
     body_came scope outermost passed no_fields kept reads names at found knows is =
         subst (λ (f : Found). Came (declares no_fields) names f.names at f.after (λ env. BodySpells true facts all no_fields env passed f.row))
         (some_same (record { row = []; after = at; names = names }) found is)
-        (record { grows = record { kept = part_same names; same = λ key none. refl }; spells = λ env part late. (late, (refl, refl, refl)) })
+        (record { grows = record { kept = same_part names; same = λ key none. refl }; spells = λ env part late. (late, (refl, refl, refl)) })
     body_came scope outermost passed (field_and field fields) kept reads names at found knows is =
         let each = both_true (is_read outermost fields passed field) (are_read outermost (behind field passed) fields) reads in
         body_and field fields passed (field_came scope outermost fields passed field kept.2 each.0) (body_came scope outermost (behind field passed) fields kept.3 each.1) names at found knows is
@@ -248,7 +249,7 @@ length_bits (byte ∷ bytes) =
     length-append (number_bits 8 byte) (bits_of bytes) ∙ (let one = length_number 8 byte in let more = length_bits bytes in omega (arith, one, more))
 
 outside_knows : Knows (is_known nothing_passed) outside
-outside_knows = record { covers = λ key lower known. has key known; only = λ key value is. left_true (is_some (outside.give key)) false (ap is_some is) }
+outside_knows = record { covers = has; only = λ key value is. left_true (is_some (outside.give key)) false (ap is_some is) }
   where
     has : (key : Key) → (is_some (outside.give key) || false) ≡ true → (value : ℤ) × (outside.give key ≡ Some value)
     has key = by (outside.give key)
@@ -269,7 +270,7 @@ was_read tells facts body row bytes kept reads few are = by (body_found facts (b
         let short : length (bits_of bytes) ≤ most_bits = omega (arith, long, few) in
         let came = body_came tells facts (bits_of bytes) short (names_of body) true (at_front body nothing_passed) body kept.1 reads (names_inside body outside) 0 found
         (inside_knows body nothing_passed outside outside_knows) so in
-        let spelled = came.spells found.names (part_same found.names) [] in
+        let spelled = came.spells found.names (same_part found.names) [] in
         subst (λ (r : List Tree). Spells true facts body r bytes) end.same (record {
           names = found.names;
           own = record { give = λ key none. came.grows.same key none ∙ if_false (declares body key) _ (outside.give key) none };

@@ -1,21 +1,19 @@
 -- What is known of names while bytes are read, and what stays so behind it.
-use Rattle.std.proofs.Common.{◌≡◌, ℕ, ◌^◌, ◌%◌, ℤ, pos, Bool, true, false, ◌||◌, List, [], ◌∷◌, Option, Some, None, Result, Ok, Err, refl, sym, ap, ◌∙◌, subst}
+use Rattle.std.proofs.Common.{◌≡◌, ℕ, ◌^◌, ◌%◌, ℤ, pos, Bool, true, false, ◌||◌, List, Option, Some, None, Result, Ok, Err, refl, sym, ap, ◌∙◌}
 use Rattle.std.specs.Prelude.{if◌then◌else◌, option_and_then, option_map}
 use Rattle.std.specs.Int.{cast_unsigned, w64}
 use Rattle.std.specs.Result.{result_ok}
-use Rattle.std.specs.Str.{str_to_ascii_lowercase}
-use Rattle.std.proofs.lemmas.Str.Ascii.{lowercase-lowercase}
 use Rattle.rz_core.specs.Stop.{◌>>=◌}
 use Rattle.rz_core.specs.declared.facts.Facts.{Facts}
-use Rattle.rz_expr.specs.Environment.{count_key, count_of, place_key, place_of, Environment, IsPartOf, Key}
+use Rattle.rz_expr.specs.Environment.{count_key, place_key, Environment, IsPartOf, Key}
 use Rattle.rz_expr.specs.Term.{BitsAt, Constant, FactOf, Named, OfOne, OfTwo, RowsOf, Term}
 use Rattle.rz_expr.specs.Value.{known_value, value_of}
 use Rattle.rz_expr.specs.declared.value.EvalFault.{EvalFault}
 use Rattle.rz_types_fields.specs.Spells.{Late, RowSpells}
-use Rattle.rz_types.specs.Solve.{has_key, in_64_bits, is_same_key, solve, solved_count, undo_left, undo_one, undo_right}
+use Rattle.rz_types.specs.Solve.{has_key, in_64_bits, solve, solved_count, undo_left, undo_one, undo_right}
 use Rattle.rz_types.specs.Passed.{Names}
 use Rattle.rz_types.specs.Value.{names_sight}
-use Rattle.rz_unlay.proofs.Told.{key_is}
+use Rattle.rz_unlay.proofs.Told.{part_of_part}
 
 -- Options.
 
@@ -71,50 +69,6 @@ pub if_some : {A : Type 0} (test : Bool) (x : A) (y : A) → (if test then Some 
 if_some true x y is = (refl, some_same x y is)
 if_some false x y is = absurd (none_is y is)
 
--- Keys in lower case: those of the names that expressions have.
-
-abbrev pub lower_key : Key → Key
-lower_key (place_of name) = place_key name
-lower_key (count_of name) = count_key name
-
-abbrev pub IsLower : Key → Type 0
-IsLower key = lower_key key ≡ key
-
-pub lower_twice : (name : List ℕ) → str_to_ascii_lowercase (str_to_ascii_lowercase name) ≡ str_to_ascii_lowercase name
-lower_twice [] = refl
-lower_twice (byte ∷ name) = λ i. lowercase-lowercase byte i ∷ lower_twice name i
-
-pub place_lower : (name : List ℕ) → IsLower (place_key name)
-place_lower name = ap place_of (lower_twice name)
-
-pub count_lower : (name : List ℕ) → IsLower (count_key name)
-count_lower name = ap count_of (lower_twice name)
-
-pub lower_in : (key : Key) (term : Term) → has_key key term ≡ true → IsLower key
-lower_in key (Constant number) has = absurd cc
-lower_in key (Named name) has = subst IsLower (sym (key_is key (place_key name) has)) (place_lower name)
-lower_in key (RowsOf name) has = subst IsLower (sym (key_is key (count_key name) has)) (count_lower name)
-lower_in key (BitsAt name start width) has =
-    either_of (is_same_key key (place_key name) || has_key key start) (has_key key width)
-    (either_of (is_same_key key (place_key name)) (has_key key start) (λ same. subst IsLower (sym (key_is key (place_key name) same)) (place_lower name)) (lower_in key start))
-    (lower_in key width) has
-lower_in key (FactOf which) has = absurd cc
-lower_in key (OfOne op operand) has = lower_in key operand has
-lower_in key (OfTwo op left right) has = either_of (has_key key left) (has_key key right) (lower_in key left) (lower_in key right) has
-
--- what the first gives keys in lower case, the second gives them
-pub record Part (names env : Environment) : Type 0 where
-  pub give : (key : Key) (value : ℤ) → IsLower key → names.give key ≡ Some value → env.give key ≡ Some value
-
-pub part_same : (names : Environment) → Part names names
-part_same names = record { give = λ key value lower is. is }
-
-pub part_then : (a b c : Environment) → Part a b → Part b c → Part a c
-part_then a b c one other = record { give = λ key value lower is. other.give key value lower (one.give key value lower is) }
-
-pub part_of : (a b : Environment) → IsPartOf a b → Part a b
-part_of a b part = record { give = λ key value lower is. part.give key value is }
-
 -- Values with more names.
 
 parts_have : {X Y : Type 0} (first : Result X EvalFault) (next : X → Result Y EvalFault) (value : Y) → (first >>= next) ≡ Ok value → (x : X) × (first ≡ Ok x) × (next x ≡ Ok value)
@@ -133,23 +87,23 @@ if_both : {A : Type 0} (test : Bool) (x y one other : Option A) (value : A) → 
 if_both true x y one other value first second is = first is
 if_both false x y one other value first second is = second is
 
-module _ (facts : Facts) (part whole : Environment) (is_part : Part part whole) where
-  name_grows : (key : Key) → IsLower key → (name : List ℕ) (value : ℤ) → known_value name (part.give key) ≡ Ok value → known_value name (whole.give key) ≡ Ok value
-  name_grows key lower name value = by (part.give key) refl
+module _ (facts : Facts) (part whole : Environment) (is_part : IsPartOf part whole) where
+  name_grows : (key : Key) (name : List ℕ) (value : ℤ) → known_value name (part.give key) ≡ Ok value → known_value name (whole.give key) ≡ Ok value
+  name_grows key name value = by (part.give key) refl
     where
       by : (o : Option ℤ) → part.give key ≡ o → known_value name o ≡ Ok value → known_value name (whole.give key) ≡ Ok value
       by None so is = absurd cc
-      by (Some v) so is = ap (known_value name) (is_part.give key v lower so) ∙ is
+      by (Some v) so is = ap (known_value name) (is_part.give key v so) ∙ is
 
   pub value_grows : (term : Term) (value : ℤ) → value_of term (names_sight facts part) ≡ Ok value → value_of term (names_sight facts whole) ≡ Ok value
   value_grows (Constant number) value is = is
-  value_grows (Named name) value is = name_grows (place_key name) (place_lower name) name value is
-  value_grows (RowsOf name) value is = name_grows (count_key name) (count_lower name) name value is
+  value_grows (Named name) value is = name_grows (place_key name) name value is
+  value_grows (RowsOf name) value is = name_grows (count_key name) name value is
   value_grows (BitsAt name start width) value is =
       let one = parts_have (known_value name (part.give (place_key name))) _ value is in
       let two = parts_have (value_of start (names_sight facts part)) _ value one.2 in
       let three = parts_have (value_of width (names_sight facts part)) _ value two.2 in
-      so_next (known_value name (whole.give (place_key name))) _ one.0 value (name_grows (place_key name) (place_lower name) name one.0 one.1)
+      so_next (known_value name (whole.give (place_key name))) _ one.0 value (name_grows (place_key name) name one.0 one.1)
       (so_next (value_of start (names_sight facts whole)) _ two.0 value (value_grows start two.0 two.1)
       (so_next (value_of width (names_sight facts whole)) _ three.0 value (value_grows width three.0 three.1) three.2))
   value_grows (FactOf which) value is = is
@@ -198,21 +152,21 @@ module _ (facts : Facts) (part whole : Environment) (is_part : Part part whole) 
 
 -- the known names have values, and no others
 pub record Knows (known : Names) (names : Environment) : Type 0 where
-  pub covers : (key : Key) → IsLower key → known key ≡ true → (value : ℤ) × (names.give key ≡ Some value)
+  pub covers : (key : Key) → known key ≡ true → (value : ℤ) × (names.give key ≡ Some value)
   pub only : (key : Key) (value : ℤ) → names.give key ≡ Some value → known key ≡ true
 
 -- more is known, of these names alone
 pub record Grows (declared : Names) (names more : Environment) : Type 0 where
-  pub kept : Part names more
+  pub kept : IsPartOf names more
   pub same : (key : Key) → declared key ≡ false → more.give key ≡ names.give key
 
 -- what was read, with more known behind it: it is spelled so under each environment of which that is a part
 pub record Came (declared : Names) (names more : Environment) (at after : ℕ) (Reads : Environment → RowSpells) : Type 0 where
   pub grows : Grows declared names more
-  pub spells : (env : Environment) → Part more env → (late : Late) → (late_after : Late) × Reads env at late after late_after
+  pub spells : (env : Environment) → IsPartOf more env → (late : Late) → (late_after : Late) × Reads env at late after late_after
 
 pub grows_then : (declared : Names) (a b c : Environment) → Grows declared a b → Grows declared b c → Grows declared a c
-grows_then declared a b c one other = record { kept = part_then a b c one.kept other.kept; same = λ key none. other.same key none ∙ one.same key none }
+grows_then declared a b c one other = record { kept = part_of_part a b c one.kept other.kept; same = λ key none. other.same key none ∙ one.same key none }
 
 pub grows_wide : (few many : Names) → ((key : Key) → many key ≡ false → few key ≡ false) → (names more : Environment) → Grows few names more → Grows many names more
 grows_wide few many leads names more it = record { kept = it.kept; same = λ key none. it.same key (leads key none) }

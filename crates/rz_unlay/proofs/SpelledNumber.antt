@@ -24,10 +24,11 @@ use Rattle.rz_types.specs.Solve.{can_solve, has_key, is_same_key, solved_count, 
 use Rattle.rz_types.specs.Passed.{declares, is_known, told_by, Names, Passed}
 use Rattle.rz_types.specs.Stored.{stored_number}
 use Rattle.rz_types.specs.Value.{names_sight}
-use Rattle.rz_unlay.proofs.SpelledNames.{and_then, by_case, either_of, if_some, left_true, lower_in, mapped, neither, none_is, not_both, part_of, part_then, right_true, solved_grows, some_same, value_grows, Grows, IsLower, Knows, Part}
+use Rattle.rz_types_fields.proofs.SameNames.{key_is, key_itself}
+use Rattle.rz_unlay.proofs.SpelledNames.{and_then, by_case, either_of, if_some, left_true, mapped, neither, none_is, not_both, right_true, solved_grows, some_same, value_grows, Grows, Knows}
 use Rattle.rz_unlay.proofs.Sees.{both_true}
 use Rattle.rz_unlay.proofs.Teller.{teller}
-use Rattle.rz_unlay.proofs.Told.{key_is, own_key, part_of_part, same_part}
+use Rattle.rz_unlay.proofs.Told.{part_of_part, same_part}
 
 -- Bits at a place.
 
@@ -65,7 +66,7 @@ pub record PieceRead (declared : Names) (behind : Passed) (names : Environment) 
   pub ends : step.after ≡ at + count
   pub grows : Grows declared names step.names
   pub knows : Knows (is_known behind) step.names
-  pub stored : (env : Environment) → Part step.names env → Is env step.value bits
+  pub stored : (env : Environment) → IsPartOf step.names env → Is env step.value bits
 
 -- Names that are solved.
 
@@ -77,12 +78,12 @@ also_keeps key value names none = record {
 }
 
 also_has : (key : Key) (value : ℤ) (names : Environment) → (also key value names).give key ≡ Some value
-also_has key value names = ap (λ (test : Bool). if test then Some value else names.give key) (own_key key)
+also_has key value names = ap (λ (test : Bool). if test then Some value else names.give key) (key_itself key)
 
 also_other : (key other : Key) (value : ℤ) (names : Environment) → is_same_key other key ≡ false → (also key value names).give other ≡ names.give other
 also_other key other value names differ =
     by_case (is_same_key key other)
-    (λ same. not_both (is_same_key other key) (ap (λ (k : Key). is_same_key k key) (sym (key_is key other same)) ∙ own_key key) differ)
+    (λ same. not_both (is_same_key other key) (ap (λ (k : Key). is_same_key k key) (sym (key_is key other same)) ∙ key_itself key) differ)
     (λ not_same. ap (λ (b : Bool). if b then Some value else names.give other) not_same)
 
 -- a name had its value before, or was solved to it with a part of what is known now
@@ -199,11 +200,11 @@ known_or_given rest known term reads key has =
 each_solved : (known : Names) (solved : Key → Option ℤ) (names : Environment) (term : Term) → ((key : Key) → has_key key term ≡ true → IsSolvedTo (known key) (solved key) (names.give key))
     → AreSolved known solved names term
 each_solved known solved names (Constant number) each = tt
-each_solved known solved names (Named name) each = each (place_key name) (own_key (place_key name))
-each_solved known solved names (RowsOf name) each = each (count_key name) (own_key (count_key name))
+each_solved known solved names (Named name) each = each (place_key name) (key_itself (place_key name))
+each_solved known solved names (RowsOf name) each = each (count_key name) (key_itself (count_key name))
 each_solved known solved names (BitsAt name start width) each = (
   each (place_key name) (left_true (is_same_key (place_key name) (place_key name) || has_key (place_key name) start) (has_key (place_key name) width)
-      (left_true (is_same_key (place_key name) (place_key name)) (has_key (place_key name) start) (own_key (place_key name)))),
+      (left_true (is_same_key (place_key name) (place_key name)) (has_key (place_key name) start) (key_itself (place_key name)))),
   each_solved known solved names start (λ key has. each key (left_true (is_same_key key (place_key name) || has_key key start) (has_key key width)
       (right_true (is_same_key key (place_key name)) (has_key key start) has))),
   each_solved known solved names width (λ key has. each key (right_true (is_same_key key (place_key name) || has_key key start) (has_key key width) has)),
@@ -226,22 +227,22 @@ module _ (facts : Facts) (rest : PlainBody) (passed : Passed) (names more : Envi
       (λ has.
       let is_known_key : is_known passed key ≡ true =
       either_of (declares rest key) (is_known passed key) (λ given. not_both (declares rest key) given none) (λ known. known) (known_or_given rest (is_known passed) term reads key has) in
-      let old = knows.covers key (lower_in key term has) is_known_key in
+      let old = knows.covers key is_known_key in
       it.kept.give key old.0 old.1 ∙ sym old.1)
       (λ absent. it.same key absent)
 
   fixed_grows : Grows (declares rest) names more
-  fixed_grows = record { kept = part_of names more it.kept; same = fixed_same }
+  fixed_grows = record { kept = it.kept; same = fixed_same }
 
   fixed_knows : Knows (is_known (told_by (Some term) passed)) more
   fixed_knows = record { covers = covers; only = only }
     where
-      covers : (key : Key) → IsLower key → is_known (told_by (Some term) passed) key ≡ true → (value : ℤ) × (more.give key ≡ Some value)
-      covers key lower known =
+      covers : (key : Key) → is_known (told_by (Some term) passed) key ≡ true → (value : ℤ) × (more.give key ≡ Some value)
+      covers key known =
           by_case (has_key key term) (λ has. let told = it.told key has in (told.value, told.is))
           (λ absent.
           let before : is_known passed key ≡ true = sym (ap (λ (b : Bool). passed.met key || (b || passed.told key)) absent) ∙ known in
-          let old = knows.covers key lower before in (old.0, it.kept.give key old.0 old.1))
+          let old = knows.covers key before in (old.0, it.kept.give key old.0 old.1))
 
       only : (key : Key) (value : ℤ) → more.give key ≡ Some value → is_known (told_by (Some term) passed) key ≡ true
       only key value is =
@@ -250,7 +251,7 @@ module _ (facts : Facts) (rest : PlainBody) (passed : Passed) (names more : Envi
           (λ absent.
           ap (λ (b : Bool). passed.met key || (b || passed.told key)) absent ∙ knows.only key value (sym (it.same key absent) ∙ is))
 
-  fixed_back : (env : Environment) → Part more env → SolvesBack (is_known passed) width (names_sight facts env) term stored
+  fixed_back : (env : Environment) → IsPartOf more env → SolvesBack (is_known passed) width (names_sight facts env) term stored
   fixed_back env part = each_solved (is_known passed) (λ key. solved_count width key (names_sight facts env) term stored) env term each
     where
       unknown : (key : Key) → is_known passed key ≡ false → has_key key term ≡ true → solved_count width key (names_sight facts env) term stored ≡ env.give key
@@ -263,8 +264,8 @@ module _ (facts : Facts) (rest : PlainBody) (passed : Passed) (names more : Envi
               → solved_count width key (names_sight facts env) term stored ≡ env.give key
           go (inl was) = not_both (is_known passed key) (knows.only key told.value was) none
           go (inr (mid, less, so)) =
-              solved_grows facts mid env (part_then mid more env (part_of mid more less) part) width key term stored told.value so
-              ∙ sym (part.give key told.value (lower_in key term has) told.is)
+              solved_grows facts mid env (part_of_part mid more env less part) width key term stored told.value so
+              ∙ sym (part.give key told.value told.is)
 
       each : (key : Key) → has_key key term ≡ true → IsSolvedTo (is_known passed key) (solved_count width key (names_sight facts env) term stored) (env.give key)
       each key has = by (is_known passed key) refl
@@ -339,7 +340,7 @@ module _ (read : (width number : ℕ) → number_of (number_bits width number) �
         bits = number.bits;
         stand = number.stand;
         ends = refl;
-        grows = record { kept = part_of names names (same_part names); same = λ key none. refl };
+        grows = record { kept = same_part names; same = λ key none. refl };
         knows = knows;
         stored = λ env part. (n, refl, small_is all at (nat_abs width) n number, bits_are all at (nat_abs width) n number);
       })

@@ -22,7 +22,8 @@ use Rattle.rz_types.specs.Passed.{behind_piece, behind_pieces, declares, is_know
 use Rattle.rz_types.specs.Piece.{fixed_integer, free_integer, integers, pieces_of, terms_of_text, Filler, OneNumber, OneText, Piece, Zeros}
 use Rattle.rz_types.specs.Solve.{solved_count}
 use Rattle.rz_types.specs.Value.{names_sight}
-use Rattle.rz_unlay.proofs.SpelledNames.{and_then, grows_then, grows_wide, if_some, mapped, part_same, part_then, some_same, Came, Knows}
+use Rattle.rz_unlay.proofs.SpelledNames.{and_then, grows_then, grows_wide, if_some, mapped, some_same, Came, Knows}
+use Rattle.rz_unlay.proofs.Told.{part_of_part, same_part}
 use Rattle.rz_unlay.proofs.SpelledNumber.{below, number_came, PieceRead}
 use Rattle.rz_unlay.proofs.SpelledText.{text_came, zeros_came}
 use Rattle.rz_unlay.proofs.Sees.{both_true}
@@ -51,7 +52,7 @@ pub then_came : (declared : Names) (One : Environment → Option Tree → RowSpe
 then_came declared One Others value rest names mid more at between after one others = record {
   grows = grows_then declared names mid more one.grows others.grows;
   spells = λ env part late.
-      let first = one.spells env (part_then mid more env others.grows.kept part) late in
+      let first = one.spells env (part_of_part mid more env others.grows.kept part) late in
       let behind = others.spells env part first.0 in
       (behind.0, (value, rest, between, first.0, refl, first.1, behind.1));
 }
@@ -105,7 +106,7 @@ module _ (tells : Tells) (facts : Facts) (all : List Bool) (short : length all �
   pieces_came [] passed names at found reads knows is =
       subst (λ (f : Found). Came (declares rest) names f.names at f.after (λ env. InOrder (PieceSpells true facts all env) passed [] f.row) × Knows (is_known passed) f.names)
       (some_same (record { row = []; after = at; names = names }) found is)
-      (record { grows = record { kept = part_same names; same = λ key none. refl }; spells = λ env part late. (late, (refl, refl, refl)) }, knows)
+      (record { grows = record { kept = same_part names; same = λ key none. refl }; spells = λ env part late. (late, (refl, refl, refl)) }, knows)
   pieces_came (piece ∷ pieces) passed names at found reads knows is =
       let each = both_true (is_piece_read outermost rest passed piece) (are_pieces_read outermost rest (behind_piece piece passed) pieces) reads in
       let one = and_then (λ step. with_value step.value (pieces_found facts all rest pieces step.names step.after)) (piece_step facts all rest piece names at) found is in

@@ -2,13 +2,11 @@
 use Rattle.std.proofs.Common.{◌≡◌, ◌⊎◌, inl, inr, ℕ, zero, suc, ◌+◌, ◌-◌, ℤ, pos, negsuc, Bool, true, false, ◌&&◌, ◌||◌, not, List, [], ◌∷◌, length, Option, Some, None, refl, sym, ap, ◌∙◌, subst}
 use Rattle.std.specs.Prelude.{if◌then◌else◌, nat_lt, option_and_then, option_map}
 use Rattle.std.specs.Ordering.{int_eq}
-use Rattle.std.specs.Str.{str_eq_ignore_ascii_case, str_to_ascii_lowercase}
 use Rattle.std.proofs.lemmas.Bool.Decides.{Decides-int_eq}
-use Rattle.rz_core.proofs.Folds.{same_lower}
 use Rattle.rz_core.specs.Lists.{or_else}
 use Rattle.rz_core.specs.declared.facts.Facts.{Facts}
 use Rattle.rz_core.specs.declared.resource.Word.{Word}
-use Rattle.rz_expr.specs.Environment.{count_key, count_of, place_of, Environment, Key}
+use Rattle.rz_expr.specs.Environment.{count_key, Environment, IsPartOf, Key}
 use Rattle.rz_unlay_pieces.specs.Pieces.{claim_count, count_claimed, known_count}
 use Rattle.rz_types_fields.specs.Known.{names_inside, stated_in, stated_value}
 use Rattle.rz_types_fields.specs.Laid.{with_count}
@@ -19,7 +17,9 @@ use Rattle.rz_types_fields.specs.Spells.{BodySpells, Inside, IsCounted, Late, Ro
 use Rattle.rz_types.specs.Field.{field_and, no_fields, Align, Array, Fill, Number, PlainBody, Points, Switch, Text}
 use Rattle.rz_types.specs.Passed.{at_front, declares, gives_count, is_known, states, states_count, Passed}
 use Rattle.rz_types.specs.Width.{fixed_widths}
-use Rattle.rz_unlay.proofs.SpelledNames.{and_then, by_case, count_lower, either_of, if_false, if_some, if_true, left_true, lower_twice, mapped, none_is, part_same, right_true, some_same, Came, Grows, IsLower, Knows, Part}
+use Rattle.rz_types_fields.proofs.SameNames.{key_is, key_itself}
+use Rattle.rz_unlay.proofs.SpelledNames.{and_then, by_case, either_of, if_false, if_some, if_true, left_true, mapped, none_is, right_true, some_same, Came, Grows, Knows}
+use Rattle.rz_unlay.proofs.Told.{same_part}
 
 -- One row behind the other.
 
@@ -79,29 +79,22 @@ module _ (row : ℕ → Option Line) (Row : ℕ → List Tree → RowSpells)
 
 -- The number of rows.
 
-own_count : (name : List ℕ) → str_eq_ignore_ascii_case name (str_to_ascii_lowercase name) ≡ true
-own_count name = (same_lower name (str_to_ascii_lowercase name)).1 (sym (lower_twice name))
-
-count_given : (name : Word) (key : Key) → IsLower key → gives_count (Some name) key ≡ true → count_key name.bytes ≡ key
-count_given name (place_of other) lower gives = absurd cc
-count_given name (count_of other) lower gives = ap (λ (n : List ℕ). count_of n) ((same_lower name.bytes other).0 gives) ∙ lower
-
 -- what is known behind the number of rows
 pub record Claimed (name : Option Word) (rows : ℕ) (names more : Environment) : Type 0 where
-  pub kept : Part names more
+  pub kept : IsPartOf names more
   pub same : (key : Key) → gives_count name key ≡ false → more.give key ≡ names.give key
-  pub has : (key : Key) → IsLower key → gives_count name key ≡ true → more.give key ≡ Some (pos rows)
+  pub has : (key : Key) → gives_count name key ≡ true → more.give key ≡ Some (pos rows)
   pub only : (key : Key) (value : ℤ) → more.give key ≡ Some value → (gives_count name key ≡ true) ⊎ (names.give key ≡ Some value)
-  pub counted : (env : Environment) → Part more env → IsCounted name rows env
+  pub counted : (env : Environment) → IsPartOf more env → IsCounted name rows env
 
 same_int : (x y : ℤ) → int_eq x y ≡ true → x ≡ y
 same_int x y is = (Decides-int_eq x y).0 is
 
 pub claim_came : (name : Option Word) (rows : ℕ) (names more : Environment) → claim_count name rows names ≡ Some more → Claimed name rows names more
 claim_came None rows names more is = subst (Claimed None rows names) (some_same names more is) (record {
-  kept = part_same names;
+  kept = same_part names;
   same = λ key none. refl;
-  has = λ key lower gives. absurd cc;
+  has = λ key gives. absurd cc;
   only = λ key value found. inr found;
   counted = λ env part. tt;
 })
@@ -116,24 +109,24 @@ claim_came (Some name) rows names more claim = by (names.give (count_key name.by
         (λ key none. if_false (gives_count (Some name) key) (Some (pos rows)) (names.give key) none) in
         subst (Claimed (Some name) rows names) (some_same now more is) (record {
           kept = record {
-            give = λ key value lower found. by_case (gives_count (Some name) key)
-                (λ gives. absurd (none_is value (sym so ∙ ap names.give (count_given name key lower gives) ∙ found)))
+            give = λ key value found. by_case (gives_count (Some name) key)
+                (λ gives. absurd (none_is value (sym so ∙ ap names.give (key_is (count_key name.bytes) key gives) ∙ found)))
                 (λ none. same key none ∙ found);
           };
           same = same;
-          has = λ key lower gives. has key gives;
+          has = has;
           only = λ key value found. by_case (gives_count (Some name) key) (λ gives. inl gives) (λ none. inr (sym (same key none) ∙ found));
-          counted = λ env part. part.give (count_key name.bytes) (pos rows) (count_lower name.bytes) (has (count_key name.bytes) (own_count name.bytes));
+          counted = λ env part. part.give (count_key name.bytes) (pos rows) (has (count_key name.bytes) (key_itself (count_key name.bytes)));
         })
     by (Some known) so is =
         let it = if_some (int_eq known (pos rows)) names more is in
         let rows_are : names.give (count_key name.bytes) ≡ Some (pos rows) = so ∙ ap (λ (n : ℤ). Some n) (same_int known (pos rows) it.0) in
         subst (Claimed (Some name) rows names) it.1 (record {
-          kept = part_same names;
+          kept = same_part names;
           same = λ key none. refl;
-          has = λ key lower gives. sym (ap names.give (count_given name key lower gives)) ∙ rows_are;
+          has = λ key gives. sym (ap names.give (key_is (count_key name.bytes) key gives)) ∙ rows_are;
           only = λ key value found. inr found;
-          counted = λ env part. part.give (count_key name.bytes) (pos rows) (count_lower name.bytes) rows_are;
+          counted = λ env part. part.give (count_key name.bytes) (pos rows) rows_are;
         })
 
 -- At the front of a body.
@@ -174,15 +167,15 @@ inside_knows row passed names knows = record { covers = covers; only = only }
     known_is : (key : Key) → is_known (at_front row passed) key ≡ (if declares row key then states row key else is_known passed key)
     known_is key = front_known (declares row key) (passed.met key) (passed.told key) (states row key)
 
-    covers : (key : Key) → IsLower key → is_known (at_front row passed) key ≡ true → (value : ℤ) × ((names_inside row names).give key ≡ Some value)
-    covers key lower known = by_case (declares row key)
+    covers : (key : Key) → is_known (at_front row passed) key ≡ true → (value : ℤ) × ((names_inside row names).give key ≡ Some value)
+    covers key known = by_case (declares row key)
         (λ given.
         let so : states row key ≡ true = sym (known_is key ∙ if_true (declares row key) (states row key) (is_known passed key) given) ∙ known in
         let it = (stated row key).has so in
         (it.0, if_true (declares row key) (stated_in row key) (names.give key) given ∙ it.1))
         (λ none.
         let so : is_known passed key ≡ true = sym (known_is key ∙ if_false (declares row key) (states row key) (is_known passed key) none) ∙ known in
-        let it = knows.covers key lower so in
+        let it = knows.covers key so in
         (it.0, if_false (declares row key) (stated_in row key) (names.give key) none ∙ it.1))
 
     only : (key : Key) (value : ℤ) → (names_inside row names).give key ≡ Some value → is_known (at_front row passed) key ≡ true
@@ -198,11 +191,11 @@ pub counted_knows : (name : Option Word) (rows : ℕ) (passed : Passed) (names m
     → Knows (is_known (record { met = λ key. gives_count name key || passed.met key; told = passed.told })) more
 counted_knows name rows passed names more knows it = record { covers = covers; only = only }
   where
-    covers : (key : Key) → IsLower key → ((gives_count name key || passed.met key) || passed.told key) ≡ true → (value : ℤ) × (more.give key ≡ Some value)
-    covers key lower known = by_case (gives_count name key)
-        (λ gives. (pos rows, it.has key lower gives))
+    covers : (key : Key) → ((gives_count name key || passed.met key) || passed.told key) ≡ true → (value : ℤ) × (more.give key ≡ Some value)
+    covers key known = by_case (gives_count name key)
+        (λ gives. (pos rows, it.has key gives))
         (λ none.
-        let old = knows.covers key lower (sym (ap (λ (b : Bool). (b || passed.met key) || passed.told key) none) ∙ known) in
+        let old = knows.covers key (sym (ap (λ (b : Bool). (b || passed.met key) || passed.told key) none) ∙ known) in
         (old.0, it.same key none ∙ old.1))
 
     only : (key : Key) (value : ℤ) → more.give key ≡ Some value → ((gives_count name key || passed.met key) || passed.told key) ≡ true
@@ -220,13 +213,13 @@ counted_knows name rows passed names more knows it = record { covers = covers; o
 abbrev own_names : PlainBody → Environment → Environment → Environment
 own_names row inner outer = record { give = λ key. if declares row key then inner.give key else outer.give key }
 
-module _ (row : PlainBody) (names found env : Environment) (grows : Grows (declares row) (names_inside row names) found) (part : Part names env) where
-  own_part : Part found (own_names row found env)
+module _ (row : PlainBody) (names found env : Environment) (grows : Grows (declares row) (names_inside row names) found) (part : IsPartOf names env) where
+  own_part : IsPartOf found (own_names row found env)
   own_part = record {
-    give = λ key value lower is. by_case (declares row key)
+    give = λ key value is. by_case (declares row key)
         (λ given. if_true (declares row key) (found.give key) (env.give key) given ∙ is)
         (λ none. if_false (declares row key) (found.give key) (env.give key) none
-        ∙ part.give key value lower (sym (grows.same key none ∙ if_false (declares row key) (stated_in row key) (names.give key) none) ∙ is));
+        ∙ part.give key value (sym (grows.same key none ∙ if_false (declares row key) (stated_in row key) (names.give key) none) ∙ is));
   }
 
   own_within : (number : Option ℕ) → Within row number env (own_names row found env)
@@ -234,7 +227,7 @@ module _ (row : PlainBody) (names found env : Environment) (grows : Grows (decla
 
 pub inside_came : (facts : Facts) (all : List Bool) (row : PlainBody) (passed : Passed) (names found env : Environment) (at after : ℕ) (line : List Tree)
     → Came (declares row) (names_inside row names) found at after (λ own. BodySpells true facts all row own passed line)
-    → Part names env → (number : Option ℕ) (late : Late) → (late_after : Late) × Inside row number env (λ own. BodySpells true facts all row own passed line) at late after late_after
+    → IsPartOf names env → (number : Option ℕ) (late : Late) → (late_after : Late) × Inside row number env (λ own. BodySpells true facts all row own passed line) at late after late_after
 inside_came facts all row passed names found env at after line came part number late =
     let own = own_names row found env in
     let it = came.spells own (own_part row names found env came.grows part) late in

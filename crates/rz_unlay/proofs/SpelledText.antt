@@ -8,7 +8,7 @@ use Rattle.std.proofs.lemmas.List.{length-drop, length-map, length-take}
 use Rattle.std.proofs.lemmas.Nat.{pow_pos}
 use Rattle.std.proofs.Math.Pow.{pow_mono}
 use Rattle.rz_core.specs.declared.facts.Facts.{Facts}
-use Rattle.rz_expr.specs.Environment.{Environment, Sight}
+use Rattle.rz_expr.specs.Environment.{Environment, IsPartOf, Sight}
 use Rattle.rz_expr.specs.Term.{Term}
 use Rattle.rz_expr.specs.Value.{value_of}
 use Rattle.rz_expr.specs.declared.value.EvalFault.{EvalFault}
@@ -29,7 +29,8 @@ use Rattle.rz_types.specs.Text.{bytes_seen, text_terms, PlainPart}
 use Rattle.rz_types.specs.Value.{names_sight}
 use Rattle.rz_types.specs.Width.{sized_bytes}
 use Rattle.rz_types.proofs.Texts.{bytes_kept, Keeps}
-use Rattle.rz_unlay.proofs.SpelledNames.{and_then, if_false, if_some, mapped, none_is, part_same, some_same, value_grows, Knows, Part}
+use Rattle.rz_unlay.proofs.SpelledNames.{and_then, if_false, if_some, mapped, none_is, some_same, value_grows, Knows}
+use Rattle.rz_unlay.proofs.Told.{same_part}
 use Rattle.rz_unlay.proofs.SpelledNumber.{bits_stand, number_stands, PieceRead}
 use Rattle.rz_unlay.proofs.ReadsText.{stored_bits}
 use Rattle.rz_unlay.proofs.Sees.{both_true}
@@ -59,7 +60,7 @@ zeros_came all rest passed count names at step knows is =
       bits = number.bits;
       stand = number.stand;
       ends = refl;
-      grows = record { kept = part_same names; same = λ key none. refl };
+      grows = record { kept = same_part names; same = λ key none. refl };
       knows = knows;
       stored = λ env part. (refl, zero_bits number.bits none ∙ ap zeros number.stand.long);
     })
@@ -223,7 +224,7 @@ size_is form (Err fault) size is = absurd (none_is size is)
 size_is form (Ok (pos n)) size is = let it = if_some (may_be_size form (pos n)) (Some n) size is in (n, refl, it.0, sym it.1)
 size_is form (Ok (negsuc n)) size is = let it = if_some (may_be_size form (negsuc n)) _ size is in absurd (negative_size form n it.0)
 
-size_came : (facts : Facts) (all : List Bool) (names env : Environment) (at : ℕ) → Part names env → (form : TextForm) (term : Option Term) (size : Option ℕ)
+size_came : (facts : Facts) (all : List Bool) (names env : Environment) (at : ℕ) → IsPartOf names env → (form : TextForm) (term : Option Term) (size : Option ℕ)
     → size_read facts all form term names at ≡ Some size → IsSize form (names_sight facts env) term size
 size_came facts all names env at part form None size is = sym (some_same None size is)
 size_came facts all names env at part form (Some term) size is =
@@ -251,7 +252,7 @@ record BytesCame (form : TextForm) (facts : Facts) (sight : Sight) (fixed : Opti
   same : bits_of (stored_text form size bytes) ≡ bits_of (stored_text form size found.1)
 
 -- a value that is known is that of the finished names
-terms_grow : (facts : Facts) (names env : Environment) → Part names env → (terms : List Term) → AllByRecursion (Keeps (names_sight facts names) (names_sight facts env)) terms
+terms_grow : (facts : Facts) (names env : Environment) → IsPartOf names env → (terms : List Term) → AllByRecursion (Keeps (names_sight facts names) (names_sight facts env)) terms
 terms_grow facts names env part [] = tt
 terms_grow facts names env part (term ∷ terms) = (value_grows facts names env part term, terms_grow facts names env part terms)
 
@@ -259,7 +260,7 @@ bytes_came : ((width number : ℕ) → number_of (number_bits width number) ≡ 
     → (facts : Facts) (all : List Bool) (rest : PlainBody) (names : Environment) (form : TextForm) (size : Option ℕ) (fixed : Option (List PlainPart)) (at count : ℕ) (raw : List ℕ)
     (found : Option Tree × List ℕ) → AreSmall raw
     → text_size facts (names_sight facts names) all rest form size fixed at ≡ Some count → length raw ≡ count → text_read facts (names_sight facts names) form size fixed raw ≡ Some found
-    → (env : Environment) → Part names env → BytesCame form facts (names_sight facts env) fixed size found
+    → (env : Environment) → IsPartOf names env → BytesCame form facts (names_sight facts env) fixed size found
 bytes_came read numbers facts all rest names form size None at count raw found small so long is env part =
     subst (BytesCame form facts (names_sight facts env) None size) (some_same (Some (trees.Text (plain_text form size raw)), plain_text form size raw) found is)
     (record { bytes = plain_text form size raw; are = (refl, plain_is form size raw small (sized_is all rest form size at count raw so long)); long = refl; same = refl })
@@ -313,7 +314,7 @@ module _ (below : (bits : List Bool) → number_of bits < 2 ^ length bits) (writ
         bits = bits;
         stand = stand;
         ends = refl;
-        grows = record { kept = part_same names; same = λ key none. refl };
+        grows = record { kept = same_part names; same = λ key none. refl };
         knows = knows;
         stored = λ env part.
             let it = came env part in

@@ -1,38 +1,13 @@
 -- The names of an expression are solved to the values that they have.
-use Rattle.std.proofs.Common.{◌≡◌, ◌⊎◌, inl, inr, ℕ, ◌==◌, ℤ, Bool, true, false, ◌||◌, List, [], ◌∷◌, Option, Some, None, refl, sym, ap, ◌∙◌, subst, arith}
+use Rattle.std.proofs.Common.{◌≡◌, ◌⊎◌, inl, inr, ℤ, Bool, true, false, ◌||◌, Option, Some, None, refl, sym, ap, ◌∙◌, subst}
 use Rattle.std.specs.Prelude.{if◌then◌else◌, option_and_then}
-use Rattle.std.proofs.lemmas.Bool.Decides.{nat_tests}
-use Rattle.rz_expr.specs.Environment.{count_key, count_of, place_key, place_of, Environment, IsPartOf, Key}
+use Rattle.rz_expr.specs.Environment.{count_key, place_key, Environment, IsPartOf, Key}
 use Rattle.rz_expr.specs.Term.{BitsAt, Constant, FactOf, Named, OfOne, OfTwo, RowsOf, Term}
 use Rattle.rz_unlay_pieces.specs.Pieces.{also, solve_all, solve_key}
-use Rattle.rz_types.specs.Solve.{has_key, is_same_key, is_same_name}
+use Rattle.rz_types.specs.Solve.{has_key, is_same_key}
 use Rattle.rz_types.specs.Passed.{Names}
-use Rattle.rz_unlay.proofs.Sees.{both_true, Covers}
-
--- Keys.
-
-name_is : (name other : List ℕ) → is_same_name name other ≡ true → name ≡ other
-name_is [] [] is = refl
-name_is [] (other ∷ others) is = absurd cc
-name_is (byte ∷ bytes) [] is = absurd cc
-name_is (byte ∷ bytes) (other ∷ others) is =
-    let each = both_true (byte == other) (is_same_name bytes others) is in
-    let first : byte ≡ other = grind (arith, nat_tests, each) in
-    λ i. first i ∷ name_is bytes others each.1 i
-
-own_name : (name : List ℕ) → is_same_name name name ≡ true
-own_name [] = refl
-own_name (byte ∷ bytes) = let first : (byte == byte) ≡ true = grind (arith, nat_tests) in rw (first, own_name bytes) refl
-
-pub key_is : (key other : Key) → is_same_key key other ≡ true → key ≡ other
-key_is (place_of name) (place_of other) is = ap place_of (name_is name other is)
-key_is (place_of name) (count_of other) is = absurd cc
-key_is (count_of name) (place_of other) is = absurd cc
-key_is (count_of name) (count_of other) is = ap count_of (name_is name other is)
-
-pub own_key : (key : Key) → is_same_key key key ≡ true
-own_key (place_of name) = own_name name
-own_key (count_of name) = own_name name
+use Rattle.rz_types_fields.proofs.SameNames.{key_is, key_itself}
+use Rattle.rz_unlay.proofs.Sees.{Covers}
 
 -- One more name.
 
@@ -64,7 +39,7 @@ also_part key value names env part is = record {
 }
 
 also_has : (key : Key) (value : ℤ) (names : Environment) → (also key value names).give key ≡ Some value
-also_has key value names = ap (λ (test : Bool). if test then Some value else names.give key) (own_key key)
+also_has key value names = ap (λ (test : Bool). if test then Some value else names.give key) (key_itself key)
 
 -- All names of an expression.
 
