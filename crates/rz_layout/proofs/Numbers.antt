@@ -35,7 +35,7 @@ use Rattle.rz_types.specs.Passed.{outside}
 use Rattle.rz_types.specs.Piece.{fixed_integer, fixed_terms, free_integer, integers, pieces_of, points_terms, terms_of_text, Filler, OneNumber, OneText, Piece, Zeros}
 use Rattle.rz_types.specs.Stored.{stored_number}
 use Rattle.rz_types.specs.Text.{bytes_seen, text_terms, PlainPart}
-use Rattle.rz_types.specs.Value.{is_field_expression, is_fixed_expression, names_sight, IsArithmetic}
+use Rattle.rz_types.specs.Value.{is_fixed_expression, is_size_expression, names_sight, IsArithmetic}
 use Rattle.rz_types.specs.Walk.{names_of}
 use Rattle.rz_types.proofs.Firsts.{first_append}
 use Rattle.rz_types.proofs.Texts.{text_one, text_says, OnlyOne}
@@ -51,7 +51,7 @@ IsFixedOr scope (Some term) = IsFixed scope term
 
 abbrev pub IsSizeOr : Option Term → Type 0
 IsSizeOr None = Unit {0}
-IsSizeOr (Some term) = is_field_expression term ≡ true
+IsSizeOr (Some term) = is_size_expression term ≡ true
 
 abbrev pub HasTerms : List Word → Piece → Type 0
 HasTerms scope (OneNumber number) = IsFixedOr scope number.fixed
@@ -71,7 +71,7 @@ fixed_term scope symbols None is known = tt
 fixed_term scope symbols (Some term) is known =
     ((both (is_fixed_expression term) (is_empty symbols) is).0, (no_first (unknown_array scope term) None known).0)
 
-size_term : (size : Option Term) → is_none_or is_field_expression size ≡ true → IsSizeOr size
+size_term : (size : Option Term) → is_none_or is_size_expression size ≡ true → IsSizeOr size
 size_term None is = tt
 size_term (Some term) is = is
 
@@ -94,7 +94,7 @@ fixed_says (Some parts) is = says_fixed (text_terms parts) (text_says places.Fix
 
 text_piece : (scope : List Word) (text : PlainText) → is_text_shaped text ≡ true → first_of (map (unknown_array scope) (terms_of_text text)) ≡ None → HasTerms scope (OneText text)
 text_piece scope text is known =
-    let each = both (is_none_or is_field_expression text.size) (is_none_or is_fixed_text text.fixed) is in
+    let each = both (is_none_or is_size_expression text.size) (is_none_or is_fixed_text text.fixed) is in
     let none = no_first (first_of (map (unknown_array scope) (option_to_list text.size))) (first_of (map (unknown_array scope) (fixed_terms text.fixed)))
     (sym (first_append (unknown_array scope) (option_to_list text.size) (fixed_terms text.fixed)) ∙ known) in
     (size_term text.size each.0, each_fixed scope (fixed_terms text.fixed) (fixed_says text.fixed each.1) none.1)
@@ -149,7 +149,7 @@ or_known None other is also = also
 or_known (Some fault) other is also = is
 
 -- With the values of expressions, where `true` and `false` have values, and each array of a scope is counted.
-module _ (sizes : (known : Facts) (names : Environment) (term : Term) → GivesPredefined names → is_field_expression term ≡ true → IsArithmetic (value_of term (names_sight known names)))
+module _ (sizes : (known : Facts) (names : Environment) (term : Term) → GivesPredefined names → is_size_expression term ≡ true → IsArithmetic (value_of term (names_sight known names)))
     (values : (known : Facts) (names : Environment) (scope : List Word) (term : Term) → GivesPredefined names → GivesCounts scope names
     → is_fixed_expression term ≡ true → unknown_array scope term ≡ None → IsArithmetic (value_of term (names_sight known names)))
     (known : Facts) where

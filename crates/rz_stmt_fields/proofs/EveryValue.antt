@@ -8,9 +8,9 @@ use Rattle.rz_expr.specs.Constant.{is_constant, IsConstant}
 use Rattle.rz_expr.specs.Grammar.{IsExpression}
 use Rattle.rz_expr.specs.Term.{Constant, Term}
 use Rattle.rz_lex.specs.declared.token.Token.{Token}
-use Rattle.rz_stmt_fields.specs.FieldValue.{one_byte, IsFieldExpression, IsFixedExpression, IsFixedValue, IsSymbolValue, IsValueBy}
+use Rattle.rz_stmt_fields.specs.FieldValue.{one_byte, IsFixedExpression, IsFixedValue, IsSizeExpression, IsSymbolValue, IsValueBy}
 use Rattle.rz_stmt_fields.proofs.EveryTerm.{EveryExpression}
-use Rattle.rz_types_fields.specs.Value.{is_field_expression, is_fixed_expression}
+use Rattle.rz_types_fields.specs.Value.{is_fixed_expression, is_size_expression}
 use Rattle.rz_types_fields.specs.declared.field.NumForm.{NumForm}
 
 -- there is a term that they are
@@ -50,5 +50,5 @@ module _ (one : OneExpression) (expression : EveryExpression) where
   pub has_symbol_value : (form : NumForm) (tokens : List Token) → Dec (HasTerm (IsSymbolValue form) tokens)
   has_symbol_value form tokens = value_by IsConstant has_constant (one_byte form tokens) tokens
 
-  pub every_field_expression : (tokens : List Token) → (answer : Option Term) × Decided (IsFieldExpression tokens) answer
-  every_field_expression tokens = answer_of (IsFieldExpression tokens) (tested is_field_expression tokens)
+  pub every_size_expression : (tokens : List Token) → (answer : Option Term) × Decided (IsSizeExpression tokens) answer
+  every_size_expression tokens = answer_of (IsSizeExpression tokens) (tested is_size_expression tokens)

@@ -4,15 +4,15 @@ use Rattle.rz_expr.proofs.OneTerm.{OneExpression}
 use Rattle.rz_expr.specs.Term.{Term}
 use Rattle.rz_lex.specs.declared.token.Token.{Token}
 use Rattle.rz_expr.specs.Constant.{IsConstant}
-use Rattle.rz_stmt_fields.specs.FieldValue.{one_byte, IsFieldExpression, IsFixedExpression, IsFixedValue, IsSymbolValue, IsValueBy}
+use Rattle.rz_stmt_fields.specs.FieldValue.{one_byte, IsFixedExpression, IsFixedValue, IsSizeExpression, IsSymbolValue, IsValueBy}
 use Rattle.rz_types_fields.specs.declared.field.NumForm.{NumForm}
 
 module _ (one : OneExpression) where
   pub one_constant : (tokens : List Token) (a b : Term) → IsConstant tokens a → IsConstant tokens b → a ≡ b
   one_constant tokens a b is also = one tokens a b is.0 also.0
 
-  pub one_field_expression : (tokens : List Token) (a b : Term) → IsFieldExpression tokens a → IsFieldExpression tokens b → a ≡ b
-  one_field_expression tokens a b is also = one tokens a b is.0 also.0
+  pub one_size_expression : (tokens : List Token) (a b : Term) → IsSizeExpression tokens a → IsSizeExpression tokens b → a ≡ b
+  one_size_expression tokens a b is also = one tokens a b is.0 also.0
 
   pub one_fixed_expression : (tokens : List Token) (a b : Term) → IsFixedExpression tokens a → IsFixedExpression tokens b → a ≡ b
   one_fixed_expression tokens a b is also = one tokens a b is.0 also.0

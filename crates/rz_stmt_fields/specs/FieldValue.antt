@@ -7,13 +7,13 @@ use Rattle.rz_lex.specs.declared.sign.Sign.TheVariants as signs
 use Rattle.rz_lex.specs.declared.token.Shape.{Shape}
 use Rattle.rz_lex.specs.declared.token.Shape.TheVariants as shapes
 use Rattle.rz_lex.specs.declared.token.Token.{Token}
-use Rattle.rz_types_fields.specs.Value.{is_field_expression, is_fixed_expression}
+use Rattle.rz_types_fields.specs.Value.{is_fixed_expression, is_size_expression}
 use Rattle.rz_types_fields.specs.declared.field.NumForm.{NumForm}
 use Rattle.rz_types_fields.specs.declared.field.NumForm.TheVariants.{Char}
 
 -- an expression that may stand for a size: no names but `true` and `false`, and of the functions the facts
-abbrev pub IsFieldExpression : List Token → Term → Type 0
-IsFieldExpression tokens term = IsExpression tokens term × (is_field_expression term ≡ true)
+abbrev pub IsSizeExpression : List Token → Term → Type 0
+IsSizeExpression tokens term = IsExpression tokens term × (is_size_expression term ≡ true)
 
 -- one that may stand for a fixed value: of the functions the counts of rows too
 abbrev pub IsFixedExpression : List Token → Term → Type 0

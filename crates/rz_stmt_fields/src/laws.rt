@@ -6,7 +6,7 @@ ghost use Rattle.rz_expr.specs.Term.{Term};
 ghost use Rattle.rz_lex.specs.declared.token.Token.{Token};
 ghost use Rattle.rz_stmt_fields.specs.FieldForm.{IsFieldFront};
 ghost use Rattle.rz_stmt_fields.specs.FieldFront.{IsFront};
-ghost use Rattle.rz_stmt_fields.specs.FieldValue.{IsFieldExpression};
+ghost use Rattle.rz_stmt_fields.specs.FieldValue.{IsSizeExpression};
 ghost use Rattle.rz_stmt_fields.specs.FieldWord.{front_in, FieldFront};
 ghost use Rattle.rz_stmt_fields.specs.Form.{FieldForm};
 ghost use Rattle.rz_stmt_fields.specs.Key.{IsKey};
@@ -27,7 +27,7 @@ pub fn flat_fields_are_decided()
     ensures front { (tokens : List Token) → (answer : Option FieldFront) × Decided (IsFront tokens) answer }
     ensures field { (front : FieldFront) → (answer : Option FieldForm) × Decided (IsFieldFront front) answer }
     ensures key { (tokens : List Token) → (answer : Option FieldForm) × Decided (IsKey tokens) answer }
-    ensures expression { (tokens : List Token) → (answer : Option Term) × Decided (IsFieldExpression tokens) answer }
+    ensures expression { (tokens : List Token) → (answer : Option Term) × Decided (IsSizeExpression tokens) answer }
 {
     one_expression();
     expressions_are_decided();

@@ -4,23 +4,23 @@ ghost use Rattle.std.specs.Prelude.{◌≡◌, IfOk, map, option_map};
 ghost use Rattle.rz_expr.specs.Term.{term_of};
 ghost use Rattle.rz_core.specs.Decided.{Decided};
 ghost use Rattle.rz_stmt_fields.specs.Each.{AreEach};
-ghost use Rattle.rz_stmt_fields.specs.FieldValue.{byte_in, is_equals, one_byte, IsFieldExpression, IsFixedExpression, IsFixedValue, IsSymbolValue};
+ghost use Rattle.rz_stmt_fields.specs.FieldValue.{byte_in, is_equals, one_byte, IsFixedExpression, IsFixedValue, IsSizeExpression, IsSymbolValue};
 
 use rz_core::NoMemory;
 use rz_expr::{Expr, one_expression, read_constant, read_whole};
 use rz_lex::{Shape, Sign, Token};
-use rz_types_fields::{Exprs, NumForm, is_field_expression, is_fixed_expression};
+use rz_types_fields::{Exprs, NumForm, is_fixed_expression, is_size_expression};
 use std::alloc::Global;
 
 /// The expression of a size that the tokens are: one without names other than `true` and `false`, and without `$$`
 /// functions other than the facts.
 pub fn read_expression(alloc: Global, tokens: &[Token]) -> Result<Option<Expr>, NoMemory>
-    ensures { IfOk result (λ expr. Decided (IsFieldExpression tokens.now) (option_map term_of expr)) }
+    ensures { IfOk result (λ expr. Decided (IsSizeExpression tokens.now) (option_map term_of expr)) }
 {
     one_expression();
     match read_whole(alloc, tokens)? {
         Some(expr) => {
-            if is_field_expression(&expr) {
+            if is_size_expression(&expr) {
                 Ok(Some(expr))
             } else {
                 Ok(None)

@@ -26,7 +26,7 @@ use Rattle.rz_types_fields.specs.declared.place.TextPlace.{TextPlace}
 use Rattle.rz_stmt_fields.proofs.EveryTerm.{EveryExpression, EveryWithin}
 use Rattle.rz_stmt_fields.specs.FieldForm.{IsFieldFront}
 use Rattle.rz_stmt_fields.specs.FieldFront.{IsFront}
-use Rattle.rz_stmt_fields.specs.FieldValue.{IsFieldExpression}
+use Rattle.rz_stmt_fields.specs.FieldValue.{IsSizeExpression}
 use Rattle.rz_stmt_fields.specs.FieldWord.{FieldFront}
 use Rattle.rz_stmt_fields.specs.Form as form
 use Rattle.rz_stmt_fields.specs.Form.{BodyForm, CasesForm, FieldForm}
@@ -108,7 +108,7 @@ no_tokens in_case are = (form.no_fields, cut in_case [] ([] ∷ []) form.no_fiel
 
 module _ (one : OneExpression) (expression : EveryExpression) (within : EveryWithin) (text : (place : TextPlace) → Decides (IsText place))
     (front : Decides IsFront) (field : (front : FieldFront) → (answer : Option FieldForm) × Decided (IsFieldFront front) answer) (keys : Decides IsKey)
-    (size : Decides IsFieldExpression) where
+    (size : Decides IsSizeExpression) where
   has_key : (in_case : Bool) (tokens behind : List Token) → start_of tokens ≡ Key behind → Dec (HasField in_case tokens)
   has_key false tokens behind starts = no (λ h. true_false (sym (key_back tokens behind false h.0 starts h.1).0))
   has_key true tokens behind starts = map_dec to from (known_of (IsKey behind) (keys behind))

@@ -25,7 +25,7 @@ use Rattle.rz_stmt_fields.proofs.EveryTerm.{EveryExpression, EveryWithin}
 use Rattle.rz_stmt_fields.proofs.EveryValue.{has_constant, HasTerm}
 use Rattle.rz_stmt_fields.specs.FieldForm.{IsFieldFront}
 use Rattle.rz_stmt_fields.specs.FieldFront.{IsFront}
-use Rattle.rz_stmt_fields.specs.FieldValue.{IsFieldExpression}
+use Rattle.rz_stmt_fields.specs.FieldValue.{IsSizeExpression}
 use Rattle.rz_stmt_fields.specs.FieldWord.{FieldFront}
 use Rattle.rz_stmt_fields.specs.Form.{Any, CopyOf, DeclareForm, FieldForm, Fields, MadeForm, One, ScopeForm, Two}
 use Rattle.rz_stmt_fields.specs.Key.{IsKey}
@@ -118,7 +118,7 @@ module _ (one : OneExpression) (expression : EveryExpression) (within : EveryWit
 
   module _ (text : (place : TextPlace) → Decides (IsText place)) (front : Decides IsFront)
       (field : (front : FieldFront) → (answer : Option FieldForm) × Decided (IsFieldFront front) answer) (keys : Decides IsKey)
-      (size : Decides IsFieldExpression) where
+      (size : Decides IsSizeExpression) where
     -- What the type is.
 
     has_made : (tokens : List Token) → Dec (HasMade tokens)

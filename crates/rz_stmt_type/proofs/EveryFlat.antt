@@ -23,7 +23,7 @@ use Rattle.rz_stmt_fields.proofs.EveryKey.{same_front}
 use Rattle.rz_stmt_fields.proofs.EveryTerm.{EveryWithin}
 use Rattle.rz_stmt_fields.specs.FieldForm.{IsFieldFront}
 use Rattle.rz_stmt_fields.specs.FieldFront.{IsFront}
-use Rattle.rz_stmt_fields.specs.FieldValue.{is_equals, IsFieldExpression}
+use Rattle.rz_stmt_fields.specs.FieldValue.{is_equals, IsSizeExpression}
 use Rattle.rz_stmt_fields.specs.FieldWord.{hex_of, text_form, FieldFront}
 use Rattle.rz_stmt_fields.specs.Form.{FieldForm, Text}
 use Rattle.rz_lex.specs.declared.token.Token.{Token}
@@ -51,7 +51,7 @@ abbrev HasFixed : List Token → Type 0
 HasFixed tokens = (fixed : Option (List PlainPart)) × IsFixed tokens fixed
 
 abbrev HasSize : List Token → Type 0
-HasSize tokens = (size : Term) × IsFieldExpression tokens size
+HasSize tokens = (size : Term) × IsSizeExpression tokens size
 
 abbrev HasTextBy : Bool → Bool → TextForm → List Token → Type 0
 HasTextBy sized hex form tokens = (text : PlainText) × IsTextBy sized hex form tokens text
@@ -63,7 +63,7 @@ abbrev pub HasFlat : List Token → Type 0
 HasFlat tokens = (field : FieldForm) × IsFlat tokens field
 
 module _ (within : EveryWithin) (text : (place : TextPlace) → Decides (texts.IsText place)) (front : Decides IsFront)
-    (field : (front : FieldFront) → (answer : Option FieldForm) × Decided (IsFieldFront front) answer) (size : Decides IsFieldExpression) where
+    (field : (front : FieldFront) → (answer : Option FieldForm) × Decided (IsFieldFront front) answer) (size : Decides IsSizeExpression) where
   -- Texts.
 
   is_fixed : (tokens : List Token) → Dec (HasFixed tokens)
@@ -79,7 +79,7 @@ module _ (within : EveryWithin) (text : (place : TextPlace) → Decides (texts.I
   text_by : (sized hex : Bool) (form : TextForm) (tokens : List Token) → Dec (HasTextBy sized hex form tokens)
   text_by true hex form tokens =
       map_dec to from (of_brackets within Square tokens (λ parted. HasSize parted.front × HasFixed parted.behind)
-      (λ parted brackets. both (known_of (IsFieldExpression parted.front) (size parted.front)) (is_fixed parted.behind)))
+      (λ parted brackets. both (known_of (IsSizeExpression parted.front) (size parted.front)) (is_fixed parted.behind)))
     where
       to : (parted : Parted) × IsBracketed Square tokens parted × (HasSize parted.front × HasFixed parted.behind) → HasTextBy true hex form tokens
       to (parted, brackets, (sized, fixed)) =

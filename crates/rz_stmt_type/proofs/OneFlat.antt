@@ -13,8 +13,8 @@ use Rattle.rz_types_fields.specs.declared.field.TextForm.{TextForm}
 use Rattle.rz_stmt_fields.proofs.Fronts.{fronts}
 use Rattle.rz_stmt_fields.proofs.OneField.{one_front}
 use Rattle.rz_stmt_fields.proofs.OneTerm.{OneCut, OneWithin}
-use Rattle.rz_stmt_fields.proofs.OneValue.{one_field_expression}
-use Rattle.rz_stmt_fields.specs.FieldValue.{IsFieldExpression}
+use Rattle.rz_stmt_fields.proofs.OneValue.{one_size_expression}
+use Rattle.rz_stmt_fields.specs.FieldValue.{IsSizeExpression}
 use Rattle.rz_stmt_fields.specs.FieldWord.{front_in, hex_of, text_form, FieldFront}
 use Rattle.rz_stmt_fields.specs.Form.{FieldForm, Text}
 use Rattle.rz_lex.specs.declared.token.Token.{Token}
@@ -28,7 +28,7 @@ module _ (one : OneExpression) (cut : OneCut) (within : OneWithin) where
   one_sized : (hex : Bool) (form : TextForm) (tokens : List Token) (a b : PlainText) → IsSized hex form tokens a → IsSized hex form tokens b → a ≡ b
   one_sized hex form tokens a b is also =
       let parted = within Square tokens is.0 also.0 is.3 also.3 in
-      let size = one_field_expression one also.0.front is.1 also.1 (subst (λ (p : Parted). IsFieldExpression p.front is.1) parted is.4) also.4 in
+      let size = one_size_expression one also.0.front is.1 also.1 (subst (λ (p : Parted). IsSizeExpression p.front is.1) parted is.4) also.4 in
       let fixed = one_fixed also.0.behind is.2 also.2 (subst (λ (p : Parted). IsFixed p.behind is.2) parted is.5) also.5 in
       is.6 ∙ (λ i. record { form = form; hex = hex; size = Some (size i); fixed = fixed i }) ∙ sym also.6
 

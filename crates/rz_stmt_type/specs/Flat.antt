@@ -11,7 +11,7 @@ use Rattle.rz_types_fields.specs.declared.field.TextForm.{TextForm}
 use Rattle.rz_types_fields.specs.declared.place.TextPlace.TheVariants as places
 use Rattle.rz_stmt_fields.specs.FieldForm.{IsFieldFront}
 use Rattle.rz_stmt_fields.specs.FieldFront.{IsFront}
-use Rattle.rz_stmt_fields.specs.FieldValue.{is_equals, IsFieldExpression}
+use Rattle.rz_stmt_fields.specs.FieldValue.{is_equals, IsSizeExpression}
 use Rattle.rz_stmt_fields.specs.FieldWord.{hex_of, text_form, FieldFront}
 use Rattle.rz_stmt_fields.specs.Form.{FieldForm, Text}
 use Rattle.rz_lex.specs.declared.token.Token.{Token}
@@ -26,7 +26,7 @@ IsFixed (token ∷ tokens) fixed = (parts : List PlainPart) × (is_equals token.
 -- with a size in brackets
 abbrev pub IsSized : Bool → TextForm → List Token → PlainText → Type 0
 IsSized hex form tokens text =
-    (parted : Parted) × (size : Term) × (fixed : Option (List PlainPart)) × IsBracketed Square tokens parted × IsFieldExpression parted.front size
+    (parted : Parted) × (size : Term) × (fixed : Option (List PlainPart)) × IsBracketed Square tokens parted × IsSizeExpression parted.front size
     × IsFixed parted.behind fixed × (text ≡ record { form = form; hex = hex; size = Some size; fixed = fixed })
 
 -- without a size

@@ -8,7 +8,7 @@ use Rattle.rz_core.specs.declared.resource.Word.{Word}
 use Rattle.rz_expr.specs.Environment.{Environment}
 use Rattle.rz_expr.specs.Term.{BitsAt, Constant, FactOf, Named, OfOne, OfTwo, RowsOf, Term}
 use Rattle.rz_expr.specs.Value.{value_of}
-use Rattle.rz_types_fields.specs.Value.{is_field_expression, is_fixed_expression, names_sight, IsArithmetic}
+use Rattle.rz_types_fields.specs.Value.{is_fixed_expression, is_size_expression, names_sight, IsArithmetic}
 use Rattle.rz_types_fields.proofs.Arithmetic.{sight_sound, sound, KnowsArrays}
 use Rattle.rz_types.specs.Names.{GivesCounts, GivesPredefined}
 use Rattle.rz_types.specs.Rules.{unknown_array}
@@ -35,6 +35,6 @@ pub fixed_sound : (known : Facts) (names : Environment) (scope : List Word) (ter
     → is_fixed_expression term ≡ true → unknown_array scope term ≡ None → IsArithmetic (value_of term (names_sight known names))
 fixed_sound known names scope term gives counts is none = sight_sound (names_sight known names) gives.give term is (arrays_known scope names counts term is none)
 
-pub size_sound : (known : Facts) (names : Environment) (term : Term) → GivesPredefined names → is_field_expression term ≡ true
+pub size_sound : (known : Facts) (names : Environment) (term : Term) → GivesPredefined names → is_size_expression term ≡ true
     → IsArithmetic (value_of term (names_sight known names))
 size_sound known names term gives is = sound (names_sight known names) gives.give term is

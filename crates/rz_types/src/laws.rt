@@ -10,7 +10,7 @@ ghost use Rattle.rz_types.specs.Rules.{broken, keeps_rules, BreaksNone, IsFirstB
 ghost use Rattle.rz_types.specs.declared.rules.TypeFault.{TypeFault};
 ghost use Rattle.rz_core.specs.declared.resource.Word.{Word};
 ghost use Rattle.rz_expr.specs.Environment.{Environment};
-ghost use Rattle.rz_types_fields.specs.Value.{is_field_expression, is_fixed_expression, names_sight, IsArithmetic};
+ghost use Rattle.rz_types_fields.specs.Value.{is_fixed_expression, is_size_expression, names_sight, IsArithmetic};
 ghost use Rattle.rz_types.specs.Rules.{unknown_array};
 ghost use Rattle.rz_types.specs.Names.{GivesCounts, GivesPredefined};
 
@@ -39,7 +39,7 @@ pub fn keys_stand_apart()
 /// by 0, or a shift by a count outside 0 to 31: it has no other fault. So has that of a fixed value, where each array that
 /// it names has a number of rows.
 pub fn field_expressions_have_values()
-    ensures sizes { (known : Facts) (names : Environment) (term : Term) → GivesPredefined names → is_field_expression term ≡ true
+    ensures sizes { (known : Facts) (names : Environment) (term : Term) → GivesPredefined names → is_size_expression term ≡ true
         → IsArithmetic (value_of term (names_sight known names)) }
     ensures values { (known : Facts) (names : Environment) (scope : List Word) (term : Term) → GivesPredefined names → GivesCounts scope names
         → is_fixed_expression term ≡ true → unknown_array scope term ≡ None → IsArithmetic (value_of term (names_sight known names)) }

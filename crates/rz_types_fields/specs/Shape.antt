@@ -12,7 +12,7 @@ use Rattle.rz_types_fields.specs.Field.{case_and, field_and, no_cases, no_fields
 use Rattle.rz_types_fields.specs.Range.{fits_number, own_width}
 use Rattle.rz_types_fields.specs.Place.{may_stand}
 use Rattle.rz_types_fields.specs.Text.{PlainPart}
-use Rattle.rz_types_fields.specs.Value.{is_field_expression, is_fixed_expression}
+use Rattle.rz_types_fields.specs.Value.{is_fixed_expression, is_size_expression}
 use Rattle.rz_types_fields.specs.declared.field.NumForm.{NumForm}
 use Rattle.rz_types_fields.specs.declared.field.NumForm.TheVariants.{Bits, Boolean, Byte, Char, Integer, Longint}
 use Rattle.rz_types_fields.specs.declared.field.Symbol.{Symbol}
@@ -74,7 +74,7 @@ abbrev pub is_fixed_text : List PlainPart → Bool
 is_fixed_text parts = not (is_empty parts) && may_stand Fixed parts
 
 abbrev pub is_text_shaped : PlainText → Bool
-is_text_shaped text = is_none_or is_field_expression text.size && is_none_or is_fixed_text text.fixed
+is_text_shaped text = is_none_or is_size_expression text.size && is_none_or is_fixed_text text.fixed
 
 -- Points and rectangles.
 

@@ -51,8 +51,7 @@ is_head_expression (FactOf which) = is_date_fact which
 is_head_expression (OfOne op operand) = is_head_expression operand
 is_head_expression (OfTwo op left right) = is_head_expression left && is_head_expression right
 
--- Field expressions, those of sizes and of heads for chosen resources: no names but `true` and `false`, and of the
--- functions the facts.
+-- Expressions of heads for chosen resources and of `data`: no names but `true` and `false`, and of the functions the facts.
 
 abbrev pub is_field_expression : Term → Bool
 is_field_expression (Constant number) = true
@@ -62,6 +61,12 @@ is_field_expression (BitsAt name start width) = false
 is_field_expression (FactOf which) = true
 is_field_expression (OfOne op operand) = is_field_expression operand
 is_field_expression (OfTwo op left right) = is_field_expression left && is_field_expression right
+
+-- Expressions of fields.
+
+-- an expression of a size: so far what such a head may say
+abbrev pub is_size_expression : Term → Bool
+is_size_expression term = is_field_expression term
 
 -- an expression of a fixed value: it may also name arrays, by the number of their rows
 abbrev pub is_fixed_expression : Term → Bool

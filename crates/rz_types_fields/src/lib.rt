@@ -47,5 +47,5 @@ pub use text::{
 pub use tree::{Numbers, Row, RowList, Tree};
 pub use value::{
     constant_value, fact_of, is_field_expression, is_fixed_expression, is_item_expression,
-    number_of, symbol_number_of,
+    is_size_expression, number_of, symbol_number_of,
 };

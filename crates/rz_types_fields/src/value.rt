@@ -7,7 +7,7 @@ ghost use Rattle.rz_core.specs.Stop.{Gives, OnFault};
 ghost use Rattle.rz_expr.specs.Constant.{is_constant};
 ghost use Rattle.rz_expr.specs.Term.{term_of};
 ghost use Rattle.rz_expr.specs.Value.{reduced, value_of};
-ghost use Rattle.rz_types_fields.specs.Value.{constant_value, fact_of, field_sight, is_date_fact, is_field_expression, is_fixed_expression, is_head_expression, is_item_expression, number_of, symbol_number_of, symbol_value, value_fault, with_fault, IsArithmeticFault};
+ghost use Rattle.rz_types_fields.specs.Value.{constant_value, fact_of, field_sight, is_date_fact, is_field_expression, is_fixed_expression, is_head_expression, is_item_expression, is_size_expression, number_of, symbol_number_of, symbol_value, value_fault, with_fault, IsArithmeticFault};
 
 use crate::Symbol;
 use rz_core::{Facts, Fault, Kept, Mark, Stop, Word};
@@ -67,8 +67,8 @@ pub fn is_head_expression(expr: &Expr) -> bool
     }
 }
 
-/// Whether an expression may stand in the head for a chosen resource or in the size of a text: it has no names but
-/// `true` and `false`, and of the `$$` functions the facts alone. (MPW Rez.)
+/// Whether an expression may stand in the head for a chosen resource or in that of `data`: it has no names but `true`
+/// and `false`, and of the `$$` functions the facts alone. (MPW Rez.)
 pub fn is_field_expression(expr: &Expr) -> bool
     ensures { result ≡ is_field_expression (term_of expr.now) }
 {
@@ -79,6 +79,14 @@ pub fn is_field_expression(expr: &Expr) -> bool
         Expr::Unary(_, operand) => is_field_expression(operand),
         Expr::Binary(_, left, right) => is_field_expression(left) && is_field_expression(right),
     }
+}
+
+/// Whether an expression may stand for the size of a text: so far where it may stand in the head for a chosen resource.
+/// (MPW Rez.)
+pub fn is_size_expression(expr: &Expr) -> bool
+    ensures { result ≡ is_size_expression (term_of expr.now) }
+{
+    is_field_expression(expr)
 }
 
 /// Whether an expression may stand for a fixed value: it may have `$$CountOf` too. (MPW Rez.)

@@ -1,6 +1,6 @@
 use Rattle.rz_stmt_fields.proofs.EveryField.{every_field}
 use Rattle.rz_stmt_fields.proofs.EveryKey.{every_front, every_key}
-use Rattle.rz_stmt_fields.proofs.EveryValue.{every_field_expression}
+use Rattle.rz_stmt_fields.proofs.EveryValue.{every_size_expression}
 use Rattle.rz_stmt_fields.proofs.laws.flat_fields_are_decided.Goals as goal
 
 pub returns-clause-front : goal.returns-clause-front
@@ -17,4 +17,4 @@ returns-clause-key c =
     c.pieces_are_cut.ensures.one c.pieces_are_cut.ensures.some c.pieces_are_cut.ensures.within c.partings_are_decided.ensures.within
 
 pub returns-clause-expression : goal.returns-clause-expression
-returns-clause-expression c = every_field_expression c.one_expression.ensures.expression c.expressions_are_decided.ensures.some
+returns-clause-expression c = every_size_expression c.one_expression.ensures.expression c.expressions_are_decided.ensures.some
