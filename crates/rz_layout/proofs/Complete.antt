@@ -12,7 +12,7 @@ use Rattle.rz_types_fields.specs.declared.tree.Tree.{Tree}
 use Rattle.rz_types_fields.specs.declared.tree.Tree.TheVariants as trees
 use Rattle.rz_types_fields.specs.Laid.{body_laid, case_laid, counted, field_laid, first_value, laid, line_in, nothing_laid, other_values, pieces_laid, rows_in, rows_laid, Draft, Refusal}
 use Rattle.rz_types_fields.specs.Row.{By}
-use Rattle.rz_types_fields.specs.Spells.{is_case, values_for, BodySpells, CaseSpells, FieldSpells, Inside, IsCounted, Late, PiecesSpell, RowsSpell, Spells}
+use Rattle.rz_types_fields.specs.Spells.{is_case, row_of, values_for, BodySpells, CaseSpells, FieldSpells, Inside, IsCounted, Late, PiecesSpell, RowOf, RowsSpell, Spells}
 use Rattle.rz_types.specs.Field.{case_and, field_and, no_cases, no_fields, takes_value, Align, Array, Fill, Number, PlainBody, PlainCases, PlainField, Points, Switch, Text}
 use Rattle.rz_types.specs.Passed.{at_front, behind, nothing_passed, outside, Passed}
 use Rattle.rz_types.specs.Piece.{pieces_of, Filler, OneNumber, OneText, Zeros}
@@ -78,21 +78,21 @@ module _ (known : Facts) (all : List Bool) where
       → BodySpells false known all body own passed values at late after late_after → (draft : Draft) → Fits all draft at
       → Goes all (body_laid known own draft body values) after
 
-  inside_goes : (row : PlainBody) → BodyGoes row → (passed : Passed) (number : Option ℕ) (names : Environment) (line : List Tree) (at after : ℕ) (late late_after : Late)
-      → Inside row number names (λ own. BodySpells false known all row own (at_front row passed) line) at late after late_after → (draft : Draft) → Fits all draft at
+  inside_goes : (row : PlainBody) → BodyGoes row → (passed : Passed) (which : Option RowOf) (names : Environment) (line : List Tree) (at after : ℕ) (late late_after : Late)
+      → Inside row which names (λ own. BodySpells false known all row own (at_front row passed) line) at late after late_after → (draft : Draft) → Fits all draft at
       → Goes all (body_laid known (counted row line names) draft row line) after
-  inside_goes row goes passed number names line at after late late_after (own, within, spells) draft fits =
+  inside_goes row goes passed which names line at after late late_after (own, within, spells) draft fits =
       subst (λ (inside : Environment). Goes all (body_laid known inside draft row line) after)
-      (own_same row number line names own within (body_counted own (at_front row passed) row line at after late late_after spells))
+      (own_same row which line names own within (body_counted own (at_front row passed) row line at after late late_after spells))
       (goes (at_front row passed) own line at after late late_after spells draft fits)
 
-  rows_goes : (row : PlainBody) → BodyGoes row → (passed : Passed) (names : Environment) (number : ℕ) (rows : List (List Tree)) (at after : ℕ) (late late_after : Late)
-      → RowsSpell (λ number line. Inside row (Some number) names (λ own. BodySpells false known all row own (at_front row passed) line)) number rows at late after late_after
+  rows_goes : (name : Option Word) (row : PlainBody) → BodyGoes row → (passed : Passed) (names : Environment) (number : ℕ) (rows : List (List Tree)) (at after : ℕ) (late late_after : Late)
+      → RowsSpell (λ number line. Inside row (row_of name number) names (λ own. BodySpells false known all row own (at_front row passed) line)) number rows at late after late_after
       → (draft : Draft) → Fits all draft at → Goes all (rows_laid (λ draft line. body_laid known (counted row line names) draft row line) draft rows) after
-  rows_goes row goes passed names number [] at after late late_after it draft fits = record { next = draft; is = refl; fits = subst (Fits all draft) (sym it.0) fits }
-  rows_goes row goes passed names number (line ∷ rows) at after late late_after (mid, late_mid, one, others) draft fits =
-      let first = inside_goes row goes passed (Some number) names line at mid late late_mid one draft fits in
-      let more = rows_goes row goes passed names (number + 1) rows mid after late_mid late_after others first.next first.fits in
+  rows_goes name row goes passed names number [] at after late late_after it draft fits = record { next = draft; is = refl; fits = subst (Fits all draft) (sym it.0) fits }
+  rows_goes name row goes passed names number (line ∷ rows) at after late late_after (mid, late_mid, one, others) draft fits =
+      let first = inside_goes row goes passed (row_of name number) names line at mid late late_mid one draft fits in
+      let more = rows_goes name row goes passed names (number + 1) rows mid after late_mid late_after others first.next first.fits in
       record {
         next = more.next;
         is = ap (λ (r : Result Draft Refusal). r >>= λ next. rows_laid (λ draft line. body_laid known (counted row line names) draft row line) next rows) first.is ∙ more.is;
@@ -131,7 +131,7 @@ module _ (known : Facts) (all : List Bool) where
   array_goes name count row goes passed names value at after late late_after (rows, is, stated, counts, spells) draft fits =
       subst (λ (lines : List (List Tree)). Goes all (rows_laid (λ draft line. body_laid known (counted row line names) draft row line) draft lines) after)
       (sym (ap rows_in is ∙ rows_are rows))
-      (rows_goes row goes passed names 0 rows at after late late_after spells draft fits)
+      (rows_goes name row goes passed names 1 rows at after late late_after spells draft fits)
 
   mutual
     field_goes : (field : PlainField) → FieldGoes field

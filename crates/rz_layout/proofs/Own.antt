@@ -11,7 +11,7 @@ use Rattle.rz_expr.proofs.Cases.{same_value}
 use Rattle.rz_expr.specs.Environment.{count_key, place_key, place_of, Environment, Key}
 use Rattle.rz_types_fields.specs.declared.tree.Tree.{Tree}
 use Rattle.rz_types_fields.specs.Laid.{counted, first_value, other_values, rows_in, with_count, with_field}
-use Rattle.rz_types_fields.specs.Spells.{IsCounted, Within}
+use Rattle.rz_types_fields.specs.Spells.{IsCounted, RowOf, Within}
 use Rattle.rz_types.specs.Field.{field_and, no_fields, takes_value, Align, Array, Fill, Number, PlainBody, PlainField, Points, Switch, Text}
 use Rattle.rz_types.specs.Kept.{Differ}
 use Rattle.rz_types.specs.Names.{GivesCounts, GivesPredefined}
@@ -48,8 +48,8 @@ counted_none (field_and field fields) values outer key none =
     counted_none fields (other_values (takes_value field) values) (with_field field (first_value (takes_value field) values) outer) key each.1
     ∙ field_none field (first_value (takes_value field) values) outer key each.0
 
-pub counted_within : (body : PlainBody) (number : Option ℕ) (values : List Tree) (outer : Environment) → Within body number outer (counted body values outer)
-counted_within body number values outer = record { give = λ key none. counted_none body values outer key none }
+pub counted_within : (body : PlainBody) (which : Option RowOf) (values : List Tree) (outer : Environment) → Within body which outer (counted body values outer)
+counted_within body which values outer = record { give = λ key none. counted_none body values outer key none }
 
 no_place : (body : PlainBody) (name : List ℕ) → declares body (place_of name) ≡ false
 no_place no_fields name = refl
@@ -107,8 +107,8 @@ own_is (field_and field fields) values own outer key are gives =
     ∙ sym (counted_none fields others next key none))
 
 -- names of a body that are what they are to be
-pub own_same : (body : PlainBody) (number : Option ℕ) (values : List Tree) (outer own : Environment) → Within body number outer own → AreCounted body values own → own ≡ counted body values outer
-own_same body number values outer own within are = λ i. record { give = λ key. each key i }
+pub own_same : (body : PlainBody) (which : Option RowOf) (values : List Tree) (outer own : Environment) → Within body which outer own → AreCounted body values own → own ≡ counted body values outer
+own_same body which values outer own within are = λ i. record { give = λ key. each key i }
   where
     each : (key : Key) → own.give key ≡ (counted body values outer).give key
     each key = by_test (own.give key ≡ (counted body values outer).give key) (declares body key)

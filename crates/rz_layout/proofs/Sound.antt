@@ -16,7 +16,7 @@ use Rattle.rz_types_fields.specs.declared.tree.Tree.{Tree}
 use Rattle.rz_types_fields.specs.declared.tree.Tree.TheVariants as trees
 use Rattle.rz_types_fields.specs.Laid.{body_laid, case_laid, counted, field_laid, first_value, laid, line_in, nothing_laid, other_values, pieces_laid, rows_in, rows_laid, takes_one, Draft}
 use Rattle.rz_types_fields.specs.Row.{By, IsChoice, IsRow, IsValue}
-use Rattle.rz_types_fields.specs.Spells.{group_in, is_case, put, values_for, BodySpells, CaseSpells, FieldSpells, Inside, IsCounted, IsGrouped, IsGroupedFor, Late, PiecesSpell, RowsSpell, Spells}
+use Rattle.rz_types_fields.specs.Spells.{group_in, is_case, put, row_of, values_for, BodySpells, CaseSpells, FieldSpells, Inside, IsCounted, IsGrouped, IsGroupedFor, Late, PiecesSpell, RowOf, RowsSpell, Spells}
 use Rattle.rz_types.specs.Field.{case_and, field_and, no_cases, no_fields, takes_value, Align, Array, Fill, Number, PlainBody, PlainCases, PlainField, PlainNumber, PlainPoints, PlainText, Points, Switch, Text}
 use Rattle.rz_types.specs.Kept.{AreCasesKept, AreKept, Differ, IsKept, IsKeptWithin}
 use Rattle.rz_types.specs.Rules.{case_names}
@@ -98,24 +98,24 @@ module _ (known : Facts) (all : List Bool) where
       → body_laid known names draft body values ≡ Ok next → Front all next
       → (late : Late) → Sounds all (λ at late_after. BodySpells false known all body names passed values at late (length next.bits) late_after) draft
 
-  inside_sounds : (row : PlainBody) → Differ (names_of row) → BodySounds row → (passed : Passed) (number : Option ℕ) (outer : Environment) (line : List Tree) → IsRow row line → (draft next : Draft)
+  inside_sounds : (row : PlainBody) → Differ (names_of row) → BodySounds row → (passed : Passed) (which : Option RowOf) (outer : Environment) (line : List Tree) → IsRow row line → (draft next : Draft)
       → body_laid known (counted row line outer) draft row line ≡ Ok next → Front all next
-      → (late : Late) → Sounds all (λ at late_after. Inside row number outer (λ own. BodySpells false known all row own (at_front row passed) line) at late (length next.bits) late_after) draft
-  inside_sounds row differ sounds passed number outer line is_row draft next is front late =
+      → (late : Late) → Sounds all (λ at late_after. Inside row which outer (λ own. BodySpells false known all row own (at_front row passed) line) at late (length next.bits) late_after) draft
+  inside_sounds row differ sounds passed which outer line is_row draft next is front late =
       let it = sounds (at_front row passed) (counted row line outer) line (counted_are row line outer differ) is_row draft next is front late in
-      record { late_after = it.late_after; spells = (counted row line outer, counted_within row number line outer, it.spells); front = it.front }
+      record { late_after = it.late_after; spells = (counted row line outer, counted_within row which line outer, it.spells); front = it.front }
 
-  rows_sound : (row : PlainBody) → Differ (names_of row) → BodySounds row → (passed : Passed) (outer : Environment) (number : ℕ) (rows : List (List Tree)) → AllByRecursion (IsRow row) rows → (draft next : Draft)
+  rows_sound : (name : Option Word) (row : PlainBody) → Differ (names_of row) → BodySounds row → (passed : Passed) (outer : Environment) (number : ℕ) (rows : List (List Tree)) → AllByRecursion (IsRow row) rows → (draft next : Draft)
       → rows_laid (λ draft line. body_laid known (counted row line outer) draft row line) draft rows ≡ Ok next → Front all next
-      → (late : Late) → Sounds all (λ at late_after. RowsSpell (λ number line. Inside row (Some number) outer (λ own. BodySpells false known all row own (at_front row passed) line)) number rows at late (length next.bits) late_after) draft
-  rows_sound row differ sounds passed outer number [] are draft next is front late =
+      → (late : Late) → Sounds all (λ at late_after. RowsSpell (λ number line. Inside row (row_of name number) outer (λ own. BodySpells false known all row own (at_front row passed) line)) number rows at late (length next.bits) late_after) draft
+  rows_sound name row differ sounds passed outer number [] are draft next is front late =
       let same : draft ≡ next = same_ok draft next is in
       record { late_after = late; spells = (ap (λ (d : Draft). length d.bits) (sym same), refl); front = subst (Front all) (sym same) front }
-  rows_sound row differ sounds passed outer number (line ∷ rows) are draft next is front late =
+  rows_sound name row differ sounds passed outer number (line ∷ rows) are draft next is front late =
       let inner = chained (body_laid known (counted row line outer) draft row line) (λ mid. rows_laid (λ draft line. body_laid known (counted row line outer) draft row line) mid rows) next is in
-      let mid = rows_sound row differ sounds passed outer (number + 1) rows are.1 inner.value next inner.leads front late in
-      let one = inside_sounds row differ sounds passed (Some number) outer line are.0 draft inner.value inner.is mid.front late in
-      let more = rows_sound row differ sounds passed outer (number + 1) rows are.1 inner.value next inner.leads front one.late_after in
+      let mid = rows_sound name row differ sounds passed outer (number + 1) rows are.1 inner.value next inner.leads front late in
+      let one = inside_sounds row differ sounds passed (row_of name number) outer line are.0 draft inner.value inner.is mid.front late in
+      let more = rows_sound name row differ sounds passed outer (number + 1) rows are.1 inner.value next inner.leads front one.late_after in
       record { late_after = more.late_after; spells = (length inner.value.bits, one.late_after, one.spells, more.spells); front = one.front }
 
   abbrev FieldSounds : PlainField → Type 0
@@ -132,7 +132,7 @@ module _ (known : Facts) (all : List Bool) where
   array_sounds name count row differ sounds passed names value counts (v, (rows, is_rows, stated, are), some) draft next is front late =
       let whole : value ≡ Some (trees.Rows rows) = some ∙ ap (λ (t : Tree). Some t) is_rows in
       let lines : rows_in value ≡ rows = ap rows_in whole ∙ rows_are rows in
-      let it = rows_sound row differ sounds passed names 0 rows are draft next
+      let it = rows_sound name row differ sounds passed names 1 rows are draft next
       (sym (ap (rows_laid (λ draft line. body_laid known (counted row line names) draft row line) draft) lines) ∙ is) front late in
       record {
         late_after = it.late_after;

@@ -67,9 +67,17 @@ is_late met late term sight = false
 abbrev pub sees : Facts → List Bool → Environment → ℕ → Sight
 sees known all names at = names_sight known names
 
--- In a body names have other values than outside only where its fields give them. The body of a row has a number, from 0,
--- which is for names that tell rows apart; so far no name does.
-pub record Within (body : PlainBody) (number : Option ℕ) (outer own : Environment) : Type 0 where
+-- the row of an array: the name of the array, where it has one, and the number of the row, from 1
+pub record RowOf : Type 0 where
+  pub name : Option Word
+  pub number : ℕ
+
+abbrev pub row_of : Option Word → ℕ → Option RowOf
+row_of name number = Some (record { name = name; number = number })
+
+-- In a body names have other values than outside only where its fields give them. Which row of an array it is, if it is one, is
+-- for names that tell rows apart; so far no name does.
+pub record Within (body : PlainBody) (which : Option RowOf) (outer own : Environment) : Type 0 where
   pub give : (key : Key) → declares body key ≡ false → own.give key ≡ outer.give key
 
 -- so many rows are counted by the name of their array
@@ -208,8 +216,8 @@ InOrder Spells passed [] values = AtEnd values
 InOrder Spells passed (piece ∷ pieces) values = Then (Spells passed piece) (InOrder Spells (behind_piece piece passed) pieces) values
 
 -- a body with names of its own: those outside, and those that its fields give
-abbrev pub Inside : PlainBody → Option ℕ → Environment → (Environment → RowSpells) → RowSpells
-Inside body number outer Body at late after late_after = (own : Environment) × Within body number outer own × Body own at late after late_after
+abbrev pub Inside : PlainBody → Option RowOf → Environment → (Environment → RowSpells) → RowSpells
+Inside body which outer Body at late after late_after = (own : Environment) × Within body which outer own × Body own at late after late_after
 
 -- rows one behind the other, of which the first has this number
 abbrev pub RowsSpell : (ℕ → List Tree → RowSpells) → ℕ → List (List Tree) → RowSpells
@@ -246,7 +254,7 @@ module _ (plain : Bool) (known : Facts) (all : List Bool) where
     FieldSpells (Align unit) names passed value = PiecesSpell (Align unit) names passed value
     FieldSpells (Array name count row) names passed value = λ at late after late_after.
         (rows : List (List Tree)) × (value ≡ Some (trees.Rows rows)) × IsStated count (length rows) × IsCounted name (length rows) names
-        × RowsSpell (λ number line. Inside row (Some number) names (λ own. BodySpells row own (at_front row passed) line)) 0 rows at late after late_after
+        × RowsSpell (λ number line. Inside row (row_of name number) names (λ own. BodySpells row own (at_front row passed) line)) 1 rows at late after late_after
     FieldSpells (Switch cases) names passed value = CaseSpells cases names passed value
 
     -- the first case that has the name of the value, with its key, a number among its fields

@@ -10,7 +10,7 @@ use Rattle.rz_types_fields.specs.declared.field.TextForm.{TextForm}
 use Rattle.rz_types_fields.specs.declared.tree.Tree.{Tree}
 use Rattle.rz_types_fields.specs.declared.tree.Tree.TheVariants as trees
 use Rattle.rz_types_fields.specs.Row.{By}
-use Rattle.rz_types_fields.specs.Spells.{is_case, sees, values_for, AreBytes, BodySpells, CaseSpells, FieldSpells, Inside, InOrder, IsNumber, IsStored, IsText, Late, PieceSpells, PiecesSpell, RowsSpell, Spells}
+use Rattle.rz_types_fields.specs.Spells.{is_case, row_of, sees, values_for, AreBytes, BodySpells, CaseSpells, FieldSpells, Inside, InOrder, IsNumber, IsStored, IsText, Late, PieceSpells, PiecesSpell, RowsSpell, Spells}
 use Rattle.rz_types.specs.Field.{case_and, field_and, no_cases, no_fields, Align, Array, Fill, Number, PlainBody, PlainCases, PlainField, PlainText, Points, Switch, Text}
 use Rattle.rz_types.specs.Passed.{at_front, behind, behind_piece, nothing_passed, Passed}
 use Rattle.rz_types.specs.Piece.{pieces_of, Filler, OneNumber, OneText, Piece, Zeros}
@@ -74,12 +74,12 @@ module _ (facts : Facts) (all : List Bool) where
   CasesLoose cases = (env : Environment) (passed : Passed) (value : Option Tree) (at : ℕ) (late : Late) (after : ℕ) (late_after : Late)
       → CaseSpells true facts all cases env passed value at late after late_after → CaseSpells false facts all cases env passed value at late after late_after
 
-  rows_loose : (row : PlainBody) → BodyLoose row → (env : Environment) (passed : Passed) (rows : List (List Tree)) (number at : ℕ) (late : Late) (after : ℕ) (late_after : Late)
-      → RowsSpell (λ number line. Inside row (Some number) env (λ own. BodySpells true facts all row own passed line)) number rows at late after late_after
-      → RowsSpell (λ number line. Inside row (Some number) env (λ own. BodySpells false facts all row own passed line)) number rows at late after late_after
-  rows_loose row one env passed [] number at late after late_after it = it
-  rows_loose row one env passed (line ∷ rows) number at late after late_after it =
-      (it.0, it.1, (it.2.0, it.2.1, one it.2.0 passed line at late it.0 it.1 it.2.2), rows_loose row one env passed rows (number + 1) it.0 it.1 after late_after it.3)
+  rows_loose : (name : Option Word) (row : PlainBody) → BodyLoose row → (env : Environment) (passed : Passed) (rows : List (List Tree)) (number at : ℕ) (late : Late) (after : ℕ) (late_after : Late)
+      → RowsSpell (λ number line. Inside row (row_of name number) env (λ own. BodySpells true facts all row own passed line)) number rows at late after late_after
+      → RowsSpell (λ number line. Inside row (row_of name number) env (λ own. BodySpells false facts all row own passed line)) number rows at late after late_after
+  rows_loose name row one env passed [] number at late after late_after it = it
+  rows_loose name row one env passed (line ∷ rows) number at late after late_after it =
+      (it.0, it.1, (it.2.0, it.2.1, one it.2.0 passed line at late it.0 it.1 it.2.2), rows_loose name row one env passed rows (number + 1) it.0 it.1 after late_after it.3)
 
   case_loose : (name : Word) (row : PlainBody) (others : PlainCases) → BodyLoose row → CasesLoose others → CasesLoose (case_and name row others)
   case_loose name row others one more env passed value at late after late_after = by (is_case name value)
@@ -101,7 +101,7 @@ module _ (facts : Facts) (all : List Bool) where
     field_loose (Fill unit count) env passed value at late after late_after it = pieces_loose (Fill unit count) env passed value at late after late_after it
     field_loose (Align unit) env passed value at late after late_after it = pieces_loose (Align unit) env passed value at late after late_after it
     field_loose (Array name count row) env passed value at late after late_after it =
-        (it.0, it.1, it.2, it.3, rows_loose row (body_loose row) env (at_front row passed) it.0 0 at late after late_after it.4)
+        (it.0, it.1, it.2, it.3, rows_loose name row (body_loose row) env (at_front row passed) it.0 1 at late after late_after it.4)
     field_loose (Switch cases) env passed value at late after late_after it = cases_loose cases env passed value at late after late_after it
 
     cases_loose : (cases : PlainCases) → CasesLoose cases

@@ -9,7 +9,7 @@ use Rattle.rz_bits.specs.Bits.{bits_of, bytes_of, number_bits, number_of}
 use Rattle.rz_bits.specs.BitBuf.{filled, missing, zeros}
 use Rattle.rz_types_fields.specs.declared.tree.Tree.{Tree}
 use Rattle.rz_types_fields.specs.declared.tree.Tree.TheVariants as trees
-use Rattle.rz_types_fields.specs.Spells.{is_case, values_in, BodySpells, CaseSpells, FieldSpells, Inside, Spells}
+use Rattle.rz_types_fields.specs.Spells.{is_case, row_of, values_in, BodySpells, CaseSpells, FieldSpells, Inside, Spells}
 use Rattle.rz_types.specs.Field.{case_and, field_and, no_cases, no_fields, Align, Array, Fill, Number, PlainBody, PlainCases, PlainField, Points, Switch, Text}
 use Rattle.rz_types.specs.Kept.{AreCasesApart, AreKeysApart, AreKeysApartIn}
 use Rattle.rz_types.specs.Readable.{are_cases_read, are_read, is_read, is_readable, least_widths, rows_end}
@@ -66,13 +66,13 @@ module _ (read : (width number : ℕ) → number_of (number_bits width number) �
         let can = both_true (rows_end outermost rest passed name count row) (are_read false (at_front row passed) row) reads in
         let read_rows : rows_by (λ place. line_of (body_found facts all row (names_inside row names) place)) (length all) rest (count_known names name count) at ≡ Some (it.0, after) =
         rows_go (λ place. line_of (body_found facts all row (names_inside row names) place))
-        (λ number line. Inside row (Some number) env (λ own. BodySpells true facts all row own (at_front row passed) line)) (least_widths row) (length all)
+        (λ number line. Inside row (row_of name number) env (λ own. BodySpells true facts all row own (at_front row passed) line)) (least_widths row) (length all)
         (λ number line at late after late_after below inside.
         ap line_of (reaches false false row inside.0 (at_front row passed) (names_inside row names) line at late after late_after test.1 apart can.1
-        (places_inside row (Some number) env inside.0 inside.1 places) (knows_inside row passed names knows)
-        (part_inside facts all row (Some number) names env inside.0 (at_front row passed) line at late after late_after part inside.1 inside.2) inside.2 below (λ is. absurd (not_outer is))).is)
+        (places_inside row (row_of name number) env inside.0 inside.1 places) (knows_inside row passed names knows)
+        (part_inside facts all row (row_of name number) names env inside.0 (at_front row passed) line at late after late_after part inside.1 inside.2) inside.2 below (λ is. absurd (not_outer is))).is)
         (λ number line at late after late_after inside.
-        (body_wide facts all false row inside.0 (at_front row passed) line at late after late_after test.1 (places_inside row (Some number) env inside.0 inside.1 places) inside.2).grows)
+        (body_wide facts all false row inside.0 (at_front row passed) line at late after late_after test.1 (places_inside row (row_of name number) env inside.0 inside.1 places) inside.2).grows)
         outermost all rest row name count it.0 names env passed at late after late_after refl can.0 knows part it.2 it.3 it.4 end within within in
         let claims = count_claims passed env name (length it.0) names knows part it.3 in
         record {

@@ -7,7 +7,7 @@ use Rattle.rz_core.specs.declared.facts.Facts.{Facts}
 use Rattle.rz_core.specs.declared.resource.Word.{Word}
 use Rattle.rz_expr.specs.Environment.{count_key, place_of, predefined, Environment, IsPartOf, Key}
 use Rattle.rz_types_fields.specs.declared.tree.Tree.{Tree}
-use Rattle.rz_types_fields.specs.Spells.{BodySpells, IsCounted, Within}
+use Rattle.rz_types_fields.specs.Spells.{BodySpells, IsCounted, RowOf, Within}
 use Rattle.rz_types_fields.specs.Known.{names_inside, stated_in}
 use Rattle.rz_types_fields.proofs.SameNames.{key_is}
 use Rattle.rz_types.specs.Field.{field_and, no_fields, Align, Array, Fill, Number, PlainBody, Points, Switch, Text}
@@ -86,9 +86,9 @@ module _ (known : Facts) (all : List Bool) where
   stated_holds (field_and (Switch cases) fields) own passed line at late after late_after it key v is =
       stated_holds fields own (behind (Switch cases) passed) it.1 it.2 it.3 after late_after it.6 key v is
 
-  pub part_inside : (body : PlainBody) (number : Option ℕ) (names env own : Environment) (passed : Passed) (line : List Tree) (at : ℕ) (late : List Bool) (after : ℕ) (late_after : List Bool)
-      → IsPartOf names env → Within body number env own → BodySpells true known all body own passed line at late after late_after → IsPartOf (names_inside body names) own
-  part_inside body number names env own passed line at late after late_after part within it = record {
+  pub part_inside : (body : PlainBody) (which : Option RowOf) (names env own : Environment) (passed : Passed) (line : List Tree) (at : ℕ) (late : List Bool) (after : ℕ) (late_after : List Bool)
+      → IsPartOf names env → Within body which env own → BodySpells true known all body own passed line at late after late_after → IsPartOf (names_inside body names) own
+  part_inside body which names env own passed line at late after late_after part within it = record {
     give = λ key v is. by key v (declares body key) refl is;
   }
     where
@@ -101,8 +101,8 @@ module _ (known : Facts) (all : List Bool) where
 abbrev pub HasPlaces : Environment → Type 0
 HasPlaces env = (name : List ℕ) → env.give (place_of name) ≡ predefined name
 
-pub places_inside : (body : PlainBody) (number : Option ℕ) (env own : Environment) → Within body number env own → HasPlaces env → HasPlaces own
-places_inside body number env own within has name = within.give (place_of name) (no_place body name) ∙ has name
+pub places_inside : (body : PlainBody) (which : Option RowOf) (env own : Environment) → Within body which env own → HasPlaces env → HasPlaces own
+places_inside body which env own within has name = within.give (place_of name) (no_place body name) ∙ has name
 
 -- Outside of all fields.
 

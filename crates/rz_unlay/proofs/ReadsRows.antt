@@ -84,16 +84,16 @@ module _ (f : ℕ → Option Line) (Row : ℕ → List Tree → RowSpells) (leas
     (rise : (number : ℕ) (line : List Tree) (at : ℕ) (late : List Bool) (after : ℕ) (late_after : List Bool) → Row number line at late after late_after → at + least ≤ after) where
   pub rows_go : (outermost : Bool) (all : List Bool) (rest row : PlainBody) (name : Option Word) (count : Option ℤ) (rows : List (List Tree)) (names env : Environment) (passed : Passed)
       (at : ℕ) (late : List Bool) (after : ℕ) (late_after : List Bool) → least ≡ least_widths row → rows_end outermost rest passed name count row ≡ true → Knows passed names → IsPartOf names env
-      → IsStated count (length rows) → IsCounted name (length rows) env → RowsSpell Row 0 rows at late after late_after → EndsAt outermost all rest after → after ≤ last → after ≤ length all
+      → IsStated count (length rows) → IsCounted name (length rows) env → RowsSpell Row 1 rows at late after late_after → EndsAt outermost all rest after → after ≤ last → after ≤ length all
       → rows_by f (length all) rest (count_known names name count) at ≡ Some (rows, after)
   rows_go outermost all rest row name (Some count) rows names env passed at late after late_after low ends knows part stated counted it end within below =
-      ap (λ (c : ℤ). rows_by f (length all) rest (Some c) at) stated ∙ rows_again f Row least last one rise 0 rows at late after late_after within it
+      ap (λ (c : ℤ). rows_by f (length all) rest (Some c) at) stated ∙ rows_again f Row least last one rise 1 rows at late after late_after within it
   rows_go outermost all rest row name None rows names env passed at late after late_after low ends knows part stated counted it end within below = by (known_count name names) refl
     where
       by : (o : Option ℤ) → known_count name names ≡ o → rows_by f (length all) rest o at ≡ Some (rows, after)
       by (Some v) is =
           ap (λ (c : ℤ). rows_by f (length all) rest (Some c) at) (known_is name (length rows) names env v part counted is)
-          ∙ rows_again f Row least last one rise 0 rows at late after late_after within it
+          ∙ rows_again f Row least last one rise 1 rows at late after late_after within it
       by None is = at_end (or_other (is_count_known passed name && nat_le 1 (least_widths row)) (ends_at_end outermost rest && nat_le 8 (least_widths row)) ends)
         where
           at_end : ((is_count_known passed name && nat_le 1 (least_widths row)) ≡ true) ⊎ ((ends_at_end outermost rest && nat_le 8 (least_widths row)) ≡ true)
@@ -111,7 +111,7 @@ module _ (f : ℕ → Option Line) (Row : ℕ → List Tree → RowSpells) (leas
               let fits : nat_lt (length all) width.0 ≡ false = not_below (length all) width.0 (omega (arith, a)) in
               ap (λ (o : Option ℕ). up_to_end f (length all) o at) width.1
               ∙ ap (λ (test : Bool). if test then None else rows_while f (length all - width.0) (suc (length all)) at) fits
-              ∙ while_again f Row least last one rise (length all - width.0) (suc (length all)) 0 rows at late after late_after within it
+              ∙ while_again f Row least last one rise (length all - width.0) (suc (length all)) 1 rows at late after late_after within it
               (omega (arith, low, eight)) (omega (arith, a)) (omega (arith, a, b)) (omega (arith, below))
 
 -- Behind the array.

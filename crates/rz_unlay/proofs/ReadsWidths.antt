@@ -20,7 +20,7 @@ use Rattle.rz_types_fields.specs.declared.field.TextForm.{TextForm}
 use Rattle.rz_types_fields.specs.declared.field.TextForm.TheVariants as texts
 use Rattle.rz_types_fields.specs.declared.tree.Tree.{Tree}
 use Rattle.rz_types_fields.specs.Row.{By, IsStated}
-use Rattle.rz_types_fields.specs.Spells.{is_case, put, values_for, BodySpells, CaseSpells, FieldSpells, InOrder, IsNumber, IsSize, PieceSpells, RowSpells, RowsSpell}
+use Rattle.rz_types_fields.specs.Spells.{is_case, put, row_of, values_for, BodySpells, CaseSpells, FieldSpells, InOrder, IsNumber, IsSize, PieceSpells, RowSpells, RowsSpell}
 use Rattle.rz_types.specs.Field.{case_and, field_and, no_cases, no_fields, Align, Array, Fill, Number, PlainBody, PlainCases, PlainField, Points, Switch, Text}
 use Rattle.rz_types.specs.Readable.{least_case, least_of, least_rows, least_text, least_width, least_widths}
 use Rattle.rz_types.specs.Shape.{are_cases_shaped, are_fixed_points, are_shaped, is_none_or, is_own_name, is_shaped, numbers_of}
@@ -248,8 +248,8 @@ module _ (known : Facts) (all : List Bool) where
         let test = both_true (is_none_or is_own_name name) (are_shaped false row) shaped in
         let wide = rows_wide _ (least_widths row) (fixed_widths row)
         (λ number line at late after late_after inside.
-        body_wide false row inside.0 (at_front row passed) line at late after late_after test.1 (places_inside row (Some number) env inside.0 inside.1 has) inside.2)
-        0 it.0 at late after late_after it.4 in
+        body_wide false row inside.0 (at_front row passed) line at late after late_after test.1 (places_inside row (row_of name number) env inside.0 inside.1 has) inside.2)
+        1 it.0 at late after late_after it.4 in
         array_wide count (length it.0) (least_widths row) (fixed_widths row) at after it.2 wide.0 wide.1
     field_wide in_case (Switch cases) env passed value at late after late_after shaped has it =
         let least = cases_wide cases env passed value at late after late_after shaped has it in

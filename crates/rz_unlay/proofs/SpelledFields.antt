@@ -18,7 +18,7 @@ use Rattle.rz_types_fields.specs.Known.{names_inside}
 use Rattle.rz_types_fields.specs.declared.tree.Tree.{Tree}
 use Rattle.rz_types_fields.specs.declared.tree.Tree.TheVariants as trees
 use Rattle.rz_types_fields.specs.Row.{By}
-use Rattle.rz_types_fields.specs.Spells.{choice_of_tree, is_case, most_bits, put, values_in, BodySpells, CaseSpells, FieldSpells, Inside, Late, Spells}
+use Rattle.rz_types_fields.specs.Spells.{choice_of_tree, is_case, most_bits, put, row_of, values_in, BodySpells, CaseSpells, FieldSpells, Inside, Late, RowOf, Spells}
 use Rattle.rz_types.specs.Field.{case_and, field_and, no_cases, no_fields, Align, Array, Fill, Number, PlainBody, PlainCases, PlainField, Points, Switch, Text}
 use Rattle.rz_types.specs.Kept.{AreCasesKept, AreKept, Differ, IsKept, IsKeptWithin}
 use Rattle.rz_types.specs.Readable.{are_cases_read, are_read, is_read, is_readable, rows_end}
@@ -67,14 +67,14 @@ module _ (tells : Tells) (facts : Facts) (all : List Bool) (short : length all �
 
   -- a row within
   line_came : (row : PlainBody) (passed : Passed) → BodyCame (at_front row passed) row → (names env : Environment) → Knows (is_known passed) names → IsPartOf names env
-      → (number : Option ℕ) (at : ℕ) (line : Line) → line_of (body_found facts all row (names_inside row names) at) ≡ Some line → (late : Late)
-      → (late_after : Late) × Inside row number env (λ own. BodySpells true facts all row own (at_front row passed) line.0) at late line.1 late_after
-  line_came row passed came names env knows part number at line is late =
+      → (which : Option RowOf) (at : ℕ) (line : Line) → line_of (body_found facts all row (names_inside row names) at) ≡ Some line → (late : Late)
+      → (late_after : Late) × Inside row which env (λ own. BodySpells true facts all row own (at_front row passed) line.0) at late line.1 late_after
+  line_came row passed came names env knows part which at line is late =
       let it = mapped (λ f. (f.row, f.after)) (body_found facts all row (names_inside row names) at) line is in
       let found : Found = it.0 in
-      subst (λ (l : Line). (late_after : Late) × Inside row number env (λ own. BodySpells true facts all row own (at_front row passed) l.0) at late l.1 late_after) it.2
+      subst (λ (l : Line). (late_after : Late) × Inside row which env (λ own. BodySpells true facts all row own (at_front row passed) l.0) at late l.1 late_after) it.2
       (inside_came facts all row (at_front row passed) names found.names env at found.after found.row
-      (came (names_inside row names) at found (inside_knows row passed names knows) it.1) part number late)
+      (came (names_inside row names) at found (inside_knows row passed names knows) it.1) part which late)
 
   array_came : (rest : PlainBody) (passed : Passed) (name : Option Word) (count : Option ℤ) (row : PlainBody) → BodyCame (at_front row passed) row → FieldCame rest passed (Array name count row)
   array_came rest passed name count row came names at step knows is =
@@ -90,8 +90,8 @@ module _ (tells : Tells) (facts : Facts) (all : List Bool) (short : length all �
           grows = record { kept = claimed.kept; same = λ key none. claimed.same key (neither (gives_count name key) (declares rest key) none).0 };
           spells = λ env part late.
               let come = lines_came (λ place. line_of (body_found facts all row (names_inside row names) place))
-              (λ number line. Inside row (Some number) env (λ own. BodySpells true facts all row own (at_front row passed) line))
-              (λ number place line found. line_came row passed came names env knows (part_of_part names more env claimed.kept part) (Some number) place line found)
+              (λ number line. Inside row (row_of name number) env (λ own. BodySpells true facts all row own (at_front row passed) line))
+              (λ number place line found. line_came row passed came names env knows (part_of_part names more env claimed.kept part) (row_of name number) place line found)
               (length all) rest names name count at lines one.1 in
               let rows = come.1 late in
               (rows.0, (lines.0, refl, come.0, claimed.counted env part, rows.1));

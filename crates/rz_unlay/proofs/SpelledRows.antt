@@ -13,7 +13,7 @@ use Rattle.rz_types_fields.specs.Laid.{with_count}
 use Rattle.rz_unlay.specs.Cursor.{count_known, rows_at, rows_by, rows_while, up_to_end, Line, Lines}
 use Rattle.rz_types_fields.specs.declared.tree.Tree.{Tree}
 use Rattle.rz_types_fields.specs.Row.{IsStated}
-use Rattle.rz_types_fields.specs.Spells.{BodySpells, Inside, IsCounted, Late, RowSpells, RowsSpell, Within}
+use Rattle.rz_types_fields.specs.Spells.{BodySpells, Inside, IsCounted, Late, RowOf, RowSpells, RowsSpell, Within}
 use Rattle.rz_types.specs.Field.{field_and, no_fields, Align, Array, Fill, Number, PlainBody, Points, Switch, Text}
 use Rattle.rz_types.specs.Passed.{at_front, declares, gives_count, is_known, states, states_count, Passed}
 use Rattle.rz_types.specs.Width.{fixed_widths}
@@ -62,18 +62,18 @@ module _ (row : ℕ → Option Line) (Row : ℕ → List Tree → RowSpells)
       subst (λ (ls : Lines). Come Row number at ls) more.2 (first_and number at line first.1 others (while_came stop most (number + 1) line.1 others more.1)))
       is
 
-  end_came : (len : ℕ) (width : Option ℕ) (at : ℕ) (lines : Lines) → up_to_end row len width at ≡ Some lines → Come Row 0 at lines
+  end_came : (len : ℕ) (width : Option ℕ) (at : ℕ) (lines : Lines) → up_to_end row len width at ≡ Some lines → Come Row 1 at lines
   end_came len None at lines is = absurd (none_is lines is)
   end_came len (Some width) at lines is =
-      if_either (nat_lt len width) None (rows_while row (len - width) (suc len) at) lines (λ none. absurd (none_is lines none)) (λ goes. while_came (len - width) (suc len) 0 at lines goes) is
+      if_either (nat_lt len width) None (rows_while row (len - width) (suc len) at) lines (λ none. absurd (none_is lines none)) (λ goes. while_came (len - width) (suc len) 1 at lines goes) is
 
-  by_came : (len : ℕ) (rest : PlainBody) (known : Option ℤ) (at : ℕ) (lines : Lines) → rows_by row len rest known at ≡ Some lines → IsStated known (length lines.0) × Come Row 0 at lines
+  by_came : (len : ℕ) (rest : PlainBody) (known : Option ℤ) (at : ℕ) (lines : Lines) → rows_by row len rest known at ≡ Some lines → IsStated known (length lines.0) × Come Row 1 at lines
   by_came len rest None at lines is = (tt, end_came len (fixed_widths rest) at lines is)
-  by_came len rest (Some (pos count)) at lines is = let it = rows_came count 0 at lines is in (ap (λ (n : ℕ). pos n) it.0, it.1)
+  by_came len rest (Some (pos count)) at lines is = let it = rows_came count 1 at lines is in (ap (λ (n : ℕ). pos n) it.0, it.1)
   by_came len rest (Some (negsuc n)) at lines is = absurd (none_is lines is)
 
   pub lines_came : (len : ℕ) (rest : PlainBody) (names : Environment) (name : Option Word) (count : Option ℤ) (at : ℕ) (lines : Lines)
-      → rows_by row len rest (count_known names name count) at ≡ Some lines → IsStated count (length lines.0) × Come Row 0 at lines
+      → rows_by row len rest (count_known names name count) at ≡ Some lines → IsStated count (length lines.0) × Come Row 1 at lines
   lines_came len rest names name None at lines is = (tt, (by_came len rest (known_count name names) at lines is).1)
   lines_came len rest names name (Some count) at lines is = by_came len rest (Some count) at lines is
 
@@ -222,13 +222,13 @@ module _ (row : PlainBody) (names found env : Environment) (grows : Grows (decla
         ∙ part.give key value (sym (grows.same key none ∙ if_false (declares row key) (stated_in row key) (names.give key) none) ∙ is));
   }
 
-  own_within : (number : Option ℕ) → Within row number env (own_names row found env)
-  own_within number = record { give = λ key none. if_false (declares row key) (found.give key) (env.give key) none }
+  own_within : (which : Option RowOf) → Within row which env (own_names row found env)
+  own_within which = record { give = λ key none. if_false (declares row key) (found.give key) (env.give key) none }
 
 pub inside_came : (facts : Facts) (all : List Bool) (row : PlainBody) (passed : Passed) (names found env : Environment) (at after : ℕ) (line : List Tree)
     → Came (declares row) (names_inside row names) found at after (λ own. BodySpells true facts all row own passed line)
-    → IsPartOf names env → (number : Option ℕ) (late : Late) → (late_after : Late) × Inside row number env (λ own. BodySpells true facts all row own passed line) at late after late_after
-inside_came facts all row passed names found env at after line came part number late =
+    → IsPartOf names env → (which : Option RowOf) (late : Late) → (late_after : Late) × Inside row which env (λ own. BodySpells true facts all row own passed line) at late after late_after
+inside_came facts all row passed names found env at after line came part which late =
     let own = own_names row found env in
     let it = came.spells own (own_part row names found env came.grows part) late in
-    (it.0, (own, own_within row names found env came.grows part number, it.1))
+    (it.0, (own, own_within row names found env came.grows part which, it.1))

@@ -12,7 +12,7 @@ use Rattle.rz_types_fields.specs.declared.field.NumForm.{NumForm}
 use Rattle.rz_types_fields.specs.declared.tree.Tree.{out-Tree, Tree}
 use Rattle.rz_types_fields.specs.declared.tree.Tree.TheVariants as trees
 use Rattle.rz_types_fields.specs.Row.{By, IsChoice, IsFront, IsRow, IsValue}
-use Rattle.rz_types_fields.specs.Spells.{group_in, is_case, numbers_of_group, put, sees, AreBytes, BodySpells, CaseSpells, FieldSpells, Inside, InOrder, IsGrouped, IsNumber, IsStored, IsText, Late, PieceSpells, RowsSpell, RowSpells, Spells}
+use Rattle.rz_types_fields.specs.Spells.{group_in, is_case, numbers_of_group, put, row_of, sees, AreBytes, BodySpells, CaseSpells, FieldSpells, Inside, InOrder, IsGrouped, IsNumber, IsStored, IsText, Late, PieceSpells, RowsSpell, RowSpells, Spells}
 use Rattle.rz_types.specs.Field.{case_and, field_and, no_cases, no_fields, takes_value, Align, Array, Fill, Number, PlainBody, PlainCases, PlainField, PlainPoints, PlainText, Points, Switch, Text}
 use Rattle.rz_types.specs.Shape.{numbers_of}
 use Rattle.rz_types.specs.Passed.{at_front, behind, behind_piece, nothing_passed, Passed}
@@ -109,11 +109,11 @@ module _ (plain : Bool) (facts : Facts) (all : List Bool) where
   CasesAre cases = (env : Environment) (passed : Passed) (value : Option Tree) (at : ℕ) (late : Late) (after : ℕ) (late_after : Late)
       → CaseSpells plain facts all cases env passed value at late after late_after → Takes true (IsChoice cases) value
 
-  rows_are : (row : PlainBody) → BodyIs row → (env : Environment) (passed : Passed) (rows : List (List Tree)) (number at : ℕ) (late : Late) (after : ℕ) (late_after : Late)
-      → RowsSpell (λ number line. Inside row (Some number) env (λ own. BodySpells plain facts all row own passed line)) number rows at late after late_after → AllByRecursion (IsRow row) rows
-  rows_are row one env passed [] number at late after late_after it = tt
-  rows_are row one env passed (line ∷ rows) number at late after late_after it =
-      (one it.2.0 passed line at late it.0 it.1 it.2.2, rows_are row one env passed rows (number + 1) it.0 it.1 after late_after it.3)
+  rows_are : (name : Option Word) (row : PlainBody) → BodyIs row → (env : Environment) (passed : Passed) (rows : List (List Tree)) (number at : ℕ) (late : Late) (after : ℕ) (late_after : Late)
+      → RowsSpell (λ number line. Inside row (row_of name number) env (λ own. BodySpells plain facts all row own passed line)) number rows at late after late_after → AllByRecursion (IsRow row) rows
+  rows_are name row one env passed [] number at late after late_after it = tt
+  rows_are name row one env passed (line ∷ rows) number at late after late_after it =
+      (one it.2.0 passed line at late it.0 it.1 it.2.2, rows_are name row one env passed rows (number + 1) it.0 it.1 after late_after it.3)
 
   case_is : (name : Word) (row : PlainBody) (others : PlainCases) → BodyIs row → CasesAre others → CasesAre (case_and name row others)
   case_is name row others one more env passed value at late after late_after = by (is_case name value)
@@ -136,7 +136,7 @@ module _ (plain : Bool) (facts : Facts) (all : List Bool) where
     field_takes (Fill unit count) env passed value at late after late_after it = (single (Zeros (unit * nat_abs count)) env passed value at late after late_after it.1).1.0
     field_takes (Align unit) env passed value at late after late_after it = (single (Filler unit) env passed value at late after late_after it.1).1.0
     field_takes (Array name count row) env passed value at late after late_after it =
-        (trees.Rows it.0, (it.0, refl, it.2, rows_are row (body_is row) env (at_front row passed) it.0 0 at late after late_after it.4), it.1)
+        (trees.Rows it.0, (it.0, refl, it.2, rows_are name row (body_is row) env (at_front row passed) it.0 1 at late after late_after it.4), it.1)
     field_takes (Switch cases) env passed value at late after late_after it = cases_are cases env passed value at late after late_after it
 
     cases_are : (cases : PlainCases) → CasesAre cases

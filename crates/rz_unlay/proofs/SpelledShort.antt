@@ -8,7 +8,7 @@ use Rattle.rz_bits.specs.BitBuf.{missing}
 use Rattle.rz_types_fields.specs.declared.tree.Tree.{Tree}
 use Rattle.rz_types_fields.specs.declared.tree.Tree.TheVariants as trees
 use Rattle.rz_types_fields.specs.Row.{By}
-use Rattle.rz_types_fields.specs.Spells.{is_case, most_bits, values_for, BodySpells, CaseSpells, FieldSpells, Inside, InOrder, Late, PieceSpells, RowsSpell, Spells}
+use Rattle.rz_types_fields.specs.Spells.{is_case, most_bits, row_of, values_for, BodySpells, CaseSpells, FieldSpells, Inside, InOrder, Late, PieceSpells, RowsSpell, Spells}
 use Rattle.rz_types.specs.Field.{case_and, field_and, no_cases, no_fields, Align, Array, Fill, Number, PlainBody, PlainCases, PlainField, Points, Switch, Text}
 use Rattle.rz_types.specs.Passed.{at_front, behind, behind_piece, nothing_passed, Passed}
 use Rattle.rz_types.specs.Piece.{pieces_of, Piece}
@@ -30,11 +30,11 @@ module _ (plain : Bool) (facts : Facts) (all : List Bool) where
   CasesShort cases = (env : Environment) (passed : Passed) (value : Option Tree) (at : ℕ) (late : Late) (after : ℕ) (late_after : Late) → at ≤ most_bits
       → CaseSpells plain facts all cases env passed value at late after late_after → after ≤ most_bits
 
-  rows_short : (row : PlainBody) → BodyShort row → (env : Environment) (passed : Passed) (rows : List (List Tree)) (number at : ℕ) (late : Late) (after : ℕ) (late_after : Late) → at ≤ most_bits
-      → RowsSpell (λ number line. Inside row (Some number) env (λ own. BodySpells plain facts all row own passed line)) number rows at late after late_after → after ≤ most_bits
-  rows_short row one env passed [] number at late after late_after few it = subst (λ n. n ≤ most_bits) (sym it.0) few
-  rows_short row one env passed (line ∷ rows) number at late after late_after few it =
-      rows_short row one env passed rows (number + 1) it.0 it.1 after late_after (one it.2.0 passed line at late it.0 it.1 few it.2.2) it.3
+  rows_short : (name : Option Word) (row : PlainBody) → BodyShort row → (env : Environment) (passed : Passed) (rows : List (List Tree)) (number at : ℕ) (late : Late) (after : ℕ) (late_after : Late) → at ≤ most_bits
+      → RowsSpell (λ number line. Inside row (row_of name number) env (λ own. BodySpells plain facts all row own passed line)) number rows at late after late_after → after ≤ most_bits
+  rows_short name row one env passed [] number at late after late_after few it = subst (λ n. n ≤ most_bits) (sym it.0) few
+  rows_short name row one env passed (line ∷ rows) number at late after late_after few it =
+      rows_short name row one env passed rows (number + 1) it.0 it.1 after late_after (one it.2.0 passed line at late it.0 it.1 few it.2.2) it.3
 
   case_short : (name : Word) (row : PlainBody) (others : PlainCases) → BodyShort row → CasesShort others → CasesShort (case_and name row others)
   case_short name row others one more env passed value at late after late_after few = by (is_case name value)
@@ -59,7 +59,7 @@ module _ (plain : Bool) (facts : Facts) (all : List Bool) where
     field_short (Align unit) env passed value at late after late_after few it =
         pieces_short (pieces_of (Align unit)) env passed (values_for (Align unit) value) at late after late_after few it.1
     field_short (Array name count row) env passed value at late after late_after few it =
-        rows_short row (body_short row) env (at_front row passed) it.0 0 at late after late_after few it.4
+        rows_short name row (body_short row) env (at_front row passed) it.0 1 at late after late_after few it.4
     field_short (Switch cases) env passed value at late after late_after few it = cases_short cases env passed value at late after late_after few it
 
     cases_short : (cases : PlainCases) → CasesShort cases
