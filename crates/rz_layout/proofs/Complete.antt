@@ -14,7 +14,7 @@ use Rattle.rz_types_fields.specs.Laid.{body_laid, case_laid, counted, field_laid
 use Rattle.rz_types_fields.specs.Row.{By}
 use Rattle.rz_types_fields.specs.Spells.{is_case, row_of, values_for, BodySpells, CaseSpells, FieldSpells, Inside, IsCounted, Late, PiecesSpell, RowOf, RowsSpell, Spells}
 use Rattle.rz_types.specs.Field.{case_and, field_and, no_cases, no_fields, takes_value, Align, Array, Fill, Number, PlainBody, PlainCases, PlainField, Points, Switch, Text}
-use Rattle.rz_types.specs.Passed.{at_front, behind, nothing_passed, outside, Passed}
+use Rattle.rz_types.specs.Passed.{at_field, at_front, behind, nothing_passed, outside, Passed}
 use Rattle.rz_types.specs.Piece.{pieces_of, Filler, OneNumber, OneText, Zeros}
 use Rattle.rz_layout.proofs.Own.{own_same, AreCounted, FieldCounted}
 use Rattle.rz_layout.proofs.Spelling.{first_is, good, group_taken, one_taken, others_are, pieces_goes, then_goes, Fits, Goes}
@@ -64,11 +64,12 @@ module _ (known : Facts) (all : List Bool) where
         → BodySpells false known all body names passed values at late after late_after → AreCounted body values names
     body_counted passed no_fields values at after late late_after it = tt
     body_counted passed (field_and field fields) values at after late late_after (value, rest, mid, late_mid, are, one, others) =
-        let is_taken = field_taken passed field value at mid late late_mid one in (
+        let here = at_field (field_and field fields) passed in
+        let is_taken = field_taken here field value at mid late late_mid one in (
           subst (λ (v : Option Tree). FieldCounted field v names) (sym (ap (first_value (takes_value field)) are ∙ first_is (takes_value field) value rest is_taken))
-              (field_counted passed field value at mid late late_mid one),
+              (field_counted here field value at mid late late_mid one),
           subst (λ (vs : List Tree). AreCounted fields vs names) (sym (ap (other_values (takes_value field)) are ∙ others_are (takes_value field) value rest is_taken))
-              (body_counted (behind field passed) fields rest mid after late_mid late_after others),
+              (body_counted (behind field here) fields rest mid after late_mid late_after others),
         )
 
   -- What a body spells is laid.
@@ -156,10 +157,11 @@ module _ (known : Facts) (all : List Bool) where
     body_goes : (body : PlainBody) → BodyGoes body
     body_goes no_fields passed own values at after late late_after it draft fits = record { next = draft; is = refl; fits = subst (Fits all draft) (sym it.1) fits }
     body_goes (field_and field fields) passed own values at after late late_after (value, rest, mid, late_mid, are, one, others) draft fits =
-        let first = field_goes field passed own value at mid late late_mid one draft fits in
-        then_goes all (takes_value field) value rest values are (field_taken own passed field value at mid late late_mid one) (field_laid known own draft field)
+        let here = at_field (field_and field fields) passed in
+        let first = field_goes field here own value at mid late late_mid one draft fits in
+        then_goes all (takes_value field) value rest values are (field_taken own here field value at mid late late_mid one) (field_laid known own draft field)
         (λ next values. body_laid known own next fields values) mid after first
-        (body_goes fields (behind field passed) own rest mid after late_mid late_after others first.next first.fits)
+        (body_goes fields (behind field here) own rest mid after late_mid late_after others first.next first.fits)
 
 module _ (read : (bytes : List ℕ) → ((k : ℕ) → slice_index bytes k < 256) → bytes_of (bits_of bytes) ≡ bytes) where
   pub complete : (known : Facts) (body : PlainBody) (row : List Tree) (bytes : List ℕ) → Spells false known body row bytes → laid known body row ≡ Ok bytes

@@ -21,7 +21,7 @@ use Rattle.rz_types.specs.Field.{case_and, field_and, no_cases, no_fields, takes
 use Rattle.rz_types.specs.Kept.{AreCasesKept, AreKept, Differ, IsKept, IsKeptWithin}
 use Rattle.rz_types.specs.Rules.{case_names}
 use Rattle.rz_types.specs.Shape.{numbers_of}
-use Rattle.rz_types.specs.Passed.{at_front, behind, nothing_passed, outside, Passed}
+use Rattle.rz_types.specs.Passed.{at_field, at_front, behind, nothing_passed, outside, Passed}
 use Rattle.rz_types.specs.Piece.{fixed_integer, free_integer, integers, pieces_of, Filler, OneNumber, OneText, Piece, Zeros}
 use Rattle.rz_types.specs.Text.{PlainPart}
 use Rattle.rz_types.specs.Walk.{names_of}
@@ -220,10 +220,11 @@ module _ (known : Facts) (all : List Bool) where
         let each = fronted (takes_value field) (IsValue field) values rest one in
         let value = first_value (takes_value field) values in
         let rest_values = other_values (takes_value field) values in
+        let here = at_field (field_and field fields) passed in
         let inner = chained (field_laid known names draft field value) (λ mid. body_laid known names mid fields rest_values) next is in
-        then_sounds all value rest_values values each.whole (FieldSpells false known all field names passed) (BodySpells false known all fields names (behind field passed)) draft inner.value (length next.bits)
-        (λ mid late. field_sounds scope field kept.2 passed names value counts.0 each.one draft inner.value inner.is mid late)
-        (λ late. body_sounds scope fields kept.3 (behind field passed) names rest_values counts.1 (subst (IsRow fields) each.others others) inner.value next inner.leads front late)
+        then_sounds all value rest_values values each.whole (FieldSpells false known all field names here) (BodySpells false known all fields names (behind field here)) draft inner.value (length next.bits)
+        (λ mid late. field_sounds scope field kept.2 here names value counts.0 each.one draft inner.value inner.is mid late)
+        (λ late. body_sounds scope fields kept.3 (behind field here) names rest_values counts.1 (subst (IsRow fields) each.others others) inner.value next inner.leads front late)
         late
 
 module _ (written : (bits : List Bool) → length bits % 8 ≡ 0 → bits_of (bytes_of bits) ≡ bits) (multiple : (unit : ℕ) (bits : List Bool) → 0 < unit → length (filled unit bits) % unit ≡ 0)

@@ -17,7 +17,7 @@ use Rattle.rz_types_fields.specs.Laid.{first_value, line_in, other_values, rows_
 use Rattle.rz_types_fields.specs.Row.{By}
 use Rattle.rz_types_fields.specs.Spells.{is_case, put, row_of, sees, AreBytes, BodySpells, CaseSpells, FieldSpells, Inside, IsGrouped, IsNumber, IsPlainText, IsSize, IsText, Late, RowsSpell, Spells, When}
 use Rattle.rz_types.specs.Field.{case_and, field_and, no_cases, no_fields, takes_value, Align, Array, Fill, Number, PlainBody, PlainCases, PlainField, PlainText, Points, Switch, Text}
-use Rattle.rz_types.specs.Passed.{at_front, behind, nothing_passed, Passed}
+use Rattle.rz_types.specs.Passed.{at_field, at_front, behind, nothing_passed, Passed}
 use Rattle.rz_types.specs.Stored.{is_too_long}
 use Rattle.rz_types.specs.Text.{PlainPart}
 use Rattle.rz_show.specs.Printable.{AreOfBytes, IsCaseOfBytes, IsOfBytes}
@@ -192,11 +192,12 @@ module _ (plain : Bool) where
           → BodySpells plain known all body names passed values at late after late_after → RowFine body values
       body_fine no_fields names passed values at late after late_after spells = record { short = tt; bytes = λ so. tt }
       body_fine (field_and field fields) names passed values at late after late_after (value, rest, mid, late_mid, are, one, others) =
-          let has = has_value field names passed value at late mid late_mid one in
+          let front = at_field (field_and field fields) passed in
+          let has = has_value field names front value at late mid late_mid one in
           let here : first_value (takes_value field) values ≡ value = ap (first_value (takes_value field)) are ∙ put_first (takes_value field) value rest has in
           let left : other_values (takes_value field) values ≡ rest = ap (other_values (takes_value field)) are ∙ put_others (takes_value field) value rest has in
-          let first = field_fine field names passed value at late mid late_mid one in
-          let more = body_fine fields names (behind field passed) rest mid late_mid after late_after others in
+          let first = field_fine field names front value at late mid late_mid one in
+          let more = body_fine fields names (behind field front) rest mid late_mid after late_after others in
           record {
             short = (subst (IsShortText field) (sym here) first.short, subst (AreShortTexts fields) (sym left) more.short);
             bytes = λ so. (subst (IsOfBytes field) (sym here) (first.bytes so), subst (AreOfBytes fields) (sym left) (more.bytes so));

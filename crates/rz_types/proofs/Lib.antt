@@ -4,8 +4,8 @@ pub mod Broken
 pub mod Differing
 pub mod Keeping
 pub mod Unknown
-pub mod SameKnown
 pub mod Noted
+pub mod OneKind
 pub mod LeastWidths
 mod Examples
 pub mod Apart

@@ -8,8 +8,8 @@ use Rattle.rz_expr.specs.Environment.{count_key, place_key, Key}
 use Rattle.rz_expr.specs.Term.{BitsAt, Constant, FactOf, Named, OfOne, OfTwo, RowsOf, Term}
 use Rattle.rz_types_fields.specs.Field.{PlainBody}
 use Rattle.rz_types_fields.specs.Solve.{can_solve, has_key, is_same_key}
-use Rattle.rz_types_fields.specs.Passed.{declares, is_known, Names, Passed}
-use Rattle.rz_types.specs.Notes.{first_unknown, if_unknown}
+use Rattle.rz_types_fields.specs.Passed.{declares, is_known, told_by, Names, Passed}
+use Rattle.rz_types.specs.Notes.{also_told, first_unknown, if_unknown}
 use Rattle.rz_types.specs.Readable.{all_known, is_number_read, tells, tells_one}
 use Rattle.rz_types_fields.proofs.SameNames.{key_is, key_itself}
 
@@ -227,27 +227,33 @@ pub number_known : (rest : PlainBody) (passed : Passed) (term : Term) → first_
 number_known rest passed term is =
     ap (λ (all : Bool). all || tells_one rest (is_known passed) term term) (ap is_none (sym is) ∙ none_unknown (is_known passed) term)
 
--- What is known behind it.
+-- What is told behind it.
 
-or_gone : (a b : Bool) → (a ≡ true → b ≡ true) → b ≡ (a || b)
-or_gone true b to = to refl
-or_gone false b to = refl
+none_new : (has known : Bool) → (has ≡ true → known ≡ true) → (has && not known) ≡ false
+none_new true known to = ap not (to refl)
+none_new false known to = refl
 
 -- nothing more where all names were known
-pub known_still : (known : Names) (term : Term) → first_unknown known term ≡ None → known ≡ (λ key. has_key key term || known key)
-known_still known term is = λ i key.
-    or_gone (has_key key term) (known key) (has_known known term key (sym (none_unknown known term) ∙ ap is_none is)) i
+pub told_still : (passed : Passed) (term : Term) → first_unknown (is_known passed) term ≡ None → passed ≡ told_by (Some term) passed
+told_still passed term is = λ i. record { met = passed.met; told = λ key. none key i || passed.told key; near = passed.near }
+  where
+    none : (key : Key) → false ≡ (has_key key term && not (is_known passed key))
+    none key = sym (none_new (has_key key term) (is_known passed key) (has_known (is_known passed) term key (sym (none_unknown (is_known passed) term) ∙ ap is_none is)))
 
-or_same : (a b known : Bool) → (a ≡ true → (b || known) ≡ true) → (b ≡ true → a ≡ true) → (b || known) ≡ (a || known)
-or_same true b known to from = to refl
-or_same false true known to from = let never = from refl in absurd cc
-or_same false false known to from = refl
+one_new : (same has known : Bool) → (has ≡ true → (same || known) ≡ true) → (same ≡ true → has ≡ true) → (same ≡ true → known ≡ false) → same ≡ (has && not known)
+one_new true has known to from gone = sym (λ i. from refl i && not (gone refl i))
+one_new false true known to from gone = sym (ap not (to refl))
+one_new false false known to from gone = refl
 
--- and else the name that was told
-pub known_then : (rest : PlainBody) (known : Names) (term : Term) (missing : Key) → first_unknown known term ≡ Some missing → tells rest known term missing ≡ true
-    → with_key known missing ≡ (λ key. has_key key term || known key)
-known_then rest known term missing is told =
-    let all = (and_parts (declares rest missing && can_solve missing term) (all_known (with_key known missing) term) told).1 in
-    let there = (is_missing known term missing is).0 in
-    λ i key. or_same (has_key key term) (is_same_key missing key) (known key) (has_known (with_key known missing) term key all)
-    (λ same. ap (λ (k : Key). has_key k term) (sym (key_is missing key same)) ∙ there) i
+-- and else the name that wasn't
+pub told_then : (rest : PlainBody) (passed : Passed) (term : Term) (missing : Key) → first_unknown (is_known passed) term ≡ Some missing
+    → tells rest (is_known passed) term missing ≡ true → also_told missing passed ≡ told_by (Some term) passed
+told_then rest passed term missing is told = λ i. record { met = passed.met; told = λ key. new key i || passed.told key; near = passed.near }
+  where
+    all : all_known (with_key (is_known passed) missing) term ≡ true
+    all = (and_parts (declares rest missing && can_solve missing term) (all_known (with_key (is_known passed) missing) term) told).1
+
+    new : (key : Key) → is_same_key missing key ≡ (has_key key term && not (is_known passed key))
+    new key = one_new (is_same_key missing key) (has_key key term) (is_known passed key) (has_known (with_key (is_known passed) missing) term key all)
+        (λ same. ap (λ (k : Key). has_key k term) (sym (key_is missing key same)) ∙ (is_missing (is_known passed) term missing is).0)
+        (λ same. ap (is_known passed) (sym (key_is missing key same)) ∙ (is_missing (is_known passed) term missing is).1)

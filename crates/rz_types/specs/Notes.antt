@@ -1,33 +1,47 @@
 -- What the notes of a walk over a declaration tell: which names are known. (MPW Rez.)
-use Rattle.std.specs.Prelude.{false, ◌||◌, if◌then◌else◌, List, [], ◌∷◌, Option, Some, None}
+use Rattle.std.specs.Prelude.{Bool, ◌||◌, if◌then◌else◌, List, [], ◌∷◌, Option, Some, None}
 use Rattle.rz_core.specs.Lists.{or_else}
+use Rattle.rz_core.specs.declared.resource.Word.{Word}
 use Rattle.rz_expr.specs.Environment.{count_key, place_key, Key}
 use Rattle.rz_expr.specs.Term.{BitsAt, Constant, FactOf, Named, OfOne, OfTwo, RowsOf, Term}
 use Rattle.rz_types_fields.specs.Field.{plain_body}
 use Rattle.rz_types_fields.specs.Solve.{is_same_key}
-use Rattle.rz_types_fields.specs.Passed.{counts_rows, declares, is_known, nothing_passed, states, Names, Passed}
+use Rattle.rz_types_fields.specs.Passed.{at_front, between, counts_rows, declares, gives_count, is_known, nothing_passed, states, Names, Passed}
 use Rattle.rz_types_fields.specs.NameKey.{key_of}
 use Rattle.rz_types.specs.declared.passed.Note.{Note}
 use Rattle.rz_types.specs.declared.passed.Note.TheVariants.{Array, Front, Told}
 
--- what is known behind a note: the number of rows of an array of this name, or this name; at the front of a body a name that it
--- declares is known where its count is stated, whatever was known outside
-abbrev pub noted : Note → Names → Names
-noted (Array name) known key = counts_rows name.now.bytes key || known key
-noted (Told one) known key = is_same_key (key_of one) key || known key
-noted (Front row) known key = if declares (plain_body row.now) key then states (plain_body row.now) key else known key
+-- with this name told too
+abbrev pub also_told : Key → Passed → Passed
+also_told key passed = record { met = passed.met; told = λ other. is_same_key key other || passed.told other; near = passed.near }
 
-abbrev pub noted_all : List Note → Names → Names
-noted_all [] known = known
-noted_all (note ∷ notes) known = noted_all notes (noted note known)
+-- with the number of rows of an array of this name met too
+abbrev pub also_met : Option Word → Passed → Passed
+also_met name passed = record { met = λ key. gives_count name key || passed.met key; told = passed.told; near = passed.near }
 
--- what is known behind these notes, the oldest first
-abbrev pub known : List Note → Names
-known notes = noted_all notes (is_known nothing_passed)
+-- what is passed behind a note: an array of this name, a name that was told, or the front of a body
+abbrev pub noted : Note → Passed → Passed
+noted (Array name) passed = also_met (Some name.now) passed
+noted (Told one) passed = also_told (key_of one) passed
+noted (Front row) passed = at_front (plain_body row.now) passed
 
--- what the fields before one tell, where it is as much as the notes do
+abbrev pub noted_all : List Note → Passed → Passed
+noted_all [] passed = passed
+noted_all (note ∷ notes) passed = noted_all notes (noted note passed)
+
+-- what is passed behind these notes, the oldest first
 abbrev pub passed : List Note → Passed
-passed notes = record { met = λ key. false; told = known notes }
+passed notes = between (noted_all notes nothing_passed)
+
+-- which names are known there
+abbrev pub known : List Note → Names
+known notes = is_known (passed notes)
+
+-- whether a name is known behind a note, where it was before it or wasn't
+abbrev pub noting : Note → Key → Bool → Bool
+noting (Array name) key before = counts_rows name.now.bytes key || before
+noting (Told one) key before = is_same_key (key_of one) key || before
+noting (Front row) key before = if declares (plain_body row.now) key then states (plain_body row.now) key else before
 
 -- the name, where it isn't known
 abbrev pub if_unknown : Names → Key → Option Key

@@ -9,7 +9,7 @@ use Rattle.rz_expr.specs.Term.{BitsAt, Constant, FactOf, Named, OfOne, OfTwo, Ro
 use Rattle.rz_types_fields.specs.Field.{case_and, field_and, no_cases, no_fields, Align, Array, Fill, Number, PlainBody, PlainCases, PlainField, PlainText, Points, Switch, Text}
 use Rattle.rz_types_fields.specs.Shape.{numbers_of}
 use Rattle.rz_types_fields.specs.Solve.{can_solve, is_same_key}
-use Rattle.rz_types_fields.specs.Passed.{at_front, behind, behind_piece, declares, is_known, nothing_passed, Names, Passed}
+use Rattle.rz_types_fields.specs.Passed.{at_field, at_front, behind, behind_piece, declares, is_known, nothing_passed, Names, Passed}
 use Rattle.rz_types_fields.specs.Piece.{pieces_of, terms_of_text, Filler, OneNumber, OneText, Piece, Zeros}
 use Rattle.rz_types_fields.specs.Width.{fixed_widths, text_width}
 use Rattle.rz_types_fields.specs.declared.field.TextForm.{TextForm}
@@ -140,7 +140,8 @@ abbrev mutual
   -- so can all fields of a body
   pub are_read : (outermost : Bool) → Passed → PlainBody → Bool
   are_read outermost passed no_fields = true
-  are_read outermost passed (field_and field fields) = is_read outermost fields passed field && are_read outermost (behind field passed) fields
+  are_read outermost passed (field_and field fields) =
+      is_read outermost fields (at_field (field_and field fields) passed) field && are_read outermost (behind field (at_field (field_and field fields) passed)) fields
 
 -- all fields of a declaration can be read
 abbrev pub is_readable : PlainBody → Bool

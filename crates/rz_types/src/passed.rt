@@ -7,7 +7,7 @@ ghost use Rattle.rz_expr.specs.Term.{term_of};
 ghost use Rattle.rz_types_fields.specs.Field.{plain_text};
 ghost use Rattle.rz_types_fields.specs.Piece.{terms_of_text};
 ghost use Rattle.rz_types_fields.specs.NameKey.{key_of};
-ghost use Rattle.rz_types.specs.Notes.{first_unknown, if_unknown, known, noted};
+ghost use Rattle.rz_types.specs.Notes.{first_unknown, if_unknown, known, noting};
 ghost use Rattle.rz_types.specs.Readable.{all_known};
 
 use rz_core::{NoMemory, Word};
@@ -44,7 +44,7 @@ pub fn is_known(notes: &[Note<'_>], key: KeyRef<'_>) -> bool
 
 /// Whether a name is known, where a note says it.
 fn says(note: &Note<'_>, key: KeyRef<'_>) -> Option<bool>
-    ensures { (before : Bool) → noted note.now (λ key. before) (key_of key.entry) ≡ unwrap_or result before }
+    ensures { (before : Bool) → noting note.now (key_of key.entry) before ≡ unwrap_or result before }
 {
     match *note {
         Note::Array(name) => if_so(counts_rows(name, key)),

@@ -4,10 +4,10 @@ ghost use Rattle.std.specs.Prelude.{◌≡◌, ◌≤◌, ◌||◌, IfOk, OnOk, 
 ghost use Rattle.rz_expr.specs.Term.{term_of};
 ghost use Rattle.rz_types_fields.specs.Field.{plain_array, plain_body, plain_cases, plain_field, plain_points, plain_text, Points};
 ghost use Rattle.rz_types_fields.specs.Solve.{is_same_key};
-ghost use Rattle.rz_types_fields.specs.Passed.{at_front, behind, behind_pieces, gives_count, is_known, told_by};
+ghost use Rattle.rz_types_fields.specs.Passed.{at_front, behind, behind_pieces, between, told_by};
 ghost use Rattle.rz_types_fields.specs.Piece.{fixed_integer};
 ghost use Rattle.rz_types_fields.specs.NameKey.{key_of};
-ghost use Rattle.rz_types.specs.Notes.{known, passed};
+ghost use Rattle.rz_types.specs.Notes.{also_met, also_told, known, passed};
 ghost use Rattle.rz_types_fields.specs.Known.{Grew};
 ghost use Rattle.rz_types.specs.Readable.{are_cases_read, are_pieces_read, are_read, ends_at_end, is_count_known, is_number_read, is_read, is_readable, is_text_read, rows_end, tells, text_ends};
 ghost use Rattle.rz_types.specs.Template.{template_of};
@@ -98,7 +98,7 @@ fn is_read<'a>(
     notes: &mut Vec<Note<'a>>,
 ) -> Result<bool, NoMemory>
     ensures read { IfOk result (λ read. read ≡ is_read outermost (plain_body rest.now) (passed notes.old.items) (plain_field field.now)) }
-    ensures known { IfOk result (λ read. read ≡ true → known notes.new.items ≡ is_known (behind (plain_field field.now) (passed notes.old.items))) }
+    ensures passed { IfOk result (λ read. read ≡ true → passed notes.new.items ≡ behind (plain_field field.now) (passed notes.old.items)) }
     ensures grew { OnOk result (Grew notes.old.items notes.new.items) }
 {
     match field {
@@ -123,7 +123,7 @@ fn is_array_read<'a>(
     notes: &mut Vec<Note<'a>>,
 ) -> Result<bool, NoMemory>
     ensures read { IfOk result (λ read. read ≡ is_read outermost (plain_body rest.now) (passed notes.old.items) (plain_array array.now)) }
-    ensures known { IfOk result (λ read. read ≡ true → known notes.new.items ≡ is_known (behind (plain_array array.now) (passed notes.old.items))) }
+    ensures passed { IfOk result (λ read. read ≡ true → passed notes.new.items ≡ behind (plain_array array.now) (passed notes.old.items)) }
     ensures grew { OnOk result (Grew notes.old.items notes.new.items) }
 {
     let row = array.row.as_slice();
@@ -160,7 +160,7 @@ fn are_cases_read<'a>(cases: &'a [Case], notes: &mut Vec<Note<'a>>) -> Result<bo
 
 /// Notes that an array of this name stands before.
 fn push_name<'a>(name: &'a Option<Word>, notes: &mut Vec<Note<'a>>) -> Result<(), NoMemory>
-    ensures known { OnOk result (known notes.new.items ≡ (λ key. gives_count name.now key || known notes.old.items key)) }
+    ensures passed { OnOk result (passed notes.new.items ≡ also_met name.now (passed notes.old.items)) }
     ensures grew { OnOk result (Grew notes.old.items notes.new.items) }
 {
     if let Some(name) = name {
@@ -240,7 +240,7 @@ fn is_value_read<'a>(
     notes: &mut Vec<Note<'a>>,
 ) -> Result<bool, NoMemory>
     ensures read { IfOk result (λ read. read ≡ is_number_read (plain_body rest.now) (passed notes.old.items) (option_map term_of value.now)) }
-    ensures known { IfOk result (λ read. read ≡ true → known notes.new.items ≡ is_known (told_by (option_map term_of value.now) (passed notes.old.items))) }
+    ensures passed { IfOk result (λ read. read ≡ true → passed notes.new.items ≡ between (told_by (option_map term_of value.now) (passed notes.old.items))) }
     ensures grew { OnOk result (Grew notes.old.items notes.new.items) }
 {
     match value {
@@ -256,7 +256,7 @@ fn is_expression_read<'a>(
     notes: &mut Vec<Note<'a>>,
 ) -> Result<bool, NoMemory>
     ensures read { IfOk result (λ read. read ≡ is_number_read (plain_body rest.now) (passed notes.old.items) (Some (term_of expr.now))) }
-    ensures known { IfOk result (λ read. read ≡ true → known notes.new.items ≡ is_known (told_by (Some (term_of expr.now)) (passed notes.old.items))) }
+    ensures passed { IfOk result (λ read. read ≡ true → passed notes.new.items ≡ told_by (Some (term_of expr.now)) (passed notes.old.items)) }
     ensures grew { OnOk result (Grew notes.old.items notes.new.items) }
 {
     match first_unknown(notes.as_slice(), expr) {
@@ -276,7 +276,7 @@ fn is_told<'a>(
     notes: &mut Vec<Note<'a>>,
 ) -> Result<bool, NoMemory>
     ensures told { IfOk result (λ told. told ≡ tells (plain_body rest.now) (known notes.old.items) (term_of expr.now) (key_of key.entry)) }
-    ensures known { OnOk result (known notes.new.items ≡ (λ other. is_same_key (key_of key.entry) other || known notes.old.items other)) }
+    ensures passed { OnOk result (passed notes.new.items ≡ also_told (key_of key.entry) (passed notes.old.items)) }
     ensures grew { OnOk result (Grew notes.old.items notes.new.items) }
 {
     push_told(key, notes)?;
@@ -291,6 +291,7 @@ fn is_told<'a>(
 
 /// Notes that a number tells this name.
 fn push_told<'a>(key: KeyRef<'a>, notes: &mut Vec<Note<'a>>) -> Result<(), NoMemory>
+    ensures passed { OnOk result (passed notes.new.items ≡ also_told (key_of key.entry) (passed notes.old.items)) }
     ensures known { OnOk result (known notes.new.items ≡ (λ other. is_same_key (key_of key.entry) other || known notes.old.items other)) }
     ensures grew { OnOk result (Grew notes.old.items notes.new.items) }
 {
@@ -305,7 +306,7 @@ fn are_points_read<'a>(
     notes: &mut Vec<Note<'a>>,
 ) -> Result<bool, NoMemory>
     ensures read { IfOk result (λ read. (outermost : Bool) → read ≡ is_read outermost (plain_body rest.now) (passed notes.old.items) (Points (plain_points points.now))) }
-    ensures known { IfOk result (λ read. read ≡ true → known notes.new.items ≡ is_known (behind (Points (plain_points points.now)) (passed notes.old.items))) }
+    ensures passed { IfOk result (λ read. read ≡ true → passed notes.new.items ≡ behind (Points (plain_points points.now)) (passed notes.old.items)) }
     ensures grew { OnOk result (Grew notes.old.items notes.new.items) }
 {
     match &points.fixed {
@@ -324,7 +325,7 @@ fn are_values_read<'a>(
     notes: &mut Vec<Note<'a>>,
 ) -> Result<bool, NoMemory>
     ensures read { IfOk result (λ read. (outermost : Bool) → read ≡ are_pieces_read outermost (plain_body rest.now) (passed notes.old.items) (map fixed_integer (map term_of values.now))) }
-    ensures known { IfOk result (λ read. read ≡ true → known notes.new.items ≡ is_known (behind_pieces (map fixed_integer (map term_of values.now)) (passed notes.old.items))) }
+    ensures passed { IfOk result (λ read. read ≡ true → passed notes.new.items ≡ between (behind_pieces (map fixed_integer (map term_of values.now)) (passed notes.old.items))) }
     ensures grew { OnOk result (Grew notes.old.items notes.new.items) }
 {
     for expr in values.as_slice() {

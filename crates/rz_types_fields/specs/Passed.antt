@@ -1,13 +1,14 @@
 -- The names that fields give values, and what the fields before one tell of them. (MPW Rez.)
-use Rattle.std.specs.Prelude.{ℕ, ℤ, Bool, false, ◌&&◌, ◌||◌, not, if◌then◌else◌, List, [], ◌∷◌, Option, Some, None}
+use Rattle.std.specs.Prelude.{ℕ, ℤ, Bool, true, false, ◌&&◌, ◌||◌, not, if◌then◌else◌, List, [], ◌∷◌, Option, Some, None}
 use Rattle.std.specs.Option.{is_some}
 use Rattle.rz_core.specs.declared.resource.Word.{Word}
 use Rattle.rz_expr.specs.Environment.{count_key, Environment, Key}
 use Rattle.rz_expr.specs.Term.{Term}
-use Rattle.rz_types_fields.specs.Field.{field_and, no_fields, Array, PlainBody, PlainField}
+use Rattle.rz_types_fields.specs.Field.{field_and, no_fields, Align, Array, PlainBody, PlainField}
 use Rattle.rz_types_fields.specs.Piece.{pieces_of, OneNumber, Piece}
 use Rattle.rz_types_fields.specs.Solve.{has_key, is_same_key}
 use Rattle.rz_types_fields.specs.Value.{symbol_key}
+use Rattle.rz_types_fields.specs.Width.{fixed_width}
 
 abbrev pub Names : Type 0
 Names = Key → Bool
@@ -36,17 +37,28 @@ declares no_fields key = false
 declares (field_and field fields) key = gives_key field key || declares fields key
 
 -- What the fields before one tell of names: which stand before it, labels and arrays by the numbers of their rows, and which
--- are told, by a stated count or by a number before it.
+-- are told, by a stated count or by a number before it. At a field those are near, too, that stand behind it at a known
+-- distance.
 pub record Passed : Type 0 where
   pub met : Names
   pub told : Names
+  pub near : Names
 
+-- known behind this field too, and in the bodies within
+abbrev pub is_held : Passed → Names
+is_held passed key = passed.met key || passed.told key
+
+-- known at this field
 abbrev pub is_known : Passed → Names
-is_known passed key = passed.met key || passed.told key
+is_known passed key = passed.near key || is_held passed key
 
 -- outside of all fields `true` and `false` are known
 abbrev pub nothing_passed : Passed
-nothing_passed = record { met = λ key. is_some (outside.give key); told = λ key. false }
+nothing_passed = record { met = λ key. is_some (outside.give key); told = λ key. false; near = λ key. false }
+
+-- between two fields nothing is near
+abbrev pub between : Passed → Passed
+between passed = record { met = passed.met; told = passed.told; near = λ key. false }
 
 -- an array with a stated count tells its key
 abbrev pub states_count : Option Word → Option ℤ → Names
@@ -66,12 +78,35 @@ abbrev pub at_front : PlainBody → Passed → Passed
 at_front body passed = record {
   met = λ key. not (declares body key) && passed.met key;
   told = λ key. if declares body key then states body key else passed.told key;
+  near = λ key. false;
 }
 
--- behind a number its expression's names are told
+-- the field is a label of this name; so far no field is one
+abbrev pub is_label : PlainField → Key → Bool
+is_label field key = false
+
+-- what stands behind the field is at a known distance
+abbrev pub is_measured : PlainField → Bool
+is_measured (Align unit) = true
+is_measured field = is_some (fixed_width field)
+
+-- a label of this name stands in these fields at a known distance
+abbrev pub is_near : PlainBody → Names
+is_near no_fields key = false
+is_near (field_and field fields) key = is_label field key || (is_measured field && is_near fields key)
+
+-- at the first of these fields
+abbrev pub at_field : PlainBody → Passed → Passed
+at_field body passed = record { met = passed.met; told = passed.told; near = is_near body }
+
+-- behind a number those of its expression's names are told that weren't known before it
 abbrev pub told_by : Option Term → Passed → Passed
 told_by None passed = passed
-told_by (Some term) passed = record { met = passed.met; told = λ key. has_key key term || passed.told key }
+told_by (Some term) passed = record {
+  met = passed.met;
+  told = λ key. (has_key key term && not (is_known passed key)) || passed.told key;
+  near = passed.near;
+}
 
 abbrev pub behind_piece : Piece → Passed → Passed
 behind_piece (OneNumber number) passed = told_by number.fixed passed
@@ -83,4 +118,5 @@ behind_pieces (piece ∷ pieces) passed = behind_pieces pieces (behind_piece pie
 
 -- behind a field: an array is met, and what its numbers tell
 abbrev pub behind : PlainField → Passed → Passed
-behind field passed = behind_pieces (pieces_of field) (record { met = λ key. gives_key field key || passed.met key; told = passed.told })
+behind field passed =
+    between (behind_pieces (pieces_of field) (record { met = λ key. gives_key field key || passed.met key; told = passed.told; near = passed.near }))

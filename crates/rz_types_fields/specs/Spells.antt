@@ -13,7 +13,7 @@ use Rattle.rz_expr.specs.Value.{value_of}
 use Rattle.rz_bits.specs.Bits.{bits_of, number_bits}
 use Rattle.rz_bits.specs.BitBuf.{filled, missing, zeros}
 use Rattle.rz_types_fields.specs.Field.{case_and, field_and, no_cases, no_fields, Align, Array, Fill, Number, PlainBody, PlainCases, PlainField, PlainText, Points, Switch, Text}
-use Rattle.rz_types_fields.specs.Passed.{at_front, behind, behind_piece, declares, is_known, nothing_passed, outside, Names, Passed}
+use Rattle.rz_types_fields.specs.Passed.{at_field, at_front, behind, behind_piece, declares, is_known, nothing_passed, outside, Names, Passed}
 use Rattle.rz_types_fields.specs.Piece.{pieces_of, terms_of_text, Filler, OneNumber, OneText, Piece, Zeros}
 use Rattle.rz_types_fields.specs.Range.{fits_number, may_be_size}
 use Rattle.rz_types_fields.specs.Solve.{SolvesBack}
@@ -269,7 +269,8 @@ module _ (plain : Bool) (known : Facts) (all : List Bool) where
     -- the fields of a body one behind the other, each with its value or none
     pub BodySpells : PlainBody → Environment → Passed → List Tree → RowSpells
     BodySpells no_fields names passed values = AtEnd values
-    BodySpells (field_and field fields) names passed values = Then (FieldSpells field names passed) (BodySpells fields names (behind field passed)) values
+    BodySpells (field_and field fields) names passed values =
+        Then (FieldSpells field names (at_field (field_and field fields) passed)) (BodySpells fields names (behind field (at_field (field_and field fields) passed))) values
 
 -- how many values a row has: texts, numbers, those of points each, and rows of arrays
 abbrev pub count_in_rows : List (List ℕ) → ℕ

@@ -12,7 +12,7 @@ use Rattle.rz_types_fields.specs.declared.tree.Tree.TheVariants as trees
 use Rattle.rz_types_fields.specs.Row.{By}
 use Rattle.rz_types_fields.specs.Spells.{is_case, row_of, sees, values_for, AreBytes, BodySpells, CaseSpells, FieldSpells, Inside, InOrder, IsNumber, IsStored, IsText, Late, PieceSpells, PiecesSpell, RowsSpell, Spells}
 use Rattle.rz_types.specs.Field.{case_and, field_and, no_cases, no_fields, Align, Array, Fill, Number, PlainBody, PlainCases, PlainField, PlainText, Points, Switch, Text}
-use Rattle.rz_types.specs.Passed.{at_front, behind, behind_piece, nothing_passed, Passed}
+use Rattle.rz_types.specs.Passed.{at_field, at_front, behind, behind_piece, nothing_passed, Passed}
 use Rattle.rz_types.specs.Piece.{pieces_of, Filler, OneNumber, OneText, Piece, Zeros}
 use Rattle.rz_types.specs.Text.{PlainPart}
 
@@ -112,7 +112,8 @@ module _ (facts : Facts) (all : List Bool) where
     body_loose : (body : PlainBody) → BodyLoose body
     body_loose no_fields env passed values at late after late_after it = it
     body_loose (field_and field fields) env passed values at late after late_after it =
-        (it.0, it.1, it.2, it.3, it.4, field_loose field env passed it.0 at late it.2 it.3 it.5, body_loose fields env (behind field passed) it.1 it.2 it.3 after late_after it.6)
+        let here = at_field (field_and field fields) passed in
+        (it.0, it.1, it.2, it.3, it.4, field_loose field env here it.0 at late it.2 it.3 it.5, body_loose fields env (behind field here) it.1 it.2 it.3 after late_after it.6)
 
 pub plain_is_spelled : (facts : Facts) (body : PlainBody) (row : List Tree) (bytes : List ℕ) → Spells true facts body row bytes → Spells false facts body row bytes
 plain_is_spelled facts body row bytes it = record {

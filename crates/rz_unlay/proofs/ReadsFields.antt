@@ -14,10 +14,11 @@ use Rattle.rz_types.specs.Field.{case_and, field_and, no_cases, no_fields, Align
 use Rattle.rz_types.specs.Kept.{AreCasesApart, AreKeysApart, AreKeysApartIn}
 use Rattle.rz_types.specs.Readable.{are_cases_read, are_read, is_read, is_readable, least_widths, rows_end}
 use Rattle.rz_types.specs.Shape.{are_cases_shaped, are_shaped, is_none_or, is_own_name, is_shaped, is_well_shaped}
-use Rattle.rz_types.specs.Passed.{at_front, behind, nothing_passed, outside, Passed}
+use Rattle.rz_types.specs.Passed.{at_field, at_front, behind, nothing_passed, outside, Passed}
 use Rattle.rz_unlay.specs.Cursor.{body_found, case_found, count_known, ended, field_found, line_of, reading, rows_by}
 use Rattle.rz_unlay_pieces.specs.Pieces.{claim_count, with_value, Found, Step}
 use Rattle.rz_types_fields.specs.Known.{names_inside}
+use Rattle.rz_types_fields.proofs.Near.{none_near, NoneNear}
 use Rattle.rz_unlay.proofs.ReadsBits.{length_zeros, number_zeros}
 use Rattle.rz_unlay.proofs.ReadsPieces.{align_field, fill_field, number_field, points_field, text_field}
 use Rattle.rz_unlay.proofs.ReadsKeys.{case_keys_there, keys_absent, keys_found}
@@ -48,20 +49,20 @@ module _ (read : (width number : ℕ) → number_of (number_bits width number) �
 
   mutual
     step_goes : (outermost in_case : Bool) (field : PlainField) (rest : PlainBody) (env : Environment) (passed : Passed) (names : Environment) (value : Option Tree)
-        (at : ℕ) (late : List Bool) (after : ℕ) (late_after : List Bool) → is_shaped in_case field ≡ true → AreKeysApartIn field → is_read outermost rest passed field ≡ true → HasPlaces env → Knows passed names
+        (at : ℕ) (late : List Bool) (after : ℕ) (late_after : List Bool) → is_shaped in_case field ≡ true → AreKeysApartIn field → is_read outermost rest passed field ≡ true → HasPlaces env → NoneNear passed → Knows passed names
         → IsPartOf names env → FieldSpells true facts all field env passed value at late after late_after → after ≤ length all → EndsAt outermost all rest after
         → Steps (behind field passed) env value after (field_found facts all rest field names at)
-    step_goes outermost in_case (Number number) rest env passed names value at late after late_after shaped apart reads places knows part it within end =
-        number_field read written again back facts all env outermost rest passed names knows part value at late after late_after within number reads it
-    step_goes outermost in_case (Text text) rest env passed names value at late after late_after shaped apart reads places knows part it within end =
-        text_field read written again back facts all env outermost rest passed names knows part value at late after late_after within text reads end it
-    step_goes outermost in_case (Points points) rest env passed names value at late after late_after shaped apart reads places knows part it within end =
-        points_field read written again back facts all env outermost rest passed names knows part value at late after late_after within points reads it
-    step_goes outermost in_case (Fill unit count) rest env passed names value at late after late_after shaped apart reads places knows part it within end =
-        fill_field read written again back facts all env outermost rest passed names knows part value at late after late_after within unit count it
-    step_goes outermost in_case (Align unit) rest env passed names value at late after late_after shaped apart reads places knows part it within end =
-        align_field read written again back facts all env outermost rest passed names knows part value at late after late_after within unit it
-    step_goes outermost in_case (Array name count row) rest env passed names value at late after late_after shaped apart reads places knows part it within end =
+    step_goes outermost in_case (Number number) rest env passed names value at late after late_after shaped apart reads places none knows part it within end =
+        number_field read written again back facts all env outermost rest passed names none knows part value at late after late_after within number reads it
+    step_goes outermost in_case (Text text) rest env passed names value at late after late_after shaped apart reads places none knows part it within end =
+        text_field read written again back facts all env outermost rest passed names none knows part value at late after late_after within text reads end it
+    step_goes outermost in_case (Points points) rest env passed names value at late after late_after shaped apart reads places none knows part it within end =
+        points_field read written again back facts all env outermost rest passed names none knows part value at late after late_after within points reads it
+    step_goes outermost in_case (Fill unit count) rest env passed names value at late after late_after shaped apart reads places none knows part it within end =
+        fill_field read written again back facts all env outermost rest passed names none knows part value at late after late_after within unit count it
+    step_goes outermost in_case (Align unit) rest env passed names value at late after late_after shaped apart reads places none knows part it within end =
+        align_field read written again back facts all env outermost rest passed names none knows part value at late after late_after within unit it
+    step_goes outermost in_case (Array name count row) rest env passed names value at late after late_after shaped apart reads places none knows part it within end =
         let test = both_true (is_none_or is_own_name name) (are_shaped false row) shaped in
         let can = both_true (rows_end outermost rest passed name count row) (are_read false (at_front row passed) row) reads in
         let read_rows : rows_by (λ place. line_of (body_found facts all row (names_inside row names) place)) (length all) rest (count_known names name count) at ≡ Some (it.0, after) =
@@ -73,7 +74,7 @@ module _ (read : (width number : ℕ) → number_of (number_bits width number) �
         (part_inside facts all row (row_of name number) names env inside.0 (at_front row passed) line at late after late_after part inside.1 inside.2) inside.2 below (λ is. absurd (not_outer is))).is)
         (λ number line at late after late_after inside.
         (body_wide facts all false row inside.0 (at_front row passed) line at late after late_after test.1 (places_inside row (row_of name number) env inside.0 inside.1 places) inside.2).grows)
-        outermost all rest row name count it.0 names env passed at late after late_after refl can.0 knows part it.2 it.3 it.4 end within within in
+        outermost all rest row name count it.0 names env passed at late after late_after refl can.0 none knows part it.2 it.3 it.4 end within within in
         let claims = count_claims passed env name (length it.0) names knows part it.3 in
         record {
           names = claims.more;
@@ -83,7 +84,7 @@ module _ (read : (width number : ℕ) → number_of (number_bits width number) �
           knows = claims.knows;
           part = claims.part;
         }
-    step_goes outermost in_case (Switch cases) rest env passed names value at late after late_after shaped apart reads places knows part it within end = record {
+    step_goes outermost in_case (Switch cases) rest env passed names value at late after late_after shaped apart reads places none knows part it within end = record {
       names = names;
       is = cases_go cases env passed names value at late after late_after shaped apart reads places knows part it within;
       knows = knows;
@@ -123,12 +124,13 @@ module _ (read : (width number : ℕ) → number_of (number_bits width number) �
         record { more = names; is = λ i. Some (record { row = sym it.0 i; after = sym it.1 i; names = names }) }
     reaches outermost in_case (field_and field fields) env passed names line at late after late_after shaped apart reads places knows part it within over =
         let test = both_true (is_shaped in_case field) (are_shaped in_case fields) shaped in
-        let can = both_true (is_read outermost fields passed field) (are_read outermost (behind field passed) fields) reads in
-        let wide = body_wide facts all in_case fields env (behind field passed) it.1 it.2 it.3 after late_after test.1 places it.6 in
+        let here = at_field (field_and field fields) passed in
+        let can = both_true (is_read outermost fields here field) (are_read outermost (behind field here) fields) reads in
+        let wide = body_wide facts all in_case fields env (behind field here) it.1 it.2 it.3 after late_after test.1 places it.6 in
         let grows = wide.grows in
         let end : EndsAt outermost all fields it.2 = λ width outer fixed. (let e = wide.is width fixed in let o = over outer in (omega (arith, e, within), omega (arith, e, o))) in
-        let one = step_goes outermost in_case field fields env passed names it.0 at late it.2 it.3 test.0 apart.0 can.0 places knows part it.5 (omega (arith, grows, within)) end in
-        let others = reaches outermost in_case fields env (behind field passed) one.names it.1 it.2 it.3 after late_after test.1 apart.1 can.1 places one.knows one.part it.6 within over in
+        let one = step_goes outermost in_case field fields env here names it.0 at late it.2 it.3 test.0 apart.0 can.0 places (none_near (field_and field fields)) knows part it.5 (omega (arith, grows, within)) end in
+        let others = reaches outermost in_case fields env (behind field here) one.names it.1 it.2 it.3 after late_after test.1 apart.1 can.1 places one.knows one.part it.6 within over in
         record {
           more = others.more;
           is = ap (option_and_then (λ step. with_value step.value (body_found facts all fields step.names step.after))) one.is

@@ -19,7 +19,7 @@ use Rattle.rz_types_fields.specs.Spells.{is_case, values_for, BodySpells, CaseSp
 use Rattle.rz_types.specs.Field.{case_and, field_and, no_cases, no_fields, Align, Array, Fill, Number, PlainBody, PlainCases, PlainField, PlainNumber, Points, Switch, Text}
 use Rattle.rz_types.specs.Kept.{AreCasesApart, HasKey, IsApartFrom, StandApart}
 use Rattle.rz_types.specs.Shape.{are_cases_shaped, are_shaped, has_value, is_key_shaped, is_number_shaped, is_own_name, is_shaped}
-use Rattle.rz_types.specs.Passed.{at_front, behind, Passed}
+use Rattle.rz_types.specs.Passed.{at_field, at_front, behind, Passed}
 use Rattle.rz_types.specs.Piece.{OneNumber}
 use Rattle.rz_types.specs.Stored.{stored_number}
 use Rattle.rz_types.specs.Value.{names_sight}
@@ -116,12 +116,13 @@ module _ (back : (width number : ℕ) → number < 2 ^ width → number_of (numb
   keys_there in_case no_fields before start env passed line at late after late_after shaped has it within place = tt
   keys_there in_case (field_and field fields) before start env passed line at late after late_after shaped has it within place =
       let test = both_true (is_shaped in_case field) (are_shaped in_case fields) shaped in
-      let first = field_wide known all in_case field env passed it.0 at late it.2 it.3 test.0 has it.5 in
-      let rest = body_wide known all in_case fields env (behind field passed) it.1 it.2 it.3 after late_after test.1 has it.6 in
+      let here = at_field (field_and field fields) passed in
+      let first = field_wide known all in_case field env here it.0 at late it.2 it.3 test.0 has it.5 in
+      let rest = body_wide known all in_case fields env (behind field here) it.1 it.2 it.3 after late_after test.1 has it.6 in
       let grows = rest.grows in
       all_append (KeyThere all start) (field_key before field) (keys_from (plus before (fixed_width field)) fields)
-      (field_keys_there in_case field before start env passed it.0 at late it.2 it.3 test.0 has it.5 (omega (arith, grows, within)) place)
-      (keys_there in_case fields (plus before (fixed_width field)) start env (behind field passed) it.1 it.2 it.3 after late_after test.1 has it.6 within
+      (field_keys_there in_case field before start env here it.0 at late it.2 it.3 test.0 has it.5 (omega (arith, grows, within)) place)
+      (keys_there in_case fields (plus before (fixed_width field)) start env (behind field here) it.1 it.2 it.3 after late_after test.1 has it.6 within
       (next_place before (fixed_width field) start at it.2 place first.is))
 
   -- those of a case

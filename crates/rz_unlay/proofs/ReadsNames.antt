@@ -11,7 +11,7 @@ use Rattle.rz_types_fields.specs.Spells.{BodySpells, IsCounted, RowOf, Within}
 use Rattle.rz_types_fields.specs.Known.{names_inside, stated_in}
 use Rattle.rz_types_fields.proofs.SameNames.{key_is}
 use Rattle.rz_types.specs.Field.{field_and, no_fields, Align, Array, Fill, Number, PlainBody, Points, Switch, Text}
-use Rattle.rz_types.specs.Passed.{at_front, behind, declares, gives_count, nothing_passed, outside, states, Passed}
+use Rattle.rz_types.specs.Passed.{at_field, at_front, behind, declares, gives_count, nothing_passed, outside, states, Passed}
 use Rattle.rz_unlay.proofs.ReadsNumber.{Knows}
 use Rattle.rz_unlay.proofs.ReadsTests.{some_is}
 
@@ -67,24 +67,24 @@ module _ (known : Facts) (all : List Bool) where
       → BodySpells true known all body own passed line at late after late_after → (key : Key) (v : ℤ) → stated_in body key ≡ Some v → own.give key ≡ Some v
   stated_holds no_fields own passed line at late after late_after it key v is = absurd cc
   stated_holds (field_and (Number number) fields) own passed line at late after late_after it key v is =
-      stated_holds fields own (behind (Number number) passed) it.1 it.2 it.3 after late_after it.6 key v is
+      stated_holds fields own (behind (Number number) (at_field (field_and (Number number) fields) passed)) it.1 it.2 it.3 after late_after it.6 key v is
   stated_holds (field_and (Text text) fields) own passed line at late after late_after it key v is =
-      stated_holds fields own (behind (Text text) passed) it.1 it.2 it.3 after late_after it.6 key v is
+      stated_holds fields own (behind (Text text) (at_field (field_and (Text text) fields) passed)) it.1 it.2 it.3 after late_after it.6 key v is
   stated_holds (field_and (Points points) fields) own passed line at late after late_after it key v is =
-      stated_holds fields own (behind (Points points) passed) it.1 it.2 it.3 after late_after it.6 key v is
+      stated_holds fields own (behind (Points points) (at_field (field_and (Points points) fields) passed)) it.1 it.2 it.3 after late_after it.6 key v is
   stated_holds (field_and (Fill unit count) fields) own passed line at late after late_after it key v is =
-      stated_holds fields own (behind (Fill unit count) passed) it.1 it.2 it.3 after late_after it.6 key v is
+      stated_holds fields own (behind (Fill unit count) (at_field (field_and (Fill unit count) fields) passed)) it.1 it.2 it.3 after late_after it.6 key v is
   stated_holds (field_and (Align unit) fields) own passed line at late after late_after it key v is =
-      stated_holds fields own (behind (Align unit) passed) it.1 it.2 it.3 after late_after it.6 key v is
+      stated_holds fields own (behind (Align unit) (at_field (field_and (Align unit) fields) passed)) it.1 it.2 it.3 after late_after it.6 key v is
   stated_holds (field_and (Array name None row) fields) own passed line at late after late_after it key v is =
-      stated_holds fields own (behind (Array name None row) passed) it.1 it.2 it.3 after late_after it.6 key v is
+      stated_holds fields own (behind (Array name None row) (at_field (field_and (Array name None row) fields) passed)) it.1 it.2 it.3 after late_after it.6 key v is
   stated_holds (field_and (Array name (Some count) row) fields) own passed line at late after late_after it key v is =
       let one = it.5 in
       first_stated (λ v. own.give key ≡ Some v) (gives_count name key) count (stated_in fields key) v
       (λ gives. counted_at name (length one.0) own key one.3 gives ∙ sym (ap (λ (n : ℤ). Some n) one.2))
-      (λ later. stated_holds fields own (behind (Array name (Some count) row) passed) it.1 it.2 it.3 after late_after it.6 key v later) is
+      (λ later. stated_holds fields own (behind (Array name (Some count) row) (at_field (field_and (Array name (Some count) row) fields) passed)) it.1 it.2 it.3 after late_after it.6 key v later) is
   stated_holds (field_and (Switch cases) fields) own passed line at late after late_after it key v is =
-      stated_holds fields own (behind (Switch cases) passed) it.1 it.2 it.3 after late_after it.6 key v is
+      stated_holds fields own (behind (Switch cases) (at_field (field_and (Switch cases) fields) passed)) it.1 it.2 it.3 after late_after it.6 key v is
 
   pub part_inside : (body : PlainBody) (which : Option RowOf) (names env own : Environment) (passed : Passed) (line : List Tree) (at : ℕ) (late : List Bool) (after : ℕ) (late_after : List Bool)
       → IsPartOf names env → Within body which env own → BodySpells true known all body own passed line at late after late_after → IsPartOf (names_inside body names) own

@@ -1,6 +1,6 @@
 -- A number that is spelled plainly is read.
 use Rattle.std.proofs.Common.{◌≡◌, inl, inr, ℕ, zero, suc, ◌+◌, ◌<◌, ◌≤◌, ◌^◌, ◌%◌, ◌==◌, ℤ, pos, Bool, true, false, ◌&&◌, ◌||◌, List, length, take, drop, Option, Some, None, Result, Ok, Err, refl, sym, ap, ◌∙◌, subst, arith}
-use Rattle.std.specs.Prelude.{if◌then◌else◌, nat_abs, nat_le, option_and_then, option_map}
+use Rattle.std.specs.Prelude.{if◌then◌else◌, nat_abs, nat_le, not, option_and_then, option_map}
 use Rattle.std.specs.Int.{cast_unsigned, w64}
 use Rattle.std.proofs.lemmas.Bool.Decides.{nat_tests}
 use Rattle.std.proofs.lemmas.Nat.{pow_pos}
@@ -21,12 +21,13 @@ use Rattle.rz_types_fields.specs.Spells.{IsNumber}
 use Rattle.rz_types.specs.Field.{PlainBody}
 use Rattle.rz_types.specs.Readable.{all_known, is_number_read, tells_one}
 use Rattle.rz_types.specs.Solve.{can_solve, has_key, is_same_key, solved_count, undoes_one, undoes_right, AreSolved, IsSolvedTo, SolvesBack}
-use Rattle.rz_types.specs.Passed.{declares, is_known, told_by, Names, Passed}
+use Rattle.rz_types.specs.Passed.{declares, is_held, is_known, told_by, Names, Passed}
 use Rattle.rz_types.specs.Stored.{stored_number}
 use Rattle.rz_types.specs.Value.{names_sight}
 use Rattle.rz_unlay.proofs.Sees.{both_true, by_test, solve_same, value_same, Covers}
 use Rattle.rz_unlay.proofs.SpelledNames.{either_of, left_true, right_true}
 use Rattle.rz_unlay.proofs.Teller.{teller}
+use Rattle.rz_types_fields.proofs.Near.{held, NoneNear}
 use Rattle.rz_types_fields.proofs.SameNames.{key_is, key_itself}
 use Rattle.rz_unlay.proofs.Told.{all_told, AreTold, IsTold}
 
@@ -197,9 +198,13 @@ number_there back all at width number small within there =
     ∙ ap (λ (bits : List Bool). Some (number_of bits)) there
     ∙ ap (λ (n : ℕ). Some n) (back width number small)
 
--- the names that are known have values
+-- the names that are held have values
 abbrev pub Knows : Passed → Environment → Type 0
-Knows passed names = Covers (is_known passed) names
+Knows passed names = Covers (is_held passed) names
+
+-- so have those that are known, where none is near
+pub covers_known : (passed : Passed) (names : Environment) → NoneNear passed → Knows passed names → Covers (is_known passed) names
+covers_known passed names none knows key known = knows key (held passed none key known)
 
 -- the reader is behind a piece or a field, with its value, and knows a part of the finished names
 pub record Steps (passed : Passed) (env : Environment) (value : Option Tree) (after : ℕ) (step : Option Step) : Type 0 where
@@ -211,20 +216,21 @@ pub record Steps (passed : Passed) (env : Environment) (value : Option Tree) (af
 told_knows : (term : Term) (passed : Passed) (names more : Environment) → Knows passed names → IsPartOf names more
     → ((key : Key) → has_key key term ≡ true → (value : ℤ) × (more.give key ≡ Some value)) → Knows (told_by (Some term) passed) more
 told_knows term passed names more knows kept has key is =
-    either_of (passed.met key) (has_key key term || passed.told key)
+    either_of (passed.met key) ((has_key key term && not (is_known passed key)) || passed.told key)
     (λ met. before (left_true (passed.met key) (passed.told key) met))
-    (either_of (has_key key term) (passed.told key) (has key) (λ told. before (right_true (passed.met key) (passed.told key) told)))
+    (either_of (has_key key term && not (is_known passed key)) (passed.told key) (λ new. has key (both_true (has_key key term) (not (is_known passed key)) new).0)
+    (λ told. before (right_true (passed.met key) (passed.told key) told)))
     is
   where
-    before : is_known passed key ≡ true → (value : ℤ) × (more.give key ≡ Some value)
+    before : is_held passed key ≡ true → (value : ℤ) × (more.give key ≡ Some value)
     before known = let it = knows key known in (it.0, kept.give key it.0 it.1)
 
 module _ (back : (width number : ℕ) → number < 2 ^ width → number_of (number_bits width number) ≡ number) (facts : Facts) (rest : PlainBody) (all : List Bool) (env : Environment) where
-  pub number_steps : (passed : Passed) (names : Environment) → Knows passed names → IsPartOf names env → (form : NumForm) (width : ℤ) (fixed : Option Term) (value : Option Tree)
+  pub number_steps : (passed : Passed) (names : Environment) → NoneNear passed → Knows passed names → IsPartOf names env → (form : NumForm) (width : ℤ) (fixed : Option Term) (value : Option Tree)
       (bits : List Bool) (at : ℕ) → is_number_read rest passed fixed ≡ true → IsNumber true passed form width fixed (names_sight facts env) value bits
       → take (length bits) (drop at all) ≡ bits → at + length bits ≤ length all
       → Steps (told_by fixed passed) env value (at + length bits) (number_step facts all form width fixed names at)
-  number_steps passed names knows part form width None value bits at reads (n, is, small, are) there within =
+  number_steps passed names none knows part form width None value bits at reads (n, is, small, are) there within =
       let long : length bits ≡ nat_abs width = ap length are ∙ length_is (nat_abs width) n in
       let found = number_there back all at (nat_abs width) n small (subst (λ (l : ℕ). at + l ≤ length all) long within) (sym (ap (λ (l : ℕ). take l (drop at all)) long) ∙ there ∙ are) in
       record {
@@ -234,14 +240,14 @@ module _ (back : (width number : ℕ) → number < 2 ^ width → number_of (numb
         knows = knows;
         part = part;
       }
-  number_steps passed names knows part form width (Some term) value bits at reads (v, is, valued, fits, are, solves) there within =
+  number_steps passed names none knows part form width (Some term) value bits at reads (v, is, valued, fits, are, solves) there within =
       let w = nat_abs width in
       let n = stored_number w v in
       let long : length bits ≡ w = ap length are ∙ length_is w n in
       let small : n < 2 ^ w = mod-lt _ (pow_pos w) in
       let found = number_there back all at w n small (subst (λ (l : ℕ). at + l ≤ length all) long within) (sym (ap (λ (l : ℕ). take l (drop at all)) long) ∙ there ∙ are) in
       let told = names_told facts rest (is_known passed) env w term n v valued solves reads in
-      let goes = all_told (is_known passed) env (λ key seen. solved_count w key (names_sight facts seen) term n) term names knows part told in
+      let goes = all_told (is_known passed) env (λ key seen. solved_count w key (names_sight facts seen) term n) term names (covers_known passed names none knows) part told in
       let now : value_of term (names_sight facts goes.more) ≡ Ok v =
       value_same facts (λ key. has_key key term) goes.more env goes.has goes.part term (all_of_its (λ key. has_key key term) term (λ key has. has)) ∙ valued in
       let same : (n == n) ≡ true = grind (arith, nat_tests) in

@@ -17,6 +17,7 @@ use Rattle.rz_types.specs.Piece.{fixed_integer, free_integer, integers, Filler, 
 use Rattle.rz_types.specs.Shape.{numbers_of}
 use Rattle.rz_unlay_pieces.specs.Pieces.{field_of_pieces, first_of_row, grouped, number_of_value, numbers_of_values, piece_step, pieces_found, with_value, zeros_step, Found, Step}
 use Rattle.rz_unlay.proofs.ReadsBits.{length_zeros, zeros_found}
+use Rattle.rz_types_fields.proofs.Near.{still_none, NoneNear}
 use Rattle.rz_unlay.proofs.ReadsNumber.{number_steps, Knows, Steps}
 use Rattle.rz_unlay.proofs.ReadsText.{text_steps, EndsAt}
 use Rattle.rz_unlay.proofs.ReadsWidths.{single}
@@ -90,10 +91,10 @@ record Finds (passed : Passed) (env : Environment) (values : List Tree) (after :
 
 module _ (back : (width number : ℕ) → number < 2 ^ width → number_of (number_bits width number) ≡ number) (facts : Facts) (all : List Bool) (env : Environment) (outermost : Bool) (rest : PlainBody) where
   one_number : (number : PlainNumber) (passed : Passed) (names : Environment) (value : Option Tree) (at : ℕ) (late : List Bool) (after : ℕ) (late_after : List Bool)
-      → Knows passed names → IsPartOf names env → is_number_read rest passed number.fixed ≡ true → PieceSpells true facts all env passed (OneNumber number) value at late after late_after → after ≤ length all
+      → NoneNear passed → Knows passed names → IsPartOf names env → is_number_read rest passed number.fixed ≡ true → PieceSpells true facts all env passed (OneNumber number) value at late after late_after → after ≤ length all
       → Steps (behind_piece (OneNumber number) passed) env value after (piece_step facts all rest (OneNumber number) names at)
-  one_number number passed names value at late after late_after knows part reads it within =
-      let goes = number_steps back facts rest all env passed names knows part number.form number.width number.fixed value it.bits at reads it.stored it.there
+  one_number number passed names value at late after late_after none knows part reads it within =
+      let goes = number_steps back facts rest all env passed names none knows part number.form number.width number.fixed value it.bits at reads it.stored it.there
       (subst (λ (n : ℕ). n ≤ length all) it.ends within) in
       record {
         names = goes.names;
@@ -103,19 +104,19 @@ module _ (back : (width number : ℕ) → number < 2 ^ width → number_of (numb
       }
 
   numbers_go : (pieces : List Piece) (passed : Passed) (names : Environment) (values : List Tree) (at : ℕ) (late : List Bool) (after : ℕ) (late_after : List Bool)
-      → AreNumbers pieces → Knows passed names → IsPartOf names env → are_pieces_read outermost rest passed pieces ≡ true → InOrder (PieceSpells true facts all env) passed pieces values at late after late_after
+      → AreNumbers pieces → NoneNear passed → Knows passed names → IsPartOf names env → are_pieces_read outermost rest passed pieces ≡ true → InOrder (PieceSpells true facts all env) passed pieces values at late after late_after
       → after ≤ length all → Finds (behind_pieces pieces passed) env values after (pieces_found facts all rest pieces names at)
-  numbers_go [] passed names values at late after late_after are knows part reads it within = record {
+  numbers_go [] passed names values at late after late_after are none knows part reads it within = record {
     names = names;
     is = λ i. Some (record { row = sym it.0 i; after = sym it.1 i; names = names });
     knows = knows;
     part = part;
   }
-  numbers_go (OneNumber number ∷ pieces) passed names values at late after late_after are knows part reads it within =
+  numbers_go (OneNumber number ∷ pieces) passed names values at late after late_after are none knows part reads it within =
       let test = both_true (is_number_read rest passed number.fixed) (are_pieces_read outermost rest (behind_piece (OneNumber number) passed) pieces) reads in
       let more = order_grows facts all env (behind_piece (OneNumber number) passed) pieces it.1 it.2 it.3 after late_after it.6 in
-      let one = one_number number passed names it.0 at late it.2 it.3 knows part test.0 it.5 (omega (arith, more, within)) in
-      let others = numbers_go pieces (behind_piece (OneNumber number) passed) one.names it.1 it.2 it.3 after late_after are one.knows one.part test.1 it.6 within in
+      let one = one_number number passed names it.0 at late it.2 it.3 none knows part test.0 it.5 (omega (arith, more, within)) in
+      let others = numbers_go pieces (behind_piece (OneNumber number) passed) one.names it.1 it.2 it.3 after late_after are (still_none (OneNumber number) passed none) one.knows one.part test.1 it.6 within in
       record {
         names = others.names;
         is = ap (option_and_then (λ step. with_value step.value (pieces_found facts all rest pieces step.names step.after))) one.is
@@ -124,9 +125,9 @@ module _ (back : (width number : ℕ) → number < 2 ^ width → number_of (numb
         knows = others.knows;
         part = others.part;
       }
-  numbers_go (OneText text ∷ pieces) passed names values at late after late_after are knows part reads it within = absurd are
-  numbers_go (Zeros count ∷ pieces) passed names values at late after late_after are knows part reads it within = absurd are
-  numbers_go (Filler unit ∷ pieces) passed names values at late after late_after are knows part reads it within = absurd are
+  numbers_go (OneText text ∷ pieces) passed names values at late after late_after are none knows part reads it within = absurd are
+  numbers_go (Zeros count ∷ pieces) passed names values at late after late_after are none knows part reads it within = absurd are
+  numbers_go (Filler unit ∷ pieces) passed names values at late after late_after are none knows part reads it within = absurd are
 
 -- A point or a rectangle.
 
@@ -145,13 +146,13 @@ group_again (Some terms) value is = sym is
 module _ (read : (width number : ℕ) → number_of (number_bits width number) ≡ number % 2 ^ width) (written : (bits : List Bool) → number_bits (length bits) (number_of bits) ≡ bits)
     (again : (bytes : List ℕ) → ((k : ℕ) → slice_index bytes k < 256) → bytes_of (bits_of bytes) ≡ bytes)
     (back : (width number : ℕ) → number < 2 ^ width → number_of (number_bits width number) ≡ number) (facts : Facts) (all : List Bool) (env : Environment) (outermost : Bool) (rest : PlainBody)
-    (passed : Passed) (names : Environment) (knows : Knows passed names) (part : IsPartOf names env) (value : Option Tree) (at : ℕ) (late : List Bool) (after : ℕ) (late_after : List Bool)
+    (passed : Passed) (names : Environment) (none : NoneNear passed) (knows : Knows passed names) (part : IsPartOf names env) (value : Option Tree) (at : ℕ) (late : List Bool) (after : ℕ) (late_after : List Bool)
     (within : after ≤ length all) where
   pub number_field : (number : PlainNumber) → is_read outermost rest passed (Number number) ≡ true → FieldSpells true facts all (Number number) env passed value at late after late_after
       → Steps (behind (Number number) passed) env value after (field_of_pieces facts all rest (Number number) names at)
   number_field number reads it =
       let one = single facts all env passed (OneNumber number) (values_for (Number number) value) at late after late_after it.1 in
-      let goes = one_number back facts all env outermost rest number passed names one.value at late after one.late_after knows part (both_true (is_number_read rest passed number.fixed) true reads).0 one.spelled within in
+      let goes = one_number back facts all env outermost rest number passed names one.value at late after one.late_after none knows part (both_true (is_number_read rest passed number.fixed) true reads).0 one.spelled within in
       record {
         names = goes.names;
         is = field_one facts all rest (OneNumber number) names goes.names value one.value at after goes.is one.are;
@@ -164,7 +165,7 @@ module _ (read : (width number : ℕ) → number_of (number_bits width number) �
   text_field text reads end it =
       let one = single facts all env passed (OneText text) (values_for (Text text) value) at late after late_after it.1 in
       let here = one.spelled in
-      let is = text_steps read written again back facts rest all env outermost text passed names knows part one.value here.bits at
+      let is = text_steps read written again back facts rest all env outermost text passed names none knows part one.value here.bits at
       (both_true (is_text_read outermost rest passed text) true reads).0 here.stored
       (subst (λ (n : ℕ). EndsAt outermost all rest n) here.ends end) (subst (λ (n : ℕ). n ≤ length all) here.ends within) here.there in
       record {
@@ -207,7 +208,7 @@ module _ (read : (width number : ℕ) → number_of (number_bits width number) �
       → Steps (behind (Points points) passed) env value after (field_of_pieces facts all rest (Points points) names at)
   points_field points reads it =
       let pieces = integers points.rect points.fixed in
-      let found = numbers_go back facts all env outermost rest pieces passed names (values_for (Points points) value) at late after late_after (integers_are points.rect points.fixed) knows part reads it.1 within in
+      let found = numbers_go back facts all env outermost rest pieces passed names (values_for (Points points) value) at late after late_after (integers_are points.rect points.fixed) none knows part reads it.1 within in
       record {
         names = found.names;
         is = ap (option_map (λ (f : Found). let it : Step = record { value = grouped points.fixed f.row; after = f.after; names = f.names } in it)) found.is

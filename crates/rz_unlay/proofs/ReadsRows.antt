@@ -18,7 +18,8 @@ use Rattle.rz_types_fields.specs.Laid.{with_count}
 use Rattle.rz_unlay.specs.Cursor.{count_known, rows_at, rows_by, rows_while, up_to_end, Line}
 use Rattle.rz_types_fields.proofs.SameNames.{key_is}
 use Rattle.rz_unlay.proofs.ReadsNames.{counted_at}
-use Rattle.rz_unlay.proofs.ReadsNumber.{Knows}
+use Rattle.rz_types_fields.proofs.Near.{NoneNear}
+use Rattle.rz_unlay.proofs.ReadsNumber.{covers_known, Knows}
 use Rattle.rz_unlay.proofs.ReadsTests.{below, not_below, some_is, there_is}
 use Rattle.rz_unlay.proofs.ReadsText.{EndsAt}
 use Rattle.rz_unlay.proofs.Sees.{both_true}
@@ -72,9 +73,9 @@ or_other : (a b : Bool) → (a || b) ≡ true → (a ≡ true) ⊎ (b ≡ true)
 or_other true b is = inl refl
 or_other false b is = inr is
 
-count_given : (passed : Passed) (name : Option Word) (names : Environment) → Knows passed names → is_count_known passed name ≡ true → (v : ℤ) × (known_count name names ≡ Some v)
-count_given passed None names knows is = absurd cc
-count_given passed (Some name) names knows is = knows (count_key name.bytes) is
+count_given : (passed : Passed) (name : Option Word) (names : Environment) → NoneNear passed → Knows passed names → is_count_known passed name ≡ true → (v : ℤ) × (known_count name names ≡ Some v)
+count_given passed None names none knows is = absurd cc
+count_given passed (Some name) names none knows is = covers_known passed names none knows (count_key name.bytes) is
 
 le_is : (a b : ℕ) → nat_le a b ≡ true → a ≤ b
 le_is a b is = grind (arith, nat_tests)
@@ -83,12 +84,12 @@ module _ (f : ℕ → Option Line) (Row : ℕ → List Tree → RowSpells) (leas
     (one : (number : ℕ) (line : List Tree) (at : ℕ) (late : List Bool) (after : ℕ) (late_after : List Bool) → after ≤ last → Row number line at late after late_after → f at ≡ Some (line, after))
     (rise : (number : ℕ) (line : List Tree) (at : ℕ) (late : List Bool) (after : ℕ) (late_after : List Bool) → Row number line at late after late_after → at + least ≤ after) where
   pub rows_go : (outermost : Bool) (all : List Bool) (rest row : PlainBody) (name : Option Word) (count : Option ℤ) (rows : List (List Tree)) (names env : Environment) (passed : Passed)
-      (at : ℕ) (late : List Bool) (after : ℕ) (late_after : List Bool) → least ≡ least_widths row → rows_end outermost rest passed name count row ≡ true → Knows passed names → IsPartOf names env
+      (at : ℕ) (late : List Bool) (after : ℕ) (late_after : List Bool) → least ≡ least_widths row → rows_end outermost rest passed name count row ≡ true → NoneNear passed → Knows passed names → IsPartOf names env
       → IsStated count (length rows) → IsCounted name (length rows) env → RowsSpell Row 1 rows at late after late_after → EndsAt outermost all rest after → after ≤ last → after ≤ length all
       → rows_by f (length all) rest (count_known names name count) at ≡ Some (rows, after)
-  rows_go outermost all rest row name (Some count) rows names env passed at late after late_after low ends knows part stated counted it end within below =
+  rows_go outermost all rest row name (Some count) rows names env passed at late after late_after low ends none knows part stated counted it end within below =
       ap (λ (c : ℤ). rows_by f (length all) rest (Some c) at) stated ∙ rows_again f Row least last one rise 1 rows at late after late_after within it
-  rows_go outermost all rest row name None rows names env passed at late after late_after low ends knows part stated counted it end within below = by (known_count name names) refl
+  rows_go outermost all rest row name None rows names env passed at late after late_after low ends none knows part stated counted it end within below = by (known_count name names) refl
     where
       by : (o : Option ℤ) → known_count name names ≡ o → rows_by f (length all) rest o at ≡ Some (rows, after)
       by (Some v) is =
@@ -99,7 +100,7 @@ module _ (f : ℕ → Option Line) (Row : ℕ → List Tree → RowSpells) (leas
           at_end : ((is_count_known passed name && nat_le 1 (least_widths row)) ≡ true) ⊎ ((ends_at_end outermost rest && nat_le 8 (least_widths row)) ≡ true)
               → up_to_end f (length all) (fixed_widths rest) at ≡ Some (rows, after)
           at_end (inl known) =
-              let given = count_given passed name names knows (both_true (is_count_known passed name) _ known).0 in absurd (let wrong = sym given.1 ∙ is in cc)
+              let given = count_given passed name names none knows (both_true (is_count_known passed name) _ known).0 in absurd (let wrong = sym given.1 ∙ is in cc)
           at_end (inr last_one) =
               let test = both_true (ends_at_end outermost rest) (nat_le 8 (least_widths row)) last_one in
               let outer = both_true outermost (is_some (fixed_widths rest)) test.0 in
@@ -117,7 +118,7 @@ module _ (f : ℕ → Option Line) (Row : ℕ → List Tree → RowSpells) (leas
 -- Behind the array.
 
 abbrev pub passed_behind : Passed → Option Word → Passed
-passed_behind passed name = record { met = λ key. gives_count name key || passed.met key; told = passed.told }
+passed_behind passed name = record { met = λ key. gives_count name key || passed.met key; told = passed.told; near = λ key. false }
 
 pub record Claims (passed : Passed) (env : Environment) (name : Option Word) (rows : ℕ) (names : Environment) : Type 0 where
   pub more : Environment

@@ -31,7 +31,8 @@ use Rattle.rz_bits.specs.View.{bytes_at}
 use Rattle.rz_unlay_pieces.specs.Pieces.{bytes_left, fixed_read, same_bytes, size_found, size_read, stored_size, text_read, text_size, text_step, up_to_zero}
 use Rattle.rz_types.proofs.Texts.{bytes_kept, Keeps}
 use Rattle.rz_unlay.proofs.ReadsBits.{all_append, bits_there, each_small, front_there, length_bits, length_number, number_append, number_found, reduced_are, reduced_bits, take_are, zero_there, zeros_are, AreBytes}
-use Rattle.rz_unlay.proofs.ReadsNumber.{Knows}
+use Rattle.rz_types_fields.proofs.Near.{NoneNear}
+use Rattle.rz_unlay.proofs.ReadsNumber.{covers_known, Knows}
 use Rattle.rz_unlay.proofs.ReadsTests.{itself, not_below, some_is, there_is}
 use Rattle.rz_unlay.proofs.Sees.{both_true, value_same}
 use Rattle.rz_unlay.proofs.PlainText.{plain_text_is}
@@ -134,13 +135,13 @@ size_may : (form : TextForm) (facts : Facts) (env : Environment) (term : Option 
 size_may form facts env None size is = subst (λ (o : Option ℕ). MayBe form o) (sym is) tt
 size_may form facts env (Some term) size (n, valued, may, is) = subst (λ (o : Option ℕ). MayBe form o) (sym is) may
 
-module _ (facts : Facts) (all : List Bool) (env : Environment) (passed : Passed) (names : Environment) (knows : Knows passed names) (part : IsPartOf names env) where
+module _ (facts : Facts) (all : List Bool) (env : Environment) (passed : Passed) (names : Environment) (none : NoneNear passed) (knows : Knows passed names) (part : IsPartOf names env) where
   size_is_read : (form : TextForm) (term : Option Term) (size : Option ℕ) (at : ℕ) → ((t : Term) → term ≡ Some t → all_known (is_known passed) t ≡ true)
       → IsSize form (names_sight facts env) term size → size_read facts all form term names at ≡ Some size
   size_is_read form None size at known is = ap (λ (o : Option ℕ). Some o) (sym is)
   size_is_read form (Some term) size at known (n, valued, may, is) =
       let now : value_of term (names_sight facts names) ≡ Ok (pos n) =
-      value_same facts (is_known passed) names env knows part term (known term refl) ∙ valued in
+      value_same facts (is_known passed) names env (covers_known passed names none knows) part term (known term refl) ∙ valued in
       ap (size_found form) now
       ∙ ap (λ (b : Bool). if b then Some (Some n) else None) may
       ∙ ap (λ (o : Option ℕ). Some o) (sym is)
@@ -230,10 +231,10 @@ others_known : (known : Names) (size : Option Term) (others : List Term) → lis
 others_known known None others reads = reads
 others_known known (Some size) others reads = (both_true (all_known known size) (list_all (all_known known) others) reads).1
 
-module _ (facts : Facts) (env : Environment) (passed : Passed) (names : Environment) (knows : Knows passed names) (part : IsPartOf names env) where
+module _ (facts : Facts) (env : Environment) (passed : Passed) (names : Environment) (none : NoneNear passed) (knows : Knows passed names) (part : IsPartOf names env) where
   -- a known expression has the value that it has in the finished names
   known_value : (term : Term) → all_known (is_known passed) term ≡ true → value_of term (names_sight facts names) ≡ value_of term (names_sight facts env)
-  known_value term known = value_same facts (is_known passed) names env knows part term known
+  known_value term known = value_same facts (is_known passed) names env (covers_known passed names none knows) part term known
 
   known_terms : (terms : List Term) → list_all (all_known (is_known passed)) terms ≡ true → AllByRecursion (Keeps (names_sight facts env) (names_sight facts names)) terms
   known_terms [] known = tt
@@ -286,13 +287,13 @@ module _ (read : (width number : ℕ) → number_of (number_bits width number) �
         are_bits = are ∙ same;
       }
 
-  pub text_steps : (text : PlainText) (passed : Passed) (names : Environment) → Knows passed names → IsPartOf names env → (value : Option Tree) (bits : List Bool) (at : ℕ)
+  pub text_steps : (text : PlainText) (passed : Passed) (names : Environment) → NoneNear passed → Knows passed names → IsPartOf names env → (value : Option Tree) (bits : List Bool) (at : ℕ)
       → is_text_read outermost rest passed text ≡ true → IsText true text facts (names_sight facts env) value bits
       → EndsAt outermost all rest (at + length bits) → at + length bits ≤ length all → take (length bits) (drop at all) ≡ bits
       → text_step facts all rest text names at ≡ Some (record { value = value; after = at + length bits; names = names })
-  text_steps text passed names knows part value bits at reads it ends within there =
+  text_steps text passed names none knows part value bits at reads it ends within there =
       let each = both_true (text_ends outermost rest text.form text.size) (list_all (all_known (is_known passed)) (terms_of_text text)) reads in
-      let bytes_are = bytes_there facts env passed names knows part text.form text.fixed it.size value it.bytes (others_known (is_known passed) text.size (fixed_terms text.fixed) each.1) it.are_bytes in
+      let bytes_are = bytes_there facts env passed names none knows part text.form text.fixed it.size value it.bytes (others_known (is_known passed) text.size (fixed_terms text.fixed) each.1) it.are_bytes in
       let told = text_told (names_sight facts names) passed text.form text.size it.size text.fixed value it.bytes at bits each.0 it.has_size bytes_are it.short it.are_bits ends within there in
       let raw = stored_text text.form it.size told.found in
       let long : length bits ≡ 8 * length raw = ap length told.are_bits ∙ length_bits raw in
@@ -301,7 +302,7 @@ module _ (read : (width number : ℕ) → number_of (number_bits width number) �
       (text_read facts (names_sight facts names) text.form size text.fixed raw))
       (bytes_at all at count))
       (text_size facts (names_sight facts names) all rest text.form size text.fixed at)))
-      (size_is_read facts all env passed names knows part text.form text.size it.size at (size_known (is_known passed) text.size (fixed_terms text.fixed) each.1) it.has_size)
+      (size_is_read facts all env passed names none knows part text.form text.size it.size at (size_known (is_known passed) text.size (fixed_terms text.fixed) each.1) it.has_size)
       ∙ ap (option_and_then (λ count. option_and_then (λ raw. option_and_then (λ found.
       if same_bytes (stored_text text.form it.size found.1) raw then Some (record { value = found.0; after = at + 8 * count; names = names }) else None)
       (text_read facts (names_sight facts names) text.form it.size text.fixed raw))

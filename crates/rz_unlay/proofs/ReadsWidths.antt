@@ -24,7 +24,7 @@ use Rattle.rz_types_fields.specs.Spells.{is_case, put, row_of, values_for, BodyS
 use Rattle.rz_types.specs.Field.{case_and, field_and, no_cases, no_fields, Align, Array, Fill, Number, PlainBody, PlainCases, PlainField, Points, Switch, Text}
 use Rattle.rz_types.specs.Readable.{least_case, least_of, least_rows, least_text, least_width, least_widths}
 use Rattle.rz_types.specs.Shape.{are_cases_shaped, are_fixed_points, are_shaped, is_none_or, is_own_name, is_shaped, numbers_of}
-use Rattle.rz_types.specs.Passed.{at_front, behind, behind_piece, Passed}
+use Rattle.rz_types.specs.Passed.{at_field, at_front, behind, behind_piece, Passed}
 use Rattle.rz_types.specs.Piece.{fixed_integer, free_integer, integers, Filler, OneNumber, OneText, Piece, Zeros}
 use Rattle.rz_types.specs.Stored.{before_zero, stored_text, to_size}
 use Rattle.rz_types.specs.Value.{names_sight}
@@ -276,6 +276,7 @@ module _ (known : Facts) (all : List Bool) where
     body_wide in_case no_fields env passed line at late after late_after shaped has it = just_so 0 at after (let e = it.1 in omega (arith, e))
     body_wide in_case (field_and field fields) env passed line at late after late_after shaped has it =
         let test = both_true (is_shaped in_case field) (are_shaped in_case fields) shaped in
+        let here = at_field (field_and field fields) passed in
         both_wide (least_width field) (least_widths fields) (fixed_width field) (fixed_widths fields) at it.2 after
-        (field_wide in_case field env passed it.0 at late it.2 it.3 test.0 has it.5)
-        (body_wide in_case fields env (behind field passed) it.1 it.2 it.3 after late_after test.1 has it.6)
+        (field_wide in_case field env here it.0 at late it.2 it.3 test.0 has it.5)
+        (body_wide in_case fields env (behind field here) it.1 it.2 it.3 after late_after test.1 has it.6)

@@ -23,10 +23,11 @@ use Rattle.rz_types.specs.Field.{case_and, field_and, no_cases, no_fields, Align
 use Rattle.rz_types.specs.Kept.{AreCasesKept, AreKept, Differ, IsKept, IsKeptWithin}
 use Rattle.rz_types.specs.Readable.{are_cases_read, are_read, is_read, is_readable, rows_end}
 use Rattle.rz_types.specs.Rules.{case_names}
-use Rattle.rz_types.specs.Passed.{at_front, behind, declares, gives_count, gives_key, is_known, nothing_passed, outside, Passed}
+use Rattle.rz_types.specs.Passed.{at_field, at_front, behind, declares, gives_count, gives_key, is_held, nothing_passed, outside, Passed}
 use Rattle.rz_types.specs.Piece.{Filler, OneNumber, OneText, Zeros}
 use Rattle.rz_types.specs.Walk.{names_of}
 use Rattle.rz_types.specs.Width.{case_keys}
+use Rattle.rz_types_fields.proofs.Near.{none_near, NoneNear}
 use Rattle.rz_unlay.proofs.SpelledNames.{and_then, if_false, left_true, mapped, neither, none_is, some_same, Came, Grows, Knows}
 use Rattle.rz_unlay.proofs.Told.{part_of_part, same_part}
 use Rattle.rz_unlay.proofs.SpelledPieces.{field_pieces, points_fit, single_row, then_came, wide, Tells}
@@ -55,18 +56,18 @@ first_or false x y z one other is = other is
 module _ (tells : Tells) (facts : Facts) (all : List Bool) (short : length all ≤ most_bits) where
   -- a body is read so, whatever stands before it
   abbrev BodyCame : Passed → PlainBody → Type 0
-  BodyCame passed body = (names : Environment) (at : ℕ) (found : Found) → Knows (is_known passed) names → body_found facts all body names at ≡ Some found
+  BodyCame passed body = (names : Environment) (at : ℕ) (found : Found) → Knows (is_held passed) names → body_found facts all body names at ≡ Some found
       → Came (declares body) names found.names at found.after (λ env. BodySpells true facts all body env passed found.row)
 
   abbrev FieldCame : PlainBody → Passed → PlainField → Type 0
-  FieldCame rest passed field = (names : Environment) (at : ℕ) (step : Step) → Knows (is_known passed) names → field_found facts all rest field names at ≡ Some step
-      → Came (declares (field_and field rest)) names step.names at step.after (λ env. FieldSpells true facts all field env passed step.value) × Knows (is_known (behind field passed)) step.names
+  FieldCame rest passed field = (names : Environment) (at : ℕ) (step : Step) → Knows (is_held passed) names → field_found facts all rest field names at ≡ Some step
+      → Came (declares (field_and field rest)) names step.names at step.after (λ env. FieldSpells true facts all field env passed step.value) × Knows (is_held (behind field passed)) step.names
 
   abbrev CasesCame : Passed → PlainCases → Type 0
-  CasesCame passed cases = (names : Environment) (at : ℕ) (step : Step) → Knows (is_known passed) names → case_found facts all cases names at ≡ Some step → CaseCame facts all cases passed names at step
+  CasesCame passed cases = (names : Environment) (at : ℕ) (step : Step) → Knows (is_held passed) names → case_found facts all cases names at ≡ Some step → CaseCame facts all cases passed names at step
 
   -- a row within
-  line_came : (row : PlainBody) (passed : Passed) → BodyCame (at_front row passed) row → (names env : Environment) → Knows (is_known passed) names → IsPartOf names env
+  line_came : (row : PlainBody) (passed : Passed) → BodyCame (at_front row passed) row → (names env : Environment) → Knows (is_held passed) names → IsPartOf names env
       → (which : Option RowOf) (at : ℕ) (line : Line) → line_of (body_found facts all row (names_inside row names) at) ≡ Some line → (late : Late)
       → (late_after : Late) × Inside row which env (λ own. BodySpells true facts all row own (at_front row passed) line.0) at late line.1 late_after
   line_came row passed came names env knows part which at line is late =
@@ -85,7 +86,7 @@ module _ (tells : Tells) (facts : Facts) (all : List Bool) (short : length all �
       let more : Environment = two.0 in
       let claimed = claim_came name (length lines.0) names more two.1 in
       subst (λ (s : Step). Came (declares (field_and (Array name count row) rest)) names s.names at s.after (λ env. FieldSpells true facts all (Array name count row) env passed s.value)
-      × Knows (is_known (behind (Array name count row) passed)) s.names) two.2 (
+      × Knows (is_held (behind (Array name count row) passed)) s.names) two.2 (
         record {
           grows = record { kept = claimed.kept; same = λ key none. claimed.same key (neither (gives_count name key) (declares rest key) none).0 };
           spells = λ env part late.
@@ -107,11 +108,11 @@ module _ (tells : Tells) (facts : Facts) (all : List Bool) (short : length all �
           grows = subst (Grows (declares (field_and (Switch cases) rest)) names) same (record { kept = same_part names; same = λ key none. refl });
           spells = λ env part late. it.spells env (subst (λ (known : Environment). IsPartOf known env) (sym same) part) late;
         },
-        subst (Knows (is_known passed)) same knows,
+        subst (Knows (is_held passed)) same knows,
       )
 
   -- a case that is chosen, and one that isn't
-  case_came : (passed : Passed) (name : Word) (row : PlainBody) (others : PlainCases) → BodyCame (at_front row passed) row → (names : Environment) (at : ℕ) (step : Step) → Knows (is_known passed) names
+  case_came : (passed : Passed) (name : Word) (row : PlainBody) (others : PlainCases) → BodyCame (at_front row passed) row → (names : Environment) (at : ℕ) (step : Step) → Knows (is_held passed) names
       → option_map (λ f. record { value = Some (trees.Choice name f.row); after = f.after; names = names }) (body_found facts all row (names_inside row names) at) ≡ Some step
       → CaseCame facts all (case_and name row others) passed names at step
   case_came passed name row others came names at step knows is =
@@ -147,8 +148,10 @@ module _ (tells : Tells) (facts : Facts) (all : List Bool) (short : length all �
         );
   }
 
-  body_and : (field : PlainField) (fields : PlainBody) (passed : Passed) → FieldCame fields passed field → BodyCame (behind field passed) fields → BodyCame passed (field_and field fields)
+  body_and : (field : PlainField) (fields : PlainBody) (passed : Passed) → FieldCame fields (at_field (field_and field fields) passed) field
+      → BodyCame (behind field (at_field (field_and field fields) passed)) fields → BodyCame passed (field_and field fields)
   body_and field fields passed one others names at found knows is =
+      let here = at_field (field_and field fields) passed in
       let first = and_then (λ step. with_value step.value (body_found facts all fields step.names step.after)) (field_found facts all fields field names at) found is in
       let step : Step = first.0 in
       let more = mapped (λ f. record { row = put step.value f.row; after = f.after; names = f.names }) (body_found facts all fields step.names step.after) found first.2 in
@@ -156,27 +159,27 @@ module _ (tells : Tells) (facts : Facts) (all : List Bool) (short : length all �
       let came = one names at step knows first.1 in
       let behind_it = others step.names step.after inner came.1 more.1 in
       subst (λ (f : Found). Came (declares (field_and field fields)) names f.names at f.after (λ env. BodySpells true facts all (field_and field fields) env passed f.row)) more.2
-      (then_came (declares (field_and field fields)) (λ env. FieldSpells true facts all field env passed) (λ env. BodySpells true facts all fields env (behind field passed))
+      (then_came (declares (field_and field fields)) (λ env. FieldSpells true facts all field env here) (λ env. BodySpells true facts all fields env (behind field here))
       step.value inner.row names step.names inner.names at step.after inner.after came.0
       (wide (declares fields) (declares (field_and field fields)) (λ key none. (neither (gives_key field key) (declares fields key) none).1)
-      step.names inner.names step.after inner.after (λ env. BodySpells true facts all fields env (behind field passed) inner.row) behind_it))
+      step.names inner.names step.after inner.after (λ env. BodySpells true facts all fields env (behind field here) inner.row) behind_it))
 
   mutual
-    field_came : (scope : List Word) (outermost : Bool) (rest : PlainBody) (passed : Passed) (field : PlainField) → IsKeptWithin scope field → is_read outermost rest passed field ≡ true → FieldCame rest passed field
-    field_came scope outermost rest passed (Number number) kept reads names at step knows is =
-        field_pieces tells facts all short outermost rest (Number number) passed names at step (λ found so. (tt, single_row tells facts all short outermost rest (OneNumber number) names at found so)) reads knows is
-    field_came scope outermost rest passed (Text text) kept reads names at step knows is =
-        field_pieces tells facts all short outermost rest (Text text) passed names at step (λ found so. (tt, single_row tells facts all short outermost rest (OneText text) names at found so)) reads knows is
-    field_came scope outermost rest passed (Points points) kept reads names at step knows is =
-        field_pieces tells facts all short outermost rest (Points points) passed names at step (λ found so. points_fit tells facts all short outermost rest points.rect points.fixed names at found so) reads knows is
-    field_came scope outermost rest passed (Fill unit count) kept reads names at step knows is =
-        field_pieces tells facts all short outermost rest (Fill unit count) passed names at step (λ found so. (tt, single_row tells facts all short outermost rest (Zeros (unit * nat_abs count)) names at found so)) refl knows is
-    field_came scope outermost rest passed (Align unit) kept reads names at step knows is =
-        field_pieces tells facts all short outermost rest (Align unit) passed names at step (λ found so. (tt, single_row tells facts all short outermost rest (Filler unit) names at found so)) refl knows is
-    field_came scope outermost rest passed (Array name count row) kept reads names at step knows is =
+    field_came : (scope : List Word) (outermost : Bool) (rest : PlainBody) (passed : Passed) (field : PlainField) → IsKeptWithin scope field → is_read outermost rest passed field ≡ true → NoneNear passed → FieldCame rest passed field
+    field_came scope outermost rest passed (Number number) kept reads none names at step knows is =
+        field_pieces tells facts all short outermost rest (Number number) passed names at step (λ found so. (tt, single_row tells facts all short outermost rest (OneNumber number) names at found so)) reads none knows is
+    field_came scope outermost rest passed (Text text) kept reads none names at step knows is =
+        field_pieces tells facts all short outermost rest (Text text) passed names at step (λ found so. (tt, single_row tells facts all short outermost rest (OneText text) names at found so)) reads none knows is
+    field_came scope outermost rest passed (Points points) kept reads none names at step knows is =
+        field_pieces tells facts all short outermost rest (Points points) passed names at step (λ found so. points_fit tells facts all short outermost rest points.rect points.fixed names at found so) reads none knows is
+    field_came scope outermost rest passed (Fill unit count) kept reads none names at step knows is =
+        field_pieces tells facts all short outermost rest (Fill unit count) passed names at step (λ found so. (tt, single_row tells facts all short outermost rest (Zeros (unit * nat_abs count)) names at found so)) refl none knows is
+    field_came scope outermost rest passed (Align unit) kept reads none names at step knows is =
+        field_pieces tells facts all short outermost rest (Align unit) passed names at step (λ found so. (tt, single_row tells facts all short outermost rest (Filler unit) names at found so)) refl none knows is
+    field_came scope outermost rest passed (Array name count row) kept reads none names at step knows is =
         array_came rest passed name count row
         (body_came (scope ++ names_of row) false (at_front row passed) row kept.2 (both_true (rows_end outermost rest passed name count row) (are_read false (at_front row passed) row) reads).1) names at step knows is
-    field_came scope outermost rest passed (Switch cases) kept reads names at step knows is = switch_came rest passed cases (cases_came scope passed cases kept.0 kept.1 reads) names at step knows is
+    field_came scope outermost rest passed (Switch cases) kept reads none names at step knows is = switch_came rest passed cases (cases_came scope passed cases kept.0 kept.1 reads) names at step knows is
 
     cases_came : (scope : List Word) (passed : Passed) (cases : PlainCases) → Differ (case_names cases) → AreCasesKept scope cases → are_cases_read passed cases ≡ true → CasesCame passed cases
     cases_came scope passed no_cases differ kept reads names at step knows is = absurd (none_is step is)
@@ -193,8 +196,10 @@ module _ (tells : Tells) (facts : Facts) (all : List Bool) (short : length all �
         (some_same (record { row = []; after = at; names = names }) found is)
         (record { grows = record { kept = same_part names; same = λ key none. refl }; spells = λ env part late. (late, (refl, refl, refl)) })
     body_came scope outermost passed (field_and field fields) kept reads names at found knows is =
-        let each = both_true (is_read outermost fields passed field) (are_read outermost (behind field passed) fields) reads in
-        body_and field fields passed (field_came scope outermost fields passed field kept.2 each.0) (body_came scope outermost (behind field passed) fields kept.3 each.1) names at found knows is
+        let here = at_field (field_and field fields) passed in
+        let each = both_true (is_read outermost fields here field) (are_read outermost (behind field here) fields) reads in
+        body_and field fields passed (field_came scope outermost fields here field kept.2 each.0 (none_near (field_and field fields)))
+        (body_came scope outermost (behind field here) fields kept.3 each.1) names at found knows is
 
 -- The end.
 
@@ -248,7 +253,7 @@ length_bits [] = refl
 length_bits (byte ∷ bytes) =
     length-append (number_bits 8 byte) (bits_of bytes) ∙ (let one = length_number 8 byte in let more = length_bits bytes in omega (arith, one, more))
 
-outside_knows : Knows (is_known nothing_passed) outside
+outside_knows : Knows (is_held nothing_passed) outside
 outside_knows = record { covers = has; only = λ key value is. left_true (is_some (outside.give key)) false (ap is_some is) }
   where
     has : (key : Key) → (is_some (outside.give key) || false) ≡ true → (value : ℤ) × (outside.give key ≡ Some value)

@@ -1,6 +1,6 @@
 -- A number that is read is spelled plainly.
 use Rattle.std.proofs.Common.{◌≡◌, ◌⊎◌, inl, inr, ℕ, ◌+◌, ◌<◌, ◌≤◌, ◌^◌, ◌%◌, ◌==◌, ℤ, Bool, true, false, ◌&&◌, ◌||◌, List, length, take, drop, Option, Some, None, Result, Ok, Err, refl, sym, ap, ◌∙◌, subst, arith}
-use Rattle.std.specs.Prelude.{if◌then◌else◌, nat_abs, nat_le, option_and_then}
+use Rattle.std.specs.Prelude.{if◌then◌else◌, nat_abs, nat_le, not, option_and_then}
 use Rattle.std.proofs.lemmas.Bool.Decides.{nat_tests}
 use Rattle.std.proofs.lemmas.List.{length-drop, length-take}
 use Rattle.std.proofs.lemmas.Nat.{pow_pos}
@@ -21,9 +21,10 @@ use Rattle.rz_types.specs.Field.{PlainBody}
 use Rattle.rz_types.specs.Range.{fits_number}
 use Rattle.rz_types.specs.Readable.{all_known, is_number_read, tells_one}
 use Rattle.rz_types.specs.Solve.{can_solve, has_key, is_same_key, solved_count, AreSolved, IsSolvedTo, SolvesBack}
-use Rattle.rz_types.specs.Passed.{declares, is_known, told_by, Names, Passed}
+use Rattle.rz_types.specs.Passed.{declares, is_held, is_known, told_by, Names, Passed}
 use Rattle.rz_types.specs.Stored.{stored_number}
 use Rattle.rz_types.specs.Value.{names_sight}
+use Rattle.rz_types_fields.proofs.Near.{held, NoneNear}
 use Rattle.rz_types_fields.proofs.SameNames.{key_is, key_itself}
 use Rattle.rz_unlay.proofs.SpelledNames.{and_then, by_case, either_of, if_some, left_true, mapped, neither, none_is, not_both, right_true, solved_grows, some_same, value_grows, Grows, Knows}
 use Rattle.rz_unlay.proofs.Sees.{both_true}
@@ -65,7 +66,7 @@ pub record PieceRead (declared : Names) (behind : Passed) (names : Environment) 
   pub stand : Stand all at count bits
   pub ends : step.after ≡ at + count
   pub grows : Grows declared names step.names
-  pub knows : Knows (is_known behind) step.names
+  pub knows : Knows (is_held behind) step.names
   pub stored : (env : Environment) → IsPartOf step.names env → Is env step.value bits
 
 -- Names that are solved.
@@ -218,7 +219,15 @@ each_solved known solved names (OfTwo op left right) each = (
 
 -- Behind a fixed number.
 
-module _ (facts : Facts) (rest : PlainBody) (passed : Passed) (names more : Environment) (knows : Knows (is_known passed) names) (width : ℕ) (term : Term) (stored : ℕ)
+-- a name of its expression is held, where none is near
+held_now : (near met told has : Bool) → near ≡ false → has ≡ true → (met || ((has && not (near || (met || told))) || told)) ≡ true
+held_now true met told has none there = absurd cc
+held_now false met told false none there = absurd cc
+held_now false true told true none there = refl
+held_now false false true true none there = refl
+held_now false false false true none there = refl
+
+module _ (facts : Facts) (rest : PlainBody) (passed : Passed) (names more : Environment) (none_near : NoneNear passed) (knows : Knows (is_held passed) names) (width : ℕ) (term : Term) (stored : ℕ)
     (reads : is_number_read rest passed (Some term) ≡ true)
     (it : Solved (λ key seen. solved_count width key (names_sight facts seen) term stored) (λ key. has_key key term) names more) where
   fixed_same : (key : Key) → declares rest key ≡ false → more.give key ≡ names.give key
@@ -227,29 +236,29 @@ module _ (facts : Facts) (rest : PlainBody) (passed : Passed) (names more : Envi
       (λ has.
       let is_known_key : is_known passed key ≡ true =
       either_of (declares rest key) (is_known passed key) (λ given. not_both (declares rest key) given none) (λ known. known) (known_or_given rest (is_known passed) term reads key has) in
-      let old = knows.covers key is_known_key in
+      let old = knows.covers key (held passed none_near key is_known_key) in
       it.kept.give key old.0 old.1 ∙ sym old.1)
       (λ absent. it.same key absent)
 
   fixed_grows : Grows (declares rest) names more
   fixed_grows = record { kept = it.kept; same = fixed_same }
 
-  fixed_knows : Knows (is_known (told_by (Some term) passed)) more
+  fixed_knows : Knows (is_held (told_by (Some term) passed)) more
   fixed_knows = record { covers = covers; only = only }
     where
-      covers : (key : Key) → is_known (told_by (Some term) passed) key ≡ true → (value : ℤ) × (more.give key ≡ Some value)
+      covers : (key : Key) → is_held (told_by (Some term) passed) key ≡ true → (value : ℤ) × (more.give key ≡ Some value)
       covers key known =
           by_case (has_key key term) (λ has. let told = it.told key has in (told.value, told.is))
           (λ absent.
-          let before : is_known passed key ≡ true = sym (ap (λ (b : Bool). passed.met key || (b || passed.told key)) absent) ∙ known in
+          let before : is_held passed key ≡ true = sym (ap (λ (b : Bool). passed.met key || ((b && not (is_known passed key)) || passed.told key)) absent) ∙ known in
           let old = knows.covers key before in (old.0, it.kept.give key old.0 old.1))
 
-      only : (key : Key) (value : ℤ) → more.give key ≡ Some value → is_known (told_by (Some term) passed) key ≡ true
+      only : (key : Key) (value : ℤ) → more.give key ≡ Some value → is_held (told_by (Some term) passed) key ≡ true
       only key value is =
           by_case (has_key key term)
-          (λ has. right_true (passed.met key) (has_key key term || passed.told key) (left_true (has_key key term) (passed.told key) has))
+          (λ has. held_now (passed.near key) (passed.met key) (passed.told key) (has_key key term) (none_near key) has)
           (λ absent.
-          ap (λ (b : Bool). passed.met key || (b || passed.told key)) absent ∙ knows.only key value (sym (it.same key absent) ∙ is))
+          ap (λ (b : Bool). passed.met key || ((b && not (is_known passed key)) || passed.told key)) absent ∙ knows.only key value (sym (it.same key absent) ∙ is))
 
   fixed_back : (env : Environment) → IsPartOf more env → SolvesBack (is_known passed) width (names_sight facts env) term stored
   fixed_back env part = each_solved (is_known passed) (λ key. solved_count width key (names_sight facts env) term stored) env term each
@@ -262,7 +271,7 @@ module _ (facts : Facts) (rest : PlainBody) (passed : Passed) (names more : Envi
 
           go : Had (λ key seen. solved_count width key (names_sight facts seen) term stored) names more key told.value
               → solved_count width key (names_sight facts env) term stored ≡ env.give key
-          go (inl was) = not_both (is_known passed key) (knows.only key told.value was) none
+          go (inl was) = not_both (is_known passed key) (right_true (passed.near key) (is_held passed key) (knows.only key told.value was)) none
           go (inr (mid, less, so)) =
               solved_grows facts mid env (part_of_part mid more env less part) width key term stored told.value so
               ∙ sym (part.give key told.value told.is)
@@ -303,20 +312,20 @@ module _ (read : (width number : ℕ) → number_of (number_bits width number) �
   small_is all at width n it = subst (λ m. m < 2 ^ width) it.is (subst (λ w. number_of it.bits < 2 ^ w) it.stand.long (below it.bits))
 
   fixed_came : (facts : Facts) (all : List Bool) (rest : PlainBody) (passed : Passed) (form : NumForm) (width : ℤ) (term : Term) (names more : Environment) (at n : ℕ)
-      → is_number_read rest passed (Some term) ≡ true → Knows (is_known passed) names → NumberThere all at (nat_abs width) n
+      → is_number_read rest passed (Some term) ≡ true → NoneNear passed → Knows (is_held passed) names → NumberThere all at (nat_abs width) n
       → Solved (λ key seen. solved_count (nat_abs width) key (names_sight facts seen) term n) (λ key. has_key key term) names more
       → is_stored form width (value_of term (names_sight facts more)) n ≡ true
       → PieceRead (declares rest) (told_by (Some term) passed) names all at (λ env value bits. IsNumber true passed form width (Some term) (names_sight facts env) value bits)
       (record { value = None; after = at + nat_abs width; names = more })
-  fixed_came facts all rest passed form width term names more at n reads knows number solved stored =
+  fixed_came facts all rest passed form width term names more at n reads none knows number solved stored =
       let it = valued form width (value_of term (names_sight facts more)) n stored in
       record {
         count = nat_abs width;
         bits = number.bits;
         stand = number.stand;
         ends = refl;
-        grows = fixed_grows facts rest passed names more knows (nat_abs width) term n reads solved;
-        knows = fixed_knows facts rest passed names more knows (nat_abs width) term n reads solved;
+        grows = fixed_grows facts rest passed names more none knows (nat_abs width) term n reads solved;
+        knows = fixed_knows facts rest passed names more none knows (nat_abs width) term n reads solved;
         stored = λ env part. (
           it.value,
           refl,
@@ -324,14 +333,14 @@ module _ (read : (width number : ℕ) → number_of (number_bits width number) �
           it.fits,
           bits_are all at (nat_abs width) n number ∙ ap (number_bits (nat_abs width)) (sym it.stored),
           subst (SolvesBack (is_known passed) (nat_abs width) (names_sight facts env) term) (sym it.stored)
-              (fixed_back facts rest passed names more knows (nat_abs width) term n reads solved env part),
+              (fixed_back facts rest passed names more none knows (nat_abs width) term n reads solved env part),
         );
       }
 
   pub number_came : (facts : Facts) (all : List Bool) (rest : PlainBody) (passed : Passed) (form : NumForm) (width : ℤ) (fixed : Option Term) (names : Environment) (at : ℕ) (step : Step)
-      → is_number_read rest passed fixed ≡ true → Knows (is_known passed) names → number_step facts all form width fixed names at ≡ Some step
+      → is_number_read rest passed fixed ≡ true → NoneNear passed → Knows (is_held passed) names → number_step facts all form width fixed names at ≡ Some step
       → PieceRead (declares rest) (told_by fixed passed) names all at (λ env value bits. IsNumber true passed form width fixed (names_sight facts env) value bits) step
-  number_came facts all rest passed form width None names at step reads knows is =
+  number_came facts all rest passed form width None names at step reads none knows is =
       let it = mapped (λ n. record { value = Some (trees.Number n); after = at + nat_abs width; names = names }) (number_at all at (nat_abs width)) step is in
       let n = it.0 in
       let number = number_stands all at (nat_abs width) n it.1 in
@@ -344,7 +353,7 @@ module _ (read : (width number : ℕ) → number_of (number_bits width number) �
         knows = knows;
         stored = λ env part. (n, refl, small_is all at (nat_abs width) n number, bits_are all at (nat_abs width) n number);
       })
-  number_came facts all rest passed form width (Some term) names at step reads knows is =
+  number_came facts all rest passed form width (Some term) names at step reads none knows is =
       let w = nat_abs width in
       let one = and_then (λ n. option_and_then (λ more.
       if is_stored form width (value_of term (names_sight facts more)) n then Some (record { value = None; after = at + nat_abs width; names = more }) else None)
@@ -355,5 +364,5 @@ module _ (read : (width number : ℕ) → number_of (number_bits width number) �
       let more : Environment = two.0 in
       let three = if_some (is_stored form width (value_of term (names_sight facts more)) n) (record { value = None; after = at + nat_abs width; names = more }) step two.2 in
       subst (PieceRead (declares rest) (told_by (Some term) passed) names all at (λ env value bits. IsNumber true passed form width (Some term) (names_sight facts env) value bits)) three.1
-      (fixed_came facts all rest passed form width term names more at n reads knows (number_stands all at w n one.1)
+      (fixed_came facts all rest passed form width term names more at n reads none knows (number_stands all at w n one.1)
       (all_solved (λ key seen. solved_count w key (names_sight facts seen) term n) term names more two.1) three.0)

@@ -18,10 +18,11 @@ use Rattle.rz_types_fields.specs.Spells.{group_in, is_late_size, is_one_late, ma
 use Rattle.rz_types.specs.Field.{PlainBody, PlainField}
 use Rattle.rz_types.specs.Readable.{are_pieces_read, is_piece_read}
 use Rattle.rz_types.specs.Shape.{numbers_of}
-use Rattle.rz_types.specs.Passed.{behind_piece, behind_pieces, declares, is_known, Names, Passed}
+use Rattle.rz_types.specs.Passed.{behind_piece, behind_pieces, declares, is_held, Names, Passed}
 use Rattle.rz_types.specs.Piece.{fixed_integer, free_integer, integers, pieces_of, terms_of_text, Filler, OneNumber, OneText, Piece, Zeros}
 use Rattle.rz_types.specs.Solve.{solved_count}
 use Rattle.rz_types.specs.Value.{names_sight}
+use Rattle.rz_types_fields.proofs.Near.{still_none, NoneNear}
 use Rattle.rz_unlay.proofs.SpelledNames.{and_then, grows_then, grows_wide, if_some, mapped, some_same, Came, Knows}
 use Rattle.rz_unlay.proofs.Told.{part_of_part, same_part}
 use Rattle.rz_unlay.proofs.SpelledNumber.{below, number_came, PieceRead}
@@ -66,7 +67,7 @@ pub record Tells : Type 0 where
 module _ (tells : Tells) (facts : Facts) (all : List Bool) (short : length all ≤ most_bits) (outermost : Bool) (rest : PlainBody) where
   came_of : (piece : Piece) (passed behind : Passed) (names : Environment) (at : ℕ) (step : Step)
       → PieceRead (declares rest) behind names all at (λ env value bits. IsStored true passed piece facts at (names_sight facts env) value bits) step
-      → Came (declares rest) names step.names at step.after (λ env. PieceSpells true facts all env passed piece step.value) × Knows (is_known behind) step.names
+      → Came (declares rest) names step.names at step.after (λ env. PieceSpells true facts all env passed piece step.value) × Knows (is_held behind) step.names
   came_of piece passed behind names at step it =
       let ends = it.ends in
       let within = it.stand.within in
@@ -89,33 +90,33 @@ module _ (tells : Tells) (facts : Facts) (all : List Bool) (short : length all �
         it.knows,
       )
 
-  piece_came : (piece : Piece) (passed : Passed) (names : Environment) (at : ℕ) (step : Step) → is_piece_read outermost rest passed piece ≡ true → Knows (is_known passed) names
+  piece_came : (piece : Piece) (passed : Passed) (names : Environment) (at : ℕ) (step : Step) → is_piece_read outermost rest passed piece ≡ true → NoneNear passed → Knows (is_held passed) names
       → piece_step facts all rest piece names at ≡ Some step
-      → Came (declares rest) names step.names at step.after (λ env. PieceSpells true facts all env passed piece step.value) × Knows (is_known (behind_piece piece passed)) step.names
-  piece_came (OneNumber number) passed names at step reads knows is =
+      → Came (declares rest) names step.names at step.after (λ env. PieceSpells true facts all env passed piece step.value) × Knows (is_held (behind_piece piece passed)) step.names
+  piece_came (OneNumber number) passed names at step reads none knows is =
       came_of (OneNumber number) passed (behind_piece (OneNumber number) passed) names at step
-      (number_came tells.read tells.written facts all rest passed number.form number.width number.fixed names at step reads knows is)
-  piece_came (OneText text) passed names at step reads knows is =
+      (number_came tells.read tells.written facts all rest passed number.form number.width number.fixed names at step reads none knows is)
+  piece_came (OneText text) passed names at step reads none knows is =
       came_of (OneText text) passed passed names at step (text_came (below tells.read tells.written) tells.bytes tells.read tells.written facts all rest passed text names at step knows is)
-  piece_came (Zeros count) passed names at step reads knows is = came_of (Zeros count) passed passed names at step (zeros_came all rest passed count names at step knows is)
-  piece_came (Filler unit) passed names at step reads knows is = came_of (Filler unit) passed passed names at step (zeros_came all rest passed (missing unit at) names at step knows is)
+  piece_came (Zeros count) passed names at step reads none knows is = came_of (Zeros count) passed passed names at step (zeros_came all rest passed count names at step knows is)
+  piece_came (Filler unit) passed names at step reads none knows is = came_of (Filler unit) passed passed names at step (zeros_came all rest passed (missing unit at) names at step knows is)
 
-  pieces_came : (pieces : List Piece) (passed : Passed) (names : Environment) (at : ℕ) (found : Found) → are_pieces_read outermost rest passed pieces ≡ true → Knows (is_known passed) names
+  pieces_came : (pieces : List Piece) (passed : Passed) (names : Environment) (at : ℕ) (found : Found) → are_pieces_read outermost rest passed pieces ≡ true → NoneNear passed → Knows (is_held passed) names
       → pieces_found facts all rest pieces names at ≡ Some found
-      → Came (declares rest) names found.names at found.after (λ env. InOrder (PieceSpells true facts all env) passed pieces found.row) × Knows (is_known (behind_pieces pieces passed)) found.names
-  pieces_came [] passed names at found reads knows is =
-      subst (λ (f : Found). Came (declares rest) names f.names at f.after (λ env. InOrder (PieceSpells true facts all env) passed [] f.row) × Knows (is_known passed) f.names)
+      → Came (declares rest) names found.names at found.after (λ env. InOrder (PieceSpells true facts all env) passed pieces found.row) × Knows (is_held (behind_pieces pieces passed)) found.names
+  pieces_came [] passed names at found reads none knows is =
+      subst (λ (f : Found). Came (declares rest) names f.names at f.after (λ env. InOrder (PieceSpells true facts all env) passed [] f.row) × Knows (is_held passed) f.names)
       (some_same (record { row = []; after = at; names = names }) found is)
       (record { grows = record { kept = same_part names; same = λ key none. refl }; spells = λ env part late. (late, (refl, refl, refl)) }, knows)
-  pieces_came (piece ∷ pieces) passed names at found reads knows is =
+  pieces_came (piece ∷ pieces) passed names at found reads none knows is =
       let each = both_true (is_piece_read outermost rest passed piece) (are_pieces_read outermost rest (behind_piece piece passed) pieces) reads in
       let one = and_then (λ step. with_value step.value (pieces_found facts all rest pieces step.names step.after)) (piece_step facts all rest piece names at) found is in
       let step : Step = one.0 in
       let more = mapped (λ f. record { row = put step.value f.row; after = f.after; names = f.names }) (pieces_found facts all rest pieces step.names step.after) found one.2 in
       let inner : Found = more.0 in
-      let first = piece_came piece passed names at step each.0 knows one.1 in
-      let others = pieces_came pieces (behind_piece piece passed) step.names step.after inner each.1 first.1 more.1 in
-      subst (λ (f : Found). Came (declares rest) names f.names at f.after (λ env. InOrder (PieceSpells true facts all env) passed (piece ∷ pieces) f.row) × Knows (is_known (behind_pieces (piece ∷ pieces) passed)) f.names)
+      let first = piece_came piece passed names at step each.0 none knows one.1 in
+      let others = pieces_came pieces (behind_piece piece passed) step.names step.after inner each.1 (still_none piece passed none) first.1 more.1 in
+      subst (λ (f : Found). Came (declares rest) names f.names at f.after (λ env. InOrder (PieceSpells true facts all env) passed (piece ∷ pieces) f.row) × Knows (is_held (behind_pieces (piece ∷ pieces) passed)) f.names)
       more.2 (
         then_came (declares rest) (λ env. PieceSpells true facts all env passed piece) (λ env. InOrder (PieceSpells true facts all env) (behind_piece piece passed) pieces)
             step.value inner.row names step.names inner.names at step.after inner.after first.0 others.0,
@@ -185,14 +186,14 @@ module _ (tells : Tells) (facts : Facts) (all : List Bool) (short : length all �
   points_fit rect (Some terms) names at found is = (refl, fixed_row terms names at found is)
 
   pub field_pieces : (field : PlainField) (passed : Passed) (names : Environment) (at : ℕ) (step : Step) → ((found : Found) → pieces_found facts all rest (pieces_of field) names at ≡ Some found → Fits field found.row)
-      → are_pieces_read outermost rest passed (pieces_of field) ≡ true → Knows (is_known passed) names → field_of_pieces facts all rest field names at ≡ Some step
-      → Came (declares rest) names step.names at step.after (λ env. PiecesSpell true facts all field env passed step.value) × Knows (is_known (behind_pieces (pieces_of field) passed)) step.names
-  field_pieces field passed names at step fits reads knows is =
+      → are_pieces_read outermost rest passed (pieces_of field) ≡ true → NoneNear passed → Knows (is_held passed) names → field_of_pieces facts all rest field names at ≡ Some step
+      → Came (declares rest) names step.names at step.after (λ env. PiecesSpell true facts all field env passed step.value) × Knows (is_held (behind_pieces (pieces_of field) passed)) step.names
+  field_pieces field passed names at step fits reads none knows is =
       let it = mapped (λ f. record { value = value_of_field field f.row; after = f.after; names = f.names }) (pieces_found facts all rest (pieces_of field) names at) step is in
       let found : Found = it.0 in
       let fit = fits found it.1 in
-      let came = pieces_came (pieces_of field) passed names at found reads knows it.1 in
-      subst (λ (s : Step). Came (declares rest) names s.names at s.after (λ env. PiecesSpell true facts all field env passed s.value) × Knows (is_known (behind_pieces (pieces_of field) passed)) s.names)
+      let came = pieces_came (pieces_of field) passed names at found reads none knows it.1 in
+      subst (λ (s : Step). Came (declares rest) names s.names at s.after (λ env. PiecesSpell true facts all field env passed s.value) × Knows (is_held (behind_pieces (pieces_of field) passed)) s.names)
       it.2 (
         record {
           grows = came.0.grows;

@@ -15,7 +15,7 @@ use Rattle.rz_types_fields.specs.declared.tree.Tree.{Tree}
 use Rattle.rz_types_fields.specs.Row.{IsStated}
 use Rattle.rz_types_fields.specs.Spells.{BodySpells, Inside, IsCounted, Late, RowOf, RowSpells, RowsSpell, Within}
 use Rattle.rz_types.specs.Field.{field_and, no_fields, Align, Array, Fill, Number, PlainBody, Points, Switch, Text}
-use Rattle.rz_types.specs.Passed.{at_front, declares, gives_count, is_known, states, states_count, Passed}
+use Rattle.rz_types.specs.Passed.{at_front, declares, gives_count, is_held, states, states_count, Passed}
 use Rattle.rz_types.specs.Width.{fixed_widths}
 use Rattle.rz_types_fields.proofs.SameNames.{key_is, key_itself}
 use Rattle.rz_unlay.proofs.SpelledNames.{and_then, by_case, either_of, if_false, if_some, if_true, left_true, mapped, none_is, right_true, some_same, Came, Grows, Knows}
@@ -161,34 +161,34 @@ front_known : (declared met told stated_here : Bool) → ((not declared && met) 
 front_known true met told stated_here = refl
 front_known false met told stated_here = refl
 
-pub inside_knows : (row : PlainBody) (passed : Passed) (names : Environment) → Knows (is_known passed) names → Knows (is_known (at_front row passed)) (names_inside row names)
+pub inside_knows : (row : PlainBody) (passed : Passed) (names : Environment) → Knows (is_held passed) names → Knows (is_held (at_front row passed)) (names_inside row names)
 inside_knows row passed names knows = record { covers = covers; only = only }
   where
-    known_is : (key : Key) → is_known (at_front row passed) key ≡ (if declares row key then states row key else is_known passed key)
+    known_is : (key : Key) → is_held (at_front row passed) key ≡ (if declares row key then states row key else is_held passed key)
     known_is key = front_known (declares row key) (passed.met key) (passed.told key) (states row key)
 
-    covers : (key : Key) → is_known (at_front row passed) key ≡ true → (value : ℤ) × ((names_inside row names).give key ≡ Some value)
+    covers : (key : Key) → is_held (at_front row passed) key ≡ true → (value : ℤ) × ((names_inside row names).give key ≡ Some value)
     covers key known = by_case (declares row key)
         (λ given.
-        let so : states row key ≡ true = sym (known_is key ∙ if_true (declares row key) (states row key) (is_known passed key) given) ∙ known in
+        let so : states row key ≡ true = sym (known_is key ∙ if_true (declares row key) (states row key) (is_held passed key) given) ∙ known in
         let it = (stated row key).has so in
         (it.0, if_true (declares row key) (stated_in row key) (names.give key) given ∙ it.1))
         (λ none.
-        let so : is_known passed key ≡ true = sym (known_is key ∙ if_false (declares row key) (states row key) (is_known passed key) none) ∙ known in
+        let so : is_held passed key ≡ true = sym (known_is key ∙ if_false (declares row key) (states row key) (is_held passed key) none) ∙ known in
         let it = knows.covers key so in
         (it.0, if_false (declares row key) (stated_in row key) (names.give key) none ∙ it.1))
 
-    only : (key : Key) (value : ℤ) → (names_inside row names).give key ≡ Some value → is_known (at_front row passed) key ≡ true
+    only : (key : Key) (value : ℤ) → (names_inside row names).give key ≡ Some value → is_held (at_front row passed) key ≡ true
     only key value found = by_case (declares row key)
-        (λ given. known_is key ∙ if_true (declares row key) (states row key) (is_known passed key) given
+        (λ given. known_is key ∙ if_true (declares row key) (states row key) (is_held passed key) given
         ∙ (stated row key).only value (sym (if_true (declares row key) (stated_in row key) (names.give key) given) ∙ found))
-        (λ none. known_is key ∙ if_false (declares row key) (states row key) (is_known passed key) none
+        (λ none. known_is key ∙ if_false (declares row key) (states row key) (is_held passed key) none
         ∙ knows.only key value (sym (if_false (declares row key) (stated_in row key) (names.give key) none) ∙ found))
 
 -- Behind an array.
 
-pub counted_knows : (name : Option Word) (rows : ℕ) (passed : Passed) (names more : Environment) → Knows (is_known passed) names → Claimed name rows names more
-    → Knows (is_known (record { met = λ key. gives_count name key || passed.met key; told = passed.told })) more
+pub counted_knows : (name : Option Word) (rows : ℕ) (passed : Passed) (names more : Environment) → Knows (is_held passed) names → Claimed name rows names more
+    → Knows (is_held (record { met = λ key. gives_count name key || passed.met key; told = passed.told; near = λ key. false })) more
 counted_knows name rows passed names more knows it = record { covers = covers; only = only }
   where
     covers : (key : Key) → ((gives_count name key || passed.met key) || passed.told key) ≡ true → (value : ℤ) × (more.give key ≡ Some value)

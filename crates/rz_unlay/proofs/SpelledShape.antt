@@ -15,7 +15,7 @@ use Rattle.rz_types_fields.specs.Row.{By, IsChoice, IsFront, IsRow, IsValue}
 use Rattle.rz_types_fields.specs.Spells.{group_in, is_case, numbers_of_group, put, row_of, sees, AreBytes, BodySpells, CaseSpells, FieldSpells, Inside, InOrder, IsGrouped, IsNumber, IsStored, IsText, Late, PieceSpells, RowsSpell, RowSpells, Spells}
 use Rattle.rz_types.specs.Field.{case_and, field_and, no_cases, no_fields, takes_value, Align, Array, Fill, Number, PlainBody, PlainCases, PlainField, PlainPoints, PlainText, Points, Switch, Text}
 use Rattle.rz_types.specs.Shape.{numbers_of}
-use Rattle.rz_types.specs.Passed.{at_front, behind, behind_piece, nothing_passed, Passed}
+use Rattle.rz_types.specs.Passed.{at_field, at_front, behind, behind_piece, nothing_passed, Passed}
 use Rattle.rz_types.specs.Piece.{free_integer, integers, Filler, OneNumber, OneText, Piece, Zeros}
 use Rattle.rz_types.specs.Text.{PlainPart}
 use Rattle.rz_unlay_pieces.specs.Pieces.{number_of_value}
@@ -147,8 +147,8 @@ module _ (plain : Bool) (facts : Facts) (all : List Bool) where
     body_is no_fields env passed values at late after late_after it = it.0
     body_is (field_and field fields) env passed values at late after late_after it = (
       it.1,
-      fronted (takes_value field) (IsValue field) it.0 values it.1 (field_takes field env passed it.0 at late it.2 it.3 it.5) it.4,
-      body_is fields env (behind field passed) it.1 it.2 it.3 after late_after it.6,
+      fronted (takes_value field) (IsValue field) it.0 values it.1 (field_takes field env (at_field (field_and field fields) passed) it.0 at late it.2 it.3 it.5) it.4,
+      body_is fields env (behind field (at_field (field_and field fields) passed)) it.1 it.2 it.3 after late_after it.6,
     )
 
 pub spelled_is_row : (plain : Bool) (facts : Facts) (body : PlainBody) (row : List Tree) (bytes : List ℕ) → Spells plain facts body row bytes → IsRow body row

@@ -10,7 +10,7 @@ use Rattle.rz_types_fields.specs.declared.tree.Tree.TheVariants as trees
 use Rattle.rz_types_fields.specs.Row.{By}
 use Rattle.rz_types_fields.specs.Spells.{is_case, most_bits, row_of, values_for, BodySpells, CaseSpells, FieldSpells, Inside, InOrder, Late, PieceSpells, RowsSpell, Spells}
 use Rattle.rz_types.specs.Field.{case_and, field_and, no_cases, no_fields, Align, Array, Fill, Number, PlainBody, PlainCases, PlainField, Points, Switch, Text}
-use Rattle.rz_types.specs.Passed.{at_front, behind, behind_piece, nothing_passed, Passed}
+use Rattle.rz_types.specs.Passed.{at_field, at_front, behind, behind_piece, nothing_passed, Passed}
 use Rattle.rz_types.specs.Piece.{pieces_of, Piece}
 use Rattle.rz_unlay.proofs.ReadsBits.{length_bits}
 use Rattle.rz_unlay.proofs.ReadsFields.{left_few}
@@ -70,7 +70,7 @@ module _ (plain : Bool) (facts : Facts) (all : List Bool) where
     body_short : (body : PlainBody) → BodyShort body
     body_short no_fields env passed values at late after late_after few it = subst (λ n. n ≤ most_bits) (sym it.1) few
     body_short (field_and field fields) env passed values at late after late_after few it =
-        body_short fields env (behind field passed) it.1 it.2 it.3 after late_after (field_short field env passed it.0 at late it.2 it.3 few it.5) it.6
+        body_short fields env (behind field (at_field (field_and field fields) passed)) it.1 it.2 it.3 after late_after (field_short field env (at_field (field_and field fields) passed) it.0 at late it.2 it.3 few it.5) it.6
 
 pub spelled_is_short : ((unit place : ℕ) → 0 < unit → missing unit place < unit) → (plain : Bool) (facts : Facts) (body : PlainBody) (row : List Tree) (bytes : List ℕ)
     → Spells plain facts body row bytes → length bytes ≤ 16777212

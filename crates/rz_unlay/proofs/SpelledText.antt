@@ -23,7 +23,7 @@ use Rattle.rz_types_fields.specs.declared.tree.Tree.TheVariants as trees
 use Rattle.rz_types_fields.specs.Spells.{nowhere, AreBytes, IsPlainText, IsSize, IsText}
 use Rattle.rz_types.specs.Field.{PlainBody, PlainText}
 use Rattle.rz_types.specs.Range.{may_be_size}
-use Rattle.rz_types.specs.Passed.{declares, is_known, Passed}
+use Rattle.rz_types.specs.Passed.{declares, is_held, Passed}
 use Rattle.rz_types.specs.Stored.{is_too_long, stored_text}
 use Rattle.rz_types.specs.Text.{bytes_seen, text_terms, PlainPart}
 use Rattle.rz_types.specs.Value.{names_sight}
@@ -48,7 +48,7 @@ number_zero n is = grind (arith, nat_tests, is)
 pub zero_bits : (bits : List Bool) → (number_of bits == 0) ≡ true → bits ≡ zeros (length bits)
 zero_bits bits is = zeros_are bits (number_zero (number_of bits) is)
 
-pub zeros_came : (all : List Bool) (rest : PlainBody) (passed : Passed) (count : ℕ) (names : Environment) (at : ℕ) (step : Step) → Knows (is_known passed) names → zeros_step all count names at ≡ Some step
+pub zeros_came : (all : List Bool) (rest : PlainBody) (passed : Passed) (count : ℕ) (names : Environment) (at : ℕ) (step : Step) → Knows (is_held passed) names → zeros_step all count names at ≡ Some step
     → PieceRead (declares rest) passed names all at (λ env value bits. (value ≡ None) × (bits ≡ zeros count)) step
 zeros_came all rest passed count names at step knows is =
     let one = and_then _ (number_at all at count) step is in
@@ -286,7 +286,7 @@ module _ (below : (bits : List Bool) → number_of bits < 2 ^ length bits) (writ
   fronts_small (suc count) bits = (byte_small bits, fronts_small count (drop 8 bits))
 
   pub text_came : ((width number : ℕ) → number_of (number_bits width number) ≡ number % 2 ^ width) → ((bits : List Bool) → number_bits (length bits) (number_of bits) ≡ bits)
-      → (facts : Facts) (all : List Bool) (rest : PlainBody) (passed : Passed) (text : PlainText) (names : Environment) (at : ℕ) (step : Step) → Knows (is_known passed) names
+      → (facts : Facts) (all : List Bool) (rest : PlainBody) (passed : Passed) (text : PlainText) (names : Environment) (at : ℕ) (step : Step) → Knows (is_held passed) names
       → text_step facts all rest text names at ≡ Some step
       → PieceRead (declares rest) passed names all at (λ env value bits. IsText true text facts (names_sight facts env) value bits) step
   text_came read numbers facts all rest passed text names at step knows is =

@@ -5,7 +5,7 @@ use Rattle.rz_types_fields.specs.Field.{plain_body}
 use Rattle.rz_types_fields.specs.NameKey.{key_of}
 use Rattle.rz_types.specs.Notes.{first_unknown, known, passed}
 use Rattle.rz_types.specs.declared.passed.Note.{Note}
-use Rattle.rz_types.proofs.Unknown.{known_still, known_then, number_known, number_tells}
+use Rattle.rz_types.proofs.Unknown.{number_known, number_tells, told_still, told_then}
 use Rattle.rz_types.proofs.readable.is_expression_read.Goals as goal
 
 pub returns-in_ok-read-in-Some-clause-read : goal.returns-in_ok-read-in-Some-clause-read
@@ -14,11 +14,11 @@ returns-in_ok-read-in-Some-clause-read c =
     let is = sym (c.first_unknown.ensures ∙ ap (λ (notes : List Note). first_unknown (known notes) term) c.as_slice.ensures.value) ∙ ap (option_map key_of) c.in-Some.is in
     c.in_ok-read-in-Some.ensures.told ∙ number_tells (plain_body c.args.rest.now) (passed c.args.notes.now.items) term (key_of c.in-Some.key) is
 
-pub returns-in_ok-read-in-Some-clause-known : goal.returns-in_ok-read-in-Some-clause-known
-returns-in_ok-read-in-Some-clause-known c so =
+pub returns-in_ok-read-in-Some-clause-passed : goal.returns-in_ok-read-in-Some-clause-passed
+returns-in_ok-read-in-Some-clause-passed c so =
     let term = term_of c.args.expr.now in
     let is = sym (c.first_unknown.ensures ∙ ap (λ (notes : List Note). first_unknown (known notes) term) c.as_slice.ensures.value) ∙ ap (option_map key_of) c.in-Some.is in
-    c.in_ok-read-in-Some.ensures.known ∙ known_then (plain_body c.args.rest.now) (known c.args.notes.now.items) term (key_of c.in-Some.key) is (sym c.in_ok-read-in-Some.ensures.told ∙ so)
+    c.in_ok-read-in-Some.ensures.passed ∙ told_then (plain_body c.args.rest.now) (passed c.args.notes.now.items) term (key_of c.in-Some.key) is (sym c.in_ok-read-in-Some.ensures.told ∙ so)
 
 pub returns-in-None-clause-read : goal.returns-in-None-clause-read
 returns-in-None-clause-read c =
@@ -26,8 +26,8 @@ returns-in-None-clause-read c =
     let is = sym (c.first_unknown.ensures ∙ ap (λ (notes : List Note). first_unknown (known notes) term) c.as_slice.ensures.value) ∙ ap (option_map key_of) c.in-None.is in
     number_known (plain_body c.args.rest.now) (passed c.args.notes.now.items) term is
 
-pub returns-in-None-clause-known : goal.returns-in-None-clause-known
-returns-in-None-clause-known c so =
+pub returns-in-None-clause-passed : goal.returns-in-None-clause-passed
+returns-in-None-clause-passed c so =
     let term = term_of c.args.expr.now in
     let is = sym (c.first_unknown.ensures ∙ ap (λ (notes : List Note). first_unknown (known notes) term) c.as_slice.ensures.value) ∙ ap (option_map key_of) c.in-None.is in
-    known_still (known c.args.notes.now.items) term is
+    told_still (passed c.args.notes.now.items) term is
