@@ -35,7 +35,7 @@ use Rattle.rz_types.specs.Passed.{outside}
 use Rattle.rz_types.specs.Piece.{fixed_integer, fixed_terms, free_integer, integers, pieces_of, points_terms, terms_of_text, Filler, OneNumber, OneText, Piece, Zeros}
 use Rattle.rz_types.specs.Stored.{stored_number}
 use Rattle.rz_types.specs.Text.{bytes_seen, text_terms, PlainPart}
-use Rattle.rz_types.specs.Value.{is_fixed_expression, is_size_expression, names_sight, IsArithmetic}
+use Rattle.rz_types.specs.Value.{is_fixed_expression, is_size_expression, no_bits, see, IsArithmetic}
 use Rattle.rz_types.specs.Walk.{names_of}
 use Rattle.rz_types.proofs.Firsts.{first_append}
 use Rattle.rz_types.proofs.Texts.{text_one, text_says, OnlyOne}
@@ -149,9 +149,9 @@ or_known None other is also = also
 or_known (Some fault) other is also = is
 
 -- With the values of expressions, where `true` and `false` have values, and each array of a scope is counted.
-module _ (sizes : (known : Facts) (names : Environment) (term : Term) → GivesPredefined names → is_size_expression term ≡ true → IsArithmetic (value_of term (names_sight known names)))
+module _ (sizes : (known : Facts) (names : Environment) (term : Term) → GivesPredefined names → is_size_expression term ≡ true → IsArithmetic (value_of term (see known no_bits names)))
     (values : (known : Facts) (names : Environment) (scope : List Word) (term : Term) → GivesPredefined names → GivesCounts scope names
-    → is_fixed_expression term ≡ true → unknown_array scope term ≡ None → IsArithmetic (value_of term (names_sight known names)))
+    → is_fixed_expression term ≡ true → unknown_array scope term ≡ None → IsArithmetic (value_of term (see known no_bits names)))
     (known : Facts) where
   valued_known : (piece : ℕ) (found : Result ℤ EvalFault) → IsArithmetic found → Known (valued piece found)
   valued_known piece (Ok value) is = tt
@@ -163,7 +163,7 @@ module _ (sizes : (known : Facts) (names : Environment) (term : Term) → GivesP
 
   module _ (scope : List Word) (names : Environment) (gives : GivesPredefined names) (counts : GivesCounts scope names) where
     fixed_known : (piece : ℕ) (term : Term) → IsFixed scope term → Known (value_in piece known names term)
-    fixed_known piece term is = valued_known piece (value_of term (names_sight known names)) (values known names scope term gives counts is.0 is.1)
+    fixed_known piece term is = valued_known piece (value_of term (see known no_bits names)) (values known names scope term gives counts is.0 is.1)
 
     number_known : (piece : ℕ) (form : NumForm) (width : ℤ) (fixed : Option Term) → IsFixedOr scope fixed → (value : Option Tree) → Known (number_given piece known names form width fixed value)
     number_known piece form width None is value = tt
@@ -174,9 +174,9 @@ module _ (sizes : (known : Facts) (names : Environment) (term : Term) → GivesP
     size_known : (piece : ℕ) (size : Option Term) → IsSizeOr size → Known (size_in piece known names size)
     size_known piece None is = tt
     size_known piece (Some term) is =
-        then_known (value_in piece known names term) (λ size. Ok (Some size)) (valued_known piece (value_of term (names_sight known names)) (sizes known names term gives is)) (λ v. tt)
+        then_known (value_in piece known names term) (λ size. Ok (Some size)) (valued_known piece (value_of term (see known no_bits names)) (sizes known names term gives is)) (λ v. tt)
 
-    have_values : (terms : List Term) → AllByRecursion (IsFixed scope) terms → AllByRecursion (λ term. IsArithmetic (value_of term (names_sight known names))) terms
+    have_values : (terms : List Term) → AllByRecursion (IsFixed scope) terms → AllByRecursion (λ term. IsArithmetic (value_of term (see known no_bits names))) terms
     have_values [] each = tt
     have_values (term ∷ terms) each = (values known names scope term gives counts each.0.0 each.0.1, have_values terms each.1)
 
@@ -202,10 +202,10 @@ module _ (sizes : (known : Facts) (names : Environment) (term : Term) → GivesP
     bytes_known : (piece : ℕ) (fixed : Option (List PlainPart)) → AllByRecursion (IsFixed scope) (fixed_terms fixed) → (value : Option Tree) → Known (bytes_given piece known names fixed value)
     bytes_known piece None each value = tt
     bytes_known piece (Some parts) each value =
-        behind_known (first_of (map (unvalued piece known names) (text_terms parts))) (joined piece (bytes_seen nowhere known (names_sight known names) parts))
+        behind_known (first_of (map (unvalued piece known names) (text_terms parts))) (joined piece (bytes_seen nowhere known (see known no_bits names) parts))
         (terms_known piece (text_terms parts) each)
-        (joined_known piece (bytes_seen nowhere known (names_sight known names) parts)
-        (text_one (λ number. is_compile_fault number ≡ true) refl refl refl nowhere known (names_sight known names) parts (have_values (text_terms parts) each)))
+        (joined_known piece (bytes_seen nowhere known (see known no_bits names) parts)
+        (text_one (λ number. is_compile_fault number ≡ true) refl refl refl nowhere known (see known no_bits names) parts (have_values (text_terms parts) each)))
 
   bad_size_known : (piece : ℕ) (form : TextForm) (size : Option ℤ) → KnownFault (bad_size piece form size)
   bad_size_known piece form None = tt

@@ -25,7 +25,7 @@ use Rattle.rz_types.specs.Passed.{behind_piece, Names, Passed}
 use Rattle.rz_types.specs.Piece.{terms_of_text, Filler, OneNumber, OneText, Piece, Zeros}
 use Rattle.rz_types.specs.Stored.{stored_number, stored_text}
 use Rattle.rz_types.specs.Text.{bytes_seen, text_terms, PlainPart}
-use Rattle.rz_types.specs.Value.{names_sight}
+use Rattle.rz_types.specs.Value.{no_bits, see}
 use Rattle.rz_layout.proofs.Trees.{number_is, text_is}
 
 -- Results.
@@ -88,12 +88,12 @@ module _ (known : Facts) (names : Environment) where
   valued_is piece (Ok value) v is = ap (λ (z : ℤ). Ok z) (same_ok value v is)
   valued_is piece (Err fault) v is = absurd cc
 
-  value_sound : (piece : ℕ) (term : Term) (v : ℤ) → value_in piece known names term ≡ Ok v → value_of term (names_sight known names) ≡ Ok v
-  value_sound piece term v is = valued_is piece (value_of term (names_sight known names)) v is
+  value_sound : (piece : ℕ) (term : Term) (v : ℤ) → value_in piece known names term ≡ Ok v → value_of term (see known no_bits names) ≡ Ok v
+  value_sound piece term v is = valued_is piece (value_of term (see known no_bits names)) v is
 
   number_sound : (passed : Passed) (piece : ℕ) (form : NumForm) (width : ℤ) (fixed : Option Term) (value : Option Tree) → NumberValue width fixed value → (bits : List Bool)
       → (number_given piece known names form width fixed value >>= λ n. Ok (number_bits (nat_abs width) n)) ≡ Ok bits
-      → IsNumber false passed form width fixed (names_sight known names) value bits
+      → IsNumber false passed form width fixed (see known no_bits names) value bits
   number_sound passed piece form width None value has bits is =
       (has.0, has.1, has.2, sym (same_ok _ bits is) ∙ ap (λ (o : Option Tree). number_bits (nat_abs width) (number_in o)) has.1 ∙ ap (number_bits (nat_abs width)) (number_is has.0))
   number_sound passed piece form width (Some term) value has bits is =
@@ -119,7 +119,7 @@ module _ (known : Facts) (names : Environment) where
       negative forms.Zero is = cc
 
   size_sound : (piece : ℕ) (form : TextForm) (term : Option Term) (found : Option ℤ) → size_in piece known names term ≡ Ok found → bad_size piece form found ≡ None
-      → IsSize form (names_sight known names) term (option_map nat_abs found)
+      → IsSize form (see known no_bits names) term (option_map nat_abs found)
   size_sound piece form None found is allowed = ap (option_map nat_abs) (sym (same_ok None found is))
   size_sound piece form (Some term) found is allowed =
       let inner = chained (value_in piece known names term) (λ size. Ok (Some size)) found is in
@@ -142,17 +142,17 @@ module _ (known : Facts) (names : Environment) where
   unrefused_bytes (Some fault) given bytes is = absurd cc
 
   bytes_sound : (piece : ℕ) (form : TextForm) (fixed : Option (List PlainPart)) (size : Option ℕ) (value : Option Tree) → TextValue fixed value → (bytes : List ℕ)
-      → bytes_given piece known names fixed value ≡ Ok bytes → AreBytes false form known (names_sight known names) fixed size value bytes
+      → bytes_given piece known names fixed value ≡ Ok bytes → AreBytes false form known (see known no_bits names) fixed size value bytes
   bytes_sound piece form None size value has bytes is =
       (has.1 ∙ ap (λ (bs : List ℕ). Some (trees.Text bs)) (sym (ap text_in has.1 ∙ text_is has.0) ∙ same_ok (text_in value) bytes is), tt)
   bytes_sound piece form (Some parts) size value has bytes is = (
     has,
-    joined_is piece (bytes_seen nowhere known (names_sight known names) parts) bytes
-        (unrefused_bytes (first_of (map (unvalued piece known names) (text_terms parts))) (joined piece (bytes_seen nowhere known (names_sight known names) parts)) bytes is),
+    joined_is piece (bytes_seen nowhere known (see known no_bits names) parts) bytes
+        (unrefused_bytes (first_of (map (unvalued piece known names) (text_terms parts))) (joined piece (bytes_seen nowhere known (see known no_bits names) parts)) bytes is),
   )
 
   text_sound : (piece : ℕ) (text : PlainText) (value : Option Tree) → TextValue text.fixed value → (bits : List Bool)
-      → text_laid piece known names text value ≡ Ok bits → IsText false text known (names_sight known names) value bits
+      → text_laid piece known names text value ≡ Ok bits → IsText false text known (see known no_bits names) value bits
   text_sound piece text value has bits is =
       let one = chained (size_in piece known names text.size) (λ size. bytes_given piece known names text.fixed value >>= λ bytes. bytes_laid piece text.form size bytes) bits is in
       let two = chained (bytes_given piece known names text.fixed value) (λ bytes. bytes_laid piece text.form one.value bytes) bits one.leads in
@@ -169,7 +169,7 @@ module _ (known : Facts) (names : Environment) where
       }
 
   stored_sound : (passed : Passed) (piece : Piece) (value : Option Tree) → PieceValue piece value → (draft : Draft) (bits : List Bool)
-      → piece_laid known names draft piece value ≡ Ok bits → IsStored false passed piece known (length draft.bits) (names_sight known names) value bits
+      → piece_laid known names draft piece value ≡ Ok bits → IsStored false passed piece known (length draft.bits) (see known no_bits names) value bits
   stored_sound passed (OneNumber number) value has draft bits is =
       number_sound passed draft.piece number.form number.width number.fixed value has bits is
   stored_sound passed (OneText text) value has draft bits is = text_sound draft.piece text value has bits is
@@ -250,11 +250,11 @@ module _ (all : List Bool) where
         let grew = with_grew draft next inner.value inner.leads in
         let long : length next.bits ≡ length draft.bits + length inner.value = ap length grew.0 ∙ length-append draft.bits inner.value in
         record {
-          late_after = late ++ marks passed.met late piece (names_sight known names) (length inner.value);
+          late_after = late ++ marks passed.met late piece (see known no_bits names) (length inner.value);
           spells = record {
             bits = inner.value;
             stored = stored_sound known names passed piece value has draft inner.value inner.is;
-            early = no_late_size passed.met late piece (names_sight known names);
+            early = no_late_size passed.met late piece (see known no_bits names);
             there = there draft next inner.value grew.0 front;
             ends = long;
             short = subst (λ n. n ≤ most_bits) (sym long) grew.1;

@@ -22,7 +22,7 @@ use Rattle.rz_types.specs.Passed.{behind_piece, Passed}
 use Rattle.rz_types.specs.Piece.{Filler, OneNumber, OneText, Piece, Zeros}
 use Rattle.rz_types.specs.Stored.{is_too_long, stored_number, stored_text}
 use Rattle.rz_types.specs.Text.{bytes_seen, text_terms, PlainPart}
-use Rattle.rz_types.specs.Value.{names_sight}
+use Rattle.rz_types.specs.Value.{no_bits, see}
 use Rattle.rz_types.proofs.Texts.{bytes_valued}
 use Rattle.rz_layout.proofs.Room.{laid_in}
 use Rattle.rz_layout.proofs.Trees.{number_is, text_is}
@@ -41,11 +41,11 @@ take_more (suc a) b zero (x ∷ xs) is = absurd (omega (arith, is))
 take_more (suc a) b (suc n) (x ∷ xs) is = ap (λ (ys : List Bool). x ∷ ys) (take_more a b n xs (omega (arith, is)))
 
 module _ (known : Facts) (names : Environment) where
-  value_spelled : (piece : ℕ) (term : Term) (v : ℤ) → value_of term (names_sight known names) ≡ Ok v → value_in piece known names term ≡ Ok v
+  value_spelled : (piece : ℕ) (term : Term) (v : ℤ) → value_of term (see known no_bits names) ≡ Ok v → value_in piece known names term ≡ Ok v
   value_spelled piece term v found = ap (valued piece) found
 
   number_spelled : (passed : Passed) (piece : ℕ) (form : NumForm) (width : ℤ) (fixed : Option Term) (value : Option Tree) (bits : List Bool)
-      → IsNumber false passed form width fixed (names_sight known names) value bits
+      → IsNumber false passed form width fixed (see known no_bits names) value bits
       → (number_given piece known names form width fixed value >>= λ n. Ok (number_bits (nat_abs width) n)) ≡ Ok bits
   number_spelled passed piece form width None value bits it =
       ap (λ (o : Option Tree). good (number_bits (nat_abs width) (number_in o))) it.1
@@ -67,7 +67,7 @@ module _ (known : Facts) (names : Environment) where
     same : option_map nat_abs found ≡ size
     allowed : bad_size piece form found ≡ None
 
-  size_spelled : (piece : ℕ) (form : TextForm) (term : Option Term) (size : Option ℕ) → IsSize form (names_sight known names) term size → HasSize piece form term size
+  size_spelled : (piece : ℕ) (form : TextForm) (term : Option Term) (size : Option ℕ) → IsSize form (see known no_bits names) term size → HasSize piece form term size
   size_spelled piece form None size it = record { found = None; is = refl; same = sym it; allowed = refl }
   size_spelled piece form (Some term) size it = record {
     found = Some (pos it.0);
@@ -76,7 +76,7 @@ module _ (known : Facts) (names : Environment) where
     allowed = ap (λ (b : Bool). unless b (refusal 207 piece (pos it.0))) it.2;
   }
 
-  terms_spelled : (piece : ℕ) (terms : List Term) → AllByRecursion (λ term. (v : ℤ) × (value_of term (names_sight known names) ≡ Ok v)) terms
+  terms_spelled : (piece : ℕ) (terms : List Term) → AllByRecursion (λ term. (v : ℤ) × (value_of term (see known no_bits names) ≡ Ok v)) terms
       → first_of (map (unvalued piece known names) terms) ≡ None
   terms_spelled piece [] each = refl
   terms_spelled piece (term ∷ terms) each =
@@ -84,14 +84,14 @@ module _ (known : Facts) (names : Environment) where
       ∙ terms_spelled piece terms each.1
 
   bytes_spelled : (piece : ℕ) (form : TextForm) (fixed : Option (List PlainPart)) (size : Option ℕ) (value : Option Tree) (bytes : List ℕ)
-      → AreBytes false form known (names_sight known names) fixed size value bytes → bytes_given piece known names fixed value ≡ Ok bytes
+      → AreBytes false form known (see known no_bits names) fixed size value bytes → bytes_given piece known names fixed value ≡ Ok bytes
   bytes_spelled piece form None size value bytes it = ap (λ (o : Option Tree). good (text_in o)) it.0 ∙ ap good (text_is bytes)
   bytes_spelled piece form (Some parts) size value bytes it =
-      ap (λ (o : Option Refusal). behind_refusal o (joined piece (bytes_seen nowhere known (names_sight known names) parts)))
-      (terms_spelled piece (text_terms parts) (bytes_valued nowhere known (names_sight known names) parts bytes it.1))
+      ap (λ (o : Option Refusal). behind_refusal o (joined piece (bytes_seen nowhere known (see known no_bits names) parts)))
+      (terms_spelled piece (text_terms parts) (bytes_valued nowhere known (see known no_bits names) parts bytes it.1))
       ∙ ap (joined piece) it.1
 
-  text_spelled : (piece : ℕ) (text : PlainText) (value : Option Tree) (bits : List Bool) → IsText false text known (names_sight known names) value bits
+  text_spelled : (piece : ℕ) (text : PlainText) (value : Option Tree) (bits : List Bool) → IsText false text known (see known no_bits names) value bits
       → text_laid piece known names text value ≡ Ok bits
   text_spelled piece text value bits it =
       let s = size_spelled piece text.form text.size it.size it.has_size in
@@ -104,7 +104,7 @@ module _ (known : Facts) (names : Environment) where
       ∙ ap good (sym it.are_bits)
 
   pub stored_spelled : (passed : Passed) (piece : Piece) (draft : Draft) (value : Option Tree) (bits : List Bool)
-      → IsStored false passed piece known (length draft.bits) (names_sight known names) value bits → piece_laid known names draft piece value ≡ Ok bits
+      → IsStored false passed piece known (length draft.bits) (see known no_bits names) value bits → piece_laid known names draft piece value ≡ Ok bits
   stored_spelled passed (OneNumber number) draft value bits it =
       number_spelled passed draft.piece number.form number.width number.fixed value bits it
   stored_spelled passed (OneText text) draft value bits it = text_spelled draft.piece text value bits it
@@ -170,7 +170,7 @@ module _ (all : List Bool) where
     pub piece_spelled : (passed : Passed) (piece : Piece) (value : Option Tree) (at after : ℕ) (late late_after : Late)
         → PieceSpells false known all names passed piece value at late after late_after → (draft : Draft) → Fits draft at → Goes (lay known names draft piece value) after
     piece_spelled passed piece value at after late late_after it draft fits =
-        let stored = subst (λ (n : ℕ). IsStored false passed piece known n (names_sight known names) value it.bits) (sym fits.size) it.stored in
+        let stored = subst (λ (n : ℕ). IsStored false passed piece known n (see known no_bits names) value it.bits) (sym fits.size) it.stored in
         let ends : length draft.bits + length it.bits ≡ after = ap (λ n. n + length it.bits) fits.size ∙ sym it.ends in
         record {
           next = record { piece = one_more draft.piece; bits = draft.bits ++ it.bits };
@@ -184,8 +184,8 @@ module _ (all : List Bool) where
 
     piece_taken : (passed : Passed) (piece : Piece) (value : Option Tree) (at after : ℕ) (late late_after : Late)
         → PieceSpells false known all names passed piece value at late after late_after → is_some value ≡ takes_one piece
-    piece_taken passed (OneNumber number) value at after late late_after it = number_taken passed number.form number.width number.fixed (names_sight known names) value it.bits it.stored
-    piece_taken passed (OneText text) value at after late late_after it = bytes_taken text.form known (names_sight known names) text.fixed it.stored.size value it.stored.bytes it.stored.are_bytes
+    piece_taken passed (OneNumber number) value at after late late_after it = number_taken passed number.form number.width number.fixed (see known no_bits names) value it.bits it.stored
+    piece_taken passed (OneText text) value at after late late_after it = bytes_taken text.form known (see known no_bits names) text.fixed it.stored.size value it.stored.bytes it.stored.are_bytes
     piece_taken passed (Zeros count) value at after late late_after it = ap is_some it.stored.0
     piece_taken passed (Filler unit) value at after late late_after it = ap is_some it.stored.0
 

@@ -13,7 +13,7 @@ ghost use Rattle.rz_types.specs.Field.{plain_text};
 ghost use Rattle.rz_types.specs.Piece.{OneText};
 ghost use Rattle.rz_types.specs.Stored.{before_zero};
 ghost use Rattle.rz_types.specs.Text.{bytes_seen, plain_parts};
-ghost use Rattle.rz_types.specs.Value.{names_sight};
+ghost use Rattle.rz_types.specs.Value.{no_bits, see};
 
 use crate::LayFault;
 use crate::laid::{Laid, one_more};
@@ -108,7 +108,7 @@ fn joined_bytes(
     names: &NamesEnv<'_>,
     piece: u64,
 ) -> Result<Bytes, Stop<LayFault>>
-    ensures { Gives (joined piece (bytes_seen nowhere names.now.facts.now (names_sight names.now.facts.now (known names.now.notes.now)) (plain_parts parts.now))) (fault_seen refusal_of result) }
+    ensures { Gives (joined piece (bytes_seen nowhere names.now.facts.now (see names.now.facts.now no_bits (known names.now.notes.now)) (plain_parts parts.now))) (fault_seen refusal_of result) }
 {
     match text_seen(alloc, parts, Mark { file: 0, line: 0 }, names.facts, names) {
         Ok(bytes) => Ok(bytes),

@@ -8,7 +8,7 @@ use Rattle.rz_core.specs.declared.resource.Word.{Word}
 use Rattle.rz_expr.specs.Environment.{Environment}
 use Rattle.rz_expr.specs.Term.{BitsAt, Constant, FactOf, Named, OfOne, OfTwo, RowsOf, Term}
 use Rattle.rz_expr.specs.Value.{value_of}
-use Rattle.rz_types_fields.specs.Value.{is_fixed_expression, is_size_expression, names_sight, IsArithmetic}
+use Rattle.rz_types_fields.specs.Value.{is_fixed_expression, is_size_expression, no_bits, see, IsArithmetic}
 use Rattle.rz_types_fields.proofs.Arithmetic.{sight_sound, sound, KnowsArrays}
 use Rattle.rz_types.specs.Names.{GivesCounts, GivesPredefined}
 use Rattle.rz_types.specs.Rules.{unknown_array}
@@ -32,9 +32,9 @@ arrays_known scope names counts (OfTwo op left right) is none =
     (arrays_known scope names counts left each.0 named.0, arrays_known scope names counts right each.1 named.1)
 
 pub fixed_sound : (known : Facts) (names : Environment) (scope : List Word) (term : Term) → GivesPredefined names → GivesCounts scope names
-    → is_fixed_expression term ≡ true → unknown_array scope term ≡ None → IsArithmetic (value_of term (names_sight known names))
-fixed_sound known names scope term gives counts is none = sight_sound (names_sight known names) gives.give term is (arrays_known scope names counts term is none)
+    → is_fixed_expression term ≡ true → unknown_array scope term ≡ None → IsArithmetic (value_of term (see known no_bits names))
+fixed_sound known names scope term gives counts is none = sight_sound (see known no_bits names) gives.give term is (arrays_known scope names counts term is none)
 
 pub size_sound : (known : Facts) (names : Environment) (term : Term) → GivesPredefined names → is_size_expression term ≡ true
-    → IsArithmetic (value_of term (names_sight known names))
-size_sound known names term gives is = sound (names_sight known names) gives.give term is
+    → IsArithmetic (value_of term (see known no_bits names))
+size_sound known names term gives is = sound (see known no_bits names) gives.give term is

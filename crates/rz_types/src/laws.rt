@@ -10,7 +10,7 @@ ghost use Rattle.rz_types.specs.Rules.{broken, keeps_rules, BreaksNone, IsFirstB
 ghost use Rattle.rz_types.specs.declared.rules.TypeFault.{TypeFault};
 ghost use Rattle.rz_core.specs.declared.resource.Word.{Word};
 ghost use Rattle.rz_expr.specs.Environment.{Environment};
-ghost use Rattle.rz_types_fields.specs.Value.{is_fixed_expression, is_size_expression, names_sight, IsArithmetic};
+ghost use Rattle.rz_types_fields.specs.Value.{is_fixed_expression, is_size_expression, no_bits, see, IsArithmetic};
 ghost use Rattle.rz_types.specs.Rules.{unknown_array};
 ghost use Rattle.rz_types.specs.Names.{GivesCounts, GivesPredefined};
 
@@ -40,7 +40,7 @@ pub fn keys_stand_apart()
 /// it names has a number of rows.
 pub fn field_expressions_have_values()
     ensures sizes { (known : Facts) (names : Environment) (term : Term) → GivesPredefined names → is_size_expression term ≡ true
-        → IsArithmetic (value_of term (names_sight known names)) }
+        → IsArithmetic (value_of term (see known no_bits names)) }
     ensures values { (known : Facts) (names : Environment) (scope : List Word) (term : Term) → GivesPredefined names → GivesCounts scope names
-        → is_fixed_expression term ≡ true → unknown_array scope term ≡ None → IsArithmetic (value_of term (names_sight known names)) }
+        → is_fixed_expression term ≡ true → unknown_array scope term ≡ None → IsArithmetic (value_of term (see known no_bits names)) }
 {}

@@ -22,7 +22,7 @@ use Rattle.rz_types_fields.specs.Passed.{gives_count, outside}
 use Rattle.rz_types_fields.specs.Piece.{pieces_of, Filler, OneNumber, OneText, Piece, Zeros}
 use Rattle.rz_types_fields.specs.Stored.{is_too_long, stored_number, stored_text}
 use Rattle.rz_types_fields.specs.Text.{bytes_seen, text_terms, PlainPart}
-use Rattle.rz_types_fields.specs.Value.{names_sight}
+use Rattle.rz_types_fields.specs.Value.{no_bits, see}
 use Rattle.rz_types_fields.specs.declared.field.NumForm.{NumForm}
 use Rattle.rz_types_fields.specs.declared.field.TextForm.{TextForm}
 use Rattle.rz_types_fields.specs.Row.{IsRow}
@@ -69,7 +69,7 @@ valued piece (Ok value) = Ok value
 valued piece (Err fault) = Err (value_refusal piece fault)
 
 abbrev pub value_in : ℕ → Facts → Environment → Term → Result ℤ Refusal
-value_in piece known names term = valued piece (value_of term (names_sight known names))
+value_in piece known names term = valued piece (value_of term (see known no_bits names))
 
 -- what a value is: a number, bytes, rows, the name of a case and its row
 abbrev pub number_of_tree : Tree-F Tree → ℕ
@@ -153,7 +153,7 @@ behind_refusal (Some fault) bytes = Err fault
 -- the numbers of all formats in the parts are computed before a format is filled
 abbrev pub fixed_bytes : ℕ → Facts → Environment → List PlainPart → Result (List ℕ) Refusal
 fixed_bytes piece known names parts =
-    behind_refusal (first_of (map (unvalued piece known names) (text_terms parts))) (joined piece (bytes_seen nowhere known (names_sight known names) parts))
+    behind_refusal (first_of (map (unvalued piece known names) (text_terms parts))) (joined piece (bytes_seen nowhere known (see known no_bits names) parts))
 
 -- the bytes of a text: the row's, or those of the fixed parts
 abbrev pub bytes_given : ℕ → Facts → Environment → Option (List PlainPart) → Option Tree → Result (List ℕ) Refusal

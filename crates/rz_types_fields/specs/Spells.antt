@@ -19,7 +19,7 @@ use Rattle.rz_types_fields.specs.Range.{fits_number, may_be_size}
 use Rattle.rz_types_fields.specs.Solve.{SolvesBack}
 use Rattle.rz_types_fields.specs.Stored.{before_zero, is_too_long, stored_number, stored_text}
 use Rattle.rz_types_fields.specs.Text.{bytes_seen, PlainPart}
-use Rattle.rz_types_fields.specs.Value.{names_sight}
+use Rattle.rz_types_fields.specs.Value.{no_bits, see}
 use Rattle.rz_types_fields.specs.declared.field.NumForm.{NumForm}
 use Rattle.rz_types_fields.specs.declared.field.TextForm.{TextForm}
 use Rattle.rz_types_fields.specs.declared.field.TextForm.TheVariants as texts
@@ -65,7 +65,7 @@ is_late met late term sight = false
 
 -- what an expression sees at a place in a resource with these bits; so far no expression of a field reads bits
 abbrev pub sees : Facts → List Bool → Environment → ℕ → Sight
-sees known all names at = names_sight known names
+sees known all names at = see known no_bits names
 
 -- the row of an array: the name of the array, where it has one, and the number of the row, from 1
 pub record RowOf : Type 0 where

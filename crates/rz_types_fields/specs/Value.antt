@@ -104,9 +104,13 @@ symbol_key symbols key = None
 abbrev pub field_sight : Facts → List Symbol → Sight
 field_sight known symbols = record { names = record { give = symbol_key symbols }; bits = λ first width. None; fact = fact_of known }
 
--- with names that have these values, and the facts of a resource; so far no expression of a field reads bits
-abbrev pub names_sight : Facts → Environment → Sight
-names_sight known names = record { names = names; bits = λ first width. None; fact = fact_of known }
+-- with the facts of a resource, bits, and names that have these values
+abbrev pub see : Facts → (ℤ → ℤ → Option ℤ) → Environment → Sight
+see known bits names = record { names = names; bits = bits; fact = fact_of known }
+
+-- so far no expression of a field reads bits
+abbrev pub no_bits : ℤ → ℤ → Option ℤ
+no_bits first width = None
 
 -- Values.
 

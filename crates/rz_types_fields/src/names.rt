@@ -8,7 +8,7 @@ ghost use Rattle.rz_expr.specs.Value.{reduced};
 ghost use Rattle.rz_types_fields.specs.Field.{plain_body, plain_field};
 ghost use Rattle.rz_types_fields.specs.Known.{known, noting, stated_by, stated_in, stated_value};
 ghost use Rattle.rz_types_fields.specs.NameKey.{key_of};
-ghost use Rattle.rz_types_fields.specs.Value.{names_sight};
+ghost use Rattle.rz_types_fields.specs.Value.{no_bits, see};
 
 use crate::name_key::{KeyRef, counts_rows, declares, gives_count, is_same_key};
 use crate::{Field, fact_of};
@@ -37,9 +37,9 @@ pub struct NamesEnv<'a> {
 }
 
 impl Env for NamesEnv<'_> {
-    ghost view = { λ env. names_sight env.facts.now (known env.notes.now) };
+    ghost view = { λ env. see env.facts.now no_bits (known env.notes.now) };
 
-    ghost belongs = { λ env finished. finished ≡ names_sight env.facts.now (known env.notes.now) };
+    ghost belongs = { λ env finished. finished ≡ see env.facts.now no_bits (known env.notes.now) };
 
     fn place(&self, name: &Word) -> Option<i32> {
         predefined(name)

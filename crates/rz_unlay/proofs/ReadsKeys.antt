@@ -22,7 +22,7 @@ use Rattle.rz_types.specs.Shape.{are_cases_shaped, are_shaped, has_value, is_key
 use Rattle.rz_types.specs.Passed.{at_field, at_front, behind, Passed}
 use Rattle.rz_types.specs.Piece.{OneNumber}
 use Rattle.rz_types.specs.Stored.{stored_number}
-use Rattle.rz_types.specs.Value.{names_sight}
+use Rattle.rz_types.specs.Value.{no_bits, see}
 use Rattle.rz_types.specs.Width.{capped, case_keys, field_key, fixed_width, key_bits, keys_from, number_key, plus}
 use Rattle.rz_unlay.specs.Cursor.{has_bits, has_key_at, has_keys, key_at}
 use Rattle.rz_bits.specs.View.{number_at}
@@ -44,7 +44,7 @@ record KeyBits (width : ℤ) (fixed : Option Term) (bits : List Bool) : Type 0 w
   small : key_bits width fixed < 2 ^ nat_abs width
 
 key_number : (facts : Facts) (env : Environment) → HasPlaces env → (passed : Passed) (form : NumForm) (width : ℤ) (fixed : Option Term) (value : Option Tree) (bits : List Bool)
-    → has_value fixed ≡ true → IsNumber true passed form width fixed (names_sight facts env) value bits → KeyBits width fixed bits
+    → has_value fixed ≡ true → IsNumber true passed form width fixed (see facts no_bits env) value bits → KeyBits width fixed bits
 key_number facts env has passed form width None value bits there it = absurd cc
 key_number facts env has passed form width (Some term) value bits there (v, is, valued, fits, are, solves) = by (constant_of term) refl there
   where

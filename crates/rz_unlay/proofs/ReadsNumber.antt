@@ -23,7 +23,7 @@ use Rattle.rz_types.specs.Readable.{all_known, is_number_read, tells_one}
 use Rattle.rz_types.specs.Solve.{can_solve, has_key, is_same_key, solved_count, undoes_one, undoes_right, AreSolved, IsSolvedTo, SolvesBack}
 use Rattle.rz_types.specs.Passed.{declares, is_held, is_known, told_by, Names, Passed}
 use Rattle.rz_types.specs.Stored.{stored_number}
-use Rattle.rz_types.specs.Value.{names_sight}
+use Rattle.rz_types.specs.Value.{no_bits, see}
 use Rattle.rz_unlay.proofs.Sees.{both_true, by_test, solve_same, value_same, Covers}
 use Rattle.rz_unlay.proofs.SpelledNames.{either_of, left_true, right_true}
 use Rattle.rz_unlay.proofs.Teller.{teller}
@@ -96,31 +96,31 @@ name_has : (name : List ℕ) (found : Option ℤ) (value : ℤ) → known_value 
 name_has name None value is = absurd cc
 name_has name (Some v) value is = (v, refl)
 
-has_value : (facts : Facts) (names : Environment) (key : Key) (term : Term) (value : ℤ) → value_of term (names_sight facts names) ≡ Ok value → has_key key term ≡ true
+has_value : (facts : Facts) (bits : ℤ → ℤ → Option ℤ) (names : Environment) (key : Key) (term : Term) (value : ℤ) → value_of term (see facts bits names) ≡ Ok value → has_key key term ≡ true
     → (v : ℤ) × (names.give key ≡ Some v)
-has_value facts names key (Constant number) value is has = absurd cc
-has_value facts names key (Named name) value is has =
+has_value facts bits names key (Constant number) value is has = absurd cc
+has_value facts bits names key (Named name) value is has =
     let it = name_has name (names.give (place_key name)) value is in (it.0, ap names.give (key_is key (place_key name) has) ∙ it.1)
-has_value facts names key (RowsOf name) value is has =
+has_value facts bits names key (RowsOf name) value is has =
     let it = name_has name (names.give (count_key name)) value is in (it.0, ap names.give (key_is key (count_key name) has) ∙ it.1)
-has_value facts names key (BitsAt name start width) value is has =
+has_value facts bits names key (BitsAt name start width) value is has =
     let one = parts_have (known_value name (names.give (place_key name))) _ value is in
-    let two = parts_have (value_of start (names_sight facts names)) _ value one.2 in
-    let three = parts_have (value_of width (names_sight facts names)) _ value two.2 in
+    let two = parts_have (value_of start (see facts bits names)) _ value one.2 in
+    let three = parts_have (value_of width (see facts bits names)) _ value two.2 in
     either_of (is_same_key key (place_key name) || has_key key start) (has_key key width)
     (either_of (is_same_key key (place_key name)) (has_key key start)
     (λ same. let it = name_has name (names.give (place_key name)) one.0 one.1 in (it.0, ap names.give (key_is key (place_key name) same) ∙ it.1))
-    (λ there. has_value facts names key start two.0 two.1 there))
-    (λ there. has_value facts names key width three.0 three.1 there)
+    (λ there. has_value facts bits names key start two.0 two.1 there))
+    (λ there. has_value facts bits names key width three.0 three.1 there)
     has
-has_value facts names key (FactOf which) value is has = absurd cc
-has_value facts names key (OfOne op operand) value is has =
-    let one = parts_have (value_of operand (names_sight facts names)) _ value is in has_value facts names key operand one.0 one.1 has
-has_value facts names key (OfTwo op left right) value is has =
-    let one = parts_have (value_of left (names_sight facts names)) _ value is in
-    let two = parts_have (value_of right (names_sight facts names)) _ value one.2 in
-    either_of (has_key key left) (has_key key right) (λ there. has_value facts names key left one.0 one.1 there)
-    (λ there. has_value facts names key right two.0 two.1 there) has
+has_value facts bits names key (FactOf which) value is has = absurd cc
+has_value facts bits names key (OfOne op operand) value is has =
+    let one = parts_have (value_of operand (see facts bits names)) _ value is in has_value facts bits names key operand one.0 one.1 has
+has_value facts bits names key (OfTwo op left right) value is has =
+    let one = parts_have (value_of left (see facts bits names)) _ value is in
+    let two = parts_have (value_of right (see facts bits names)) _ value one.2 in
+    either_of (has_key key left) (has_key key right) (λ there. has_value facts bits names key left one.0 one.1 there)
+    (λ there. has_value facts bits names key right two.0 two.1 there) has
 
 -- What a number tells.
 
@@ -154,9 +154,9 @@ module _ (known : Names) (env : Environment) (solved : Key → Environment → O
   all_are_known (OfTwo op left right) is = let each = both_true (all_known known left) _ is in (all_are_known left each.0, all_are_known right each.1)
 
 module _ (facts : Facts) (rest : PlainBody) (known : Names) (env : Environment) (width : ℕ) (term : Term) (stored : ℕ) (value : ℤ)
-    (is_value : value_of term (names_sight facts env) ≡ Ok value) (back : SolvesBack known width (names_sight facts env) term stored) where
+    (is_value : value_of term (see facts no_bits env) ≡ Ok value) (back : SolvesBack known width (see facts no_bits env) term stored) where
   abbrev solved : Key → Environment → Option ℤ
-  solved key names = solved_count width key (names_sight facts names) term stored
+  solved key names = solved_count width key (see facts no_bits names) term stored
 
   key_told : (key : Key) → can_solve key term ≡ true → all_known (λ other. is_same_key key other || known other) term ≡ true → IsTold known env solved key
   key_told key can others = by (known key) refl
@@ -165,12 +165,12 @@ module _ (facts : Facts) (rest : PlainBody) (known : Names) (env : Environment) 
       by true is = inl is
       by false is =
           let there = solved_there key term can in
-          let has = has_value facts env key term value is_value there in
+          let has = has_value facts no_bits env key term value is_value there in
           inr (
             has.0,
             has.1,
             λ names covers part.
-                ap (λ (o : Option ℤ). option_map (λ count. pos (cast_unsigned w64 count % 2 ^ width)) o) (solve_same facts known names env covers part key term can others (pos stored))
+                ap (λ (o : Option ℤ). option_map (λ count. pos (cast_unsigned w64 count % 2 ^ width)) o) (solve_same facts no_bits known names env covers part key term can others (pos stored))
                 ∙ solved_at known (λ key. solved key env) env key is term back there ∙ has.1,
           )
 
@@ -227,7 +227,7 @@ told_knows term passed names more knows kept has key is =
 
 module _ (back : (width number : ℕ) → number < 2 ^ width → number_of (number_bits width number) ≡ number) (facts : Facts) (rest : PlainBody) (all : List Bool) (env : Environment) where
   pub number_steps : (passed : Passed) (names : Environment) → NoneNear passed → Knows passed names → IsPartOf names env → (form : NumForm) (width : ℤ) (fixed : Option Term) (value : Option Tree)
-      (bits : List Bool) (at : ℕ) → is_number_read rest passed fixed ≡ true → IsNumber true passed form width fixed (names_sight facts env) value bits
+      (bits : List Bool) (at : ℕ) → is_number_read rest passed fixed ≡ true → IsNumber true passed form width fixed (see facts no_bits env) value bits
       → take (length bits) (drop at all) ≡ bits → at + length bits ≤ length all
       → Steps (told_by fixed passed) env value (at + length bits) (number_step facts all form width fixed names at)
   number_steps passed names none knows part form width None value bits at reads (n, is, small, are) there within =
@@ -247,18 +247,18 @@ module _ (back : (width number : ℕ) → number < 2 ^ width → number_of (numb
       let small : n < 2 ^ w = mod-lt _ (pow_pos w) in
       let found = number_there back all at w n small (subst (λ (l : ℕ). at + l ≤ length all) long within) (sym (ap (λ (l : ℕ). take l (drop at all)) long) ∙ there ∙ are) in
       let told = names_told facts rest (is_known passed) env w term n v valued solves reads in
-      let goes = all_told (is_known passed) env (λ key seen. solved_count w key (names_sight facts seen) term n) term names (covers_known passed names none knows) part told in
-      let now : value_of term (names_sight facts goes.more) ≡ Ok v =
-      value_same facts (λ key. has_key key term) goes.more env goes.has goes.part term (all_of_its (λ key. has_key key term) term (λ key has. has)) ∙ valued in
+      let goes = all_told (is_known passed) env (λ key seen. solved_count w key (see facts no_bits seen) term n) term names (covers_known passed names none knows) part told in
+      let now : value_of term (see facts no_bits goes.more) ≡ Ok v =
+      value_same facts no_bits (λ key. has_key key term) goes.more env goes.has goes.part term (all_of_its (λ key. has_key key term) term (λ key has. has)) ∙ valued in
       let same : (n == n) ≡ true = grind (arith, nat_tests) in
-      let stored : is_stored form width (value_of term (names_sight facts goes.more)) n ≡ true =
+      let stored : is_stored form width (value_of term (see facts no_bits goes.more)) n ≡ true =
       ap (λ (r : Result ℤ EvalFault). is_stored form width r n) now ∙ ap (λ (b : Bool). b && (n == n)) fits ∙ same in
       record {
         names = goes.more;
         is = ap (option_and_then (λ n. option_and_then (λ more.
-            if is_stored form width (value_of term (names_sight facts more)) n then Some (record { value = None; after = at + w; names = more }) else None)
-            (solve_all (λ key seen. solved_count w key (names_sight facts seen) term n) term names))) found
-            ∙ ap (option_and_then (λ more. if is_stored form width (value_of term (names_sight facts more)) n then Some (record { value = None; after = at + w; names = more }) else None)) goes.is
+            if is_stored form width (value_of term (see facts no_bits more)) n then Some (record { value = None; after = at + w; names = more }) else None)
+            (solve_all (λ key seen. solved_count w key (see facts no_bits seen) term n) term names))) found
+            ∙ ap (option_and_then (λ more. if is_stored form width (value_of term (see facts no_bits more)) n then Some (record { value = None; after = at + w; names = more }) else None)) goes.is
             ∙ ap (λ (b : Bool). if b then Some (record { value = None; after = at + w; names = goes.more }) else None) stored
             ∙ sym (λ i. Some (record { value = is i; after = at + long i; names = goes.more }));
         knows = told_knows term passed names goes.more knows goes.kept goes.has;

@@ -25,7 +25,7 @@ use Rattle.rz_types.specs.Passed.{is_known, Names, Passed}
 use Rattle.rz_types.specs.Piece.{fixed_terms, terms_of_text}
 use Rattle.rz_types.specs.Stored.{before_zero, in_size, is_too_long, sized, stored_text, to_size}
 use Rattle.rz_types.specs.Text.{text_terms, PlainPart}
-use Rattle.rz_types.specs.Value.{names_sight}
+use Rattle.rz_types.specs.Value.{no_bits, see}
 use Rattle.rz_types.specs.Width.{fixed_widths, sized_bytes}
 use Rattle.rz_bits.specs.View.{bytes_at}
 use Rattle.rz_unlay_pieces.specs.Pieces.{bytes_left, fixed_read, same_bytes, size_found, size_read, stored_size, text_read, text_size, text_step, up_to_zero}
@@ -131,17 +131,17 @@ same_again : (bytes : List ℕ) → same_bytes bytes bytes ≡ true
 same_again [] = refl
 same_again (byte ∷ bytes) = rw (itself byte, same_again bytes) refl
 
-size_may : (form : TextForm) (facts : Facts) (env : Environment) (term : Option Term) (size : Option ℕ) → IsSize form (names_sight facts env) term size → MayBe form size
+size_may : (form : TextForm) (facts : Facts) (env : Environment) (term : Option Term) (size : Option ℕ) → IsSize form (see facts no_bits env) term size → MayBe form size
 size_may form facts env None size is = subst (λ (o : Option ℕ). MayBe form o) (sym is) tt
 size_may form facts env (Some term) size (n, valued, may, is) = subst (λ (o : Option ℕ). MayBe form o) (sym is) may
 
 module _ (facts : Facts) (all : List Bool) (env : Environment) (passed : Passed) (names : Environment) (none : NoneNear passed) (knows : Knows passed names) (part : IsPartOf names env) where
   size_is_read : (form : TextForm) (term : Option Term) (size : Option ℕ) (at : ℕ) → ((t : Term) → term ≡ Some t → all_known (is_known passed) t ≡ true)
-      → IsSize form (names_sight facts env) term size → size_read facts all form term names at ≡ Some size
+      → IsSize form (see facts no_bits env) term size → size_read facts all form term names at ≡ Some size
   size_is_read form None size at known is = ap (λ (o : Option ℕ). Some o) (sym is)
   size_is_read form (Some term) size at known (n, valued, may, is) =
-      let now : value_of term (names_sight facts names) ≡ Ok (pos n) =
-      value_same facts (is_known passed) names env (covers_known passed names none knows) part term (known term refl) ∙ valued in
+      let now : value_of term (see facts no_bits names) ≡ Ok (pos n) =
+      value_same facts no_bits (is_known passed) names env (covers_known passed names none knows) part term (known term refl) ∙ valued in
       ap (size_found form) now
       ∙ ap (λ (b : Bool). if b then Some (Some n) else None) may
       ∙ ap (λ (o : Option ℕ). Some o) (sym is)
@@ -233,10 +233,10 @@ others_known known (Some size) others reads = (both_true (all_known known size) 
 
 module _ (facts : Facts) (env : Environment) (passed : Passed) (names : Environment) (none : NoneNear passed) (knows : Knows passed names) (part : IsPartOf names env) where
   -- a known expression has the value that it has in the finished names
-  known_value : (term : Term) → all_known (is_known passed) term ≡ true → value_of term (names_sight facts names) ≡ value_of term (names_sight facts env)
-  known_value term known = value_same facts (is_known passed) names env (covers_known passed names none knows) part term known
+  known_value : (term : Term) → all_known (is_known passed) term ≡ true → value_of term (see facts no_bits names) ≡ value_of term (see facts no_bits env)
+  known_value term known = value_same facts no_bits (is_known passed) names env (covers_known passed names none knows) part term known
 
-  known_terms : (terms : List Term) → list_all (all_known (is_known passed)) terms ≡ true → AllByRecursion (Keeps (names_sight facts env) (names_sight facts names)) terms
+  known_terms : (terms : List Term) → list_all (all_known (is_known passed)) terms ≡ true → AllByRecursion (Keeps (see facts no_bits env) (see facts no_bits names)) terms
   known_terms [] known = tt
   known_terms (term ∷ terms) known =
       let each = both_true (all_known (is_known passed) term) (list_all (all_known (is_known passed)) terms) known in
@@ -244,17 +244,17 @@ module _ (facts : Facts) (env : Environment) (passed : Passed) (names : Environm
 
   -- so a text has the bytes that it has there
   bytes_there : (form : TextForm) (fixed : Option (List PlainPart)) (size : Option ℕ) (value : Option Tree) (bytes : List ℕ) → list_all (all_known (is_known passed)) (fixed_terms fixed) ≡ true
-      → spells.AreBytes true form facts (names_sight facts env) fixed size value bytes → spells.AreBytes true form facts (names_sight facts names) fixed size value bytes
+      → spells.AreBytes true form facts (see facts no_bits env) fixed size value bytes → spells.AreBytes true form facts (see facts no_bits names) fixed size value bytes
   bytes_there form None size value bytes known are = are
   bytes_there form (Some parts) size value bytes known (is, fixed) =
-      (is, bytes_kept nowhere facts (names_sight facts env) (names_sight facts names) parts (known_terms (text_terms parts) known) bytes fixed)
+      (is, bytes_kept nowhere facts (see facts no_bits env) (see facts no_bits names) parts (known_terms (text_terms parts) known) bytes fixed)
 
 module _ (read : (width number : ℕ) → number_of (number_bits width number) ≡ number % 2 ^ width) (written : (bits : List Bool) → number_bits (length bits) (number_of bits) ≡ bits)
     (again : (bytes : List ℕ) → ((k : ℕ) → slice_index bytes k < 256) → bytes_of (bits_of bytes) ≡ bytes)
     (back : (width number : ℕ) → number < 2 ^ width → number_of (number_bits width number) ≡ number) (facts : Facts) (rest : PlainBody) (all : List Bool) (env : Environment) (outermost : Bool) where
   -- by whether the text is fixed, and whether it has a size
   text_told : (sight : Sight) (passed : Passed) (form : TextForm) (term : Option Term) (size : Option ℕ) (fixed : Option (List PlainPart)) (value : Option Tree) (bytes : List ℕ) (at : ℕ) (bits : List Bool)
-      → text_ends outermost rest form term ≡ true → IsSize form (names_sight facts env) term size → spells.AreBytes true form facts sight fixed size value bytes
+      → text_ends outermost rest form term ≡ true → IsSize form (see facts no_bits env) term size → spells.AreBytes true form facts sight fixed size value bytes
       → is_too_long form size (length bytes) ≡ false → bits ≡ bits_of (stored_text form size bytes)
       → EndsAt outermost all rest (at + length bits) → at + length bits ≤ length all → take (length bits) (drop at all) ≡ bits
       → TextTold facts sight all rest form size fixed value at bits
@@ -288,28 +288,28 @@ module _ (read : (width number : ℕ) → number_of (number_bits width number) �
       }
 
   pub text_steps : (text : PlainText) (passed : Passed) (names : Environment) → NoneNear passed → Knows passed names → IsPartOf names env → (value : Option Tree) (bits : List Bool) (at : ℕ)
-      → is_text_read outermost rest passed text ≡ true → IsText true text facts (names_sight facts env) value bits
+      → is_text_read outermost rest passed text ≡ true → IsText true text facts (see facts no_bits env) value bits
       → EndsAt outermost all rest (at + length bits) → at + length bits ≤ length all → take (length bits) (drop at all) ≡ bits
       → text_step facts all rest text names at ≡ Some (record { value = value; after = at + length bits; names = names })
   text_steps text passed names none knows part value bits at reads it ends within there =
       let each = both_true (text_ends outermost rest text.form text.size) (list_all (all_known (is_known passed)) (terms_of_text text)) reads in
       let bytes_are = bytes_there facts env passed names none knows part text.form text.fixed it.size value it.bytes (others_known (is_known passed) text.size (fixed_terms text.fixed) each.1) it.are_bytes in
-      let told = text_told (names_sight facts names) passed text.form text.size it.size text.fixed value it.bytes at bits each.0 it.has_size bytes_are it.short it.are_bits ends within there in
+      let told = text_told (see facts no_bits names) passed text.form text.size it.size text.fixed value it.bytes at bits each.0 it.has_size bytes_are it.short it.are_bits ends within there in
       let raw = stored_text text.form it.size told.found in
       let long : length bits ≡ 8 * length raw = ap length told.are_bits ∙ length_bits raw in
       ap (option_and_then (λ size. option_and_then (λ count. option_and_then (λ raw. option_and_then (λ found.
       if same_bytes (stored_text text.form size found.1) raw then Some (record { value = found.0; after = at + 8 * count; names = names }) else None)
-      (text_read facts (names_sight facts names) text.form size text.fixed raw))
+      (text_read facts (see facts no_bits names) text.form size text.fixed raw))
       (bytes_at all at count))
-      (text_size facts (names_sight facts names) all rest text.form size text.fixed at)))
+      (text_size facts (see facts no_bits names) all rest text.form size text.fixed at)))
       (size_is_read facts all env passed names none knows part text.form text.size it.size at (size_known (is_known passed) text.size (fixed_terms text.fixed) each.1) it.has_size)
       ∙ ap (option_and_then (λ count. option_and_then (λ raw. option_and_then (λ found.
       if same_bytes (stored_text text.form it.size found.1) raw then Some (record { value = found.0; after = at + 8 * count; names = names }) else None)
-      (text_read facts (names_sight facts names) text.form it.size text.fixed raw))
+      (text_read facts (see facts no_bits names) text.form it.size text.fixed raw))
       (bytes_at all at count))) told.has_size
       ∙ ap (option_and_then (λ raw. option_and_then (λ found.
       if same_bytes (stored_text text.form it.size found.1) raw then Some (record { value = found.0; after = at + 8 * length (stored_text text.form it.size told.found); names = names }) else None)
-      (text_read facts (names_sight facts names) text.form it.size text.fixed raw))) (bytes_found again all at raw bits told.are_bytes told.are_bits within there)
+      (text_read facts (see facts no_bits names) text.form it.size text.fixed raw))) (bytes_found again all at raw bits told.are_bytes told.are_bits within there)
       ∙ ap (option_and_then (λ found.
       if same_bytes (stored_text text.form it.size found.1) raw then Some (record { value = found.0; after = at + 8 * length raw; names = names }) else None)) told.has_value
       ∙ ap (λ (b : Bool). if b then Some (record { value = value; after = at + 8 * length raw; names = names }) else None) (same_again raw)

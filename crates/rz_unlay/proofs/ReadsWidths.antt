@@ -27,7 +27,7 @@ use Rattle.rz_types.specs.Shape.{are_cases_shaped, are_fixed_points, are_shaped,
 use Rattle.rz_types.specs.Passed.{at_field, at_front, behind, behind_piece, Passed}
 use Rattle.rz_types.specs.Piece.{fixed_integer, free_integer, integers, Filler, OneNumber, OneText, Piece, Zeros}
 use Rattle.rz_types.specs.Stored.{before_zero, stored_text, to_size}
-use Rattle.rz_types.specs.Value.{names_sight}
+use Rattle.rz_types.specs.Value.{no_bits, see}
 use Rattle.rz_types.specs.Width.{constant_size, fixed_width, fixed_widths, plus, rows_width, sized_bytes, text_width}
 use Rattle.rz_unlay.proofs.ReadsBits.{length_bits, length_number, length_zeros}
 use Rattle.rz_unlay.proofs.ReadsNames.{places_inside, HasPlaces}
@@ -38,7 +38,7 @@ use Rattle.rz_unlay.proofs.Sees.{both_true}
 -- Constants have the same value everywhere.
 
 module _ (facts : Facts) (env : Environment) (has : HasPlaces env) where
-  same_constant : (term : Term) → is_constant term ≡ true → value_of term constant_sight ≡ value_of term (names_sight facts env)
+  same_constant : (term : Term) → is_constant term ≡ true → value_of term constant_sight ≡ value_of term (see facts no_bits env)
   same_constant (Constant number) is = refl
   same_constant (Named name) is = ap (known_value name) (sym (has (str_to_ascii_lowercase name)))
   same_constant (RowsOf name) is = absurd cc
@@ -53,10 +53,10 @@ module _ (facts : Facts) (env : Environment) (has : HasPlaces env) where
   ok_is (Ok v) c is = ap (λ (x : ℤ). Ok x) (let same : v ≡ c = cc in same)
   ok_is (Err fault) c is = absurd cc
 
-  pub constant_value : (term : Term) (c : ℤ) → constant_of term ≡ Some c → value_of term (names_sight facts env) ≡ Ok c
+  pub constant_value : (term : Term) (c : ℤ) → constant_of term ≡ Some c → value_of term (see facts no_bits env) ≡ Ok c
   constant_value term c is = by (is_constant term) refl is
     where
-      by : (test : Bool) → is_constant term ≡ test → (if test then result_ok (value_of term constant_sight) else None) ≡ Some c → value_of term (names_sight facts env) ≡ Ok c
+      by : (test : Bool) → is_constant term ≡ test → (if test then result_ok (value_of term constant_sight) else None) ≡ Some c → value_of term (see facts no_bits env) ≡ Ok c
       by true constant is = sym (same_constant term constant) ∙ ok_is (value_of term constant_sight) c is
       by false constant is = absurd cc
 
@@ -97,7 +97,7 @@ single known all env passed piece values at late after late_after it = record {
 }
 
 number_long : (facts : Facts) (env : Environment) (passed : Passed) (form : NumForm) (width : ℤ) (fixed : Option Term) (value : Option Tree) (bits : List Bool)
-    → IsNumber true passed form width fixed (names_sight facts env) value bits → length bits ≡ nat_abs width
+    → IsNumber true passed form width fixed (see facts no_bits env) value bits → length bits ≡ nat_abs width
 number_long facts env passed form width None value bits it = ap length it.3 ∙ length_number (nat_abs width) it.0
 number_long facts env passed form width (Some term) value bits it = ap length it.4 ∙ length_number (nat_abs width) _
 
@@ -108,7 +108,7 @@ least_length texts.WordLong size bytes = omega (arith)
 least_length texts.Zero size bytes = let it = length-append (to_size (before_zero size) bytes) (0 ∷ []) in omega (arith, it)
 
 text_wide : (facts : Facts) (env : Environment) → HasPlaces env → (form : TextForm) (term : Option Term) (size : Option ℕ) (bytes : List ℕ) (at after : ℕ)
-    → IsSize form (names_sight facts env) term size → after ≡ at + 8 * length (stored_text form size bytes)
+    → IsSize form (see facts no_bits env) term size → after ≡ at + 8 * length (stored_text form size bytes)
     → Wide (unwrap_or (text_width form term) (least_text form)) (text_width form term) at after
 text_wide facts env has form None size bytes at after sized ends =
     not_fixed (least_text form) at after (let least = least_length form size bytes in omega (arith, least, ends))

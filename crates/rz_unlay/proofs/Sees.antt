@@ -11,7 +11,7 @@ use Rattle.rz_expr.specs.declared.value.EvalFault.{EvalFault}
 use Rattle.rz_types.specs.Readable.{all_known}
 use Rattle.rz_types.specs.Solve.{can_solve, has_key, in_64_bits, is_same_key, solve, undo_left, undo_one, undo_right, undoes_left, undoes_one, undoes_right}
 use Rattle.rz_types.specs.Passed.{Names}
-use Rattle.rz_types.specs.Value.{names_sight}
+use Rattle.rz_types.specs.Value.{see}
 
 -- each of these names has a value
 abbrev pub Covers : Names → Environment → Type 0
@@ -30,11 +30,11 @@ either_false : (a b : Bool) → (a || b) ≡ false → (a ≡ false) × (b ≡ f
 either_false true b is = absurd cc
 either_false false b is = (refl, is)
 
-module _ (facts : Facts) (known : Names) (part whole : Environment) (covers : Covers known part) (is_part : IsPartOf part whole) where
+module _ (facts : Facts) (bits : ℤ → ℤ → Option ℤ) (known : Names) (part whole : Environment) (covers : Covers known part) (is_part : IsPartOf part whole) where
   pub name_same : (key : Key) → known key ≡ true → part.give key ≡ whole.give key
   name_same key is = let it = covers key is in it.1 ∙ sym (is_part.give key it.0 it.1)
 
-  pub value_same : (term : Term) → all_known known term ≡ true → value_of term (names_sight facts part) ≡ value_of term (names_sight facts whole)
+  pub value_same : (term : Term) → all_known known term ≡ true → value_of term (see facts bits part) ≡ value_of term (see facts bits whole)
   value_same (Constant number) is = refl
   value_same (Named name) is = ap (known_value name) (name_same (place_key name) is)
   value_same (RowsOf name) is = ap (known_value name) (name_same (count_key name) is)
@@ -44,7 +44,7 @@ module _ (facts : Facts) (known : Names) (part whole : Environment) (covers : Co
       λ i. known_value name (name_same (place_key name) two.0 i)
       >>= λ place. value_same start two.1 i
       >>= λ behind. value_same width one.1 i
-      >>= λ size. number_at (names_sight facts part) (place +ℤ behind) size
+      >>= λ size. number_at (see facts bits part) (place +ℤ behind) size
   value_same (FactOf which) is = refl
   value_same (OfOne op operand) is = ap (λ (r : Result ℤ EvalFault). r >>= λ value. Ok (operate_one op value)) (value_same operand is)
   value_same (OfTwo op left right) is =
@@ -77,9 +77,9 @@ by_test false x y one other is = other refl is
 
 -- What is solved is the same.
 
-module _ (facts : Facts) (known : Names) (part whole : Environment) (covers : Covers known part) (is_part : IsPartOf part whole) (key : Key) where
+module _ (facts : Facts) (bits : ℤ → ℤ → Option ℤ) (known : Names) (part whole : Environment) (covers : Covers known part) (is_part : IsPartOf part whole) (key : Key) where
   pub solve_same : (term : Term) → can_solve key term ≡ true → all_known (λ other. is_same_key key other || known other) term ≡ true → (number : ℤ)
-      → solve key (names_sight facts part) term number ≡ solve key (names_sight facts whole) term number
+      → solve key (see facts bits part) term number ≡ solve key (see facts bits whole) term number
   solve_same (Constant other) can is number = refl
   solve_same (Named name) can is number = refl
   solve_same (RowsOf name) can is number = refl
@@ -95,18 +95,18 @@ module _ (facts : Facts) (known : Names) (part whole : Environment) (covers : Co
       (λ there one.
       let second = both_true (undoes_left op && not (has_key key right)) (can_solve key left) one in
       let first = both_true (undoes_left op) (not (has_key key right)) second.0 in
-      let side = value_same facts known part whole covers is_part right (others_known known key right (not_true (has_key key right) first.1) sides.1) in
-      (λ i. if there i then option_and_then (λ side. option_and_then (solve key (names_sight facts part) left) (option_and_then in_64_bits (undo_left op side number))) (result_ok (value_of right (names_sight facts part)))
-      else option_and_then (λ side. option_and_then (solve key (names_sight facts part) right) (option_and_then in_64_bits (undo_right op side number))) (result_ok (value_of left (names_sight facts part))))
+      let side = value_same facts bits known part whole covers is_part right (others_known known key right (not_true (has_key key right) first.1) sides.1) in
+      (λ i. if there i then option_and_then (λ side. option_and_then (solve key (see facts bits part) left) (option_and_then in_64_bits (undo_left op side number))) (result_ok (value_of right (see facts bits part)))
+      else option_and_then (λ side. option_and_then (solve key (see facts bits part) right) (option_and_then in_64_bits (undo_right op side number))) (result_ok (value_of left (see facts bits part))))
       ∙ (λ i. option_and_then (λ side. option_and_then (λ n. solve_same left second.1 sides.0 n i) (option_and_then in_64_bits (undo_left op side number))) (result_ok (side i)))
-      ∙ sym (λ i. if there i then option_and_then (λ side. option_and_then (solve key (names_sight facts whole) left) (option_and_then in_64_bits (undo_left op side number))) (result_ok (value_of right (names_sight facts whole)))
-      else option_and_then (λ side. option_and_then (solve key (names_sight facts whole) right) (option_and_then in_64_bits (undo_right op side number))) (result_ok (value_of left (names_sight facts whole)))))
+      ∙ sym (λ i. if there i then option_and_then (λ side. option_and_then (solve key (see facts bits whole) left) (option_and_then in_64_bits (undo_left op side number))) (result_ok (value_of right (see facts bits whole)))
+      else option_and_then (λ side. option_and_then (solve key (see facts bits whole) right) (option_and_then in_64_bits (undo_right op side number))) (result_ok (value_of left (see facts bits whole)))))
       (λ absent other.
       let first = both_true (undoes_right op) _ other in
-      let side = value_same facts known part whole covers is_part left (others_known known key left absent sides.0) in
-      (λ i. if absent i then option_and_then (λ side. option_and_then (solve key (names_sight facts part) left) (option_and_then in_64_bits (undo_left op side number))) (result_ok (value_of right (names_sight facts part)))
-      else option_and_then (λ side. option_and_then (solve key (names_sight facts part) right) (option_and_then in_64_bits (undo_right op side number))) (result_ok (value_of left (names_sight facts part))))
+      let side = value_same facts bits known part whole covers is_part left (others_known known key left absent sides.0) in
+      (λ i. if absent i then option_and_then (λ side. option_and_then (solve key (see facts bits part) left) (option_and_then in_64_bits (undo_left op side number))) (result_ok (value_of right (see facts bits part)))
+      else option_and_then (λ side. option_and_then (solve key (see facts bits part) right) (option_and_then in_64_bits (undo_right op side number))) (result_ok (value_of left (see facts bits part))))
       ∙ (λ i. option_and_then (λ side. option_and_then (λ n. solve_same right first.1 sides.1 n i) (option_and_then in_64_bits (undo_right op side number))) (result_ok (side i)))
-      ∙ sym (λ i. if absent i then option_and_then (λ side. option_and_then (solve key (names_sight facts whole) left) (option_and_then in_64_bits (undo_left op side number))) (result_ok (value_of right (names_sight facts whole)))
-      else option_and_then (λ side. option_and_then (solve key (names_sight facts whole) right) (option_and_then in_64_bits (undo_right op side number))) (result_ok (value_of left (names_sight facts whole)))))
+      ∙ sym (λ i. if absent i then option_and_then (λ side. option_and_then (solve key (see facts bits whole) left) (option_and_then in_64_bits (undo_left op side number))) (result_ok (value_of right (see facts bits whole)))
+      else option_and_then (λ side. option_and_then (solve key (see facts bits whole) right) (option_and_then in_64_bits (undo_right op side number))) (result_ok (value_of left (see facts bits whole)))))
       can

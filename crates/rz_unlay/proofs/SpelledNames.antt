@@ -12,7 +12,7 @@ use Rattle.rz_expr.specs.declared.value.EvalFault.{EvalFault}
 use Rattle.rz_types_fields.specs.Spells.{Late, RowSpells}
 use Rattle.rz_types.specs.Solve.{has_key, in_64_bits, solve, solved_count, undo_left, undo_one, undo_right}
 use Rattle.rz_types.specs.Passed.{Names}
-use Rattle.rz_types.specs.Value.{names_sight}
+use Rattle.rz_types.specs.Value.{see}
 use Rattle.rz_unlay.proofs.Told.{part_of_part}
 
 -- Options.
@@ -87,7 +87,7 @@ if_both : {A : Type 0} (test : Bool) (x y one other : Option A) (value : A) → 
 if_both true x y one other value first second is = first is
 if_both false x y one other value first second is = second is
 
-module _ (facts : Facts) (part whole : Environment) (is_part : IsPartOf part whole) where
+module _ (facts : Facts) (bits : ℤ → ℤ → Option ℤ) (part whole : Environment) (is_part : IsPartOf part whole) where
   name_grows : (key : Key) (name : List ℕ) (value : ℤ) → known_value name (part.give key) ≡ Ok value → known_value name (whole.give key) ≡ Ok value
   name_grows key name value = by (part.give key) refl
     where
@@ -95,57 +95,57 @@ module _ (facts : Facts) (part whole : Environment) (is_part : IsPartOf part who
       by None so is = absurd cc
       by (Some v) so is = ap (known_value name) (is_part.give key v so) ∙ is
 
-  pub value_grows : (term : Term) (value : ℤ) → value_of term (names_sight facts part) ≡ Ok value → value_of term (names_sight facts whole) ≡ Ok value
+  pub value_grows : (term : Term) (value : ℤ) → value_of term (see facts bits part) ≡ Ok value → value_of term (see facts bits whole) ≡ Ok value
   value_grows (Constant number) value is = is
   value_grows (Named name) value is = name_grows (place_key name) name value is
   value_grows (RowsOf name) value is = name_grows (count_key name) name value is
   value_grows (BitsAt name start width) value is =
       let one = parts_have (known_value name (part.give (place_key name))) _ value is in
-      let two = parts_have (value_of start (names_sight facts part)) _ value one.2 in
-      let three = parts_have (value_of width (names_sight facts part)) _ value two.2 in
+      let two = parts_have (value_of start (see facts bits part)) _ value one.2 in
+      let three = parts_have (value_of width (see facts bits part)) _ value two.2 in
       so_next (known_value name (whole.give (place_key name))) _ one.0 value (name_grows (place_key name) name one.0 one.1)
-      (so_next (value_of start (names_sight facts whole)) _ two.0 value (value_grows start two.0 two.1)
-      (so_next (value_of width (names_sight facts whole)) _ three.0 value (value_grows width three.0 three.1) three.2))
+      (so_next (value_of start (see facts bits whole)) _ two.0 value (value_grows start two.0 two.1)
+      (so_next (value_of width (see facts bits whole)) _ three.0 value (value_grows width three.0 three.1) three.2))
   value_grows (FactOf which) value is = is
   value_grows (OfOne op operand) value is =
-      let one = parts_have (value_of operand (names_sight facts part)) _ value is in
-      so_next (value_of operand (names_sight facts whole)) _ one.0 value (value_grows operand one.0 one.1) one.2
+      let one = parts_have (value_of operand (see facts bits part)) _ value is in
+      so_next (value_of operand (see facts bits whole)) _ one.0 value (value_grows operand one.0 one.1) one.2
   value_grows (OfTwo op left right) value is =
-      let one = parts_have (value_of left (names_sight facts part)) _ value is in
-      let two = parts_have (value_of right (names_sight facts part)) _ value one.2 in
-      so_next (value_of left (names_sight facts whole)) _ one.0 value (value_grows left one.0 one.1)
-      (so_next (value_of right (names_sight facts whole)) _ two.0 value (value_grows right two.0 two.1) two.2)
+      let one = parts_have (value_of left (see facts bits part)) _ value is in
+      let two = parts_have (value_of right (see facts bits part)) _ value one.2 in
+      so_next (value_of left (see facts bits whole)) _ one.0 value (value_grows left one.0 one.1)
+      (so_next (value_of right (see facts bits whole)) _ two.0 value (value_grows right two.0 two.1) two.2)
 
   -- the other side has its value, and what is left is solved
   side_grows : (side : Term) (undo : ℤ → Option ℤ) (less more : ℤ → Option ℤ) → ((n value : ℤ) → less n ≡ Some value → more n ≡ Some value) → (value : ℤ)
-      → option_and_then (λ s. option_and_then less (option_and_then in_64_bits (undo s))) (result_ok (value_of side (names_sight facts part))) ≡ Some value
-      → option_and_then (λ s. option_and_then more (option_and_then in_64_bits (undo s))) (result_ok (value_of side (names_sight facts whole))) ≡ Some value
+      → option_and_then (λ s. option_and_then less (option_and_then in_64_bits (undo s))) (result_ok (value_of side (see facts bits part))) ≡ Some value
+      → option_and_then (λ s. option_and_then more (option_and_then in_64_bits (undo s))) (result_ok (value_of side (see facts bits whole))) ≡ Some value
   side_grows side undo less more grows value is =
-      let one = and_then (λ s. option_and_then less (option_and_then in_64_bits (undo s))) (result_ok (value_of side (names_sight facts part))) value is in
+      let one = and_then (λ s. option_and_then less (option_and_then in_64_bits (undo s))) (result_ok (value_of side (see facts bits part))) value is in
       let two = and_then less (option_and_then in_64_bits (undo one.0)) value one.2 in
-      so_then (λ s. option_and_then more (option_and_then in_64_bits (undo s))) (result_ok (value_of side (names_sight facts whole))) one.0 value
-      (ap result_ok (value_grows side one.0 (ok_is (value_of side (names_sight facts part)) one.0 one.1)))
+      so_then (λ s. option_and_then more (option_and_then in_64_bits (undo s))) (result_ok (value_of side (see facts bits whole))) one.0 value
+      (ap result_ok (value_grows side one.0 (ok_is (value_of side (see facts bits part)) one.0 one.1)))
       (so_then more (option_and_then in_64_bits (undo one.0)) two.0 value two.1 (grows two.0 value two.2))
 
-  solve_grows : (key : Key) (term : Term) (number value : ℤ) → solve key (names_sight facts part) term number ≡ Some value → solve key (names_sight facts whole) term number ≡ Some value
+  solve_grows : (key : Key) (term : Term) (number value : ℤ) → solve key (see facts bits part) term number ≡ Some value → solve key (see facts bits whole) term number ≡ Some value
   solve_grows key (Constant other) number value is = is
   solve_grows key (Named name) number value is = is
   solve_grows key (RowsOf name) number value is = is
   solve_grows key (BitsAt name start width) number value is = is
   solve_grows key (FactOf which) number value is = is
   solve_grows key (OfOne op operand) number value is =
-      let one = and_then (solve key (names_sight facts part) operand) (option_and_then in_64_bits (undo_one op number)) value is in
-      so_then (solve key (names_sight facts whole) operand) (option_and_then in_64_bits (undo_one op number)) one.0 value one.1 (solve_grows key operand one.0 value one.2)
+      let one = and_then (solve key (see facts bits part) operand) (option_and_then in_64_bits (undo_one op number)) value is in
+      so_then (solve key (see facts bits whole) operand) (option_and_then in_64_bits (undo_one op number)) one.0 value one.1 (solve_grows key operand one.0 value one.2)
   solve_grows key (OfTwo op left right) number value is =
       if_both (has_key key left) _ _ _ _ value
-      (side_grows right (λ s. undo_left op s number) (solve key (names_sight facts part) left) (solve key (names_sight facts whole) left) (λ n v. solve_grows key left n v) value)
-      (side_grows left (λ s. undo_right op s number) (solve key (names_sight facts part) right) (solve key (names_sight facts whole) right) (λ n v. solve_grows key right n v) value)
+      (side_grows right (λ s. undo_left op s number) (solve key (see facts bits part) left) (solve key (see facts bits whole) left) (λ n v. solve_grows key left n v) value)
+      (side_grows left (λ s. undo_right op s number) (solve key (see facts bits part) right) (solve key (see facts bits whole) right) (λ n v. solve_grows key right n v) value)
       is
 
   pub solved_grows : (width : ℕ) (key : Key) (term : Term) (stored : ℕ) (value : ℤ)
-      → solved_count width key (names_sight facts part) term stored ≡ Some value → solved_count width key (names_sight facts whole) term stored ≡ Some value
+      → solved_count width key (see facts bits part) term stored ≡ Some value → solved_count width key (see facts bits whole) term stored ≡ Some value
   solved_grows width key term stored value is =
-      let one = mapped (λ count. pos (cast_unsigned w64 count % 2 ^ width)) (solve key (names_sight facts part) term (pos stored)) value is in
+      let one = mapped (λ count. pos (cast_unsigned w64 count % 2 ^ width)) (solve key (see facts bits part) term (pos stored)) value is in
       ap (option_map (λ count. pos (cast_unsigned w64 count % 2 ^ width))) (solve_grows key term (pos stored) one.0 one.1) ∙ ap (λ (v : ℤ). Some v) one.2
 
 -- What is known.

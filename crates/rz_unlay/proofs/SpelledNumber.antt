@@ -23,7 +23,7 @@ use Rattle.rz_types.specs.Readable.{all_known, is_number_read, tells_one}
 use Rattle.rz_types.specs.Solve.{can_solve, has_key, is_same_key, solved_count, AreSolved, IsSolvedTo, SolvesBack}
 use Rattle.rz_types.specs.Passed.{declares, is_held, is_known, told_by, Names, Passed}
 use Rattle.rz_types.specs.Stored.{stored_number}
-use Rattle.rz_types.specs.Value.{names_sight}
+use Rattle.rz_types.specs.Value.{no_bits, see}
 use Rattle.rz_types_fields.proofs.Near.{held, NoneNear}
 use Rattle.rz_types_fields.proofs.SameNames.{key_is, key_itself}
 use Rattle.rz_unlay.proofs.SpelledNames.{and_then, by_case, either_of, if_some, left_true, mapped, neither, none_is, not_both, right_true, solved_grows, some_same, value_grows, Grows, Knows}
@@ -229,7 +229,7 @@ held_now false false false true none there = refl
 
 module _ (facts : Facts) (rest : PlainBody) (passed : Passed) (names more : Environment) (none_near : NoneNear passed) (knows : Knows (is_held passed) names) (width : ℕ) (term : Term) (stored : ℕ)
     (reads : is_number_read rest passed (Some term) ≡ true)
-    (it : Solved (λ key seen. solved_count width key (names_sight facts seen) term stored) (λ key. has_key key term) names more) where
+    (it : Solved (λ key seen. solved_count width key (see facts no_bits seen) term stored) (λ key. has_key key term) names more) where
   fixed_same : (key : Key) → declares rest key ≡ false → more.give key ≡ names.give key
   fixed_same key none =
       by_case (has_key key term)
@@ -260,26 +260,26 @@ module _ (facts : Facts) (rest : PlainBody) (passed : Passed) (names more : Envi
           (λ absent.
           ap (λ (b : Bool). passed.met key || ((b && not (is_known passed key)) || passed.told key)) absent ∙ knows.only key value (sym (it.same key absent) ∙ is))
 
-  fixed_back : (env : Environment) → IsPartOf more env → SolvesBack (is_known passed) width (names_sight facts env) term stored
-  fixed_back env part = each_solved (is_known passed) (λ key. solved_count width key (names_sight facts env) term stored) env term each
+  fixed_back : (env : Environment) → IsPartOf more env → SolvesBack (is_known passed) width (see facts no_bits env) term stored
+  fixed_back env part = each_solved (is_known passed) (λ key. solved_count width key (see facts no_bits env) term stored) env term each
     where
-      unknown : (key : Key) → is_known passed key ≡ false → has_key key term ≡ true → solved_count width key (names_sight facts env) term stored ≡ env.give key
+      unknown : (key : Key) → is_known passed key ≡ false → has_key key term ≡ true → solved_count width key (see facts no_bits env) term stored ≡ env.give key
       unknown key none has = go told.had
         where
-          told : Has (λ key seen. solved_count width key (names_sight facts seen) term stored) names more key
+          told : Has (λ key seen. solved_count width key (see facts no_bits seen) term stored) names more key
           told = it.told key has
 
-          go : Had (λ key seen. solved_count width key (names_sight facts seen) term stored) names more key told.value
-              → solved_count width key (names_sight facts env) term stored ≡ env.give key
+          go : Had (λ key seen. solved_count width key (see facts no_bits seen) term stored) names more key told.value
+              → solved_count width key (see facts no_bits env) term stored ≡ env.give key
           go (inl was) = not_both (is_known passed key) (right_true (passed.near key) (is_held passed key) (knows.only key told.value was)) none
           go (inr (mid, less, so)) =
-              solved_grows facts mid env (part_of_part mid more env less part) width key term stored told.value so
+              solved_grows facts no_bits mid env (part_of_part mid more env less part) width key term stored told.value so
               ∙ sym (part.give key told.value told.is)
 
-      each : (key : Key) → has_key key term ≡ true → IsSolvedTo (is_known passed key) (solved_count width key (names_sight facts env) term stored) (env.give key)
+      each : (key : Key) → has_key key term ≡ true → IsSolvedTo (is_known passed key) (solved_count width key (see facts no_bits env) term stored) (env.give key)
       each key has = by (is_known passed key) refl
         where
-          by : (test : Bool) → is_known passed key ≡ test → IsSolvedTo test (solved_count width key (names_sight facts env) term stored) (env.give key)
+          by : (test : Bool) → is_known passed key ≡ test → IsSolvedTo test (solved_count width key (see facts no_bits env) term stored) (env.give key)
           by true known = tt
           by false none = unknown key none has
 
@@ -313,12 +313,12 @@ module _ (read : (width number : ℕ) → number_of (number_bits width number) �
 
   fixed_came : (facts : Facts) (all : List Bool) (rest : PlainBody) (passed : Passed) (form : NumForm) (width : ℤ) (term : Term) (names more : Environment) (at n : ℕ)
       → is_number_read rest passed (Some term) ≡ true → NoneNear passed → Knows (is_held passed) names → NumberThere all at (nat_abs width) n
-      → Solved (λ key seen. solved_count (nat_abs width) key (names_sight facts seen) term n) (λ key. has_key key term) names more
-      → is_stored form width (value_of term (names_sight facts more)) n ≡ true
-      → PieceRead (declares rest) (told_by (Some term) passed) names all at (λ env value bits. IsNumber true passed form width (Some term) (names_sight facts env) value bits)
+      → Solved (λ key seen. solved_count (nat_abs width) key (see facts no_bits seen) term n) (λ key. has_key key term) names more
+      → is_stored form width (value_of term (see facts no_bits more)) n ≡ true
+      → PieceRead (declares rest) (told_by (Some term) passed) names all at (λ env value bits. IsNumber true passed form width (Some term) (see facts no_bits env) value bits)
       (record { value = None; after = at + nat_abs width; names = more })
   fixed_came facts all rest passed form width term names more at n reads none knows number solved stored =
-      let it = valued form width (value_of term (names_sight facts more)) n stored in
+      let it = valued form width (value_of term (see facts no_bits more)) n stored in
       record {
         count = nat_abs width;
         bits = number.bits;
@@ -329,22 +329,22 @@ module _ (read : (width number : ℕ) → number_of (number_bits width number) �
         stored = λ env part. (
           it.value,
           refl,
-          value_grows facts more env part term it.value it.is,
+          value_grows facts no_bits more env part term it.value it.is,
           it.fits,
           bits_are all at (nat_abs width) n number ∙ ap (number_bits (nat_abs width)) (sym it.stored),
-          subst (SolvesBack (is_known passed) (nat_abs width) (names_sight facts env) term) (sym it.stored)
+          subst (SolvesBack (is_known passed) (nat_abs width) (see facts no_bits env) term) (sym it.stored)
               (fixed_back facts rest passed names more none knows (nat_abs width) term n reads solved env part),
         );
       }
 
   pub number_came : (facts : Facts) (all : List Bool) (rest : PlainBody) (passed : Passed) (form : NumForm) (width : ℤ) (fixed : Option Term) (names : Environment) (at : ℕ) (step : Step)
       → is_number_read rest passed fixed ≡ true → NoneNear passed → Knows (is_held passed) names → number_step facts all form width fixed names at ≡ Some step
-      → PieceRead (declares rest) (told_by fixed passed) names all at (λ env value bits. IsNumber true passed form width fixed (names_sight facts env) value bits) step
+      → PieceRead (declares rest) (told_by fixed passed) names all at (λ env value bits. IsNumber true passed form width fixed (see facts no_bits env) value bits) step
   number_came facts all rest passed form width None names at step reads none knows is =
       let it = mapped (λ n. record { value = Some (trees.Number n); after = at + nat_abs width; names = names }) (number_at all at (nat_abs width)) step is in
       let n = it.0 in
       let number = number_stands all at (nat_abs width) n it.1 in
-      subst (PieceRead (declares rest) passed names all at (λ env value bits. IsNumber true passed form width None (names_sight facts env) value bits)) it.2 (record {
+      subst (PieceRead (declares rest) passed names all at (λ env value bits. IsNumber true passed form width None (see facts no_bits env) value bits)) it.2 (record {
         count = nat_abs width;
         bits = number.bits;
         stand = number.stand;
@@ -356,13 +356,13 @@ module _ (read : (width number : ℕ) → number_of (number_bits width number) �
   number_came facts all rest passed form width (Some term) names at step reads none knows is =
       let w = nat_abs width in
       let one = and_then (λ n. option_and_then (λ more.
-      if is_stored form width (value_of term (names_sight facts more)) n then Some (record { value = None; after = at + nat_abs width; names = more }) else None)
-      (solve_all (λ key seen. solved_count (nat_abs width) key (names_sight facts seen) term n) term names)) (number_at all at w) step is in
+      if is_stored form width (value_of term (see facts no_bits more)) n then Some (record { value = None; after = at + nat_abs width; names = more }) else None)
+      (solve_all (λ key seen. solved_count (nat_abs width) key (see facts no_bits seen) term n) term names)) (number_at all at w) step is in
       let n : ℕ = one.0 in
-      let two = and_then (λ more. if is_stored form width (value_of term (names_sight facts more)) n then Some (record { value = None; after = at + nat_abs width; names = more }) else None)
-      (solve_all (λ key seen. solved_count (nat_abs width) key (names_sight facts seen) term n) term names) step one.2 in
+      let two = and_then (λ more. if is_stored form width (value_of term (see facts no_bits more)) n then Some (record { value = None; after = at + nat_abs width; names = more }) else None)
+      (solve_all (λ key seen. solved_count (nat_abs width) key (see facts no_bits seen) term n) term names) step one.2 in
       let more : Environment = two.0 in
-      let three = if_some (is_stored form width (value_of term (names_sight facts more)) n) (record { value = None; after = at + nat_abs width; names = more }) step two.2 in
-      subst (PieceRead (declares rest) (told_by (Some term) passed) names all at (λ env value bits. IsNumber true passed form width (Some term) (names_sight facts env) value bits)) three.1
+      let three = if_some (is_stored form width (value_of term (see facts no_bits more)) n) (record { value = None; after = at + nat_abs width; names = more }) step two.2 in
+      subst (PieceRead (declares rest) (told_by (Some term) passed) names all at (λ env value bits. IsNumber true passed form width (Some term) (see facts no_bits env) value bits)) three.1
       (fixed_came facts all rest passed form width term names more at n reads none knows (number_stands all at w n one.1)
-      (all_solved (λ key seen. solved_count w key (names_sight facts seen) term n) term names more two.1) three.0)
+      (all_solved (λ key seen. solved_count w key (see facts no_bits seen) term n) term names more two.1) three.0)

@@ -21,7 +21,7 @@ use Rattle.rz_types.specs.Shape.{numbers_of}
 use Rattle.rz_types.specs.Passed.{behind_piece, behind_pieces, declares, is_held, Names, Passed}
 use Rattle.rz_types.specs.Piece.{fixed_integer, free_integer, integers, pieces_of, terms_of_text, Filler, OneNumber, OneText, Piece, Zeros}
 use Rattle.rz_types.specs.Solve.{solved_count}
-use Rattle.rz_types.specs.Value.{names_sight}
+use Rattle.rz_types.specs.Value.{no_bits, see}
 use Rattle.rz_types_fields.proofs.Near.{still_none, NoneNear}
 use Rattle.rz_unlay.proofs.SpelledNames.{and_then, grows_then, grows_wide, if_some, mapped, some_same, Came, Knows}
 use Rattle.rz_unlay.proofs.Told.{part_of_part, same_part}
@@ -66,7 +66,7 @@ pub record Tells : Type 0 where
 
 module _ (tells : Tells) (facts : Facts) (all : List Bool) (short : length all ≤ most_bits) (outermost : Bool) (rest : PlainBody) where
   came_of : (piece : Piece) (passed behind : Passed) (names : Environment) (at : ℕ) (step : Step)
-      → PieceRead (declares rest) behind names all at (λ env value bits. IsStored true passed piece facts at (names_sight facts env) value bits) step
+      → PieceRead (declares rest) behind names all at (λ env value bits. IsStored true passed piece facts at (see facts no_bits env) value bits) step
       → Came (declares rest) names step.names at step.after (λ env. PieceSpells true facts all env passed piece step.value) × Knows (is_held behind) step.names
   came_of piece passed behind names at step it =
       let ends = it.ends in
@@ -75,11 +75,11 @@ module _ (tells : Tells) (facts : Facts) (all : List Bool) (short : length all �
         record {
           grows = it.grows;
           spells = λ env part late. (
-            late ++ marks passed.met late piece (names_sight facts env) (length it.bits),
+            late ++ marks passed.met late piece (see facts no_bits env) (length it.bits),
             record {
               bits = it.bits;
               stored = it.stored env part;
-              early = never_late passed.met late piece (names_sight facts env);
+              early = never_late passed.met late piece (see facts no_bits env);
               there = ap (λ n. take n (drop at all)) it.stand.long ∙ it.stand.there;
               ends = it.ends ∙ ap (λ n. at + n) (sym it.stand.long);
               short = most;
@@ -157,13 +157,13 @@ module _ (tells : Tells) (facts : Facts) (all : List Bool) (short : length all �
   no_value : (form : NumForm) (width : ℤ) (term : Term) (names : Environment) (at : ℕ) (step : Step) → number_step facts all form width (Some term) names at ≡ Some step → None ≡ step.value
   no_value form width term names at step is =
       let one = and_then (λ n. option_and_then (λ more.
-      if is_stored form width (value_of term (names_sight facts more)) n then Some (record { value = None; after = at + nat_abs width; names = more }) else None)
-      (solve_all (λ key seen. solved_count (nat_abs width) key (names_sight facts seen) term n) term names)) (number_at all at (nat_abs width)) step is in
+      if is_stored form width (value_of term (see facts no_bits more)) n then Some (record { value = None; after = at + nat_abs width; names = more }) else None)
+      (solve_all (λ key seen. solved_count (nat_abs width) key (see facts no_bits seen) term n) term names)) (number_at all at (nat_abs width)) step is in
       let n : ℕ = one.0 in
-      let two = and_then (λ more. if is_stored form width (value_of term (names_sight facts more)) n then Some (record { value = None; after = at + nat_abs width; names = more }) else None)
-      (solve_all (λ key seen. solved_count (nat_abs width) key (names_sight facts seen) term n) term names) step one.2 in
+      let two = and_then (λ more. if is_stored form width (value_of term (see facts no_bits more)) n then Some (record { value = None; after = at + nat_abs width; names = more }) else None)
+      (solve_all (λ key seen. solved_count (nat_abs width) key (see facts no_bits seen) term n) term names) step one.2 in
       let more : Environment = two.0 in
-      let three = if_some (is_stored form width (value_of term (names_sight facts more)) n) (record { value = None; after = at + nat_abs width; names = more }) step two.2 in
+      let three = if_some (is_stored form width (value_of term (see facts no_bits more)) n) (record { value = None; after = at + nat_abs width; names = more }) step two.2 in
       ap (λ (s : Step). s.value) three.1
 
   fixed_row : (terms : List Term) (names : Environment) (at : ℕ) (found : Found) → pieces_found facts all rest (map fixed_integer terms) names at ≡ Some found → [] ≡ found.row

@@ -26,7 +26,7 @@ use Rattle.rz_types.specs.Range.{may_be_size}
 use Rattle.rz_types.specs.Passed.{declares, is_held, Passed}
 use Rattle.rz_types.specs.Stored.{is_too_long, stored_text}
 use Rattle.rz_types.specs.Text.{bytes_seen, text_terms, PlainPart}
-use Rattle.rz_types.specs.Value.{names_sight}
+use Rattle.rz_types.specs.Value.{no_bits, see}
 use Rattle.rz_types.specs.Width.{sized_bytes}
 use Rattle.rz_types.proofs.Texts.{bytes_kept, Keeps}
 use Rattle.rz_unlay.proofs.SpelledNames.{and_then, if_false, if_some, mapped, none_is, some_same, value_grows, Knows}
@@ -225,11 +225,11 @@ size_is form (Ok (pos n)) size is = let it = if_some (may_be_size form (pos n)) 
 size_is form (Ok (negsuc n)) size is = let it = if_some (may_be_size form (negsuc n)) _ size is in absurd (negative_size form n it.0)
 
 size_came : (facts : Facts) (all : List Bool) (names env : Environment) (at : ℕ) → IsPartOf names env → (form : TextForm) (term : Option Term) (size : Option ℕ)
-    → size_read facts all form term names at ≡ Some size → IsSize form (names_sight facts env) term size
+    → size_read facts all form term names at ≡ Some size → IsSize form (see facts no_bits env) term size
 size_came facts all names env at part form None size is = sym (some_same None size is)
 size_came facts all names env at part form (Some term) size is =
-    let it = size_is form (value_of term (names_sight facts names)) size is in
-    (it.0, value_grows facts names env part term (pos it.0) it.1, it.2, it.3)
+    let it = size_is form (value_of term (see facts no_bits names)) size is in
+    (it.0, value_grows facts no_bits names env part term (pos it.0) it.1, it.2, it.3)
 
 sized_is : (all : List Bool) (rest : PlainBody) (form : TextForm) (size : Option ℕ) (at count : ℕ) (raw : List ℕ) → stored_size all rest form size at ≡ Some count → length raw ≡ count → IsSized form size raw
 sized_is all rest form None at count raw is long = tt
@@ -252,23 +252,23 @@ record BytesCame (form : TextForm) (facts : Facts) (sight : Sight) (fixed : Opti
   same : bits_of (stored_text form size bytes) ≡ bits_of (stored_text form size found.1)
 
 -- a value that is known is that of the finished names
-terms_grow : (facts : Facts) (names env : Environment) → IsPartOf names env → (terms : List Term) → AllByRecursion (Keeps (names_sight facts names) (names_sight facts env)) terms
+terms_grow : (facts : Facts) (names env : Environment) → IsPartOf names env → (terms : List Term) → AllByRecursion (Keeps (see facts no_bits names) (see facts no_bits env)) terms
 terms_grow facts names env part [] = tt
-terms_grow facts names env part (term ∷ terms) = (value_grows facts names env part term, terms_grow facts names env part terms)
+terms_grow facts names env part (term ∷ terms) = (value_grows facts no_bits names env part term, terms_grow facts names env part terms)
 
 bytes_came : ((width number : ℕ) → number_of (number_bits width number) ≡ number % 2 ^ width) → ((bits : List Bool) → number_bits (length bits) (number_of bits) ≡ bits)
     → (facts : Facts) (all : List Bool) (rest : PlainBody) (names : Environment) (form : TextForm) (size : Option ℕ) (fixed : Option (List PlainPart)) (at count : ℕ) (raw : List ℕ)
     (found : Option Tree × List ℕ) → AreSmall raw
-    → text_size facts (names_sight facts names) all rest form size fixed at ≡ Some count → length raw ≡ count → text_read facts (names_sight facts names) form size fixed raw ≡ Some found
-    → (env : Environment) → IsPartOf names env → BytesCame form facts (names_sight facts env) fixed size found
+    → text_size facts (see facts no_bits names) all rest form size fixed at ≡ Some count → length raw ≡ count → text_read facts (see facts no_bits names) form size fixed raw ≡ Some found
+    → (env : Environment) → IsPartOf names env → BytesCame form facts (see facts no_bits env) fixed size found
 bytes_came read numbers facts all rest names form size None at count raw found small so long is env part =
-    subst (BytesCame form facts (names_sight facts env) None size) (some_same (Some (trees.Text (plain_text form size raw)), plain_text form size raw) found is)
+    subst (BytesCame form facts (see facts no_bits env) None size) (some_same (Some (trees.Text (plain_text form size raw)), plain_text form size raw) found is)
     (record { bytes = plain_text form size raw; are = (refl, plain_is form size raw small (sized_is all rest form size at count raw so long)); long = refl; same = refl })
 bytes_came read numbers facts all rest names form size (Some parts) at count raw found small so long is env part =
-    let it = fixed_is (bytes_seen nowhere facts (names_sight facts names) parts) found is in
+    let it = fixed_is (bytes_seen nowhere facts (see facts no_bits names) parts) found is in
     record {
       bytes = it.0;
-      are = (it.1, bytes_kept nowhere facts (names_sight facts names) (names_sight facts env) parts (terms_grow facts names env part (text_terms parts)) it.0 it.2);
+      are = (it.1, bytes_kept nowhere facts (see facts no_bits names) (see facts no_bits env) parts (terms_grow facts names env part (text_terms parts)) it.0 it.2);
       long = sym (length-map it.0 (λ byte. byte % 256)) ∙ sym (ap length it.3);
       same = stored_bits read numbers it.0 form size ∙ ap (λ (bs : List ℕ). bits_of (stored_text form size bs)) (sym it.3);
     }
@@ -288,15 +288,15 @@ module _ (below : (bits : List Bool) → number_of bits < 2 ^ length bits) (writ
   pub text_came : ((width number : ℕ) → number_of (number_bits width number) ≡ number % 2 ^ width) → ((bits : List Bool) → number_bits (length bits) (number_of bits) ≡ bits)
       → (facts : Facts) (all : List Bool) (rest : PlainBody) (passed : Passed) (text : PlainText) (names : Environment) (at : ℕ) (step : Step) → Knows (is_held passed) names
       → text_step facts all rest text names at ≡ Some step
-      → PieceRead (declares rest) passed names all at (λ env value bits. IsText true text facts (names_sight facts env) value bits) step
+      → PieceRead (declares rest) passed names all at (λ env value bits. IsText true text facts (see facts no_bits env) value bits) step
   text_came read numbers facts all rest passed text names at step knows is =
       let one = and_then _ (size_read facts all text.form text.size names at) step is in
       let size : Option ℕ = one.0 in
-      let two = and_then _ (text_size facts (names_sight facts names) all rest text.form size text.fixed at) step one.2 in
+      let two = and_then _ (text_size facts (see facts no_bits names) all rest text.form size text.fixed at) step one.2 in
       let count : ℕ = two.0 in
       let three = and_then _ (bytes_at all at count) step two.2 in
       let raw : List ℕ = three.0 in
-      let four = and_then _ (text_read facts (names_sight facts names) text.form size text.fixed raw) step three.2 in
+      let four = and_then _ (text_read facts (see facts no_bits names) text.form size text.fixed raw) step three.2 in
       let found : Option Tree × List ℕ = four.0 in
       let five = if_some (same_bytes (stored_text text.form size found.1) raw) (record { value = found.0; after = at + 8 * count; names = names }) step four.2 in
       let there = mapped bytes_of (bits_at all at (8 * count)) raw three.1 in
@@ -309,7 +309,7 @@ module _ (below : (bits : List Bool) → number_of bits < 2 ^ length bits) (writ
       let raw_long : length raw ≡ count = sym (ap length there.2) ∙ length_fronts (length bits / 8) bits ∙ eighth in
       let whole : length bits % 8 ≡ 0 = omega (arith, long) in
       let came = bytes_came read numbers facts all rest names text.form size text.fixed at count raw found small two.1 raw_long four.1 in
-      subst (PieceRead (declares rest) passed names all at (λ env value bits. IsText true text facts (names_sight facts env) value bits)) five.1 (record {
+      subst (PieceRead (declares rest) passed names all at (λ env value bits. IsText true text facts (see facts no_bits env) value bits)) five.1 (record {
         count = 8 * count;
         bits = bits;
         stand = stand;

@@ -13,7 +13,7 @@ use Rattle.std.specs.List.{AllByRecursion}
 use Rattle.rz_expr.specs.Value.{value_of}
 use Rattle.rz_types_fields.specs.declared.field.NumForm.{NumForm}
 use Rattle.rz_types_fields.specs.Solve.{solved_count}
-use Rattle.rz_types_fields.specs.Value.{is_fixed_expression, names_sight}
+use Rattle.rz_types_fields.specs.Value.{is_fixed_expression, no_bits, see}
 use Rattle.rz_expr.specs.declared.expr.Expr.{Expr}
 use Rattle.rz_types_fields.specs.Field.{Align, Fill, Number, PlainBody, PlainNumber, PlainText, Text}
 use Rattle.rz_types_fields.specs.Shape.{numbers_of}
@@ -61,20 +61,20 @@ module _ (known : Facts) (all : List Bool) (rest : PlainBody) (names : Environme
 module _ (known : Facts) (all : List Bool) (form : NumForm) (width : ℤ) (term : Term) (names : Environment) (at n : ℕ) (there : Some n ≡ number_at all at (nat_abs width)) where
   abbrev stored_with : ℕ → Environment → Option Step
   stored_with n more =
-      if is_stored form width (value_of term (names_sight known more)) n then Some (record { value = None; after = at + nat_abs width; names = more }) else None
+      if is_stored form width (value_of term (see known no_bits more)) n then Some (record { value = None; after = at + nat_abs width; names = more }) else None
 
   abbrev solved_with : ℕ → Option Step
-  solved_with n = option_and_then (stored_with n) (solve_all (λ key seen. solved_count (nat_abs width) key (names_sight known seen) term n) term names)
+  solved_with n = option_and_then (stored_with n) (solve_all (λ key seen. solved_count (nat_abs width) key (see known no_bits seen) term n) term names)
 
-  pub number_stored : (more : Environment) (test : Bool) → Some more ≡ solve_all (λ key seen. solved_count (nat_abs width) key (names_sight known seen) term n) term names
-      → is_stored form width (value_of term (names_sight known more)) n ≡ test
+  pub number_stored : (more : Environment) (test : Bool) → Some more ≡ solve_all (λ key seen. solved_count (nat_abs width) key (see known no_bits seen) term n) term names
+      → is_stored form width (value_of term (see known no_bits more)) n ≡ test
       → (if test then Some (record { value = None; after = at + nat_abs width; names = more }) else None) ≡ number_step known all form width (Some term) names at
   number_stored more test solved stored =
       ap (λ (b : Bool). if b then Some (record { value = None; after = at + nat_abs width; names = more }) else None) (sym stored)
       ∙ ap (option_and_then (stored_with n)) solved
       ∙ ap (option_and_then solved_with) there
 
-  pub not_solved : None ≡ solve_all (λ key seen. solved_count (nat_abs width) key (names_sight known seen) term n) term names → None ≡ number_step known all form width (Some term) names at
+  pub not_solved : None ≡ solve_all (λ key seen. solved_count (nat_abs width) key (see known no_bits seen) term n) term names → None ≡ number_step known all form width (Some term) names at
   not_solved solved = ap (option_and_then (stored_with n)) solved ∙ ap (option_and_then solved_with) there
 
 -- Zero bits.

@@ -6,7 +6,7 @@ ghost use Rattle.rz_expr.specs.Environment.{Environment};
 ghost use Rattle.rz_expr.specs.Term.{term_of};
 ghost use Rattle.rz_expr.specs.Value.{value_of};
 ghost use Rattle.rz_types_fields.specs.Field.{plain_number};
-ghost use Rattle.rz_types_fields.specs.Value.{is_fixed_expression, names_sight};
+ghost use Rattle.rz_types_fields.specs.Value.{is_fixed_expression, no_bits, see};
 ghost use Rattle.rz_unlay_pieces.specs.Came.{step_in, step_of};
 ghost use Rattle.rz_unlay_pieces.specs.Pieces.{is_stored, number_step};
 ghost use Rattle.rz_unlay_pieces.specs.Fits.{FixedFits};
@@ -123,7 +123,7 @@ fn is_stored(
     facts: &Facts,
     notes: &[Note<'_>],
 ) -> bool
-    ensures { result ≡ is_stored form width (value_of (term_of expr.now) (names_sight facts.now (known notes.now))) number }
+    ensures { result ≡ is_stored form width (value_of (term_of expr.now) (see facts.now no_bits (known notes.now))) number }
 {
     let names = NamesEnv { facts, notes };
     match value_in(expr, &names) {

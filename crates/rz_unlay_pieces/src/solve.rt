@@ -7,7 +7,7 @@ ghost use Rattle.rz_expr.specs.Environment.{count_key};
 ghost use Rattle.rz_expr.specs.Term.{term_of};
 ghost use Rattle.rz_expr.specs.Value.{value_of};
 ghost use Rattle.rz_types_fields.specs.Solve.{exact, has_key, in_64_bits, solve, solved_count, undo_left, undo_one, undo_right};
-ghost use Rattle.rz_types_fields.specs.Value.{is_fixed_expression, names_sight};
+ghost use Rattle.rz_types_fields.specs.Value.{is_fixed_expression, no_bits, see};
 ghost use Rattle.rz_unlay_pieces.specs.Pieces.{also, solve_all, solve_key};
 ghost use Rattle.rz_unlay_pieces.specs.Names.{told};
 ghost use Rattle.rz_types_fields.specs.Known.{known, Grew};
@@ -30,7 +30,7 @@ pub fn solve_all<'a>(
     requires width { width ≤ 32 }
     requires fixed { is_fixed_expression (term_of part.now) ≡ true }
     ensures known { IfOk result (λ holds. told holds (known notes.new.items)
-        ≡ solve_all (λ key seen. solved_count width key (names_sight facts.now seen) (term_of whole.now) stored) (term_of part.now) (known notes.old.items)) }
+        ≡ solve_all (λ key seen. solved_count width key (see facts.now no_bits seen) (term_of whole.now) stored) (term_of part.now) (known notes.old.items)) }
     ensures grew { IfOk result (λ holds. Grew notes.old.items notes.new.items) }
 {
     match part {
@@ -59,7 +59,7 @@ fn solve_name<'a>(
 ) -> Result<bool, NoMemory>
     requires { width ≤ 32 }
     ensures known { IfOk result (λ holds. told holds (known notes.new.items)
-        ≡ solve_key (λ key seen. solved_count width key (names_sight facts.now seen) (term_of whole.now) stored)
+        ≡ solve_key (λ key seen. solved_count width key (see facts.now no_bits seen) (term_of whole.now) stored)
         (count_key name.now.bytes) ((known notes.old.items).give (count_key name.now.bytes)) (known notes.old.items)) }
     ensures grew { IfOk result (λ holds. Grew notes.old.items notes.new.items) }
 {
@@ -102,7 +102,7 @@ fn solved_count(
     notes: &[Note<'_>],
 ) -> Option<i64>
     requires { width ≤ 32 }
-    ensures { result ≡ solved_count width (count_key name.now.bytes) (names_sight facts.now (known notes.now)) (term_of whole.now) stored }
+    ensures { result ≡ solved_count width (count_key name.now.bytes) (see facts.now no_bits (known notes.now)) (term_of whole.now) stored }
 {
     let names = NamesEnv { facts, notes };
     match solve(name, whole, &names, i64::from(stored)) {
@@ -121,7 +121,7 @@ fn lowest(number: i64, width: u32) -> i64
 
 /// The number of rows that the array of this name has for the expression to come to a number.
 fn solve(name: &Word, expr: &Expr, names: &NamesEnv<'_>, number: i64) -> Option<i64>
-    ensures { result ≡ solve (count_key name.now.bytes) (names_sight names.now.facts.now (known names.now.notes.now)) (term_of expr.now) number }
+    ensures { result ≡ solve (count_key name.now.bytes) (see names.now.facts.now no_bits (known names.now.notes.now)) (term_of expr.now) number }
 {
     match expr {
         Expr::Count(other) => {
@@ -160,7 +160,7 @@ fn solve(name: &Word, expr: &Expr, names: &NamesEnv<'_>, number: i64) -> Option<
 
 /// The value of an operand, where it has one.
 fn known_side(expr: &Expr, names: &NamesEnv<'_>) -> Option<i32>
-    ensures { result ≡ result_ok (value_of (term_of expr.now) (names_sight names.now.facts.now (known names.now.notes.now))) }
+    ensures { result ≡ result_ok (value_of (term_of expr.now) (see names.now.facts.now no_bits (known names.now.notes.now))) }
 {
     match value_in(expr, names) {
         Ok(value) => Some(value),

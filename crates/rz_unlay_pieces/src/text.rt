@@ -8,7 +8,7 @@ ghost use Rattle.std.specs.Result.{result_ok};
 ghost use Rattle.rz_types_fields.specs.Field.{plain_body, plain_text as plain_field_text};
 ghost use Rattle.rz_types_fields.specs.Stored.{stored_text};
 ghost use Rattle.rz_types_fields.specs.Text.{bytes_seen, plain_parts};
-ghost use Rattle.rz_types_fields.specs.Value.{names_sight};
+ghost use Rattle.rz_types_fields.specs.Value.{no_bits, see};
 ghost use Rattle.rz_types_fields.specs.Spells.{nowhere};
 ghost use Rattle.rz_unlay_pieces.specs.Came.{step_in};
 ghost use Rattle.rz_unlay_pieces.specs.Pieces.{bytes_left, size_read, stored_size, text_size, text_step, up_to_zero};
@@ -88,7 +88,7 @@ fn text_size(
 ) -> Result<Option<u64>, NoMemory>
     requires { at ≤ length (seen view.now) }
     ensures { IfOk result (λ count. count
-        ≡ text_size names.now.facts.now (names_sight names.now.facts.now (known names.now.notes.now)) (seen view.now) (plain_body rest.now) field.now.form size (plain_field_text field.now).fixed at) }
+        ≡ text_size names.now.facts.now (see names.now.facts.now no_bits (known names.now.notes.now)) (seen view.now) (plain_body rest.now) field.now.form size (plain_field_text field.now).fixed at) }
 {
     match &field.fixed {
         Some(parts) => fixed_size(alloc, field.form, size, parts, names),
@@ -105,7 +105,7 @@ fn fixed_size(
     names: &NamesEnv<'_>,
 ) -> Result<Option<u64>, NoMemory>
     ensures { IfOk result (λ count. count
-        ≡ option_map (λ bytes. length (stored_text form size bytes)) (result_ok (bytes_seen nowhere names.now.facts.now (names_sight names.now.facts.now (known names.now.notes.now)) (plain_parts parts.now)))) }
+        ≡ option_map (λ bytes. length (stored_text form size bytes)) (result_ok (bytes_seen nowhere names.now.facts.now (see names.now.facts.now no_bits (known names.now.notes.now)) (plain_parts parts.now)))) }
 {
     match fixed_bytes(alloc, parts, names)? {
         Some(bytes) => Ok(Some(stored_length(form, size, bytes.as_slice()))),
@@ -216,7 +216,7 @@ fn read_raw(
     after: u32,
 ) -> Result<Option<Came>, NoMemory>
     ensures step { IfOk result (λ came. option_map (step_in (known names.now.notes.now)) came
-        ≡ raw_step names.now.facts.now (names_sight names.now.facts.now (known names.now.notes.now)) (plain_field_text field.now) size after (known names.now.notes.now) raw.now) }
+        ≡ raw_step names.now.facts.now (see names.now.facts.now no_bits (known names.now.notes.now)) (plain_field_text field.now) size after (known names.now.notes.now) raw.now) }
     ensures after { IfOk result (λ came. IfSome came (λ c. c.after ≡ after)) }
 {
     match &field.fixed {
@@ -256,7 +256,7 @@ fn fixed_bytes(
     parts: &Texts,
     names: &NamesEnv<'_>,
 ) -> Result<Option<Bytes>, NoMemory>
-    ensures { IfOk result (λ bytes. bytes ≡ result_ok (bytes_seen nowhere names.now.facts.now (names_sight names.now.facts.now (known names.now.notes.now)) (plain_parts parts.now))) }
+    ensures { IfOk result (λ bytes. bytes ≡ result_ok (bytes_seen nowhere names.now.facts.now (see names.now.facts.now no_bits (known names.now.notes.now)) (plain_parts parts.now))) }
 {
     match text_seen(alloc, parts, Mark { file: 0, line: 0 }, names.facts, names) {
         Ok(bytes) => Ok(Some(bytes)),

@@ -3,7 +3,7 @@ use Rattle.rz_expr.specs.Environment.{Environment, Key}
 use Rattle.rz_expr.specs.Term.{term_of}
 use Rattle.rz_expr.specs.declared.expr.Expr.{Expr}
 use Rattle.rz_types_fields.specs.Solve.{solved_count}
-use Rattle.rz_types_fields.specs.Value.{is_fixed_expression, names_sight}
+use Rattle.rz_types_fields.specs.Value.{is_fixed_expression, no_bits, see}
 use Rattle.rz_unlay_pieces.specs.Pieces.{solve_all}
 use Rattle.rz_unlay_pieces.specs.Names.{told}
 use Rattle.rz_types_fields.specs.Known.{known}
@@ -13,7 +13,7 @@ use Rattle.rz_unlay_pieces.proofs.solve.+solve_all.Goals as goal
 
 pub returns-then-branch-clause-known : goal.returns-then-branch-clause-known
 returns-then-branch-clause-known t c =
-    let solved : Key → Environment → Option ℤ = λ key seen. solved_count c.args.width key (names_sight c.args.facts.now seen) (term_of c.args.whole.now) c.args.stored in
+    let solved : Key → Environment → Option ℤ = λ key seen. solved_count c.args.width key (see c.args.facts.now no_bits seen) (term_of c.args.whole.now) c.args.stored in
     let more : Environment = known c.solve_all-in-Binary.new.notes.items in
     let first : Some more ≡ solve_all solved (term_of c.in-Binary.left.value) (known c.args.notes.now.items) =
     ap (λ b. told b more) (sym c.if-branch.true) ∙ c.in_ok-solve_all-in-Binary.ensures.known
@@ -26,6 +26,6 @@ returns-then-branch-clause-known t c =
 
 pub returns-in-Name-clause-known : goal.returns-in-Name-clause-known
 returns-in-Name-clause-known t c =
-    let solved : Key → Environment → Option ℤ = λ key seen. solved_count c.args.width key (names_sight c.args.facts.now seen) (term_of c.args.whole.now) c.args.stored in
+    let solved : Key → Environment → Option ℤ = λ key seen. solved_count c.args.width key (see c.args.facts.now no_bits seen) (term_of c.args.whole.now) c.args.stored in
     place_solved solved c.args.notes.now.items c.in-Name._name.bytes (sym (ap (λ (e : Expr). is_fixed_expression (term_of e)) c.in-Name.is) ∙ c.requires.fixed)
     ∙ ap (λ (e : Expr). solve_all solved (term_of e) (known c.args.notes.now.items)) (sym c.in-Name.is)
