@@ -10,7 +10,7 @@ use Rattle.rz_bits.specs.Bits.{bits_of, bytes_of}
 use Rattle.rz_bits.specs.BitBuf.{filled}
 use Rattle.rz_types_fields.specs.declared.tree.Tree.{Tree}
 use Rattle.rz_types_fields.specs.declared.tree.Tree.TheVariants as trees
-use Rattle.rz_types_fields.specs.Laid.{body_laid, case_laid, counted, field_laid, first_value, laid, line_in, nothing_laid, other_values, pieces_laid, rows_in, rows_laid, Draft, Refusal}
+use Rattle.rz_types_fields.specs.Laid.{body_laid, case_laid, counted, field_laid, first_value, laid, line_in, nothing_laid, other_values, pieces_laid, row_laid, rows_in, rows_laid, with_names, Draft, Refusal}
 use Rattle.rz_types_fields.specs.Row.{By}
 use Rattle.rz_types_fields.specs.Spells.{is_case, row_of, values_for, BodySpells, CaseSpells, FieldSpells, Inside, IsCounted, Late, PiecesSpell, RowOf, RowsSpell, Spells}
 use Rattle.rz_types.specs.Field.{case_and, field_and, no_cases, no_fields, takes_value, Align, Array, Fill, Number, PlainBody, PlainCases, PlainField, Points, Switch, Text}
@@ -76,61 +76,67 @@ module _ (known : Facts) (all : List Bool) where
 
   abbrev BodyGoes : PlainBody → Type 0
   BodyGoes body = (passed : Passed) (own : Environment) (values : List Tree) (at after : ℕ) (late late_after : Late)
-      → BodySpells false known all body own passed values at late after late_after → (draft : Draft) → Fits all draft at
-      → Goes all (body_laid known own draft body values) after
+      → BodySpells false known all body own passed values at late after late_after → (draft : Draft) → Fits all own draft at
+      → Goes all own (body_laid known draft body values) after
 
   inside_goes : (row : PlainBody) → BodyGoes row → (passed : Passed) (which : Option RowOf) (names : Environment) (line : List Tree) (at after : ℕ) (late late_after : Late)
-      → Inside row which names (λ own. BodySpells false known all row own (at_front row passed) line) at late after late_after → (draft : Draft) → Fits all draft at
-      → Goes all (body_laid known (counted row line names) draft row line) after
+      → Inside row which names (λ own. BodySpells false known all row own (at_front row passed) line) at late after late_after → (draft : Draft) → Fits all names draft at
+      → Goes all names (row_laid known row draft line) after
   inside_goes row goes passed which names line at after late late_after (own, within, spells) draft fits =
-      subst (λ (inside : Environment). Goes all (body_laid known inside draft row line) after)
-      (own_same row which line names own within (body_counted own (at_front row passed) row line at after late late_after spells))
-      (goes (at_front row passed) own line at after late late_after spells draft fits)
+      let same : counted row line draft.known ≡ own =
+      ap (counted row line) fits.known ∙ sym (own_same row which line names own within (body_counted own (at_front row passed) row line at after late late_after spells)) in
+      let inner = goes (at_front row passed) own line at after late late_after spells (with_names (counted row line draft.known) draft)
+      (record { front = fits.front; size = fits.size; known = same }) in
+      record {
+        next = with_names draft.known inner.next;
+        is = ap (λ (r : Result Draft Refusal). r >>= λ next. good (with_names draft.known next)) inner.is;
+        fits = record { front = inner.fits.front; size = inner.fits.size; known = fits.known };
+      }
 
   rows_goes : (name : Option Word) (row : PlainBody) → BodyGoes row → (passed : Passed) (names : Environment) (number : ℕ) (rows : List (List Tree)) (at after : ℕ) (late late_after : Late)
       → RowsSpell (λ number line. Inside row (row_of name number) names (λ own. BodySpells false known all row own (at_front row passed) line)) number rows at late after late_after
-      → (draft : Draft) → Fits all draft at → Goes all (rows_laid (λ draft line. body_laid known (counted row line names) draft row line) draft rows) after
-  rows_goes name row goes passed names number [] at after late late_after it draft fits = record { next = draft; is = refl; fits = subst (Fits all draft) (sym it.0) fits }
+      → (draft : Draft) → Fits all names draft at → Goes all names (rows_laid (row_laid known row) draft rows) after
+  rows_goes name row goes passed names number [] at after late late_after it draft fits = record { next = draft; is = refl; fits = subst (Fits all names draft) (sym it.0) fits }
   rows_goes name row goes passed names number (line ∷ rows) at after late late_after (mid, late_mid, one, others) draft fits =
       let first = inside_goes row goes passed (row_of name number) names line at mid late late_mid one draft fits in
       let more = rows_goes name row goes passed names (number + 1) rows mid after late_mid late_after others first.next first.fits in
       record {
         next = more.next;
-        is = ap (λ (r : Result Draft Refusal). r >>= λ next. rows_laid (λ draft line. body_laid known (counted row line names) draft row line) next rows) first.is ∙ more.is;
+        is = ap (λ (r : Result Draft Refusal). r >>= λ next. rows_laid (row_laid known row) next rows) first.is ∙ more.is;
         fits = more.fits;
       }
 
   pieces_go : (passed : Passed) (field : PlainField) (names : Environment) (value : Option Tree) (at after : ℕ) (late late_after : Late)
-      → PiecesSpell false known all field names passed value at late after late_after → (draft : Draft) → Fits all draft at
-      → Goes all (pieces_laid known names draft field value) after
+      → PiecesSpell false known all field names passed value at late after late_after → (draft : Draft) → Fits all names draft at
+      → Goes all names (pieces_laid known draft field value) after
   pieces_go passed field names value at after late late_after it draft fits =
       pieces_goes all known names passed (pieces_of field) (values_for field value) at after late late_after it.1 draft fits
 
   abbrev FieldGoes : PlainField → Type 0
   FieldGoes field = (passed : Passed) (names : Environment) (value : Option Tree) (at after : ℕ) (late late_after : Late)
-      → FieldSpells false known all field names passed value at late after late_after → (draft : Draft) → Fits all draft at
-      → Goes all (field_laid known names draft field value) after
+      → FieldSpells false known all field names passed value at late after late_after → (draft : Draft) → Fits all names draft at
+      → Goes all names (field_laid known draft field value) after
 
   abbrev CasesGo : PlainCases → Type 0
   CasesGo cases = (passed : Passed) (names : Environment) (value : Option Tree) (at after : ℕ) (late late_after : Late)
-      → CaseSpells false known all cases names passed value at late after late_after → (draft : Draft) → Fits all draft at
-      → Goes all (case_laid known names draft cases value) after
+      → CaseSpells false known all cases names passed value at late after late_after → (draft : Draft) → Fits all names draft at
+      → Goes all names (case_laid known draft cases value) after
 
   case_goes : (row : PlainBody) → BodyGoes row → (passed : Passed) (names : Environment) (name : Word) (value : Option Tree) (at after : ℕ) (late late_after : Late)
       → (line : List Tree) × (value ≡ Some (trees.Choice name line)) × Inside row None names (λ own. BodySpells false known all row own (at_front row passed) line) at late after late_after
-      → (draft : Draft) → Fits all draft at → Goes all (body_laid known (counted row (line_in value) names) draft row (line_in value)) after
+      → (draft : Draft) → Fits all names draft at → Goes all names (row_laid known row draft (line_in value)) after
   case_goes row goes passed names name value at after late late_after (line, is, inside) draft fits =
-      subst (λ (l : List Tree). Goes all (body_laid known (counted row l names) draft row l) after) (sym (ap line_in is ∙ line_is name line))
+      subst (λ (l : List Tree). Goes all names (row_laid known row draft l) after) (sym (ap line_in is ∙ line_is name line))
       (inside_goes row goes passed None names line at after late late_after inside draft fits)
 
-  by_test : (This Other : Type 0) (this other : Result Draft Refusal) (after : ℕ) → (This → Goes all this after) → (Other → Goes all other after)
-      → (test : Bool) → By test This Other → Goes all (if test then this else other) after
-  by_test This Other this other after one more true it = one it
-  by_test This Other this other after one more false it = more it
+  by_test : (names : Environment) (This Other : Type 0) (this other : Result Draft Refusal) (after : ℕ) → (This → Goes all names this after) → (Other → Goes all names other after)
+      → (test : Bool) → By test This Other → Goes all names (if test then this else other) after
+  by_test names This Other this other after one more true it = one it
+  by_test names This Other this other after one more false it = more it
 
   array_goes : (name : Option Word) (count : Option ℤ) (row : PlainBody) → BodyGoes row → FieldGoes (Array name count row)
   array_goes name count row goes passed names value at after late late_after (rows, is, stated, counts, spells) draft fits =
-      subst (λ (lines : List (List Tree)). Goes all (rows_laid (λ draft line. body_laid known (counted row line names) draft row line) draft lines) after)
+      subst (λ (lines : List (List Tree)). Goes all names (rows_laid (row_laid known row) draft lines) after)
       (sym (ap rows_in is ∙ rows_are rows))
       (rows_goes name row goes passed names 1 rows at after late late_after spells draft fits)
 
@@ -147,20 +153,20 @@ module _ (known : Facts) (all : List Bool) where
     cases_go : (cases : PlainCases) → CasesGo cases
     cases_go no_cases passed names value at after late late_after it draft fits = absurd it
     cases_go (case_and name row others) passed names value at after late late_after it draft fits =
-        by_test ((line : List Tree) × (value ≡ Some (trees.Choice name line)) × Inside row None names (λ own. BodySpells false known all row own (at_front row passed) line) at late after late_after)
+        by_test names ((line : List Tree) × (value ≡ Some (trees.Choice name line)) × Inside row None names (λ own. BodySpells false known all row own (at_front row passed) line) at late after late_after)
         (CaseSpells false known all others names passed value at late after late_after)
-        (body_laid known (counted row (line_in value) names) draft row (line_in value)) (case_laid known names draft others value) after
+        (row_laid known row draft (line_in value)) (case_laid known draft others value) after
         (λ one. case_goes row (body_goes row) passed names name value at after late late_after one draft fits)
         (λ other. cases_go others passed names value at after late late_after other draft fits)
         (is_case name value) it
 
     body_goes : (body : PlainBody) → BodyGoes body
-    body_goes no_fields passed own values at after late late_after it draft fits = record { next = draft; is = refl; fits = subst (Fits all draft) (sym it.1) fits }
+    body_goes no_fields passed own values at after late late_after it draft fits = record { next = draft; is = refl; fits = subst (Fits all own draft) (sym it.1) fits }
     body_goes (field_and field fields) passed own values at after late late_after (value, rest, mid, late_mid, are, one, others) draft fits =
         let here = at_field (field_and field fields) passed in
         let first = field_goes field here own value at mid late late_mid one draft fits in
-        then_goes all (takes_value field) value rest values are (field_taken own here field value at mid late late_mid one) (field_laid known own draft field)
-        (λ next values. body_laid known own next fields values) mid after first
+        then_goes all own (takes_value field) value rest values are (field_taken own here field value at mid late late_mid one) (field_laid known draft field)
+        (λ next values. body_laid known next fields values) mid after first
         (body_goes fields (behind field here) own rest mid after late_mid late_after others first.next first.fits)
 
 module _ (read : (bytes : List ℕ) → ((k : ℕ) → slice_index bytes k < 256) → bytes_of (bits_of bytes) ≡ bytes) where
@@ -168,6 +174,6 @@ module _ (read : (bytes : List ℕ) → ((k : ℕ) → slice_index bytes k < 256
   complete known body row bytes it =
       let all = bits_of bytes in
       let goes = inside_goes known all body (body_goes known all body) nothing_passed None outside row 0 it.end [] it.late
-      (it.names, it.own, it.fields) nothing_laid (record { front = refl; size = refl }) in
+      (it.names, it.own, it.fields) nothing_laid (record { front = refl; size = refl; known = refl }) in
       ap (λ (r : Result Draft Refusal). r >>= λ draft. good (bytes_of (filled 8 draft.bits))) goes.is
       ∙ ap good (ap (λ (bits : List Bool). bytes_of (filled 8 bits)) goes.fits.front ∙ ap bytes_of (sym it.filled) ∙ read bytes it.are_bytes)

@@ -8,23 +8,22 @@ use Rattle.rz_core.specs.declared.facts.Facts.{Facts}
 use Rattle.rz_core.specs.declared.stop.Stop.{Stop}
 use Rattle.rz_core.specs.declared.stop.Stop.TheVariants.{NoMemory, Refused}
 use Rattle.rz_bits.specs.Bits.{number_bits}
-use Rattle.rz_expr.specs.Environment.{Environment}
 use Rattle.rz_layout.specs.declared.fault.LayFault.{LayFault}
 use Rattle.rz_types_fields.specs.declared.tree.Tree.TheVariants as trees
 use Rattle.rz_types_fields.specs.Laid.{in_order, lay, takes_one, with_bits, Draft, Refusal}
 use Rattle.rz_types.specs.Piece.{free_integer}
 use Rattle.rz_layout.proofs.Trees.{number_is}
 
-module _ (known : Facts) (names : Environment) where
+module _ (known : Facts) where
   module _ (numbers : List ℕ) (i : ℕ) (less : i < length numbers) (draft : Draft) (all : Result Draft Refusal)
-      (so : in_order takes_one (lay known names) draft (replicate (length (drop i numbers)) free_integer) (map trees.Number (drop i numbers)) ≡ all) where
+      (so : in_order takes_one (lay known) draft (replicate (length (drop i numbers)) free_integer) (map trees.Number (drop i numbers)) ≡ all) where
     abbrev pub group_behind : Draft → Result Draft Refusal
-    group_behind next = in_order takes_one (lay known names) next (replicate (length (drop (i + 1) numbers)) free_integer) (map trees.Number (drop (i + 1) numbers))
+    group_behind next = in_order takes_one (lay known) next (replicate (length (drop (i + 1) numbers)) free_integer) (map trees.Number (drop (i + 1) numbers))
 
     all_is : (with_bits draft (number_bits 16 (get_or numbers i 0)) >>= group_behind) ≡ all
     all_is =
         sym (ap (λ (n : ℕ). with_bits draft (number_bits 16 n) >>= group_behind) (number_is (get_or numbers i 0)))
-        ∙ sym (ap (λ (ns : List ℕ). in_order takes_one (lay known names) draft (replicate (length ns) free_integer) (map trees.Number ns)) (drop_more numbers i 0 less))
+        ∙ sym (ap (λ (ns : List ℕ). in_order takes_one (lay known) draft (replicate (length ns) free_integer) (map trees.Number ns)) (drop_more numbers i 0 less))
         ∙ so
 
     pub number_refused : (stop : Stop LayFault) (after : Draft) → Gives (with_bits draft (number_bits 16 (get_or numbers i 0))) (fault_seen refusal_of (left after (Err stop))) → (other : Draft) → Gives all (fault_seen refusal_of (left other (Err stop)))

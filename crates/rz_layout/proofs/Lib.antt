@@ -12,5 +12,6 @@ pub mod Complete
 pub mod Sounding
 pub mod Sound
 pub mod Numbers
+pub mod Steps
 pub mod Small
 pub mod Answering

@@ -1,5 +1,5 @@
 -- The faults of rows.
-use Rattle.std.proofs.Common.{◌≡◌, ℕ, zero, suc, ◌+◌, ◌==◌, ◌&&◌, ℤ, pos, Bool, true, false, List, [], ◌∷◌, ◌++◌, length, Option, Some, None, Result, Ok, Err, refl, sym, ◌∙◌}
+use Rattle.std.proofs.Common.{◌≡◌, ℕ, zero, suc, ◌+◌, ◌==◌, ◌&&◌, ℤ, pos, Bool, true, false, List, [], ◌∷◌, ◌++◌, length, Option, Some, None, Result, Ok, Err, refl, sym, ap, subst, ◌∙◌}
 use Rattle.std.specs.Prelude.{if◌then◌else◌, map, not, nat_lt, nat_abs, replicate}
 use Rattle.std.specs.List.{list_all, AllByRecursion}
 use Rattle.std.specs.Option.{option_to_list}
@@ -23,7 +23,7 @@ use Rattle.rz_types_fields.specs.declared.field.Symbol.{Symbol}
 use Rattle.rz_types_fields.specs.declared.field.TextForm.{TextForm}
 use Rattle.rz_types_fields.specs.declared.place.TextPlace.TheVariants as places
 use Rattle.rz_types_fields.specs.declared.tree.Tree.{Tree}
-use Rattle.rz_types_fields.specs.Laid.{bad_length, bad_size, behind_refusal, body_laid, bytes_given, bytes_laid, case_laid, counted, field_laid, first_value, in_order, joined, laid, lay, line_in, nothing_laid, number_given, one_more, other_values, piece_laid, refusal, refusal_in, rows_in, rows_laid, size_in, takes_one, text_refusal, too_long, unless, unvalued, valued, value_in, with_bits, Draft, Refusal}
+use Rattle.rz_types_fields.specs.Laid.{bad_length, bad_size, behind_refusal, body_laid, bytes_given, bytes_laid, case_laid, counted, field_laid, first_value, in_order, joined, laid, lay, line_in, nothing_laid, number_given, number_laid, one_more, other_values, piece_laid, refusal, refusal_in, row_laid, rows_in, rows_laid, size_in, takes_one, text_laid, text_refusal, too_long, unless, unvalued, valued, value_in, with_bits, with_names, Draft, Refusal}
 use Rattle.rz_types_fields.specs.Spells.{is_case, most_bits, nowhere, values_for}
 use Rattle.rz_types.specs.Field.{case_and, field_and, no_cases, no_fields, takes_value, Align, Array, Fill, Number, PlainBody, PlainCases, PlainField, PlainNumber, PlainText, Points, Switch, Text}
 use Rattle.rz_types.specs.Kept.{AreCasesKept, AreKept, IsKept, IsKeptWithin}
@@ -39,6 +39,7 @@ use Rattle.rz_types.specs.Value.{is_fixed_expression, is_size_expression, no_bit
 use Rattle.rz_types.specs.Walk.{names_of}
 use Rattle.rz_types.proofs.Firsts.{first_append}
 use Rattle.rz_types.proofs.Texts.{text_one, text_says, OnlyOne}
+use Rattle.rz_layout.proofs.Sounding.{field_kept, inside_kept, lay_kept}
 use Rattle.rz_layout.proofs.Own.{gives_counts, gives_names, outside_counts, outside_gives}
 
 -- an expression that has a value where these arrays are counted
@@ -132,6 +133,10 @@ then_known : {X Y : Type 0} (first : Result X Refusal) (next : X → Result Y Re
 then_known (Ok x) next one more = more x
 then_known (Err fault) next one more = one
 
+then_so : {X Y : Type 0} (first : Result X Refusal) (next : X → Result Y Refusal) → Known first → ((x : X) → first ≡ Ok x → Known (next x)) → Known (first >>= next)
+then_so (Ok x) next one more = more x refl
+then_so (Err fault) next one more = one
+
 abbrev pub KnownFault : Option Refusal → Type 0
 KnownFault None = Unit {0}
 KnownFault (Some fault) = is_compile_fault fault.number ≡ true
@@ -220,51 +225,55 @@ module _ (sizes : (known : Facts) (names : Environment) (term : Term) → GivesP
   with_known : (draft : Draft) (bits : List Bool) → Known (with_bits draft bits)
   with_known draft bits = by (nat_lt most_bits (length draft.bits + length bits))
     where
-      by : (test : Bool) → Known {X = Draft} (if test then Err (too_long draft (length draft.bits + length bits)) else Ok (record { piece = one_more draft.piece; bits = draft.bits ++ bits }))
+      by : (test : Bool) → Known {X = Draft} (if test then Err (too_long draft (length draft.bits + length bits)) else Ok (record { piece = one_more draft.piece; bits = draft.bits ++ bits; known = draft.known }))
       by true = refl
       by false = tt
 
   module _ (scope : List Word) (names : Environment) (gives : GivesPredefined names) (counts : GivesCounts scope names) where
-    piece_known : (draft : Draft) (piece : Piece) → HasTerms scope piece → (value : Option Tree) → Known (piece_laid known names draft piece value)
-    piece_known draft (OneNumber number) is value =
-        then_known (number_given draft.piece known names number.form number.width number.fixed value) (λ n. Ok (number_bits (nat_abs number.width) n))
-        (number_known scope names gives counts draft.piece number.form number.width number.fixed is value) (λ n. tt)
-    piece_known draft (OneText text) is value =
-        then_known (size_in draft.piece known names text.size) _ (size_known scope names gives counts draft.piece text.size is.0)
+    piece_known : (draft : Draft) → draft.known ≡ names → (piece : Piece) → HasTerms scope piece → (value : Option Tree) → Known (piece_laid known draft piece value)
+    piece_known draft same (OneNumber number) is value = subst (λ (own : Environment). Known (number_laid draft.piece known own number value)) (sym same)
+        (then_known (number_given draft.piece known names number.form number.width number.fixed value) (λ n. Ok (number_bits (nat_abs number.width) n))
+        (number_known scope names gives counts draft.piece number.form number.width number.fixed is value) (λ n. tt))
+    piece_known draft same (OneText text) is value = subst (λ (own : Environment). Known (text_laid draft.piece known own text value)) (sym same)
+        (then_known (size_in draft.piece known names text.size) _ (size_known scope names gives counts draft.piece text.size is.0)
         (λ size. then_known (bytes_given draft.piece known names text.fixed value) _ (bytes_known scope names gives counts draft.piece text.fixed is.1 value)
-        (λ bytes. laid_known draft.piece text.form size bytes))
-    piece_known draft (Zeros count) is value = tt
-    piece_known draft (Filler unit) is value = tt
+        (λ bytes. laid_known draft.piece text.form size bytes)))
+    piece_known draft same (Zeros count) is value = tt
+    piece_known draft same (Filler unit) is value = tt
 
-    lay_known : (draft : Draft) (piece : Piece) → HasTerms scope piece → (value : Option Tree) → Known (lay known names draft piece value)
-    lay_known draft piece is value = then_known (piece_laid known names draft piece value) (with_bits draft) (piece_known draft piece is value) (λ bits. with_known draft bits)
+    lay_known : (draft : Draft) → draft.known ≡ names → (piece : Piece) → HasTerms scope piece → (value : Option Tree) → Known (lay known draft piece value)
+    lay_known draft same piece is value = then_known (piece_laid known draft piece value) (with_bits draft) (piece_known draft same piece is value) (λ bits. with_known draft bits)
 
-    pieces_known : (pieces : List Piece) → AllByRecursion (HasTerms scope) pieces → (draft : Draft) (values : List Tree) → Known (in_order takes_one (lay known names) draft pieces values)
-    pieces_known [] each draft values = tt
-    pieces_known (piece ∷ pieces) each draft values =
-        then_known (lay known names draft piece (first_value (takes_one piece) values)) _ (lay_known draft piece each.0 (first_value (takes_one piece) values))
-        (λ next. pieces_known pieces each.1 next (other_values (takes_one piece) values))
+    pieces_known : (pieces : List Piece) → AllByRecursion (HasTerms scope) pieces → (draft : Draft) → draft.known ≡ names → (values : List Tree) → Known (in_order takes_one (lay known) draft pieces values)
+    pieces_known [] each draft same values = tt
+    pieces_known (piece ∷ pieces) each draft same values =
+        let value = first_value (takes_one piece) values in
+        then_so (lay known draft piece value) _ (lay_known draft same piece each.0 value)
+        (λ next is. pieces_known pieces each.1 next (lay_kept known draft next piece value is ∙ same) (other_values (takes_one piece) values))
 
   -- Fields, rows, cases and bodies.
 
   abbrev BodyKnown : List Word → PlainBody → Type 0
-  BodyKnown scope body = (names : Environment) → GivesPredefined names → GivesCounts scope names → (draft : Draft) (values : List Tree) → Known (body_laid known names draft body values)
+  BodyKnown scope body = (names : Environment) → GivesPredefined names → GivesCounts scope names → (draft : Draft) → draft.known ≡ names → (values : List Tree) → Known (body_laid known draft body values)
 
   abbrev FieldKnown : List Word → PlainField → Type 0
-  FieldKnown scope field = (names : Environment) → GivesPredefined names → GivesCounts scope names → (draft : Draft) (value : Option Tree) → Known (field_laid known names draft field value)
+  FieldKnown scope field = (names : Environment) → GivesPredefined names → GivesCounts scope names → (draft : Draft) → draft.known ≡ names → (value : Option Tree) → Known (field_laid known draft field value)
 
   abbrev CasesKnown : List Word → PlainCases → Type 0
-  CasesKnown scope cases = (names : Environment) → GivesPredefined names → GivesCounts scope names → (draft : Draft) (value : Option Tree) → Known (case_laid known names draft cases value)
+  CasesKnown scope cases = (names : Environment) → GivesPredefined names → GivesCounts scope names → (draft : Draft) → draft.known ≡ names → (value : Option Tree) → Known (case_laid known draft cases value)
 
   inside_known : (scope : List Word) (row : PlainBody) → BodyKnown (scope ++ names_of row) row → (outer : Environment) → GivesPredefined outer → GivesCounts scope outer
-      → (draft : Draft) (line : List Tree) → Known (body_laid known (counted row line outer) draft row line)
-  inside_known scope row is outer gives counts draft line =
-      is (counted row line outer) (gives_names row line outer gives) (gives_counts scope row line outer counts) draft line
+      → (draft : Draft) → draft.known ≡ outer → (line : List Tree) → Known (row_laid known row draft line)
+  inside_known scope row is outer gives counts draft same line =
+      then_known (body_laid known (with_names (counted row line draft.known) draft) row line) (λ next. Ok (with_names draft.known next))
+      (is (counted row line outer) (gives_names row line outer gives) (gives_counts scope row line outer counts) (with_names (counted row line draft.known) draft) (ap (counted row line) same) line)
+      (λ next. tt)
 
-  rows_known : (lay_row : Draft → List Tree → Result Draft Refusal) → ((draft : Draft) (line : List Tree) → Known (lay_row draft line)) → (draft : Draft) (rows : List (List Tree))
-      → Known (rows_laid lay_row draft rows)
-  rows_known lay_row each draft [] = tt
-  rows_known lay_row each draft (line ∷ rows) = then_known (lay_row draft line) _ (each draft line) (λ next. rows_known lay_row each next rows)
+  rows_known : (outer : Environment) (row : PlainBody) → ((draft : Draft) → draft.known ≡ outer → (line : List Tree) → Known (row_laid known row draft line))
+      → (draft : Draft) → draft.known ≡ outer → (rows : List (List Tree)) → Known (rows_laid (row_laid known row) draft rows)
+  rows_known outer row each draft same [] = tt
+  rows_known outer row each draft same (line ∷ rows) =
+      then_so (row_laid known row draft line) _ (each draft same line) (λ next is. rows_known outer row each next (inside_kept known row line draft next is ∙ same) rows)
 
   either_known : (test : Bool) (this other : Result Draft Refusal) → Known this → Known other → Known (if test then this else other)
   either_known true this other one more = one
@@ -272,40 +281,39 @@ module _ (sizes : (known : Facts) (names : Environment) (term : Term) → GivesP
 
   mutual
     field_known : (scope : List Word) (in_case : Bool) (field : PlainField) → is_shaped in_case field ≡ true → unknown_in scope field ≡ None → IsKeptWithin scope field → FieldKnown scope field
-    field_known scope in_case (Number number) is none kept names gives counts draft value =
-        pieces_known scope names gives counts (OneNumber number ∷ []) (number_term scope in_case number is none, tt) draft (option_to_list value)
-    field_known scope in_case (Text text) is none kept names gives counts draft value =
-        pieces_known scope names gives counts (OneText text ∷ []) (text_piece scope text is none, tt) draft (option_to_list value)
-    field_known scope in_case (Points points) is none kept names gives counts draft value =
-        pieces_known scope names gives counts (integers points.rect points.fixed) (point_pieces scope points.rect points.fixed is none) draft (values_for (Points points) value)
-    field_known scope in_case (Fill unit count) is none kept names gives counts draft value =
-        pieces_known scope names gives counts (pieces_of (Fill unit count)) (tt, tt) draft (option_to_list value)
-    field_known scope in_case (Align unit) is none kept names gives counts draft value =
-        pieces_known scope names gives counts (pieces_of (Align unit)) (tt, tt) draft (option_to_list value)
-    field_known scope in_case (Array name count row) is none kept names gives counts draft value =
+    field_known scope in_case (Number number) is none kept names gives counts draft same value =
+        pieces_known scope names gives counts (OneNumber number ∷ []) (number_term scope in_case number is none, tt) draft same (option_to_list value)
+    field_known scope in_case (Text text) is none kept names gives counts draft same value =
+        pieces_known scope names gives counts (OneText text ∷ []) (text_piece scope text is none, tt) draft same (option_to_list value)
+    field_known scope in_case (Points points) is none kept names gives counts draft same value =
+        pieces_known scope names gives counts (integers points.rect points.fixed) (point_pieces scope points.rect points.fixed is none) draft same (values_for (Points points) value)
+    field_known scope in_case (Fill unit count) is none kept names gives counts draft same value =
+        pieces_known scope names gives counts (pieces_of (Fill unit count)) (tt, tt) draft same (option_to_list value)
+    field_known scope in_case (Align unit) is none kept names gives counts draft same value =
+        pieces_known scope names gives counts (pieces_of (Align unit)) (tt, tt) draft same (option_to_list value)
+    field_known scope in_case (Array name count row) is none kept names gives counts draft same value =
         let each = both (is_none_or is_own_name name) (are_shaped false row) is in
-        rows_known (λ draft line. body_laid known (counted row line names) draft row line)
-        (inside_known scope row (body_known (scope ++ names_of row) false row each.1 kept.2) names gives counts) draft (rows_in value)
-    field_known scope in_case (Switch cases) is none kept names gives counts draft value = cases_known scope cases is kept.1 names gives counts draft value
+        rows_known names row (inside_known scope row (body_known (scope ++ names_of row) false row each.1 kept.2) names gives counts) draft same (rows_in value)
+    field_known scope in_case (Switch cases) is none kept names gives counts draft same value = cases_known scope cases is kept.1 names gives counts draft same value
 
     cases_known : (scope : List Word) (cases : PlainCases) → are_cases_shaped cases ≡ true → AreCasesKept scope cases → CasesKnown scope cases
-    cases_known scope no_cases is kept names gives counts draft value = tt
-    cases_known scope (case_and name row others) is kept names gives counts draft value =
+    cases_known scope no_cases is kept names gives counts draft same value = tt
+    cases_known scope (case_and name row others) is kept names gives counts draft same value =
         let all = both (is_own_name name) (are_shaped true row && are_cases_shaped others) is in
         let each = both (are_shaped true row) (are_cases_shaped others) all.1 in
-        either_known (is_case name value) (body_laid known (counted row (line_in value) names) draft row (line_in value)) (case_laid known names draft others value)
-        (inside_known scope row (body_known (scope ++ names_of row) true row each.0 kept.1) names gives counts draft (line_in value))
-        (cases_known scope others each.1 kept.2 names gives counts draft value)
+        either_known (is_case name value) (row_laid known row draft (line_in value)) (case_laid known draft others value)
+        (inside_known scope row (body_known (scope ++ names_of row) true row each.0 kept.1) names gives counts draft same (line_in value))
+        (cases_known scope others each.1 kept.2 names gives counts draft same value)
 
     body_known : (scope : List Word) (in_case : Bool) (body : PlainBody) → are_shaped in_case body ≡ true → AreKept scope body → BodyKnown scope body
-    body_known scope in_case no_fields is kept names gives counts draft values = tt
-    body_known scope in_case (field_and field fields) is kept names gives counts draft values =
+    body_known scope in_case no_fields is kept names gives counts draft same values = tt
+    body_known scope in_case (field_and field fields) is kept names gives counts draft same values =
         let each = both (is_shaped in_case field) (are_shaped in_case fields) is in
-        then_known (field_laid known names draft field (first_value (takes_value field) values)) _
-        (field_known scope in_case field each.0 kept.1 kept.2 names gives counts draft (first_value (takes_value field) values))
-        (λ next. body_known scope in_case fields each.1 kept.3 names gives counts next (other_values (takes_value field) values))
+        let value = first_value (takes_value field) values in
+        then_so (field_laid known draft field value) _ (field_known scope in_case field each.0 kept.1 kept.2 names gives counts draft same value)
+        (λ next so. body_known scope in_case fields each.1 kept.3 names gives counts next (field_kept known field value draft next so ∙ same) (other_values (takes_value field) values))
 
   pub row_known : (body : PlainBody) (row : List Tree) → is_well_shaped body ≡ true → IsKept body → Known (laid known body row)
   row_known body row shaped kept =
-      then_known (body_laid known (counted body row outside) nothing_laid body row) (λ draft. Ok (bytes_of (filled 8 draft.bits)))
-      (inside_known [] body (body_known (names_of body) false body (both _ _ shaped).0 kept.1) outside outside_gives outside_counts nothing_laid row) (λ draft. tt)
+      then_known (row_laid known body nothing_laid row) (λ draft. Ok (bytes_of (filled 8 draft.bits)))
+      (inside_known [] body (body_known (names_of body) false body (both _ _ shaped).0 kept.1) outside outside_gives outside_counts nothing_laid refl row) (λ draft. tt)

@@ -19,10 +19,10 @@ length_number zero number = refl
 length_number (suc width) number = ap suc (length_number width number)
 
 over : (draft : Draft) (end : ℕ) → Bool → List Bool → Result Draft Refusal
-over draft end test bits = if test then Err (too_long draft end) else Ok (record { piece = one_more draft.piece; bits = draft.bits ++ bits })
+over draft end test bits = if test then Err (too_long draft end) else Ok (record { piece = one_more draft.piece; bits = draft.bits ++ bits; known = draft.known })
 
 pub laid_in : (draft : Draft) (bits : List Bool) → length draft.bits + length bits ≤ most_bits
-    → with_bits draft bits ≡ Ok (record { piece = one_more draft.piece; bits = draft.bits ++ bits })
+    → with_bits draft bits ≡ Ok (record { piece = one_more draft.piece; bits = draft.bits ++ bits; known = draft.known })
 unfolding over
 laid_in draft bits fits = ap (λ test. over draft (length draft.bits + length bits) test bits) (le-ltb most_bits (length draft.bits + length bits) fits)
 
@@ -34,7 +34,7 @@ test_over a b less = by (nat_lt a b) refl
     by false is = let most = ltb-false a b is in absurd (omega (arith, less, most))
 
 pub some_room : (draft : Draft) (bits : List Bool) (count : ℕ) → length bits ≡ count → length draft.bits + count ≤ most_bits
-    → with_bits draft bits ≡ Ok (record { piece = one_more draft.piece; bits = draft.bits ++ bits })
+    → with_bits draft bits ≡ Ok (record { piece = one_more draft.piece; bits = draft.bits ++ bits; known = draft.known })
 some_room draft bits count size fits = laid_in draft bits (subst (λ n. length draft.bits + n ≤ most_bits) (sym size) fits)
 
 pub no_room : (draft : Draft) (bits : List Bool) (count : ℕ) → length bits ≡ count → (stop : Stop LayFault) → HasRoom draft count (Err stop) → (after : Draft)

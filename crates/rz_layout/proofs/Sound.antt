@@ -14,7 +14,7 @@ use Rattle.rz_bits.specs.Bits.{bits_of, bytes_of}
 use Rattle.rz_bits.specs.BitBuf.{filled, missing, zeros}
 use Rattle.rz_types_fields.specs.declared.tree.Tree.{Tree}
 use Rattle.rz_types_fields.specs.declared.tree.Tree.TheVariants as trees
-use Rattle.rz_types_fields.specs.Laid.{body_laid, case_laid, counted, field_laid, first_value, laid, line_in, nothing_laid, other_values, pieces_laid, rows_in, rows_laid, takes_one, Draft}
+use Rattle.rz_types_fields.specs.Laid.{body_laid, case_laid, counted, field_laid, first_value, laid, line_in, nothing_laid, other_values, pieces_laid, row_laid, rows_in, rows_laid, takes_one, with_names, Draft}
 use Rattle.rz_types_fields.specs.Row.{By, IsChoice, IsRow, IsValue}
 use Rattle.rz_types_fields.specs.Spells.{group_in, is_case, put, row_of, values_for, BodySpells, CaseSpells, FieldSpells, Inside, IsCounted, IsGrouped, IsGroupedFor, Late, PiecesSpell, RowOf, RowsSpell, Spells}
 use Rattle.rz_types.specs.Field.{case_and, field_and, no_cases, no_fields, takes_value, Align, Array, Fill, Number, PlainBody, PlainCases, PlainField, PlainNumber, PlainPoints, PlainText, Points, Switch, Text}
@@ -27,7 +27,7 @@ use Rattle.rz_types.specs.Text.{PlainPart}
 use Rattle.rz_types.specs.Walk.{names_of}
 use Rattle.rz_layout.proofs.Own.{counted_are, counted_within, AreCounted, FieldCounted}
 use Rattle.rz_layout.proofs.Rows.{choice_chosen, choice_differs, fronted, Takes}
-use Rattle.rz_layout.proofs.Sounding.{chained, pieces_sound, same_ok, then_sounds, Fed, Front, NumberValue, PieceValue, Sounds, TextValue}
+use Rattle.rz_layout.proofs.Sounding.{chained, field_kept, inside_kept, pieces_sound, same_ok, then_sounds, Fed, Front, NumberValue, PieceValue, Sounds, TextValue}
 use Rattle.rz_layout.proofs.Spelling.{good}
 use Rattle.rz_layout.proofs.Trees.{group_is, line_is, rows_are}
 
@@ -87,53 +87,67 @@ text_has text value it = single_fed (OneText text) value (taken (is_none text.fi
 
 module _ (known : Facts) (all : List Bool) where
   pieces_sounds : (passed : Passed) (field : PlainField) (names : Environment) (value : Option Tree) → IsGroupedFor field value → Fed (pieces_of field) (values_for field value) → (draft next : Draft)
-      → pieces_laid known names draft field value ≡ Ok next → Front all next
+      → draft.known ≡ names → pieces_laid known draft field value ≡ Ok next → Front all next
       → (late : Late) → Sounds all (λ at late_after. PiecesSpell false known all field names passed value at late (length next.bits) late_after) draft
-  pieces_sounds passed field names value grouped fed draft next is front late =
-      let it = pieces_sound all known names passed (pieces_of field) (values_for field value) fed draft next is front late in
+  pieces_sounds passed field names value grouped fed draft next same is front late =
+      let it = pieces_sound all known names passed (pieces_of field) (values_for field value) fed draft next same is front late in
       record { late_after = it.late_after; spells = (grouped, it.spells); front = it.front }
 
   abbrev BodySounds : PlainBody → Type 0
   BodySounds body = (passed : Passed) (names : Environment) (values : List Tree) → AreCounted body values names → IsRow body values → (draft next : Draft)
-      → body_laid known names draft body values ≡ Ok next → Front all next
+      → draft.known ≡ names → body_laid known draft body values ≡ Ok next → Front all next
       → (late : Late) → Sounds all (λ at late_after. BodySpells false known all body names passed values at late (length next.bits) late_after) draft
 
   inside_sounds : (row : PlainBody) → Differ (names_of row) → BodySounds row → (passed : Passed) (which : Option RowOf) (outer : Environment) (line : List Tree) → IsRow row line → (draft next : Draft)
-      → body_laid known (counted row line outer) draft row line ≡ Ok next → Front all next
+      → draft.known ≡ outer → row_laid known row draft line ≡ Ok next → Front all next
       → (late : Late) → Sounds all (λ at late_after. Inside row which outer (λ own. BodySpells false known all row own (at_front row passed) line) at late (length next.bits) late_after) draft
-  inside_sounds row differ sounds passed which outer line is_row draft next is front late =
-      let it = sounds (at_front row passed) (counted row line outer) line (counted_are row line outer differ) is_row draft next is front late in
-      record { late_after = it.late_after; spells = (counted row line outer, counted_within row which line outer, it.spells); front = it.front }
+  inside_sounds row differ sounds passed which outer line is_row draft next same is front late =
+      let own = counted row line outer in
+      let within = with_names (counted row line draft.known) draft in
+      let inner = chained (body_laid known within row line) (λ mid. good (with_names draft.known mid)) next is in
+      let bits_are : inner.value.bits ≡ next.bits = ap (λ (d : Draft). d.bits) (same_ok (with_names draft.known inner.value) next inner.leads) in
+      let it = sounds (at_front row passed) own line (counted_are row line outer differ) is_row within inner.value (ap (counted row line) same) inner.is
+      (subst (λ (bits : List Bool). take (length bits) all ≡ bits) (sym bits_are) front) late in
+      record {
+        late_after = it.late_after;
+        spells = (
+          own,
+          counted_within row which line outer,
+          subst (λ (bits : List Bool). BodySpells false known all row own (at_front row passed) line (length draft.bits) late (length bits) it.late_after) bits_are it.spells,
+        );
+        front = it.front;
+      }
 
   rows_sound : (name : Option Word) (row : PlainBody) → Differ (names_of row) → BodySounds row → (passed : Passed) (outer : Environment) (number : ℕ) (rows : List (List Tree)) → AllByRecursion (IsRow row) rows → (draft next : Draft)
-      → rows_laid (λ draft line. body_laid known (counted row line outer) draft row line) draft rows ≡ Ok next → Front all next
+      → draft.known ≡ outer → rows_laid (row_laid known row) draft rows ≡ Ok next → Front all next
       → (late : Late) → Sounds all (λ at late_after. RowsSpell (λ number line. Inside row (row_of name number) outer (λ own. BodySpells false known all row own (at_front row passed) line)) number rows at late (length next.bits) late_after) draft
-  rows_sound name row differ sounds passed outer number [] are draft next is front late =
+  rows_sound name row differ sounds passed outer number [] are draft next named is front late =
       let same : draft ≡ next = same_ok draft next is in
       record { late_after = late; spells = (ap (λ (d : Draft). length d.bits) (sym same), refl); front = subst (Front all) (sym same) front }
-  rows_sound name row differ sounds passed outer number (line ∷ rows) are draft next is front late =
-      let inner = chained (body_laid known (counted row line outer) draft row line) (λ mid. rows_laid (λ draft line. body_laid known (counted row line outer) draft row line) mid rows) next is in
-      let mid = rows_sound name row differ sounds passed outer (number + 1) rows are.1 inner.value next inner.leads front late in
-      let one = inside_sounds row differ sounds passed (row_of name number) outer line are.0 draft inner.value inner.is mid.front late in
-      let more = rows_sound name row differ sounds passed outer (number + 1) rows are.1 inner.value next inner.leads front one.late_after in
+  rows_sound name row differ sounds passed outer number (line ∷ rows) are draft next named is front late =
+      let inner = chained (row_laid known row draft line) (λ mid. rows_laid (row_laid known row) mid rows) next is in
+      let kept : inner.value.known ≡ outer = inside_kept known row line draft inner.value inner.is ∙ named in
+      let mid = rows_sound name row differ sounds passed outer (number + 1) rows are.1 inner.value next kept inner.leads front late in
+      let one = inside_sounds row differ sounds passed (row_of name number) outer line are.0 draft inner.value named inner.is mid.front late in
+      let more = rows_sound name row differ sounds passed outer (number + 1) rows are.1 inner.value next kept inner.leads front one.late_after in
       record { late_after = more.late_after; spells = (length inner.value.bits, one.late_after, one.spells, more.spells); front = one.front }
 
   abbrev FieldSounds : PlainField → Type 0
   FieldSounds field = (passed : Passed) (names : Environment) (value : Option Tree) → FieldCounted field value names → Takes (takes_value field) (IsValue field) value → (draft next : Draft)
-      → field_laid known names draft field value ≡ Ok next → Front all next
+      → draft.known ≡ names → field_laid known draft field value ≡ Ok next → Front all next
       → (late : Late) → Sounds all (λ at late_after. FieldSpells false known all field names passed value at late (length next.bits) late_after) draft
 
   abbrev CasesSound : PlainCases → Type 0
   CasesSound cases = (passed : Passed) (names : Environment) (v : Tree) → IsChoice cases v → (draft next : Draft)
-      → case_laid known names draft cases (Some v) ≡ Ok next → Front all next
+      → draft.known ≡ names → case_laid known draft cases (Some v) ≡ Ok next → Front all next
       → (late : Late) → Sounds all (λ at late_after. CaseSpells false known all cases names passed (Some v) at late (length next.bits) late_after) draft
 
   array_sounds : (name : Option Word) (count : Option ℤ) (row : PlainBody) → Differ (names_of row) → BodySounds row → FieldSounds (Array name count row)
-  array_sounds name count row differ sounds passed names value counts (v, (rows, is_rows, stated, are), some) draft next is front late =
+  array_sounds name count row differ sounds passed names value counts (v, (rows, is_rows, stated, are), some) draft next same is front late =
       let whole : value ≡ Some (trees.Rows rows) = some ∙ ap (λ (t : Tree). Some t) is_rows in
       let lines : rows_in value ≡ rows = ap rows_in whole ∙ rows_are rows in
-      let it = rows_sound name row differ sounds passed names 1 rows are draft next
-      (sym (ap (rows_laid (λ draft line. body_laid known (counted row line names) draft row line) draft) lines) ∙ is) front late in
+      let it = rows_sound name row differ sounds passed names 1 rows are draft next same
+      (sym (ap (rows_laid (row_laid known row) draft) lines) ∙ is) front late in
       record {
         late_after = it.late_after;
         spells = (rows, whole, stated, subst (λ (rs : List (List Tree)). IsCounted name (length rs) names) lines counts, it.spells);
@@ -141,8 +155,8 @@ module _ (known : Facts) (all : List Bool) where
       }
 
   switch_sounds : (cases : PlainCases) → CasesSound cases → FieldSounds (Switch cases)
-  switch_sounds cases sounds passed names value counts (v, is_choice, some) draft next is front late =
-      let it = sounds passed names v is_choice draft next (sym (ap (case_laid known names draft cases) some) ∙ is) front late in
+  switch_sounds cases sounds passed names value counts (v, is_choice, some) draft next same is front late =
+      let it = sounds passed names v is_choice draft next same (sym (ap (case_laid known draft cases) some) ∙ is) front late in
       record {
         late_after = it.late_after;
         spells = subst (λ (o : Option Tree). CaseSpells false known all cases names passed o (length draft.bits) late (length next.bits) it.late_after) (sym some) it.spells;
@@ -151,16 +165,16 @@ module _ (known : Facts) (all : List Bool) where
 
   -- a case that is chosen, and one that isn't
   case_sounds : (name : Word) (row : PlainBody) (others : PlainCases) → Differ (names_of row) → BodySounds row → (passed : Passed) (names : Environment) (v : Tree)
-      → (line : List Tree) × (v ≡ trees.Choice name line) × IsRow row line → (draft next : Draft) → case_laid known names draft (case_and name row others) (Some v) ≡ Ok next → Front all next
+      → (line : List Tree) × (v ≡ trees.Choice name line) × IsRow row line → (draft next : Draft) → draft.known ≡ names → case_laid known draft (case_and name row others) (Some v) ≡ Ok next → Front all next
       → (late : Late) → Sounds all (λ at late_after. CaseSpells false known all (case_and name row others) names passed (Some v) at late (length next.bits) late_after) draft
-  case_sounds name row others differ sounds passed names v (line, is_choice, is_row) draft next is front late =
+  case_sounds name row others differ sounds passed names v (line, is_choice, is_row) draft next same is front late =
       let some : Some v ≡ Some (trees.Choice name line) = ap (λ (t : Tree). Some t) is_choice in
       let chosen : is_case name (Some v) ≡ true = ap (is_case name) some ∙ choice_chosen name line in
-      let so : body_laid known (counted row line names) draft row line ≡ Ok next =
-      sym (ap (λ (l : List Tree). body_laid known (counted row l names) draft row l) (ap line_in some ∙ line_is name line))
-      ∙ sym (ap (λ (test : Bool). if test then body_laid known (counted row (line_in (Some v)) names) draft row (line_in (Some v)) else case_laid known names draft others (Some v)) chosen)
+      let so : row_laid known row draft line ≡ Ok next =
+      sym (ap (row_laid known row draft) (ap line_in some ∙ line_is name line))
+      ∙ sym (ap (λ (test : Bool). if test then row_laid known row draft (line_in (Some v)) else case_laid known draft others (Some v)) chosen)
       ∙ is in
-      let it = inside_sounds row differ sounds passed None names line is_row draft next so front late in
+      let it = inside_sounds row differ sounds passed None names line is_row draft next same so front late in
       record {
         late_after = it.late_after;
         spells = subst (λ (test : Bool). By test
@@ -173,14 +187,14 @@ module _ (known : Facts) (all : List Bool) where
 
   others_sound : (name : Word) (row : PlainBody) (others : PlainCases) → AllByRecursion (λ later. str_eq_ignore_ascii_case name.bytes later.bytes ≡ false) (case_names others)
       → CasesSound others → (passed : Passed) (names : Environment) (v : Tree)
-      → IsChoice others v → (draft next : Draft) → case_laid known names draft (case_and name row others) (Some v) ≡ Ok next → Front all next
+      → IsChoice others v → (draft next : Draft) → draft.known ≡ names → case_laid known draft (case_and name row others) (Some v) ≡ Ok next → Front all next
       → (late : Late) → Sounds all (λ at late_after. CaseSpells false known all (case_and name row others) names passed (Some v) at late (length next.bits) late_after) draft
-  others_sound name row others differ sounds passed names v is_choice draft next is front late =
+  others_sound name row others differ sounds passed names v is_choice draft next same is front late =
       let other : is_case name (Some v) ≡ false = choice_differs name others differ v is_choice in
-      let so : case_laid known names draft others (Some v) ≡ Ok next =
-      sym (ap (λ (test : Bool). if test then body_laid known (counted row (line_in (Some v)) names) draft row (line_in (Some v)) else case_laid known names draft others (Some v)) other)
+      let so : case_laid known draft others (Some v) ≡ Ok next =
+      sym (ap (λ (test : Bool). if test then row_laid known row draft (line_in (Some v)) else case_laid known draft others (Some v)) other)
       ∙ is in
-      let it = sounds passed names v is_choice draft next so front late in
+      let it = sounds passed names v is_choice draft next same so front late in
       record {
         late_after = it.late_after;
         spells = subst (λ (test : Bool). By test
@@ -209,22 +223,23 @@ module _ (known : Facts) (all : List Bool) where
     cases_sound scope (case_and name row others) differ kept passed names v (inr it) = others_sound name row others differ.0 (cases_sound scope others differ.1 kept.2) passed names v it
 
     body_sounds : (scope : List Word) (body : PlainBody) → AreKept scope body → BodySounds body
-    body_sounds scope no_fields kept passed names values counts is_row draft next is front late =
+    body_sounds scope no_fields kept passed names values counts is_row draft next named is front late =
         let same : draft ≡ next = same_ok draft next is in
         record {
           late_after = late;
           spells = (is_row, ap (λ (d : Draft). length d.bits) (sym same), refl);
           front = subst (Front all) (sym same) front;
         }
-    body_sounds scope (field_and field fields) kept passed names values counts (rest, one, others) draft next is front late =
+    body_sounds scope (field_and field fields) kept passed names values counts (rest, one, others) draft next named is front late =
         let each = fronted (takes_value field) (IsValue field) values rest one in
         let value = first_value (takes_value field) values in
         let rest_values = other_values (takes_value field) values in
         let here = at_field (field_and field fields) passed in
-        let inner = chained (field_laid known names draft field value) (λ mid. body_laid known names mid fields rest_values) next is in
+        let inner = chained (field_laid known draft field value) (λ mid. body_laid known mid fields rest_values) next is in
         then_sounds all value rest_values values each.whole (FieldSpells false known all field names here) (BodySpells false known all fields names (behind field here)) draft inner.value (length next.bits)
-        (λ mid late. field_sounds scope field kept.2 here names value counts.0 each.one draft inner.value inner.is mid late)
-        (λ late. body_sounds scope fields kept.3 (behind field here) names rest_values counts.1 (subst (IsRow fields) each.others others) inner.value next inner.leads front late)
+        (λ mid late. field_sounds scope field kept.2 here names value counts.0 each.one draft inner.value named inner.is mid late)
+        (λ late. body_sounds scope fields kept.3 (behind field here) names rest_values counts.1 (subst (IsRow fields) each.others others) inner.value next
+        (field_kept known field value draft inner.value inner.is ∙ named) inner.leads front late)
         late
 
 module _ (written : (bits : List Bool) → length bits % 8 ≡ 0 → bits_of (bytes_of bits) ≡ bits) (multiple : (unit : ℕ) (bits : List Bool) → 0 < unit → length (filled unit bits) % unit ≡ 0)
@@ -232,19 +247,19 @@ module _ (written : (bits : List Bool) → length bits % 8 ≡ 0 → bits_of (by
   pub sound : (known : Facts) (body : PlainBody) → IsKept body → (row : List Tree) (bytes : List ℕ) → IsRow body row → laid known body row ≡ Ok bytes
       → Spells false known body row bytes
   sound known body kept row bytes are is =
-      let names = counted body row outside in
-      let inner = chained (body_laid known names nothing_laid body row) (λ draft. good (bytes_of (filled 8 draft.bits))) bytes is in
+      let inner = chained (row_laid known body nothing_laid row) (λ draft. good (bytes_of (filled 8 draft.bits))) bytes is in
       let bits : List Bool = inner.value.bits in
       let bytes_are : bytes_of (filled 8 bits) ≡ bytes = same_ok _ bytes inner.leads in
       let all_is : bits_of bytes ≡ filled 8 bits = ap bits_of (sym bytes_are) ∙ written (filled 8 bits) (multiple 8 bits (omega (arith))) in
       let front : take (length bits) (bits_of bytes) ≡ bits = ap (take (length bits)) all_is ∙ take-append_seam bits (zeros (missing 8 (length bits))) in
-      let it = body_sounds known (bits_of bytes) (names_of body) body kept.1 (at_front body nothing_passed) names row (counted_are body row outside kept.0) are nothing_laid inner.value inner.is front [] in
+      let it = inside_sounds known (bits_of bytes) body kept.0 (body_sounds known (bits_of bytes) (names_of body) body kept.1) nothing_passed None outside row are nothing_laid inner.value refl
+      inner.is front [] in
       record {
-        names = names;
-        own = counted_within body None row outside;
+        names = it.spells.0;
+        own = it.spells.1;
         end = length bits;
         late = it.late_after;
-        fields = it.spells;
+        fields = it.spells.2;
         filled = all_is ∙ ap (filled 8) (sym front);
         within = (let long = ap length all_is ∙ length-append bits (zeros (missing 8 (length bits))) in omega (arith, long));
         are_bytes = subst (λ (bs : List ℕ). (k : ℕ) → slice_index bs k < 256) bytes_are (small (filled 8 bits));

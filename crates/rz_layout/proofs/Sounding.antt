@@ -17,12 +17,12 @@ use Rattle.rz_types_fields.specs.declared.field.TextForm.{TextForm}
 use Rattle.rz_types_fields.specs.declared.field.TextForm.TheVariants as forms
 use Rattle.rz_types_fields.specs.declared.tree.Tree.{Tree}
 use Rattle.rz_types_fields.specs.declared.tree.Tree.TheVariants as trees
-use Rattle.rz_types_fields.specs.Laid.{bad_length, bad_size, behind_refusal, bytes_given, bytes_laid, first_value, fixed_number, in_order, joined, lay, number_given, number_in, one_more, other_values, piece_laid, refusal, size_in, takes_one, text_in, text_laid, text_refusal, too_long, unless, unvalued, valued, value_in, with_bits, Draft, Refusal}
-use Rattle.rz_types_fields.specs.Spells.{is_late_size, is_one_late, marks, most_bits, nowhere, put, AreBytes, InOrder, IsNumber, IsSize, IsStored, IsText, Late, PieceSpells, RowSpells, Then}
-use Rattle.rz_types.specs.Field.{PlainText}
+use Rattle.rz_types_fields.specs.Laid.{bad_length, bad_size, behind_refusal, body_laid, bytes_given, bytes_laid, case_laid, counted, field_laid, first_value, fixed_number, in_order, joined, lay, line_in, number_given, number_in, number_laid, one_more, other_values, piece_laid, refusal, row_laid, rows_in, rows_laid, size_in, takes_one, text_in, text_laid, text_refusal, too_long, unless, unvalued, valued, value_in, with_bits, with_names, Draft, Refusal}
+use Rattle.rz_types_fields.specs.Spells.{is_case, is_late_size, is_one_late, marks, most_bits, nowhere, put, values_for, AreBytes, InOrder, IsNumber, IsSize, IsStored, IsText, Late, PieceSpells, RowSpells, Then}
+use Rattle.rz_types.specs.Field.{case_and, no_cases, Align, Array, Fill, Number, PlainBody, PlainCases, PlainField, PlainText, Points, Switch, Text}
 use Rattle.rz_types.specs.Range.{fits_number, may_be_size}
 use Rattle.rz_types.specs.Passed.{behind_piece, Names, Passed}
-use Rattle.rz_types.specs.Piece.{terms_of_text, Filler, OneNumber, OneText, Piece, Zeros}
+use Rattle.rz_types.specs.Piece.{pieces_of, terms_of_text, Filler, OneNumber, OneText, Piece, Zeros}
 use Rattle.rz_types.specs.Stored.{stored_number, stored_text}
 use Rattle.rz_types.specs.Text.{bytes_seen, text_terms, PlainPart}
 use Rattle.rz_types.specs.Value.{no_bits, see}
@@ -168,13 +168,14 @@ module _ (known : Facts) (names : Environment) where
         are_bits = sym free.1;
       }
 
-  stored_sound : (passed : Passed) (piece : Piece) (value : Option Tree) → PieceValue piece value → (draft : Draft) (bits : List Bool)
-      → piece_laid known names draft piece value ≡ Ok bits → IsStored false passed piece known (length draft.bits) (see known no_bits names) value bits
-  stored_sound passed (OneNumber number) value has draft bits is =
-      number_sound passed draft.piece number.form number.width number.fixed value has bits is
-  stored_sound passed (OneText text) value has draft bits is = text_sound draft.piece text value has bits is
-  stored_sound passed (Zeros count) value has draft bits is = (has, sym (same_ok _ bits is))
-  stored_sound passed (Filler unit) value has draft bits is = (has, sym (same_ok _ bits is))
+  stored_sound : (passed : Passed) (piece : Piece) (value : Option Tree) → PieceValue piece value → (draft : Draft) → draft.known ≡ names → (bits : List Bool)
+      → piece_laid known draft piece value ≡ Ok bits → IsStored false passed piece known (length draft.bits) (see known no_bits names) value bits
+  stored_sound passed (OneNumber number) value has draft same bits is =
+      number_sound passed draft.piece number.form number.width number.fixed value has bits (sym (ap (λ (own : Environment). number_laid draft.piece known own number value) same) ∙ is)
+  stored_sound passed (OneText text) value has draft same bits is =
+      text_sound draft.piece text value has bits (sym (ap (λ (own : Environment). text_laid draft.piece known own text value) same) ∙ is)
+  stored_sound passed (Zeros count) value has draft same bits is = (has, sym (same_ok _ bits is))
+  stored_sound passed (Filler unit) value has draft same bits is = (has, sym (same_ok _ bits is))
 
 -- No number is late so far.
 
@@ -190,14 +191,67 @@ no_late_size met late (Filler unit) sight = refl
 
 -- What is laid, and all bits.
 
-with_grew : (draft next : Draft) (bits : List Bool) → with_bits draft bits ≡ Ok next → (next.bits ≡ draft.bits ++ bits) × (length draft.bits + length bits ≤ most_bits)
+with_grew : (draft next : Draft) (bits : List Bool) → with_bits draft bits ≡ Ok next
+    → (next.bits ≡ draft.bits ++ bits) × (length draft.bits + length bits ≤ most_bits) × (next.known ≡ draft.known)
 with_grew draft next bits is = by (nat_lt most_bits (length draft.bits + length bits)) refl is
   where
     by : (test : Bool) → nat_lt most_bits (length draft.bits + length bits) ≡ test
-        → (if test then Err (too_long draft (length draft.bits + length bits)) else Ok (record { piece = one_more draft.piece; bits = draft.bits ++ bits })) ≡ Ok next
-        → (next.bits ≡ draft.bits ++ bits) × (length draft.bits + length bits ≤ most_bits)
+        → (if test then Err (too_long draft (length draft.bits + length bits)) else Ok (record { piece = one_more draft.piece; bits = draft.bits ++ bits; known = draft.known })) ≡ Ok next
+        → (next.bits ≡ draft.bits ++ bits) × (length draft.bits + length bits ≤ most_bits) × (next.known ≡ draft.known)
     by true over so = absurd cc
-    by false over so = (sym (ap (λ (d : Draft). d.bits) (same_ok _ next so)), ltb-false most_bits (length draft.bits + length bits) over)
+    by false over so = (
+      sym (ap (λ (d : Draft). d.bits) (same_ok _ next so)),
+      ltb-false most_bits (length draft.bits + length bits) over,
+      sym (ap (λ (d : Draft). d.known) (same_ok _ next so)),
+    )
+
+-- Names are the same behind what is laid.
+
+pub same_known : (draft next : Draft) → ◌≡◌ {A = Result Draft Refusal} (Ok draft) (Ok next) → next.known ≡ draft.known
+same_known draft next is = sym (ap (λ (d : Draft). d.known) (same_ok draft next is))
+
+module _ (known : Facts) where
+  pub lay_kept : (draft next : Draft) (piece : Piece) (value : Option Tree) → lay known draft piece value ≡ Ok next → next.known ≡ draft.known
+  lay_kept draft next piece value is =
+      let inner = chained (piece_laid known draft piece value) (with_bits draft) next is in (with_grew draft next inner.value inner.leads).2
+
+  order_kept : (pieces : List Piece) (values : List Tree) (draft next : Draft) → in_order takes_one (lay known) draft pieces values ≡ Ok next → next.known ≡ draft.known
+  order_kept [] values draft next is = same_known draft next is
+  order_kept (piece ∷ pieces) values draft next is =
+      let rest = other_values (takes_one piece) values in
+      let inner = chained (lay known draft piece (first_value (takes_one piece) values)) (λ mid. in_order takes_one (lay known) mid pieces rest) next is in
+      order_kept pieces rest inner.value next inner.leads ∙ lay_kept draft inner.value piece (first_value (takes_one piece) values) inner.is
+
+  pub inside_kept : (row : PlainBody) (line : List Tree) (draft next : Draft) → row_laid known row draft line ≡ Ok next → next.known ≡ draft.known
+  inside_kept row line draft next is =
+      let inner = chained (body_laid known (with_names (counted row line draft.known) draft) row line) (λ mid. Ok (with_names draft.known mid)) next is in
+      same_known (with_names draft.known inner.value) next inner.leads
+
+  rows_kept : (row : PlainBody) (rows : List (List Tree)) (draft next : Draft) → rows_laid (row_laid known row) draft rows ≡ Ok next → next.known ≡ draft.known
+  rows_kept row [] draft next is = same_known draft next is
+  rows_kept row (line ∷ rows) draft next is =
+      let inner = chained (row_laid known row draft line) (λ mid. rows_laid (row_laid known row) mid rows) next is in
+      rows_kept row rows inner.value next inner.leads ∙ inside_kept row line draft inner.value inner.is
+
+  either_kept : (test : Bool) (this other : Result Draft Refusal) (draft next : Draft) → (this ≡ Ok next → next.known ≡ draft.known) → (other ≡ Ok next → next.known ≡ draft.known)
+      → (if test then this else other) ≡ Ok next → next.known ≡ draft.known
+  either_kept true this other draft next one more is = one is
+  either_kept false this other draft next one more is = more is
+
+  case_kept : (cases : PlainCases) (value : Option Tree) (draft next : Draft) → case_laid known draft cases value ≡ Ok next → next.known ≡ draft.known
+  case_kept no_cases value draft next is = same_known draft next is
+  case_kept (case_and name row others) value draft next is =
+      either_kept (is_case name value) (row_laid known row draft (line_in value)) (case_laid known draft others value) draft next
+      (inside_kept row (line_in value) draft next) (case_kept others value draft next) is
+
+  pub field_kept : (field : PlainField) (value : Option Tree) (draft next : Draft) → field_laid known draft field value ≡ Ok next → next.known ≡ draft.known
+  field_kept (Number number) value draft next is = order_kept (pieces_of (Number number)) (values_for (Number number) value) draft next is
+  field_kept (Text text) value draft next is = order_kept (pieces_of (Text text)) (values_for (Text text) value) draft next is
+  field_kept (Points points) value draft next is = order_kept (pieces_of (Points points)) (values_for (Points points) value) draft next is
+  field_kept (Fill unit count) value draft next is = order_kept (pieces_of (Fill unit count)) (values_for (Fill unit count) value) draft next is
+  field_kept (Align unit) value draft next is = order_kept (pieces_of (Align unit)) (values_for (Align unit) value) draft next is
+  field_kept (Array name count row) value draft next is = rows_kept row (rows_in value) draft next is
+  field_kept (Switch cases) value draft next is = case_kept cases value draft next is
 
 module _ (all : List Bool) where
   -- all bits begin with those of the draft
@@ -243,17 +297,17 @@ module _ (all : List Bool) where
   -- Pieces.
 
   module _ (known : Facts) (names : Environment) where
-    pub piece_sound : (passed : Passed) (piece : Piece) (value : Option Tree) → PieceValue piece value → (draft next : Draft) → lay known names draft piece value ≡ Ok next → Front next
+    pub piece_sound : (passed : Passed) (piece : Piece) (value : Option Tree) → PieceValue piece value → (draft next : Draft) → draft.known ≡ names → lay known draft piece value ≡ Ok next → Front next
         → (late : Late) → Sounds (λ at late_after. PieceSpells false known all names passed piece value at late (length next.bits) late_after) draft
-    piece_sound passed piece value has draft next is front late =
-        let inner = chained (piece_laid known names draft piece value) (with_bits draft) next is in
+    piece_sound passed piece value has draft next same is front late =
+        let inner = chained (piece_laid known draft piece value) (with_bits draft) next is in
         let grew = with_grew draft next inner.value inner.leads in
         let long : length next.bits ≡ length draft.bits + length inner.value = ap length grew.0 ∙ length-append draft.bits inner.value in
         record {
           late_after = late ++ marks passed.met late piece (see known no_bits names) (length inner.value);
           spells = record {
             bits = inner.value;
-            stored = stored_sound known names passed piece value has draft inner.value inner.is;
+            stored = stored_sound known names passed piece value has draft same inner.value inner.is;
             early = no_late_size passed.met late piece (see known no_bits names);
             there = there draft next inner.value grew.0 front;
             ends = long;
@@ -264,20 +318,21 @@ module _ (all : List Bool) where
         }
 
     -- pieces that take their values
-    pub pieces_sound : (passed : Passed) (pieces : List Piece) (values : List Tree) → Fed pieces values → (draft next : Draft) → in_order takes_one (lay known names) draft pieces values ≡ Ok next → Front next
+    pub pieces_sound : (passed : Passed) (pieces : List Piece) (values : List Tree) → Fed pieces values → (draft next : Draft) → draft.known ≡ names → in_order takes_one (lay known) draft pieces values ≡ Ok next → Front next
         → (late : Late) → Sounds (λ at late_after. InOrder (PieceSpells false known all names) passed pieces values at late (length next.bits) late_after) draft
-    pieces_sound passed [] values fed draft next is front late =
+    pieces_sound passed [] values fed draft next named is front late =
         let same : draft ≡ next = same_ok draft next is in
         record {
           late_after = late;
           spells = (fed, ap (λ (d : Draft). length d.bits) (sym same), refl);
           front = subst Front (sym same) front;
         }
-    pieces_sound passed (piece ∷ pieces) values fed draft next is front late =
-        let inner = chained (lay known names draft piece (first_value (takes_one piece) values))
-        (λ mid. in_order takes_one (lay known names) mid pieces (other_values (takes_one piece) values)) next is in
+    pieces_sound passed (piece ∷ pieces) values fed draft next named is front late =
+        let inner = chained (lay known draft piece (first_value (takes_one piece) values))
+        (λ mid. in_order takes_one (lay known) mid pieces (other_values (takes_one piece) values)) next is in
         then_sounds (first_value (takes_one piece) values) (other_values (takes_one piece) values) values fed.1 (PieceSpells false known all names passed piece)
         (InOrder (PieceSpells false known all names) (behind_piece piece passed) pieces) draft inner.value (length next.bits)
-        (λ mid late. piece_sound passed piece (first_value (takes_one piece) values) fed.0 draft inner.value inner.is mid late)
-        (λ late. pieces_sound (behind_piece piece passed) pieces (other_values (takes_one piece) values) fed.2 inner.value next inner.leads front late)
+        (λ mid late. piece_sound passed piece (first_value (takes_one piece) values) fed.0 draft inner.value named inner.is mid late)
+        (λ late. pieces_sound (behind_piece piece passed) pieces (other_values (takes_one piece) values) fed.2 inner.value next
+        (lay_kept known draft inner.value piece (first_value (takes_one piece) values) inner.is ∙ named) inner.leads front late)
         late

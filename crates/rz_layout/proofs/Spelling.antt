@@ -14,7 +14,7 @@ use Rattle.rz_bits.specs.Bits.{bits_of, number_bits}
 use Rattle.rz_types_fields.specs.declared.field.NumForm.{NumForm}
 use Rattle.rz_types_fields.specs.declared.field.TextForm.{TextForm}
 use Rattle.rz_types_fields.specs.declared.tree.Tree.{Tree}
-use Rattle.rz_types_fields.specs.Laid.{bad_size, behind_refusal, bytes_given, bytes_laid, first_value, in_order, joined, lay, number_given, number_in, one_more, other_values, piece_laid, refusal, refusal_in, size_in, text_in, takes_one, text_laid, then_laid, unless, unvalued, valued, value_in, with_bits, Draft, Refusal}
+use Rattle.rz_types_fields.specs.Laid.{bad_size, behind_refusal, bytes_given, bytes_laid, first_value, in_order, joined, lay, number_given, number_in, number_laid, one_more, other_values, piece_laid, refusal, refusal_in, size_in, text_in, takes_one, text_laid, then_laid, unless, unvalued, valued, value_in, with_bits, Draft, Refusal}
 use Rattle.rz_types_fields.specs.Spells.{most_bits, nowhere, put, AreBytes, InOrder, IsGrouped, IsNumber, IsSize, IsStored, IsText, Late, PieceSpells}
 use Rattle.rz_types.specs.Field.{PlainText}
 use Rattle.rz_types.specs.Range.{fits_number}
@@ -103,13 +103,14 @@ module _ (known : Facts) (names : Environment) where
       (bits_of (stored_text text.form (s.same i) it.bytes)))
       ∙ ap good (sym it.are_bits)
 
-  pub stored_spelled : (passed : Passed) (piece : Piece) (draft : Draft) (value : Option Tree) (bits : List Bool)
-      → IsStored false passed piece known (length draft.bits) (see known no_bits names) value bits → piece_laid known names draft piece value ≡ Ok bits
-  stored_spelled passed (OneNumber number) draft value bits it =
-      number_spelled passed draft.piece number.form number.width number.fixed value bits it
-  stored_spelled passed (OneText text) draft value bits it = text_spelled draft.piece text value bits it
-  stored_spelled passed (Zeros count) draft value bits it = ap good (sym it.1)
-  stored_spelled passed (Filler unit) draft value bits it = ap good (sym it.1)
+  pub stored_spelled : (passed : Passed) (piece : Piece) (draft : Draft) → draft.known ≡ names → (value : Option Tree) (bits : List Bool)
+      → IsStored false passed piece known (length draft.bits) (see known no_bits names) value bits → piece_laid known draft piece value ≡ Ok bits
+  stored_spelled passed (OneNumber number) draft same value bits it =
+      ap (λ (own : Environment). number_laid draft.piece known own number value) same ∙ number_spelled passed draft.piece number.form number.width number.fixed value bits it
+  stored_spelled passed (OneText text) draft same value bits it =
+      ap (λ (own : Environment). text_laid draft.piece known own text value) same ∙ text_spelled draft.piece text value bits it
+  stored_spelled passed (Zeros count) draft same value bits it = ap good (sym it.1)
+  stored_spelled passed (Filler unit) draft same value bits it = ap good (sym it.1)
 
 -- Where a value is taken.
 
@@ -141,22 +142,23 @@ others_are false None rest is = refl
 -- What is laid of all bits.
 
 module _ (all : List Bool) where
-  -- the draft has all bits up to a place
-  pub record Fits (draft : Draft) (at : ℕ) : Type 0 where
+  -- the draft has all bits up to a place, and these names
+  pub record Fits (names : Environment) (draft : Draft) (at : ℕ) : Type 0 where
     pub front : draft.bits ≡ take at all
     pub size : length draft.bits ≡ at
+    pub known : draft.known ≡ names
 
   -- what is laid next fits to a further place
-  pub record Goes (laid : Result Draft Refusal) (after : ℕ) : Type 0 where
+  pub record Goes (names : Environment) (laid : Result Draft Refusal) (after : ℕ) : Type 0 where
     pub next : Draft
     pub is : laid ≡ Ok next
-    pub fits : Fits next after
+    pub fits : Fits names next after
 
   -- one with its value or none, and the others behind it
-  pub then_goes : (takes : Bool) (value : Option Tree) (rest values : List Tree) → values ≡ put value rest → is_some value ≡ takes
+  pub then_goes : (names : Environment) (takes : Bool) (value : Option Tree) (rest values : List Tree) → values ≡ put value rest → is_some value ≡ takes
       → (one : Option Tree → Result Draft Refusal) (others : Draft → List Tree → Result Draft Refusal) (mid after : ℕ)
-      → (first : Goes (one value) mid) → Goes (others first.next rest) after → Goes (then_laid takes one others values) after
-  then_goes takes value rest values are is_taken one others mid after first more = record {
+      → (first : Goes names (one value) mid) → Goes names (others first.next rest) after → Goes names (then_laid takes one others values) after
+  then_goes names takes value rest values are is_taken one others mid after first more = record {
     next = more.next;
     is = (λ i. one ((ap (first_value takes) are ∙ first_is takes value rest is_taken) i) >>= λ next. others next ((ap (other_values takes) are ∙ others_are takes value rest is_taken) i))
         ∙ ap (λ (r : Result Draft Refusal). r >>= λ next. others next rest) first.is
@@ -168,17 +170,18 @@ module _ (all : List Bool) where
 
   module _ (known : Facts) (names : Environment) where
     pub piece_spelled : (passed : Passed) (piece : Piece) (value : Option Tree) (at after : ℕ) (late late_after : Late)
-        → PieceSpells false known all names passed piece value at late after late_after → (draft : Draft) → Fits draft at → Goes (lay known names draft piece value) after
+        → PieceSpells false known all names passed piece value at late after late_after → (draft : Draft) → Fits names draft at → Goes names (lay known draft piece value) after
     piece_spelled passed piece value at after late late_after it draft fits =
         let stored = subst (λ (n : ℕ). IsStored false passed piece known n (see known no_bits names) value it.bits) (sym fits.size) it.stored in
         let ends : length draft.bits + length it.bits ≡ after = ap (λ n. n + length it.bits) fits.size ∙ sym it.ends in
         record {
-          next = record { piece = one_more draft.piece; bits = draft.bits ++ it.bits };
-          is = ap (λ (r : Result (List Bool) Refusal). r >>= with_bits draft) (stored_spelled known names passed piece draft value it.bits stored)
+          next = record { piece = one_more draft.piece; bits = draft.bits ++ it.bits; known = draft.known };
+          is = ap (λ (r : Result (List Bool) Refusal). r >>= with_bits draft) (stored_spelled known names passed piece draft fits.known value it.bits stored)
               ∙ laid_in draft it.bits (subst (λ n. n ≤ most_bits) (sym ends) it.short);
           fits = record {
             front = (λ i. fits.front i ++ sym it.there i) ∙ sym (take_more at (length it.bits) after all it.ends);
             size = length-append draft.bits it.bits ∙ ends;
+            known = fits.known;
           };
         }
 
@@ -191,12 +194,12 @@ module _ (all : List Bool) where
 
     pub pieces_goes : (passed : Passed) (pieces : List Piece) (values : List Tree) (at after : ℕ) (late late_after : Late)
         → InOrder (PieceSpells false known all names) passed pieces values at late after late_after
-        → (draft : Draft) → Fits draft at → Goes (in_order takes_one (lay known names) draft pieces values) after
-    pieces_goes passed [] values at after late late_after it draft fits = record { next = draft; is = refl; fits = subst (Fits draft) (sym it.1) fits }
+        → (draft : Draft) → Fits names draft at → Goes names (in_order takes_one (lay known) draft pieces values) after
+    pieces_goes passed [] values at after late late_after it draft fits = record { next = draft; is = refl; fits = subst (Fits names draft) (sym it.1) fits }
     pieces_goes passed (piece ∷ pieces) values at after late late_after (value, rest, mid, late_mid, are, one, others) draft fits =
         let first = piece_spelled passed piece value at mid late late_mid one draft fits in
-        then_goes (takes_one piece) value rest values are (piece_taken passed piece value at mid late late_mid one) (lay known names draft piece)
-        (λ next values. in_order takes_one (lay known names) next pieces values) mid after first
+        then_goes names (takes_one piece) value rest values are (piece_taken passed piece value at mid late late_mid one) (lay known draft piece)
+        (λ next values. in_order takes_one (lay known) next pieces values) mid after first
         (pieces_goes (behind_piece piece passed) pieces rest mid after late_mid late_after others first.next first.fits)
 
     -- a single piece takes the value that there is

@@ -8,15 +8,15 @@ use Rattle.rz_layout.specs.declared.fault.LayFault.{LayFault}
 use Rattle.rz_layout.specs.declared.laid.Laid.{Laid}
 use Rattle.rz_core.specs.Stop.{◌>>=◌}
 use Rattle.rz_core.specs.declared.facts.Facts.{Facts}
-use Rattle.rz_expr.specs.Environment.{Environment}
 use Rattle.rz_types_fields.specs.declared.field.TextForm.{TextForm}
 use Rattle.rz_types_fields.specs.declared.tree.Tree.{Tree}
+use Rattle.rz_types_fields.specs.Known.{known}
 use Rattle.rz_types_fields.specs.Laid.{bytes_given, bytes_laid, too_long, with_bits, Draft, Refusal}
 use Rattle.rz_types_fields.specs.Spells.{most_bits}
 use Rattle.rz_types.specs.Field.{PlainText}
 
 abbrev pub draft_of : Laid → Draft
-draft_of laid = record { piece = laid.piece; bits = laid.bits }
+draft_of laid = record { piece = laid.piece; bits = laid.bits; known = known laid.notes.items }
 
 -- so many bits more are allowed, or are refused as 301
 abbrev pub HasRoom : Draft → ℕ → Result (Unit {0}) (Stop LayFault) → Type 0
@@ -30,5 +30,5 @@ abbrev pub text_put : Draft → TextForm → Option ℤ → List ℕ → Result 
 text_put draft form size bytes = bytes_laid draft.piece form size bytes >>= with_bits draft
 
 -- the draft behind a text whose size is known
-abbrev pub sized_put : Facts → Environment → Draft → PlainText → Option ℤ → Option Tree → Result Draft Refusal
-sized_put known names draft text size value = bytes_given draft.piece known names text.fixed value >>= λ bytes. text_put draft text.form size bytes
+abbrev pub sized_put : Facts → Draft → PlainText → Option ℤ → Option Tree → Result Draft Refusal
+sized_put facts draft text size value = bytes_given draft.piece facts draft.known text.fixed value >>= λ bytes. text_put draft text.form size bytes

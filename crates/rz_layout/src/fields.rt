@@ -5,11 +5,10 @@ ghost use Rattle.rz_layout.specs.Fault.{refusal_of};
 ghost use Rattle.std.specs.declared.result.Result.{Result as Answer};
 ghost use Rattle.rz_layout.specs.Compiled.{is_compile_fault, IsCompiled};
 ghost use Rattle.rz_layout.specs.Laid.{draft_of};
-ghost use Rattle.rz_types_fields.specs.Known.{known};
 ghost use Rattle.rz_layout.specs.Sound.{AreSound, IsCaseSound, IsSound};
 ghost use Rattle.rz_core.specs.Stop.{OnFault, Gives, Meets, fault_seen, left};
 ghost use Rattle.std.specs.List.{AllByRecursion};
-ghost use Rattle.rz_types_fields.specs.Laid.{body_laid, case_laid, counted, field_laid, laid, rows_laid, Refusal};
+ghost use Rattle.rz_types_fields.specs.Laid.{body_laid, case_laid, field_laid, laid, row_laid, rows_laid, Refusal};
 ghost use Rattle.rz_types_fields.specs.Row.{IsRow};
 ghost use Rattle.rz_types_fields.specs.Spells.{most_bits};
 ghost use Rattle.rz_types.specs.Field.{plain_body, plain_cases, plain_field};
@@ -30,7 +29,7 @@ use rz_types::{
     Case, Field, Template, field_expressions_have_values, rules_hold_within, takes_value,
 };
 use rz_types_fields::values::{choice_in, line_in, next_value, rows_in};
-use rz_types_fields::{NamesEnv, Note, Row, Tree};
+use rz_types_fields::{Row, Tree};
 use std::alloc::Global;
 
 /// The bytes that a row spells under a template, for a resource of which so much is known; there is one such list of
@@ -81,9 +80,12 @@ fn compile_fields(
     ensures { Gives (laid facts.now (plain_body fields.now) row.now) (fault_seen refusal_of result) }
 {
     let mut laid = Laid::new(alloc);
-    let mut notes = Vec::new(alloc);
-    lay_body(alloc, fields, row, facts, &mut notes, &mut laid)?;
-    let Laid { bits, piece: _ } = laid;
+    lay_body(alloc, fields, row, facts, &mut laid)?;
+    let Laid {
+        bits,
+        piece: _,
+        notes: _,
+    } = laid;
     Ok(bits.finish())
 }
 
@@ -94,22 +96,21 @@ fn lay_body<'a>(
     fields: &'a [Field],
     row: &[Tree],
     facts: &Facts,
-    notes: &mut Vec<Note<'a>>,
-    laid: &mut Laid,
+    laid: &mut Laid<'a>,
 ) -> Result<(), Stop<LayFault>>
     requires sound { AreSound (plain_body fields.now) row.now }
     requires short { length laid.old.bits ≤ most_bits }
-    ensures laid { Gives (body_laid facts.now (counted (plain_body fields.now) row.now (known notes.old.items)) (draft_of laid.old) (plain_body fields.now) row.now) (fault_seen refusal_of (left (draft_of laid.new) result)) }
+    ensures laid { Gives (row_laid facts.now (plain_body fields.now) (draft_of laid.old) row.now) (fault_seen refusal_of (left (draft_of laid.new) result)) }
     ensures short { IfOk result (λ _. length laid.new.bits ≤ most_bits) }
-    ensures notes { IfOk result (λ _. notes.new.items ≡ notes.old.items) }
+    ensures notes { IfOk result (λ _. laid.new.notes.items ≡ laid.old.notes.items) }
 {
-    let around = notes.len();
-    enter(fields, row, notes)?;
-    match lay_fields(alloc, fields, row, facts, notes, laid) {
+    let around = laid.notes.len();
+    enter(fields, row, &mut laid.notes)?;
+    match lay_fields(alloc, fields, row, facts, laid) {
         Ok(()) => {}
         Err(stop) => return Err(stop),
     }
-    notes.truncate(around);
+    laid.notes.truncate(around);
     Ok(())
 }
 
@@ -120,19 +121,18 @@ fn lay_fields<'a>(
     fields: &'a [Field],
     row: &[Tree],
     facts: &Facts,
-    notes: &mut Vec<Note<'a>>,
-    laid: &mut Laid,
+    laid: &mut Laid<'a>,
 ) -> Result<(), Stop<LayFault>>
     requires sound { AreSound (plain_body fields.now) row.now }
     requires short { length laid.old.bits ≤ most_bits }
-    ensures laid { Gives (body_laid facts.now (known notes.old.items) (draft_of laid.old) (plain_body fields.now) row.now) (fault_seen refusal_of (left (draft_of laid.new) result)) }
+    ensures laid { Gives (body_laid facts.now (draft_of laid.old) (plain_body fields.now) row.now) (fault_seen refusal_of (left (draft_of laid.new) result)) }
     ensures short { IfOk result (λ _. length laid.new.bits ≤ most_bits) }
-    ensures notes { IfOk result (λ _. notes.new.items ≡ notes.old.items) }
+    ensures notes { IfOk result (λ _. laid.new.notes.items ≡ laid.old.notes.items) }
 {
     let mut values = row;
     for field in fields {
         let next = next_value(takes_value(field), values);
-        match lay_field(alloc, field, next.value, facts, notes, laid) {
+        match lay_field(alloc, field, next.value, facts, laid) {
             Ok(()) => values = next.others,
             Err(stop) => return Err(stop),
         }
@@ -147,32 +147,27 @@ fn lay_field<'a>(
     field: &'a Field,
     value: Option<&Tree>,
     facts: &Facts,
-    notes: &mut Vec<Note<'a>>,
-    laid: &mut Laid,
+    laid: &mut Laid<'a>,
 ) -> Result<(), Stop<LayFault>>
     requires sound { IsSound (plain_field field.now) (option_map (λ v. v.now) value) }
     requires short { length laid.old.bits ≤ most_bits }
-    ensures laid { Gives (field_laid facts.now (known notes.old.items) (draft_of laid.old) (plain_field field.now) (option_map (λ v. v.now) value.entry)) (fault_seen refusal_of (left (draft_of laid.new) result)) }
+    ensures laid { Gives (field_laid facts.now (draft_of laid.old) (plain_field field.now) (option_map (λ v. v.now) value.entry)) (fault_seen refusal_of (left (draft_of laid.new) result)) }
     ensures short { IfOk result (λ _. length laid.new.bits ≤ most_bits) }
-    ensures notes { IfOk result (λ _. notes.new.items ≡ notes.old.items) }
+    ensures notes { IfOk result (λ _. laid.new.notes.items ≡ laid.old.notes.items) }
 {
-    let names = NamesEnv {
-        facts,
-        notes: notes.as_slice(),
-    };
     match field {
-        Field::Num(number) => lay_number(number, value, &names, laid),
-        Field::Text(text) => lay_text(alloc, text, value, &names, laid),
-        Field::Points(points) => lay_points(points, value, &names, laid),
+        Field::Num(number) => lay_number(number, value, facts, laid),
+        Field::Text(text) => lay_text(alloc, text, value, facts, laid),
+        Field::Points(points) => lay_points(points, value, facts, laid),
         Field::Fill(unit, count) => laid.put_zeros(
             u64::from(*unit) * u64::from(count.unsigned_abs()),
         ),
         Field::Align(unit) => laid.put_filler(*unit),
         Field::Array(array) => {
             let fields = array.row.as_slice();
-            lay_rows(alloc, fields, rows_in(value), facts, notes, laid)
+            lay_rows(alloc, fields, rows_in(value), facts, laid)
         }
-        Field::Switch(cases) => lay_case(alloc, cases.as_slice(), value, facts, notes, laid),
+        Field::Switch(cases) => lay_case(alloc, cases.as_slice(), value, facts, laid),
     }
 }
 
@@ -183,17 +178,16 @@ fn lay_rows<'a>(
     fields: &'a [Field],
     rows: &[Row],
     facts: &Facts,
-    notes: &mut Vec<Note<'a>>,
-    laid: &mut Laid,
+    laid: &mut Laid<'a>,
 ) -> Result<(), Stop<LayFault>>
     requires sound { AllByRecursion (AreSound (plain_body fields.now)) rows.now }
     requires short { length laid.old.bits ≤ most_bits }
-    ensures laid { Gives (rows_laid (λ draft line. body_laid facts.now (counted (plain_body fields.now) line (known notes.old.items)) draft (plain_body fields.now) line) (draft_of laid.old) rows.now) (fault_seen refusal_of (left (draft_of laid.new) result)) }
+    ensures laid { Gives (rows_laid (row_laid facts.now (plain_body fields.now)) (draft_of laid.old) rows.now) (fault_seen refusal_of (left (draft_of laid.new) result)) }
     ensures short { IfOk result (λ _. length laid.new.bits ≤ most_bits) }
-    ensures notes { IfOk result (λ _. notes.new.items ≡ notes.old.items) }
+    ensures notes { IfOk result (λ _. laid.new.notes.items ≡ laid.old.notes.items) }
 {
     for row in rows {
-        match lay_body(alloc, fields, row.as_slice(), facts, notes, laid) {
+        match lay_body(alloc, fields, row.as_slice(), facts, laid) {
             Ok(()) => {}
             Err(stop) => return Err(stop),
         }
@@ -208,20 +202,19 @@ fn lay_case<'a>(
     cases: &'a [Case],
     value: Option<&Tree>,
     facts: &Facts,
-    notes: &mut Vec<Note<'a>>,
-    laid: &mut Laid,
+    laid: &mut Laid<'a>,
 ) -> Result<(), Stop<LayFault>>
     requires sound { IsCaseSound (plain_cases cases.now) (option_map (λ v. v.now) value) }
     requires short { length laid.old.bits ≤ most_bits }
-    ensures laid { Gives (case_laid facts.now (known notes.old.items) (draft_of laid.old) (plain_cases cases.now) (option_map (λ v. v.now) value.entry)) (fault_seen refusal_of (left (draft_of laid.new) result)) }
+    ensures laid { Gives (case_laid facts.now (draft_of laid.old) (plain_cases cases.now) (option_map (λ v. v.now) value.entry)) (fault_seen refusal_of (left (draft_of laid.new) result)) }
     ensures short { IfOk result (λ _. length laid.new.bits ≤ most_bits) }
-    ensures notes { IfOk result (λ _. notes.new.items ≡ notes.old.items) }
+    ensures notes { IfOk result (λ _. laid.new.notes.items ≡ laid.old.notes.items) }
 {
     let name = choice_in(value);
     let row = line_in(value);
     for case in cases {
         if case.name.is(name) {
-            return lay_body(alloc, case.row.as_slice(), row, facts, notes, laid);
+            return lay_body(alloc, case.row.as_slice(), row, facts, laid);
         }
     }
     Ok(())

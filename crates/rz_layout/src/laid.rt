@@ -13,6 +13,7 @@ use crate::LayFault;
 use crate::store::push_zeros;
 use rz_bits::{BitBuf, missing};
 use rz_core::Stop;
+use rz_types_fields::Note;
 use std::alloc::Global;
 
 /// The most bits of a resource: those of 16,777,212 bytes.
@@ -21,23 +22,26 @@ const MOST_BITS: u128 = 134_217_696;
 /// The most that a refusal keeps of a number that counts.
 const MOST_KEPT: u64 = 9_223_372_036_854_775_807;
 
-/// What is laid so far: the number of pieces, and their bits.
+/// What is laid so far: the number of pieces, their bits, and what is noted of names.
 #[derive(Drop)]
-pub struct Laid {
+pub struct Laid<'a> {
     /// The number of pieces.
     pub piece: u64,
     /// Their bits.
     pub bits: BitBuf,
+    /// The numbers of rows of arrays, the newest last.
+    pub notes: Vec<Note<'a>>,
 }
 
-impl Laid {
+impl<'a> Laid<'a> {
     /// Nothing.
-    pub fn new(alloc: Global) -> Laid
+    pub fn new(alloc: Global) -> Laid<'a>
         ensures { draft_of result ≡ nothing_laid }
     {
         Laid {
             piece: 0,
             bits: BitBuf::new(alloc),
+            notes: Vec::new(alloc),
         }
     }
 
@@ -47,6 +51,7 @@ impl Laid {
         requires short { length self.old.bits ≤ most_bits }
         ensures laid { Gives (with_bits (draft_of self.old) (number_bits width number)) (fault_seen refusal_of (left (draft_of self.new) result)) }
         ensures short { IfOk result (λ _. length self.new.bits ≤ most_bits) }
+        ensures notes { IfOk result (λ _. self.new.notes.items ≡ self.old.notes.items) }
     {
         match self.room(width as u128) {
             Ok(()) => {}
@@ -63,6 +68,7 @@ impl Laid {
         requires short { length self.old.bits ≤ most_bits }
         ensures laid { Gives (with_bits (draft_of self.old) (zeros count)) (fault_seen refusal_of (left (draft_of self.new) result)) }
         ensures short { IfOk result (λ _. length self.new.bits ≤ most_bits) }
+        ensures notes { IfOk result (λ _. self.new.notes.items ≡ self.old.notes.items) }
     {
         match self.room(count as u128) {
             Ok(()) => {}
@@ -79,6 +85,7 @@ impl Laid {
         requires short { length self.old.bits ≤ most_bits }
         ensures laid { Gives (with_bits (draft_of self.old) (zeros (missing unit (length self.old.bits)))) (fault_seen refusal_of (left (draft_of self.new) result)) }
         ensures short { IfOk result (λ _. length self.new.bits ≤ most_bits) }
+        ensures notes { IfOk result (λ _. self.new.notes.items ≡ self.old.notes.items) }
     {
         let count = missing(unit, self.bits.len());
         self.put_zeros(u64::from(count))

@@ -15,7 +15,7 @@ ghost use Rattle.rz_types.specs.Piece.{OneNumber};
 use crate::LayFault;
 use crate::fault::value_fault;
 use crate::laid::Laid;
-use rz_core::Stop;
+use rz_core::{Facts, Stop};
 use rz_expr::{Expr, value_in};
 use rz_types::{NumField, NumForm, fits_number, stored_number};
 use rz_types_fields::values::number_in;
@@ -25,15 +25,20 @@ use rz_types_fields::{NamesEnv, Tree};
 pub fn lay_number(
     field: &NumField,
     value: Option<&Tree>,
-    names: &NamesEnv<'_>,
-    laid: &mut Laid,
+    facts: &Facts,
+    laid: &mut Laid<'_>,
 ) -> Result<(), Stop<LayFault>>
     requires width { IsWidth field.now.width }
     requires short { length laid.old.bits ≤ most_bits }
-    ensures laid { Gives (lay names.now.facts.now (known names.now.notes.now) (draft_of laid.old) (OneNumber (plain_number field.now)) (option_map (λ v. v.now) value.entry)) (fault_seen refusal_of (left (draft_of laid.new) result)) }
+    ensures laid { Gives (lay facts.now (draft_of laid.old) (OneNumber (plain_number field.now)) (option_map (λ v. v.now) value.entry)) (fault_seen refusal_of (left (draft_of laid.new) result)) }
     ensures short { IfOk result (λ _. length laid.new.bits ≤ most_bits) }
+    ensures notes { IfOk result (λ _. laid.new.notes.items ≡ laid.old.notes.items) }
 {
-    match number_given(field, value, names, laid.piece) {
+    let names = NamesEnv {
+        facts,
+        notes: laid.notes.as_slice(),
+    };
+    match number_given(field, value, &names, laid.piece) {
         Ok(number) => laid.put_number(number, field.width as u8),
         Err(stop) => Err(stop),
     }

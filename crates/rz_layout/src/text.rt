@@ -20,7 +20,7 @@ use crate::laid::{Laid, one_more};
 use crate::number::expression_value;
 use crate::push::push_text;
 use crate::valued::unvalued_in;
-use rz_core::{Bytes, Kept, Mark, Stop};
+use rz_core::{Bytes, Facts, Kept, Mark, Stop};
 use rz_expr::Expr;
 use rz_types::{TextField, TextForm, Texts, is_too_long, may_be_size, text_seen};
 use rz_types_fields::values::text_in;
@@ -32,15 +32,20 @@ pub fn lay_text(
     alloc: Global,
     field: &TextField,
     value: Option<&Tree>,
-    names: &NamesEnv<'_>,
-    laid: &mut Laid,
+    facts: &Facts,
+    laid: &mut Laid<'_>,
 ) -> Result<(), Stop<LayFault>>
     requires short { length laid.old.bits ≤ most_bits }
-    ensures laid { Gives (lay names.now.facts.now (known names.now.notes.now) (draft_of laid.old) (OneText (plain_text field.now)) (option_map (λ v. v.now) value.entry)) (fault_seen refusal_of (left (draft_of laid.new) result)) }
+    ensures laid { Gives (lay facts.now (draft_of laid.old) (OneText (plain_text field.now)) (option_map (λ v. v.now) value.entry)) (fault_seen refusal_of (left (draft_of laid.new) result)) }
     ensures short { IfOk result (λ _. length laid.new.bits ≤ most_bits) }
+    ensures notes { IfOk result (λ _. laid.new.notes.items ≡ laid.old.notes.items) }
 {
-    match size_in(&field.size, names, laid.piece) {
-        Ok(size) => lay_sized(alloc, field, size, value, names, laid),
+    let names = NamesEnv {
+        facts,
+        notes: laid.notes.as_slice(),
+    };
+    match size_in(&field.size, &names, laid.piece) {
+        Ok(size) => lay_sized(alloc, field, size, value, facts, laid),
         Err(stop) => Err(stop),
     }
 }
@@ -51,15 +56,20 @@ fn lay_sized(
     field: &TextField,
     size: Option<i32>,
     value: Option<&Tree>,
-    names: &NamesEnv<'_>,
-    laid: &mut Laid,
+    facts: &Facts,
+    laid: &mut Laid<'_>,
 ) -> Result<(), Stop<LayFault>>
     requires short { length laid.old.bits ≤ most_bits }
-    ensures laid { Gives (sized_put names.now.facts.now (known names.now.notes.now) (draft_of laid.old) (plain_text field.now) size (option_map (λ v. v.now) value.entry)) (fault_seen refusal_of (left (draft_of laid.new) result)) }
+    ensures laid { Gives (sized_put facts.now (draft_of laid.old) (plain_text field.now) size (option_map (λ v. v.now) value.entry)) (fault_seen refusal_of (left (draft_of laid.new) result)) }
     ensures short { IfOk result (λ _. length laid.new.bits ≤ most_bits) }
+    ensures notes { IfOk result (λ _. laid.new.notes.items ≡ laid.old.notes.items) }
 {
+    let names = NamesEnv {
+        facts,
+        notes: laid.notes.as_slice(),
+    };
     match &field.fixed {
-        Some(parts) => match fixed_bytes(alloc, parts, names, laid.piece) {
+        Some(parts) => match fixed_bytes(alloc, parts, &names, laid.piece) {
             Ok(bytes) => put_text(field.form, size, bytes.as_slice(), laid),
             Err(stop) => Err(stop),
         },
@@ -133,11 +143,12 @@ fn put_text(
     form: TextForm,
     size: Option<i32>,
     bytes: &[u8],
-    laid: &mut Laid,
+    laid: &mut Laid<'_>,
 ) -> Result<(), Stop<LayFault>>
     requires short { length laid.old.bits ≤ most_bits }
     ensures laid { Gives (text_put (draft_of laid.old) form size bytes.now) (fault_seen refusal_of (left (draft_of laid.new) result)) }
     ensures short { IfOk result (λ _. length laid.new.bits ≤ most_bits) }
+    ensures notes { IfOk result (λ _. laid.new.notes.items ≡ laid.old.notes.items) }
 {
     if let Some(fault) = text_refusal(form, size, bytes.len() as u64, laid.piece) {
         return Err(Stop::Refused(fault));

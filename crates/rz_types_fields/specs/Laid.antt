@@ -46,13 +46,14 @@ most_kept = 9223372036854775807
 abbrev pub one_more : ℕ → ℕ
 one_more count = if nat_lt count most_kept then count + 1 else count
 
--- What is laid so far: the number of pieces, and their bits.
+-- What is laid so far: the number of pieces, their bits, and the values that names have there.
 pub record Draft : Type 0 where
   pub piece : ℕ
   pub bits : List Bool
+  pub known : Environment
 
 abbrev pub nothing_laid : Draft
-nothing_laid = record { piece = 0; bits = [] }
+nothing_laid = record { piece = 0; bits = []; known = outside }
 
 -- Values and their refusals.
 
@@ -182,11 +183,11 @@ abbrev pub text_laid : ℕ → Facts → Environment → PlainText → Option Tr
 text_laid piece known names text value =
     size_in piece known names text.size >>= λ size. bytes_given piece known names text.fixed value >>= λ bytes. bytes_laid piece text.form size bytes
 
-abbrev pub piece_laid : Facts → Environment → Draft → Piece → Option Tree → Result (List Bool) Refusal
-piece_laid known names draft (OneNumber number) value = number_laid draft.piece known names number value
-piece_laid known names draft (OneText text) value = text_laid draft.piece known names text value
-piece_laid known names draft (Zeros count) value = Ok (zeros count)
-piece_laid known names draft (Filler unit) value = Ok (zeros (missing unit (length draft.bits)))
+abbrev pub piece_laid : Facts → Draft → Piece → Option Tree → Result (List Bool) Refusal
+piece_laid known draft (OneNumber number) value = number_laid draft.piece known draft.known number value
+piece_laid known draft (OneText text) value = text_laid draft.piece known draft.known text value
+piece_laid known draft (Zeros count) value = Ok (zeros count)
+piece_laid known draft (Filler unit) value = Ok (zeros (missing unit (length draft.bits)))
 
 -- Laying.
 
@@ -201,10 +202,10 @@ too_long draft end = refusal 301 draft.piece (pos (in_bytes end))
 abbrev pub with_bits : Draft → List Bool → Result Draft Refusal
 with_bits draft bits =
     if nat_lt most_bits (length draft.bits + length bits) then Err (too_long draft (length draft.bits + length bits))
-    else Ok (record { piece = one_more draft.piece; bits = draft.bits ++ bits })
+    else Ok (record { piece = one_more draft.piece; bits = draft.bits ++ bits; known = draft.known })
 
-abbrev pub lay : Facts → Environment → Draft → Piece → Option Tree → Result Draft Refusal
-lay known names draft piece value = piece_laid known names draft piece value >>= with_bits draft
+abbrev pub lay : Facts → Draft → Piece → Option Tree → Result Draft Refusal
+lay known draft piece value = piece_laid known draft piece value >>= with_bits draft
 
 -- the first of the values, where one is taken, and the others
 abbrev pub first_value : Bool → List Tree → Option Tree
@@ -229,8 +230,8 @@ takes_one (OneNumber number) = is_none number.fixed
 takes_one (OneText text) = is_none text.fixed
 takes_one piece = false
 
-abbrev pub pieces_laid : Facts → Environment → Draft → PlainField → Option Tree → Result Draft Refusal
-pieces_laid known names draft field value = in_order takes_one (lay known names) draft (pieces_of field) (values_for field value)
+abbrev pub pieces_laid : Facts → Draft → PlainField → Option Tree → Result Draft Refusal
+pieces_laid known draft field value = in_order takes_one (lay known) draft (pieces_of field) (values_for field value)
 
 -- the number of rows of an array, among the names outside
 abbrev pub with_count : Option Word → ℕ → Environment → Environment
@@ -246,36 +247,49 @@ counted no_fields values outer = outer
 counted (field_and field fields) values outer =
     counted fields (other_values (takes_value field) values) (with_field field (first_value (takes_value field) values) outer)
 
+-- a body within is laid with names of its own, which end with it
+abbrev pub with_names : Environment → Draft → Draft
+with_names names draft = record { piece = draft.piece; bits = draft.bits; known = names }
+
+abbrev pub inside_laid : (Draft → Result Draft Refusal) → Environment → Draft → Result Draft Refusal
+inside_laid lay_fields names draft = lay_fields (with_names names draft) >>= λ next. Ok (with_names draft.known next)
+
 -- rows one behind the other
 abbrev pub rows_laid : (Draft → List Tree → Result Draft Refusal) → Draft → List (List Tree) → Result Draft Refusal
 rows_laid row draft [] = Ok draft
 rows_laid row draft (line ∷ lines) = row draft line >>= λ next. rows_laid row next lines
 
 abbrev mutual
-  pub field_laid : Facts → Environment → Draft → PlainField → Option Tree → Result Draft Refusal
-  field_laid known names draft (Number number) value = pieces_laid known names draft (Number number) value
-  field_laid known names draft (Text text) value = pieces_laid known names draft (Text text) value
-  field_laid known names draft (Points points) value = pieces_laid known names draft (Points points) value
-  field_laid known names draft (Fill unit count) value = pieces_laid known names draft (Fill unit count) value
-  field_laid known names draft (Align unit) value = pieces_laid known names draft (Align unit) value
-  field_laid known names draft (Array name count row) value = rows_laid (λ draft line. body_laid known (counted row line names) draft row line) draft (rows_in value)
-  field_laid known names draft (Switch cases) value = case_laid known names draft cases value
+  pub field_laid : Facts → Draft → PlainField → Option Tree → Result Draft Refusal
+  field_laid known draft (Number number) value = pieces_laid known draft (Number number) value
+  field_laid known draft (Text text) value = pieces_laid known draft (Text text) value
+  field_laid known draft (Points points) value = pieces_laid known draft (Points points) value
+  field_laid known draft (Fill unit count) value = pieces_laid known draft (Fill unit count) value
+  field_laid known draft (Align unit) value = pieces_laid known draft (Align unit) value
+  field_laid known draft (Array name count row) value =
+      rows_laid (λ draft line. inside_laid (λ inner. body_laid known inner row line) (counted row line draft.known) draft) draft (rows_in value)
+  field_laid known draft (Switch cases) value = case_laid known draft cases value
 
   -- the fields of the case that is chosen
-  pub case_laid : Facts → Environment → Draft → PlainCases → Option Tree → Result Draft Refusal
-  case_laid known names draft no_cases value = Ok draft
-  case_laid known names draft (case_and name row others) value =
-      if is_case name value then body_laid known (counted row (line_in value) names) draft row (line_in value) else case_laid known names draft others value
+  pub case_laid : Facts → Draft → PlainCases → Option Tree → Result Draft Refusal
+  case_laid known draft no_cases value = Ok draft
+  case_laid known draft (case_and name row others) value =
+      if is_case name value then inside_laid (λ inner. body_laid known inner row (line_in value)) (counted row (line_in value) draft.known) draft
+      else case_laid known draft others value
 
   -- the fields of a body, seen with its own names
-  pub body_laid : Facts → Environment → Draft → PlainBody → List Tree → Result Draft Refusal
-  body_laid known names draft no_fields values = Ok draft
-  body_laid known names draft (field_and field fields) values =
-      then_laid (takes_value field) (field_laid known names draft field) (λ next values. body_laid known names next fields values) values
+  pub body_laid : Facts → Draft → PlainBody → List Tree → Result Draft Refusal
+  body_laid known draft no_fields values = Ok draft
+  body_laid known draft (field_and field fields) values =
+      then_laid (takes_value field) (field_laid known draft field) (λ next values. body_laid known next fields values) values
+
+-- a body inside what is laid so far
+abbrev pub row_laid : Facts → PlainBody → Draft → List Tree → Result Draft Refusal
+row_laid known row draft line = inside_laid (λ inner. body_laid known inner row line) (counted row line draft.known) draft
 
 -- the bytes, filled with zero bits
 abbrev pub laid : Facts → PlainBody → List Tree → Result (List ℕ) Refusal
-laid known body row = body_laid known (counted body row outside) nothing_laid body row >>= λ draft. Ok (bytes_of (filled 8 draft.bits))
+laid known body row = row_laid known body nothing_laid row >>= λ draft. Ok (bytes_of (filled 8 draft.bits))
 
 -- a row of these fields is refused so
 abbrev pub Refuses : Facts → PlainBody → List Tree → Refusal → Type 0

@@ -2,36 +2,35 @@ use Rattle.std.proofs.Common.{◌≡◌, ◌≤◌, length, drop}
 use Rattle.std.specs.List.{AllByRecursion}
 use Rattle.std.specs.Prelude.{option_map}
 use Rattle.rz_layout.specs.Laid.{draft_of}
-use Rattle.rz_types_fields.specs.Known.{known}
 use Rattle.rz_layout.specs.Sound.{AreSound, IsCaseSound}
-use Rattle.rz_types_fields.specs.Laid.{body_laid, case_laid, counted, rows_laid}
+use Rattle.rz_types_fields.specs.Laid.{body_laid, case_laid, row_laid, rows_laid}
 use Rattle.rz_types_fields.specs.Spells.{most_bits}
 use Rattle.rz_types.specs.Field.{plain_body, plain_cases}
 use Rattle.rz_layout.proofs.fields.+lay.Given as goal
 
 abbrev pub invariant-lay_fields-loop-field : goal.invariant-lay_fields-loop-field
 invariant-lay_fields-loop-field l = record {
-  laid : body_laid l.facts (known l.fn.notes.items) (draft_of l.laid) (plain_body (drop l.field-index l.fields)) l.values
-      ≡ body_laid l.facts (known l.fn.notes.items) (draft_of l.fn.laid) (plain_body l.fields) l.row;
+  laid : body_laid l.facts (draft_of l.laid) (plain_body (drop l.field-index l.fields)) l.values
+      ≡ body_laid l.facts (draft_of l.fn.laid) (plain_body l.fields) l.row;
   sound : AreSound (plain_body (drop l.field-index l.fields)) l.values;
-  notes : l.notes.items ≡ l.fn.notes.items;
+  notes : l.laid.notes.items ≡ l.fn.laid.notes.items;
   short : length l.laid.bits ≤ most_bits;
 }
 
 abbrev pub invariant-lay_rows-loop-row : goal.invariant-lay_rows-loop-row
 invariant-lay_rows-loop-row l = record {
-  laid : rows_laid (λ draft line. body_laid l.facts (counted (plain_body l.fields) line (known l.fn.notes.items)) draft (plain_body l.fields) line) (draft_of l.laid) (drop l.row-index l.rows)
-      ≡ rows_laid (λ draft line. body_laid l.facts (counted (plain_body l.fields) line (known l.fn.notes.items)) draft (plain_body l.fields) line) (draft_of l.fn.laid) l.rows;
+  laid : rows_laid (row_laid l.facts (plain_body l.fields)) (draft_of l.laid) (drop l.row-index l.rows)
+      ≡ rows_laid (row_laid l.facts (plain_body l.fields)) (draft_of l.fn.laid) l.rows;
   sound : AllByRecursion (AreSound (plain_body l.fields)) (drop l.row-index l.rows);
-  notes : l.notes.items ≡ l.fn.notes.items;
+  notes : l.laid.notes.items ≡ l.fn.laid.notes.items;
   short : length l.laid.bits ≤ most_bits;
 }
 
 abbrev pub invariant-lay_case-loop-case : goal.invariant-lay_case-loop-case
 invariant-lay_case-loop-case l = record {
-  laid : case_laid l.facts (known l.fn.notes.items) (draft_of l.laid) (plain_cases (drop l.case-index l.cases)) (option_map (λ v. v.now) l.value)
-      ≡ case_laid l.facts (known l.fn.notes.items) (draft_of l.fn.laid) (plain_cases l.cases) (option_map (λ v. v.now) l.value);
+  laid : case_laid l.facts (draft_of l.laid) (plain_cases (drop l.case-index l.cases)) (option_map (λ v. v.now) l.value)
+      ≡ case_laid l.facts (draft_of l.fn.laid) (plain_cases l.cases) (option_map (λ v. v.now) l.value);
   sound : IsCaseSound (plain_cases (drop l.case-index l.cases)) (option_map (λ v. v.now) l.value);
-  notes : l.notes.items ≡ l.fn.notes.items;
+  notes : l.laid.notes.items ≡ l.fn.laid.notes.items;
   short : length l.laid.bits ≤ most_bits;
 }

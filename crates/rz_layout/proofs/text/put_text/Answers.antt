@@ -2,6 +2,7 @@ use Rattle.std.proofs.Common.{◌*◌, Err, Ok, sym, subst, ◌∙◌}
 use Rattle.rz_layout.specs.Fault.{refusal_of}
 use Rattle.rz_core.specs.Stop.{Gives, fault_seen, left}
 use Rattle.rz_layout.specs.Laid.{draft_of}
+use Rattle.rz_types_fields.specs.Known.{known}
 use Rattle.rz_layout.proofs.Put.{pushed, put_is, text_bits, text_count}
 use Rattle.rz_layout.proofs.Room.{no_room, short_after, some_room}
 use Rattle.rz_layout.proofs.text.put_text.Goals as goal
@@ -19,7 +20,7 @@ returns-clause-laid c =
     ∙ some_room (draft_of c.args.laid.now) (text_bits (draft_of c.args.laid.now) c.args.form c.args.size c.args.bytes.now) (8 * c.stored_length.result)
     (text_count (draft_of c.args.laid.now) c.args.form c.args.size c.args.bytes.now c.unsigned-size.result c.stored_length.result c.unsigned-size.ensures c.stored_length.ensures.length)
     c.in-Ok.ensures
-    ∙ (λ i. Ok (record { piece = sym c.one_more-laid.ensures i; bits = sym (pushed (draft_of c.args.laid.now) c.args.form c.args.size c.args.bytes.now c.unsigned-size.result c.push_text.new.bits c.unsigned-size.ensures c.in_ok-push_text.ensures) i }))
+    ∙ (λ i. Ok (record { piece = sym c.one_more-laid.ensures i; bits = sym (pushed (draft_of c.args.laid.now) c.args.form c.args.size c.args.bytes.now c.unsigned-size.result c.push_text.new.bits c.unsigned-size.ensures c.in_ok-push_text.ensures) i; known = known c.args.laid.now.notes.items }))
 
 pub returns-clause-short : goal.returns-clause-short
 returns-clause-short c =

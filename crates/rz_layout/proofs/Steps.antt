@@ -1,0 +1,28 @@
+-- A step that is refused, and the plain field that an array is.
+use Rattle.std.proofs.Common.{◌≡◌, Result, Err, sym, ap, ◌∙◌}
+use Rattle.rz_core.specs.Stop.{◌>>=◌, Gives, fault_seen}
+use Rattle.rz_core.specs.declared.stop.Stop.{Stop}
+use Rattle.rz_core.specs.declared.stop.Stop.TheVariants.{NoMemory, Refused}
+use Rattle.rz_layout.specs.Fault.{refusal_of}
+use Rattle.rz_layout.specs.declared.fault.LayFault.{LayFault}
+use Rattle.rz_types_fields.proofs.Bodies.{array_is}
+use Rattle.rz_types_fields.specs.declared.field.ArrayField.{ArrayField}
+use Rattle.rz_types_fields.specs.declared.field.Field.{Field}
+use Rattle.rz_types_fields.specs.declared.field.Field.TheFolds.{fold-roll-Field}
+use Rattle.rz_types_fields.specs.declared.field.Field.TheOpen.{Field-F}
+use Rattle.rz_types_fields.specs.declared.field.Field.TheVariants as fields
+use Rattle.rz_types_fields.specs.declared.field.Field.TheVariants.{rolls-Array}
+use Rattle.rz_types_fields.specs.declared.field.Field.TheViews.{out-ArrayField}
+use Rattle.rz_types_fields.specs.Laid.{Refusal}
+use Rattle.rz_types.specs.Field.{array_step, case_step, field_step, plain_body, plain_field, Array, PlainCase, PlainField}
+
+pub refused_then : {X Y : Type 0} (first : Result X Refusal) (next : X → Result Y Refusal) (stop : Stop LayFault) → Gives first (fault_seen {X = X} refusal_of (Err stop))
+    → Gives (first >>= next) (fault_seen {X = Y} refusal_of (Err stop))
+refused_then first next NoMemory gives = tt
+refused_then first next (Refused fault) gives = ap (λ (r : Result _ Refusal). r >>= next) gives
+
+-- the plain field that an array is
+pub array_kind : (field : Field) (array : ArrayField) → field ≡ fields.Array array → plain_field field ≡ Array (out-ArrayField array).name (out-ArrayField array).count (plain_body (out-ArrayField array).row)
+array_kind field array is =
+    ap plain_field is ∙ ap plain_field (sym (rolls-Array array)) ∙ fold-roll-Field PlainField PlainField PlainCase field_step array_step case_step (Field-F.Array array)
+    ∙ array_is array
