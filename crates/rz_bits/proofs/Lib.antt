@@ -2,3 +2,4 @@ pub mod Numbers
 pub mod Bytes
 pub mod Held
 pub mod Windows
+pub mod Patched

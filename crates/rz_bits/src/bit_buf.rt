@@ -1,9 +1,12 @@
 //! A list of bits that grows at its end and becomes bytes. See `specs/Bits` and `specs/BitBuf`.
 
-ghost use Rattle.std.specs.Prelude.{◌≡◌, ◌+◌, ◌^◌, ◌<◌, ◌≤◌, [], ◌++◌, length, OnOk, OnErr};
+ghost use Rattle.std.specs.Prelude.{◌≡◌, ◌+◌, ◌^◌, ◌<◌, ◌≤◌, [], ◌++◌, length, take, drop, IfSome, OnOk, OnErr};
 ghost use Rattle.rz_bits.specs.Bits.{number_bits, bits_of, bytes_of};
 ghost use Rattle.rz_bits.specs.BitBuf.{missing, filled};
+ghost use Rattle.rz_bits.specs.View.{number_at};
 
+use crate::bit_view::number_in;
+use crate::patch::patch_bits;
 use crate::tail::{are_read_back, missing, push_bits};
 use rz_core::{Bytes, NoMemory};
 use std::alloc::Global;
@@ -63,6 +66,29 @@ impl BitBuf {
     {
         let zeros = missing(unit, self.len());
         self.push(0, zeros)
+    }
+
+    /// The number in so many bits from a place on, counted from 0, the highest bit first; of no bits it is 0. `None`
+    /// exactly if so many bits aren't there. It looks at five bytes at most.
+    pub fn at(&self, place: u32, width: u8) -> Option<u32>
+        requires { width ≤ 32 }
+        ensures number { result ≡ number_at self.now place width }
+        ensures small { IfSome result (λ n. n < 2 ^ width) }
+    {
+        if u64::from(place) + u64::from(width) > u64::from(self.count) {
+            return None;
+        }
+        Some(number_in(&self.bytes, place, width))
+    }
+
+    /// Writes the last `width` binary digits of a number over the bits from a place on, counted from 0. All other bits
+    /// stay. It takes no memory, and constant time.
+    pub fn patch(&mut self, place: u32, width: u8, value: u32)
+        requires width { width ≤ 32 }
+        requires within { place + width ≤ length self.old }
+        ensures { self.new ≡ take place self.old ++ (number_bits width value ++ drop (place + width) self.old) }
+    {
+        patch_bits(&mut self.bytes, place, width, value);
     }
 
     /// The number of bits.

@@ -75,9 +75,10 @@ impl<'a> BitView<'a> {
 }
 
 /// Bytes as one number, the first byte highest.
-fn gathered(bytes: &[u8]) -> u64
+pub(crate) fn gathered(bytes: &[u8]) -> u64
     requires { length bytes.now ≤ 5 }
-    ensures { number_bits (8 * length bytes.now) result ≡ bits_of bytes.now }
+    ensures bits { number_bits (8 * length bytes.now) result ≡ bits_of bytes.now }
+    ensures small { result < 2 ^ (8 * length bytes.now) }
 {
     let mut number = 0;
     for byte in bytes {
@@ -87,7 +88,7 @@ fn gathered(bytes: &[u8]) -> u64
 }
 
 /// The number in bits that are there.
-fn number_in(bytes: &[u8], place: u32, width: u8) -> u32
+pub(crate) fn number_in(bytes: &[u8], place: u32, width: u8) -> u32
     requires width { width ≤ 32 }
     requires within { place + width ≤ 8 * length bytes.now }
     ensures number { result ≡ number_of (take width (drop place (bits_of bytes.now))) }

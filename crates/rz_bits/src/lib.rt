@@ -9,6 +9,7 @@
 mod bit_buf;
 mod bit_view;
 mod laws;
+mod patch;
 mod tail;
 
 pub use bit_buf::BitBuf;
