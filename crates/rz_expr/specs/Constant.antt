@@ -2,7 +2,7 @@
 use Rattle.std.specs.Prelude.{◌≡◌, ℤ, pos, Bool, true, false, ◌&&◌, if◌then◌else◌, List, Option, None}
 use Rattle.std.specs.Option.{is_some}
 use Rattle.std.specs.Result.{result_ok}
-use Rattle.rz_expr.specs.Environment.{place_of, predefined, count_of, Key, Sight}
+use Rattle.rz_expr.specs.Environment.{place_of, predefined, Key, Sight}
 use Rattle.rz_expr.specs.Grammar.{IsExpression}
 use Rattle.rz_expr.specs.Term.{BitsAt, Constant, FactOf, Named, OfOne, OfTwo, RowsOf, Term}
 use Rattle.rz_expr.specs.Value.{value_of}
@@ -25,7 +25,7 @@ IsConstant tokens term = IsExpression tokens term × (is_constant term ≡ true)
 -- what such an expression sees: nothing but `true` and `false` has a value
 abbrev pub predefined_key : Key → Option ℤ
 predefined_key (place_of name) = predefined name
-predefined_key (count_of name) = None
+predefined_key key = None
 
 abbrev pub constant_sight : Sight
 constant_sight = record { names = record { give = predefined_key }; bits = λ first width. None; fact = λ which. pos 0 }
