@@ -1,18 +1,17 @@
 -- The keys of cases stand apart, where no rule is broken.
 use Rattle.std.proofs.Common.{◌≡◌, ◌≢◌, ℕ, ◌+◌, ◌==◌, Bool, true, false, ◌||◌, List, [], ◌∷◌, ◌++◌, length, Option, Some, None, refl, sym, ap, subst, arith}
 use Rattle.std.specs.Prelude.{not}
-use Rattle.std.specs.List.{flat_map, list_any, AllByRecursion}
-use Rattle.std.specs.Option.{is_none, is_some, option_to_list}
+use Rattle.std.specs.List.{list_any, AllByRecursion}
+use Rattle.std.specs.Option.{is_none, is_some}
 use Rattle.std.proofs.lemmas.Bool.Decides.{nat_tests}
 use Rattle.rz_core.proofs.Lists.{or_else_none}
 use Rattle.rz_core.proofs.Tests.{or_false}
-use Rattle.rz_core.specs.declared.resource.Word.{Word}
-use Rattle.rz_types_fields.specs.Field.{case_and, field_and, no_cases, no_fields, Align, Array, Fill, Number, PlainBody, PlainCases, PlainField, Points, Switch, Text}
+use Rattle.rz_types_fields.specs.Field.{case_and, field_and, no_cases, no_fields, Align, Array, Fill, Label, Number, PlainBody, PlainCases, PlainField, Points, Switch, Text}
 use Rattle.rz_types_fields.specs.Width.{case_keys}
 use Rattle.rz_types_fields.specs.declared.keys.CaseKey.{CaseKey}
 use Rattle.rz_types.specs.Kept.{AreCasesApart, AreKeysApart, AreKeysApartIn, IsApartFrom, StandApart}
 use Rattle.rz_types.specs.Rules.{broken, broken_at, differ, found_if, has_other_place, has_other_width, has_same_bits, key_rule, keeps_rules, name_fault, KeepAll}
-use Rattle.rz_types.specs.Walk.{all_fields, behind_case, case_steps, names_of, own_names, steps, steps_within, within}
+use Rattle.rz_types.specs.Walk.{all_fields, and_names, behind_case, case_steps, names_in, names_of, no_names, own_names, steps, steps_within, within, Own}
 use Rattle.rz_types.proofs.Broken.{broken_none}
 use Rattle.rz_types.proofs.Differing.{found_none, kept_append, map_none}
 
@@ -97,25 +96,26 @@ own_apart : (keys : List CaseKey) (others : PlainCases) (key : CaseKey) → keys
 own_apart keys others key is all = (subst (λ (l : List CaseKey). AllByRecursion (λ one. IsApartFrom one others) l) is all).0
 
 mutual
-  within_apart : (position : ℕ) (before scope : List Word) (field : PlainField) → KeepAll broken_at (steps_within position before scope field) → AreKeysApartIn field
+  within_apart : (position : ℕ) (before scope : Own) (field : PlainField) → KeepAll broken_at (steps_within position before scope field) → AreKeysApartIn field
   within_apart position before scope (Number number) keeps = tt
   within_apart position before scope (Text text) keeps = tt
   within_apart position before scope (Points points) keeps = tt
   within_apart position before scope (Fill unit count) keeps = tt
   within_apart position before scope (Align unit) keeps = tt
-  within_apart position before scope (Array name count row) keeps = are_apart (position + 1) (before ++ option_to_list name) (scope ++ names_of row) row keeps
+  within_apart position before scope (Label name) keeps = tt
+  within_apart position before scope (Array name count row) keeps = are_apart (position + 1) (and_names before (own_names (Array name count row))) (and_names scope (names_of row)) row keeps
   within_apart position before scope (Switch cases) keeps = (cases_apart position (position + 1) before scope [] cases keeps).0
 
-  are_apart : (position : ℕ) (before scope : List Word) (body : PlainBody) → KeepAll broken_at (steps position before scope body) → AreKeysApart body
+  are_apart : (position : ℕ) (before scope : Own) (body : PlainBody) → KeepAll broken_at (steps position before scope body) → AreKeysApart body
   are_apart position before scope no_fields keeps = tt
   are_apart position before scope (field_and field fields) keeps =
-      let names = before ++ flat_map own_names (field ∷ within field) in
+      let names = and_names before (names_in (field ∷ within field)) in
       let here = position + 1 + length (within field) in
       let parts = kept_append broken_at (steps_within position before scope field) (steps here names scope fields) keeps.1 in
       (within_apart position before scope field parts.0, are_apart here names scope fields parts.1)
 
   -- the cases stand apart, and the keys before them from theirs
-  cases_apart : (switch position : ℕ) (before scope : List Word) (keys : List CaseKey) (cases : PlainCases) → KeepAll broken_at (case_steps switch position before scope keys cases)
+  cases_apart : (switch position : ℕ) (before scope : Own) (keys : List CaseKey) (cases : PlainCases) → KeepAll broken_at (case_steps switch position before scope keys cases)
       → AreCasesApart cases × AllByRecursion (λ one. IsApartFrom one cases) keys
   cases_apart switch position before scope keys no_cases keeps = (tt, nothing keys)
     where
@@ -123,16 +123,16 @@ mutual
       nothing [] = tt
       nothing (key ∷ keys) = (tt, nothing keys)
   cases_apart switch position before scope keys (case_and name row others) keeps =
-      let names = before ++ flat_map own_names (all_fields row) in
+      let names = and_names before (names_in (all_fields row)) in
       let here = position + length (all_fields row) in
       let behind = case_steps switch here names scope (keys ++ case_keys row) others in
-      let parts = kept_append broken_at (steps position before (scope ++ names_of row) row) (behind_case switch name (case_keys row) keys ∷ behind) keeps in
+      let parts = kept_append broken_at (steps position before (and_names scope (names_of row)) row) (behind_case switch name (case_keys row) keys ∷ behind) keeps in
       let own = keyed (case_keys row) keys (map_none (λ (number : ℕ). name_fault number switch name) (key_rule (case_keys row) keys) parts.1.0) in
       let later = cases_apart switch here names scope (keys ++ case_keys row) others parts.1.1 in
       let each = in_parts (λ one. IsApartFrom one others) keys (case_keys row) later.1 in (
         (
           record { key = own.key; alone = own.alone; fixed = own.fixed; apart = own_apart (case_keys row) others own.key own.alone each.1 },
-          are_apart position before (scope ++ names_of row) row parts.0,
+          are_apart position before (and_names scope (names_of row)) row parts.0,
           later.0,
         ),
         both_apart (case_keys row) keys others own.key own.alone own.apart each.0,
@@ -143,4 +143,4 @@ none_is None is = refl
 none_is (Some x) is = absurd cc
 
 pub keys_apart : (body : PlainBody) → keeps_rules body ≡ true → AreKeysApart body
-keys_apart body keeps = are_apart 0 [] (names_of body) body ((broken_none body).0 (none_is (broken body) keeps)).0
+keys_apart body keeps = are_apart 0 no_names (names_of body) body ((broken_none body).0 (none_is (broken body) keeps)).0

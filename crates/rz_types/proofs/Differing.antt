@@ -1,17 +1,17 @@
 -- Names that differ, where no rule is broken.
-use Rattle.std.proofs.Common.{◌≡◌, ℕ, ◌+◌, Bool, true, false, List, [], ◌∷◌, ◌++◌, length, Option, Some, None, refl, sym, subst, ◌∙◌}
+use Rattle.std.proofs.Common.{◌≡◌, ℕ, ◌+◌, Bool, true, false, List, [], ◌∷◌, ◌++◌, length, Option, Some, None, refl, sym, ap, subst, ◌∙◌}
 use Rattle.std.specs.Prelude.{option_map}
-use Rattle.std.specs.List.{flat_map, AllByRecursion}
+use Rattle.std.specs.List.{AllByRecursion}
 use Rattle.std.specs.Str.{str_eq_ignore_ascii_case}
 use Rattle.std.proofs.lemmas.List.Folds.{list_any-append}
 use Rattle.rz_core.proofs.Lists.{or_else_none}
 use Rattle.rz_core.proofs.Tests.{or_false}
 use Rattle.rz_core.specs.Lists.{first_in}
 use Rattle.rz_core.specs.declared.resource.Word.{Word}
-use Rattle.rz_types_fields.specs.Field.{field_and, no_fields, Align, Array, Fill, Number, PlainBody, PlainCases, PlainField, Points, Switch, Text}
-use Rattle.rz_types.specs.Kept.{Differ}
+use Rattle.rz_types_fields.specs.Field.{field_and, no_fields, Align, Array, Fill, Label, Number, PlainBody, PlainCases, PlainField, Points, Switch, Text}
+use Rattle.rz_types.specs.Kept.{AreOwn, Differ}
 use Rattle.rz_types.specs.Rules.{array_twice, bad_place, bad_width, broken_at, case_names, case_twice, found_if, name_fault, no_values, repeated, repeats, width_fault, KeepAll}
-use Rattle.rz_types.specs.Walk.{is_among, names_of, own_names, steps, steps_within, within, Step}
+use Rattle.rz_types.specs.Walk.{and_names, is_among, names_in, names_of, no_names, own_names, steps, steps_within, within, Own, Step}
 use Rattle.rz_types.specs.declared.rules.TypeFault.{TypeFault}
 
 -- None at all.
@@ -69,48 +69,102 @@ all_differ before (name ∷ names) none =
 pub cases_differ : (position : ℕ) (cases : PlainCases) → case_twice position cases ≡ None → Differ (case_names cases)
 cases_differ position cases none = all_differ [] (case_names cases) (map_none (name_fault 232 position) (repeated (case_names cases)) none)
 
--- The names of arrays.
+-- The names of labels, and those of arrays.
 
-own_differs : (one : Word) (position : ℕ) (before : List Word) (field : PlainField) → Stands one before → bad_place position before field ≡ None → DiffersFrom one (own_names field)
-own_differs one position before (Number number) stands none = tt
-own_differs one position before (Text text) stands none = tt
-own_differs one position before (Points points) stands none = tt
-own_differs one position before (Fill unit count) stands none = tt
-own_differs one position before (Align unit) stands none = tt
-own_differs one position before (Array None count row) stands none = tt
-own_differs one position before (Array (Some name) count row) stands none =
-    let each = or_else_none (array_twice position before (Some name)) (no_values position row) none in
-    (stands name.bytes (found_none (is_among name.bytes before) (name_fault 231 position name) each.0), tt)
-own_differs one position before (Switch cases) stands none = tt
+-- of the field itself
 
-arrays_differ_from : (one : Word) (position : ℕ) (before scope : List Word) (body : PlainBody) → Stands one before
-    → KeepAll broken_at (steps position before scope body) → DiffersFrom one (names_of body)
-arrays_differ_from one position before scope no_fields stands kept = tt
-arrays_differ_from one position before scope (field_and field fields) stands kept =
-    let own = or_else_none (bad_place position before field) (option_map (width_fault position) (bad_width field)) kept.0 in
-    let names = before ++ flat_map own_names (field ∷ within field) in
-    let here = position + 1 + length (within field) in
-    let behind = kept_append broken_at (steps_within position before scope field) (steps here names scope fields) kept.1 in
-    all_append (λ later. str_eq_ignore_ascii_case one.bytes later.bytes ≡ false) (own_names field) (names_of fields) (own_differs one position before field stands own.0)
-    (arrays_differ_from one here names scope fields (stands_more one before (flat_map own_names (field ∷ within field)) stands) behind.1)
+label_stands : (one : Word) (position : ℕ) (before : Own) (field : PlainField) → Stands one before.labels → bad_place position before field ≡ None
+    → DiffersFrom one (own_names field).labels
+label_stands one position before (Number number) stands none = tt
+label_stands one position before (Text text) stands none = tt
+label_stands one position before (Points points) stands none = tt
+label_stands one position before (Fill unit count) stands none = tt
+label_stands one position before (Align unit) stands none = tt
+label_stands one position before (Label name) stands none =
+    (stands name.bytes (found_none (is_among name.bytes before.labels) (name_fault 230 position name) none), tt)
+label_stands one position before (Array name count row) stands none = tt
+label_stands one position before (Switch cases) stands none = tt
 
-own_and_others : (field : PlainField) (names : List Word) → Differ names → ((name : Word) → own_names field ≡ name ∷ [] → DiffersFrom name names) → Differ (own_names field ++ names)
-own_and_others (Number number) names differ each = differ
-own_and_others (Text text) names differ each = differ
-own_and_others (Points points) names differ each = differ
-own_and_others (Fill unit count) names differ each = differ
-own_and_others (Align unit) names differ each = differ
-own_and_others (Array None count row) names differ each = differ
-own_and_others (Array (Some name) count row) names differ each = (each name refl, differ)
-own_and_others (Switch cases) names differ each = differ
+array_stands : (one : Word) (position : ℕ) (before : Own) (field : PlainField) → Stands one before.arrays → bad_place position before field ≡ None
+    → DiffersFrom one (own_names field).arrays
+array_stands one position before (Number number) stands none = tt
+array_stands one position before (Text text) stands none = tt
+array_stands one position before (Points points) stands none = tt
+array_stands one position before (Fill unit count) stands none = tt
+array_stands one position before (Align unit) stands none = tt
+array_stands one position before (Label name) stands none = tt
+array_stands one position before (Array None count row) stands none = tt
+array_stands one position before (Array (Some name) count row) stands none =
+    let each = or_else_none (array_twice position before.arrays (Some name)) (no_values position row) none in
+    (stands name.bytes (found_none (is_among name.bytes before.arrays) (name_fault 231 position name) each.0), tt)
+array_stands one position before (Switch cases) stands none = tt
 
-pub arrays_differ : (position : ℕ) (before scope : List Word) (body : PlainBody) → KeepAll broken_at (steps position before scope body) → Differ (names_of body)
-arrays_differ position before scope no_fields kept = tt
-arrays_differ position before scope (field_and field fields) kept =
-    let more = flat_map own_names (within field) in
-    let names = before ++ flat_map own_names (field ∷ within field) in
-    let here = position + 1 + length (within field) in
-    let behind = kept_append broken_at (steps_within position before scope field) (steps here names scope fields) kept.1 in
-    own_and_others field (names_of fields) (arrays_differ here names scope fields behind.1)
-    (λ name is. arrays_differ_from name here names scope fields
-    (subst (λ (own : List Word). Stands name (before ++ (own ++ more))) (sym is) (stands_own name before more)) behind.1)
+-- at most one
+abbrev IsAlone : List Word → Type 0
+IsAlone [] = Unit {0}
+IsAlone (one ∷ []) = Unit {0}
+IsAlone (one ∷ other ∷ names) = ⊥
+
+label_alone : (field : PlainField) → IsAlone (own_names field).labels
+label_alone (Number number) = tt
+label_alone (Text text) = tt
+label_alone (Points points) = tt
+label_alone (Fill unit count) = tt
+label_alone (Align unit) = tt
+label_alone (Label name) = tt
+label_alone (Array name count row) = tt
+label_alone (Switch cases) = tt
+
+array_alone : (field : PlainField) → IsAlone (own_names field).arrays
+array_alone (Number number) = tt
+array_alone (Text text) = tt
+array_alone (Points points) = tt
+array_alone (Fill unit count) = tt
+array_alone (Align unit) = tt
+array_alone (Label name) = tt
+array_alone (Array None count row) = tt
+array_alone (Array (Some name) count row) = tt
+array_alone (Switch cases) = tt
+
+own_and_others : (own names : List Word) → IsAlone own → Differ names → ((name : Word) → own ≡ name ∷ [] → DiffersFrom name names) → Differ (own ++ names)
+own_and_others [] names alone differ each = differ
+own_and_others (name ∷ []) names alone differ each = (each name refl, differ)
+own_and_others (name ∷ next ∷ own) names alone differ each = absurd alone
+
+-- labels or arrays
+module _ (part : Own → List Word) (none : part no_names ≡ []) (joins : (own other : Own) → part (and_names own other) ≡ part own ++ part other)
+    (alone : (field : PlainField) → IsAlone (part (own_names field)))
+    (own_stands : (one : Word) (position : ℕ) (before : Own) (field : PlainField) → Stands one (part before) → bad_place position before field ≡ None
+    → DiffersFrom one (part (own_names field))) where
+  differ_from : (one : Word) (position : ℕ) (before scope : Own) (body : PlainBody) → Stands one (part before)
+      → KeepAll broken_at (steps position before scope body) → DiffersFrom one (part (names_of body))
+  differ_from one position before scope no_fields stands kept = subst (DiffersFrom one) (sym none) tt
+  differ_from one position before scope (field_and field fields) stands kept =
+      let own = or_else_none (bad_place position before field) (option_map (width_fault position) (bad_width field)) kept.0 in
+      let more = names_in (field ∷ within field) in
+      let names = and_names before more in
+      let here = position + 1 + length (within field) in
+      let behind = kept_append broken_at (steps_within position before scope field) (steps here names scope fields) kept.1 in
+      subst (DiffersFrom one) (sym (joins (own_names field) (names_of fields)))
+      (all_append (λ later. str_eq_ignore_ascii_case one.bytes later.bytes ≡ false) (part (own_names field)) (part (names_of fields)) (own_stands one position before field stands own.0)
+      (differ_from one here names scope fields (subst (Stands one) (sym (joins before more)) (stands_more one (part before) (part more) stands)) behind.1))
+
+  all_names_differ : (position : ℕ) (before scope : Own) (body : PlainBody) → KeepAll broken_at (steps position before scope body) → Differ (part (names_of body))
+  all_names_differ position before scope no_fields kept = subst Differ (sym none) tt
+  all_names_differ position before scope (field_and field fields) kept =
+      let own = own_names field in
+      let more = names_in (within field) in
+      let names = and_names before (and_names own more) in
+      let here = position + 1 + length (within field) in
+      let behind = kept_append broken_at (steps_within position before scope field) (steps here names scope fields) kept.1 in
+      let whole = joins before (and_names own more) ∙ ap (λ (l : List Word). part before ++ l) (joins own more) in
+      subst Differ (sym (joins own (names_of fields)))
+      (own_and_others (part own) (part (names_of fields)) (alone field) (all_names_differ here names scope fields behind.1)
+      (λ name is. differ_from name here names scope fields
+      (subst (Stands name) (sym (whole ∙ ap (λ (l : List Word). part before ++ (l ++ part more)) is)) (stands_own name (part before) (part more))) behind.1))
+
+pub own_differ : (position : ℕ) (before scope : Own) (body : PlainBody) → KeepAll broken_at (steps position before scope body) → AreOwn (names_of body)
+own_differ position before scope body kept = (
+  all_names_differ (λ own. own.labels) refl (λ own other. refl) label_alone label_stands position before scope body kept,
+  all_names_differ (λ own. own.arrays) refl (λ own other. refl) array_alone array_stands position before scope body kept,
+)

@@ -1,17 +1,18 @@
--- Which declarations can be read, and what numbers tell of counts: examples that compute.
+-- Which declarations can be read, what numbers tell of counts, and which labels and names break a rule: examples that compute.
 use Rattle.std.proofs.Common.{◌≡◌, refl, ℕ, pos, List, [], ◌∷◌, Option, Some, None, true, false}
 use Rattle.std.specs.Prelude.{codes}
 use Rattle.rz_expr.specs.Environment.{count_key}
 use Rattle.rz_expr.specs.Constant.{constant_sight}
-use Rattle.rz_expr.specs.Term.{Constant, OfTwo, RowsOf, Term}
+use Rattle.rz_expr.specs.Term.{BitsAt, Constant, Named, OfTwo, RowsOf, Term}
 use Rattle.rz_expr.specs.declared.expr.BinaryOp.TheVariants as two
-use Rattle.rz_types_fields.specs.Field.{field_and, no_fields, Align, Array, Number, PlainField, Text}
+use Rattle.rz_types_fields.specs.Field.{field_and, no_fields, Align, Array, Label, Number, PlainField, Text}
 use Rattle.rz_types_fields.specs.Solve.{solved_count}
 use Rattle.rz_types_fields.specs.Text as parts
 use Rattle.rz_types_fields.specs.declared.field.NumForm.TheVariants as forms
 use Rattle.rz_types_fields.specs.declared.field.Radix.TheVariants as radixes
 use Rattle.rz_types_fields.specs.declared.field.TextForm.TheVariants as texts
 use Rattle.rz_types.specs.Readable.{is_readable}
+use Rattle.rz_types.specs.Rules.{broken, name_fault, unknown_fault}
 
 abbrev less_one : List ℕ → Term
 less_one name = OfTwo two.Minus (RowsOf name) (Constant (pos 1))
@@ -69,3 +70,32 @@ format_told = refl
 
 format_behind : is_readable (field_and (number (Some (RowsOf (codes "a")))) (field_and (named (codes "a") pstring) (field_and (counting (codes "a")) no_fields))) ≡ true
 format_behind = refl
+
+-- Labels.
+
+abbrev label : List ℕ → PlainField
+label name = Label (record { bytes = name })
+
+labelled : is_readable (field_and (number None) (field_and (label (codes "e")) no_fields)) ≡ false
+labelled = refl
+
+labelled_inside : is_readable (field_and (Array None (Some (pos 2)) (field_and (number None) (field_and (label (codes "e")) no_fields))) no_fields) ≡ false
+labelled_inside = refl
+
+label_again : broken (field_and (label (codes "e")) (field_and (label (codes "E")) no_fields)) ≡ Some (name_fault 230 1 (record { bytes = codes "E" }))
+label_again = refl
+
+label_and_array : broken (field_and (label (codes "e")) (field_and (named (codes "e") pstring) no_fields)) ≡ None
+label_and_array = refl
+
+label_named : broken (field_and (number (Some (OfTwo two.Minus (Named (codes "E")) (BitsAt (codes "e") (Constant (pos 0)) (Constant (pos 8)))))) (field_and (label (codes "e")) no_fields)) ≡ None
+label_named = refl
+
+label_missing : broken (field_and (number (Some (Named (codes "f")))) (field_and (label (codes "e")) no_fields)) ≡ Some (unknown_fault 0 (codes "f"))
+label_missing = refl
+
+bits_missing : broken (field_and (number (Some (BitsAt (codes "true") (Named (codes "e")) (Constant (pos 8))))) (field_and (label (codes "e")) no_fields)) ≡ Some (unknown_fault 0 (codes "true"))
+bits_missing = refl
+
+predefined_named : broken (field_and (number (Some (Named (codes "TRUE")))) no_fields) ≡ None
+predefined_named = refl

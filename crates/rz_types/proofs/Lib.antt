@@ -1,4 +1,4 @@
-pub mod Arithmetic
+pub mod Named
 pub mod Firsts
 pub mod Broken
 pub mod Differing

@@ -1,19 +1,21 @@
 -- What notes tell, one more at a time, and the fields that can be read behind them.
-use Rattle.std.proofs.Common.{◌≡◌, ℕ, ◌+◌, ◌-◌, ◌<◌, Bool, true, false, ◌&&◌, ◌||◌, List, [], ◌∷◌, ◌++◌, length, get_or, drop, take, map, Some, refl, sym, ap, ◌∙◌, arith}
+use Rattle.std.proofs.Common.{◌≡◌, ◌⊎◌, inl, inr, ℕ, zero, suc, ◌+◌, ◌-◌, ◌<◌, Bool, true, false, ◌&&◌, ◌||◌, List, [], ◌∷◌, ◌++◌, length, get_or, drop, take, map, Some, refl, sym, ap, ◌∙◌, arith}
 use Rattle.std.specs.Prelude.{if◌then◌else◌, not, replicate}
 use Rattle.std.proofs.lemmas.List.{drop_more, take_more}
+use Rattle.rz_core.proofs.Tests.{or_false}
 use Rattle.rz_expr.specs.Environment.{Key}
 use Rattle.rz_expr.specs.Term.{term_of}
 use Rattle.rz_expr.specs.declared.expr.Expr.{Expr}
-use Rattle.rz_types_fields.specs.Field.{field_and, plain_body, plain_field, PlainBody}
+use Rattle.rz_types_fields.specs.Field.{field_and, no_fields, plain_body, plain_field, Align, Array, Fill, Label, Number, PlainBody, PlainField, Points, Switch, Text}
 use Rattle.rz_types_fields.specs.NameKey.{key_of}
 use Rattle.rz_types_fields.specs.Shape.{numbers_of}
 use Rattle.rz_types_fields.specs.Solve.{is_same_key}
-use Rattle.rz_types_fields.specs.Passed.{at_field, at_front, behind, behind_pieces, between, counts_rows, declares, is_held, nothing_passed, states, told_by, Passed}
+use Rattle.rz_types_fields.specs.Passed.{at_field, at_front, behind, behind_pieces, between, counts_rows, declares, has_labels, is_a_label, is_held, nothing_passed, states, told_by, Passed}
 use Rattle.rz_types_fields.specs.Piece.{fixed_integer, free_integer, Piece}
 use Rattle.rz_types_fields.specs.declared.field.Field.{Field}
 use Rattle.rz_types_fields.proofs.Bodies.{body_next}
 use Rattle.rz_types_fields.proofs.Near.{none_near}
+use Rattle.rz_types.proofs.Unknown.{or_parts}
 use Rattle.rz_types.specs.Notes.{known, noted, noted_all, noting, passed}
 use Rattle.rz_types.specs.Readable.{are_pieces_read, are_read, is_number_read, is_read, is_readable}
 use Rattle.rz_types.specs.declared.passed.Note.{Note}
@@ -85,19 +87,57 @@ row_read outermost row notes pushed note more is read so =
 
 -- One field more.
 
--- nothing is near so far
-at_none : (body : PlainBody) (notes : List Note) → at_field body (passed notes) ≡ passed notes
-at_none body notes = λ i. record { met = (passed notes).met; told = (passed notes).told; near = λ key. none_near body key i }
+-- a body with a label can't be read
 
-module _ (outermost : Bool) (fields : List Field) (i : ℕ) (field : Field) (less : i < length fields) (item : field ≡ get_or fields i field) (notes : List Note) where
+label_unread : (outermost : Bool) (rest : PlainBody) (before : Passed) (field : PlainField) → is_a_label field ≡ true → is_read outermost rest before field ≡ false
+label_unread outermost rest before (Number number) is = absurd cc
+label_unread outermost rest before (Text text) is = absurd cc
+label_unread outermost rest before (Points points) is = absurd cc
+label_unread outermost rest before (Fill unit count) is = absurd cc
+label_unread outermost rest before (Align unit) is = absurd cc
+label_unread outermost rest before (Label name) is = refl
+label_unread outermost rest before (Array name count row) is = absurd cc
+label_unread outermost rest before (Switch cases) is = absurd cc
+
+and_no : (a b : Bool) → (a ≡ false) ⊎ (b ≡ false) → (a && b) ≡ false
+and_no true b (inl is) = absurd cc
+and_no true b (inr is) = is
+and_no false b is = refl
+
+pub labels_unread : (outermost : Bool) (before : Passed) (body : PlainBody) → has_labels body ≡ true → are_read outermost before body ≡ false
+labels_unread outermost before no_fields is = absurd cc
+labels_unread outermost before (field_and field fields) is =
+    let here = at_field (field_and field fields) before in
+    and_no (is_read outermost fields here field) (are_read outermost (behind field here) fields)
+    (elim (or_parts (is_a_label field) (has_labels fields) is) [
+      | inl own ↦ inl (label_unread outermost fields here field own)
+      | inr later ↦ inr (labels_unread outermost (behind field here) fields later)
+    ])
+
+no_labels_left : (fields : List Field) (i : ℕ) → has_labels (plain_body fields) ≡ false → has_labels (plain_body (drop i fields)) ≡ false
+no_labels_left fields zero none = none
+no_labels_left [] (suc i) none = none
+no_labels_left (field ∷ fields) (suc i) none =
+    no_labels_left fields i ((or_false (is_a_label (plain_field field)) (has_labels (plain_body fields)) none).1)
+
+-- and where there is no label nothing is near
+at_none : (body : PlainBody) (notes : List Note) → has_labels body ≡ false → at_field body (passed notes) ≡ passed notes
+at_none body notes none = λ i. record { met = (passed notes).met; told = (passed notes).told; near = λ key. none_near body none key i }
+
+module _ (outermost : Bool) (fields : List Field) (none : has_labels (plain_body fields) ≡ false) (i : ℕ) (field : Field) (less : i < length fields)
+    (item : field ≡ get_or fields i field) (notes : List Note) where
   abbrev rest : PlainBody
   rest = plain_body (drop (i + 1) fields)
+
+  none_left : has_labels (field_and (plain_field field) rest) ≡ false
+  none_left = ap has_labels (sym (body_next fields i field less item)) ∙ no_labels_left fields i none
 
   next_read : are_read outermost (passed notes) (plain_body (drop i fields))
       ≡ (is_read outermost rest (passed notes) (plain_field field) && are_read outermost (behind (plain_field field) (passed notes)) rest)
   next_read =
       ap (are_read outermost (passed notes)) (body_next fields i field less item)
-      ∙ ap (λ (p : Passed). is_read outermost rest p (plain_field field) && are_read outermost (behind (plain_field field) p) rest) (at_none (field_and (plain_field field) rest) notes)
+      ∙ ap (λ (p : Passed). is_read outermost rest p (plain_field field) && are_read outermost (behind (plain_field field) p) rest)
+      (at_none (field_and (plain_field field) rest) notes none_left)
 
   pub field_read : (new : List Note) (read : Bool) → read ≡ is_read outermost rest (passed notes) (plain_field field) → read ≡ true
       → passed new ≡ behind (plain_field field) (passed notes)

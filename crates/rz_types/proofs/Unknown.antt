@@ -15,7 +15,7 @@ use Rattle.rz_types_fields.proofs.SameNames.{key_is, key_itself}
 
 -- Tests.
 
-or_parts : (a b : Bool) → (a || b) ≡ true → (a ≡ true) ⊎ (b ≡ true)
+pub or_parts : (a b : Bool) → (a || b) ≡ true → (a ≡ true) ⊎ (b ≡ true)
 or_parts true b is = inl refl
 or_parts false b is = inr is
 

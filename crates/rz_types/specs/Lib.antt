@@ -8,6 +8,7 @@ pub use Rattle.rz_types_fields.specs.Width
 pub use Rattle.rz_types_fields.specs.Solve
 pub use Rattle.rz_types_fields.specs.Piece
 pub use Rattle.rz_types_fields.specs.Passed
+pub use Rattle.rz_types_fields.specs.Sees
 pub mod Walk
 pub mod Rules
 pub mod Kept

@@ -6,11 +6,11 @@ use Rattle.std.specs.Option.{is_some, unwrap_or}
 use Rattle.rz_core.specs.declared.resource.Word.{Word}
 use Rattle.rz_expr.specs.Environment.{count_key, place_key, Key}
 use Rattle.rz_expr.specs.Term.{BitsAt, Constant, FactOf, Named, OfOne, OfTwo, RowsOf, Term}
-use Rattle.rz_types_fields.specs.Field.{case_and, field_and, no_cases, no_fields, Align, Array, Fill, Number, PlainBody, PlainCases, PlainField, PlainText, Points, Switch, Text}
+use Rattle.rz_types_fields.specs.Field.{case_and, field_and, no_cases, no_fields, Align, Array, Fill, Label, Number, PlainBody, PlainCases, PlainField, PlainText, Points, Switch, Text}
 use Rattle.rz_types_fields.specs.Shape.{numbers_of}
 use Rattle.rz_types_fields.specs.Solve.{can_solve, is_same_key}
 use Rattle.rz_types_fields.specs.Passed.{at_field, at_front, behind, behind_piece, declares, is_known, nothing_passed, Names, Passed}
-use Rattle.rz_types_fields.specs.Piece.{pieces_of, terms_of_text, Filler, OneNumber, OneText, Piece, Zeros}
+use Rattle.rz_types_fields.specs.Piece.{pieces_of, terms_of_text, Filler, OneNumber, OneText, Piece, Place, Zeros}
 use Rattle.rz_types_fields.specs.Width.{fixed_widths, text_width}
 use Rattle.rz_types_fields.specs.declared.field.TextForm.{TextForm}
 use Rattle.rz_types_fields.specs.declared.field.TextForm.TheVariants as texts
@@ -42,6 +42,7 @@ abbrev mutual
   least_width (Points points) = 16 * numbers_of points.rect
   least_width (Fill unit count) = unit * nat_abs count
   least_width (Align unit) = 0
+  least_width (Label name) = 0
   least_width (Array name count row) = least_rows count (least_widths row)
   least_width (Switch cases) = unwrap_or (least_case cases) 0
 
@@ -104,6 +105,7 @@ is_piece_read outermost rest passed (OneNumber number) = is_number_read rest pas
 is_piece_read outermost rest passed (OneText text) = is_text_read outermost rest passed text
 is_piece_read outermost rest passed (Zeros count) = true
 is_piece_read outermost rest passed (Filler unit) = true
+is_piece_read outermost rest passed (Place name) = false
 
 abbrev pub are_pieces_read : (outermost : Bool) → PlainBody → Passed → List Piece → Bool
 are_pieces_read outermost rest passed [] = true
@@ -130,6 +132,8 @@ abbrev mutual
   is_read outermost rest passed (Points points) = are_pieces_read outermost rest passed (pieces_of (Points points))
   is_read outermost rest passed (Fill unit count) = true
   is_read outermost rest passed (Align unit) = true
+  -- so far no declaration with a label can be read
+  is_read outermost rest passed (Label name) = false
   is_read outermost rest passed (Array name count row) = rows_end outermost rest passed name count row && are_read false (at_front row passed) row
   is_read outermost rest passed (Switch cases) = are_cases_read passed cases
 

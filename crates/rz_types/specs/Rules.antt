@@ -1,22 +1,23 @@
 -- The rules of type declarations, and the first that a body breaks. (MPW Rez.)
 use Rattle.std.specs.Prelude.{◌≡◌, ◌⊎◌, ℕ, ◌==◌, min, ℤ, pos, Bool, true, false, not, ◌||◌, if◌then◌else◌, List, [], ◌∷◌, ◌++◌, map, Option, Some, None, option_map}
 use Rattle.std.specs.List.{AllByRecursion, list_any}
-use Rattle.std.specs.Option.{is_none}
+use Rattle.std.specs.Option.{is_none, is_some}
 use Rattle.std.specs.declared.result.Result.{Result}
 use Rattle.rz_core.specs.Lists.{first_in, first_of, or_else, unless_fault}
 use Rattle.rz_core.specs.declared.fault.Kept.{Kept}
 use Rattle.rz_core.specs.declared.fault.Kept.TheVariants as kept
 use Rattle.rz_core.specs.declared.resource.Word.{Word}
 use Rattle.rz_expr.specs.Constant.{constant_of}
+use Rattle.rz_expr.specs.Environment.{predefined}
 use Rattle.rz_expr.specs.Term.{BitsAt, Constant, FactOf, Named, OfOne, OfTwo, RowsOf, Term}
-use Rattle.rz_types_fields.specs.Field.{case_and, field_and, no_cases, no_fields, takes_value, Align, Array, Fill, Number, PlainBody, PlainCases, PlainField, Points, Switch, Text}
+use Rattle.rz_types_fields.specs.Field.{case_and, field_and, no_cases, no_fields, takes_value, Align, Array, Fill, Label, Number, PlainBody, PlainCases, PlainField, Points, Switch, Text}
 use Rattle.rz_types_fields.specs.Range.{is_between, may_be_size}
 use Rattle.rz_types_fields.specs.Piece.{expressions_of}
 use Rattle.rz_types_fields.specs.declared.field.NumForm.{NumForm}
 use Rattle.rz_types_fields.specs.declared.field.NumForm.TheVariants.{Bits}
 use Rattle.rz_types_fields.specs.declared.field.TextForm.{TextForm}
 use Rattle.rz_types_fields.specs.declared.keys.CaseKey.{CaseKey}
-use Rattle.rz_types.specs.Walk.{at_field, behind_case, is_among, walk, Step}
+use Rattle.rz_types.specs.Walk.{at_field, behind_case, is_among, walk, Own, Step}
 use Rattle.rz_types.specs.declared.rules.TypeFault.{TypeFault}
 
 -- Faults.
@@ -28,7 +29,7 @@ kept_position position = min position 9223372036854775807
 abbrev pub type_fault : ℕ → ℕ → Kept → TypeFault
 type_fault number position what = record { number = number; field = kept_position position; kept = what }
 
--- 231 to 236 keep a name, of an array or of a case
+-- 230 to 236 keep a name, of a label, of an array or of a case
 abbrev pub name_fault : ℕ → ℕ → Word → TypeFault
 name_fault number position name = type_fault number position (kept.Name name.bytes)
 
@@ -75,6 +76,7 @@ bad_width (Text text) = bad_size text.form text.size
 bad_width (Points points) = None
 bad_width (Fill unit count) = unless (may_be_count count) count
 bad_width (Align unit) = None
+bad_width (Label name) = None
 bad_width (Array name count row) = bad_rows count
 bad_width (Switch cases) = None
 
@@ -83,6 +85,10 @@ abbrev pub width_fault : ℕ → ℤ → TypeFault
 width_fault position value = type_fault 238 position (kept.Number value)
 
 -- Fields.
+
+-- 230 for a label whose name one before it has
+abbrev pub label_twice : ℕ → List Word → Word → Option TypeFault
+label_twice position before name = found_if (is_among name.bytes before) (name_fault 230 position name)
 
 -- 231 for an array whose name one before it has
 abbrev pub array_twice : ℕ → List Word → Option Word → Option TypeFault
@@ -114,8 +120,9 @@ abbrev pub no_values : ℕ → PlainBody → Option TypeFault
 no_values position row = found_if (not (has_values row)) (type_fault 237 position (kept.Number (pos (kept_position position))))
 
 -- what is wrong with a field where it stands, beside its widths
-abbrev pub bad_place : ℕ → List Word → PlainField → Option TypeFault
-bad_place position before (Array name count row) = or_else (array_twice position before name) (no_values position row)
+abbrev pub bad_place : ℕ → Own → PlainField → Option TypeFault
+bad_place position before (Label name) = label_twice position before.labels name
+bad_place position before (Array name count row) = or_else (array_twice position before.arrays name) (no_values position row)
 bad_place position before (Switch cases) = case_twice position cases
 bad_place position before field = None
 
@@ -152,18 +159,22 @@ bad_case position name keys before = option_map (λ number. name_fault number po
 
 -- Names that an expression can't name.
 
--- the first array that an expression names and that isn't one of these
-abbrev pub unknown_array : List Word → Term → Option (List ℕ)
-unknown_array scope (Constant number) = None
-unknown_array scope (Named name) = None
-unknown_array scope (RowsOf name) = if is_among name scope then None else Some name
-unknown_array scope (BitsAt name start width) = or_else (unknown_array scope start) (unknown_array scope width)
-unknown_array scope (FactOf which) = None
-unknown_array scope (OfOne op operand) = unknown_array scope operand
-unknown_array scope (OfTwo op left right) = or_else (unknown_array scope left) (unknown_array scope right)
+-- a name that isn't one of these
+abbrev pub not_among : List Word → List ℕ → Option (List ℕ)
+not_among names name = if is_among name names then None else Some name
 
-abbrev pub unknown_in : List Word → PlainField → Option (List ℕ)
-unknown_in scope field = first_of (map (unknown_array scope) (expressions_of field))
+-- the first label or array that an expression names and that isn't one of these; `true` and `false` are none
+abbrev pub unknown_name : Own → Term → Option (List ℕ)
+unknown_name scope (Constant number) = None
+unknown_name scope (Named name) = if is_some (predefined name) then None else not_among scope.labels name
+unknown_name scope (RowsOf name) = not_among scope.arrays name
+unknown_name scope (BitsAt name start width) = or_else (not_among scope.labels name) (or_else (unknown_name scope start) (unknown_name scope width))
+unknown_name scope (FactOf which) = None
+unknown_name scope (OfOne op operand) = unknown_name scope operand
+unknown_name scope (OfTwo op left right) = or_else (unknown_name scope left) (unknown_name scope right)
+
+abbrev pub unknown_in : Own → PlainField → Option (List ℕ)
+unknown_in scope field = first_of (map (unknown_name scope) (expressions_of field))
 
 -- 212 keeps the name as it is written
 abbrev pub unknown_fault : ℕ → List ℕ → TypeFault

@@ -1,10 +1,10 @@
 -- The walk over the fields of a declaration, depth first, and what stands where. (MPW Rez.)
 use Rattle.std.specs.Prelude.{ℕ, ◌+◌, Bool, List, [], ◌∷◌, ◌++◌, length}
-use Rattle.std.specs.List.{flat_map, list_any}
+use Rattle.std.specs.List.{list_any}
 use Rattle.std.specs.Option.{option_to_list}
 use Rattle.std.specs.Str.{str_eq_ignore_ascii_case}
 use Rattle.rz_core.specs.declared.resource.Word.{Word}
-use Rattle.rz_types_fields.specs.Field.{case_and, field_and, no_cases, no_fields, Align, Array, Fill, Number, PlainBody, PlainCases, PlainField, Points, Switch, Text}
+use Rattle.rz_types_fields.specs.Field.{case_and, field_and, no_cases, no_fields, Align, Array, Fill, Label, Number, PlainBody, PlainCases, PlainField, Points, Switch, Text}
 use Rattle.rz_types_fields.specs.Width.{case_keys}
 use Rattle.rz_types_fields.specs.declared.keys.CaseKey.{CaseKey}
 
@@ -14,15 +14,33 @@ use Rattle.rz_types_fields.specs.declared.keys.CaseKey.{CaseKey}
 abbrev pub is_among : List ℕ → List Word → Bool
 is_among name names = list_any (λ one. str_eq_ignore_ascii_case one.bytes name) names
 
--- the name of an array
-abbrev pub own_names : PlainField → List Word
-own_names (Array name count row) = option_to_list name
-own_names field = []
+-- names of labels and names of arrays
+pub record Own : Type 0 where
+  pub labels : List Word
+  pub arrays : List Word
 
--- the names of the arrays of a body, without those within its fields
-abbrev pub names_of : PlainBody → List Word
-names_of no_fields = []
-names_of (field_and field fields) = own_names field ++ names_of fields
+abbrev pub no_names : Own
+no_names = record { labels = []; arrays = [] }
+
+-- some and others behind them
+abbrev pub and_names : Own → Own → Own
+and_names own other = record { labels = own.labels ++ other.labels; arrays = own.arrays ++ other.arrays }
+
+-- the name of a label, or of an array
+abbrev pub own_names : PlainField → Own
+own_names (Label name) = record { labels = name ∷ []; arrays = [] }
+own_names (Array name count row) = record { labels = []; arrays = option_to_list name }
+own_names field = no_names
+
+-- the names of the labels and arrays of a body, without those within its fields
+abbrev pub names_of : PlainBody → Own
+names_of no_fields = no_names
+names_of (field_and field fields) = and_names (own_names field) (names_of fields)
+
+-- those of fields in a list
+abbrev pub names_in : List PlainField → Own
+names_in [] = no_names
+names_in (field ∷ fields) = and_names (own_names field) (names_in fields)
 
 -- Fields.
 
@@ -34,6 +52,7 @@ abbrev mutual
   within (Points points) = []
   within (Fill unit count) = []
   within (Align unit) = []
+  within (Label name) = []
   within (Array name count row) = all_fields row
   within (Switch cases) = all_in_cases cases
 
@@ -49,38 +68,40 @@ abbrev mutual
 -- The walk.
 
 pub data Step : Type 0 where
-  -- a field: its position in the walk, from 0, the names of the arrays before it, and those of the arrays that it may name: of
-  -- its own body, and of the bodies around
-  at_field : (position : ℕ) (before scope : List Word) (field : PlainField) → Step
+  -- a field: its position in the walk, from 0, the names of the labels and arrays before it, and of those that it may name: of its
+  -- own body, and of the bodies around
+  at_field : (position : ℕ) (before scope : Own) (field : PlainField) → Step
   -- the end of a case: the position of its switch, the name of the case, its keys, and those of the cases before it
   behind_case : (position : ℕ) (name : Word) (keys before : List CaseKey) → Step
 
 abbrev mutual
   -- the steps within a field
-  pub steps_within : (position : ℕ) (before scope : List Word) → PlainField → List Step
+  pub steps_within : (position : ℕ) (before scope : Own) → PlainField → List Step
   steps_within position before scope (Number number) = []
   steps_within position before scope (Text text) = []
   steps_within position before scope (Points points) = []
   steps_within position before scope (Fill unit count) = []
   steps_within position before scope (Align unit) = []
-  steps_within position before scope (Array name count row) = steps (position + 1) (before ++ option_to_list name) (scope ++ names_of row) row
+  steps_within position before scope (Label name) = []
+  steps_within position before scope (Array name count row) =
+      steps (position + 1) (and_names before (own_names (Array name count row))) (and_names scope (names_of row)) row
   steps_within position before scope (Switch cases) = case_steps position (position + 1) before scope [] cases
 
   -- those of fields, the first of which has this position
-  pub steps : (position : ℕ) (before scope : List Word) → PlainBody → List Step
+  pub steps : (position : ℕ) (before scope : Own) → PlainBody → List Step
   steps position before scope no_fields = []
   steps position before scope (field_and field fields) =
       at_field position before scope field
       ∷ (steps_within position before scope field
-      ++ steps (position + 1 + length (within field)) (before ++ flat_map own_names (field ∷ within field)) scope fields)
+      ++ steps (position + 1 + length (within field)) (and_names before (names_in (field ∷ within field))) scope fields)
 
   -- those of the cases of a switch, behind cases with these keys
-  pub case_steps : (switch position : ℕ) (before scope : List Word) (keys : List CaseKey) → PlainCases → List Step
+  pub case_steps : (switch position : ℕ) (before scope : Own) (keys : List CaseKey) → PlainCases → List Step
   case_steps switch position before scope keys no_cases = []
   case_steps switch position before scope keys (case_and name row others) =
-      steps position before (scope ++ names_of row) row
+      steps position before (and_names scope (names_of row)) row
       ++ behind_case switch name (case_keys row) keys
-      ∷ case_steps switch (position + length (all_fields row)) (before ++ flat_map own_names (all_fields row)) scope (keys ++ case_keys row) others
+      ∷ case_steps switch (position + length (all_fields row)) (and_names before (names_in (all_fields row))) scope (keys ++ case_keys row) others
 
 abbrev pub walk : PlainBody → List Step
-walk body = steps 0 [] (names_of body) body
+walk body = steps 0 no_names (names_of body) body

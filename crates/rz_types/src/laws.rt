@@ -1,18 +1,18 @@
 //! Laws of the rules of declarations, of keys, and of values. See `specs/Rules` and `specs/Kept`.
 
-ghost use Rattle.std.specs.Prelude.{◌≡◌, ◌↔◌, true, List, None, Some};
-ghost use Rattle.rz_core.specs.declared.facts.Facts.{Facts};
+ghost use Rattle.std.specs.Prelude.{◌≡◌, ◌↔◌, false, true, None, Some};
+ghost use Rattle.rz_expr.specs.Environment.{Environment, Sight};
 ghost use Rattle.rz_expr.specs.Term.{Term};
 ghost use Rattle.rz_expr.specs.Value.{value_of};
 ghost use Rattle.rz_types_fields.specs.Field.{PlainBody};
+ghost use Rattle.rz_types_fields.specs.Laid.{met_in};
+ghost use Rattle.rz_types_fields.specs.Sees.{names_later};
 ghost use Rattle.rz_types.specs.Kept.{AreKeysApart, IsKept};
-ghost use Rattle.rz_types.specs.Rules.{broken, keeps_rules, BreaksNone, IsFirstBroken};
+ghost use Rattle.rz_types.specs.Names.{GivesCounts, GivesOwn, NamesNothing};
+ghost use Rattle.rz_types.specs.Readable.{all_known};
+ghost use Rattle.rz_types.specs.Rules.{broken, keeps_rules, unknown_name, BreaksNone, IsFirstBroken};
+ghost use Rattle.rz_types.specs.Walk.{Own};
 ghost use Rattle.rz_types.specs.declared.rules.TypeFault.{TypeFault};
-ghost use Rattle.rz_core.specs.declared.resource.Word.{Word};
-ghost use Rattle.rz_expr.specs.Environment.{Environment};
-ghost use Rattle.rz_types_fields.specs.Value.{is_fixed_expression, is_size_expression, no_bits, see, IsArithmetic};
-ghost use Rattle.rz_types.specs.Rules.{unknown_array};
-ghost use Rattle.rz_types.specs.Names.{GivesCounts, GivesPredefined};
 
 /// A law, with nothing to run: a body has this fault first exactly where a step of the walk breaks a rule by it and
 /// none before does, or where no step breaks a rule, and a step has this name that can't be named and none before has
@@ -22,9 +22,9 @@ pub fn first_broken_rule()
     ensures kept { (body : PlainBody) → (broken body ≡ None) ↔ BreaksNone body }
 {}
 
-/// A law, with nothing to run: what keeps the rules keeps them within: widths may be, arrays of one body have different
-/// names and so have the cases of a switch, the rows of an array take a value, and each array that an expression names
-/// is one of its own body or of those around.
+/// A law, with nothing to run: what keeps the rules keeps them within: widths may be, labels of one body have different
+/// names, so have its arrays and the cases of a switch, the rows of an array take a value, and each label and array that
+/// an expression names is one of its own body or of those around.
 pub fn rules_hold_within()
     ensures { (body : PlainBody) → keeps_rules body ≡ true → IsKept body }
 {}
@@ -35,12 +35,13 @@ pub fn keys_stand_apart()
     ensures { (body : PlainBody) → keeps_rules body ≡ true → AreKeysApart body }
 {}
 
-/// A law, with nothing to run: an expression of a size has a value for each resource, or is a quotient or a remainder
-/// by 0, or a shift by a count outside 0 to 31: it has no other fault. So has that of a fixed value, where each array that
-/// it names has a number of rows.
-pub fn field_expressions_have_values()
-    ensures sizes { (known : Facts) (names : Environment) (term : Term) → GivesPredefined names → is_size_expression term ≡ true
-        → IsArithmetic (value_of term (see known no_bits names)) }
-    ensures values { (known : Facts) (names : Environment) (scope : List Word) (term : Term) → GivesPredefined names → GivesCounts scope names
-        → is_fixed_expression term ≡ true → unknown_array scope term ≡ None → IsArithmetic (value_of term (see known no_bits names)) }
+/// A law, with nothing to run: an expression names nothing that has no value where each of its names has one, and each has
+/// one where it names only labels and arrays that have: in the end all of its body and of those around, and before that
+/// all arrays, if it names no label that stands later.
+pub fn named_values_are_there()
+    ensures values { (sight : Sight) (term : Term) → all_known (met_in sight.names) term ≡ true → NamesNothing (value_of term sight) }
+    ensures names { (scope : Own) (names : Environment) (term : Term) → GivesOwn scope names → unknown_name scope term ≡ None
+        → all_known (met_in names) term ≡ true }
+    ensures early { (scope : Own) (names : Environment) (term : Term) → GivesCounts scope.arrays names → unknown_name scope term ≡ None
+        → names_later (met_in names) term ≡ false → all_known (met_in names) term ≡ true }
 {}

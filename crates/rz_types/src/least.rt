@@ -23,7 +23,7 @@ fn least_width(field: &Field) -> u64
         Field::Fill(unit, count) => {
             (u64::from(*unit) * u64::from(count.unsigned_abs())).min(ENOUGH)
         }
-        Field::Align(_) => 0,
+        Field::Align(_) | Field::Label(_) => 0,
         Field::Array(array) => least_rows(array.count, least_widths(array.row.as_slice())),
         Field::Switch(cases) => least_of_cases(cases.as_slice()),
     }

@@ -4,7 +4,7 @@ ghost use Rattle.std.specs.Prelude.{◌≡◌, ◌≤◌, ◌||◌, IfOk, OnOk, 
 ghost use Rattle.rz_expr.specs.Term.{term_of};
 ghost use Rattle.rz_types_fields.specs.Field.{plain_array, plain_body, plain_cases, plain_field, plain_points, plain_text, Points};
 ghost use Rattle.rz_types_fields.specs.Solve.{is_same_key};
-ghost use Rattle.rz_types_fields.specs.Passed.{at_front, behind, behind_pieces, between, told_by};
+ghost use Rattle.rz_types_fields.specs.Passed.{at_front, behind, behind_pieces, between, has_labels, is_a_label, told_by};
 ghost use Rattle.rz_types_fields.specs.Piece.{fixed_integer};
 ghost use Rattle.rz_types_fields.specs.NameKey.{key_of};
 ghost use Rattle.rz_types.specs.Notes.{also_met, also_told, known, passed};
@@ -24,11 +24,12 @@ use rz_types_fields::{
 use std::alloc::Global;
 
 /// Whether a resource of this declaration can be read: exactly where its bytes say where each field ends, and how many
-/// rows each array has. A number with a fixed value has no name that isn't known before it, or one that is the count of
-/// an array behind it in its body and that the value tells; then it is known from there on. A size and a format have known
-/// names only. A `string` without a size, and an array whose number of rows isn't known, stand outside of all rows and
-/// cases, with only fields of fixed width behind them: they end with the resource. Rows of an array without a stated
-/// count have one bit at least, and 8 where their number isn't known. (MPW Rez.)
+/// rows each array has. So far none can be read of a declaration with a label. A number with a fixed value has no name
+/// that isn't known before it, or one that is the count of an array behind it in its body and that the value tells; then
+/// it is known from there on. A size and a format have known names only. A `string` without a size, and an array whose
+/// number of rows isn't known, stand outside of all rows and cases, with only fields of fixed width behind them: they end
+/// with the resource. Rows of an array without a stated count have one bit at least, and 8 where their number isn't known.
+/// (MPW Rez.)
 pub fn is_readable(template: &Template) -> bool
     ensures { result ≡ is_readable (template_of template.now) }
 {
@@ -71,6 +72,9 @@ fn are_read<'a>(
     ensures read { IfOk result (λ read. read ≡ are_read outermost (passed notes.old.items) (plain_body fields.now)) }
     ensures grew { OnOk result (Grew notes.old.items notes.new.items) }
 {
+    if has_labels(fields) {
+        return Ok(false);
+    }
     let mut behind = 0;
     for field in fields {
         behind += 1;
@@ -79,6 +83,28 @@ fn are_read<'a>(
         }
     }
     Ok(true)
+}
+
+/// Whether one of the fields of a body is a label.
+fn has_labels(fields: &[Field]) -> bool
+    ensures { result ≡ has_labels (plain_body fields.now) }
+{
+    for field in fields {
+        if is_a_label(field) {
+            return true;
+        }
+    }
+    false
+}
+
+/// Whether a field is a label.
+fn is_a_label(field: &Field) -> bool
+    ensures { result ≡ is_a_label (plain_field field.now) }
+{
+    match field {
+        Field::Label(_) => true,
+        _ => false,
+    }
 }
 
 /// The fields from a position on.
@@ -109,6 +135,7 @@ fn is_read<'a>(
         }
         Field::Points(points) => are_points_read(rest, points, notes),
         Field::Fill(..) | Field::Align(_) => Ok(true),
+        Field::Label(_) => Ok(false),
         Field::Array(array) => is_array_read(outermost, array, rest, notes),
         Field::Switch(cases) => are_cases_read(cases.as_slice(), notes),
     }

@@ -1,3 +1,4 @@
+pub mod Joined
 pub mod Stepping
 pub mod Walking
 pub mod Walks

@@ -12,9 +12,9 @@ use Rattle.rz_types_fields.specs.Field.{plain_body, plain_field, PlainBody}
 use Rattle.rz_types_fields.specs.declared.field.Field.{Field}
 use Rattle.rz_types_fields.proofs.Bodies.{body_next}
 use Rattle.rz_types.specs.Rules.{broken}
-use Rattle.rz_types.specs.Walk.{names_of}
+use Rattle.rz_types.specs.Walk.{and_names, names_of, no_names, Own}
 use Rattle.rz_types.specs.declared.rules.TypeFault.{TypeFault}
-use Rattle.rz_types_check.specs.Walked.{all_met, body_met, field_met, met_of, scope_of, within_met, Met, Walks}
+use Rattle.rz_types_check.specs.Walked.{all_met, body_met, field_met, met_of, own_of, scope_of, within_met, Met, Walks}
 use Rattle.rz_types_check.specs.declared.walk.Walk.{Walk}
 use Rattle.rz_types_check.proofs.Walking.{all_checked}
 
@@ -34,7 +34,7 @@ cut_back names more own count is long =
     ∙ ap (λ n. take n (map now_of names ++ own)) (sym (length-map names now_of))
     ∙ take-append_seam (map now_of names) own
 
-module _ (fields : List Field) (i : ℕ) (field : Field) (less : i < length fields) (item : field ≡ get_or fields i field) (scope : List Word) (met : Met) (whole : Result Met TypeFault)
+module _ (fields : List Field) (i : ℕ) (field : Field) (less : i < length fields) (item : field ≡ get_or fields i field) (scope : Own) (met : Met) (whole : Result Met TypeFault)
     (so : body_met scope met (plain_body (drop i fields)) ≡ whole) where
   next_is : (all_met scope met (plain_field field) >>= λ next. body_met scope next (plain_body (drop (i + 1) fields))) ≡ whole
   next_is =
@@ -52,18 +52,18 @@ module _ (fields : List Field) (i : ℕ) (field : Field) (less : i < length fiel
 
 -- The whole walk.
 
-module _ (body : PlainBody) (start : Walk) (here : start.scope.items ≡ []) (none : start.names.items ≡ []) (first : start.position ≡ 0) (known : start.unknown ≡ None) where
+module _ (body : PlainBody) (start : Walk) (here : scope_of start ≡ no_names) (none : own_of start.names ≡ no_names) (first : start.position ≡ 0) (known : start.unknown ≡ None) where
   abbrev end_of : Result Met TypeFault → Result (Unit {0}) TypeFault
   end_of met = met >>= λ met. unless_fault met.unknown (tt {0})
 
-  start_is : end_of (body_met (scope_of start ++ names_of body) (met_of start) body) ≡ unless_fault (broken body) (tt {0})
+  start_is : end_of (body_met (and_names (scope_of start) (names_of body)) (met_of start) body) ≡ unless_fault (broken body) (tt {0})
   start_is =
-      (λ i. end_of (body_met (map now_of (here i) ++ names_of body) (record { position = first i; names = map now_of (none i); unknown = known i }) body)) ∙ all_checked body
+      (λ i. end_of (body_met (and_names (here i) (names_of body)) (record { position = first i; names = none i; unknown = known i }) body)) ∙ all_checked body
 
-  pub check_refused : (new : Walk) (stop : Stop TypeFault) → Walks (body_met (scope_of start ++ names_of body) (met_of start) body) start (Err stop) new
+  pub check_refused : (new : Walk) (stop : Stop TypeFault) → Walks (body_met (and_names (scope_of start) (names_of body)) (met_of start) body) start (Err stop) new
       → Gives (unless_fault (broken body) (tt {0})) (Err stop)
   check_refused new NoMemory is = tt
   check_refused new (Refused fault) is = sym start_is ∙ ap end_of is
 
-  pub check_done : (next : Met) → body_met (scope_of start ++ names_of body) (met_of start) body ≡ Ok next → unless_fault (broken body) (tt {0}) ≡ unless_fault next.unknown (tt {0})
+  pub check_done : (next : Met) → body_met (and_names (scope_of start) (names_of body)) (met_of start) body ≡ Ok next → unless_fault (broken body) (tt {0}) ≡ unless_fault next.unknown (tt {0})
   check_done next is = sym start_is ∙ ap end_of is

@@ -6,32 +6,33 @@ use Rattle.rz_core.specs.Stop.{◌>>=◌}
 use Rattle.rz_core.specs.declared.resource.Word.{Word}
 use Rattle.rz_core.specs.declared.stop.Stop.{Stop}
 use Rattle.rz_core.specs.declared.stop.Stop.TheVariants.{NoMemory, Refused}
-use Rattle.rz_types_fields.specs.Field.{case_and, field_and, no_cases, no_fields, Align, Array, Fill, Number, PlainBody, PlainCases, PlainField, Points, Switch, Text}
+use Rattle.rz_types_fields.specs.Field.{case_and, field_and, no_cases, no_fields, Align, Array, Fill, Label, Number, PlainBody, PlainCases, PlainField, Points, Switch, Text}
 use Rattle.rz_types_fields.specs.Width.{case_keys}
 use Rattle.rz_types_fields.specs.declared.keys.CaseKey.{CaseKey}
 use Rattle.rz_types.specs.Rules.{bad_case, broken_at, kept_position, unknown_at}
-use Rattle.rz_types.specs.Walk.{at_field, names_of, own_names}
+use Rattle.rz_types.specs.Walk.{and_names, at_field, names_of, no_names, own_names, Own}
 use Rattle.rz_types.specs.declared.rules.TypeFault.{TypeFault}
+use Rattle.rz_types_check.specs.declared.names.Names.{Names}
 use Rattle.rz_types_check.specs.declared.walk.Walk.{Walk}
 
--- the position of the next field, the names of the arrays so far, and the first name that can't be named
+-- the position of the next field, the names of the labels and arrays so far, and the first name that can't be named
 pub record Met : Type 0 where
   pub position : ℕ
-  pub names : List Word
+  pub names : Own
   pub unknown : Option TypeFault
 
 abbrev pub nothing_met : Met
-nothing_met = record { position = 0; names = []; unknown = None }
+nothing_met = record { position = 0; names = no_names; unknown = None }
 
 -- one field more
-abbrev pub with_field : List Word → Met → PlainField → Met
+abbrev pub with_field : Own → Met → PlainField → Met
 with_field scope met field = record {
   position = kept_position (met.position + 1);
-  names = met.names ++ own_names field;
+  names = and_names met.names (own_names field);
   unknown = or_else met.unknown (unknown_at (at_field met.position met.names scope field));
 }
 
-abbrev pub field_met : List Word → Met → PlainField → Result Met TypeFault
+abbrev pub field_met : Own → Met → PlainField → Result Met TypeFault
 field_met scope met field = unless_fault (broken_at (at_field met.position met.names scope field)) (with_field scope met field)
 
 -- behind a case
@@ -40,38 +41,42 @@ case_met switch name keys before met = unless_fault (bad_case switch name keys b
 
 abbrev mutual
   -- the fields within a field, which is the switch at this position if it is one
-  pub within_met : List Word → ℕ → Met → PlainField → Result Met TypeFault
+  pub within_met : Own → ℕ → Met → PlainField → Result Met TypeFault
   within_met scope switch met (Number number) = Ok met
   within_met scope switch met (Text text) = Ok met
   within_met scope switch met (Points points) = Ok met
   within_met scope switch met (Fill unit count) = Ok met
   within_met scope switch met (Align unit) = Ok met
-  within_met scope switch met (Array name count row) = body_met (scope ++ names_of row) met row
+  within_met scope switch met (Label name) = Ok met
+  within_met scope switch met (Array name count row) = body_met (and_names scope (names_of row)) met row
   within_met scope switch met (Switch cases) = cases_met scope switch [] met cases
 
-  pub body_met : List Word → Met → PlainBody → Result Met TypeFault
+  pub body_met : Own → Met → PlainBody → Result Met TypeFault
   body_met scope met no_fields = Ok met
   body_met scope met (field_and field fields) =
       field_met scope met field >>= λ next. within_met scope met.position next field >>= λ next. body_met scope next fields
 
-  pub cases_met : List Word → ℕ → List CaseKey → Met → PlainCases → Result Met TypeFault
+  pub cases_met : Own → ℕ → List CaseKey → Met → PlainCases → Result Met TypeFault
   cases_met scope switch keys met no_cases = Ok met
   cases_met scope switch keys met (case_and name row others) =
-      body_met (scope ++ names_of row) met row
+      body_met (and_names scope (names_of row)) met row
       >>= λ next. case_met switch name (case_keys row) keys next
       >>= λ next. cases_met scope switch (keys ++ case_keys row) next others
 
 -- a field, and the fields within it
-abbrev pub all_met : List Word → Met → PlainField → Result Met TypeFault
+abbrev pub all_met : Own → Met → PlainField → Result Met TypeFault
 all_met scope met field = field_met scope met field >>= λ next. within_met scope met.position next field
 
 -- What the code has met.
 
-abbrev pub met_of : Walk → Met
-met_of walk = record { position = walk.position; names = map (λ name. name.now) walk.names.items; unknown = walk.unknown }
+abbrev pub own_of : Names → Own
+own_of names = record { labels = map (λ name. name.now) names.labels.items; arrays = map (λ name. name.now) names.arrays.items }
 
-abbrev pub scope_of : Walk → List Word
-scope_of walk = map (λ name. name.now) walk.scope.items
+abbrev pub met_of : Walk → Met
+met_of walk = record { position = walk.position; names = own_of walk.names; unknown = walk.unknown }
+
+abbrev pub scope_of : Walk → Own
+scope_of walk = own_of walk.scope
 
 -- the call met so much and left the names that may be named, or gave this fault, or memory was refused
 abbrev pub Walks : Result Met TypeFault → Walk → Result (Unit {0}) (Stop TypeFault) → Walk → Type 0

@@ -1,61 +1,80 @@
-//! Arrays that expressions name and that aren't known there. They are defined in `specs/Rules` of `rz_types`.
+//! Labels and arrays that expressions name and that aren't known there. They are defined in `specs/Rules` of `rz_types`.
 
 ghost use Rattle.std.specs.Prelude.{◌≡◌, IfOk, map, option_map};
 ghost use Rattle.rz_core.specs.Lists.{first_of};
 ghost use Rattle.rz_expr.specs.Term.{term_of};
 ghost use Rattle.rz_types_fields.specs.Field.{plain_field};
-ghost use Rattle.rz_types.specs.Rules.{unknown_array, unknown_in};
+ghost use Rattle.rz_types.specs.Rules.{not_among, unknown_in, unknown_name};
+ghost use Rattle.rz_types_check.specs.Walked.{own_of};
 
+use crate::names::Names;
 use crate::rules::is_among;
 use rz_core::{NoMemory, Word};
-use rz_expr::Expr;
+use rz_expr::{Expr, predefined};
 use rz_types_fields::{Field, expressions_of};
 use std::alloc::Global;
 
-/// The first array that a field names and that isn't one of these.
+/// The first label or array that a field names and that isn't one of these.
 pub fn unknown_in<'a>(
     alloc: Global,
-    scope: &[&Word],
+    scope: &Names<'_>,
     field: &'a Field,
 ) -> Result<Option<&'a Word>, NoMemory>
-    ensures { IfOk result (λ name. option_map (λ name. name.now.bytes) name ≡ unknown_in (map (λ name. name.now) scope.now) (plain_field field.now)) }
+    ensures { IfOk result (λ name. option_map (λ name. name.now.bytes) name ≡ unknown_in (own_of scope.now) (plain_field field.now)) }
 {
     let exprs = expressions_of(alloc, field)?;
     Ok(first_unknown(scope, &exprs))
 }
 
-/// The first array that one of these expressions names and that isn't one of these.
-fn first_unknown<'a>(scope: &[&Word], exprs: &[&'a Expr]) -> Option<&'a Word>
+/// The first label or array that one of these expressions names and that isn't one of these.
+fn first_unknown<'a>(scope: &Names<'_>, exprs: &[&'a Expr]) -> Option<&'a Word>
     ensures { option_map (λ name. name.now.bytes) result
-        ≡ first_of (map (unknown_array (map (λ name. name.now) scope.now)) (map (λ expr. term_of expr.now) exprs.now)) }
+        ≡ first_of (map (unknown_name (own_of scope.now)) (map (λ expr. term_of expr.now) exprs.now)) }
 {
     for expr in exprs {
-        if let Some(name) = unknown_array(scope, *expr) {
+        if let Some(name) = unknown_name(scope, *expr) {
             return Some(name);
         }
     }
     None
 }
 
-/// The first array that an expression names and that isn't one of these.
-fn unknown_array<'a>(scope: &[&Word], expr: &'a Expr) -> Option<&'a Word>
-    ensures { option_map (λ name. name.now.bytes) result ≡ unknown_array (map (λ name. name.now) scope.now) (term_of expr.now) }
+/// The first label or array that an expression names and that isn't one of these.
+fn unknown_name<'a>(scope: &Names<'_>, expr: &'a Expr) -> Option<&'a Word>
+    ensures { option_map (λ name. name.now.bytes) result ≡ unknown_name (own_of scope.now) (term_of expr.now) }
 {
     match expr {
-        Expr::Number(_) | Expr::Name(_) | Expr::Fact(_) => None,
-        Expr::Count(name) => {
-            if is_among(name.bytes.as_slice(), scope) {
+        Expr::Number(_) | Expr::Fact(_) => None,
+        Expr::Name(name) => {
+            if predefined(name).is_some() {
                 None
             } else {
-                Some(name)
+                not_among(&scope.labels, name)
             }
         }
-        Expr::Unary(_, operand) => unknown_array(scope, operand),
-        Expr::Bits(_, one, other) | Expr::Binary(_, one, other) => {
-            match unknown_array(scope, one) {
+        Expr::Count(name) => not_among(&scope.arrays, name),
+        Expr::Unary(_, operand) => unknown_name(scope, operand),
+        Expr::Binary(_, one, other) => match unknown_name(scope, one) {
+            Some(name) => Some(name),
+            None => unknown_name(scope, other),
+        },
+        Expr::Bits(name, start, width) => match not_among(&scope.labels, name) {
+            Some(name) => Some(name),
+            None => match unknown_name(scope, start) {
                 Some(name) => Some(name),
-                None => unknown_array(scope, other),
-            }
-        }
+                None => unknown_name(scope, width),
+            },
+        },
+    }
+}
+
+/// The name, where it isn't one of these.
+fn not_among<'a>(names: &[&Word], name: &'a Word) -> Option<&'a Word>
+    ensures { option_map (λ name. name.now.bytes) result ≡ not_among (map (λ name. name.now) names.now) name.now.bytes }
+{
+    if is_among(name.bytes.as_slice(), names) {
+        None
+    } else {
+        Some(name)
     }
 }

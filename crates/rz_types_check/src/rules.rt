@@ -6,10 +6,12 @@ ghost use Rattle.rz_core.specs.Stop.{Gives, seen};
 ghost use Rattle.rz_core.specs.Lists.{or_else};
 ghost use Rattle.rz_types_fields.specs.Field.{plain_body, plain_cases, plain_field, plain_text};
 ghost use Rattle.rz_types_fields.specs.Shape.{is_well_shaped};
-ghost use Rattle.rz_types.specs.Rules.{array_twice, bad_case, bad_place, bad_rows, bad_size, bad_width, case_names, checked, differ, has_other_place, has_other_width, has_same_bits, has_values, key_rule, may_be_count, may_be_rows, may_be_width, name_fault, no_values, repeated, unknown_fault, unless, width_fault};
+ghost use Rattle.rz_types.specs.Rules.{array_twice, bad_case, bad_place, bad_rows, bad_size, bad_width, case_names, checked, differ, has_other_place, has_other_width, has_same_bits, has_values, key_rule, label_twice, may_be_count, may_be_rows, may_be_width, name_fault, no_values, repeated, unknown_fault, unless, width_fault};
 ghost use Rattle.rz_types.specs.Walk.{is_among};
 ghost use Rattle.std.specs.List.{list_any};
+ghost use Rattle.rz_types_check.specs.Walked.{own_of};
 
+use crate::names::Names;
 use crate::walk::check_fields;
 use rz_core::{Kept, NoMemory, Stop, Word};
 use rz_expr::constant_of;
@@ -27,18 +29,21 @@ pub const MOST_KEPT: u64 = 9_223_372_036_854_775_807;
 const MOST_ROWS: i32 = 1_048_576;
 
 /// The template of a body, or the first rule that it breaks. A walk goes over the fields depth first; a field's own
-/// rules come before those of the fields within it, those of a case behind its fields. 231: an array has the name of one
-/// before it (kept: the name). 232: two cases of a switch have one name (kept: the later's). 233: a case hasn't exactly
-/// one key; 234: the keys of a switch have different widths; 235: the fields before a key haven't all a fixed width, or
-/// the keys stand at different distances; 236: two keys have the same bits (kept of each: the name of the case; the field
-/// is the switch). 237: the rows of an array take no value (kept: the position of the field). 238: the width of a
-/// `bitstring` outside 1 to 32, the count of an array outside 0 to 1,048,576, the count of a `fill` outside 0 to
-/// 16,777,212, or a constant size of a text that its type can't have (kept: the value): a `string` has a size from 0 on, a
-/// `pstring` from 0 to 255, a `wstring` from 0 to 65,535, a `cstring` from 1 on; a size that is no constant, or a constant
-/// without a value, breaks no rule. Behind the walk 212: the first array that an expression names and that is none of its
-/// own body and of those around (kept: the name); the size of a text comes before the formats in it. Names are the same in whatever case. The body has the shape of a
-/// declaration: the width of a type that has its own, two or four fixed numbers of points, units that there are, arrays
-/// and switches at most 60 deep in one another, and so on. The walk goes as deep as these stand in one another. (MPW Rez.)
+/// rules come before those of the fields within it, those of a case behind its fields. 230: a label has the name of one
+/// before it; 231: so has an array (kept of each: the name). 232: two cases of a switch have one name (kept: the later's).
+/// 233: a case hasn't exactly one key; 234: the keys of a switch have different widths; 235: the fields before a key
+/// haven't all a fixed width, or the keys stand at different distances; 236: two keys have the same bits (kept of each: the
+/// name of the case; the field is the switch). 237: the rows of an array take no value (kept: the position of the field).
+/// 238: the width of a `bitstring` outside 1 to 32, the count of an array outside 0 to 1,048,576, the count of a `fill`
+/// outside 0 to 16,777,212, or a constant size of a text that its type can't have (kept: the value): a `string` has a size
+/// from 0 on, a `pstring` from 0 to 255, a `wstring` from 0 to 65,535, a `cstring` from 1 on; a size that is no constant, or
+/// a constant without a value, breaks no rule. Behind the walk 212: the first label or array that an expression names and
+/// that is none of its own body and of those around (kept: the name); `true` and `false` are no labels, and the size of a
+/// text comes before the formats in it. Names are the same in whatever case. The body has the shape of a declaration: the
+/// width of a type that has its own, two or four fixed numbers of points, units that there are, arrays and switches at most
+/// 60 deep in one another, and so on. The walk goes as deep as these stand in one another. Each label and each array is
+/// looked for among those before it, and each name in an expression among those that it may name; so is each key among
+/// those of the cases before it. (MPW Rez.)
 pub fn check(alloc: Global, body: Body) -> Result<Template, Stop<TypeFault>>
     requires { is_well_shaped (plain_body body) ≡ true }
     ensures { Gives (checked (plain_body body)) (seen template_of result) }
@@ -52,14 +57,14 @@ pub fn check(alloc: Global, body: Body) -> Result<Template, Stop<TypeFault>>
     }
 }
 
-/// The first rule that a field at this position breaks itself, behind arrays of these names.
+/// The first rule that a field at this position breaks itself, behind labels and arrays of these names.
 pub fn broken_field(
     alloc: Global,
     position: u64,
-    before: &[&Word],
+    before: &Names<'_>,
     field: &Field,
 ) -> Result<Option<TypeFault>, NoMemory>
-    ensures { IfOk result (λ fault. fault ≡ or_else (bad_place position (map (λ name. name.now) before.now) (plain_field field.now))
+    ensures { IfOk result (λ fault. fault ≡ or_else (bad_place position (own_of before.now) (plain_field field.now))
         (option_map (width_fault position) (bad_width (plain_field field.now)))) }
 {
     match bad_place(alloc, position, before, field)? {
@@ -75,18 +80,35 @@ pub fn broken_field(
 fn bad_place(
     alloc: Global,
     position: u64,
-    before: &[&Word],
+    before: &Names<'_>,
     field: &Field,
 ) -> Result<Option<TypeFault>, NoMemory>
-    ensures { IfOk result (λ fault. fault ≡ bad_place position (map (λ name. name.now) before.now) (plain_field field.now)) }
+    ensures { IfOk result (λ fault. fault ≡ bad_place position (own_of before.now) (plain_field field.now)) }
 {
     match field {
-        Field::Array(array) => match array_twice(alloc, position, before, &array.name)? {
+        Field::Label(name) => label_twice(alloc, position, &before.labels, name),
+        Field::Array(array) => match array_twice(alloc, position, &before.arrays, &array.name)? {
             Some(fault) => Ok(Some(fault)),
             None => Ok(no_values(position, array.row.as_slice())),
         },
         Field::Switch(cases) => case_twice(alloc, position, cases.as_slice()),
         _ => Ok(None),
+    }
+}
+
+/// 230 for a label whose name one before it has.
+fn label_twice(
+    alloc: Global,
+    position: u64,
+    before: &[&Word],
+    name: &Word,
+) -> Result<Option<TypeFault>, NoMemory>
+    ensures { IfOk result (λ fault. fault ≡ label_twice position (map (λ name. name.now) before.now) name.now) }
+{
+    if is_among(name.bytes.as_slice(), before) {
+        Ok(Some(name_fault(alloc, 230, position, name)?))
+    } else {
+        Ok(None)
     }
 }
 
@@ -262,7 +284,7 @@ fn name_fault(alloc: Global, number: u16, position: u64, name: &Word) -> Result<
     })
 }
 
-/// 212 for an array that a field at this position can't name.
+/// 212 for a label or an array that a field at this position can't name.
 pub fn unknown_fault(alloc: Global, position: u64, name: &Word) -> Result<TypeFault, NoMemory>
     ensures { IfOk result (λ fault. fault ≡ unknown_fault position name.now.bytes) }
 {
@@ -289,7 +311,7 @@ fn bad_width(field: &Field) -> Option<i32>
         Field::Text(text) => bad_size(text),
         Field::Fill(_, count) => unless(may_be_count(*count), *count),
         Field::Array(array) => bad_rows(array.count),
-        Field::Points(_) | Field::Align(_) | Field::Switch(_) => None,
+        Field::Points(_) | Field::Align(_) | Field::Label(_) | Field::Switch(_) => None,
     }
 }
 

@@ -1,17 +1,17 @@
 //! The walk over the fields of a declaration, depth first. Its steps are in `specs/Walked`.
 
-ghost use Rattle.std.specs.Prelude.{IfOk, OnOk, ◌≡◌, ◌+◌, ◌++◌, [], map, option_map};
-ghost use Rattle.std.specs.Option.{option_to_list};
+ghost use Rattle.std.specs.Prelude.{IfOk, OnOk, ◌≡◌, ◌+◌, ◌++◌, [], option_map};
 ghost use Rattle.rz_core.specs.Stop.{Gives};
 ghost use Rattle.rz_core.specs.Lists.{unless_fault};
 ghost use Rattle.rz_types_fields.specs.Field.{plain_body, plain_cases, plain_field};
 ghost use Rattle.rz_types.specs.Rules.{broken, kept_position, unknown_fault, unknown_in};
-ghost use Rattle.rz_types.specs.Walk.{names_of, own_names};
-ghost use Rattle.rz_types_check.specs.Walked.{all_met, body_met, cases_met, field_met, met_of, scope_of, Walks};
+ghost use Rattle.rz_types.specs.Walk.{and_names, names_of};
+ghost use Rattle.rz_types_check.specs.Walked.{all_met, body_met, cases_met, field_met, met_of, own_of, scope_of, Walks};
 
 use crate::named::unknown_in;
+use crate::names::{Names, no_names, push_name, push_names};
 use crate::rules::{MOST_KEPT, broken_behind, broken_field, unknown_fault};
-use rz_core::{NoMemory, Stop, Word};
+use rz_core::{NoMemory, Stop};
 use rz_types::TypeFault;
 use rz_types_fields::{Case, CaseKey, Field, case_keys};
 use std::alloc::Global;
@@ -21,10 +21,10 @@ use std::alloc::Global;
 pub struct Walk<'a> {
     /// The position of the next field, from 0, at most 2^63 - 1.
     pub position: u64,
-    /// The names of the arrays so far.
-    pub names: Vec<&'a Word>,
-    /// Those of the arrays that may be named here: of this body, and of the bodies around.
-    pub scope: Vec<&'a Word>,
+    /// The names of the labels and arrays so far.
+    pub names: Names<'a>,
+    /// Those that may be named here: of this body, and of the bodies around.
+    pub scope: Names<'a>,
     /// The first name that a field can't name.
     pub unknown: Option<TypeFault>,
 }
@@ -35,8 +35,8 @@ pub fn check_fields(alloc: Global, fields: &[Field]) -> Result<(), Stop<TypeFaul
 {
     let mut walk = Walk {
         position: 0,
-        names: Vec::new(alloc),
-        scope: Vec::new(alloc),
+        names: no_names(alloc),
+        scope: no_names(alloc),
         unknown: None,
     };
     match walk_body(alloc, fields, &mut walk) {
@@ -55,22 +55,24 @@ pub fn check_fields(alloc: Global, fields: &[Field]) -> Result<(), Stop<TypeFaul
     }
 }
 
-/// Walks over a body: its fields may name its arrays too.
+/// Walks over a body: its fields may name its labels and arrays too.
 #[cycle(walk)]
 fn walk_body<'a>(
     alloc: Global,
     row: &'a [Field],
     walk: &mut Walk<'a>,
 ) -> Result<(), Stop<TypeFault>>
-    ensures { Walks (body_met (scope_of walk.old ++ names_of (plain_body row.now)) (met_of walk.old) (plain_body row.now)) walk.old result walk.new }
+    ensures { Walks (body_met (and_names (scope_of walk.old) (names_of (plain_body row.now))) (met_of walk.old) (plain_body row.now)) walk.old result walk.new }
 {
-    let around = walk.scope.len();
+    let labels = walk.scope.labels.len();
+    let arrays = walk.scope.arrays.len();
     push_names(&mut walk.scope, row)?;
     match walk_fields(alloc, row, walk) {
         Ok(()) => {}
         Err(stop) => return Err(stop),
     }
-    walk.scope.truncate(around);
+    walk.scope.labels.truncate(labels);
+    walk.scope.arrays.truncate(arrays);
     Ok(())
 }
 
@@ -157,10 +159,10 @@ fn meet<'a>(alloc: Global, field: &'a Field, walk: &mut Walk<'a>) -> Result<(), 
 fn unknown_here(
     alloc: Global,
     position: u64,
-    scope: &[&Word],
+    scope: &Names<'_>,
     field: &Field,
 ) -> Result<Option<TypeFault>, NoMemory>
-    ensures { IfOk result (λ fault. fault ≡ option_map (unknown_fault position) (unknown_in (map (λ name. name.now) scope.now) (plain_field field.now))) }
+    ensures { IfOk result (λ fault. fault ≡ option_map (unknown_fault position) (unknown_in (own_of scope.now) (plain_field field.now))) }
 {
     match unknown_in(alloc, scope, field)? {
         Some(name) => Ok(Some(unknown_fault(alloc, position, name)?)),
@@ -175,36 +177,6 @@ fn next_position(position: u64) -> u64
         position + 1
     } else {
         MOST_KEPT
-    }
-}
-
-/// Appends the names of the arrays of a body.
-fn push_names<'a>(names: &mut Vec<&'a Word>, row: &'a [Field]) -> Result<(), NoMemory>
-    ensures { OnOk result (map (λ name. name.now) names.new.items ≡ map (λ name. name.now) names.old.items ++ names_of (plain_body row.now)) }
-{
-    for field in row {
-        push_name(names, field)?;
-    }
-    Ok(())
-}
-
-/// Appends the name of an array.
-fn push_name<'a>(names: &mut Vec<&'a Word>, field: &'a Field) -> Result<(), NoMemory>
-    ensures { OnOk result (map (λ name. name.now) names.new.items ≡ map (λ name. name.now) names.old.items ++ own_names (plain_field field.now)) }
-{
-    if let Some(name) = own_name(field) {
-        names.push(name)?;
-    }
-    Ok(())
-}
-
-/// The name of an array.
-fn own_name(field: &Field) -> Option<&Word>
-    ensures { option_to_list (option_map (λ name. name.now) result) ≡ own_names (plain_field field.now) }
-{
-    match field {
-        Field::Array(array) => array.name.as_ref(),
-        _ => None,
     }
 }
 

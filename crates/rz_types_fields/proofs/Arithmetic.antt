@@ -11,7 +11,7 @@ use Rattle.rz_core.specs.declared.fault.Mark.{Mark}
 use Rattle.rz_core.specs.declared.stop.Stop.{Stop}
 use Rattle.rz_core.specs.declared.stop.Stop.TheVariants.{NoMemory, Refused}
 use Rattle.rz_expr.specs.Constant.{constant_sight, is_constant}
-use Rattle.rz_expr.specs.Environment.{count_key, place_key, predefined, Environment, Sight}
+use Rattle.rz_expr.specs.Environment.{place_key, predefined, Environment, Sight}
 use Rattle.rz_expr.specs.Term.{BitsAt, Constant, FactOf, Named, OfOne, OfTwo, RowsOf, Term}
 use Rattle.rz_expr.specs.Value.{divided, is_zero, known_value, operate, operate_one, reduced, shifted, value_of}
 use Rattle.rz_expr.specs.declared.expr.BinaryOp.{BinaryOp}
@@ -19,7 +19,7 @@ use Rattle.rz_expr.specs.declared.expr.BinaryOp.TheVariants as two
 use Rattle.rz_expr.specs.declared.value.EvalFault.{EvalFault}
 use Rattle.rz_expr.specs.declared.value.EvalFault.TheVariants.{BadShift, ZeroDivisor}
 use Rattle.rz_expr.proofs.Cases.{same_value}
-use Rattle.rz_types_fields.specs.Value.{constant_value, field_sight, is_field_expression, is_fixed_expression, number_of, with_fault, IsArithmetic, IsArithmeticFault}
+use Rattle.rz_types_fields.specs.Value.{constant_value, field_sight, is_field_expression, number_of, with_fault, IsArithmetic, IsArithmeticFault}
 
 chained : (first : Result ℤ EvalFault) (next : ℤ → Result ℤ EvalFault) → IsArithmetic first → ((x : ℤ) → IsArithmetic (next x)) → IsArithmetic (first >>= next)
 chained (Ok x) next one rest = rest x
@@ -72,60 +72,20 @@ something None is = absurd cc
 abbrev pub KnowsWords : Environment → Type 0
 KnowsWords names = (name : List ℕ) (value : ℤ) → predefined name ≡ Some value → (given : ℤ) × (names.give (place_key name) ≡ Some given)
 
--- each array that an expression names has a number of rows
-abbrev pub KnowsArrays : Environment → Term → Type 0
-KnowsArrays names (Constant number) = Unit {0}
-KnowsArrays names (Named name) = Unit {0}
-KnowsArrays names (RowsOf name) = (rows : ℤ) × (names.give (count_key name) ≡ Some rows)
-KnowsArrays names (BitsAt name start width) = Unit {0}
-KnowsArrays names (FactOf which) = Unit {0}
-KnowsArrays names (OfOne op operand) = KnowsArrays names operand
-KnowsArrays names (OfTwo op left right) = KnowsArrays names left × KnowsArrays names right
-
--- an expression of a fixed value
-pub sight_sound : (sight : Sight) → KnowsWords sight.names → (term : Term) → is_fixed_expression term ≡ true → KnowsArrays sight.names term → IsArithmetic (value_of term sight)
-sight_sound sight gives (Constant number) is known = tt
-sight_sound sight gives (Named name) is known =
+pub sound : (sight : Sight) → KnowsWords sight.names → (term : Term) → is_field_expression term ≡ true → IsArithmetic (value_of term sight)
+sound sight gives (Constant number) is = tt
+sound sight gives (Named name) is =
     let own = something (predefined name) is in
     let given = gives name own.0 own.1 in
     given_sound name (sight.names.give (place_key name)) given.0 given.1
-sight_sound sight gives (RowsOf name) is known = given_sound name (sight.names.give (count_key name)) known.0 known.1
-sight_sound sight gives (BitsAt name start width) is known = absurd cc
-sight_sound sight gives (FactOf which) is known = tt
-sight_sound sight gives (OfOne op operand) is known =
-    chained (value_of operand sight) (λ value. Ok (operate_one op value)) (sight_sound sight gives operand is known) (λ x. tt)
-sight_sound sight gives (OfTwo op left right) is known =
-    let each = both (is_fixed_expression left) (is_fixed_expression right) is in
-    chained (value_of left sight) (λ one. value_of right sight >>= λ other. operate op one other) (sight_sound sight gives left each.0 known.0)
-    (λ one. chained (value_of right sight) (λ other. operate op one other) (sight_sound sight gives right each.1 known.1)
-    (λ other. operate_sound op one other))
-
--- An expression of a size is one of a fixed value that names no array.
-
-field_is_fixed : (term : Term) → is_field_expression term ≡ true → is_fixed_expression term ≡ true
-field_is_fixed (Constant number) is = refl
-field_is_fixed (Named name) is = is
-field_is_fixed (RowsOf name) is = absurd cc
-field_is_fixed (BitsAt name start width) is = absurd cc
-field_is_fixed (FactOf which) is = is
-field_is_fixed (OfOne op operand) is = field_is_fixed operand is
-field_is_fixed (OfTwo op left right) is =
+sound sight gives (RowsOf name) is = absurd cc
+sound sight gives (BitsAt name start width) is = absurd cc
+sound sight gives (FactOf which) is = tt
+sound sight gives (OfOne op operand) is = chained (value_of operand sight) (λ value. Ok (operate_one op value)) (sound sight gives operand is) (λ x. tt)
+sound sight gives (OfTwo op left right) is =
     let each = both (is_field_expression left) (is_field_expression right) is in
-    and_so (is_fixed_expression left) (is_fixed_expression right) (field_is_fixed left each.0) (field_is_fixed right each.1)
-
-names_none : (names : Environment) (term : Term) → is_field_expression term ≡ true → KnowsArrays names term
-names_none names (Constant number) is = tt
-names_none names (Named name) is = tt
-names_none names (RowsOf name) is = absurd cc
-names_none names (BitsAt name start width) is = tt
-names_none names (FactOf which) is = tt
-names_none names (OfOne op operand) is = names_none names operand is
-names_none names (OfTwo op left right) is =
-    let each = both (is_field_expression left) (is_field_expression right) is in
-    (names_none names left each.0, names_none names right each.1)
-
-pub sound : (sight : Sight) → KnowsWords sight.names → (term : Term) → is_field_expression term ≡ true → IsArithmetic (value_of term sight)
-sound sight gives term is = sight_sound sight gives term (field_is_fixed term is) (names_none sight.names term is)
+    chained (value_of left sight) (λ one. value_of right sight >>= λ other. operate op one other) (sound sight gives left each.0)
+    (λ one. chained (value_of right sight) (λ other. operate op one other) (sound sight gives right each.1) (λ other. operate_sound op one other))
 
 facts_see : (known : Facts) → KnowsWords (field_sight known []).names
 facts_see known = λ name value is. (value, sym (same_value name) ∙ is)

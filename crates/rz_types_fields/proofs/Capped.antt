@@ -1,7 +1,7 @@
 -- Widths that are capped at each step are as good as widths that are capped once.
 use Rattle.std.proofs.Common.{◌≡◌, ℕ, ◌+◌, ◌<◌, List, [], ◌∷◌, ◌++◌, length, get_or, drop, Option, Some, None, refl, sym, ap, ◌∙◌, append_assoc, arith}
 use Rattle.std.specs.Prelude.{if◌then◌else◌, nat_abs, option_map}
-use Rattle.rz_types_fields.specs.Field.{field_and, no_fields, plain_body, plain_field, Align, Array, Fill, Number, PlainBody, PlainField, Points, Switch, Text}
+use Rattle.rz_types_fields.specs.Field.{field_and, no_fields, plain_body, plain_field, Align, Array, Fill, Label, Number, PlainBody, PlainField, Points, Switch, Text}
 use Rattle.rz_types_fields.specs.Width.{capped, case_keys, field_key, fixed_width, key_bits, keys_from, plus}
 use Rattle.rz_types_fields.specs.declared.field.Field.{Field}
 use Rattle.rz_types_fields.specs.declared.keys.CaseKey.{CaseKey}
@@ -29,6 +29,7 @@ field_same one other (Text text) same = refl
 field_same one other (Points points) same = refl
 field_same one other (Fill unit count) same = refl
 field_same one other (Align unit) same = refl
+field_same one other (Label name) same = refl
 field_same one other (Array name count row) same = refl
 field_same one other (Switch cases) same = refl
 

@@ -1,21 +1,20 @@
 -- What is known of names behind one note more.
-use Rattle.std.proofs.Common.{◌≡◌, ℕ, suc, ◌+◌, ◌-◌, ◌%◌, ◌<◌, ◌||◌, Bool, false, ℤ, pos, negsuc, List, [], ◌∷◌, ◌++◌, length, get_or, take, Option, Some, None, refl, sym, ap, ◌∙◌, append_assoc, arith, w32, w64}
+use Rattle.std.proofs.Common.{◌≡◌, ℕ, suc, ◌+◌, ◌-◌, ◌%◌, ◌<◌, Bool, false, ℤ, pos, negsuc, List, [], ◌∷◌, ◌++◌, length, get_or, take, Option, Some, None, refl, sym, ap, ◌∙◌, append_assoc, arith, w32, w64}
 use Rattle.std.specs.Prelude.{if◌then◌else◌}
 use Rattle.std.specs.Int.{cast_signed, cast_unsigned, int_wrap}
 use Rattle.std.specs.Int.RustNames.{FitsSigned}
-use Rattle.std.specs.Str.{str_to_ascii_lowercase}
 use Rattle.std.proofs.Math.Nat.{mod-eq_of_lt, mod-lt}
 use Rattle.std.proofs.Math.Seq.{take-append_seam}
 use Rattle.std.proofs.lemmas.List.{take_more}
+use Rattle.rz_core.specs.Lists.{or_else}
 use Rattle.rz_core.specs.declared.resource.Word.{Word}
 use Rattle.rz_expr.specs.Environment.{place_key, place_of, predefined, Key}
 use Rattle.rz_expr.specs.Value.{reduced}
 use Rattle.rz_expr.proofs.Cases.{same_value}
-use Rattle.rz_types_fields.specs.Field.{field_and, no_fields, plain_body, Align, Array, Fill, Number, PlainBody, PlainField, Points, Switch, Text}
-use Rattle.rz_types_fields.specs.Passed.{declares, gives_count, gives_key, outside}
-use Rattle.rz_types_fields.specs.Known.{known, noted, noting, stated_in, Grew}
+use Rattle.rz_types_fields.specs.Field.{field_and, no_fields, Align, Array, Fill, Label, Number, PlainBody, Points, Switch, Text}
+use Rattle.rz_types_fields.specs.Passed.{declares, gives_count, outside}
+use Rattle.rz_types_fields.specs.Known.{known, noted, noting, stated_in, stated_value, Grew}
 use Rattle.rz_types_fields.specs.declared.names.Note.{Note}
-use Rattle.rz_types_fields.specs.declared.names.Note.TheVariants.{Counted, Entered, Told}
 
 -- Numbers of 64 bits.
 
@@ -62,34 +61,33 @@ cut_back old new note count long grew =
 pub grew_more : {A : Type 0} (old mid new : List A) → Grew old mid → Grew mid new → Grew old new
 grew_more old mid new one other = (one.0 ++ other.0, other.1 ∙ ap (λ (front : List _). front ++ other.0) one.1 ∙ append_assoc old one.0 other.0)
 
--- Names by themselves.
+-- No number of rows that is stated is that of a label.
 
-gives_none : (name : Option Word) (place : List ℕ) → gives_count name (place_of place) ≡ false
-gives_none None place = refl
-gives_none (Some name) place = refl
+counts_none : (name : Option Word) (place : List ℕ) → gives_count name (place_of place) ≡ false
+counts_none None place = refl
+counts_none (Some name) place = refl
 
-key_none : (field : PlainField) (place : List ℕ) → gives_key field (place_of place) ≡ false
-key_none (Number number) place = refl
-key_none (Text text) place = refl
-key_none (Points points) place = refl
-key_none (Fill unit count) place = refl
-key_none (Align unit) place = refl
-key_none (Array name count row) place = gives_none name place
-key_none (Switch cases) place = refl
+stated_none : (name : Option Word) (count : Option ℤ) (place : List ℕ) → stated_value name count (place_of place) ≡ None
+stated_none name None place = refl
+stated_none name (Some rows) place = ap (λ (test : Bool). if test then Some rows else None) (counts_none name place)
 
-declares_none : (body : PlainBody) (place : List ℕ) → declares body (place_of place) ≡ false
-declares_none no_fields place = refl
-declares_none (field_and field fields) place = λ i. key_none field place i || declares_none fields place i
+pub no_stated : (body : PlainBody) (place : List ℕ) → stated_in body (place_of place) ≡ None
+no_stated no_fields place = refl
+no_stated (field_and (Number number) fields) place = no_stated fields place
+no_stated (field_and (Text text) fields) place = no_stated fields place
+no_stated (field_and (Points points) fields) place = no_stated fields place
+no_stated (field_and (Fill unit count) fields) place = no_stated fields place
+no_stated (field_and (Align unit) fields) place = no_stated fields place
+no_stated (field_and (Label name) fields) place = no_stated fields place
+no_stated (field_and (Array name count row) fields) place =
+    ap (λ (stated : Option ℤ). or_else stated (stated_in fields (place_of place))) (stated_none name count place) ∙ no_stated fields place
+no_stated (field_and (Switch cases) fields) place = no_stated fields place
 
-noting_place : (note : Note) (place : List ℕ) (other : Option ℤ) → noting note (place_of place) other ≡ other
-noting_place (Told name rows) place other = refl
-noting_place (Counted name rows) place other = refl
-noting_place (Entered fields) place other =
-    ap (λ (test : Bool). if test then stated_in (plain_body fields.now) (place_of place) else other) (declares_none (plain_body fields.now) place)
+-- so a body that was entered gives a label no place, or hides none
+pub entered_place : (body : PlainBody) (place : List ℕ) (before : Option ℤ)
+    → (if declares body (place_of place) then stated_in body (place_of place) else before) ≡ (if declares body (place_of place) then None else before)
+entered_place body place before = ap (λ (stated : Option ℤ). if declares body (place_of place) then stated else before) (no_stated body place)
 
-noted_place : (other : Option ℤ) (notes : List Note) (place : List ℕ) → noted other notes (place_of place) ≡ other
-noted_place other [] place = refl
-noted_place other (note ∷ notes) place = ap (λ (o : Option ℤ). noted o notes (place_of place)) (noting_place note place other) ∙ noted_place other notes place
-
-pub place_is : (notes : List Note) (name : List ℕ) → predefined name ≡ (known notes).give (place_key name)
-place_is notes name = same_value name ∙ sym (noted_place (outside.give (place_key name)) notes (str_to_ascii_lowercase name))
+-- the value of `true` and `false`
+pub place_outside : (name : List ℕ) → predefined name ≡ outside.give (place_key name)
+place_outside name = same_value name

@@ -43,6 +43,7 @@ mutual
     Points : (points : PlainPoints) → PlainField
     Fill : (unit : ℕ) (count : ℤ) → PlainField
     Align : (unit : ℕ) → PlainField
+    Label : (name : Word) → PlainField
     Array : (name : Option Word) (count : Option ℤ) (row : PlainBody) → PlainField
     Switch : (cases : PlainCases) → PlainField
 
@@ -93,6 +94,7 @@ takes_value (Text text) = is_none text.fixed
 takes_value (Points points) = is_none points.fixed
 takes_value (Fill unit count) = false
 takes_value (Align unit) = false
+takes_value (Label name) = false
 takes_value (Array name count row) = true
 takes_value (Switch cases) = true
 
@@ -110,6 +112,7 @@ field_step (Field-F.Text field) = Text (plain_text field)
 field_step (Field-F.Points field) = Points (plain_points field)
 field_step (Field-F.Fill unit count) = Fill unit count
 field_step (Field-F.Align unit) = Align unit
+field_step (Field-F.Label name) = Label name
 field_step (Field-F.Array array) = array
 field_step (Field-F.Switch cases) = Switch (cases_of cases)
 

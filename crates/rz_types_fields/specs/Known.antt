@@ -1,13 +1,13 @@
--- The numbers of rows that names have, as the code notes them.
+-- The numbers of rows and the places that names have, as the code notes them.
 use Rattle.std.specs.Prelude.{◌≡◌, ℤ, if◌then◌else◌, List, [], ◌∷◌, ◌++◌, Option, Some, None}
 use Rattle.rz_core.specs.Lists.{or_else}
 use Rattle.rz_core.specs.declared.resource.Word.{Word}
 use Rattle.rz_expr.specs.Environment.{count_key, Environment, Key}
 use Rattle.rz_types_fields.specs.Field.{field_and, no_fields, plain_body, Array, PlainBody, PlainField}
 use Rattle.rz_types_fields.specs.Solve.{is_same_key}
-use Rattle.rz_types_fields.specs.Passed.{counts_rows, declares, outside, states_count}
+use Rattle.rz_types_fields.specs.Passed.{counts_rows, declares, outside, stands_at, states_count}
 use Rattle.rz_types_fields.specs.declared.names.Note.{Note}
-use Rattle.rz_types_fields.specs.declared.names.Note.TheVariants.{Counted, Entered, Told}
+use Rattle.rz_types_fields.specs.declared.names.Note.TheVariants.{Counted, Entered, Placed, Told}
 
 -- At the front of a body.
 
@@ -31,10 +31,11 @@ stated_by field key = None
 -- Notes.
 
 -- the value of a key behind one note more, where it has another before it: a number told it, rows of an array were read or are
--- laid, or a body was entered, whose own names hide those outside
+-- laid, a label was laid, or a body was entered, whose own names hide those outside
 abbrev pub noting : Note → Key → Option ℤ → Option ℤ
 noting (Told name rows) key other = if is_same_key (count_key name.now.bytes) key then Some rows else other
 noting (Counted name rows) key other = if counts_rows name.now.bytes key then Some rows else other
+noting (Placed name at) key other = if stands_at name.now.bytes key then Some at else other
 noting (Entered fields) key other = if declares (plain_body fields.now) key then stated_in (plain_body fields.now) key else other
 
 -- behind all notes, the oldest first

@@ -1,6 +1,7 @@
--- The bytes that a row gives, field by field, or the first refusal. (MPW Rez.)
-use Rattle.std.specs.Prelude.{◌≡◌, ℕ, ◌+◌, ◌/◌, min, ℤ, pos, nat_abs, nat_lt, not, Bool, true, false, if◌then◌else◌, List, [], ◌∷◌, ◌++◌, length, map, Option, Some, None, option_map, Ok, Err}
-use Rattle.std.specs.Option.{is_none}
+-- The bytes that a row gives, field by field and then the late numbers, or the first refusal. (MPW Rez.)
+use Rattle.std.specs.Prelude.{◌≡◌, ℕ, ◌+◌, ◌/◌, min, ℤ, pos, nat_abs, nat_le, nat_lt, not, Bool, true, false, if◌then◌else◌, List, [], ◌∷◌, ◌++◌, length, map, take, drop, replicate, Option, Some, None, option_map, Ok, Err}
+use Rattle.std.specs.List.{list_any}
+use Rattle.std.specs.Option.{is_none, is_some}
 use Rattle.std.specs.declared.result.Result.{Result}
 use Rattle.rz_core.specs.Lists.{first_of, unless_fault}
 use Rattle.rz_core.specs.Stop.{◌>>=◌}
@@ -9,20 +10,21 @@ use Rattle.rz_core.specs.declared.resource.Word.{Word}
 use Rattle.rz_core.specs.declared.fault.Fault.{Fault}
 use Rattle.rz_core.specs.declared.fault.Kept.{Kept}
 use Rattle.rz_core.specs.declared.fault.Kept.TheVariants as kept
-use Rattle.rz_expr.specs.Environment.{Environment}
+use Rattle.rz_expr.specs.Environment.{Environment, Sight}
 use Rattle.rz_expr.specs.Term.{Term}
 use Rattle.rz_expr.specs.Value.{value_of}
 use Rattle.rz_expr.specs.declared.value.EvalFault.{EvalFault}
 use Rattle.rz_expr.specs.declared.value.EvalFault.TheVariants.{BadShift, DataWidth, LaterData, UnknownName, ZeroDivisor}
 use Rattle.rz_bits.specs.Bits.{bits_of, bytes_of, number_bits}
 use Rattle.rz_bits.specs.BitBuf.{filled, missing, zeros}
-use Rattle.rz_types_fields.specs.Field.{case_and, field_and, no_cases, no_fields, takes_value, Align, Array, Fill, Number, PlainBody, PlainCases, PlainField, PlainNumber, PlainText, Points, Switch, Text}
+use Rattle.rz_types_fields.specs.Field.{case_and, field_and, no_cases, no_fields, takes_value, Align, Array, Fill, Label, Number, PlainBody, PlainCases, PlainField, PlainText, Points, Switch, Text}
+use Rattle.rz_types_fields.specs.Known.{names_inside}
 use Rattle.rz_types_fields.specs.Range.{fits_number, may_be_size}
-use Rattle.rz_types_fields.specs.Passed.{gives_count, outside}
-use Rattle.rz_types_fields.specs.Piece.{pieces_of, Filler, OneNumber, OneText, Piece, Zeros}
+use Rattle.rz_types_fields.specs.Passed.{declares, gives_count, outside, stands_at, Names}
+use Rattle.rz_types_fields.specs.Piece.{pieces_of, terms_of_text, Filler, OneNumber, OneText, Piece, Place, Zeros}
+use Rattle.rz_types_fields.specs.Sees.{beside, names_later, sees, Late}
 use Rattle.rz_types_fields.specs.Stored.{is_too_long, stored_number, stored_text}
 use Rattle.rz_types_fields.specs.Text.{bytes_seen, text_terms, PlainPart}
-use Rattle.rz_types_fields.specs.Value.{no_bits, see}
 use Rattle.rz_types_fields.specs.declared.field.NumForm.{NumForm}
 use Rattle.rz_types_fields.specs.declared.field.TextForm.{TextForm}
 use Rattle.rz_types_fields.specs.Row.{IsRow}
@@ -46,18 +48,39 @@ most_kept = 9223372036854775807
 abbrev pub one_more : ℕ → ℕ
 one_more count = if nat_lt count most_kept then count + 1 else count
 
--- What is laid so far: the number of pieces, their bits, and the values that names have there.
+-- A number that is computed after all others: its piece, the place of its bits, its type and width, its expression, and what the
+-- names in it have in the end by those of the body that is being laid.
+pub record LateNumber : Type 0 where
+  pub piece : ℕ
+  pub at : ℕ
+  pub form : NumForm
+  pub width : ℤ
+  pub term : Term
+  pub names : Environment → Environment
+
+-- What is laid so far: the number of pieces, their bits, which are zero where they are late, a mark for each bit that says
+-- whether it is late, the values that names have there, and the late numbers.
 pub record Draft : Type 0 where
   pub piece : ℕ
   pub bits : List Bool
+  pub late : Late
   pub known : Environment
+  pub numbers : List LateNumber
 
 abbrev pub nothing_laid : Draft
-nothing_laid = record { piece = 0; bits = []; known = outside }
+nothing_laid = record { piece = 0; bits = []; late = []; known = outside; numbers = [] }
+
+-- what an expression sees behind what is laid so far: all bits but those of late numbers
+abbrev pub draft_sight : Facts → Draft → Sight
+draft_sight known draft = beside draft.late (sees known draft.bits draft.known (length draft.bits))
+
+-- a name has a value there
+abbrev pub met_in : Environment → Names
+met_in names key = is_some (names.give key)
 
 -- Values and their refusals.
 
--- why an expression of a field has no value: 211 and 215; a field's expression has no other fault
+-- why an expression of a field has no value: 211, 213 and 215; a field's expression names nothing that has no value
 abbrev pub value_refusal : ℕ → EvalFault → Refusal
 value_refusal piece ZeroDivisor = refusal 211 piece (pos 0)
 value_refusal piece (UnknownName word) = refusal 203 piece (pos 0)
@@ -69,8 +92,10 @@ abbrev pub valued : ℕ → Result ℤ EvalFault → Result ℤ Refusal
 valued piece (Ok value) = Ok value
 valued piece (Err fault) = Err (value_refusal piece fault)
 
-abbrev pub value_in : ℕ → Facts → Environment → Term → Result ℤ Refusal
-value_in piece known names term = valued piece (value_of term (see known no_bits names))
+-- bits in bounds are missing where they are late
+abbrev pub reads_late : ℕ → EvalFault → Bool
+reads_late at (LaterData (pos first) (pos end)) = nat_le end at
+reads_late at fault = false
 
 -- what a value is: a number, bytes, rows, the name of a case and its row
 abbrev pub number_of_tree : Tree-F Tree → ℕ
@@ -109,24 +134,42 @@ line_in (Some value) = line_of_tree (out-Tree value)
 abbrev pub unless : Bool → Refusal → Option Refusal
 unless holds fault = if holds then None else Some fault
 
--- the number that stands for the value of an expression, which is in the range of the field: 207
-abbrev pub fixed_number : ℕ → Facts → Environment → NumForm → ℤ → Term → Result ℕ Refusal
-fixed_number piece known names form width term =
-    value_in piece known names term >>= λ v. unless_fault (unless (fits_number form width v) (refusal 207 piece v)) (stored_number (nat_abs width) v)
+-- the bits of a value, which is in the range of the field: 207
+abbrev pub ranged : ℕ → NumForm → ℤ → ℤ → Result (List Bool) Refusal
+ranged piece form width value =
+    unless_fault (unless (fits_number form width value) (refusal 207 piece value)) (number_bits (nat_abs width) (stored_number (nat_abs width) value))
 
--- the number of a field: the row's, or that of its expression
-abbrev pub number_given : ℕ → Facts → Environment → NumForm → ℤ → Option Term → Option Tree → Result ℕ Refusal
-number_given piece known names form width None value = Ok (number_in value)
-number_given piece known names form width (Some term) value = fixed_number piece known names form width term
+-- what the first pass makes of a piece: its bits, or a number that is left for later
+pub data Form : Type 0 where
+  now : (bits : List Bool) → Form
+  later : (form : NumForm) (width : ℤ) (term : Term) → Form
 
-abbrev pub number_laid : ℕ → Facts → Environment → PlainNumber → Option Tree → Result (List Bool) Refusal
-number_laid piece known names number value =
-    number_given piece known names number.form number.width number.fixed value >>= λ n. Ok (number_bits (nat_abs number.width) n)
+abbrev pub fixed_form : Draft → NumForm → ℤ → Term → Result ℤ EvalFault → Result Form Refusal
+fixed_form draft form width term (Ok value) = ranged draft.piece form width value >>= λ bits. Ok (now bits)
+fixed_form draft form width term (Err fault) =
+    if reads_late (length draft.bits) fault then Ok (later form width term) else Err (value_refusal draft.piece fault)
+
+-- the number of a field: the row's, or that of its expression, which is left for later where it names a label that stands later,
+-- or where it reads late bits
+abbrev pub number_form : Facts → Draft → NumForm → ℤ → Option Term → Option Tree → Result Form Refusal
+number_form known draft form width None value = Ok (now (number_bits (nat_abs width) (number_in value)))
+number_form known draft form width (Some term) value =
+    if names_later (met_in draft.known) term then Ok (later form width term)
+    else fixed_form draft form width term (value_of term (draft_sight known draft))
+
+-- the value of an expression that can't be left for later: 214 where it reads late bits
+abbrev pub early_value : Draft → Result ℤ EvalFault → Result ℤ Refusal
+early_value draft (Ok value) = Ok value
+early_value draft (Err fault) =
+    Err (if reads_late (length draft.bits) fault then refusal 214 draft.piece (pos draft.piece) else value_refusal draft.piece fault)
+
+abbrev pub early : Facts → Draft → Term → Result ℤ Refusal
+early known draft term = early_value draft (value_of term (draft_sight known draft))
 
 -- the size of a text, where it has one
-abbrev pub size_in : ℕ → Facts → Environment → Option Term → Result (Option ℤ) Refusal
-size_in piece known names None = Ok None
-size_in piece known names (Some term) = value_in piece known names term >>= λ size. Ok (Some size)
+abbrev pub size_in : Facts → Draft → Option Term → Result (Option ℤ) Refusal
+size_in known draft None = Ok None
+size_in known draft (Some term) = early known draft term >>= λ size. Ok (Some size)
 
 -- the number that a fault keeps
 abbrev pub kept_number : Kept → ℤ
@@ -143,23 +186,23 @@ abbrev pub refusal_in : Result ℤ Refusal → Option Refusal
 refusal_in (Ok value) = None
 refusal_in (Err fault) = Some fault
 
-abbrev pub unvalued : ℕ → Facts → Environment → Term → Option Refusal
-unvalued piece known names term = refusal_in (value_in piece known names term)
+abbrev pub unvalued : Facts → Draft → Term → Option Refusal
+unvalued known draft term = refusal_in (early known draft term)
 
 -- a refusal that comes first, where there is one
-abbrev pub behind_refusal : Option Refusal → Result (List ℕ) Refusal → Result (List ℕ) Refusal
-behind_refusal None bytes = bytes
-behind_refusal (Some fault) bytes = Err fault
+abbrev pub behind_refusal : {A : Type 0} → Option Refusal → Result A Refusal → Result A Refusal
+behind_refusal None other = other
+behind_refusal (Some fault) other = Err fault
 
 -- the numbers of all formats in the parts are computed before a format is filled
-abbrev pub fixed_bytes : ℕ → Facts → Environment → List PlainPart → Result (List ℕ) Refusal
-fixed_bytes piece known names parts =
-    behind_refusal (first_of (map (unvalued piece known names) (text_terms parts))) (joined piece (bytes_seen nowhere known (see known no_bits names) parts))
+abbrev pub fixed_bytes : Facts → Draft → List PlainPart → Result (List ℕ) Refusal
+fixed_bytes known draft parts =
+    behind_refusal (first_of (map (unvalued known draft) (text_terms parts))) (joined draft.piece (bytes_seen nowhere known (draft_sight known draft) parts))
 
 -- the bytes of a text: the row's, or those of the fixed parts
-abbrev pub bytes_given : ℕ → Facts → Environment → Option (List PlainPart) → Option Tree → Result (List ℕ) Refusal
-bytes_given piece known names None value = Ok (text_in value)
-bytes_given piece known names (Some parts) value = fixed_bytes piece known names parts
+abbrev pub bytes_given : Facts → Draft → Option (List PlainPart) → Option Tree → Result (List ℕ) Refusal
+bytes_given known draft None value = Ok (text_in value)
+bytes_given known draft (Some parts) value = fixed_bytes known draft parts
 
 -- 207 for a size that the text may not have
 abbrev pub bad_size : ℕ → TextForm → Option ℤ → Option Refusal
@@ -178,16 +221,23 @@ text_refusal piece form size count = first_of (bad_size piece form size ∷ bad_
 abbrev pub bytes_laid : ℕ → TextForm → Option ℤ → List ℕ → Result (List Bool) Refusal
 bytes_laid piece form size bytes = unless_fault (text_refusal piece form size (length bytes)) (bits_of (stored_text form (option_map nat_abs size) bytes))
 
--- the bits of a text, or the first refusal: of its size's value, of the numbers of its formats, of a format, of its size, of its length
-abbrev pub text_laid : ℕ → Facts → Environment → PlainText → Option Tree → Result (List Bool) Refusal
-text_laid piece known names text value =
-    size_in piece known names text.size >>= λ size. bytes_given piece known names text.fixed value >>= λ bytes. bytes_laid piece text.form size bytes
+-- 214 for a text of which an expression names a label that stands later
+abbrev pub later_size : Draft → List Term → Option Refusal
+later_size draft terms = unless (not (list_any (names_later (met_in draft.known)) terms)) (refusal 214 draft.piece (pos draft.piece))
 
-abbrev pub piece_laid : Facts → Draft → Piece → Option Tree → Result (List Bool) Refusal
-piece_laid known draft (OneNumber number) value = number_laid draft.piece known draft.known number value
-piece_laid known draft (OneText text) value = text_laid draft.piece known draft.known text value
-piece_laid known draft (Zeros count) value = Ok (zeros count)
-piece_laid known draft (Filler unit) value = Ok (zeros (missing unit (length draft.bits)))
+-- the bits of a text, or the first refusal: of a label that stands later, of its size's value, of the numbers of its formats, of a
+-- format, of its size, of its length
+abbrev pub text_laid : Facts → Draft → PlainText → Option Tree → Result (List Bool) Refusal
+text_laid known draft text value =
+    behind_refusal (later_size draft (terms_of_text text))
+    (size_in known draft text.size >>= λ size. bytes_given known draft text.fixed value >>= λ bytes. bytes_laid draft.piece text.form size bytes)
+
+abbrev pub piece_form : Facts → Draft → Piece → Option Tree → Result Form Refusal
+piece_form known draft (OneNumber number) value = number_form known draft number.form number.width number.fixed value
+piece_form known draft (OneText text) value = text_laid known draft text value >>= λ bits. Ok (now bits)
+piece_form known draft (Zeros count) value = Ok (now (zeros count))
+piece_form known draft (Filler unit) value = Ok (now (zeros (missing unit (length draft.bits))))
+piece_form known draft (Place name) value = Ok (now [])
 
 -- Laying.
 
@@ -199,13 +249,36 @@ in_bytes bits = min ((bits + 7) / 8) most_kept
 abbrev pub too_long : Draft → ℕ → Refusal
 too_long draft end = refusal 301 draft.piece (pos (in_bytes end))
 
-abbrev pub with_bits : Draft → List Bool → Result Draft Refusal
-with_bits draft bits =
-    if nat_lt most_bits (length draft.bits + length bits) then Err (too_long draft (length draft.bits + length bits))
-    else Ok (record { piece = one_more draft.piece; bits = draft.bits ++ bits; known = draft.known })
+abbrev pub with_room : Draft → ℕ → Draft → Result Draft Refusal
+with_room draft count next =
+    if nat_lt most_bits (length draft.bits + count) then Err (too_long draft (length draft.bits + count)) else Ok next
+
+-- a label has its place, and every other name what it has
+abbrev pub placed : Piece → ℕ → Environment → Environment
+placed (Place name) at names = record { give = λ key. if stands_at name.bytes key then Some (pos at) else names.give key }
+placed piece at names = names
+
+-- a piece with these bits more
+abbrev pub grown : Piece → Draft → List Bool → Bool → List LateNumber → Draft
+grown piece draft bits is_late numbers = record {
+  piece = one_more draft.piece;
+  bits = draft.bits ++ bits;
+  late = draft.late ++ replicate (length bits) is_late;
+  known = placed piece (length draft.bits) draft.known;
+  numbers = draft.numbers ++ numbers;
+}
+
+abbrev pub late_at : Draft → NumForm → ℤ → Term → LateNumber
+late_at draft form width term = record { piece = draft.piece; at = length draft.bits; form = form; width = width; term = term; names = λ names. names }
+
+-- zero bits stand where a number is left for later
+abbrev pub with_form : Draft → Piece → Form → Result Draft Refusal
+with_form draft piece (now bits) = with_room draft (length bits) (grown piece draft bits false [])
+with_form draft piece (later form width term) =
+    with_room draft (nat_abs width) (grown piece draft (zeros (nat_abs width)) true (late_at draft form width term ∷ []))
 
 abbrev pub lay : Facts → Draft → Piece → Option Tree → Result Draft Refusal
-lay known draft piece value = piece_laid known draft piece value >>= with_bits draft
+lay known draft piece value = piece_form known draft piece value >>= with_form draft piece
 
 -- the first of the values, where one is taken, and the others
 abbrev pub first_value : Bool → List Tree → Option Tree
@@ -241,18 +314,45 @@ abbrev pub with_field : PlainField → Option Tree → Environment → Environme
 with_field (Array name count row) value outer = with_count name (length (rows_in value)) outer
 with_field field value outer = outer
 
--- what names have inside a body: the numbers of rows of its arrays, and else what they have outside
+-- the numbers of rows of the arrays of a body, and else what names have outside
 abbrev pub counted : PlainBody → List Tree → Environment → Environment
 counted no_fields values outer = outer
 counted (field_and field fields) values outer =
     counted fields (other_values (takes_value field) values) (with_field field (first_value (takes_value field) values) outer)
 
--- a body within is laid with names of its own, which end with it
-abbrev pub with_names : Environment → Draft → Draft
-with_names names draft = record { piece = draft.piece; bits = draft.bits; known = names }
+-- what names have at the front of a body: its arrays the numbers of their rows, its labels nothing, and else what they have outside
+abbrev pub entered : PlainBody → List Tree → Environment → Environment
+entered body values outer = counted body values (names_inside body outer)
 
-abbrev pub inside_laid : (Draft → Result Draft Refusal) → Environment → Draft → Result Draft Refusal
-inside_laid lay_fields names draft = lay_fields (with_names names draft) >>= λ next. Ok (with_names draft.known next)
+-- the names of a body in the end, by those of the body around it: its own have what they had at its end
+abbrev pub outside_of : PlainBody → Environment → Environment → Environment
+outside_of body own outer = record { give = λ key. if declares body key then own.give key else outer.give key }
+
+abbrev pub closing : PlainBody → Environment → LateNumber → LateNumber
+closing body own one = record {
+  piece = one.piece;
+  at = one.at;
+  form = one.form;
+  width = one.width;
+  term = one.term;
+  names = λ outer. one.names (outside_of body own outer);
+}
+
+-- a body within is laid with names of its own, which end with it; its late numbers keep them
+abbrev pub enter : PlainBody → List Tree → Draft → Draft
+enter body values draft = record { piece = draft.piece; bits = draft.bits; late = draft.late; known = entered body values draft.known; numbers = [] }
+
+abbrev pub leave : PlainBody → Draft → Draft → Draft
+leave body draft next = record {
+  piece = next.piece;
+  bits = next.bits;
+  late = next.late;
+  known = draft.known;
+  numbers = draft.numbers ++ map (closing body next.known) next.numbers;
+}
+
+abbrev pub inside_laid : PlainBody → (Draft → List Tree → Result Draft Refusal) → Draft → List Tree → Result Draft Refusal
+inside_laid body lay_fields draft values = lay_fields (enter body values draft) values >>= λ next. Ok (leave body draft next)
 
 -- rows one behind the other
 abbrev pub rows_laid : (Draft → List Tree → Result Draft Refusal) → Draft → List (List Tree) → Result Draft Refusal
@@ -266,15 +366,16 @@ abbrev mutual
   field_laid known draft (Points points) value = pieces_laid known draft (Points points) value
   field_laid known draft (Fill unit count) value = pieces_laid known draft (Fill unit count) value
   field_laid known draft (Align unit) value = pieces_laid known draft (Align unit) value
+  field_laid known draft (Label name) value = pieces_laid known draft (Label name) value
   field_laid known draft (Array name count row) value =
-      rows_laid (λ draft line. inside_laid (λ inner. body_laid known inner row line) (counted row line draft.known) draft) draft (rows_in value)
+      rows_laid (inside_laid row (λ inner line. body_laid known inner row line)) draft (rows_in value)
   field_laid known draft (Switch cases) value = case_laid known draft cases value
 
   -- the fields of the case that is chosen
   pub case_laid : Facts → Draft → PlainCases → Option Tree → Result Draft Refusal
   case_laid known draft no_cases value = Ok draft
   case_laid known draft (case_and name row others) value =
-      if is_case name value then inside_laid (λ inner. body_laid known inner row (line_in value)) (counted row (line_in value) draft.known) draft
+      if is_case name value then inside_laid row (λ inner line. body_laid known inner row line) draft (line_in value)
       else case_laid known draft others value
 
   -- the fields of a body, seen with its own names
@@ -285,11 +386,30 @@ abbrev mutual
 
 -- a body inside what is laid so far
 abbrev pub row_laid : Facts → PlainBody → Draft → List Tree → Result Draft Refusal
-row_laid known row draft line = inside_laid (λ inner. body_laid known inner row line) (counted row line draft.known) draft
+row_laid known row draft line = inside_laid row (λ inner line. body_laid known inner row line) draft line
 
--- the bytes, filled with zero bits
+-- The second pass.
+
+-- bits with others from a place on
+abbrev pub patched : ℕ → List Bool → List Bool → List Bool
+patched at own bits = take at bits ++ (own ++ drop (at + length own) bits)
+
+-- the bits of a late number among all bits so far, seen with the finished names
+abbrev pub late_bits : Facts → Environment → LateNumber → List Bool → Result (List Bool) Refusal
+late_bits known names one bits =
+    valued one.piece (value_of one.term (sees known bits (one.names names) one.at)) >>= λ value. ranged one.piece one.form one.width value
+
+-- the late numbers in their places, one after the other
+abbrev pub fill : Facts → Environment → List LateNumber → List Bool → Result (List Bool) Refusal
+fill known names [] bits = Ok bits
+fill known names (one ∷ others) bits = late_bits known names one bits >>= λ own. fill known names others (patched one.at own bits)
+
+-- the bytes: first all pieces in order, then the late numbers, and then zero bits to a whole byte
 abbrev pub laid : Facts → PlainBody → List Tree → Result (List ℕ) Refusal
-laid known body row = row_laid known body nothing_laid row >>= λ draft. Ok (bytes_of (filled 8 draft.bits))
+laid known body row =
+    row_laid known body nothing_laid row
+    >>= λ draft. fill known outside draft.numbers draft.bits
+    >>= λ bits. Ok (bytes_of (filled 8 bits))
 
 -- a row of these fields is refused so
 abbrev pub Refuses : Facts → PlainBody → List Tree → Refusal → Type 0

@@ -11,6 +11,7 @@ pub mod Solve
 pub mod Piece
 pub mod Passed
 pub mod Row
+pub mod Sees
 pub mod Spells
 pub mod Laid
 pub mod NameKey

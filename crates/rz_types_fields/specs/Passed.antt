@@ -2,9 +2,9 @@
 use Rattle.std.specs.Prelude.{ℕ, ℤ, Bool, true, false, ◌&&◌, ◌||◌, not, if◌then◌else◌, List, [], ◌∷◌, Option, Some, None}
 use Rattle.std.specs.Option.{is_some}
 use Rattle.rz_core.specs.declared.resource.Word.{Word}
-use Rattle.rz_expr.specs.Environment.{count_key, Environment, Key}
+use Rattle.rz_expr.specs.Environment.{count_key, place_key, Environment, Key}
 use Rattle.rz_expr.specs.Term.{Term}
-use Rattle.rz_types_fields.specs.Field.{field_and, no_fields, Align, Array, PlainBody, PlainField}
+use Rattle.rz_types_fields.specs.Field.{field_and, no_fields, Align, Array, Label, PlainBody, PlainField}
 use Rattle.rz_types_fields.specs.Piece.{pieces_of, OneNumber, Piece}
 use Rattle.rz_types_fields.specs.Solve.{has_key, is_same_key}
 use Rattle.rz_types_fields.specs.Value.{symbol_key}
@@ -26,9 +26,14 @@ abbrev pub gives_count : Option Word → Key → Bool
 gives_count None key = false
 gives_count (Some name) key = counts_rows name.bytes key
 
--- the field gives this key a value: so far an array does, by the number of its rows
+-- the key is a label of this name
+abbrev pub stands_at : List ℕ → Key → Bool
+stands_at name key = is_same_key (place_key name) key
+
+-- the field gives this key a value: an array by the number of its rows, a label by its place
 abbrev pub gives_key : PlainField → Key → Bool
 gives_key (Array name count row) key = gives_count name key
+gives_key (Label name) key = stands_at name.bytes key
 gives_key field key = false
 
 -- one of the fields of a body does
@@ -81,9 +86,20 @@ at_front body passed = record {
   near = λ key. false;
 }
 
--- the field is a label of this name; so far no field is one
+-- the field is a label of this name
 abbrev pub is_label : PlainField → Key → Bool
+is_label (Label name) key = stands_at name.bytes key
 is_label field key = false
+
+-- the field is a label
+abbrev pub is_a_label : PlainField → Bool
+is_a_label (Label name) = true
+is_a_label field = false
+
+-- one of the fields of a body is, without those within
+abbrev pub has_labels : PlainBody → Bool
+has_labels no_fields = false
+has_labels (field_and field fields) = is_a_label field || has_labels fields
 
 -- what stands behind the field is at a known distance
 abbrev pub is_measured : PlainField → Bool
@@ -116,7 +132,7 @@ abbrev pub behind_pieces : List Piece → Passed → Passed
 behind_pieces [] passed = passed
 behind_pieces (piece ∷ pieces) passed = behind_pieces pieces (behind_piece piece passed)
 
--- behind a field: an array is met, and what its numbers tell
+-- behind a field: an array or a label is met, and what its numbers tell is told
 abbrev pub behind : PlainField → Passed → Passed
 behind field passed =
     between (behind_pieces (pieces_of field) (record { met = λ key. gives_key field key || passed.met key; told = passed.told; near = passed.near }))

@@ -1,19 +1,22 @@
 -- Pieces: as what fields are laid that have no fields within them; and the expressions of texts. (MPW Rez.)
 use Rattle.std.specs.Prelude.{ℕ, ◌*◌, pos, nat_abs, Bool, false, List, [], ◌∷◌, ◌++◌, map, replicate, Option, Some, None}
 use Rattle.std.specs.Option.{option_to_list}
+use Rattle.rz_core.specs.declared.resource.Word.{Word}
 use Rattle.rz_expr.specs.Term.{Term}
-use Rattle.rz_types_fields.specs.Field.{Align, Array, Fill, Number, PlainField, PlainNumber, PlainText, Points, Switch, Text}
+use Rattle.rz_types_fields.specs.Field.{Align, Array, Fill, Label, Number, PlainField, PlainNumber, PlainText, Points, Switch, Text}
 use Rattle.rz_types_fields.specs.Shape.{numbers_of}
 use Rattle.rz_types_fields.specs.Text.{text_terms, PlainPart}
 use Rattle.rz_types_fields.specs.declared.field.NumForm.TheVariants.{Integer}
 use Rattle.rz_types_fields.specs.declared.field.Radix.TheVariants as radixes
 
--- what is laid without a cut within it: a number, a text, so many zero bits, or zero bits to the next multiple of a unit
+-- what is laid without a cut within it: a number, a text, so many zero bits, zero bits to the next multiple of a unit, or no
+-- bits at a place that has a name
 pub data Piece : Type 0 where
   OneNumber : (number : PlainNumber) → Piece
   OneText : (text : PlainText) → Piece
   Zeros : (count : ℕ) → Piece
   Filler : (unit : ℕ) → Piece
+  Place : (name : Word) → Piece
 
 -- a number of a point or a rectangle is an `integer`
 abbrev pub integer : Option Term → PlainNumber
@@ -37,6 +40,7 @@ pieces_of (Text text) = OneText text ∷ []
 pieces_of (Points points) = integers points.rect points.fixed
 pieces_of (Fill unit count) = Zeros (unit * nat_abs count) ∷ []
 pieces_of (Align unit) = Filler unit ∷ []
+pieces_of (Label name) = Place name ∷ []
 pieces_of (Array name count row) = []
 pieces_of (Switch cases) = []
 

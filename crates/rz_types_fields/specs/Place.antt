@@ -7,7 +7,7 @@ use Rattle.rz_types_fields.specs.declared.place.TextPlace.{TextPlace}
 use Rattle.rz_types_fields.specs.declared.place.TextPlace.TheVariants.{Chosen, Data, Fixed, Item, New}
 
 -- an expression there: of a new resource nothing is known but the moment; of one that is chosen, or whose head stands before, its
--- facts are; an item may have names too, and a fixed text numbers of rows
+-- facts are; an item may have names too, and a fixed text labels, bits at them and numbers of rows
 abbrev pub may_say : TextPlace → Term → Bool
 may_say New term = is_head_expression term
 may_say Chosen term = is_field_expression term

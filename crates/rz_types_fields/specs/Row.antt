@@ -2,7 +2,7 @@
 -- Rez.)
 use Rattle.std.specs.Prelude.{◌≡◌, ◌⊎◌, ℕ, ◌<◌, ◌^◌, ℤ, pos, nat_abs, Bool, true, false, List, [], ◌∷◌, length, Option, Some, None}
 use Rattle.std.specs.List.{AllByRecursion}
-use Rattle.rz_types_fields.specs.Field.{case_and, field_and, no_cases, no_fields, takes_value, Align, Array, Fill, Number, PlainBody, PlainCases, PlainField, Points, Switch, Text}
+use Rattle.rz_types_fields.specs.Field.{case_and, field_and, no_cases, no_fields, takes_value, Align, Array, Fill, Label, Number, PlainBody, PlainCases, PlainField, Points, Switch, Text}
 use Rattle.rz_types_fields.specs.Shape.{numbers_of}
 use Rattle.rz_types_fields.specs.declared.tree.Tree.{Tree}
 use Rattle.rz_types_fields.specs.declared.tree.Tree.TheVariants as trees
@@ -32,6 +32,7 @@ abbrev mutual
       (numbers : List ℕ) × (value ≡ trees.Group numbers) × (length numbers ≡ numbers_of points.rect) × AllByRecursion (λ n. n < 65536) numbers
   IsValue (Fill unit count) value = ⊥
   IsValue (Align unit) value = ⊥
+  IsValue (Label name) value = ⊥
   IsValue (Array name count row) value =
       (rows : List (List Tree)) × (value ≡ trees.Rows rows) × IsStated count (length rows) × AllByRecursion (IsRow row) rows
   IsValue (Switch cases) value = IsChoice cases value

@@ -5,10 +5,10 @@ use Rattle.std.specs.Option.{is_some}
 use Rattle.std.specs.Ordering.{int_eq}
 use Rattle.rz_expr.specs.Constant.{constant_of}
 use Rattle.rz_expr.specs.Term.{Term}
-use Rattle.rz_expr.specs.Words.{is_name, role_of}
+use Rattle.rz_expr.specs.Words.{is_label, is_name, role_of}
 use Rattle.rz_lex.specs.Lexeme.{is_lexed_word}
 use Rattle.rz_core.specs.declared.resource.Word.{Word}
-use Rattle.rz_types_fields.specs.Field.{case_and, field_and, no_cases, no_fields, Align, Array, Fill, Number, PlainBody, PlainCases, PlainField, PlainNumber, PlainPoints, PlainText, Points, Switch, Text}
+use Rattle.rz_types_fields.specs.Field.{case_and, field_and, no_cases, no_fields, Align, Array, Fill, Label, Number, PlainBody, PlainCases, PlainField, PlainNumber, PlainPoints, PlainText, Points, Switch, Text}
 use Rattle.rz_types_fields.specs.Range.{fits_number, own_width}
 use Rattle.rz_types_fields.specs.Place.{may_stand}
 use Rattle.rz_types_fields.specs.Text.{PlainPart}
@@ -98,6 +98,10 @@ is_unit unit = (unit == 1) || (unit == 4) || (unit == 8) || (unit == 16) || (uni
 abbrev pub is_own_name : Word → Bool
 is_own_name name = is_symbol_name name.bytes
 
+-- the name of a label: no word that means something else
+abbrev pub is_label_name : Word → Bool
+is_label_name name = is_lexed_word name.bytes && is_label (role_of name.bytes)
+
 abbrev mutual
   -- the field of a case, or of another body
   pub is_shaped : (in_case : Bool) → PlainField → Bool
@@ -106,6 +110,7 @@ abbrev mutual
   is_shaped in_case (Points points) = is_points_shaped points
   is_shaped in_case (Fill unit count) = is_unit unit
   is_shaped in_case (Align unit) = is_unit unit && not (unit == 1)
+  is_shaped in_case (Label name) = is_label_name name
   is_shaped in_case (Array name count row) = is_none_or is_own_name name && are_shaped false row
   is_shaped in_case (Switch cases) = are_cases_shaped cases
 
@@ -127,6 +132,7 @@ abbrev mutual
   field_depth (Points points) = 0
   field_depth (Fill unit count) = 0
   field_depth (Align unit) = 0
+  field_depth (Label name) = 0
   field_depth (Array name count row) = suc (body_depth row)
   field_depth (Switch cases) = suc (cases_depth cases)
 

@@ -7,19 +7,19 @@ use Rattle.std.specs.Str.{str_eq_ignore_ascii_case}
 use Rattle.rz_core.specs.declared.resource.Word.{Word}
 use Rattle.rz_core.specs.declared.facts.Facts.{Facts}
 use Rattle.rz_core.specs.declared.fault.Mark.{Mark}
-use Rattle.rz_expr.specs.Environment.{count_key, Environment, Key, Sight}
+use Rattle.rz_expr.specs.Environment.{count_key, place_key, Environment, Key, Sight}
 use Rattle.rz_expr.specs.Term.{Term}
 use Rattle.rz_expr.specs.Value.{value_of}
 use Rattle.rz_bits.specs.Bits.{bits_of, number_bits}
 use Rattle.rz_bits.specs.BitBuf.{filled, missing, zeros}
-use Rattle.rz_types_fields.specs.Field.{case_and, field_and, no_cases, no_fields, Align, Array, Fill, Number, PlainBody, PlainCases, PlainField, PlainText, Points, Switch, Text}
+use Rattle.rz_types_fields.specs.Field.{case_and, field_and, no_cases, no_fields, Align, Array, Fill, Label, Number, PlainBody, PlainCases, PlainField, PlainText, Points, Switch, Text}
 use Rattle.rz_types_fields.specs.Passed.{at_field, at_front, behind, behind_piece, declares, is_known, nothing_passed, outside, Names, Passed}
-use Rattle.rz_types_fields.specs.Piece.{pieces_of, terms_of_text, Filler, OneNumber, OneText, Piece, Zeros}
+use Rattle.rz_types_fields.specs.Piece.{pieces_of, terms_of_text, Filler, OneNumber, OneText, Piece, Place, Zeros}
 use Rattle.rz_types_fields.specs.Range.{fits_number, may_be_size}
+use Rattle.rz_types_fields.specs.Sees.{is_late, sees, Late}
 use Rattle.rz_types_fields.specs.Solve.{SolvesBack}
 use Rattle.rz_types_fields.specs.Stored.{before_zero, is_too_long, stored_number, stored_text}
 use Rattle.rz_types_fields.specs.Text.{bytes_seen, PlainPart}
-use Rattle.rz_types_fields.specs.Value.{no_bits, see}
 use Rattle.rz_types_fields.specs.declared.field.NumForm.{NumForm}
 use Rattle.rz_types_fields.specs.declared.field.TextForm.{TextForm}
 use Rattle.rz_types_fields.specs.declared.field.TextForm.TheVariants as texts
@@ -53,19 +53,7 @@ abbrev pub IsGroupedFor : PlainField → Option Tree → Type 0
 IsGroupedFor (Points points) value = IsGrouped points.fixed value
 IsGroupedFor field value = Unit {0}
 
--- What is seen.
-
--- which bits are those of a late number, one that is computed after all others: a mark for each bit
-abbrev pub Late : Type 0
-Late = List Bool
-
--- a number is late where its expression names a label behind it or reads bits that are late; so far none does
-abbrev pub is_late : Names → Late → Term → Sight → Bool
-is_late met late term sight = false
-
--- what an expression sees at a place in a resource with these bits; so far no expression of a field reads bits
-abbrev pub sees : Facts → List Bool → Environment → ℕ → Sight
-sees known all names at = see known no_bits names
+-- Bodies.
 
 -- the row of an array: the name of the array, where it has one, and the number of the row, from 1
 pub record RowOf : Type 0 where
@@ -151,8 +139,9 @@ IsStored plain passed (OneNumber number) known at sight value bits = IsNumber pl
 IsStored plain passed (OneText text) known at sight value bits = IsText plain text known sight value bits
 IsStored plain passed (Zeros count) known at sight value bits = (value ≡ None) × (bits ≡ zeros count)
 IsStored plain passed (Filler unit) known at sight value bits = (value ≡ None) × (bits ≡ zeros (missing unit at))
+IsStored plain passed (Place name) known at sight value bits = (value ≡ None) × (sight.names.give (place_key name.bytes) ≡ Some (pos at)) × (bits ≡ [])
 
--- the marks of its bits: late or not
+-- an expression is late, where there is one; so is a number with it
 abbrev pub is_late_value : Names → Late → Option Term → Sight → Bool
 is_late_value met late None sight = false
 is_late_value met late (Some term) sight = is_late met late term sight
@@ -171,6 +160,7 @@ abbrev pub is_late_size : Names → Late → Piece → Sight → Bool
 is_late_size met late (OneText text) sight = is_one_late met late (terms_of_text text) sight
 is_late_size met late piece sight = false
 
+-- the marks of its bits: late or not
 abbrev pub marks : Names → Late → Piece → Sight → ℕ → Late
 marks met late piece sight count = replicate count (is_late_piece met late piece sight)
 
@@ -252,6 +242,7 @@ module _ (plain : Bool) (known : Facts) (all : List Bool) where
     FieldSpells (Points points) names passed value = PiecesSpell (Points points) names passed value
     FieldSpells (Fill unit count) names passed value = PiecesSpell (Fill unit count) names passed value
     FieldSpells (Align unit) names passed value = PiecesSpell (Align unit) names passed value
+    FieldSpells (Label name) names passed value = PiecesSpell (Label name) names passed value
     FieldSpells (Array name count row) names passed value = λ at late after late_after.
         (rows : List (List Tree)) × (value ≡ Some (trees.Rows rows)) × IsStated count (length rows) × IsCounted name (length rows) names
         × RowsSpell (λ number line. Inside row (row_of name number) names (λ own. BodySpells row own (at_front row passed) line)) 1 rows at late after late_after

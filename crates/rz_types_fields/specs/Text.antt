@@ -19,7 +19,7 @@ use Rattle.rz_types_fields.specs.declared.text.Format as formats
 use Rattle.rz_types_fields.specs.declared.text.FormatArg.{FormatArg}
 use Rattle.rz_types_fields.specs.declared.text.ResKey.{ResKey}
 use Rattle.rz_types_fields.specs.declared.text.TextPart.{TextPart}
-use Rattle.rz_types_fields.specs.declared.text.FormatArg.TheFolds.{fold-FileResource, fold-Format, fold-FormatArg, fold-ResKey, fold-TextPart}
+use Rattle.rz_types_fields.specs.declared.text.FormatArg.TheFolds.{fold-Format, fold-FormatArg, fold-ResKey, fold-TextPart}
 use Rattle.rz_types_fields.specs.declared.text.FormatArg.TheOpen.{FileResource-F, Format-F, FormatArg-F, ResKey-F, TextPart-F}
 
 mutual

@@ -64,16 +64,22 @@ is_field_expression (OfTwo op left right) = is_field_expression left && is_field
 
 -- Expressions of fields.
 
--- an expression of a size: so far what such a head may say
+-- an expression of a size: it may name labels, by themselves and with the bits behind them
 abbrev pub is_size_expression : Term → Bool
-is_size_expression term = is_field_expression term
+is_size_expression (Constant number) = true
+is_size_expression (Named name) = true
+is_size_expression (RowsOf name) = false
+is_size_expression (BitsAt name start width) = is_size_expression start && is_size_expression width
+is_size_expression (FactOf which) = true
+is_size_expression (OfOne op operand) = is_size_expression operand
+is_size_expression (OfTwo op left right) = is_size_expression left && is_size_expression right
 
 -- an expression of a fixed value: it may also name arrays, by the number of their rows
 abbrev pub is_fixed_expression : Term → Bool
 is_fixed_expression (Constant number) = true
-is_fixed_expression (Named name) = is_some (predefined name)
+is_fixed_expression (Named name) = true
 is_fixed_expression (RowsOf name) = true
-is_fixed_expression (BitsAt name start width) = false
+is_fixed_expression (BitsAt name start width) = is_fixed_expression start && is_fixed_expression width
 is_fixed_expression (FactOf which) = true
 is_fixed_expression (OfOne op operand) = is_fixed_expression operand
 is_fixed_expression (OfTwo op left right) = is_fixed_expression left && is_fixed_expression right
@@ -108,7 +114,7 @@ field_sight known symbols = record { names = record { give = symbol_key symbols 
 abbrev pub see : Facts → (ℤ → ℤ → Option ℤ) → Environment → Sight
 see known bits names = record { names = names; bits = bits; fact = fact_of known }
 
--- so far no expression of a field reads bits
+-- where no bits are there
 abbrev pub no_bits : ℤ → ℤ → Option ℤ
 no_bits first width = None
 

@@ -3,7 +3,7 @@ use Rattle.std.specs.Prelude.{ℕ, ◌+◌, ◌-◌, ◌*◌, min, ℤ, pos, nat
 use Rattle.std.specs.Option.{unwrap_or}
 use Rattle.rz_expr.specs.Constant.{constant_of}
 use Rattle.rz_expr.specs.Term.{Term}
-use Rattle.rz_types_fields.specs.Field.{field_and, no_fields, Align, Array, Fill, Number, PlainBody, PlainField, PlainNumber, Points, Switch, Text}
+use Rattle.rz_types_fields.specs.Field.{field_and, no_fields, Align, Array, Fill, Label, Number, PlainBody, PlainField, PlainNumber, Points, Switch, Text}
 use Rattle.rz_types_fields.specs.Shape.{numbers_of}
 use Rattle.rz_types_fields.specs.Stored.{stored_number}
 use Rattle.rz_types_fields.specs.declared.field.TextForm.{TextForm}
@@ -41,13 +41,14 @@ rows_width (Some count) width = option_map (λ bits. nat_abs count * bits) width
 
 abbrev mutual
   -- the width of a field in every row, where it is the same: that of a number, a point, a rectangle or a fill, of a text with a
-  -- constant size, and of an array with a stated count of rows of such fields
+  -- constant size, and of an array with a stated count of rows of such fields; a label has no bits
   pub fixed_width : PlainField → Option ℕ
   fixed_width (Number number) = Some (nat_abs number.width)
   fixed_width (Text text) = text_width text.form text.size
   fixed_width (Points points) = Some (16 * numbers_of points.rect)
   fixed_width (Fill unit count) = Some (unit * nat_abs count)
   fixed_width (Align unit) = None
+  fixed_width (Label name) = Some 0
   fixed_width (Array name count row) = rows_width count (fixed_widths row)
   fixed_width (Switch cases) = None
 

@@ -149,6 +149,8 @@ pub enum Field {
     Fill(u8, i32),
     /// `align`: zeros to the next multiple of a unit in bits.
     Align(u8),
+    /// A label: a name for the place where it stands, in bits from the start of the resource.
+    Label(Word),
     /// `array`
     Array(ArrayField),
     /// `switch`
@@ -166,7 +168,7 @@ pub fn takes_value(field: &Field) -> bool
         Field::Num(number) => number.fixed.is_none(),
         Field::Text(text) => text.fixed.is_none(),
         Field::Points(points) => points.fixed.is_none(),
-        Field::Fill(..) | Field::Align(_) => false,
+        Field::Fill(..) | Field::Align(_) | Field::Label(_) => false,
         Field::Array(_) | Field::Switch(_) => true,
     }
 }

@@ -1,11 +1,12 @@
 //! The fields of type declarations, and what a resource gives them: numbers and strings with their ranges, the parts of
 //! strings and where they may stand, the values of expressions with the facts of a resource, the expressions of a field in
-//! one list, the names in them with the notes of the numbers of rows, fixed widths and the keys of cases, how values are
-//! stored, and rows of values with the bytes that they spell. Each call gives exactly its
-//! definition. Definitions alone are the shape of fields, their pieces, the names that fields give values, how a name is
-//! solved, when values are a row of fields, and which bytes they are laid as, piece after piece, or where they are refused
-//! first. The rules that the fields of a type keep stand in `rz_types`, where a type is found in `rz_types_table`;
-//! `rz_stmt_items` makes a row of items, `rz_layout` bytes of a row, and `rz_unlay` a row of bytes.
+//! one list, the names in them with the notes of the numbers of rows and of the places of labels, fixed widths and the
+//! keys of cases, how values are stored, and rows of values with the bytes that they spell. Each call gives exactly its
+//! definition. Definitions alone are the shape of fields, their pieces, the names that fields give values, what an
+//! expression sees at a place and which numbers are late, how a name is solved, when values are a row of fields, and which
+//! bytes they are laid as, piece after piece and then the late numbers, or where they are refused first. The rules that the
+//! fields of a type keep stand in `rz_types`, where a type is found in `rz_types_table`; `rz_stmt_items` makes a row of
+//! items, `rz_layout` bytes of a row, and `rz_unlay` a row of bytes.
 //! It rests on `rz_core`, `rz_bits`, `rz_types_format`, `rz_lex` and `rz_expr`.
 //! A new kind of field changes `Field` and its mirror `PlainField`, the shape, the pieces and the width here, its value in
 //! `specs/Row` and `Tree`, its stored form in `specs/Spells` and how it is laid in `specs/Laid`, the rules and whether it is
@@ -35,9 +36,10 @@ pub use field::{
 };
 pub use keys::{CaseKey, case_keys, fixed_width, fixed_widths, key_bits, sized_bytes, text_width};
 pub use name_key::{
-    KeyRef, Standing, counts_rows, declares, is_predefined, is_same_key, standing_of, states,
+    KeyRef, Standing, counts_rows, declares, is_predefined, is_same_key, standing_of, stands_at,
+    states,
 };
-pub use names::{NamesEnv, Note, rows_of};
+pub use names::{NamesEnv, Note, place_of, rows_of};
 pub use place::{TextPlace, may_say, may_stand};
 pub use range::{fits_number, may_be_size, own_width};
 pub use stored::{is_too_long, stored_number};

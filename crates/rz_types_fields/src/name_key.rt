@@ -4,7 +4,7 @@ ghost use Rattle.std.specs.Prelude.{◌≡◌, ◌||◌, ◌&&◌, not, if◌the
 ghost use Rattle.rz_expr.specs.Term.{term_of};
 ghost use Rattle.rz_types_fields.specs.Field.{plain_body, plain_field};
 ghost use Rattle.rz_types_fields.specs.Solve.{can_solve, has_key, is_same_key, undoes_left, undoes_one, undoes_right};
-ghost use Rattle.rz_types_fields.specs.Passed.{counts_rows, declares, gives_count, gives_key, is_known, nothing_passed, states, states_key};
+ghost use Rattle.rz_types_fields.specs.Passed.{counts_rows, declares, gives_count, gives_key, is_known, nothing_passed, stands_at, states, states_key};
 ghost use Rattle.rz_types_fields.specs.NameKey.{key_of};
 
 use crate::Field;
@@ -14,7 +14,7 @@ use rz_expr::{BinaryOp, Expr, UnaryOp, predefined};
 /// A name in an expression, as what can have a value.
 #[derive(Clone, Copy)]
 pub enum KeyRef<'a> {
-    /// A name by itself.
+    /// A name by itself: a label by its place, or `true` or `false`.
     Place(&'a Word),
     /// An array by the number of its rows.
     Count(&'a Word),
@@ -60,12 +60,20 @@ pub fn gives_count(name: &Option<Word>, key: KeyRef<'_>) -> bool
     }
 }
 
+/// Whether what an expression names is the place of a label with this name, in whatever case.
+pub fn stands_at(name: &Word, key: KeyRef<'_>) -> bool
+    ensures { result ≡ stands_at name.now.bytes (key_of key.entry) }
+{
+    is_same_key(KeyRef::Place(name), key)
+}
+
 /// Whether a field gives a name a value.
 fn gives_key(field: &Field, key: KeyRef<'_>) -> bool
     ensures { result ≡ gives_key (plain_field field.now) (key_of key.entry) }
 {
     match field {
         Field::Array(array) => gives_count(&array.name, key),
+        Field::Label(name) => stands_at(name, key),
         _ => false,
     }
 }

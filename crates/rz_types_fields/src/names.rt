@@ -1,33 +1,35 @@
-//! What expressions see of names: notes of the numbers of rows, the oldest first, of which the newest of a name counts.
+//! What expressions see of names: notes of the numbers of rows and of places, the oldest first, of which the newest of a
+//! name counts.
 
 ghost use Rattle.std.specs.Prelude.{◌≡◌, ℤ, Option, Some, if◌then◌else◌};
 ghost use Rattle.std.specs.Option.{unwrap_or};
-ghost use Rattle.std.proofs.Common.{rules};
-ghost use Rattle.rz_expr.specs.Environment.{count_key};
+ghost use Rattle.rz_expr.specs.Environment.{count_key, place_key, IsSeenIn};
 ghost use Rattle.rz_expr.specs.Value.{reduced};
 ghost use Rattle.rz_types_fields.specs.Field.{plain_body, plain_field};
 ghost use Rattle.rz_types_fields.specs.Known.{known, noting, stated_by, stated_in, stated_value};
 ghost use Rattle.rz_types_fields.specs.NameKey.{key_of};
 ghost use Rattle.rz_types_fields.specs.Value.{no_bits, see};
 
-use crate::name_key::{KeyRef, counts_rows, declares, gives_count, is_same_key};
+use crate::name_key::{KeyRef, counts_rows, declares, gives_count, stands_at};
 use crate::{Field, fact_of};
 use rz_core::{Facts, Word};
 use rz_expr::{Env, FactWord, predefined, signed};
 
-/// What is known of the number of rows of an array.
+/// What is known of the number of rows of an array, or of the place of a label.
 #[derive(Clone, Copy)]
 pub enum Note<'a> {
     /// A number told how many rows an array has.
     Told(&'a Word, i64),
     /// An array has so many rows.
     Counted(&'a Word, i64),
-    /// A body was entered: its own arrays have no number of rows yet, but the one that is stated.
+    /// A label stands at this place, in bits from the start of the resource.
+    Placed(&'a Word, i32),
+    /// A body was entered: its own labels have no place yet, and its own arrays no number of rows but the one that is stated.
     Entered(&'a [Field]),
 }
 
-/// What an expression sees of a resource and of what was noted: `true` and `false`, the number of rows of each array
-/// that is known, and the facts. (MPW Rez.)
+/// What an expression sees of a resource and of what was noted: `true` and `false`, the place of each label and the
+/// number of rows of each array that is known, and the facts. (MPW Rez.)
 #[derive(Drop)]
 pub struct NamesEnv<'a> {
     /// What is known of the resource.
@@ -39,10 +41,10 @@ pub struct NamesEnv<'a> {
 impl Env for NamesEnv<'_> {
     ghost view = { λ env. see env.facts.now no_bits (known env.notes.now) };
 
-    ghost belongs = { λ env finished. finished ≡ see env.facts.now no_bits (known env.notes.now) };
+    ghost belongs = { λ env finished. IsSeenIn (see env.facts.now no_bits (known env.notes.now)) finished };
 
     fn place(&self, name: &Word) -> Option<i32> {
-        predefined(name)
+        place_of(self.notes, name)
     }
 
     fn count(&self, name: &Word) -> Option<i32> {
@@ -60,7 +62,7 @@ impl Env for NamesEnv<'_> {
         fact_of(self.facts, which)
     }
 
-    ghost law = { Prim.search rules };
+    ghost law = { λ env finished seen. seen };
 }
 
 /// A number, reduced to 32 bits with a sign.
@@ -72,12 +74,12 @@ fn reduced(number: i64) -> i32
 }
 
 /// The number of rows that is known of the arrays of a name, in whatever case. `None` where none is known. It looks
-/// from the newest note on.
+/// from the newest note on, and for each body that was entered through its fields.
 pub fn rows_of(notes: &[Note<'_>], name: &Word) -> Option<i64>
     ensures { result ≡ (known notes.now).give (count_key name.now.bytes) }
 {
     for newer in 0..notes.len() {
-        match says(&notes[notes.len() - 1 - newer], KeyRef::Count(name)) {
+        match counts(&notes[notes.len() - 1 - newer], name) {
             Some(rows) => return rows,
             None => {}
         }
@@ -85,16 +87,56 @@ pub fn rows_of(notes: &[Note<'_>], name: &Word) -> Option<i64>
     None
 }
 
-/// The value that a note gives a name, or that it has none, where the note says it.
-fn says(note: &Note<'_>, key: KeyRef<'_>) -> Option<Option<i64>>
-    ensures { (before : Option ℤ) → noting note.now (key_of key.entry) before ≡ unwrap_or result before }
+/// The place that is known of the label of a name, in whatever case, or the value of `true` or `false`. `None` where
+/// none is known. It looks from the newest note on, and for each body that was entered through its fields.
+pub fn place_of(notes: &[Note<'_>], name: &Word) -> Option<i32>
+    ensures { result ≡ (known notes.now).give (place_key name.now.bytes) }
+{
+    for newer in 0..notes.len() {
+        match places(&notes[notes.len() - 1 - newer], name) {
+            Some(place) => return place,
+            None => {}
+        }
+    }
+    predefined(name)
+}
+
+/// The place that a note gives a label, or that it has none, where the note says it.
+#[tactic(auto, using(crate::proofs::Noting::entered_place))]
+fn places(note: &Note<'_>, name: &Word) -> Option<Option<i32>>
+    ensures { (before : Option ℤ) → noting note.now (place_key name.now.bytes) before ≡ unwrap_or result before }
 {
     match *note {
-        Note::Told(name, rows) => if_so(is_same_key(KeyRef::Count(name), key), rows),
-        Note::Counted(name, rows) => if_so(counts_rows(name, key), rows),
+        Note::Told(..) | Note::Counted(..) => None,
+        Note::Placed(label, place) => {
+            if stands_at(label, KeyRef::Place(name)) {
+                Some(Some(place))
+            } else {
+                None
+            }
+        }
         Note::Entered(fields) => {
-            if declares(fields, key) {
-                Some(wide(stated_in(fields, key)))
+            if declares(fields, KeyRef::Place(name)) {
+                Some(None)
+            } else {
+                None
+            }
+        }
+    }
+}
+
+/// The number of rows that a note gives the arrays of a name, or that they have none, where the note says it.
+fn counts(note: &Note<'_>, name: &Word) -> Option<Option<i64>>
+    ensures { (before : Option ℤ) → noting note.now (count_key name.now.bytes) before ≡ unwrap_or result before }
+{
+    match *note {
+        Note::Told(array, rows) | Note::Counted(array, rows) => {
+            if_so(counts_rows(array, KeyRef::Count(name)), rows)
+        }
+        Note::Placed(..) => None,
+        Note::Entered(fields) => {
+            if declares(fields, KeyRef::Count(name)) {
+                Some(wide(stated_in(fields, KeyRef::Count(name))))
             } else {
                 None
             }

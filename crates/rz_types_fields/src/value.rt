@@ -81,22 +81,28 @@ pub fn is_field_expression(expr: &Expr) -> bool
     }
 }
 
-/// Whether an expression may stand for the size of a text: so far where it may stand in the head for a chosen resource.
+/// Whether an expression may stand for the size of a text: it may have any names and `$$` functions but `$$CountOf`.
 /// (MPW Rez.)
 pub fn is_size_expression(expr: &Expr) -> bool
     ensures { result ≡ is_size_expression (term_of expr.now) }
 {
-    is_field_expression(expr)
+    match expr {
+        Expr::Number(_) | Expr::Fact(_) | Expr::Name(_) => true,
+        Expr::Count(_) => false,
+        Expr::Bits(_, start, width) => is_size_expression(start) && is_size_expression(width),
+        Expr::Unary(_, operand) => is_size_expression(operand),
+        Expr::Binary(_, left, right) => is_size_expression(left) && is_size_expression(right),
+    }
 }
 
-/// Whether an expression may stand for a fixed value: it may have `$$CountOf` too. (MPW Rez.)
+/// Whether an expression may stand for a fixed value: it may have any names and `$$` functions, `$$CountOf` too. (MPW
+/// Rez.)
 pub fn is_fixed_expression(expr: &Expr) -> bool
     ensures { result ≡ is_fixed_expression (term_of expr.now) }
 {
     match expr {
-        Expr::Number(_) | Expr::Count(_) | Expr::Fact(_) => true,
-        Expr::Name(name) => predefined(name).is_some(),
-        Expr::Bits(..) => false,
+        Expr::Number(_) | Expr::Name(_) | Expr::Count(_) | Expr::Fact(_) => true,
+        Expr::Bits(_, start, width) => is_fixed_expression(start) && is_fixed_expression(width),
         Expr::Unary(_, operand) => is_fixed_expression(operand),
         Expr::Binary(_, left, right) => is_fixed_expression(left) && is_fixed_expression(right),
     }

@@ -45,6 +45,7 @@ fn copy_field(alloc: Global, field: &Field) -> Result<Field, NoMemory>
         Field::Points(points) => Ok(Field::Points(copy_points(alloc, points)?)),
         Field::Fill(unit, count) => Ok(Field::Fill(*unit, *count)),
         Field::Align(unit) => Ok(Field::Align(*unit)),
+        Field::Label(name) => Ok(Field::Label(name.copy(alloc)?)),
         Field::Array(array) => Ok(Field::Array(copy_array(alloc, array)?)),
         Field::Switch(cases) => Ok(Field::Switch(copy_cases(alloc, cases)?)),
     }
