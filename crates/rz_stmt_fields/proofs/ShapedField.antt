@@ -16,14 +16,14 @@ use Rattle.rz_stmt_fields.specs.FieldForm.{align_of, count_of, AreNumbers, IsFie
 use Rattle.rz_stmt_fields.specs.FieldFront.{IsFront}
 use Rattle.rz_stmt_fields.specs.FieldValue.{IsFixedExpression}
 use Rattle.rz_stmt_fields.specs.FieldWord.{align_unit, unit_in, unit_word, FieldFront}
-use Rattle.rz_stmt_fields.specs.Form.{case_and, field_and, no_cases, no_fields, Align, Array, BodyForm, CasesForm, FieldForm, Fill, Number, Points, Switch, Text}
+use Rattle.rz_stmt_fields.specs.Form.{case_and, field_and, no_cases, no_fields, Align, Array, BodyForm, CasesForm, FieldForm, Fill, Label, Number, Points, Switch, Text}
 use Rattle.rz_stmt_fields.specs.Key.{IsKey, IsKeyOf}
 use Rattle.rz_stmt_fields.specs.declared.field_word.FieldWord.{FieldWord}
 use Rattle.rz_stmt_fields.specs.declared.field_word.FieldWord.TheVariants as words
 use Rattle.rz_stmt_fields.proofs.Pieces.{lexed_behind}
 use Rattle.rz_stmt_fields.proofs.ShapedNumber.{key_formed, no_key_formed, number_formed, IsKeyFormed, IsNumberFormed}
 use Rattle.rz_types_fields.specs.Field.{PlainPoints}
-use Rattle.rz_types_fields.specs.Shape.{are_fixed_points, is_none_or, is_own_name, is_points_shaped, is_text_shaped, is_unit, numbers_of}
+use Rattle.rz_types_fields.specs.Shape.{are_fixed_points, is_label_name, is_none_or, is_own_name, is_points_shaped, is_text_shaped, is_unit, numbers_of}
 use Rattle.rz_types_fields.specs.Value.{is_fixed_expression}
 
 pub tail_lexed : (tokens : List Token) (front : FieldFront) → IsFront tokens front → AreLexed tokens → AreLexed front.tail
@@ -98,6 +98,7 @@ abbrev mutual
   IsFieldFormed in_case (Points points) = is_points_shaped points ≡ true
   IsFieldFormed in_case (Fill unit count) = is_unit unit ≡ true
   IsFieldFormed in_case (Align unit) = (is_unit unit && not (unit == 1)) ≡ true
+  IsFieldFormed in_case (Label name) = is_label_name name ≡ true
   IsFieldFormed in_case (Array name count row) = (is_none_or is_own_name name ≡ true) × IsBodyFormed false row
   IsFieldFormed in_case (Switch cases) = AreCasesFormed cases
 

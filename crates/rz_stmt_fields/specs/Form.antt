@@ -46,6 +46,7 @@ mutual
     Points : (points : PlainPoints) → FieldForm
     Fill : (unit : ℕ) (count : Option Term) → FieldForm
     Align : (unit : ℕ) → FieldForm
+    Label : (name : Word) → FieldForm
     Array : (name : Option Word) (count : Option Term) (row : BodyForm) → FieldForm
     Switch : (cases : CasesForm) → FieldForm
 
@@ -119,6 +120,7 @@ field_step (FieldExpr-F.Text text) = Text (plain_text text)
 field_step (FieldExpr-F.Points points) = Points (plain_points points)
 field_step (FieldExpr-F.Fill unit count) = Fill unit (option_map term_of count)
 field_step (FieldExpr-F.Align unit) = Align unit
+field_step (FieldExpr-F.Label name) = Label name
 field_step (FieldExpr-F.Array array) = array
 field_step (FieldExpr-F.Switch cases) = Switch (cases_of cases)
 

@@ -49,6 +49,8 @@ pub enum FieldExpr {
     Fill(u8, Option<Expr>),
     /// `align`: a unit in bits.
     Align(u8),
+    /// A label: its name.
+    Label(Word),
     /// `array`
     Array(ArrayExpr),
     /// `switch`

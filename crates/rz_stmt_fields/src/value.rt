@@ -12,8 +12,8 @@ use rz_lex::{Shape, Sign, Token};
 use rz_types_fields::{Exprs, NumForm, is_fixed_expression, is_size_expression};
 use std::alloc::Global;
 
-/// The expression of a size that the tokens are: one without names other than `true` and `false`, and without `$$`
-/// functions other than the facts.
+/// The expression of a size that the tokens are: one without `$$CountOf`. It may name labels, by themselves and in
+/// `$$BitField`, `$$Byte`, `$$Word` and `$$Long`.
 pub fn read_expression(alloc: Global, tokens: &[Token]) -> Result<Option<Expr>, NoMemory>
     ensures { IfOk result (λ expr. Decided (IsSizeExpression tokens.now) (option_map term_of expr)) }
 {
@@ -30,7 +30,7 @@ pub fn read_expression(alloc: Global, tokens: &[Token]) -> Result<Option<Expr>, 
     }
 }
 
-/// The expression of a fixed value that the tokens are: of the `$$` functions it may have `$$CountOf` too.
+/// The expression of a fixed value that the tokens are: it may have `$$CountOf` too.
 fn read_fixed_expression(alloc: Global, tokens: &[Token]) -> Result<Option<Expr>, NoMemory>
     ensures { IfOk result (λ expr. Decided (IsFixedExpression tokens.now) (option_map term_of expr)) }
 {

@@ -99,6 +99,7 @@ module _ (files : ℕ) (mark : Mark) (within : mark.file < files) where
     say_field (form.Points points) = tt
     say_field (form.Fill unit count) = then_say files (count_value mark count) _ (say_count count) (λ value. tt)
     say_field (form.Align unit) = tt
+    say_field (form.Label name) = tt
     say_field (form.Array name count row) =
         then_say files (given_value mark count) _ (say_where_given count) (λ rows. then_say files (body_value mark row) _ (say_body row) (λ fields. tt))
     say_field (form.Switch cases) = then_say files (cases_value mark cases) _ (say_cases cases) (λ made. tt)

@@ -4,6 +4,8 @@ pub mod OneFlat
 pub mod LevelFlat
 pub mod ShapedFlat
 pub mod Starts
+pub mod Labels
+pub mod LabelLeads
 pub mod OneHead
 pub mod OneBody
 pub mod FieldLeads

@@ -16,7 +16,7 @@ use Rattle.rz_stmt_type.specs.declared.constants.Bounds.TheVariants.{Any, One, T
 use Rattle.rz_stmt_type.specs.declared.constants.DeclareStmt.{DeclareStmt}
 use Rattle.rz_stmt_type.specs.declared.constants.Made.{Made}
 use Rattle.rz_stmt_type.specs.declared.constants.Made.TheVariants as ways
-use Rattle.rz_types_fields.specs.Field.{case_and, field_and, no_cases, no_fields, plain_body, Align, Array, Fill, Number, PlainBody, PlainCase, PlainCases, PlainField, PlainNumber, Points, Switch, Text}
+use Rattle.rz_types_fields.specs.Field.{case_and, field_and, no_cases, no_fields, plain_body, Align, Array, Fill, Label, Number, PlainBody, PlainCase, PlainCases, PlainField, PlainNumber, Points, Switch, Text}
 
 -- fields, or what another type is
 pub data PlainMade : Type 0 where
@@ -73,6 +73,7 @@ abbrev mutual
   field_value mark (form.Points points) = Ok (Points points)
   field_value mark (form.Fill unit count) = count_value mark count >>= (λ value. Ok (Fill unit value))
   field_value mark (form.Align unit) = Ok (Align unit)
+  field_value mark (form.Label name) = Ok (Label name)
   -- of an array the count of its rows first, then those of its row
   field_value mark (form.Array name count row) = given_value mark count >>= (λ rows. body_value mark row >>= (λ fields. Ok (Array name rows fields)))
   field_value mark (form.Switch cases) = cases_value mark cases >>= (λ made. Ok (Switch made))

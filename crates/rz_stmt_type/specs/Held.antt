@@ -2,9 +2,11 @@
 use Rattle.std.specs.Prelude.{option_map}
 use Rattle.rz_expr.specs.Term.{term_of}
 use Rattle.rz_stmt_type.specs.Head as head
+use Rattle.rz_stmt_type.specs.Label as label
 use Rattle.rz_stmt_type.specs.Start as start
 use Rattle.rz_stmt_type.specs.declared.head.ArrayFront.{ArrayFront}
 use Rattle.rz_stmt_type.specs.declared.head.CaseFront.{CaseFront}
+use Rattle.rz_stmt_type.specs.declared.label.LabelFront.{LabelFront}
 use Rattle.rz_stmt_type.specs.declared.start.Start.{Start}
 use Rattle.rz_stmt_type.specs.declared.start.Start.TheVariants.{Array, Flat, Key, Switch}
 
@@ -19,3 +21,6 @@ held_array front = record { name = front.name; count = option_map term_of front.
 
 abbrev pub held_case : CaseFront → head.CaseFront
 held_case front = record { name = front.name.now; row = front.row.now }
+
+abbrev pub held_label : LabelFront → label.LabelFront
+held_label front = record { name = front.name.now; behind = front.behind.now }

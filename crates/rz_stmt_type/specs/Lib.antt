@@ -1,5 +1,6 @@
 pub mod Start
 pub mod Head
+pub mod Label
 pub mod Held
 pub mod Flat
 pub mod Body

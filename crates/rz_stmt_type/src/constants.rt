@@ -168,6 +168,7 @@ fn value_field(alloc: Global, mark: Mark, field: FieldExpr) -> Result<Field, Sto
             Err(stop) => Err(stop),
         },
         FieldExpr::Align(unit) => Ok(Field::Align(unit)),
+        FieldExpr::Label(name) => Ok(Field::Label(name)),
         FieldExpr::Array(array) => match value_array(alloc, mark, array) {
             Ok(array) => Ok(Field::Array(array)),
             Err(stop) => Err(stop),

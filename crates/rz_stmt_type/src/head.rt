@@ -125,7 +125,7 @@ pub fn case_front(tokens: &[Token]) -> Option<CaseFront<'_>>
 }
 
 /// Whether it is `:`.
-fn is_colon(token: &Token) -> bool
+pub fn is_colon(token: &Token) -> bool
     ensures { result ≡ is_colon token.now.shape }
 {
     matches!(token.shape, Shape::Sign(Sign::Colon))

@@ -54,11 +54,11 @@ pub fn symbols_have_values()
 
 /// A law, with nothing to run: what a `type` statement within its limits makes of tokens that lines can be cut into is
 /// well shaped, with all that is in its arrays and switches. Each symbol has a value in the range and a name, which is a
-/// word of at most 255 bytes; a type has the width that is its own; fixed values are fixed expressions, and sizes field
+/// word of at most 255 bytes; a type has the width that is its own; fixed values are fixed expressions, and sizes size
 /// expressions; a fixed text has one part or more, a point two numbers and a rectangle four; units are 1, 4, 8, 16 or
-/// 32 bits, and of `align` not 1; the names of arrays and cases are such words; a key stands directly in a case, and
-/// its value is a constant that has one; arrays and switches stand at most 60 deep in one another. A copy of another
-/// type has no fields of its own. (MPW Rez.)
+/// 32 bits, and of `align` not 1; the names of arrays and cases are such words, and those of labels words of at most 255
+/// bytes that mean nothing else; a key stands directly in a case, and its value is a constant that has one; arrays and
+/// switches stand at most 60 deep in one another. A copy of another type has no fields of its own. (MPW Rez.)
 pub fn declarations_are_shaped()
     ensures { (tokens : List Token) (form : DeclareForm) (mark : Mark) (declare : Declare)
         → AreLexed tokens → is_within_limits tokens ≡ true → IsDeclare tokens form → declared mark form ≡ Ok declare

@@ -60,7 +60,6 @@ type 'Byte' { bitstring; }; => 201 on 1
 type 'Byte' { bitstring[]; }; => 201 on 1
 type 'Byte' { byte[3]; }; => 201 on 1
 type 'Byte' { byte = ; }; => 201 on 1
-type 'Byte' { byte = x; }; => 201 on 1
 type 'Byte' { byte a = $$ID; }; => 201 on 1
 type 'Byte' { bitstring[$$ID]; }; => 201 on 1
 type 'Byte' { byte = "a"; }; => 201 on 1
@@ -133,9 +132,28 @@ type 'Byte' { array { bitstring[1 << 40]; }; fill bit[1 / 0]; }; => 215 on 1 40
 type 'Byte' { switch { case a: key bitstring[1 / 0] = 1 << 40; }; }; => 211 on 1
 type 'Byte' { switch { case a: key byte = 1 << 40; case b: byte c = 256; }; }; => 215 on 1 40
 type 'Byte' { switch { case a: byte c = 256; key byte = 1 / 0; }; }; => 207 on 1 256
-// what isn't built yet
-type 'Byte' { x: byte; }; => 201 on 1
-type 'Byte' { integer = $$Word(a); }; => 201 on 1
+// labels, and expressions that name them, here without a value
+type 'Byte' { x: byte; }; => 'Byte' any {label x; byte; }.
+type 'Byte' { x: }; => 'Byte' any {label x; }.
+type 'Byte' { a: b: byte; c: ; d: byte; ; e: f: }; => 'Byte' any {label a; label b; byte; label c; label d; byte; label e; label f; }.
+type 'Byte' { switch { case a: e: key byte = 1; case b: e: }; }; => 'Byte' any {switch a {label e; key byte =1; } b {label e; }; }.
+type 'Byte' { byte = x; }; => 'Byte' any {byte =203 on 1; }.
+type 'Byte' { string[x]; }; => 'Byte' any {string [203 on 1]; }.
+type 'Byte' { integer = $$Word(a); }; => 'Byte' any {integer =203 on 1; }.
+type 'Byte' { string[$$BitField(a, b, 3)]; }; => 'Byte' any {string [203 on 1]; }.
+type 'Byte' { string[$$BitField(a, $$CountOf(b), 3)]; }; => 201 on 1
+type 'Byte' { array { x: byte; }; }; => 201 on 1
+type 'Byte' { array { byte; x: }; }; => 201 on 1
+type 'Byte' { array { switch { case a: x: byte; }; }; }; => 201 on 1
+type 'Byte' { switch { x: case a: }; }; => 201 on 1
+type 'Byte' { true: byte; }; => 201 on 1
+type 'Byte' { locked: byte; }; => 201 on 1
+type 'Byte' { byte: byte; }; => 201 on 1
+type 'Byte' { $$x: byte; }; => 201 on 1
+type 'Byte' { : byte; }; => 201 on 1
+type 'Byte' { x: : byte; }; => 201 on 1
+type 'Byte' { x; byte; }; => 201 on 1
+type 'Byte' { byte x: ; }; => 201 on 1
 // constants without a value, the first from left to right, after the form
 type 'Byte' (1 / 0) { byte; }; => 211 on 1
 type 'Byte' (1 << 32 : 1 / 0) { byte; }; => 215 on 1 32

@@ -143,6 +143,10 @@ fn show_field(seen: Seen<'_>, field: &Field, mark: Mark, text: &mut Text) {
             text.put(b"align ");
             text.number(u64::from(*unit));
         }
+        Field::Label(name) => {
+            text.put(b"label ");
+            text.put(name.bytes.as_slice());
+        }
         Field::Array(array) => show_array(seen, array, mark, text),
         Field::Switch(cases) => show_switch(seen, cases, mark, text),
     }
