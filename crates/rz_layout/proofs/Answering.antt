@@ -13,8 +13,9 @@ use Rattle.rz_layout.specs.declared.fault.LayFault.{LayFault}
 use Rattle.rz_types_fields.specs.declared.tree.Tree.{Tree}
 use Rattle.rz_types_fields.specs.Laid.{laid, Refusal}
 use Rattle.rz_types_fields.specs.Row.{IsRow}
-use Rattle.rz_types.specs.Field.{PlainBody}
+use Rattle.rz_types_fields.specs.Field.{PlainBody}
 use Rattle.rz_types.specs.Kept.{IsKept}
+use Rattle.rz_layout.proofs.Apart.{kept_apart}
 use Rattle.rz_layout.proofs.Complete.{complete}
 use Rattle.rz_layout.proofs.Sound.{sound}
 use Rattle.rz_layout.proofs.Numbers.{Known}
@@ -30,7 +31,7 @@ module _ (read : (bytes : List ℕ) → ((k : ℕ) → slice_index bytes k < 256
 
   module _ (kept : IsKept body) (are : IsRow body row) where
     pub laid_is : (answer : Result (List ℕ) Refusal) → laid known body row ≡ answer → IsCompiled known body row answer
-    laid_is (Ok bytes) is = sound written multiple small known body kept row bytes are is
+    laid_is (Ok bytes) is = sound written multiple small known body (kept_apart body kept) row bytes are is
     laid_is (Err fault) is = (are, is)
 
     pub one_answer : (answer : Result (List ℕ) Refusal) × IsCompiled known body row answer

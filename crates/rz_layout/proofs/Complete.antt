@@ -1,30 +1,192 @@
--- What is spelled is laid so: fields, rows, cases and bodies.
-use Rattle.std.proofs.Common.{◌≡◌, ℕ, ◌+◌, ◌<◌, ℤ, Bool, true, false, List, [], ◌∷◌, length, Option, Some, None, Result, Ok, refl, sym, ap, subst, ◌∙◌}
+-- What is spelled is laid so: fields, rows, cases and bodies, and then the late numbers.
+use Rattle.std.proofs.Common.{◌≡◌, ℕ, zero, suc, ◌+◌, ◌<◌, ℤ, Bool, true, false, ◌||◌, List, [], ◌∷◌, ◌++◌, length, take, drop, map, replicate, Option, Some, None, Result, Ok, refl, sym, ap, subst, ◌∙◌, arith}
 use Rattle.std.specs.Prelude.{if◌then◌else◌, slice_index}
-use Rattle.std.specs.Option.{is_some}
+use Rattle.std.specs.List.{AllByRecursion}
+use Rattle.std.specs.Option.{is_none, is_some, option_to_list}
+use Rattle.std.proofs.Math.Path.{fun_ext}
+use Rattle.std.proofs.lemmas.List.{length-take-le, take-append-drop}
+use Rattle.rz_core.proofs.Tests.{true_false}
 use Rattle.rz_core.specs.Stop.{◌>>=◌}
 use Rattle.rz_core.specs.declared.facts.Facts.{Facts}
 use Rattle.rz_core.specs.declared.resource.Word.{Word}
-use Rattle.rz_expr.specs.Environment.{Environment}
 use Rattle.rz_bits.specs.Bits.{bits_of, bytes_of}
 use Rattle.rz_bits.specs.BitBuf.{filled}
+use Rattle.rz_expr.specs.Environment.{count_of, place_of, Environment, Key, Sight}
+use Rattle.rz_expr.specs.Term.{Term}
+use Rattle.rz_types_fields.specs.declared.field.NumForm.{NumForm}
+use Rattle.rz_types_fields.specs.declared.field.TextForm.{TextForm}
 use Rattle.rz_types_fields.specs.declared.tree.Tree.{Tree}
 use Rattle.rz_types_fields.specs.declared.tree.Tree.TheVariants as trees
-use Rattle.rz_types_fields.specs.Laid.{body_laid, case_laid, counted, field_laid, first_value, laid, line_in, nothing_laid, other_values, pieces_laid, row_laid, rows_in, rows_laid, with_names, Draft, Refusal}
+use Rattle.rz_types_fields.specs.Field.{case_and, field_and, no_cases, no_fields, takes_value, Align, Array, Fill, Label, Number, PlainBody, PlainCases, PlainField, Points, Switch, Text}
+use Rattle.rz_types_fields.specs.Known.{names_inside}
+use Rattle.rz_types_fields.specs.Laid.{body_laid, case_laid, closing, counted, enter, entered, field_laid, fill, first_value, in_order, laid, late_bits, lay, leave, line_in, nothing_laid, other_values, outside_of, pieces_laid, row_laid, rows_in, rows_laid, takes_one, then_laid, Draft, LateNumber, Refusal}
+use Rattle.rz_types_fields.specs.Passed.{at_field, at_front, behind, behind_piece, declares, gives_key, nothing_passed, outside, Names, Passed}
+use Rattle.rz_types_fields.specs.Piece.{fixed_integer, free_integer, integers, pieces_of, Filler, OneNumber, OneText, Piece, Place, Zeros}
 use Rattle.rz_types_fields.specs.Row.{By}
-use Rattle.rz_types_fields.specs.Spells.{is_case, row_of, values_for, BodySpells, CaseSpells, FieldSpells, Inside, IsCounted, Late, PiecesSpell, RowOf, RowsSpell, Spells}
-use Rattle.rz_types.specs.Field.{case_and, field_and, no_cases, no_fields, takes_value, Align, Array, Fill, Number, PlainBody, PlainCases, PlainField, Points, Switch, Text}
-use Rattle.rz_types.specs.Passed.{at_field, at_front, behind, nothing_passed, outside, Passed}
-use Rattle.rz_types.specs.Piece.{pieces_of, Filler, OneNumber, OneText, Zeros}
-use Rattle.rz_layout.proofs.Own.{own_same, AreCounted, FieldCounted}
-use Rattle.rz_layout.proofs.Spelling.{first_is, good, group_taken, one_taken, others_are, pieces_goes, then_goes, Fits, Goes}
+use Rattle.rz_types_fields.specs.Sees.{is_later, sees, Late}
+use Rattle.rz_types_fields.specs.Shape.{numbers_of}
+use Rattle.rz_types_fields.specs.Spells.{is_case, put, row_of, values_for, AreBytes, BodySpells, CaseSpells, FieldSpells, InOrder, Inside, IsCounted, IsGrouped, IsNumber, PieceSpells, PiecesSpell, RowOf, RowsSpell, Spells, Within}
+use Rattle.rz_types_fields.specs.Text.{PlainPart}
+use Rattle.rz_layout.proofs.Counts.{own_is, AreCounted, FieldCounted}
+use Rattle.rz_layout.proofs.Fitting.{goes_both, goes_done, goes_met, met_piece, piece_goes, Fits, Goes, SamePlaces}
+use Rattle.rz_layout.proofs.Masks.{masked}
+use Rattle.rz_layout.proofs.Labels.{behind_met, entered_none, inside_later, met_all, met_behind, met_entered, met_front, none_later, own_later, piece_met, place_label, MetKnown}
+use Rattle.rz_layout.proofs.Texts.{good}
 use Rattle.rz_layout.proofs.Trees.{line_is, rows_are}
+use Rattle.rz_layout.proofs.Tracks.{fill_goes, tracks-map, Holds}
 
 either : (P This Other : Type 0) → (This → P) → (Other → P) → (test : Bool) → By test This Other → P
 either P This Other one other true it = one it
 either P This Other one other false it = other it
 
+-- Where a value is taken.
+
+number_taken : (passed : Passed) (form : NumForm) (width : ℤ) (fixed : Option Term) (sight : Sight) (value : Option Tree) (bits : List Bool) → IsNumber false passed form width fixed sight value bits → is_some value ≡ is_none fixed
+number_taken passed form width None sight value bits it = ap is_some it.1
+number_taken passed form width (Some term) sight value bits it = ap is_some it.1
+
+bytes_taken : (form : TextForm) (known : Facts) (sight : Sight) (fixed : Option (List PlainPart)) (size : Option ℕ) (value : Option Tree) (bytes : List ℕ)
+    → AreBytes false form known sight fixed size value bytes → is_some value ≡ is_none fixed
+bytes_taken form known sight None size value bytes it = ap is_some it.0
+bytes_taken form known sight (Some parts) size value bytes it = ap is_some it.0
+
+group_taken : (fixed : Option (List Term)) (value : Option Tree) → IsGrouped fixed value → is_some value ≡ is_none fixed
+group_taken None value it = ap is_some it.1
+group_taken (Some terms) value it = ap is_some it
+
+first_is : (takes : Bool) (value : Option Tree) (rest : List Tree) → is_some value ≡ takes → first_value takes (put value rest) ≡ value
+first_is true (Some value) rest is = refl
+first_is true None rest is = absurd cc
+first_is false (Some value) rest is = absurd cc
+first_is false None rest is = refl
+
+others_are : (takes : Bool) (value : Option Tree) (rest : List Tree) → is_some value ≡ takes → other_values takes (put value rest) ≡ rest
+others_are true (Some value) rest is = refl
+others_are true None rest is = absurd cc
+others_are false (Some value) rest is = absurd cc
+others_are false None rest is = refl
+
+-- The pieces of a field but for a label have no places.
+
+abbrev pub is_place : Piece → Bool
+is_place (OneNumber number) = false
+is_place (OneText text) = false
+is_place (Zeros count) = false
+is_place (Filler unit) = false
+is_place (Place name) = true
+
+abbrev pub Unplaced : List Piece → Type 0
+Unplaced pieces = AllByRecursion (λ piece. is_place piece ≡ false) pieces
+
+unplaced_same : (piece : Piece) (passed : Passed) → is_place piece ≡ false → SamePlaces (met_piece piece passed.met) passed.met
+unplaced_same (OneNumber number) passed none name = refl
+unplaced_same (OneText text) passed none name = refl
+unplaced_same (Zeros count) passed none name = refl
+unplaced_same (Filler unit) passed none name = refl
+unplaced_same (Place own) passed none name = absurd (true_false none)
+
+free_unplaced : (n : ℕ) → Unplaced (replicate n free_integer)
+free_unplaced zero = tt
+free_unplaced (suc n) = (refl, free_unplaced n)
+
+fixed_unplaced : (terms : List Term) → Unplaced (map fixed_integer terms)
+fixed_unplaced [] = tt
+fixed_unplaced (term ∷ terms) = (refl, fixed_unplaced terms)
+
+pub points_unplaced : (rect : Bool) (fixed : Option (List Term)) → Unplaced (integers rect fixed)
+points_unplaced rect None = free_unplaced (numbers_of rect)
+points_unplaced rect (Some terms) = fixed_unplaced terms
+
+pub same_behind : (piece : Piece) (passed : Passed) → SamePlaces passed.met (behind_piece piece passed).met
+same_behind piece passed name = ap (λ (met : Names). met (place_of name)) (sym (piece_met piece passed))
+
+places_then : (one two three : Names) → SamePlaces one two → SamePlaces two three → SamePlaces one three
+places_then one two three first second name = first name ∙ second name
+
+pub places_back : (one two : Names) → SamePlaces one two → SamePlaces two one
+places_back one two first name = sym (first name)
+
+pub met_all_same : (body : PlainBody) (one two : Names) → SamePlaces one two → SamePlaces (met_all body one) (met_all body two)
+met_all_same no_fields one two same = same
+met_all_same (field_and field fields) one two same =
+    met_all_same fields (met_behind field one) (met_behind field two) (λ name. ap (λ (test : Bool). gives_key field (place_of name) || test) (same name))
+
+pub array_same : (name : Option Word) (count : Option ℤ) (row : PlainBody) (met : Names) → SamePlaces met (met_behind (Array name count row) met)
+array_same name count row met key = sym (ap (λ (test : Bool). test || met (place_of key)) (place_label (Array name count row) key))
+
+pub own_give : (test : Bool) (x y z : Option ℤ) → (test ≡ true → x ≡ z) → (test ≡ false → y ≡ z) → (if test then x else y) ≡ z
+own_give true x y z one other = one refl
+own_give false x y z one other = other refl
+
 module _ (known : Facts) (all : List Bool) where
+  -- Pieces.
+
+  piece_taken : (names : Environment) (passed : Passed) (piece : Piece) (value : Option Tree) (at after : ℕ) (late late_after : Late)
+      → PieceSpells false known all names passed piece value at late after late_after → is_some value ≡ takes_one piece
+  piece_taken names passed (OneNumber number) value at after late late_after it = number_taken passed number.form number.width number.fixed (sees known all names at) value it.bits it.stored
+  piece_taken names passed (OneText text) value at after late late_after it = bytes_taken text.form known (sees known all names at) text.fixed it.stored.size value it.stored.bytes it.stored.are_bytes
+  piece_taken names passed (Zeros count) value at after late late_after it = ap is_some it.stored.0
+  piece_taken names passed (Filler unit) value at after late late_after it = ap is_some it.stored.0
+  piece_taken names passed (Place name) value at after late late_after it = ap is_some it.stored.0
+
+  -- one with its value or none, and the others behind it
+  then_goes : (names : Environment) (met one_met : Names) (takes : Bool) (value : Option Tree) (rest values : List Tree) → values ≡ put value rest → is_some value ≡ takes
+      → (one : Option Tree → Result Draft Refusal) (others : Draft → List Tree → Result Draft Refusal) (at : ℕ) (late : Late) (mid : ℕ) (late_mid : Late) (after : ℕ) (late_after : Late) (draft : Draft) → length late ≡ at
+      → (first : Goes known all names one_met at late mid late_mid draft (one value)) → Goes known all names met mid late_mid after late_after first.next (others first.next rest)
+      → Goes known all names met at late after late_after draft (then_laid takes one others values)
+  then_goes names met one_met takes value rest values are is_taken one others at late mid late_mid after late_after draft marks first more =
+      let is_first : first_value takes values ≡ value = ap (first_value takes) are ∙ first_is takes value rest is_taken in
+      let is_rest : other_values takes values ≡ rest = ap (other_values takes) are ∙ others_are takes value rest is_taken in
+      subst (λ (v : Option Tree). Goes known all names met at late after late_after draft (one v >>= λ next. others next (other_values takes values))) (sym is_first)
+      (subst (λ (vs : List Tree). Goes known all names met at late after late_after draft (one value >>= λ next. others next vs)) (sym is_rest)
+      (goes_both known all names one_met met at late mid late_mid after late_after draft (one value) (λ next. others next rest) marks first more))
+
+  pieces_goes : (names : Environment) (passed : Passed) (pieces : List Piece) → Unplaced pieces → (values : List Tree) (at after : ℕ) (late late_after : Late)
+      → InOrder (PieceSpells false known all names) passed pieces values at late after late_after
+      → (draft : Draft) → Fits known all names passed.met at late draft → MetKnown passed.met draft.known
+      → Goes known all names passed.met at late after late_after draft (in_order takes_one (lay known) draft pieces values)
+  pieces_goes names passed [] none values at after late late_after it draft fits met_known = goes_done known all names passed.met at late after late_after draft it.1 it.2 fits met_known
+  pieces_goes names passed (piece ∷ pieces) none values at after late late_after (value, rest, mid, late_mid, are, one, others) draft fits met_known =
+      let next_met = (behind_piece piece passed).met in
+      let first = goes_met known all names (met_piece piece passed.met) next_met
+      (places_then (met_piece piece passed.met) passed.met next_met (unplaced_same piece passed none.0) (same_behind piece passed)) at late mid late_mid draft (lay known draft piece value)
+      (piece_goes known all names passed at late draft fits met_known piece value mid late_mid one) in
+      let more = goes_met known all names next_met passed.met (places_back passed.met next_met (same_behind piece passed)) mid late_mid after late_after first.next (in_order takes_one (lay known) first.next pieces rest)
+      (pieces_goes names (behind_piece piece passed) pieces none.1 rest mid after late_mid late_after others first.next first.fits first.met_known) in
+      then_goes names passed.met next_met (takes_one piece) value rest values are (piece_taken names passed piece value at mid late late_mid one) (lay known draft piece)
+      (λ next values. in_order takes_one (lay known) next pieces values) at late mid late_mid after late_after draft fits.marks first more
+
+  pieces_go : (names : Environment) (passed : Passed) (field : PlainField) → Unplaced (pieces_of field) → (value : Option Tree) (at after : ℕ) (late late_after : Late)
+      → PiecesSpell false known all field names passed value at late after late_after → (draft : Draft) → Fits known all names passed.met at late draft → MetKnown passed.met draft.known
+      → Goes known all names passed.met at late after late_after draft (pieces_laid known draft field value)
+  pieces_go names passed field none value at after late late_after it draft fits met_known =
+      pieces_goes names passed (pieces_of field) none (values_for field value) at after late late_after it.1 draft fits met_known
+
+  label_goes : (names : Environment) (passed : Passed) (name : Word) (value : Option Tree) (at after : ℕ) (late late_after : Late)
+      → PiecesSpell false known all (Label name) names passed value at late after late_after → (draft : Draft) → Fits known all names passed.met at late draft → MetKnown passed.met draft.known
+      → Goes known all names (met_behind (Label name) passed.met) at late after late_after draft (pieces_laid known draft (Label name) value)
+  label_goes names passed name value at after late late_after (grouped, (own, rest, mid, late_mid, are, one, end)) draft fits met_known =
+      let first = piece_goes known all names passed at late draft fits met_known (Place name) own mid late_mid one in
+      then_goes names (met_piece (Place name) passed.met) (met_piece (Place name) passed.met) false own rest (option_to_list value) are (piece_taken names passed (Place name) own at mid late late_mid one) (lay known draft (Place name))
+      (λ next values. Ok next) at late mid late_mid after late_after draft fits.marks first
+      (goes_done known all names (met_piece (Place name) passed.met) mid late_mid after late_after first.next end.1 end.2 first.fits first.met_known)
+
+  -- A single piece takes the value that there is.
+
+  single : (value v : Option Tree) (rest : List Tree) → rest ≡ [] → option_to_list value ≡ put v rest → is_some value ≡ is_some v
+  single value v rest none are = by value v (are ∙ ap (put v) none)
+    where
+      by : (value v : Option Tree) → option_to_list value ≡ put v [] → is_some value ≡ is_some v
+      by None None is = refl
+      by None (Some v) is = absurd cc
+      by (Some value) None is = absurd cc
+      by (Some value) (Some v) is = refl
+
+  one_taken : (names : Environment) (passed : Passed) (piece : Piece) (value : Option Tree) (at after : ℕ) (late late_after : Late)
+      → InOrder (PieceSpells false known all names) passed (piece ∷ []) (option_to_list value) at late after late_after → is_some value ≡ takes_one piece
+  one_taken names passed piece value at after late late_after (v, rest, mid, late_mid, are, one, behind) =
+      single value v rest behind.0 are ∙ piece_taken names passed piece v at mid late late_mid one
+
   -- A field takes a value where it has one.
 
   module _ (names : Environment) where
@@ -39,11 +201,12 @@ module _ (known : Facts) (all : List Bool) where
 
     field_taken : (passed : Passed) (field : PlainField) (value : Option Tree) (at after : ℕ) (late late_after : Late)
         → FieldSpells false known all field names passed value at late after late_after → is_some value ≡ takes_value field
-    field_taken passed (Number number) value at after late late_after it = one_taken all known names passed (OneNumber number) value at after late late_after it.1
-    field_taken passed (Text text) value at after late late_after it = one_taken all known names passed (OneText text) value at after late late_after it.1
+    field_taken passed (Number number) value at after late late_after it = one_taken names passed (OneNumber number) value at after late late_after it.1
+    field_taken passed (Text text) value at after late late_after it = one_taken names passed (OneText text) value at after late late_after it.1
     field_taken passed (Points points) value at after late late_after it = group_taken points.fixed value it.0
-    field_taken passed (Fill unit count) value at after late late_after it = one_taken all known names passed (Zeros _) value at after late late_after it.1
-    field_taken passed (Align unit) value at after late late_after it = one_taken all known names passed (Filler unit) value at after late late_after it.1
+    field_taken passed (Fill unit count) value at after late late_after it = one_taken names passed (Zeros _) value at after late late_after it.1
+    field_taken passed (Align unit) value at after late late_after it = one_taken names passed (Filler unit) value at after late late_after it.1
+    field_taken passed (Label name) value at after late late_after it = one_taken names passed (Place name) value at after late late_after it.1
     field_taken passed (Array name count row) value at after late late_after it = ap is_some it.1
     field_taken passed (Switch cases) value at after late late_after it = case_taken passed cases value at after late late_after it
 
@@ -56,6 +219,7 @@ module _ (known : Facts) (all : List Bool) where
     field_counted passed (Points points) value at after late late_after it = tt
     field_counted passed (Fill unit count) value at after late late_after it = tt
     field_counted passed (Align unit) value at after late late_after it = tt
+    field_counted passed (Label name) value at after late late_after it = tt
     field_counted passed (Array name count row) value at after late late_after it =
         subst (λ (rows : List (List Tree)). IsCounted name (length rows) names) (sym (rows_are it.0) ∙ sym (ap rows_in it.1)) it.3
     field_counted passed (Switch cases) value at after late late_after it = tt
@@ -76,104 +240,143 @@ module _ (known : Facts) (all : List Bool) where
 
   abbrev BodyGoes : PlainBody → Type 0
   BodyGoes body = (passed : Passed) (own : Environment) (values : List Tree) (at after : ℕ) (late late_after : Late)
-      → BodySpells false known all body own passed values at late after late_after → (draft : Draft) → Fits all own draft at
-      → Goes all own (body_laid known draft body values) after
+      → BodySpells false known all body own passed values at late after late_after → (draft : Draft) → Fits known all own passed.met at late draft → MetKnown passed.met draft.known
+      → Goes known all own (met_all body passed.met) at late after late_after draft (body_laid known draft body values)
+
+  entered_fits : (row : PlainBody) (which : Option RowOf) (names own : Environment) (met : Names) (line : List Tree) (at : ℕ) (late : Late) (draft : Draft) → Within row which names own → AreCounted row line own
+      → Fits known all names met at late draft → Fits known all own (met_front row met) at late (enter row line draft)
+  entered_fits row which names own met line at late draft within counted fits = record {
+    bits = fits.bits;
+    len = fits.len;
+    late_is = fits.late_is;
+    marks = fits.marks;
+    within = fits.within;
+    names_are = λ key now. by key now (declares row key) refl;
+  }
+    where
+      declared : (key : Key) → is_later (met_front row met) key ≡ false → declares row key ≡ true → (entered row line draft.known).give key ≡ own.give key
+      declared (place_of name) now is = absurd (true_false (sym (own_later row met name is) ∙ now))
+      declared (count_of name) now is = sym (own_is row line own (names_inside row draft.known) name counted is)
+
+      by : (key : Key) → is_later (met_front row met) key ≡ false → (test : Bool) → declares row key ≡ test → (entered row line draft.known).give key ≡ own.give key
+      by key now true is = declared key now is
+      by key now false is = entered_none row line draft.known key is ∙ fits.names_are key (sym (inside_later row met key is) ∙ now) ∙ sym (within.give key is)
+
+  -- at the end of a row its names have what they have in the end
+  outside_is : (row : PlainBody) (which : Option RowOf) (names own : Environment) (met : Names) (at : ℕ) (late : Late) (draft : Draft) → Within row which names own → Fits known all own (met_all row met) at late draft
+      → outside_of row draft.known names ≡ own
+  outside_is row which names own met at late draft within fits = λ i. record {
+    give = fun_ext (λ key.
+        own_give (declares row key) (draft.known.give key) (names.give key) (own.give key) (λ is. fits.names_are key (none_later row met key is)) (λ is. sym (within.give key is))) i;
+  }
 
   inside_goes : (row : PlainBody) → BodyGoes row → (passed : Passed) (which : Option RowOf) (names : Environment) (line : List Tree) (at after : ℕ) (late late_after : Late)
-      → Inside row which names (λ own. BodySpells false known all row own (at_front row passed) line) at late after late_after → (draft : Draft) → Fits all names draft at
-      → Goes all names (row_laid known row draft line) after
-  inside_goes row goes passed which names line at after late late_after (own, within, spells) draft fits =
-      let same : counted row line draft.known ≡ own =
-      ap (counted row line) fits.known ∙ sym (own_same row which line names own within (body_counted own (at_front row passed) row line at after late late_after spells)) in
-      let inner = goes (at_front row passed) own line at after late late_after spells (with_names (counted row line draft.known) draft)
-      (record { front = fits.front; size = fits.size; known = same }) in
+      → Inside row which names (λ own. BodySpells false known all row own (at_front row passed) line) at late after late_after → (draft : Draft) → Fits known all names passed.met at late draft → MetKnown passed.met draft.known
+      → Goes known all names passed.met at late after late_after draft (row_laid known row draft line)
+  inside_goes row goes passed which names line at after late late_after (own, within, spells) draft fits met_known =
+      let inner = goes (at_front row passed) own line at after late late_after spells (enter row line draft)
+      (entered_fits row which names own passed.met line at late draft within (body_counted own (at_front row passed) row line at after late late_after spells) fits)
+      (met_entered row line passed.met draft.known met_known) in
+      let same = outside_is row which names own (met_front row passed.met) after late_after inner.next within inner.fits in
       record {
-        next = with_names draft.known inner.next;
-        is = ap (λ (r : Result Draft Refusal). r >>= λ next. good (with_names draft.known next)) inner.is;
-        fits = record { front = inner.fits.front; size = inner.fits.size; known = fits.known };
+        next = leave row draft inner.next;
+        is = ap (λ (r : Result Draft Refusal). r >>= λ next. good (leave row draft next)) inner.is;
+        fits = record { bits = inner.fits.bits; len = inner.fits.len; late_is = inner.fits.late_is; marks = inner.fits.marks; within = inner.fits.within; names_are = fits.names_are };
+        met_known = met_known;
+        more = inner.more;
+        more_is = inner.more_is;
+        numbers = map (closing row inner.next.known) inner.numbers;
+        numbers_are = ap (λ (n : List LateNumber). draft.numbers ++ map (closing row inner.next.known) n) inner.numbers_are;
+        tracks = tracks-map (Holds known all own) (Holds known all names) (closing row inner.next.known) (λ one. refl) (λ one. refl)
+            (λ one holds. record { bits = holds.bits; value = ap (λ (e : Environment). late_bits known e one all) same ∙ holds.value; there = holds.there; width = holds.width })
+            at inner.numbers inner.more inner.tracks;
       }
 
   rows_goes : (name : Option Word) (row : PlainBody) → BodyGoes row → (passed : Passed) (names : Environment) (number : ℕ) (rows : List (List Tree)) (at after : ℕ) (late late_after : Late)
       → RowsSpell (λ number line. Inside row (row_of name number) names (λ own. BodySpells false known all row own (at_front row passed) line)) number rows at late after late_after
-      → (draft : Draft) → Fits all names draft at → Goes all names (rows_laid (row_laid known row) draft rows) after
-  rows_goes name row goes passed names number [] at after late late_after it draft fits = record { next = draft; is = refl; fits = subst (Fits all names draft) (sym it.0) fits }
-  rows_goes name row goes passed names number (line ∷ rows) at after late late_after (mid, late_mid, one, others) draft fits =
-      let first = inside_goes row goes passed (row_of name number) names line at mid late late_mid one draft fits in
-      let more = rows_goes name row goes passed names (number + 1) rows mid after late_mid late_after others first.next first.fits in
-      record {
-        next = more.next;
-        is = ap (λ (r : Result Draft Refusal). r >>= λ next. rows_laid (row_laid known row) next rows) first.is ∙ more.is;
-        fits = more.fits;
-      }
-
-  pieces_go : (passed : Passed) (field : PlainField) (names : Environment) (value : Option Tree) (at after : ℕ) (late late_after : Late)
-      → PiecesSpell false known all field names passed value at late after late_after → (draft : Draft) → Fits all names draft at
-      → Goes all names (pieces_laid known draft field value) after
-  pieces_go passed field names value at after late late_after it draft fits =
-      pieces_goes all known names passed (pieces_of field) (values_for field value) at after late late_after it.1 draft fits
+      → (draft : Draft) → Fits known all names passed.met at late draft → MetKnown passed.met draft.known → Goes known all names passed.met at late after late_after draft (rows_laid (row_laid known row) draft rows)
+  rows_goes name row goes passed names number [] at after late late_after it draft fits met_known = goes_done known all names passed.met at late after late_after draft it.0 it.1 fits met_known
+  rows_goes name row goes passed names number (line ∷ rows) at after late late_after (mid, late_mid, one, others) draft fits met_known =
+      let first = inside_goes row goes passed (row_of name number) names line at mid late late_mid one draft fits met_known in
+      goes_both known all names passed.met passed.met at late mid late_mid after late_after draft (row_laid known row draft line) (λ next. rows_laid (row_laid known row) next rows) fits.marks first
+      (rows_goes name row goes passed names (number + 1) rows mid after late_mid late_after others first.next first.fits first.met_known)
 
   abbrev FieldGoes : PlainField → Type 0
   FieldGoes field = (passed : Passed) (names : Environment) (value : Option Tree) (at after : ℕ) (late late_after : Late)
-      → FieldSpells false known all field names passed value at late after late_after → (draft : Draft) → Fits all names draft at
-      → Goes all names (field_laid known draft field value) after
+      → FieldSpells false known all field names passed value at late after late_after → (draft : Draft) → Fits known all names passed.met at late draft → MetKnown passed.met draft.known
+      → Goes known all names (met_behind field passed.met) at late after late_after draft (field_laid known draft field value)
 
   abbrev CasesGo : PlainCases → Type 0
   CasesGo cases = (passed : Passed) (names : Environment) (value : Option Tree) (at after : ℕ) (late late_after : Late)
-      → CaseSpells false known all cases names passed value at late after late_after → (draft : Draft) → Fits all names draft at
-      → Goes all names (case_laid known draft cases value) after
+      → CaseSpells false known all cases names passed value at late after late_after → (draft : Draft) → Fits known all names passed.met at late draft → MetKnown passed.met draft.known
+      → Goes known all names passed.met at late after late_after draft (case_laid known draft cases value)
 
   case_goes : (row : PlainBody) → BodyGoes row → (passed : Passed) (names : Environment) (name : Word) (value : Option Tree) (at after : ℕ) (late late_after : Late)
       → (line : List Tree) × (value ≡ Some (trees.Choice name line)) × Inside row None names (λ own. BodySpells false known all row own (at_front row passed) line) at late after late_after
-      → (draft : Draft) → Fits all names draft at → Goes all names (row_laid known row draft (line_in value)) after
-  case_goes row goes passed names name value at after late late_after (line, is, inside) draft fits =
-      subst (λ (l : List Tree). Goes all names (row_laid known row draft l) after) (sym (ap line_in is ∙ line_is name line))
-      (inside_goes row goes passed None names line at after late late_after inside draft fits)
+      → (draft : Draft) → Fits known all names passed.met at late draft → MetKnown passed.met draft.known → Goes known all names passed.met at late after late_after draft (row_laid known row draft (line_in value))
+  case_goes row goes passed names name value at after late late_after (line, is, inside) draft fits met_known =
+      subst (λ (l : List Tree). Goes known all names passed.met at late after late_after draft (row_laid known row draft l)) (sym (ap line_in is ∙ line_is name line))
+      (inside_goes row goes passed None names line at after late late_after inside draft fits met_known)
 
-  by_test : (names : Environment) (This Other : Type 0) (this other : Result Draft Refusal) (after : ℕ) → (This → Goes all names this after) → (Other → Goes all names other after)
-      → (test : Bool) → By test This Other → Goes all names (if test then this else other) after
-  by_test names This Other this other after one more true it = one it
-  by_test names This Other this other after one more false it = more it
+  by_case : (names : Environment) (met : Names) (This Other : Type 0) (this other : Result Draft Refusal) (at : ℕ) (late : Late) (after : ℕ) (late_after : Late) (draft : Draft)
+      → (This → Goes known all names met at late after late_after draft this) → (Other → Goes known all names met at late after late_after draft other)
+      → (test : Bool) → By test This Other → Goes known all names met at late after late_after draft (if test then this else other)
+  by_case names met This Other this other at late after late_after draft one more true it = one it
+  by_case names met This Other this other at late after late_after draft one more false it = more it
 
   array_goes : (name : Option Word) (count : Option ℤ) (row : PlainBody) → BodyGoes row → FieldGoes (Array name count row)
-  array_goes name count row goes passed names value at after late late_after (rows, is, stated, counts, spells) draft fits =
-      subst (λ (lines : List (List Tree)). Goes all names (rows_laid (row_laid known row) draft lines) after)
+  array_goes name count row goes passed names value at after late late_after (rows, is, stated, counts, spells) draft fits met_known =
+      goes_met known all names passed.met (met_behind (Array name count row) passed.met) (array_same name count row passed.met) at late after late_after draft (rows_laid (row_laid known row) draft (rows_in value))
+      (subst (λ (lines : List (List Tree)). Goes known all names passed.met at late after late_after draft (rows_laid (row_laid known row) draft lines))
       (sym (ap rows_in is ∙ rows_are rows))
-      (rows_goes name row goes passed names 1 rows at after late late_after spells draft fits)
+      (rows_goes name row goes passed names 1 rows at after late late_after spells draft fits met_known))
 
   mutual
     field_goes : (field : PlainField) → FieldGoes field
-    field_goes (Number number) passed names = pieces_go passed (Number number) names
-    field_goes (Text text) passed names = pieces_go passed (Text text) names
-    field_goes (Points points) passed names = pieces_go passed (Points points) names
-    field_goes (Fill unit count) passed names = pieces_go passed (Fill unit count) names
-    field_goes (Align unit) passed names = pieces_go passed (Align unit) names
+    field_goes (Number number) passed names = pieces_go names passed (Number number) (refl, tt)
+    field_goes (Text text) passed names = pieces_go names passed (Text text) (refl, tt)
+    field_goes (Points points) passed names = pieces_go names passed (Points points) (points_unplaced points.rect points.fixed)
+    field_goes (Fill unit count) passed names = pieces_go names passed (Fill unit count) (refl, tt)
+    field_goes (Align unit) passed names = pieces_go names passed (Align unit) (refl, tt)
+    field_goes (Label name) passed names = label_goes names passed name
     field_goes (Array name count row) passed names = array_goes name count row (body_goes row) passed names
     field_goes (Switch cases) passed names = cases_go cases passed names
 
     cases_go : (cases : PlainCases) → CasesGo cases
-    cases_go no_cases passed names value at after late late_after it draft fits = absurd it
-    cases_go (case_and name row others) passed names value at after late late_after it draft fits =
-        by_test names ((line : List Tree) × (value ≡ Some (trees.Choice name line)) × Inside row None names (λ own. BodySpells false known all row own (at_front row passed) line) at late after late_after)
+    cases_go no_cases passed names value at after late late_after it draft fits met_known = absurd it
+    cases_go (case_and name row others) passed names value at after late late_after it draft fits met_known =
+        by_case names passed.met ((line : List Tree) × (value ≡ Some (trees.Choice name line)) × Inside row None names (λ own. BodySpells false known all row own (at_front row passed) line) at late after late_after)
         (CaseSpells false known all others names passed value at late after late_after)
-        (row_laid known row draft (line_in value)) (case_laid known draft others value) after
-        (λ one. case_goes row (body_goes row) passed names name value at after late late_after one draft fits)
-        (λ other. cases_go others passed names value at after late late_after other draft fits)
+        (row_laid known row draft (line_in value)) (case_laid known draft others value) at late after late_after draft
+        (λ one. case_goes row (body_goes row) passed names name value at after late late_after one draft fits met_known)
+        (λ other. cases_go others passed names value at after late late_after other draft fits met_known)
         (is_case name value) it
 
     body_goes : (body : PlainBody) → BodyGoes body
-    body_goes no_fields passed own values at after late late_after it draft fits = record { next = draft; is = refl; fits = subst (Fits all own draft) (sym it.1) fits }
-    body_goes (field_and field fields) passed own values at after late late_after (value, rest, mid, late_mid, are, one, others) draft fits =
+    body_goes no_fields passed own values at after late late_after it draft fits met_known = goes_done known all own passed.met at late after late_after draft it.1 it.2 fits met_known
+    body_goes (field_and field fields) passed own values at after late late_after (value, rest, mid, late_mid, are, one, others) draft fits met_known =
         let here = at_field (field_and field fields) passed in
-        let first = field_goes field here own value at mid late late_mid one draft fits in
-        then_goes all own (takes_value field) value rest values are (field_taken own here field value at mid late late_mid one) (field_laid known draft field)
-        (λ next values. body_laid known next fields values) mid after first
-        (body_goes fields (behind field here) own rest mid after late_mid late_after others first.next first.fits)
+        let next_met = (behind field here).met in
+        let same : SamePlaces (met_behind field passed.met) next_met = λ name. ap (λ (met : Names). met (place_of name)) (sym (behind_met field here)) in
+        let first = goes_met known all own (met_behind field passed.met) next_met same at late mid late_mid draft (field_laid known draft field value)
+        (field_goes field here own value at mid late late_mid one draft fits met_known) in
+        let more = goes_met known all own (met_all fields next_met) (met_all fields (met_behind field passed.met)) (met_all_same fields next_met (met_behind field passed.met) (places_back (met_behind field passed.met) next_met same))
+        mid late_mid after late_after first.next (body_laid known first.next fields rest)
+        (body_goes fields (behind field here) own rest mid after late_mid late_after others first.next first.fits first.met_known) in
+        then_goes own (met_all fields (met_behind field passed.met)) next_met (takes_value field) value rest values are (field_taken own here field value at mid late late_mid one) (field_laid known draft field)
+        (λ next values. body_laid known next fields values) at late mid late_mid after late_after draft fits.marks first more
 
 module _ (read : (bytes : List ℕ) → ((k : ℕ) → slice_index bytes k < 256) → bytes_of (bits_of bytes) ≡ bytes) where
   pub complete : (known : Facts) (body : PlainBody) (row : List Tree) (bytes : List ℕ) → Spells false known body row bytes → laid known body row ≡ Ok bytes
   complete known body row bytes it =
       let all = bits_of bytes in
-      let goes = inside_goes known all body (body_goes known all body) nothing_passed None outside row 0 it.end [] it.late
-      (it.names, it.own, it.fields) nothing_laid (record { front = refl; size = refl; known = refl }) in
-      ap (λ (r : Result Draft Refusal). r >>= λ draft. good (bytes_of (filled 8 draft.bits))) goes.is
-      ∙ ap good (ap (λ (bits : List Bool). bytes_of (filled 8 bits)) goes.fits.front ∙ ap bytes_of (sym it.filled) ∙ read bytes it.are_bytes)
+      let goes = inside_goes known all body (body_goes known all body) nothing_passed None outside row 0 it.end [] it.late (it.names, it.own, it.fields) nothing_laid
+      (record { bits = refl; len = refl; late_is = refl; marks = refl; within = omega arith; names_are = λ key now. refl }) (λ name. refl) in
+      let front : List Bool = take it.end all in
+      let size : length goes.more ≡ length front = sym (ap length goes.more_is) ∙ goes.fits.marks ∙ sym (length-take-le it.end all it.within) in
+      let second : fill known outside goes.next.numbers goes.next.bits ≡ Ok front =
+      (λ i. fill known outside (goes.numbers_are i) (goes.fits.bits i)) ∙ ap (λ (m : Late). fill known outside goes.numbers (masked m front)) goes.more_is
+      ∙ fill_goes known all (drop it.end all) outside goes.numbers goes.more [] front 0 (sym (take-append-drop it.end all)) refl size goes.tracks in
+      ap (λ (r : Result Draft Refusal). r >>= λ draft. fill known outside draft.numbers draft.bits >>= λ bits. good (bytes_of (filled 8 bits))) goes.is
+      ∙ ap (λ (r : Result (List Bool) Refusal). r >>= λ bits. good (bytes_of (filled 8 bits))) second
+      ∙ ap good (ap bytes_of (sym it.filled) ∙ read bytes it.are_bytes)

@@ -11,7 +11,7 @@ use Rattle.rz_expr.specs.Term.{term_of}
 use Rattle.rz_expr.specs.declared.expr.Expr.{Expr}
 use Rattle.rz_layout.specs.declared.fault.LayFault.{LayFault}
 use Rattle.rz_types_fields.specs.Laid.{in_order, lay, takes_one, Draft, Refusal}
-use Rattle.rz_types.specs.Piece.{fixed_integer}
+use Rattle.rz_types_fields.specs.Piece.{fixed_integer}
 
 module _ (known : Facts) (exprs : List Expr) (i : ℕ) (expr : Expr) (less : i < length exprs) (item : expr ≡ get_or exprs i expr) (draft : Draft) (all : Result Draft Refusal)
     (so : in_order takes_one (lay known) draft (map fixed_integer (map term_of (drop i exprs))) [] ≡ all) where

@@ -8,10 +8,11 @@ use Rattle.rz_core.specs.declared.facts.Facts.{Facts}
 use Rattle.rz_core.specs.declared.stop.Stop.{Stop}
 use Rattle.rz_core.specs.declared.stop.Stop.TheVariants.{NoMemory, Refused}
 use Rattle.rz_bits.specs.Bits.{number_bits}
+use Rattle.rz_layout.specs.Laid.{with_bits}
 use Rattle.rz_layout.specs.declared.fault.LayFault.{LayFault}
 use Rattle.rz_types_fields.specs.declared.tree.Tree.TheVariants as trees
-use Rattle.rz_types_fields.specs.Laid.{in_order, lay, takes_one, with_bits, Draft, Refusal}
-use Rattle.rz_types.specs.Piece.{free_integer}
+use Rattle.rz_types_fields.specs.Laid.{in_order, lay, takes_one, Draft, Refusal}
+use Rattle.rz_types_fields.specs.Piece.{free_integer}
 use Rattle.rz_layout.proofs.Trees.{number_is}
 
 module _ (known : Facts) where

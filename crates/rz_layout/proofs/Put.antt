@@ -4,11 +4,11 @@ use Rattle.std.specs.Prelude.{nat_abs, option_map}
 use Rattle.rz_core.specs.Lists.{unless_fault}
 use Rattle.rz_core.specs.Stop.{◌>>=◌}
 use Rattle.rz_bits.specs.Bits.{bits_of}
-use Rattle.rz_layout.specs.Laid.{text_put}
+use Rattle.rz_layout.specs.Laid.{text_put, with_bits}
 use Rattle.rz_layout.specs.Text.{stored_length}
 use Rattle.rz_types_fields.specs.declared.field.TextForm.{TextForm}
-use Rattle.rz_types_fields.specs.Laid.{text_refusal, with_bits, Draft, Refusal}
-use Rattle.rz_types.specs.Stored.{stored_text}
+use Rattle.rz_types_fields.specs.Laid.{text_refusal, Draft, Refusal}
+use Rattle.rz_types_fields.specs.Stored.{stored_text}
 use Rattle.rz_layout.proofs.Stores.{bits_stored}
 
 module _ (draft : Draft) (form : TextForm) (size : Option ℤ) (bytes : List ℕ) where

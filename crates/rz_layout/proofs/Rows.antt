@@ -1,17 +1,31 @@
 -- Rows: the values that fields take, and the cases that are chosen.
-use Rattle.std.proofs.Common.{◌≡◌, inl, inr, Bool, true, false, List, Option, Some, None, refl, sym, ap, ◌∙◌}
+use Rattle.std.proofs.Common.{◌≡◌, inl, inr, ℕ, Bool, true, false, List, Option, Some, None, refl, sym, ap, ◌∙◌}
 use Rattle.std.specs.List.{AllByRecursion}
 use Rattle.std.specs.Str.{str_eq_ignore_ascii_case}
+use Rattle.rz_core.proofs.Folds.{same_lower}
+use Rattle.rz_core.proofs.Tests.{by_test, true_false}
 use Rattle.rz_core.specs.declared.resource.Word.{Word}
 use Rattle.rz_types_fields.specs.declared.tree.Tree.{Tree}
 use Rattle.rz_types_fields.specs.declared.tree.Tree.TheVariants as trees
 use Rattle.rz_types_fields.specs.Laid.{first_value, other_values}
 use Rattle.rz_types_fields.specs.Row.{IsChoice, IsFront}
 use Rattle.rz_types_fields.specs.Spells.{is_case, put}
-use Rattle.rz_types.specs.Field.{case_and, no_cases, PlainCases}
+use Rattle.rz_types_fields.specs.Field.{case_and, no_cases, PlainCases}
 use Rattle.rz_types.specs.Rules.{case_names}
-use Rattle.rz_layout.proofs.Own.{same_name}
 use Rattle.rz_layout.proofs.Trees.{choice_is}
+
+-- Names in whatever case.
+
+same_name : (name : List ℕ) → str_eq_ignore_ascii_case name name ≡ true
+same_name name = (same_lower name name).1 refl
+
+pub other_name : (one other : List ℕ) → str_eq_ignore_ascii_case one other ≡ false → str_eq_ignore_ascii_case other one ≡ false
+other_name one other is =
+    by_test (str_eq_ignore_ascii_case other one ≡ false) (str_eq_ignore_ascii_case other one)
+    (λ same. absurd (true_false (sym ((same_lower one other).1 (sym ((same_lower other one).0 same))) ∙ is)))
+    (λ no. no)
+
+-- Values.
 
 -- a value where one is taken, and else none
 abbrev pub Takes : Bool → (Tree → Type 0) → Option Tree → Type 0

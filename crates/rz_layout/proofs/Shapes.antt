@@ -1,5 +1,5 @@
 -- The fields of a template can be laid with the values of a row.
-use Rattle.std.proofs.Common.{◌≡◌, inl, inr, ℕ, zero, suc, ◌<◌, ℤ, pos, Bool, true, false, ◌&&◌, ◌==◌, List, [], ◌∷◌, ◌++◌, length, Option, Some, None, sym, ap, subst, ◌∙◌, arith}
+use Rattle.std.proofs.Common.{◌≡◌, inl, inr, ℕ, zero, suc, ◌<◌, ℤ, pos, Bool, true, false, ◌&&◌, ◌==◌, List, [], ◌∷◌, length, Option, Some, None, sym, ap, subst, ◌∙◌, arith}
 use Rattle.std.specs.Prelude.{if◌then◌else◌, not}
 use Rattle.std.specs.Ordering.{int_eq}
 use Rattle.std.proofs.lemmas.Bool.Decides.{nat_tests, Decides-int_eq}
@@ -17,14 +17,13 @@ use Rattle.rz_types_fields.specs.declared.tree.Tree.TheVariants as trees
 use Rattle.rz_types_fields.specs.Laid.{first_value, line_in, other_values, rows_in}
 use Rattle.rz_types_fields.specs.Row.{IsChoice, IsRow, IsValue}
 use Rattle.rz_types_fields.specs.Spells.{group_in, is_case}
-use Rattle.rz_types.specs.Field.{case_and, field_and, no_cases, no_fields, takes_value, Align, Array, Fill, Number, PlainBody, PlainCases, PlainField, PlainNumber, PlainPoints, Points, Switch, Text}
+use Rattle.rz_types_fields.specs.Field.{case_and, field_and, no_cases, no_fields, takes_value, Align, Array, Fill, Label, Number, PlainBody, PlainCases, PlainField, PlainNumber, PlainPoints, Points, Switch, Text}
 use Rattle.rz_types.specs.Kept.{AreCasesKept, AreKept, Differ, IsKept, IsKeptWithin}
-use Rattle.rz_types.specs.Range.{is_between}
+use Rattle.rz_types_fields.specs.Range.{is_between}
 use Rattle.rz_types.specs.Rules.{bad_width, case_names, may_be_width, unless}
-use Rattle.rz_types.specs.Shape.{are_cases_shaped, are_shaped, is_fixed_number, is_key_shaped, is_none_or, is_number_shaped, is_own_name, is_own_width, is_shaped, is_symbol_of, is_unit, is_well_shaped}
-use Rattle.rz_types.specs.Walk.{names_of}
-use Rattle.rz_layout.proofs.Own.{other_name}
-use Rattle.rz_layout.proofs.Rows.{choice_differs, fronted, Takes}
+use Rattle.rz_types_fields.specs.Shape.{are_cases_shaped, are_shaped, is_fixed_number, is_key_shaped, is_none_or, is_number_shaped, is_own_name, is_own_width, is_shaped, is_symbol_of, is_unit, is_well_shaped}
+use Rattle.rz_types.specs.Walk.{and_names, names_of, Own}
+use Rattle.rz_layout.proofs.Rows.{choice_differs, fronted, other_name, Takes}
 use Rattle.rz_layout.proofs.Trees.{choice_is, group_is, line_is, rows_are}
 
 -- Widths and units.
@@ -85,26 +84,27 @@ others_passed name line (later ∷ names) differ =
 -- Fields, cases and bodies.
 
 mutual
-  field_sound : (scope : List Word) (in_case : Bool) (field : PlainField) → is_shaped in_case field ≡ true → bad_width field ≡ None → IsKeptWithin scope field
+  field_sound : (scope : Own) (in_case : Bool) (field : PlainField) → is_shaped in_case field ≡ true → bad_width field ≡ None → IsKeptWithin scope field
       → (value : Option Tree) → Takes (takes_value field) (IsValue field) value → IsSound field value
   field_sound scope in_case (Number number) is wide kept value has = number_width in_case number is wide
   field_sound scope in_case (Text text) is wide kept value has = tt
   field_sound scope in_case (Points points) is wide kept value has = group_by points points.fixed value has
   field_sound scope in_case (Fill unit count) is wide kept value has = tt
   field_sound scope in_case (Align unit) is wide kept value has = unit_above unit is
+  field_sound scope in_case (Label name) is wide kept value has = tt
   field_sound scope in_case (Array name count row) is wide kept value has =
-      array_sound name count row (λ line are. body_sound (scope ++ names_of row) false row (both (is_none_or is_own_name name) (are_shaped false row) is).1 kept.2 line are) value has
+      array_sound name count row (λ line are. body_sound (and_names scope (names_of row)) false row (both (is_none_or is_own_name name) (are_shaped false row) is).1 kept.2 line are) value has
   field_sound scope in_case (Switch cases) is wide kept value has =
       subst (IsCaseSound cases) (sym has.2) (cases_sound scope cases is kept.0 kept.1 has.0 has.1)
 
-  cases_sound : (scope : List Word) (cases : PlainCases) → are_cases_shaped cases ≡ true → Differ (case_names cases) → AreCasesKept scope cases
+  cases_sound : (scope : Own) (cases : PlainCases) → are_cases_shaped cases ≡ true → Differ (case_names cases) → AreCasesKept scope cases
       → (v : Tree) → IsChoice cases v → IsCaseSound cases (Some v)
   cases_sound scope no_cases is differ kept v has = absurd has
   cases_sound scope (case_and name row others) is differ kept v (inl (line, is_choice, are)) =
       let some : Some v ≡ Some (trees.Choice name line) = ap (λ (t : Tree). Some t) is_choice in
       let all = both (is_own_name name) (are_shaped true row && are_cases_shaped others) is in
       let each = both (are_shaped true row) (are_cases_shaped others) all.1 in (
-        (λ chosen. subst (AreSound row) (sym (ap line_in some ∙ line_is name line)) (body_sound (scope ++ names_of row) true row each.0 kept.1 line are)),
+        (λ chosen. subst (AreSound row) (sym (ap line_in some ∙ line_is name line)) (body_sound (and_names scope (names_of row)) true row each.0 kept.1 line are)),
         subst (IsCaseSound others) (sym some) (passed others (Some (trees.Choice name line)) (others_passed name line (case_names others) differ.0)),
       )
   cases_sound scope (case_and name row others) is differ kept v (inr has) =
@@ -114,7 +114,7 @@ mutual
         cases_sound scope others each.1 differ.1 kept.2 v has,
       )
 
-  body_sound : (scope : List Word) (in_case : Bool) (body : PlainBody) → are_shaped in_case body ≡ true → AreKept scope body
+  body_sound : (scope : Own) (in_case : Bool) (body : PlainBody) → are_shaped in_case body ≡ true → AreKept scope body
       → (row : List Tree) → IsRow body row → AreSound body row
   body_sound scope in_case no_fields is kept row has = tt
   body_sound scope in_case (field_and field fields) is kept row (rest, one, others) =

@@ -1,5 +1,5 @@
 -- Zero bits and the bits of bytes, one part after the other.
-use Rattle.std.proofs.Common.{◌≡◌, ℕ, zero, suc, ◌+◌, ◌-◌, ◌*◌, ◌/◌, ◌%◌, ◌^◌, ◌<◌, ◌≤◌, ◌==◌, Bool, false, List, [], ◌∷◌, ◌++◌, length, get_or, take, drop, Result, Ok, Err, Option, Some, None, refl, sym, ap, subst, ◌∙◌, arith}
+use Rattle.std.proofs.Common.{◌≡◌, ℕ, zero, suc, ◌+◌, ◌-◌, ◌*◌, ◌/◌, ◌%◌, ◌^◌, ◌<◌, ◌≤◌, ◌==◌, Bool, true, false, List, [], ◌∷◌, ◌++◌, length, get_or, take, drop, Result, Ok, Err, Option, Some, None, refl, sym, ap, subst, ◌∙◌, arith}
 use Rattle.std.specs.Prelude.{replicate, OnOk}
 use Rattle.std.proofs.lemmas.List.{append_assoc, append-nil, drop_more, length-append, length-replicate, length-take, replicate-append-replicate, take_all}
 use Rattle.rz_bits.specs.Bits.{bits_of, number_bits}
@@ -7,7 +7,7 @@ use Rattle.rz_bits.specs.BitBuf.{zeros}
 use Rattle.rz_layout.specs.Text.{sized_length, stored_length}
 use Rattle.rz_types_fields.specs.declared.field.TextForm.{TextForm}
 use Rattle.rz_types_fields.specs.declared.field.TextForm.TheVariants as forms
-use Rattle.rz_types.specs.Stored.{before_zero, sized, stored_text, to_size}
+use Rattle.rz_types_fields.specs.Stored.{before_zero, sized, stored_text, to_size}
 use Rattle.rz_layout.proofs.Room.{length_number}
 
 zero_div : (n : ℕ) → 0 / n ≡ 0
@@ -54,6 +54,22 @@ byte_room bits after byte i count less is room =
     let size : length after ≡ length bits + 8 = ap length is ∙ length-append bits (number_bits 8 byte) ∙ ap (λ n. length bits + n) (length_number 8 byte) in
     let split : count - i ≡ suc (count - (i + 1)) = omega (arith, less) in
     omega (arith, size, split, room, less)
+
+-- one more one bit
+pub ones_more : (bits after all : List Bool) (left : ℕ) → 0 < left → after ≡ bits ++ number_bits 1 1 → bits ++ replicate left true ≡ all → after ++ replicate (left - 1) true ≡ all
+unfolding number_bits
+ones_more bits after all zero some is so = absurd (omega arith)
+ones_more bits after all (suc left) some is so =
+    let e : suc left - 1 ≡ left = omega arith in
+    ap (λ (n : ℕ). after ++ replicate n true) e
+    ∙ ap (λ (bs : List Bool). bs ++ replicate left true) is
+    ∙ append_assoc bits (true ∷ []) (replicate left true)
+    ∙ so
+
+pub ones_room : (bits after : List Bool) (left : ℕ) → 0 < left → after ≡ bits ++ number_bits 1 1 → length bits + left < 2147483648 → length after + (left - 1) < 2147483648
+ones_room bits after left some is room =
+    let size : length after ≡ length bits + 1 = ap length is ∙ length-append bits (number_bits 1 1) ∙ ap (λ n. length bits + n) (length_number 1 1) in
+    omega (arith, size, some, room)
 
 pub zeros_last : (bits after all : List Bool) (width : ℕ) → after ≡ bits ++ number_bits width 0 → bits ++ zeros width ≡ all → after ≡ all
 zeros_last bits after all width is so = is ∙ ap (λ z. bits ++ z) (number_zero width) ∙ so

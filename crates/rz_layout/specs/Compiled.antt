@@ -2,10 +2,6 @@
 use Rattle.std.specs.Prelude.{ℕ, ◌==◌, Bool, false, ◌||◌, List, Ok, Err}
 use Rattle.std.specs.declared.result.Result.{Result}
 use Rattle.rz_core.specs.declared.facts.Facts.{Facts}
-use Rattle.rz_core.specs.declared.stop.Stop.{Stop}
-use Rattle.rz_core.specs.declared.stop.Stop.TheVariants.{NoMemory, Refused}
-use Rattle.rz_layout.specs.Fault.{refusal_of}
-use Rattle.rz_layout.specs.declared.fault.LayFault.{LayFault}
 use Rattle.rz_types_fields.specs.declared.tree.Tree.{Tree}
 use Rattle.rz_types_fields.specs.Laid.{Refusal, Refuses}
 use Rattle.rz_types_fields.specs.Spells.{Spells}
@@ -18,4 +14,4 @@ IsCompiled known body row (Err fault) = Refuses known body row fault
 
 -- the faults that a row can have
 abbrev pub is_compile_fault : ℕ → Bool
-is_compile_fault number = (number == 207) || (number == 211) || (number == 215) || (number == 216) || (number == 222) || (number == 301)
+is_compile_fault number = (number == 207) || (number == 211) || (number == 213) || (number == 214) || (number == 215) || (number == 216) || (number == 222) || (number == 301)

@@ -1,5 +1,7 @@
 pub mod Fault
+pub mod Late
 pub mod Laid
+pub mod Seen
 pub mod Sound
 pub mod Text
 pub mod Compiled

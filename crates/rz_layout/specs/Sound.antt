@@ -5,7 +5,7 @@ use Rattle.rz_expr.specs.Term.{Term}
 use Rattle.rz_types_fields.specs.declared.tree.Tree.{Tree}
 use Rattle.rz_types_fields.specs.Laid.{first_value, line_in, other_values, rows_in}
 use Rattle.rz_types_fields.specs.Spells.{group_in, is_case}
-use Rattle.rz_types.specs.Field.{case_and, field_and, no_cases, no_fields, takes_value, Align, Array, Fill, Number, PlainBody, PlainCases, PlainField, PlainPoints, Points, Switch, Text}
+use Rattle.rz_types.specs.Field.{case_and, field_and, no_cases, no_fields, takes_value, Align, Array, Fill, Label, Number, PlainBody, PlainCases, PlainField, PlainPoints, Points, Switch, Text}
 use Rattle.rz_types.specs.Shape.{numbers_of}
 
 -- a width of 1 to 32 bits
@@ -28,6 +28,7 @@ abbrev mutual
   IsSound (Points points) value = IsGroupOf points value
   IsSound (Fill unit count) value = Unit {0}
   IsSound (Align unit) value = 0 < unit
+  IsSound (Label name) value = Unit {0}
   IsSound (Array name count row) value = AllByRecursion (AreSound row) (rows_in value)
   IsSound (Switch cases) value = IsCaseSound cases value
 

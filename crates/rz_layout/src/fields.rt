@@ -1,53 +1,63 @@
 //! Rows laid as bytes, field by field, with arrays and switches. What is answered is in `specs/Compiled`.
 
-ghost use Rattle.std.specs.Prelude.{IfOk, ◌≡◌, ◌≤◌, length, option_map, true, List, ℕ, []};
+ghost use Rattle.std.specs.Prelude.{IfOk, ◌≡◌, option_map, true, List, ℕ, []};
 ghost use Rattle.rz_layout.specs.Fault.{refusal_of};
 ghost use Rattle.std.specs.declared.result.Result.{Result as Answer};
 ghost use Rattle.rz_layout.specs.Compiled.{is_compile_fault, IsCompiled};
-ghost use Rattle.rz_layout.specs.Laid.{draft_of};
+ghost use Rattle.rz_layout.specs.Laid.{draft_of, IsNotedBy, IsShort};
 ghost use Rattle.rz_layout.specs.Sound.{AreSound, IsCaseSound, IsSound};
 ghost use Rattle.rz_core.specs.Stop.{OnFault, Gives, Meets, fault_seen, left};
 ghost use Rattle.std.specs.List.{AllByRecursion};
 ghost use Rattle.rz_types_fields.specs.Laid.{body_laid, case_laid, field_laid, laid, row_laid, rows_laid, Refusal};
+ghost use Rattle.rz_types_fields.specs.Passed.{declares, gives_key};
 ghost use Rattle.rz_types_fields.specs.Row.{IsRow};
-ghost use Rattle.rz_types_fields.specs.Spells.{most_bits};
-ghost use Rattle.rz_types.specs.Field.{plain_body, plain_cases, plain_field};
+ghost use Rattle.rz_types_fields.specs.Field.{plain_body, plain_cases, plain_field};
 ghost use Rattle.rz_types.specs.Template.{template_of};
 
 use crate::LayFault;
+use crate::fill::fill;
 use crate::laid::Laid;
-use crate::names::enter;
+use crate::names::{enter, leave};
 use crate::number::lay_number;
 use crate::points::lay_points;
 use crate::text::lay_text;
 use rz_bits::{
-    bits_are_written_back, bytes_are_read_back, filled_to_a_multiple, numbers_are_read_back,
-    numbers_are_written_back,
+    BitBuf, bits_are_written_back, bytes_are_read_back, filled_to_a_multiple,
+    numbers_are_read_back, numbers_are_written_back,
 };
-use rz_core::{Bytes, Facts, Stop};
-use rz_types::{
-    Case, Field, Template, field_expressions_have_values, rules_hold_within, takes_value,
-};
+use rz_core::{Bytes, Facts, Listing, Stop};
+use rz_types::{Case, Field, Template, named_values_are_there, rules_hold_within, takes_value};
 use rz_types_fields::values::{choice_in, line_in, next_value, rows_in};
 use rz_types_fields::{Row, Tree};
 use std::alloc::Global;
+use std::mem;
 
 /// The bytes that a row spells under a template, for a resource of which so much is known; there is one such list of
 /// bytes at most. It has at most 16,777,212 bytes; zero bits fill it to a whole byte. The row has one value for each
 /// field that takes one: that of an array is its rows, and that of a switch the name of a case and a row of its fields.
-/// Pieces are counted from left to right, through all rows of an array and the case that is chosen; an array and a
-/// switch are none themselves. `$$CountOf` gives the number of rows of an array, by its name, to the fields of its own
-/// body and of those within it.
+/// Pieces are counted from left to right, through all rows of an array and the case that is chosen; a label is one, and an
+/// array and a switch are none themselves. `$$CountOf` gives the number of rows of an array, by its name, to the fields of
+/// its own body and of those within it; a label's name gives them its place, in bits from the start of the resource, and
+/// the `$$` functions of bits the number that stands there. A number whose expression names a label that stands later, or
+/// reads bits of such a number, is late: zero bits stand for it until all other pieces are laid. Then the late numbers are
+/// computed, from left to right, each from the bits before it.
 ///
-/// Otherwise the fault is the first from left to right: of an expression 211, a zero divisor, or 215, a shift by a count
-/// outside 0 to 31 (kept: the count); 222 for a format that its arguments don't fit; 207 for a value outside the range of
-/// its number, or a size that its text may not have (kept: the value); 216 for a text without a size that is too long for
-/// its type (kept: its length); 301 where a piece ends after 16,777,212 bytes (kept: the length to its end in bytes,
-/// rounded up). In a text its size's expression comes before its formats, and these before its size.
+/// Otherwise the fault is the first from left to right, those of late numbers behind all others: of an expression 211, a
+/// zero divisor, 213 for bits that aren't there (kept: the place behind the last) or aren't 1 to 32 of them (kept: their
+/// number), or 215, a shift by a count outside 0 to 31 (kept: the count); 214 for a text whose size or formats name a label
+/// that stands later, or read bits of late numbers (kept: the piece); 222 for a format that its arguments don't fit; 207
+/// for a value outside the range of its number, or a size that its text may not have (kept: the value); 216 for a text
+/// without a size that is too long for its type (kept: its length); 301 where a piece ends after 16,777,212 bytes (kept: the
+/// length to its end in bytes, rounded up). In a text 214 for a label comes first, its size's expression comes before its
+/// formats, and these before its size.
 ///
 /// Its time is in proportion to the fields that are laid, for each row those of its array, with their expressions and
-/// fixed texts, to the cases of each switch, to the row and to the bytes; a `$$CountOf` counts as many times as there
-/// are arrays in the bodies around it. (MPW Rez.)
+/// fixed texts, to the cases of each switch, to the row and to the bytes; a name in an expression counts as many times as
+/// there are fields in its body and in those around it, and a late number as many times as there are bodies around it.
+/// Beside the bytes it takes memory for what is noted of the bodies that are open, a note for each and one for each label
+/// and array in it, for one fixed text at a time, and for late numbers: a bit for each bit up to the last of them, each
+/// with its expression, and what was noted of names in the bodies that have names of their own, where late numbers stand.
+/// (MPW Rez.)
 pub fn compile(
     alloc: Global,
     template: &Template,
@@ -64,7 +74,7 @@ pub fn compile(
     filled_to_a_multiple();
     numbers_are_read_back();
     numbers_are_written_back();
-    field_expressions_have_values();
+    named_values_are_there();
     rules_hold_within();
     compile_fields(alloc, template.body().as_slice(), row.as_slice(), facts)
 }
@@ -82,10 +92,14 @@ fn compile_fields(
     let mut laid = Laid::new(alloc);
     lay_body(alloc, fields, row, facts, &mut laid)?;
     let Laid {
-        bits,
+        mut bits,
+        late,
         piece: _,
-        notes: _,
+        marks: _,
+        mut notes,
     } = laid;
+    let none = BitBuf::new(alloc);
+    fill(late.as_slice(), facts, &mut notes, &none, &mut bits)?;
     Ok(bits.finish())
 }
 
@@ -99,18 +113,19 @@ fn lay_body<'a>(
     laid: &mut Laid<'a>,
 ) -> Result<(), Stop<LayFault>>
     requires sound { AreSound (plain_body fields.now) row.now }
-    requires short { length laid.old.bits ≤ most_bits }
+    requires short { IsShort laid.old }
     ensures laid { Gives (row_laid facts.now (plain_body fields.now) (draft_of laid.old) row.now) (fault_seen refusal_of (left (draft_of laid.new) result)) }
-    ensures short { IfOk result (λ _. length laid.new.bits ≤ most_bits) }
+    ensures short { IfOk result (λ _. IsShort laid.new) }
     ensures notes { IfOk result (λ _. laid.new.notes.items ≡ laid.old.notes.items) }
 {
     let around = laid.notes.len();
     enter(fields, row, &mut laid.notes)?;
+    let outer = mem::replace(&mut laid.late, Listing::new(alloc));
     match lay_fields(alloc, fields, row, facts, laid) {
         Ok(()) => {}
         Err(stop) => return Err(stop),
     }
-    laid.notes.truncate(around);
+    leave(alloc, fields, outer, around, laid)?;
     Ok(())
 }
 
@@ -124,10 +139,10 @@ fn lay_fields<'a>(
     laid: &mut Laid<'a>,
 ) -> Result<(), Stop<LayFault>>
     requires sound { AreSound (plain_body fields.now) row.now }
-    requires short { length laid.old.bits ≤ most_bits }
+    requires short { IsShort laid.old }
     ensures laid { Gives (body_laid facts.now (draft_of laid.old) (plain_body fields.now) row.now) (fault_seen refusal_of (left (draft_of laid.new) result)) }
-    ensures short { IfOk result (λ _. length laid.new.bits ≤ most_bits) }
-    ensures notes { IfOk result (λ _. laid.new.notes.items ≡ laid.old.notes.items) }
+    ensures short { IfOk result (λ _. IsShort laid.new) }
+    ensures notes { IfOk result (λ _. IsNotedBy (declares (plain_body fields.now)) laid.old.notes.items laid.new.notes.items) }
 {
     let mut values = row;
     for field in fields {
@@ -150,10 +165,10 @@ fn lay_field<'a>(
     laid: &mut Laid<'a>,
 ) -> Result<(), Stop<LayFault>>
     requires sound { IsSound (plain_field field.now) (option_map (λ v. v.now) value) }
-    requires short { length laid.old.bits ≤ most_bits }
+    requires short { IsShort laid.old }
     ensures laid { Gives (field_laid facts.now (draft_of laid.old) (plain_field field.now) (option_map (λ v. v.now) value.entry)) (fault_seen refusal_of (left (draft_of laid.new) result)) }
-    ensures short { IfOk result (λ _. length laid.new.bits ≤ most_bits) }
-    ensures notes { IfOk result (λ _. laid.new.notes.items ≡ laid.old.notes.items) }
+    ensures short { IfOk result (λ _. IsShort laid.new) }
+    ensures notes { IfOk result (λ _. IsNotedBy (gives_key (plain_field field.now)) laid.old.notes.items laid.new.notes.items) }
 {
     match field {
         Field::Num(number) => lay_number(number, value, facts, laid),
@@ -163,6 +178,7 @@ fn lay_field<'a>(
             u64::from(*unit) * u64::from(count.unsigned_abs()),
         ),
         Field::Align(unit) => laid.put_filler(*unit),
+        Field::Label(name) => laid.put_place(name),
         Field::Array(array) => {
             let fields = array.row.as_slice();
             lay_rows(alloc, fields, rows_in(value), facts, laid)
@@ -181,9 +197,9 @@ fn lay_rows<'a>(
     laid: &mut Laid<'a>,
 ) -> Result<(), Stop<LayFault>>
     requires sound { AllByRecursion (AreSound (plain_body fields.now)) rows.now }
-    requires short { length laid.old.bits ≤ most_bits }
+    requires short { IsShort laid.old }
     ensures laid { Gives (rows_laid (row_laid facts.now (plain_body fields.now)) (draft_of laid.old) rows.now) (fault_seen refusal_of (left (draft_of laid.new) result)) }
-    ensures short { IfOk result (λ _. length laid.new.bits ≤ most_bits) }
+    ensures short { IfOk result (λ _. IsShort laid.new) }
     ensures notes { IfOk result (λ _. laid.new.notes.items ≡ laid.old.notes.items) }
 {
     for row in rows {
@@ -205,9 +221,9 @@ fn lay_case<'a>(
     laid: &mut Laid<'a>,
 ) -> Result<(), Stop<LayFault>>
     requires sound { IsCaseSound (plain_cases cases.now) (option_map (λ v. v.now) value) }
-    requires short { length laid.old.bits ≤ most_bits }
+    requires short { IsShort laid.old }
     ensures laid { Gives (case_laid facts.now (draft_of laid.old) (plain_cases cases.now) (option_map (λ v. v.now) value.entry)) (fault_seen refusal_of (left (draft_of laid.new) result)) }
-    ensures short { IfOk result (λ _. length laid.new.bits ≤ most_bits) }
+    ensures short { IfOk result (λ _. IsShort laid.new) }
     ensures notes { IfOk result (λ _. laid.new.notes.items ≡ laid.old.notes.items) }
 {
     let name = choice_in(value);

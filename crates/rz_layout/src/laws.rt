@@ -1,4 +1,4 @@
-//! The law that a row spells one list of bytes or has one refusal. Both are defined in `specs/Compiled`.
+//! The law that a row spells one list of bytes, or has one refusal. See `specs/Compiled`.
 
 ghost use Rattle.std.specs.Prelude.{◌≡◌, true, ℕ, List};
 ghost use Rattle.std.specs.declared.result.Result.{Result};

@@ -1,23 +1,43 @@
-//! The names of the arrays of a body, with the numbers of their rows, where the body is entered.
+//! The names of a body, where it is entered and where it ends. What is noted is in `specs/Laid`.
 
-ghost use Rattle.std.specs.Prelude.{◌≡◌, OnOk, length, option_map, pos};
-ghost use Rattle.rz_types_fields.specs.Known.{known, Grew};
-ghost use Rattle.rz_types_fields.specs.Laid.{counted, with_count, with_field};
-ghost use Rattle.rz_types.specs.Field.{plain_body, plain_field};
+ghost use Rattle.std.specs.Prelude.{◌≡◌, ◌≤◌, OnOk, length, option_map, pos};
+ghost use Rattle.rz_layout.specs.Laid.{has_name, has_names, IsEntered, IsLeft, IsNotedBy};
+ghost use Rattle.rz_types_fields.specs.Field.{plain_body, plain_field};
+ghost use Rattle.rz_types_fields.specs.Known.{known};
+ghost use Rattle.rz_types_fields.specs.Laid.{counted, entered, with_count, with_field};
+ghost use Rattle.rz_types_fields.specs.Passed.{declares, gives_count, gives_key};
 
+use crate::laid::Laid;
+use crate::late::{Late, Lates, push_lates, push_notes};
 use rz_core::{NoMemory, Word};
 use rz_types::{Field, takes_value};
 use rz_types_fields::values::{next_value, rows_in};
 use rz_types_fields::{Note, Row, Tree};
+use std::alloc::Global;
+use std::mem;
 
-/// Enters a body: from here on the names of its arrays have the numbers of their rows, before those of the bodies around.
+/// Enters a body: from here on the names of its arrays have the numbers of their rows, and its labels no place, before
+/// those of the bodies around.
 pub fn enter<'a>(
     fields: &'a [Field],
     row: &[Tree],
     notes: &mut Vec<Note<'a>>,
 ) -> Result<(), NoMemory>
+    ensures known { OnOk result (known notes.new.items ≡ entered (plain_body fields.now) row.now (known notes.old.items)) }
+    ensures noted { OnOk result (IsEntered fields.entry notes.old.items notes.new.items) }
+{
+    notes.push(Note::Entered(fields))?;
+    count_rows(fields, row, notes)
+}
+
+/// The names of the arrays of a body have the numbers of their rows.
+fn count_rows<'a>(
+    fields: &'a [Field],
+    row: &[Tree],
+    notes: &mut Vec<Note<'a>>,
+) -> Result<(), NoMemory>
     ensures known { OnOk result (known notes.new.items ≡ counted (plain_body fields.now) row.now (known notes.old.items)) }
-    ensures grew { OnOk result (Grew notes.old.items notes.new.items) }
+    ensures noted { OnOk result (IsNotedBy (declares (plain_body fields.now)) notes.old.items notes.new.items) }
 {
     let mut values = row;
     for field in fields {
@@ -35,7 +55,7 @@ fn enter_field<'a>(
     notes: &mut Vec<Note<'a>>,
 ) -> Result<(), NoMemory>
     ensures known { OnOk result (known notes.new.items ≡ with_field (plain_field field.now) (option_map (λ v. v.now) value.entry) (known notes.old.items)) }
-    ensures grew { OnOk result (Grew notes.old.items notes.new.items) }
+    ensures noted { OnOk result (IsNotedBy (gives_key (plain_field field.now)) notes.old.items notes.new.items) }
 {
     match field {
         Field::Array(array) => enter_array(&array.name, rows_in(value), notes),
@@ -50,7 +70,7 @@ fn enter_array<'a>(
     notes: &mut Vec<Note<'a>>,
 ) -> Result<(), NoMemory>
     ensures known { OnOk result (known notes.new.items ≡ with_count name.now (length rows.now) (known notes.old.items)) }
-    ensures grew { OnOk result (Grew notes.old.items notes.new.items) }
+    ensures noted { OnOk result (IsNotedBy (gives_count name.now) notes.old.items notes.new.items) }
 {
     if let Some(name) = name {
         notes.push(Note::Counted(name, count_of(rows)))?;
@@ -63,4 +83,56 @@ fn count_of(rows: &[Row]) -> i64
     ensures { result ≡ pos (length rows.now) }
 {
     rows.len() as i64
+}
+
+/// Leaves a body: its names end, and its late numbers keep what was noted of them, where it has names. `outer` are the late
+/// numbers before it, and `around` says how many notes were there.
+pub fn leave<'a>(
+    alloc: Global,
+    fields: &[Field],
+    outer: Lates<'a>,
+    around: usize,
+    laid: &mut Laid<'a>,
+) -> Result<(), NoMemory>
+    requires { around ≤ length laid.old.notes.items }
+    ensures { OnOk result (IsLeft (plain_body fields.now) outer.entry around laid.old laid.new) }
+{
+    let inner = mem::replace(&mut laid.late, outer);
+    if inner.is_empty() {
+        laid.notes.truncate(around);
+        return Ok(());
+    }
+    if !has_names(fields) {
+        push_lates(inner, &mut laid.late)?;
+        laid.notes.truncate(around);
+        return Ok(());
+    }
+    let mut own = Vec::new(alloc);
+    push_notes(&laid.notes[around..], &mut own)?;
+    laid.late.push(Late::Inside(own, inner))?;
+    laid.notes.truncate(around);
+    Ok(())
+}
+
+/// Whether one of the fields of a body has a name.
+fn has_names(fields: &[Field]) -> bool
+    ensures { result ≡ has_names (plain_body fields.now) }
+{
+    for field in fields {
+        if has_name(field) {
+            return true;
+        }
+    }
+    false
+}
+
+/// Whether a field has a name.
+fn has_name(field: &Field) -> bool
+    ensures { result ≡ has_name (plain_field field.now) }
+{
+    match field {
+        Field::Array(array) => array.name.is_some(),
+        Field::Label(_) => true,
+        _ => false,
+    }
 }

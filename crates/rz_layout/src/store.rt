@@ -1,6 +1,6 @@
 //! Zero bits and whole bytes, appended to the bits.
 
-ghost use Rattle.std.specs.Prelude.{◌≡◌, ◌+◌, ◌*◌, ◌<◌, ◌^◌, ◌++◌, length, OnOk};
+ghost use Rattle.std.specs.Prelude.{◌≡◌, ◌+◌, ◌*◌, ◌<◌, ◌^◌, ◌++◌, length, replicate, true, OnOk};
 ghost use Rattle.rz_bits.specs.BitBuf.{zeros};
 ghost use Rattle.rz_bits.specs.Bits.{bits_of};
 
@@ -28,6 +28,19 @@ pub fn push_bytes(bits: &mut BitBuf, bytes: &[u8]) -> Result<(), NoMemory>
 {
     for byte in bytes {
         bits.push(*byte as u32, 8)?;
+    }
+    Ok(())
+}
+
+/// Appends one bits.
+pub fn push_ones(bits: &mut BitBuf, count: u32) -> Result<(), NoMemory>
+    requires room { length bits.old + count < 2 ^ 31 }
+    ensures { OnOk result (bits.new ≡ bits.old ++ replicate count true) }
+{
+    let mut left = count;
+    while left > 0 {
+        bits.push(1, 1)?;
+        left -= 1;
     }
     Ok(())
 }

@@ -1,30 +1,29 @@
 //! Texts laid as pieces, with their sizes and formats. How long they are is in `specs/Text`.
 
-ghost use Rattle.std.specs.Prelude.{IfOk, ◌≡◌, ◌<◌, ◌≤◌, ◌^◌, length, nat_abs, option_map, None};
+ghost use Rattle.std.specs.Prelude.{IfOk, ◌≡◌, ◌<◌, ◌^◌, length, nat_abs, option_map, None};
 ghost use Rattle.rz_core.specs.Stop.{Gives, fault_seen, left};
 ghost use Rattle.rz_expr.specs.Term.{term_of};
-ghost use Rattle.rz_layout.specs.Laid.{draft_of, sized_put, text_put};
+ghost use Rattle.rz_layout.specs.Laid.{draft_of, placed_put, sized_put, text_put, IsShort};
 ghost use Rattle.rz_layout.specs.Fault.{refusal_of};
-ghost use Rattle.rz_types_fields.specs.Known.{known};
 ghost use Rattle.rz_layout.specs.Text.{sized_length, stored_length};
-ghost use Rattle.rz_types_fields.specs.Laid.{fixed_bytes, joined, lay, refusal, size_in, text_refusal};
-ghost use Rattle.rz_types_fields.specs.Spells.{most_bits, nowhere};
-ghost use Rattle.rz_types.specs.Field.{plain_text};
-ghost use Rattle.rz_types.specs.Piece.{OneText};
-ghost use Rattle.rz_types.specs.Stored.{before_zero};
-ghost use Rattle.rz_types.specs.Text.{bytes_seen, plain_parts};
-ghost use Rattle.rz_types.specs.Value.{no_bits, see};
+ghost use Rattle.rz_types_fields.specs.Laid.{draft_sight, fixed_bytes, joined, lay, refusal, size_in, text_refusal};
+ghost use Rattle.rz_types_fields.specs.Spells.{nowhere};
+ghost use Rattle.rz_types_fields.specs.Field.{plain_text};
+ghost use Rattle.rz_types_fields.specs.Piece.{OneText};
+ghost use Rattle.rz_types_fields.specs.Stored.{before_zero};
+ghost use Rattle.rz_types_fields.specs.Text.{bytes_seen, plain_parts};
 
 use crate::LayFault;
 use crate::laid::{Laid, one_more};
-use crate::number::expression_value;
+use crate::number::early_value;
 use crate::push::push_text;
-use crate::valued::unvalued_in;
-use rz_core::{Bytes, Facts, Kept, Mark, Stop};
+use crate::seen::bytes_behind;
+use crate::valued::{later_in, unvalued_in};
+use rz_core::{Bytes, Facts, Kept, Stop};
 use rz_expr::Expr;
-use rz_types::{TextField, TextForm, Texts, is_too_long, may_be_size, text_seen};
+use rz_types::{TextField, TextForm, Texts, is_too_long, may_be_size};
+use rz_types_fields::Tree;
 use rz_types_fields::values::text_in;
-use rz_types_fields::{NamesEnv, Tree};
 use std::alloc::Global;
 
 /// Lays a text: the bytes of the row, or those of its fixed parts, in its stored form.
@@ -35,16 +34,32 @@ pub fn lay_text(
     facts: &Facts,
     laid: &mut Laid<'_>,
 ) -> Result<(), Stop<LayFault>>
-    requires short { length laid.old.bits ≤ most_bits }
+    requires short { IsShort laid.old }
     ensures laid { Gives (lay facts.now (draft_of laid.old) (OneText (plain_text field.now)) (option_map (λ v. v.now) value.entry)) (fault_seen refusal_of (left (draft_of laid.new) result)) }
-    ensures short { IfOk result (λ _. length laid.new.bits ≤ most_bits) }
+    ensures short { IfOk result (λ _. IsShort laid.new) }
     ensures notes { IfOk result (λ _. laid.new.notes.items ≡ laid.old.notes.items) }
 {
-    let names = NamesEnv {
-        facts,
-        notes: laid.notes.as_slice(),
-    };
-    match size_in(&field.size, &names, laid.piece) {
+    let later = later_in(alloc, field, laid)?;
+    match later {
+        Some(fault) => Err(Stop::Refused(fault)),
+        None => lay_placed(alloc, field, value, facts, laid),
+    }
+}
+
+/// Lays a text whose expressions name no label that has no place yet.
+fn lay_placed(
+    alloc: Global,
+    field: &TextField,
+    value: Option<&Tree>,
+    facts: &Facts,
+    laid: &mut Laid<'_>,
+) -> Result<(), Stop<LayFault>>
+    requires short { IsShort laid.old }
+    ensures laid { Gives (placed_put facts.now (draft_of laid.old) (plain_text field.now) (option_map (λ v. v.now) value.entry)) (fault_seen refusal_of (left (draft_of laid.new) result)) }
+    ensures short { IfOk result (λ _. IsShort laid.new) }
+    ensures notes { IfOk result (λ _. laid.new.notes.items ≡ laid.old.notes.items) }
+{
+    match size_in(&field.size, facts, laid) {
         Ok(size) => lay_sized(alloc, field, size, value, facts, laid),
         Err(stop) => Err(stop),
     }
@@ -59,17 +74,13 @@ fn lay_sized(
     facts: &Facts,
     laid: &mut Laid<'_>,
 ) -> Result<(), Stop<LayFault>>
-    requires short { length laid.old.bits ≤ most_bits }
+    requires short { IsShort laid.old }
     ensures laid { Gives (sized_put facts.now (draft_of laid.old) (plain_text field.now) size (option_map (λ v. v.now) value.entry)) (fault_seen refusal_of (left (draft_of laid.new) result)) }
-    ensures short { IfOk result (λ _. length laid.new.bits ≤ most_bits) }
+    ensures short { IfOk result (λ _. IsShort laid.new) }
     ensures notes { IfOk result (λ _. laid.new.notes.items ≡ laid.old.notes.items) }
 {
-    let names = NamesEnv {
-        facts,
-        notes: laid.notes.as_slice(),
-    };
     match &field.fixed {
-        Some(parts) => match fixed_bytes(alloc, parts, &names, laid.piece) {
+        Some(parts) => match fixed_bytes(alloc, parts, facts, laid) {
             Ok(bytes) => put_text(field.form, size, bytes.as_slice(), laid),
             Err(stop) => Err(stop),
         },
@@ -80,13 +91,14 @@ fn lay_sized(
 /// The size of a text, where it has one.
 fn size_in(
     size: &Option<Expr>,
-    names: &NamesEnv<'_>,
-    piece: u64,
+    facts: &Facts,
+    laid: &Laid<'_>,
 ) -> Result<Option<i32>, Stop<LayFault>>
-    ensures { Gives (size_in piece names.now.facts.now (known names.now.notes.now) (option_map term_of size.now)) (fault_seen refusal_of result) }
+    requires { IsShort laid.now }
+    ensures { Gives (size_in facts.now (draft_of laid.now) (option_map term_of size.now)) (fault_seen refusal_of result) }
 {
     match size {
-        Some(expr) => match expression_value(expr, names, piece) {
+        Some(expr) => match early_value(expr, facts, laid) {
             Ok(size) => Ok(Some(size)),
             Err(stop) => Err(stop),
         },
@@ -94,20 +106,21 @@ fn size_in(
     }
 }
 
-/// The bytes of the fixed parts of a text, with the numbers of rows in their formats. The numbers of all formats are
+/// The bytes of the fixed parts of a text, with the numbers in their formats. The numbers of all formats are
 /// computed before a format is filled.
 fn fixed_bytes(
     alloc: Global,
     parts: &Texts,
-    names: &NamesEnv<'_>,
-    piece: u64,
+    facts: &Facts,
+    laid: &Laid<'_>,
 ) -> Result<Bytes, Stop<LayFault>>
-    ensures { Gives (fixed_bytes piece names.now.facts.now (known names.now.notes.now) (plain_parts parts.now)) (fault_seen refusal_of result) }
+    requires { IsShort laid.now }
+    ensures { Gives (fixed_bytes facts.now (draft_of laid.now) (plain_parts parts.now)) (fault_seen refusal_of result) }
 {
-    let unvalued = unvalued_in(alloc, parts, names, piece)?;
+    let unvalued = unvalued_in(alloc, parts, facts, laid)?;
     match unvalued {
         Some(fault) => Err(Stop::Refused(fault)),
-        None => joined_bytes(alloc, parts, names, piece),
+        None => joined_bytes(alloc, parts, facts, laid),
     }
 }
 
@@ -115,12 +128,12 @@ fn fixed_bytes(
 fn joined_bytes(
     alloc: Global,
     parts: &Texts,
-    names: &NamesEnv<'_>,
-    piece: u64,
+    facts: &Facts,
+    laid: &Laid<'_>,
 ) -> Result<Bytes, Stop<LayFault>>
-    ensures { Gives (joined piece (bytes_seen nowhere names.now.facts.now (see names.now.facts.now no_bits (known names.now.notes.now)) (plain_parts parts.now))) (fault_seen refusal_of result) }
+    ensures { Gives (joined laid.now.piece (bytes_seen nowhere facts.now (draft_sight facts.now (draft_of laid.now)) (plain_parts parts.now))) (fault_seen refusal_of result) }
 {
-    match text_seen(alloc, parts, Mark { file: 0, line: 0 }, names.facts, names) {
+    match bytes_behind(alloc, parts, facts, laid) {
         Ok(bytes) => Ok(bytes),
         Err(Stop::Refused(fault)) => {
             let value = match fault.kept {
@@ -129,7 +142,7 @@ fn joined_bytes(
             };
             Err(Stop::Refused(LayFault {
                 number: fault.number,
-                piece,
+                piece: laid.piece,
                 value,
             }))
         }
@@ -145,9 +158,9 @@ fn put_text(
     bytes: &[u8],
     laid: &mut Laid<'_>,
 ) -> Result<(), Stop<LayFault>>
-    requires short { length laid.old.bits ≤ most_bits }
+    requires short { IsShort laid.old }
     ensures laid { Gives (text_put (draft_of laid.old) form size bytes.now) (fault_seen refusal_of (left (draft_of laid.new) result)) }
-    ensures short { IfOk result (λ _. length laid.new.bits ≤ most_bits) }
+    ensures short { IfOk result (λ _. IsShort laid.new) }
     ensures notes { IfOk result (λ _. laid.new.notes.items ≡ laid.old.notes.items) }
 {
     if let Some(fault) = text_refusal(form, size, bytes.len() as u64, laid.piece) {

@@ -1,41 +1,49 @@
 //! The first number in the formats of a text that has no value. Its refusal is in `specs/Fault`.
 
 ghost use Rattle.std.specs.Prelude.{◌≡◌, IfOk, map, option_map};
+ghost use Rattle.std.specs.List.{list_any};
 ghost use Rattle.rz_core.specs.Lists.{first_of};
 ghost use Rattle.rz_expr.specs.Term.{term_of};
 ghost use Rattle.rz_layout.specs.Fault.{refusal_of};
+ghost use Rattle.rz_layout.specs.Laid.{draft_of, IsShort};
+ghost use Rattle.rz_types_fields.specs.Field.{plain_text};
 ghost use Rattle.rz_types_fields.specs.Known.{known};
-ghost use Rattle.rz_types_fields.specs.Laid.{unvalued};
-ghost use Rattle.rz_types.specs.Text.{plain_parts, text_terms};
+ghost use Rattle.rz_types_fields.specs.Laid.{later_size, met_in, unvalued};
+ghost use Rattle.rz_types_fields.specs.Piece.{terms_of_text};
+ghost use Rattle.rz_types_fields.specs.Sees.{names_later};
+ghost use Rattle.rz_types_fields.specs.Text.{plain_parts, text_terms};
 
 use crate::LayFault;
-use crate::fault::value_fault;
-use rz_core::NoMemory;
-use rz_expr::{Expr, value_in};
-use rz_types_fields::{NamesEnv, Texts, format_expressions};
+use crate::laid::Laid;
+use crate::seen::{early_fault, later_fault, names_later, value_behind};
+use rz_core::{Facts, NoMemory};
+use rz_expr::Expr;
+use rz_types_fields::{Note, TextField, Texts, format_expressions, text_expressions};
 use std::alloc::Global;
 
 /// Why the first number in the formats of a text that has no value has none.
 pub fn unvalued_in(
     alloc: Global,
     parts: &Texts,
-    names: &NamesEnv<'_>,
-    piece: u64,
+    facts: &Facts,
+    laid: &Laid<'_>,
 ) -> Result<Option<LayFault>, NoMemory>
+    requires { IsShort laid.now }
     ensures { IfOk result (λ fault. option_map refusal_of fault
-        ≡ first_of (map (unvalued piece names.now.facts.now (known names.now.notes.now)) (text_terms (plain_parts parts.now)))) }
+        ≡ first_of (map (unvalued facts.now (draft_of laid.now)) (text_terms (plain_parts parts.now)))) }
 {
     let exprs = format_expressions(alloc, parts)?;
-    Ok(first_unvalued(&exprs, names, piece))
+    Ok(first_unvalued(&exprs, facts, laid))
 }
 
 /// Why the first of these expressions that has no value has none.
-fn first_unvalued(exprs: &[&Expr], names: &NamesEnv<'_>, piece: u64) -> Option<LayFault>
+fn first_unvalued(exprs: &[&Expr], facts: &Facts, laid: &Laid<'_>) -> Option<LayFault>
+    requires { IsShort laid.now }
     ensures { option_map refusal_of result
-        ≡ first_of (map (unvalued piece names.now.facts.now (known names.now.notes.now)) (map (λ expr. term_of expr.now) exprs.now)) }
+        ≡ first_of (map (unvalued facts.now (draft_of laid.now)) (map (λ expr. term_of expr.now) exprs.now)) }
 {
     for expr in exprs {
-        if let Some(fault) = unvalued(expr, names, piece) {
+        if let Some(fault) = unvalued(expr, facts, laid) {
             return Some(fault);
         }
     }
@@ -43,11 +51,41 @@ fn first_unvalued(exprs: &[&Expr], names: &NamesEnv<'_>, piece: u64) -> Option<L
 }
 
 /// Why an expression has no value.
-fn unvalued(expr: &Expr, names: &NamesEnv<'_>, piece: u64) -> Option<LayFault>
-    ensures { option_map refusal_of result ≡ unvalued piece names.now.facts.now (known names.now.notes.now) (term_of expr.now) }
+fn unvalued(expr: &Expr, facts: &Facts, laid: &Laid<'_>) -> Option<LayFault>
+    requires { IsShort laid.now }
+    ensures { option_map refusal_of result ≡ unvalued facts.now (draft_of laid.now) (term_of expr.now) }
 {
-    match value_in(expr, names) {
+    match value_behind(expr, facts, laid) {
         Ok(_) => None,
-        Err(fault) => Some(value_fault(fault, piece)),
+        Err(fault) => Some(early_fault(fault, laid)),
     }
+}
+
+/// 214, where an expression of a text names a label that has no place yet.
+pub fn later_in(
+    alloc: Global,
+    text: &TextField,
+    laid: &Laid<'_>,
+) -> Result<Option<LayFault>, NoMemory>
+    requires { IsShort laid.now }
+    ensures { IfOk result (λ fault. option_map refusal_of fault ≡ later_size (draft_of laid.now) (terms_of_text (plain_text text.now))) }
+{
+    let exprs = text_expressions(alloc, text)?;
+    if any_later(&exprs, laid.notes.as_slice()) {
+        Ok(Some(later_fault(laid)))
+    } else {
+        Ok(None)
+    }
+}
+
+/// Whether one of these expressions names a label that has no place yet.
+fn any_later(exprs: &[&Expr], notes: &[Note<'_>]) -> bool
+    ensures { result ≡ list_any (names_later (met_in (known notes.now))) (map (λ expr. term_of expr.now) exprs.now) }
+{
+    for expr in exprs {
+        if names_later(expr, notes) {
+            return true;
+        }
+    }
+    false
 }

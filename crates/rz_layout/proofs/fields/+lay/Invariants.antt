@@ -1,11 +1,11 @@
-use Rattle.std.proofs.Common.{◌≡◌, ◌≤◌, length, drop}
+use Rattle.std.proofs.Common.{◌≡◌, drop}
 use Rattle.std.specs.List.{AllByRecursion}
 use Rattle.std.specs.Prelude.{option_map}
-use Rattle.rz_layout.specs.Laid.{draft_of}
+use Rattle.rz_layout.specs.Laid.{draft_of, IsNotedBy, IsShort}
 use Rattle.rz_layout.specs.Sound.{AreSound, IsCaseSound}
 use Rattle.rz_types_fields.specs.Laid.{body_laid, case_laid, row_laid, rows_laid}
-use Rattle.rz_types_fields.specs.Spells.{most_bits}
-use Rattle.rz_types.specs.Field.{plain_body, plain_cases}
+use Rattle.rz_types_fields.specs.Passed.{declares}
+use Rattle.rz_types_fields.specs.Field.{plain_body, plain_cases}
 use Rattle.rz_layout.proofs.fields.+lay.Given as goal
 
 abbrev pub invariant-lay_fields-loop-field : goal.invariant-lay_fields-loop-field
@@ -13,8 +13,8 @@ invariant-lay_fields-loop-field l = record {
   laid : body_laid l.facts (draft_of l.laid) (plain_body (drop l.field-index l.fields)) l.values
       ≡ body_laid l.facts (draft_of l.fn.laid) (plain_body l.fields) l.row;
   sound : AreSound (plain_body (drop l.field-index l.fields)) l.values;
-  notes : l.laid.notes.items ≡ l.fn.laid.notes.items;
-  short : length l.laid.bits ≤ most_bits;
+  notes : IsNotedBy (declares (plain_body l.fields)) l.fn.laid.notes.items l.laid.notes.items;
+  short : IsShort l.laid;
 }
 
 abbrev pub invariant-lay_rows-loop-row : goal.invariant-lay_rows-loop-row
@@ -23,7 +23,7 @@ invariant-lay_rows-loop-row l = record {
       ≡ rows_laid (row_laid l.facts (plain_body l.fields)) (draft_of l.fn.laid) l.rows;
   sound : AllByRecursion (AreSound (plain_body l.fields)) (drop l.row-index l.rows);
   notes : l.laid.notes.items ≡ l.fn.laid.notes.items;
-  short : length l.laid.bits ≤ most_bits;
+  short : IsShort l.laid;
 }
 
 abbrev pub invariant-lay_case-loop-case : goal.invariant-lay_case-loop-case
@@ -32,5 +32,5 @@ invariant-lay_case-loop-case l = record {
       ≡ case_laid l.facts (draft_of l.fn.laid) (plain_cases l.cases) (option_map (λ v. v.now) l.value);
   sound : IsCaseSound (plain_cases (drop l.case-index l.cases)) (option_map (λ v. v.now) l.value);
   notes : l.laid.notes.items ≡ l.fn.laid.notes.items;
-  short : length l.laid.bits ≤ most_bits;
+  short : IsShort l.laid;
 }

@@ -42,6 +42,6 @@ returns-clause-number c =
     subst (λ (body : PlainBody). Gives (laid c.args.facts.now body c.args.row.now) (fault_seen refusal_of c.compile_fields.result)) (ap plain_body c.as_slice.ensures ∙ c.body.ensures.body)
     (subst (λ (row : List Tree). Gives (laid c.args.facts.now (plain_body c.as_slice.result.now) row) (fault_seen refusal_of c.compile_fields.result)) c.as_slice-2.ensures c.compile_fields.ensures) in
     known_number (laid c.args.facts.now (template_of c.args.template.now) c.args.row.now)
-    (row_known c.field_expressions_have_values.ensures.sizes c.field_expressions_have_values.ensures.values c.args.facts.now (template_of c.args.template.now) c.args.row.now
-    c.body.ensures.shaped (c.rules_hold_within.ensures (template_of c.args.template.now) c.body.ensures.kept))
+    (row_known c.named_values_are_there.ensures.values c.named_values_are_there.ensures.names c.named_values_are_there.ensures.early c.args.facts.now (template_of c.args.template.now) c.args.row.now
+    (c.rules_hold_within.ensures (template_of c.args.template.now) c.body.ensures.kept))
     c.compile_fields.result gives

@@ -1,0 +1,191 @@
+//! What expressions see of what is laid, and their values. What they see is in `specs/Seen`.
+
+ghost use Rattle.std.specs.Prelude.{◌≡◌, ◌≤◌, ◌+ℤ◌, if◌then◌else◌, Err, None, option_map, pos};
+ghost use Rattle.rz_core.specs.Stop.{Gives};
+ghost use Rattle.rz_expr.specs.Environment.{IsSeenIn};
+ghost use Rattle.rz_expr.specs.Term.{term_of};
+ghost use Rattle.rz_expr.specs.Unvalued.{fault_of, held};
+ghost use Rattle.rz_expr.specs.Value.{value_of};
+ghost use Rattle.rz_layout.specs.Fault.{refusal_of};
+ghost use Rattle.rz_layout.specs.Laid.{draft_of, IsShort};
+ghost use Rattle.rz_layout.specs.Seen.{env_sight};
+ghost use Rattle.rz_types_fields.specs.Known.{known};
+ghost use Rattle.rz_types_fields.specs.Laid.{draft_sight, early_value, met_in, reads_late, refusal};
+ghost use Rattle.rz_types_fields.specs.Sees.{bits_before, hit, names_later};
+ghost use Rattle.rz_types_fields.specs.Spells.{nowhere};
+ghost use Rattle.rz_types_fields.specs.Text.{bytes_seen, plain_parts};
+
+use crate::LayFault;
+use crate::fault::value_fault;
+use crate::laid::Laid;
+use rz_bits::BitBuf;
+use rz_core::{Bytes, Facts, Fault, Mark, Stop, Word};
+use rz_expr::{Env, Expr, FactWord, Unvalued, value_in};
+use rz_types_fields::{NamesEnv, Note, Texts, place_of, text_seen};
+use std::alloc::Global;
+
+/// What an expression sees of names and of the bits before a place, without the late ones.
+#[derive(Drop)]
+pub struct DraftEnv<'a> {
+    /// What is known of the resource, and what was noted of names.
+    pub names: NamesEnv<'a>,
+    /// The bits.
+    pub bits: &'a BitBuf,
+    /// A mark for each bit up to the last late one: whether it is late.
+    pub marks: &'a BitBuf,
+    /// The place before which the bits stand that are seen.
+    pub at: u32,
+}
+
+impl Env for DraftEnv<'_> {
+    ghost view = { λ env. env_sight env };
+
+    ghost belongs = { λ env finished. IsSeenIn (env_sight env) finished };
+
+    fn place(&self, name: &Word) -> Option<i32> {
+        self.names.place(name)
+    }
+
+    fn count(&self, name: &Word) -> Option<i32> {
+        self.names.count(name)
+    }
+
+    fn bits(&self, name: &Word, start: i32, width: i32) -> Option<u32> {
+        match self.names.place(name) {
+            Some(place) => number_seen(
+                self.bits,
+                self.marks,
+                self.at,
+                i64::from(place) + i64::from(start),
+                width as u8,
+            ),
+            None => None,
+        }
+    }
+
+    fn fact(&self, which: FactWord) -> i32 {
+        self.names.fact(which)
+    }
+
+    ghost law = { λ env finished seen. seen };
+}
+
+/// The number in so many bits from a bit on, where they all stand before a place and none of them is late.
+fn number_seen(bits: &BitBuf, marks: &BitBuf, at: u32, first: i64, width: u8) -> Option<u32>
+    requires { width ≤ 32 }
+    ensures { option_map (λ n. pos n) result ≡ (if hit marks.now first (pos width) then None else bits_before bits.now at first (pos width)) }
+{
+    if first < 0 || first > i64::from(at) {
+        return None;
+    }
+    if first + i64::from(width) > i64::from(at) {
+        return None;
+    }
+    if is_hit(marks, first as u32, width) {
+        return None;
+    }
+    bits.at(first as u32, width)
+}
+
+/// Whether one of so many bits from a bit on is late.
+fn is_hit(marks: &BitBuf, first: u32, width: u8) -> bool
+    requires { width ≤ 32 }
+    ensures { result ≡ hit marks.now (pos first) (pos width) }
+{
+    if first >= marks.len() {
+        return false;
+    }
+    let seen = (marks.len() - first).min(u32::from(width)) as u8;
+    match marks.at(first, seen) {
+        Some(number) => number != 0,
+        None => false,
+    }
+}
+
+/// Whether an expression names a label that has no place yet.
+pub fn names_later(expr: &Expr, notes: &[Note<'_>]) -> bool
+    ensures { result ≡ names_later (met_in (known notes.now)) (term_of expr.now) }
+{
+    match expr {
+        Expr::Number(_) | Expr::Count(_) | Expr::Fact(_) => false,
+        Expr::Name(name) => place_of(notes, name).is_none(),
+        Expr::Unary(_, operand) => names_later(operand, notes),
+        Expr::Binary(_, left, right) => names_later(left, notes) || names_later(right, notes),
+        Expr::Bits(name, start, width) => {
+            place_of(notes, name).is_none()
+                || names_later(start, notes)
+                || names_later(width, notes)
+        }
+    }
+}
+
+/// The value of an expression behind what is laid so far.
+pub fn value_behind<'e>(expr: &'e Expr, facts: &Facts, laid: &Laid<'_>) -> Result<i32, Unvalued<'e>>
+    ensures { held result ≡ value_of (term_of expr.now) (draft_sight facts.now (draft_of laid.now)) }
+{
+    let env = DraftEnv {
+        names: NamesEnv {
+            facts,
+            notes: laid.notes.as_slice(),
+        },
+        bits: &laid.bits,
+        marks: &laid.marks,
+        at: laid.bits.len(),
+    };
+    value_in(expr, &env)
+}
+
+/// The bytes of the parts of a text behind what is laid so far, or their first fault.
+pub fn bytes_behind(
+    alloc: Global,
+    parts: &Texts,
+    facts: &Facts,
+    laid: &Laid<'_>,
+) -> Result<Bytes, Stop<Fault>>
+    ensures { Gives (bytes_seen nowhere facts.now (draft_sight facts.now (draft_of laid.now)) (plain_parts parts.now)) result }
+{
+    let env = DraftEnv {
+        names: NamesEnv {
+            facts,
+            notes: laid.notes.as_slice(),
+        },
+        bits: &laid.bits,
+        marks: &laid.marks,
+        at: laid.bits.len(),
+    };
+    text_seen(alloc, parts, Mark { file: 0, line: 0 }, facts, &env)
+}
+
+/// Whether an expression has no value since bits before this place are late.
+pub fn reads_late(at: u32, fault: &Unvalued<'_>) -> bool
+    ensures { result ≡ reads_late at (fault_of fault.now) }
+{
+    match *fault {
+        Unvalued::LaterData(first, end) => first >= 0 && end >= 0 && end <= i64::from(at),
+        _ => false,
+    }
+}
+
+/// Why an expression that can't be left for later has no value: 214 where it reads late bits.
+pub fn early_fault(fault: Unvalued<'_>, laid: &Laid<'_>) -> LayFault
+    requires { IsShort laid.now }
+    ensures { early_value (draft_of laid.now) (Err (fault_of fault.entry)) ≡ Err (refusal_of result) }
+{
+    if reads_late(laid.bits.len(), &fault) {
+        later_fault(laid)
+    } else {
+        value_fault(fault, laid.piece)
+    }
+}
+
+/// 214, with the piece.
+pub fn later_fault(laid: &Laid<'_>) -> LayFault
+    requires { IsShort laid.now }
+    ensures { refusal_of result ≡ refusal 214 laid.now.piece (pos laid.now.piece) }
+{
+    LayFault {
+        number: 214,
+        piece: laid.piece,
+        value: laid.piece as i64,
+    }
+}
