@@ -1,19 +1,18 @@
 -- Fields that keep the rules have widths that they may have.
-use Rattle.std.proofs.Common.{◌≡◌, ℤ, pos, Bool, true, false, ◌&&◌, List, ◌++◌, None, sym, subst, arith}
+use Rattle.std.proofs.Common.{◌≡◌, ℤ, pos, Bool, true, false, ◌&&◌, None, sym, subst, arith}
 use Rattle.std.specs.Prelude.{if◌then◌else◌, nat_le}
 use Rattle.std.specs.List.{list_all}
 use Rattle.std.specs.Ordering.{int_eq}
 use Rattle.std.proofs.lemmas.Bool.Decides.{nat_tests, Decides-int_eq}
 use Rattle.rz_core.proofs.Tests.{both}
-use Rattle.rz_core.specs.declared.resource.Word.{Word}
 use Rattle.rz_types_fields.specs.declared.field.NumForm.{NumForm}
 use Rattle.rz_types_fields.specs.declared.field.NumForm.TheVariants.{Bits, Boolean, Byte, Char, Integer, Longint}
-use Rattle.rz_types.specs.Field.{case_and, field_and, no_cases, no_fields, Align, Array, Fill, Number, PlainBody, PlainCases, PlainField, PlainNumber, Points, Switch, Text}
+use Rattle.rz_types.specs.Field.{case_and, field_and, no_cases, no_fields, Align, Array, Fill, Label, Number, PlainBody, PlainCases, PlainField, PlainNumber, Points, Switch, Text}
 use Rattle.rz_types.specs.Kept.{AreCasesKept, AreKept, IsKept, IsKeptWithin}
 use Rattle.rz_types.specs.Range.{is_between}
 use Rattle.rz_types.specs.Rules.{bad_width, may_be_width, unless}
 use Rattle.rz_types.specs.Shape.{are_cases_shaped, are_shaped, body_depth, deepest_body, is_fixed_number, is_key_shaped, is_none_or, is_number_shaped, is_own_name, is_own_width, is_shaped, is_symbol_of, is_well_shaped}
-use Rattle.rz_types.specs.Walk.{names_of}
+use Rattle.rz_types.specs.Walk.{and_names, names_of, Own}
 use Rattle.rz_show.specs.Printable.{HasWidth, HasWidths, HaveWidths, IsWidth}
 
 same_width : (width own : ℤ) → int_eq width own ≡ true → IsWidth own → IsWidth width
@@ -39,23 +38,24 @@ number_width in_case number is kept =
     form_width number.form number.width (both own (list_all (is_symbol_of number.form number.width) number.symbols) two.0).0 kept
 
 mutual
-  field_width : (scope : List Word) (in_case : Bool) (field : PlainField) → is_shaped in_case field ≡ true → bad_width field ≡ None → IsKeptWithin scope field → HasWidth field
+  field_width : (scope : Own) (in_case : Bool) (field : PlainField) → is_shaped in_case field ≡ true → bad_width field ≡ None → IsKeptWithin scope field → HasWidth field
   field_width scope in_case (Number number) is wide kept = number_width in_case number is wide
   field_width scope in_case (Text text) is wide kept = tt
   field_width scope in_case (Points points) is wide kept = tt
   field_width scope in_case (Fill unit count) is wide kept = tt
   field_width scope in_case (Align unit) is wide kept = tt
-  field_width scope in_case (Array name count row) is wide kept = body_widths (scope ++ names_of row) false row (both (is_none_or is_own_name name) (are_shaped false row) is).1 kept.2
+  field_width scope in_case (Label name) is wide kept = tt
+  field_width scope in_case (Array name count row) is wide kept = body_widths (and_names scope (names_of row)) false row (both (is_none_or is_own_name name) (are_shaped false row) is).1 kept.2
   field_width scope in_case (Switch cases) is wide kept = cases_widths scope cases is kept.1
 
-  cases_widths : (scope : List Word) (cases : PlainCases) → are_cases_shaped cases ≡ true → AreCasesKept scope cases → HaveWidths cases
+  cases_widths : (scope : Own) (cases : PlainCases) → are_cases_shaped cases ≡ true → AreCasesKept scope cases → HaveWidths cases
   cases_widths scope no_cases is kept = tt
   cases_widths scope (case_and name row others) is kept =
       let all = both (is_own_name name) (are_shaped true row && are_cases_shaped others) is in
       let each = both (are_shaped true row) (are_cases_shaped others) all.1 in
-      (body_widths (scope ++ names_of row) true row each.0 kept.1, cases_widths scope others each.1 kept.2)
+      (body_widths (and_names scope (names_of row)) true row each.0 kept.1, cases_widths scope others each.1 kept.2)
 
-  body_widths : (scope : List Word) (in_case : Bool) (body : PlainBody) → are_shaped in_case body ≡ true → AreKept scope body → HasWidths body
+  body_widths : (scope : Own) (in_case : Bool) (body : PlainBody) → are_shaped in_case body ≡ true → AreKept scope body → HasWidths body
   body_widths scope in_case no_fields is kept = tt
   body_widths scope in_case (field_and field fields) is kept =
       let each = both (is_shaped in_case field) (are_shaped in_case fields) is in

@@ -6,7 +6,7 @@ use Rattle.rz_types_fields.specs.declared.tree.Tree.{Tree}
 use Rattle.rz_types_fields.specs.Laid.{first_value, line_in, other_values, rows_in, text_in}
 use Rattle.rz_types_fields.specs.Row.{By}
 use Rattle.rz_types_fields.specs.Spells.{is_case}
-use Rattle.rz_types.specs.Field.{case_and, field_and, no_cases, no_fields, takes_value, Align, Array, Fill, Number, PlainBody, PlainCases, PlainField, Points, Switch, Text}
+use Rattle.rz_types.specs.Field.{case_and, field_and, no_cases, no_fields, takes_value, Align, Array, Fill, Label, Number, PlainBody, PlainCases, PlainField, Points, Switch, Text}
 use Rattle.rz_show.specs.Print.{block, named_block, no_prints, pieces, print, single, single_written, Print, Prints}
 use Rattle.rz_show.specs.Written.{IsPut}
 
@@ -33,6 +33,7 @@ abbrev mutual
   HasWidth (Points points) = Unit {0}
   HasWidth (Fill unit count) = Unit {0}
   HasWidth (Align unit) = Unit {0}
+  HasWidth (Label name) = Unit {0}
   HasWidth (Array name count row) = HasWidths row
   HasWidth (Switch cases) = HaveWidths cases
 
@@ -54,6 +55,7 @@ abbrev mutual
   IsOfBytes (Points points) value = Unit {0}
   IsOfBytes (Fill unit count) value = Unit {0}
   IsOfBytes (Align unit) value = Unit {0}
+  IsOfBytes (Label name) value = Unit {0}
   IsOfBytes (Array name count row) value = AllByRecursion (AreOfBytes row) (rows_in value)
   IsOfBytes (Switch cases) value = IsCaseOfBytes cases value
 

@@ -4,7 +4,7 @@ use Rattle.std.specs.List.{list_any}
 use Rattle.rz_types_fields.specs.declared.tree.Tree.{Tree}
 use Rattle.rz_types_fields.specs.Laid.{first_value, line_in, number_in, other_values, rows_in, text_in}
 use Rattle.rz_types_fields.specs.Spells.{group_in, is_case}
-use Rattle.rz_types.specs.Field.{case_and, field_and, no_cases, no_fields, takes_value, Align, Array, Fill, Number, PlainBody, PlainCases, PlainField, Points, Switch, Text}
+use Rattle.rz_types.specs.Field.{case_and, field_and, no_cases, no_fields, takes_value, Align, Array, Fill, Label, Number, PlainBody, PlainCases, PlainField, Points, Switch, Text}
 use Rattle.rz_show.specs.Number.{number_shown, signed_number}
 use Rattle.rz_show.specs.Print.{block, in_group, list_lines, named_block, no_prints, pieces, print, single, Print, Prints}
 use Rattle.rz_show.specs.Written.{lines_text}
@@ -60,6 +60,7 @@ module _ (hidden : List ℕ → Bool) where
     field_print (Points points) value = single (in_group (map (signed_number 16) (group_in value)))
     field_print (Fill unit count) value = block no_prints
     field_print (Align unit) value = block no_prints
+    field_print (Label name) value = block no_prints
     field_print (Array name count row) value = block (rows_prints (row_prints row) (rows_in value))
     field_print (Switch cases) value = case_print cases value
 

@@ -100,7 +100,7 @@ fn write_value<'a>(
             write_group(group_in(value), into)?;
             Ok(())
         }
-        Field::Fill(..) | Field::Align(_) => {
+        Field::Fill(..) | Field::Align(_) | Field::Label(_) => {
             write_nothing(depth, into)?;
             Ok(())
         }

@@ -20,12 +20,12 @@ use Rattle.rz_stmt_items.specs.Fits.{exceeds, list_of, AreNumbersOf, FitAll, Fit
 use Rattle.rz_types_fields.specs.Laid.{first_value, line_in, number_in, other_values, rows_in, text_in}
 use Rattle.rz_types_fields.specs.Row.{By, IsChoice, IsFront, IsRow, IsStated, IsValue}
 use Rattle.rz_types_fields.specs.Spells.{choice_in, group_in, is_case}
-use Rattle.rz_types.specs.Field.{case_and, field_and, no_cases, no_fields, takes_value, Align, Array, Fill, Number, PlainBody, PlainCases, PlainField, PlainText, Points, Switch, Text}
+use Rattle.rz_types.specs.Field.{case_and, field_and, no_cases, no_fields, takes_value, Align, Array, Fill, Label, Number, PlainBody, PlainCases, PlainField, PlainText, Points, Switch, Text}
 use Rattle.rz_types.specs.Kept.{AreCasesKept, AreKept, Differ, IsKept, IsKeptWithin}
 use Rattle.rz_types.specs.Rules.{bad_width, case_names, has_values}
 use Rattle.rz_types.specs.Shape.{are_cases_shaped, are_shaped, is_none_or, is_own_name, is_shaped, is_well_shaped, numbers_of}
 use Rattle.rz_types.specs.Piece.{integer}
-use Rattle.rz_types.specs.Walk.{names_of}
+use Rattle.rz_types.specs.Walk.{and_names, names_of, Own}
 use Rattle.rz_show_laws.proofs.Items.{ArePrintedItems, IsPrintedItem, IsSingleItem}
 use Rattle.rz_show.specs.Number.{number_shown, signed_number}
 use Rattle.rz_show.specs.Print.{in_group, named_block, no_prints, Print, Prints}
@@ -216,7 +216,7 @@ module _ (known : Facts) where
 
   module _ (hidden : List ℕ → Bool) where
     mutual
-      field_fits : (scope : List Word) (in_case : Bool) (field : PlainField) → is_shaped in_case field ≡ true → bad_width field ≡ None → IsKeptWithin scope field
+      field_fits : (scope : Own) (in_case : Bool) (field : PlainField) → is_shaped in_case field ≡ true → bad_width field ≡ None → IsKeptWithin scope field
           → (v : Tree) (one : PlainItem) → IsValue field v → IsShortText field (Some v) → IsPrintedItem (field_print hidden field (Some v)) one → IsItemOf known field one v
       field_fits scope in_case (Number number) shaped wide kept v one (n, is, less) short printed =
           let here : number_in (Some v) ≡ n = ap (λ (t : Tree). number_in (Some t)) is ∙ number_is n in
@@ -229,12 +229,13 @@ module _ (known : Facts) where
           (numbers, group_fits points.rect numbers one long all (subst (λ (ns : List ℕ). IsSingleItem (in_group (map (signed_number 16) ns)) one) here printed), is)
       field_fits scope in_case (Fill unit count) shaped wide kept v one value short printed = value
       field_fits scope in_case (Align unit) shaped wide kept v one value short printed = value
+      field_fits scope in_case (Label name) shaped wide kept v one value short printed = value
       field_fits scope in_case (Array name count row) shaped wide kept v one (rows, is, stated, all) short (items, mark, braced, printed) =
           let here : rows_in (Some v) ≡ rows = ap (λ (t : Tree). rows_in (Some t)) is ∙ rows_are rows in
           with_list (λ items. (rows : List (List Tree)) × RowsFit (Fits known row) items rows × IsStated count (length rows) × (v ≡ trees.Rows rows)) items mark one braced (
             rows,
             rows_fit (row_prints hidden row) (Fits known row) (IsSpelled row)
-                (λ line more items spelled are. row_fits (scope ++ names_of row) false row (both (is_none_or is_own_name name) (are_shaped false row) shaped).1 kept.2 line more items spelled are)
+                (λ line more items spelled are. row_fits (and_names scope (names_of row)) false row (both (is_none_or is_own_name name) (are_shaped false row) shaped).1 kept.2 line more items spelled are)
                 (λ front line fits. uses_item row front line kept.0 fits)
                 rows items (all_spelled row rows all (subst (AllByRecursion (AreShortTexts row)) here short)) (subst (λ (rs : List (List Tree)). ArePrintedItems (rows_prints (row_prints hidden row) rs) items) here printed),
             stated,
@@ -244,7 +245,7 @@ module _ (known : Facts) where
           let it = case_fits scope cases shaped kept.0 kept.1 v one value short printed in
           with_named (λ name items. IsCaseOf known cases name items v) it.name it.items it.mark one it.is it.fits
 
-      case_fits : (scope : List Word) (cases : PlainCases) → are_cases_shaped cases ≡ true → Differ (case_names cases) → AreCasesKept scope cases
+      case_fits : (scope : Own) (cases : PlainCases) → are_cases_shaped cases ≡ true → Differ (case_names cases) → AreCasesKept scope cases
           → (v : Tree) (one : PlainItem) → IsChoice cases v → IsShortCase cases (Some v) → IsPrintedItem (case_print hidden cases (Some v)) one → Chosen cases v one
       case_fits scope no_cases shaped differ kept v one value short printed = absurd value
       case_fits scope (case_and name row others) shaped differ kept v one (inl (line, choice, are)) short printed =
@@ -257,7 +258,7 @@ module _ (known : Facts) where
           let spelled : IsSpelled row line = record { is = are; short = short_line } in
           let printed_line = subst (λ (l : List Tree). ArePrintedItems (row_prints hidden row l no_prints) shown.0) here shown.3 in
           first_case name row others v line one shown.0 shown.1 choice shown.2
-          (all_items row line shown.0 (row_fits (scope ++ names_of row) true row each.0 kept.1 line no_prints shown.0 spelled printed_line))
+          (all_items row line shown.0 (row_fits (and_names scope (names_of row)) true row each.0 kept.1 line no_prints shown.0 spelled printed_line))
       case_fits scope (case_and name row others) shaped differ kept v one (inr value) short printed =
           let all = both (is_own_name name) (are_shaped true row && are_cases_shaped others) shaped in
           let each = both (are_shaped true row) (are_cases_shaped others) all.1 in
@@ -265,7 +266,7 @@ module _ (known : Facts) where
           later_case name row others v one other
           (case_fits scope others each.1 differ.1 kept.2 v one value (passed (is_case name (Some v)) _ _ short other) (later_print (is_case name (Some v)) (named_block name.bytes (row_prints hidden row (line_in (Some v)) no_prints)) (case_print hidden others (Some v)) one other printed))
 
-      row_fits : (scope : List Word) (in_case : Bool) (body : PlainBody) → are_shaped in_case body ≡ true → AreKept scope body
+      row_fits : (scope : Own) (in_case : Bool) (body : PlainBody) → are_shaped in_case body ≡ true → AreKept scope body
           → (row : List Tree) (more : Prints) (items : List PlainItem) → IsSpelled body row → ArePrintedItems (row_prints hidden body row more) items → Front (Fits known body) row more items
       row_fits scope in_case no_fields shaped kept row more items spelled printed = record { front = []; rest = items; are = refl; fits = (refl, spelled.is); others = printed }
       row_fits scope in_case (field_and field fields) shaped kept row more items spelled printed =

@@ -1,5 +1,5 @@
 -- What is shown of a row may be written.
-use Rattle.std.proofs.Common.{◌≡◌, inl, inr, ℕ, zero, suc, ◌+◌, ◌-◌, ◌*◌, ◌/◌, ◌^◌, ◌<◌, ◌≤◌, ℤ, pos, negsuc, Bool, true, false, ◌&&◌, List, [], ◌∷◌, ◌++◌, map, Option, Some, None, refl, sym, ap, subst, ◌∙◌, arith}
+use Rattle.std.proofs.Common.{◌≡◌, inl, inr, ℕ, zero, suc, ◌+◌, ◌-◌, ◌*◌, ◌/◌, ◌^◌, ◌<◌, ◌≤◌, ℤ, pos, negsuc, Bool, true, false, ◌&&◌, List, [], ◌∷◌, map, Option, Some, None, refl, sym, ap, subst, ◌∙◌, arith}
 use Rattle.std.specs.Prelude.{◌==◌, nat_abs, nat_lt}
 use Rattle.std.specs.List.{list_any, AllByRecursion}
 use Rattle.std.specs.Option.{is_none}
@@ -22,12 +22,12 @@ use Rattle.rz_types_fields.specs.declared.tree.Tree.{Tree}
 use Rattle.rz_types_fields.specs.Laid.{first_value, line_in, number_in, other_values, rows_in, text_in}
 use Rattle.rz_types_fields.specs.Row.{By, IsChoice, IsRow, IsValue}
 use Rattle.rz_types_fields.specs.Spells.{group_in, is_case}
-use Rattle.rz_types.specs.Field.{case_and, field_and, no_cases, no_fields, takes_value, Align, Array, Fill, Number, PlainBody, PlainCases, PlainField, PlainNumber, Points, Switch, Text}
+use Rattle.rz_types.specs.Field.{case_and, field_and, no_cases, no_fields, takes_value, Align, Array, Fill, Label, Number, PlainBody, PlainCases, PlainField, PlainNumber, Points, Switch, Text}
 use Rattle.rz_types.specs.Kept.{AreCasesKept, AreKept, Differ, IsKept, IsKeptWithin}
 use Rattle.rz_types.specs.Rules.{bad_width, case_names}
 use Rattle.rz_types.specs.Shape.{are_cases_shaped, are_shaped, is_none_or, is_own_name, is_shaped, is_well_shaped}
 use Rattle.rz_types.specs.Value.{symbol_value}
-use Rattle.rz_types.specs.Walk.{names_of}
+use Rattle.rz_types.specs.Walk.{and_names, names_of, Own}
 use Rattle.rz_show.specs.Number.{by_decimal, by_form, by_hex, by_literal, by_radix, by_truth, by_value, is_literal_width, is_stored, named_or, number_shown, signed_number, symbol_for, truth}
 use Rattle.rz_show.specs.Print.{group_rest, group_written, no_prints, signed_written, single_written, Print, Prints}
 use Rattle.rz_show.specs.Printable.{AreGood, AreOfBytes, IsCaseOfBytes, IsGood, IsName, IsOfBytes, IsWidth, SparesTruth}
@@ -207,7 +207,7 @@ passed false A B has is = has
 
 module _ (hidden : List ℕ → Bool) (spares : SparesTruth hidden) where
   mutual
-    field_good : (scope : List Word) (in_case : Bool) (field : PlainField) → is_shaped in_case field ≡ true → bad_width field ≡ None → IsKeptWithin scope field → HasName field
+    field_good : (scope : Own) (in_case : Bool) (field : PlainField) → is_shaped in_case field ≡ true → bad_width field ≡ None → IsKeptWithin scope field → HasName field
         → (value : Option Tree) → Takes (takes_value field) (IsValue field) value → IsOfBytes field value → field_uses hidden field value ≡ false → takes_value field ≡ true
         → IsGood hidden (field_print hidden field value)
     field_good scope in_case (Number number) shaped wide kept names value has bytes uses takes =
@@ -221,16 +221,17 @@ module _ (hidden : List ℕ → Bool) (spares : SparesTruth hidden) where
         subst (λ (ns : List ℕ). AllByRecursion (IsPut hidden) (group_written (map (signed_number 16) ns))) (sym numbers_are) (group_good hidden one.1.0 one.1.3)
     field_good scope in_case (Fill unit count) shaped wide kept names value has bytes uses takes = tt
     field_good scope in_case (Align unit) shaped wide kept names value has bytes uses takes = tt
+    field_good scope in_case (Label name) shaped wide kept names value has bytes uses takes = tt
     field_good scope in_case (Array name count row) shaped wide kept names value has bytes uses takes =
         let rows_is : rows_in value ≡ has.1.0 = ap rows_in (has.2 ∙ ap (λ (t : Tree). Some t) has.1.1) ∙ rows_are has.1.0 in
         rows_good hidden (row_prints hidden row) (IsShowable hidden row)
-        (λ line more showable good. body_good (scope ++ names_of row) false row (both (is_none_or is_own_name name) (are_shaped false row) shaped).1 kept.2 names line more showable good)
+        (λ line more showable good. body_good (and_names scope (names_of row)) false row (both (is_none_or is_own_name name) (are_shaped false row) shaped).1 kept.2 names line more showable good)
         (rows_in value) (all_showable hidden row (rows_in value) (subst (AllByRecursion (IsRow row)) (sym rows_is) has.1.3) bytes uses)
     field_good scope in_case (Switch cases) shaped wide kept names value has bytes uses takes =
         subst (λ (o : Option Tree). IsGood hidden (case_print hidden cases o)) (sym has.2)
         (case_good scope cases shaped kept.0 kept.1 names has.0 has.1 (subst (IsCaseOfBytes cases) has.2 bytes) (ap (case_uses hidden cases) (sym has.2) ∙ uses))
 
-    case_good : (scope : List Word) (cases : PlainCases) → are_cases_shaped cases ≡ true → Differ (case_names cases) → AreCasesKept scope cases → HaveNames cases
+    case_good : (scope : Own) (cases : PlainCases) → are_cases_shaped cases ≡ true → Differ (case_names cases) → AreCasesKept scope cases → HaveNames cases
         → (v : Tree) → IsChoice cases v → IsCaseOfBytes cases (Some v) → case_uses hidden cases (Some v) ≡ false → IsGood hidden (case_print hidden cases (Some v))
     case_good scope no_cases shaped differ kept names v has bytes uses = absurd has
     case_good scope (case_and name row others) shaped differ kept names v (inl (line, is_choice, are)) bytes uses =
@@ -242,7 +243,7 @@ module _ (hidden : List ℕ → Bool) (spares : SparesTruth hidden) where
         rw is (
           names.0,
           both_not.0,
-          body_good (scope ++ names_of row) true row each.0 kept.1 names.1 (line_in (Some v)) no_prints
+          body_good (and_names scope (names_of row)) true row each.0 kept.1 names.1 (line_in (Some v)) no_prints
               (record { is = subst (IsRow row) (sym line_here) are; bytes = chosen (is_case name (Some v)) _ _ bytes is; uses = both_not.1 }) tt,
         )
     case_good scope (case_and name row others) shaped differ kept names v (inr has) bytes uses =
@@ -251,7 +252,7 @@ module _ (hidden : List ℕ → Bool) (spares : SparesTruth hidden) where
         let is : is_case name (Some v) ≡ false = choice_differs name others differ.0 v has in
         rw is (case_good scope others each.1 differ.1 kept.2 names.2 v has (passed (is_case name (Some v)) _ _ bytes is) (rw is at uses))
 
-    body_good : (scope : List Word) (in_case : Bool) (body : PlainBody) → are_shaped in_case body ≡ true → AreKept scope body → HasNames body
+    body_good : (scope : Own) (in_case : Bool) (body : PlainBody) → are_shaped in_case body ≡ true → AreKept scope body → HasNames body
         → (row : List Tree) (more : Prints) → IsShowable hidden body row → AreGood hidden more → AreGood hidden (row_prints hidden body row more)
     body_good scope in_case no_fields shaped kept names row more showable good = good
     body_good scope in_case (field_and field fields) shaped kept names row more showable good =

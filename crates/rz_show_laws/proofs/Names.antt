@@ -9,7 +9,7 @@ use Rattle.rz_lex.specs.Lexeme.{is_lexed_word}
 use Rattle.rz_lex.specs.Printed.{is_word}
 use Rattle.rz_types_fields.specs.declared.field.NumForm.{NumForm}
 use Rattle.rz_types_fields.specs.declared.field.Symbol.{Symbol}
-use Rattle.rz_types.specs.Field.{case_and, field_and, no_cases, no_fields, Align, Array, Fill, Number, PlainBody, PlainCases, PlainField, PlainNumber, Points, Switch, Text}
+use Rattle.rz_types.specs.Field.{case_and, field_and, no_cases, no_fields, Align, Array, Fill, Label, Number, PlainBody, PlainCases, PlainField, PlainNumber, Points, Switch, Text}
 use Rattle.rz_types.specs.Range.{fits_number}
 use Rattle.rz_types.specs.Shape.{are_cases_shaped, are_shaped, is_fixed_number, is_key_shaped, is_none_or, is_number_shaped, is_own_name, is_own_width, is_shaped, is_symbol_name, is_symbol_of, is_well_shaped}
 use Rattle.rz_show.specs.Printable.{IsName}
@@ -23,6 +23,7 @@ abbrev mutual
   HasName (Points points) = Unit {0}
   HasName (Fill unit count) = Unit {0}
   HasName (Align unit) = Unit {0}
+  HasName (Label name) = Unit {0}
   HasName (Array name count row) = HasNames row
   HasName (Switch cases) = HaveNames cases
 
@@ -63,6 +64,7 @@ mutual
   field_names in_case (Points points) is = tt
   field_names in_case (Fill unit count) is = tt
   field_names in_case (Align unit) is = tt
+  field_names in_case (Label name) is = tt
   field_names in_case (Array name count row) is = body_names false row (both (is_none_or is_own_name name) (are_shaped false row) is).1
   field_names in_case (Switch cases) is = cases_names cases is
 

@@ -16,7 +16,7 @@ use Rattle.rz_types_fields.specs.declared.tree.Tree.{Tree}
 use Rattle.rz_lex.specs.Lexeme.{is_lexed_word}
 use Rattle.rz_types_fields.specs.Laid.{first_value, line_in, number_in, other_values, rows_in}
 use Rattle.rz_types_fields.specs.Spells.{is_case}
-use Rattle.rz_types.specs.Field.{case_and, field_and, no_cases, no_fields, takes_value, Align, Array, Fill, Number, PlainBody, PlainCases, PlainField, PlainNumber, Points, Switch, Text}
+use Rattle.rz_types.specs.Field.{case_and, field_and, no_cases, no_fields, takes_value, Align, Array, Fill, Label, Number, PlainBody, PlainCases, PlainField, PlainNumber, Points, Switch, Text}
 use Rattle.rz_types.specs.Shape.{are_cases_shaped, are_shaped, is_none_or, is_number_shaped, is_own_name, is_own_width, is_fixed_number, is_shaped, is_symbol_name, is_symbol_of}
 use Rattle.rz_types.specs.Value.{symbol_value}
 use Rattle.rz_show_laws.proofs.Items.{AreNamingPrints, IsNaming, IsNamingPrint, IsNamingSingle}
@@ -110,6 +110,7 @@ module _ (hidden : List ℕ → Bool) where
     field_naming in_case (Points points) value is = tt
     field_naming in_case (Fill unit count) value is = tt
     field_naming in_case (Align unit) value is = tt
+    field_naming in_case (Label name) value is = tt
     field_naming in_case (Array name count row) value is =
         rows_naming (row_prints hidden row) (λ line more h. row_naming false row line more (and_parts (is_none_or is_own_name name) (are_shaped false row) is).1 h) (rows_in value)
     field_naming in_case (Switch cases) value is = case_naming cases value is

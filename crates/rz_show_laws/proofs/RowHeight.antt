@@ -11,7 +11,7 @@ use Rattle.rz_types_fields.specs.declared.field.Symbol.{Symbol}
 use Rattle.rz_types_fields.specs.declared.tree.Tree.{Tree}
 use Rattle.rz_types_fields.specs.Laid.{first_value, line_in, number_in, other_values, rows_in}
 use Rattle.rz_types_fields.specs.Spells.{is_case}
-use Rattle.rz_types.specs.Field.{case_and, field_and, no_cases, no_fields, takes_value, Align, Array, Fill, Number, PlainBody, PlainCases, PlainField, PlainNumber, Points, Switch, Text}
+use Rattle.rz_types.specs.Field.{case_and, field_and, no_cases, no_fields, takes_value, Align, Array, Fill, Label, Number, PlainBody, PlainCases, PlainField, PlainNumber, Points, Switch, Text}
 use Rattle.rz_types.specs.Shape.{body_depth, cases_depth, field_depth}
 use Rattle.rz_show_laws.proofs.Height.{height, heights, single_height}
 use Rattle.rz_show.specs.Number.{by_form, by_literal, by_radix, by_truth, is_literal_width, named_or}
@@ -66,6 +66,7 @@ module _ (hidden : List ℕ → Bool) where
     field_low (Points points) value takes = omega arith
     field_low (Fill unit count) value takes = absurd cc
     field_low (Align unit) value takes = absurd cc
+    field_low (Label name) value takes = absurd cc
     field_low (Array name count row) value takes =
         let low = rows_low (row_prints hidden row) (suc (body_depth row)) (λ line more h. row_low row line more (suc (body_depth row)) (omega arith) h) (rows_in value) in omega (arith, low)
     field_low (Switch cases) value takes = case_low cases value

@@ -15,8 +15,9 @@ use Rattle.rz_lex.specs.Printed as printed
 use Rattle.rz_stmt_items.specs.Fits.{exceeds}
 use Rattle.rz_types_fields.specs.Laid.{first_value, line_in, other_values, rows_in, text_in}
 use Rattle.rz_types_fields.specs.Row.{By}
-use Rattle.rz_types_fields.specs.Spells.{is_case, put, row_of, sees, AreBytes, BodySpells, CaseSpells, FieldSpells, Inside, IsGrouped, IsNumber, IsPlainText, IsSize, IsText, Late, RowsSpell, Spells, When}
-use Rattle.rz_types.specs.Field.{case_and, field_and, no_cases, no_fields, takes_value, Align, Array, Fill, Number, PlainBody, PlainCases, PlainField, PlainText, Points, Switch, Text}
+use Rattle.rz_types_fields.specs.Sees.{sees, Late}
+use Rattle.rz_types_fields.specs.Spells.{is_case, put, row_of, AreBytes, BodySpells, CaseSpells, FieldSpells, Inside, IsGrouped, IsNumber, IsPlainText, IsSize, IsText, RowsSpell, Spells, When}
+use Rattle.rz_types.specs.Field.{case_and, field_and, no_cases, no_fields, takes_value, Align, Array, Fill, Label, Number, PlainBody, PlainCases, PlainField, PlainText, Points, Switch, Text}
 use Rattle.rz_types.specs.Passed.{at_field, at_front, behind, nothing_passed, Passed}
 use Rattle.rz_types.specs.Stored.{is_too_long}
 use Rattle.rz_types.specs.Text.{PlainPart}
@@ -148,6 +149,7 @@ module _ (plain : Bool) where
     has_value (Points points) names passed value at late after late_after spells = has_group points.fixed value spells.0
     has_value (Fill unit count) names passed value at late after late_after spells = let it = spells.1 in alone value it.0 it.1 it.4 it.6.0 ∙ it.5.stored.0
     has_value (Align unit) names passed value at late after late_after spells = let it = spells.1 in alone value it.0 it.1 it.4 it.6.0 ∙ it.5.stored.0
+    has_value (Label name) names passed value at late after late_after spells = let it = spells.1 in alone value it.0 it.1 it.4 it.6.0 ∙ it.5.stored.0
     has_value (Array name count row) names passed value at late after late_after spells = (trees.Rows spells.0, spells.1)
     has_value (Switch cases) names passed value at late after late_after spells = has_case cases names passed value at late after late_after spells
 
@@ -173,6 +175,7 @@ module _ (plain : Bool) where
       field_fine (Points points) names passed value at late after late_after spells = record { short = tt; bytes = λ so. tt }
       field_fine (Fill unit count) names passed value at late after late_after spells = record { short = tt; bytes = λ so. tt }
       field_fine (Align unit) names passed value at late after late_after spells = record { short = tt; bytes = λ so. tt }
+      field_fine (Label name) names passed value at late after late_after spells = record { short = tt; bytes = λ so. tt }
       field_fine (Array name count row) names passed value at late after late_after (rows, is, stated, counted, spells) =
           rows_fine name count row rows value (ap rows_in is ∙ rows_are rows)
           (rows_short (RowFine row) (λ number line. Inside row (row_of name number) names (λ own. BodySpells plain known all row own (at_front row passed) line))

@@ -6,7 +6,7 @@ use Rattle.rz_stmt_items.specs.Fits.{exceeds}
 use Rattle.rz_types_fields.specs.Laid.{first_value, line_in, other_values, rows_in, text_in}
 use Rattle.rz_types_fields.specs.Row.{By}
 use Rattle.rz_types_fields.specs.Spells.{is_case}
-use Rattle.rz_types.specs.Field.{case_and, field_and, no_cases, no_fields, takes_value, Align, Array, Fill, Number, PlainBody, PlainCases, PlainField, Points, Switch, Text}
+use Rattle.rz_types.specs.Field.{case_and, field_and, no_cases, no_fields, takes_value, Align, Array, Fill, Label, Number, PlainBody, PlainCases, PlainField, Points, Switch, Text}
 
 abbrev mutual
   -- the texts of the value that have no size are no longer than their length can say
@@ -16,6 +16,7 @@ abbrev mutual
   IsShortText (Points points) value = Unit {0}
   IsShortText (Fill unit count) value = Unit {0}
   IsShortText (Align unit) value = Unit {0}
+  IsShortText (Label name) value = Unit {0}
   IsShortText (Array name count row) value = AllByRecursion (AreShortTexts row) (rows_in value)
   IsShortText (Switch cases) value = IsShortCase cases value
 

@@ -252,6 +252,7 @@ module _ (files : ℕ) where
       item_named (fields.Points points) position item fault within is = group_named position points.rect item fault within is
       item_named (fields.Fill unit count) position item fault within is = kept_named 206 (mark_of item) _ fault refl (item_mark item within) is
       item_named (fields.Align unit) position item fault within is = kept_named 206 (mark_of item) _ fault refl (item_mark item within) is
+      item_named (fields.Label name) position item fault within is = kept_named 206 (mark_of item) _ fault refl (item_mark item within) is
       item_named (fields.Array name count body) position item fault within is = array_named name count body (row_named body) position item fault within is
       item_named (fields.Switch cases) position item fault within is = switch_named cases (cases_named cases) position item fault within is
 

@@ -25,7 +25,7 @@ use Rattle.rz_types.specs.Field as fields
 use Rattle.rz_types.specs.Field.{takes_value, PlainBody, PlainCases, PlainField}
 use Rattle.rz_types.specs.Kept.{AreCasesKept, AreKept, IsKeptWithin}
 use Rattle.rz_types.specs.Rules.{has_values}
-use Rattle.rz_types.specs.Walk.{names_of}
+use Rattle.rz_types.specs.Walk.{and_names, names_of, Own}
 
 -- Numbers of rows.
 
@@ -180,21 +180,22 @@ module _ (known : Facts) where
     switch_sounds = record { sound = switch_sound; blamed = switch_blamed }
 
   mutual
-    item_sounds : (scope : List Word) (field : PlainField) → IsKeptWithin scope field → OneSound (item_for known field) (IsItemOf known field) (IsItemFault known field)
+    item_sounds : (scope : Own) (field : PlainField) → IsKeptWithin scope field → OneSound (item_for known field) (IsItemOf known field) (IsItemFault known field)
     item_sounds scope (fields.Number number) kept = number_sounds known number
     item_sounds scope (fields.Text text) kept = text_sounds known text
     item_sounds scope (fields.Points points) kept = points_sound known points
     item_sounds scope (fields.Fill unit count) kept = none_sounds
     item_sounds scope (fields.Align unit) kept = none_sounds
-    item_sounds scope (fields.Array name count row) kept = array_sounds name count row kept.0 (λ place all. row_sounds (scope ++ names_of row) row place all kept.2)
+    item_sounds scope (fields.Label name) kept = none_sounds
+    item_sounds scope (fields.Array name count row) kept = array_sounds name count row kept.0 (λ place all. row_sounds (and_names scope (names_of row)) row place all kept.2)
     item_sounds scope (fields.Switch cases) kept = switch_sounds cases (cases_sound scope cases kept.1)
 
-    cases_sound : (scope : List Word) (cases : PlainCases) → AreCasesKept scope cases → CasesSound cases
+    cases_sound : (scope : Own) (cases : PlainCases) → AreCasesKept scope cases → CasesSound cases
     cases_sound scope fields.no_cases kept = no_cases_sound
     cases_sound scope (fields.case_and own row others) kept =
-        case_sounds own row others (λ place all. row_sounds (scope ++ names_of row) row place all kept.1) (cases_sound scope others kept.2)
+        case_sounds own row others (λ place all. row_sounds (and_names scope (names_of row)) row place all kept.1) (cases_sound scope others kept.2)
 
-    pub row_sounds : (scope : List Word) (body : PlainBody) (place : Mark) (all : List PlainItem) → AreKept scope body
+    pub row_sounds : (scope : Own) (body : PlainBody) (place : Mark) (all : List PlainItem) → AreKept scope body
         → RowSound (row_matched known body place all) (Fits known body) (RowUnfit known body place all)
     row_sounds scope fields.no_fields place all kept = end_sounds
     row_sounds scope (fields.field_and field others) place all kept =
@@ -299,6 +300,7 @@ module _ (known : Facts) where
     item_given (fields.Points points) = points_given known points
     item_given (fields.Fill unit count) = none_given
     item_given (fields.Align unit) = none_given
+    item_given (fields.Label name) = none_given
     item_given (fields.Array name count row) = array_given name count row (row_given row)
     item_given (fields.Switch cases) = switch_given cases (cases_given cases)
 

@@ -94,6 +94,7 @@ module _ (known : Facts) where
         let row = group_row points.rect item is.0 is.1 in (is.0, is.2, row.0, row.1)
     value_row (fields.Fill unit count) item value is = absurd is
     value_row (fields.Align unit) item value is = absurd is
+    value_row (fields.Label name) item value is = absurd is
     value_row (fields.Array name count body) item value is = array_row name count body (row_of body) item value is
     value_row (fields.Switch cases) item value is = switch_row cases (choice_of cases) item value is
 

@@ -108,6 +108,7 @@ abbrev mutual
   IsItemOf known (fields.Points points) item value = (numbers : List ℕ) × AreNumbersOf known points.rect item numbers × (value ≡ trees.Group numbers)
   IsItemOf known (fields.Fill unit count) item value = ⊥
   IsItemOf known (fields.Align unit) item value = ⊥
+  IsItemOf known (fields.Label name) item value = ⊥
   IsItemOf known (fields.Array name count row) item value =
       WithList item (λ items. (rows : List (List Tree)) × RowsFit (Fits known row) items rows × IsStated count (length rows) × (value ≡ trees.Rows rows))
   IsItemOf known (fields.Switch cases) item value = WithNamed item (λ name items. IsCaseOf known cases name items value)

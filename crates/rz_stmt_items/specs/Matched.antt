@@ -136,6 +136,7 @@ abbrev mutual
   item_for known (fields.Points points) position item = group_for known position points.rect item >>= λ numbers. Ok (trees.Group numbers)
   item_for known (fields.Fill unit count) position item = Err (wrong_kind position (mark_of item))
   item_for known (fields.Align unit) position item = Err (wrong_kind position (mark_of item))
+  item_for known (fields.Label name) position item = Err (wrong_kind position (mark_of item))
   item_for known (fields.Array name count row) position item =
       list_matched position item (λ place items. rows_matched (row_matched known row place items) (length items) 0 items >>= counted place count)
   item_for known (fields.Switch cases) position item = named_matched position item (case_matched known cases)

@@ -168,13 +168,14 @@ NamedFault position (Braced items mark) IsSo fault = fault ≡ wrong_kind positi
 -- Fields.
 
 abbrev mutual
-  -- the fault of an item for a field; a `fill` and an `align` take no item
+  -- the fault of an item for a field; a `fill`, an `align` and a label take no item
   pub IsItemFault : Facts → PlainField → (position : ℕ) → PlainItem → Fault → Type 0
   IsItemFault known (fields.Number number) position item fault = IsNumberFault known position number item fault
   IsItemFault known (fields.Text text) position item fault = IsTextFault known position text item fault
   IsItemFault known (fields.Points points) position item fault = IsGroupFault known position points.rect item fault
   IsItemFault known (fields.Fill unit count) position item fault = fault ≡ wrong_kind position (mark_of item)
   IsItemFault known (fields.Align unit) position item fault = fault ≡ wrong_kind position (mark_of item)
+  IsItemFault known (fields.Label name) position item fault = fault ≡ wrong_kind position (mark_of item)
   IsItemFault known (fields.Array name count row) position item fault =
       ListFault position item (λ place items. RowsUnfit (Fits known row) (RowUnfit known row place items) place count items) fault
   IsItemFault known (fields.Switch cases) position item fault = NamedFault position item (λ mark name items. IsCaseFault known cases mark name items) fault

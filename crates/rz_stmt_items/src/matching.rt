@@ -149,7 +149,9 @@ fn item_for(
         Field::Points(points) => {
             Ok(Tree::Group(group_for(alloc, points.rect, item, position, facts)?))
         }
-        Field::Fill(_, _) | Field::Align(_) => Err(wrong_kind(position, mark_of(item))),
+        Field::Fill(_, _) | Field::Align(_) | Field::Label(_) => {
+            Err(wrong_kind(position, mark_of(item)))
+        }
         Field::Array(array) => array_for(alloc, array, item, position, facts),
         Field::Switch(cases) => choice_for(alloc, cases.as_slice(), item, position, facts),
     }

@@ -16,10 +16,10 @@ use Rattle.rz_core.specs.declared.stop.Stop.{Stop}
 use Rattle.rz_core.specs.declared.stop.Stop.TheVariants.{Refused, NoMemory}
 use Rattle.rz_tools_work.specs.Declare.{IsRule}
 use Rattle.rz_types_fields.specs.declared.keys.CaseKey.{CaseKey}
-use Rattle.rz_types.specs.Field.{Align, Array, Fill, Number, PlainBody, PlainField, Points, Switch, Text}
+use Rattle.rz_types.specs.Field.{Align, Array, Fill, Label, Number, PlainBody, PlainField, Points, Switch, Text}
 use Rattle.rz_types.specs.Rules.{array_twice, bad_place, bad_width, broken, broken_at, case_names, checked, found_if, has_other_place, has_other_width, has_same_bits, has_values, kept_position, key_rule, name_fault, no_values, repeated, type_fault, unknown_at, unknown_fault, unknown_in, width_fault}
 use Rattle.rz_types_table.specs.Table.{asked, copied, no_such_type, Declaration}
-use Rattle.rz_types.specs.Walk.{at_field, behind_case, is_among, walk, Step}
+use Rattle.rz_types.specs.Walk.{at_field, behind_case, is_among, walk, Own, Step}
 use Rattle.rz_types.specs.declared.rules.TypeFault.{TypeFault}
 use Rattle.rz_types.specs.declared.template.Template.{Template}
 
@@ -49,14 +49,15 @@ twice_rule : (position : ℕ) (before : List Word) (name : Option Word) → AreR
 twice_rule position before None = tt
 twice_rule position before (Some name) = if_rule (is_among name.bytes before) (name_fault 231 position name) refl
 
-place_rule : (position : ℕ) (before : List Word) (field : PlainField) → AreRules (bad_place position before field)
+place_rule : (position : ℕ) (before : Own) (field : PlainField) → AreRules (bad_place position before field)
 place_rule position before (Number number) = tt
 place_rule position before (Text text) = tt
 place_rule position before (Points points) = tt
 place_rule position before (Fill unit count) = tt
 place_rule position before (Align unit) = tt
+place_rule position before (Label name) = if_rule (is_among name.bytes before.labels) (name_fault 230 position name) refl
 place_rule position before (Array name count row) =
-    or_rule (array_twice position before name) (no_values position row) (twice_rule position before name)
+    or_rule (array_twice position before.arrays name) (no_values position row) (twice_rule position before.arrays name)
     (if_rule (not (has_values row)) (type_fault 237 position (kept.Number (pos (kept_position position)))) refl)
 place_rule position before (Switch cases) = made_rule (name_fault 232 position) (repeated (case_names cases)) (λ name. refl)
 

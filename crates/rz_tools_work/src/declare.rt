@@ -21,9 +21,10 @@ use rz_types_check::check;
 use rz_types_table::{Scope, TypeTable};
 use std::alloc::Global;
 
-/// Declares the type of a `type` statement on this line, or gives its first fault. The ids of its scope and then that of the type that it copies are
-/// from -32768 to 32767 (204); the type that it copies is there (239); its fields keep the rules (238). A
-/// declaration of the same type and scope is taken out, and is warned of (240) unless the setting allows it.
+/// Declares the type of a `type` statement on this line, or gives its first fault. The ids of its scope and then that of
+/// the type that it copies are from -32768 to 32767 (204); the type that it copies is there (239); its fields keep the
+/// rules (230 to 238, 212). A declaration of the same type and scope is taken out, and is warned of (240) unless the
+/// setting allows it.
 pub fn declare_type(
     alloc: Global,
     declare: DeclareStmt,

@@ -1,22 +1,21 @@
 -- The fields of a template fit what the code asks of them.
-use Rattle.std.proofs.Common.{◌≡◌, ℕ, zero, suc, ◌<◌, ◌≤◌, ℤ, pos, Bool, true, false, ◌&&◌, ◌==◌, List, [], ◌∷◌, ◌++◌, length, Option, Some, None, sym, subst, arith}
+use Rattle.std.proofs.Common.{◌≡◌, ℕ, zero, suc, ◌<◌, ◌≤◌, ℤ, pos, Bool, true, false, ◌&&◌, ◌==◌, List, [], ◌∷◌, length, Option, Some, None, sym, subst, arith}
 use Rattle.std.specs.Prelude.{if◌then◌else◌, nat_abs, not}
 use Rattle.std.specs.Ordering.{int_eq}
 use Rattle.std.proofs.lemmas.Bool.Decides.{nat_tests, Decides-int_eq}
 use Rattle.std.specs.List.{list_all, AllByRecursion}
 use Rattle.rz_core.proofs.Tests.{both, true_false}
-use Rattle.rz_core.specs.declared.resource.Word.{Word}
 use Rattle.rz_expr.specs.Term.{Term}
 use Rattle.rz_types_fields.specs.declared.field.NumForm.{NumForm}
 use Rattle.rz_types_fields.specs.declared.field.NumForm.TheVariants.{Bits, Boolean, Byte, Char, Integer, Longint}
 use Rattle.rz_types_fields.specs.declared.field.Symbol.{Symbol}
-use Rattle.rz_types.specs.Field.{case_and, field_and, no_cases, no_fields, Align, Array, Fill, Number, PlainBody, PlainCases, PlainField, PlainNumber, Points, Switch, Text}
+use Rattle.rz_types.specs.Field.{case_and, field_and, no_cases, no_fields, Align, Array, Fill, Label, Number, PlainBody, PlainCases, PlainField, PlainNumber, Points, Switch, Text}
 use Rattle.rz_types.specs.Kept.{AreCasesKept, AreKept, IsKept, IsKeptWithin}
 use Rattle.rz_types.specs.Range.{is_between}
 use Rattle.rz_types.specs.Rules.{bad_width, may_be_width, unless}
 use Rattle.rz_types.specs.Shape.{are_cases_shaped, are_fixed_points, are_shaped, is_empty, is_fixed_number, is_key_shaped, is_none_or, is_number_shaped, is_own_name, is_own_width, is_shaped, is_symbol_of, is_unit, is_well_shaped, numbers_of}
 use Rattle.rz_types.specs.Value.{is_fixed_expression}
-use Rattle.rz_types.specs.Walk.{names_of}
+use Rattle.rz_types.specs.Walk.{and_names, names_of, Own}
 use Rattle.rz_unlay_pieces.specs.Fits.{AreFit, CasesFit, Fits, FixedFits, PointsFit}
 
 -- Widths and units.
@@ -63,24 +62,25 @@ unit_above (suc unit) is = omega arith
 -- Fields, cases and bodies.
 
 mutual
-  field_fits : (scope : List Word) (in_case : Bool) (field : PlainField) → is_shaped in_case field ≡ true → bad_width field ≡ None → IsKeptWithin scope field → Fits field
+  field_fits : (scope : Own) (in_case : Bool) (field : PlainField) → is_shaped in_case field ≡ true → bad_width field ≡ None → IsKeptWithin scope field → Fits field
   field_fits scope in_case (Number number) is wide kept = number_fits in_case number is wide
   field_fits scope in_case (Text text) is wide kept = tt
   field_fits scope in_case (Points points) is wide kept = points_fit points.rect points.fixed is
   field_fits scope in_case (Fill unit count) is wide kept = tt
   field_fits scope in_case (Align unit) is wide kept = unit_above unit is
+  field_fits scope in_case (Label name) is wide kept = tt
   field_fits scope in_case (Array name count row) is wide kept =
-      body_fits (scope ++ names_of row) false row (both (is_none_or is_own_name name) (are_shaped false row) is).1 kept.2
+      body_fits (and_names scope (names_of row)) false row (both (is_none_or is_own_name name) (are_shaped false row) is).1 kept.2
   field_fits scope in_case (Switch cases) is wide kept = cases_fit scope cases is kept.1
 
-  cases_fit : (scope : List Word) (cases : PlainCases) → are_cases_shaped cases ≡ true → AreCasesKept scope cases → CasesFit cases
+  cases_fit : (scope : Own) (cases : PlainCases) → are_cases_shaped cases ≡ true → AreCasesKept scope cases → CasesFit cases
   cases_fit scope no_cases is kept = tt
   cases_fit scope (case_and name row others) is kept =
       let all = both (is_own_name name) (are_shaped true row && are_cases_shaped others) is in
       let each = both (are_shaped true row) (are_cases_shaped others) all.1 in
-      (body_fits (scope ++ names_of row) true row each.0 kept.1, cases_fit scope others each.1 kept.2)
+      (body_fits (and_names scope (names_of row)) true row each.0 kept.1, cases_fit scope others each.1 kept.2)
 
-  body_fits : (scope : List Word) (in_case : Bool) (body : PlainBody) → are_shaped in_case body ≡ true → AreKept scope body → AreFit body
+  body_fits : (scope : Own) (in_case : Bool) (body : PlainBody) → are_shaped in_case body ≡ true → AreKept scope body → AreFit body
   body_fits scope in_case no_fields is kept = tt
   body_fits scope in_case (field_and field fields) is kept =
       let each = both (is_shaped in_case field) (are_shaped in_case fields) is in

@@ -1,6 +1,8 @@
 pub mod Sees
 pub mod Told
 pub mod Teller
+pub mod Blind
+pub mod BlindFields
 pub mod ReadsNumber
 pub mod PlainText
 pub mod ReadsTests

@@ -10,10 +10,11 @@ use Rattle.rz_types_fields.specs.declared.field.TextForm.{TextForm}
 use Rattle.rz_types_fields.specs.declared.tree.Tree.{Tree}
 use Rattle.rz_types_fields.specs.declared.tree.Tree.TheVariants as trees
 use Rattle.rz_types_fields.specs.Row.{By}
-use Rattle.rz_types_fields.specs.Spells.{is_case, row_of, sees, values_for, AreBytes, BodySpells, CaseSpells, FieldSpells, Inside, InOrder, IsNumber, IsStored, IsText, Late, PieceSpells, PiecesSpell, RowsSpell, Spells}
-use Rattle.rz_types.specs.Field.{case_and, field_and, no_cases, no_fields, Align, Array, Fill, Number, PlainBody, PlainCases, PlainField, PlainText, Points, Switch, Text}
+use Rattle.rz_types_fields.specs.Sees.{sees, Late}
+use Rattle.rz_types_fields.specs.Spells.{is_case, row_of, values_for, AreBytes, BodySpells, CaseSpells, FieldSpells, Inside, InOrder, IsNumber, IsStored, IsText, PieceSpells, PiecesSpell, RowsSpell, Spells}
+use Rattle.rz_types.specs.Field.{case_and, field_and, no_cases, no_fields, Align, Array, Fill, Label, Number, PlainBody, PlainCases, PlainField, PlainText, Points, Switch, Text}
 use Rattle.rz_types.specs.Passed.{at_field, at_front, behind, behind_piece, nothing_passed, Passed}
-use Rattle.rz_types.specs.Piece.{pieces_of, Filler, OneNumber, OneText, Piece, Zeros}
+use Rattle.rz_types.specs.Piece.{pieces_of, Filler, OneNumber, OneText, Piece, Place, Zeros}
 use Rattle.rz_types.specs.Text.{PlainPart}
 
 number_loose : (passed : Passed) (form : NumForm) (width : ℤ) (fixed : Option Term) (sight : Sight) (value : Option Tree) (bits : List Bool)
@@ -42,6 +43,7 @@ stored_loose passed (OneNumber number) known at sight value bits it = number_loo
 stored_loose passed (OneText text) known at sight value bits it = text_loose text known sight value bits it
 stored_loose passed (Zeros count) known at sight value bits it = it
 stored_loose passed (Filler unit) known at sight value bits it = it
+stored_loose passed (Place name) known at sight value bits it = it
 
 module _ (facts : Facts) (all : List Bool) where
   piece_loose : (env : Environment) (passed : Passed) (piece : Piece) (value : Option Tree) (at : ℕ) (late : Late) (after : ℕ) (late_after : Late)
@@ -100,6 +102,7 @@ module _ (facts : Facts) (all : List Bool) where
     field_loose (Points points) env passed value at late after late_after it = pieces_loose (Points points) env passed value at late after late_after it
     field_loose (Fill unit count) env passed value at late after late_after it = pieces_loose (Fill unit count) env passed value at late after late_after it
     field_loose (Align unit) env passed value at late after late_after it = pieces_loose (Align unit) env passed value at late after late_after it
+    field_loose (Label name) env passed value at late after late_after it = pieces_loose (Label name) env passed value at late after late_after it
     field_loose (Array name count row) env passed value at late after late_after it =
         (it.0, it.1, it.2, it.3, rows_loose name row (body_loose row) env (at_front row passed) it.0 1 at late after late_after it.4)
     field_loose (Switch cases) env passed value at late after late_after it = cases_loose cases env passed value at late after late_after it

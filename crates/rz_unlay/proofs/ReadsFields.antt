@@ -10,7 +10,7 @@ use Rattle.rz_bits.specs.BitBuf.{filled, missing, zeros}
 use Rattle.rz_types_fields.specs.declared.tree.Tree.{Tree}
 use Rattle.rz_types_fields.specs.declared.tree.Tree.TheVariants as trees
 use Rattle.rz_types_fields.specs.Spells.{is_case, row_of, values_in, BodySpells, CaseSpells, FieldSpells, Inside, Spells}
-use Rattle.rz_types.specs.Field.{case_and, field_and, no_cases, no_fields, Align, Array, Fill, Number, PlainBody, PlainCases, PlainField, Points, Switch, Text}
+use Rattle.rz_types.specs.Field.{case_and, field_and, no_cases, no_fields, Align, Array, Fill, Label, Number, PlainBody, PlainCases, PlainField, Points, Switch, Text}
 use Rattle.rz_types.specs.Kept.{AreCasesApart, AreKeysApart, AreKeysApartIn}
 use Rattle.rz_types.specs.Readable.{are_cases_read, are_read, is_read, is_readable, least_widths, rows_end}
 use Rattle.rz_types.specs.Shape.{are_cases_shaped, are_shaped, is_none_or, is_own_name, is_shaped, is_well_shaped}
@@ -19,6 +19,7 @@ use Rattle.rz_unlay.specs.Cursor.{body_found, case_found, count_known, ended, fi
 use Rattle.rz_unlay_pieces.specs.Pieces.{claim_count, with_value, Found, Step}
 use Rattle.rz_types_fields.specs.Known.{names_inside}
 use Rattle.rz_types_fields.proofs.Near.{none_near, NoneNear}
+use Rattle.rz_unlay.proofs.BlindFields.{no_labels, no_places, AreBlindCases, IsBlindBody, IsBlindField, NoPlaces}
 use Rattle.rz_unlay.proofs.ReadsBits.{length_zeros, number_zeros}
 use Rattle.rz_unlay.proofs.ReadsPieces.{align_field, fill_field, number_field, points_field, text_field}
 use Rattle.rz_unlay.proofs.ReadsKeys.{case_keys_there, keys_absent, keys_found}
@@ -49,31 +50,32 @@ module _ (read : (width number : ℕ) → number_of (number_bits width number) �
 
   mutual
     step_goes : (outermost in_case : Bool) (field : PlainField) (rest : PlainBody) (env : Environment) (passed : Passed) (names : Environment) (value : Option Tree)
-        (at : ℕ) (late : List Bool) (after : ℕ) (late_after : List Bool) → is_shaped in_case field ≡ true → AreKeysApartIn field → is_read outermost rest passed field ≡ true → HasPlaces env → NoneNear passed → Knows passed names
+        (at : ℕ) (late : List Bool) (after : ℕ) (late_after : List Bool) → is_shaped in_case field ≡ true → AreKeysApartIn field → IsBlindField field → NoPlaces rest → is_read outermost rest passed field ≡ true → HasPlaces env → NoneNear passed → Knows passed names
         → IsPartOf names env → FieldSpells true facts all field env passed value at late after late_after → after ≤ length all → EndsAt outermost all rest after
         → Steps (behind field passed) env value after (field_found facts all rest field names at)
-    step_goes outermost in_case (Number number) rest env passed names value at late after late_after shaped apart reads places none knows part it within end =
-        number_field read written again back facts all env outermost rest passed names none knows part value at late after late_after within number reads it
-    step_goes outermost in_case (Text text) rest env passed names value at late after late_after shaped apart reads places none knows part it within end =
-        text_field read written again back facts all env outermost rest passed names none knows part value at late after late_after within text reads end it
-    step_goes outermost in_case (Points points) rest env passed names value at late after late_after shaped apart reads places none knows part it within end =
-        points_field read written again back facts all env outermost rest passed names none knows part value at late after late_after within points reads it
-    step_goes outermost in_case (Fill unit count) rest env passed names value at late after late_after shaped apart reads places none knows part it within end =
-        fill_field read written again back facts all env outermost rest passed names none knows part value at late after late_after within unit count it
-    step_goes outermost in_case (Align unit) rest env passed names value at late after late_after shaped apart reads places none knows part it within end =
-        align_field read written again back facts all env outermost rest passed names none knows part value at late after late_after within unit it
-    step_goes outermost in_case (Array name count row) rest env passed names value at late after late_after shaped apart reads places none knows part it within end =
+    step_goes outermost in_case (Number number) rest env passed names value at late after late_after shaped apart blind bare reads places none knows part it within end =
+        number_field read written again back facts all env outermost rest bare passed names none knows part value at late after late_after within number blind reads it
+    step_goes outermost in_case (Text text) rest env passed names value at late after late_after shaped apart blind bare reads places none knows part it within end =
+        text_field read written again back facts all env outermost rest bare passed names none knows part value at late after late_after within text blind reads end it
+    step_goes outermost in_case (Points points) rest env passed names value at late after late_after shaped apart blind bare reads places none knows part it within end =
+        points_field read written again back facts all env outermost rest bare passed names none knows part value at late after late_after within points blind reads it
+    step_goes outermost in_case (Fill unit count) rest env passed names value at late after late_after shaped apart blind bare reads places none knows part it within end =
+        fill_field read written again back facts all env outermost rest bare passed names none knows part value at late after late_after within unit count it
+    step_goes outermost in_case (Align unit) rest env passed names value at late after late_after shaped apart blind bare reads places none knows part it within end =
+        align_field read written again back facts all env outermost rest bare passed names none knows part value at late after late_after within unit it
+    step_goes outermost in_case (Label name) rest env passed names value at late after late_after shaped apart blind bare reads places none knows part it within end = absurd blind
+    step_goes outermost in_case (Array name count row) rest env passed names value at late after late_after shaped apart blind bare reads places none knows part it within end =
         let test = both_true (is_none_or is_own_name name) (are_shaped false row) shaped in
         let can = both_true (rows_end outermost rest passed name count row) (are_read false (at_front row passed) row) reads in
         let read_rows : rows_by (λ place. line_of (body_found facts all row (names_inside row names) place)) (length all) rest (count_known names name count) at ≡ Some (it.0, after) =
         rows_go (λ place. line_of (body_found facts all row (names_inside row names) place))
         (λ number line. Inside row (row_of name number) env (λ own. BodySpells true facts all row own (at_front row passed) line)) (least_widths row) (length all)
         (λ number line at late after late_after below inside.
-        ap line_of (reaches false false row inside.0 (at_front row passed) (names_inside row names) line at late after late_after test.1 apart can.1
-        (places_inside row (row_of name number) env inside.0 inside.1 places) (knows_inside row passed names knows)
+        ap line_of (reaches false false row inside.0 (at_front row passed) (names_inside row names) line at late after late_after test.1 apart blind can.1
+        (places_inside row (row_of name number) env inside.0 (no_places row blind) inside.1 places) (knows_inside row passed names knows)
         (part_inside facts all row (row_of name number) names env inside.0 (at_front row passed) line at late after late_after part inside.1 inside.2) inside.2 below (λ is. absurd (not_outer is))).is)
         (λ number line at late after late_after inside.
-        (body_wide facts all false row inside.0 (at_front row passed) line at late after late_after test.1 (places_inside row (row_of name number) env inside.0 inside.1 places) inside.2).grows)
+        (body_wide facts all false row inside.0 (at_front row passed) line at late after late_after test.1 blind (places_inside row (row_of name number) env inside.0 (no_places row blind) inside.1 places) inside.2).grows)
         outermost all rest row name count it.0 names env passed at late after late_after refl can.0 none knows part it.2 it.3 it.4 end within within in
         let claims = count_claims passed env name (length it.0) names knows part it.3 in
         record {
@@ -84,19 +86,19 @@ module _ (read : (width number : ℕ) → number_of (number_bits width number) �
           knows = claims.knows;
           part = claims.part;
         }
-    step_goes outermost in_case (Switch cases) rest env passed names value at late after late_after shaped apart reads places none knows part it within end = record {
+    step_goes outermost in_case (Switch cases) rest env passed names value at late after late_after shaped apart blind bare reads places none knows part it within end = record {
       names = names;
-      is = cases_go cases env passed names value at late after late_after shaped apart reads places knows part it within;
+      is = cases_go cases env passed names value at late after late_after shaped apart blind reads places knows part it within;
       knows = knows;
       part = part;
     }
 
     cases_go : (cases : PlainCases) (env : Environment) (passed : Passed) (names : Environment) (value : Option Tree) (at : ℕ) (late : List Bool) (after : ℕ) (late_after : List Bool)
-        → are_cases_shaped cases ≡ true → AreCasesApart cases → are_cases_read passed cases ≡ true → HasPlaces env → Knows passed names → IsPartOf names env
+        → are_cases_shaped cases ≡ true → AreCasesApart cases → AreBlindCases cases → are_cases_read passed cases ≡ true → HasPlaces env → Knows passed names → IsPartOf names env
         → CaseSpells true facts all cases env passed value at late after late_after → after ≤ length all
         → case_found facts all cases names at ≡ Some (record { value = value; after = after; names = names })
-    cases_go no_cases env passed names value at late after late_after shaped apart reads places knows part it within = absurd it
-    cases_go (case_and name row others) env passed names value at late after late_after shaped apart reads places knows part it within =
+    cases_go no_cases env passed names value at late after late_after shaped apart blind reads places knows part it within = absurd it
+    cases_go (case_and name row others) env passed names value at late after late_after shaped apart blind reads places knows part it within =
         let test = both_true (is_own_name name) (are_shaped true row && are_cases_shaped others) shaped in
         let both = both_true (are_shaped true row) (are_cases_shaped others) test.1 in
         let can = both_true (are_read false (at_front row passed) row) (are_cases_read passed others) reads in
@@ -106,31 +108,32 @@ module _ (read : (width number : ℕ) → number_of (number_bits width number) �
         by_choice (case_found facts all (case_and name row others) names at ≡ Some (record { value = value; after = after; names = names })) _ _
         (λ this.
         let inside = this.2 in
-        let inner = places_inside row None env inside.0 inside.1 places in
-        let goes = reaches false true row inside.0 (at_front row passed) (names_inside row names) this.0 at late after late_after both.0 apart.1 can.0 inner (knows_inside row passed names knows)
+        let inner = places_inside row None env inside.0 (no_places row blind.0) inside.1 places in
+        let goes = reaches false true row inside.0 (at_front row passed) (names_inside row names) this.0 at late after late_after both.0 apart.1 blind.0 can.0 inner (knows_inside row passed names knows)
         (part_inside facts all row None names env inside.0 (at_front row passed) this.0 at late after late_after part inside.1 inside.2) inside.2 within (λ is. absurd (not_outer is)) in
-        ap answer (keys_found all at row others apart.0 (case_keys_there back facts all row inside.0 (at_front row passed) this.0 at late after late_after both.0 inner inside.2 within))
+        ap answer (keys_found all at row others apart.0 (case_keys_there back facts all row inside.0 (at_front row passed) this.0 at late after late_after both.0 blind.0 inner inside.2 within))
         ∙ ap (option_map (λ (f : Found). let found : Step = record { value = Some (trees.Choice name f.row); after = f.after; names = names } in found)) goes.is
         ∙ (λ i. Some (record { value = sym this.1 i; after = after; names = names })))
         (λ other.
-        ap answer (keys_absent back facts all row others apart.0 env passed value at late after late_after both.1 places apart.2 other within)
-        ∙ cases_go others env passed names value at late after late_after both.1 apart.2 can.1 places knows part other within)
+        ap answer (keys_absent back facts all row others apart.0 env passed value at late after late_after both.1 blind.1 places apart.2 other within)
+        ∙ cases_go others env passed names value at late after late_after both.1 apart.2 blind.1 can.1 places knows part other within)
         (is_case name value) it
 
     reaches : (outermost in_case : Bool) (body : PlainBody) (env : Environment) (passed : Passed) (names : Environment) (line : List Tree) (at : ℕ) (late : List Bool) (after : ℕ) (late_after : List Bool)
-        → are_shaped in_case body ≡ true → AreKeysApart body → are_read outermost passed body ≡ true → HasPlaces env → Knows passed names → IsPartOf names env
+        → are_shaped in_case body ≡ true → AreKeysApart body → IsBlindBody body → are_read outermost passed body ≡ true → HasPlaces env → Knows passed names → IsPartOf names env
         → BodySpells true facts all body env passed line at late after late_after → after ≤ length all → (outermost ≡ true → length all < after + 8) → Reaches facts all body names line at after
-    reaches outermost in_case no_fields env passed names line at late after late_after shaped apart reads places knows part it within over =
+    reaches outermost in_case no_fields env passed names line at late after late_after shaped apart blind reads places knows part it within over =
         record { more = names; is = λ i. Some (record { row = sym it.0 i; after = sym it.1 i; names = names }) }
-    reaches outermost in_case (field_and field fields) env passed names line at late after late_after shaped apart reads places knows part it within over =
+    reaches outermost in_case (field_and field fields) env passed names line at late after late_after shaped apart blind reads places knows part it within over =
         let test = both_true (is_shaped in_case field) (are_shaped in_case fields) shaped in
         let here = at_field (field_and field fields) passed in
         let can = both_true (is_read outermost fields here field) (are_read outermost (behind field here) fields) reads in
-        let wide = body_wide facts all in_case fields env (behind field here) it.1 it.2 it.3 after late_after test.1 places it.6 in
+        let wide = body_wide facts all in_case fields env (behind field here) it.1 it.2 it.3 after late_after test.1 blind.1 places it.6 in
         let grows = wide.grows in
         let end : EndsAt outermost all fields it.2 = λ width outer fixed. (let e = wide.is width fixed in let o = over outer in (omega (arith, e, within), omega (arith, e, o))) in
-        let one = step_goes outermost in_case field fields env here names it.0 at late it.2 it.3 test.0 apart.0 can.0 places (none_near (field_and field fields)) knows part it.5 (omega (arith, grows, within)) end in
-        let others = reaches outermost in_case fields env (behind field here) one.names it.1 it.2 it.3 after late_after test.1 apart.1 can.1 places one.knows one.part it.6 within over in
+        let one = step_goes outermost in_case field fields env here names it.0 at late it.2 it.3 test.0 apart.0 blind.0 (no_places fields blind.1) can.0 places
+        (none_near (field_and field fields) (no_labels (field_and field fields) blind)) knows part it.5 (omega (arith, grows, within)) end in
+        let others = reaches outermost in_case fields env (behind field here) one.names it.1 it.2 it.3 after late_after test.1 apart.1 blind.1 can.1 places one.knows one.part it.6 within over in
         record {
           more = others.more;
           is = ap (option_and_then (λ step. with_value step.value (body_found facts all fields step.names step.after))) one.is
@@ -167,11 +170,11 @@ module _ (fewer : (unit place : ℕ) → 0 < unit → missing unit place < unit)
 
 pub plain_row_read : ((width number : ℕ) → number_of (number_bits width number) ≡ number % 2 ^ width) → ((bits : List Bool) → number_bits (length bits) (number_of bits) ≡ bits)
     → ((bytes : List ℕ) → ((k : ℕ) → slice_index bytes k < 256) → bytes_of (bits_of bytes) ≡ bytes) → ((unit place : ℕ) → 0 < unit → missing unit place < unit)
-    → (known : Facts) (body : PlainBody) (row : List Tree) (bytes : List ℕ) → is_well_shaped body ≡ true → AreKeysApart body → is_readable body ≡ true → Spells true known body row bytes
+    → (known : Facts) (body : PlainBody) (row : List Tree) (bytes : List ℕ) → is_well_shaped body ≡ true → AreKeysApart body → IsBlindBody body → is_readable body ≡ true → Spells true known body row bytes
     → reading known body bytes ≡ Some row
-plain_row_read read written again fewer known body row bytes shaped apart reads it =
-    let goes = reaches read written again known (bits_of bytes) true false body it.names (at_front body nothing_passed) (names_inside body outside) row 0 [] it.end it.late (both_true _ _ shaped).0 apart reads
-    (places_inside body None outside it.names it.own places_outside) (knows_inside body nothing_passed outside knows_outside)
+plain_row_read read written again fewer known body row bytes shaped apart blind reads it =
+    let goes = reaches read written again known (bits_of bytes) true false body it.names (at_front body nothing_passed) (names_inside body outside) row 0 [] it.end it.late (both_true _ _ shaped).0 apart blind reads
+    (places_inside body None outside it.names (no_places body blind) it.own places_outside) (knows_inside body nothing_passed outside knows_outside)
     (part_inside known (bits_of bytes) body None outside outside it.names (at_front body nothing_passed) row 0 [] it.end it.late (same_part outside) it.own it.fields) it.fields it.within
     (λ outer. left_few fewer (bits_of bytes) it.end it.within it.filled) in
     ap (ended (bits_of bytes)) goes.is ∙ ended_is fewer (bits_of bytes) it.end it.within it.filled row goes.more it.few

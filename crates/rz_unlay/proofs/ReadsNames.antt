@@ -10,8 +10,9 @@ use Rattle.rz_types_fields.specs.declared.tree.Tree.{Tree}
 use Rattle.rz_types_fields.specs.Spells.{BodySpells, IsCounted, RowOf, Within}
 use Rattle.rz_types_fields.specs.Known.{names_inside, stated_in}
 use Rattle.rz_types_fields.proofs.SameNames.{key_is}
-use Rattle.rz_types.specs.Field.{field_and, no_fields, Align, Array, Fill, Number, PlainBody, Points, Switch, Text}
+use Rattle.rz_types.specs.Field.{field_and, no_fields, Align, Array, Fill, Label, Number, PlainBody, Points, Switch, Text}
 use Rattle.rz_types.specs.Passed.{at_field, at_front, behind, declares, gives_count, nothing_passed, outside, states, Passed}
+use Rattle.rz_unlay.proofs.BlindFields.{NoPlaces}
 use Rattle.rz_unlay.proofs.ReadsNumber.{Knows}
 use Rattle.rz_unlay.proofs.ReadsTests.{some_is}
 
@@ -29,6 +30,7 @@ stated_has (field_and (Text text) fields) key is = stated_has fields key is
 stated_has (field_and (Points points) fields) key is = stated_has fields key is
 stated_has (field_and (Fill unit count) fields) key is = stated_has fields key is
 stated_has (field_and (Align unit) fields) key is = stated_has fields key is
+stated_has (field_and (Label name) fields) key is = stated_has fields key is
 stated_has (field_and (Array name None row) fields) key is = stated_has fields key is
 stated_has (field_and (Array name (Some count) row) fields) key is =
     stated_first (gives_count name key) count (stated_in fields key) (states fields key) (stated_has fields key) is
@@ -41,17 +43,6 @@ knows_inside body passed names knows key is = by (declares body key) is
         → (v : ℤ) × ((if test then stated_in body key else names.give key) ≡ Some v)
     by true is = stated_has body key is
     by false is = knows key is
-
-no_place : (body : PlainBody) (name : List ℕ) → declares body (place_of name) ≡ false
-no_place no_fields name = refl
-no_place (field_and (Number number) fields) name = no_place fields name
-no_place (field_and (Text text) fields) name = no_place fields name
-no_place (field_and (Points points) fields) name = no_place fields name
-no_place (field_and (Fill unit count) fields) name = no_place fields name
-no_place (field_and (Align unit) fields) name = no_place fields name
-no_place (field_and (Array None count row) fields) name = no_place fields name
-no_place (field_and (Array (Some own) count row) fields) name = no_place fields name
-no_place (field_and (Switch cases) fields) name = no_place fields name
 
 pub counted_at : (name : Option Word) (rows : ℕ) (own : Environment) (key : Key) → IsCounted name rows own → gives_count name key ≡ true → own.give key ≡ Some (pos rows)
 counted_at None rows own key counted gives = absurd cc
@@ -76,6 +67,8 @@ module _ (known : Facts) (all : List Bool) where
       stated_holds fields own (behind (Fill unit count) (at_field (field_and (Fill unit count) fields) passed)) it.1 it.2 it.3 after late_after it.6 key v is
   stated_holds (field_and (Align unit) fields) own passed line at late after late_after it key v is =
       stated_holds fields own (behind (Align unit) (at_field (field_and (Align unit) fields) passed)) it.1 it.2 it.3 after late_after it.6 key v is
+  stated_holds (field_and (Label name) fields) own passed line at late after late_after it key v is =
+      stated_holds fields own (behind (Label name) (at_field (field_and (Label name) fields) passed)) it.1 it.2 it.3 after late_after it.6 key v is
   stated_holds (field_and (Array name None row) fields) own passed line at late after late_after it key v is =
       stated_holds fields own (behind (Array name None row) (at_field (field_and (Array name None row) fields) passed)) it.1 it.2 it.3 after late_after it.6 key v is
   stated_holds (field_and (Array name (Some count) row) fields) own passed line at late after late_after it key v is =
@@ -101,8 +94,8 @@ module _ (known : Facts) (all : List Bool) where
 abbrev pub HasPlaces : Environment → Type 0
 HasPlaces env = (name : List ℕ) → env.give (place_of name) ≡ predefined name
 
-pub places_inside : (body : PlainBody) (which : Option RowOf) (env own : Environment) → Within body which env own → HasPlaces env → HasPlaces own
-places_inside body which env own within has name = within.give (place_of name) (no_place body name) ∙ has name
+pub places_inside : (body : PlainBody) (which : Option RowOf) (env own : Environment) → NoPlaces body → Within body which env own → HasPlaces env → HasPlaces own
+places_inside body which env own none within has name = within.give (place_of name) (none name) ∙ has name
 
 -- Outside of all fields.
 

@@ -2,6 +2,7 @@
 use Rattle.std.proofs.Common.{◌≡◌, inl, inr, ℕ, zero, suc, ◌+◌, ◌<◌, ◌≤◌, ◌^◌, ◌%◌, ◌==◌, ℤ, pos, Bool, true, false, ◌&&◌, ◌||◌, List, length, take, drop, Option, Some, None, Result, Ok, Err, refl, sym, ap, ◌∙◌, subst, arith}
 use Rattle.std.specs.Prelude.{if◌then◌else◌, nat_abs, nat_le, not, option_and_then, option_map}
 use Rattle.std.specs.Int.{cast_unsigned, w64}
+use Rattle.std.specs.Option.{option_to_list}
 use Rattle.std.proofs.lemmas.Bool.Decides.{nat_tests}
 use Rattle.std.proofs.lemmas.Nat.{pow_pos}
 use Rattle.std.proofs.Math.Nat.{mod-lt}
@@ -25,7 +26,9 @@ use Rattle.rz_types.specs.Passed.{declares, is_held, is_known, told_by, Names, P
 use Rattle.rz_types.specs.Stored.{stored_number}
 use Rattle.rz_types.specs.Value.{no_bits, see}
 use Rattle.rz_unlay.proofs.Sees.{both_true, by_test, solve_same, value_same, Covers}
-use Rattle.rz_unlay.proofs.SpelledNames.{either_of, left_true, right_true}
+use Rattle.rz_unlay.proofs.Blind.{AreBlind, IsBlind}
+use Rattle.rz_unlay.proofs.BlindFields.{NoPlaces}
+use Rattle.rz_unlay.proofs.SpelledNames.{either_of, left_true, not_both, right_true}
 use Rattle.rz_unlay.proofs.Teller.{teller}
 use Rattle.rz_types_fields.proofs.Near.{held, NoneNear}
 use Rattle.rz_types_fields.proofs.SameNames.{key_is, key_itself}
@@ -129,32 +132,30 @@ module _ (known : Names) (env : Environment) (solved : Key → Environment → O
   told_if : (key : Key) → IsTold known env solved key → (name : Key) → (is_same_key key name || known name) ≡ true → IsTold known env solved name
   told_if key told name is = either_of (is_same_key key name) (known name) (λ same. subst (IsTold known env solved) (key_is key name same) told) (λ is_known. inl is_known) is
 
-  each_told : (key : Key) → IsTold known env solved key → (term : Term) → all_known (λ other. is_same_key key other || known other) term ≡ true → AreTold known env solved term
-  each_told key told (Constant number) is = tt
-  each_told key told (Named name) is = told_if key told (place_key name) is
-  each_told key told (RowsOf name) is = told_if key told (count_key name) is
-  each_told key told (BitsAt name start width) is =
-      let one = both_true _ (all_known (λ other. is_same_key key other || known other) width) is in
-      let two = both_true (is_same_key key (place_key name) || known (place_key name)) (all_known (λ other. is_same_key key other || known other) start) one.0 in
-      (told_if key told (place_key name) two.0, each_told key told start two.1, each_told key told width one.1)
-  each_told key told (FactOf which) is = tt
-  each_told key told (OfOne op operand) is = each_told key told operand is
-  each_told key told (OfTwo op left right) is =
-      let each = both_true (all_known (λ other. is_same_key key other || known other) left) _ is in (each_told key told left each.0, each_told key told right each.1)
+  each_told : (key : Key) → IsTold known env solved key → ((name : List ℕ) → is_same_key key (place_key name) ≡ true → ⊥) → (term : Term) → IsBlind term
+      → all_known (λ other. is_same_key key other || known other) term ≡ true → AreTold known env solved term
+  each_told key told counts (Constant number) blind is = tt
+  each_told key told counts (Named name) blind is = either_of (is_same_key key (place_key name)) (known (place_key name)) (λ same. absurd (counts name same)) (λ is_known. is_known) is
+  each_told key told counts (RowsOf name) blind is = told_if key told (count_key name) is
+  each_told key told counts (BitsAt name start width) blind is = absurd blind
+  each_told key told counts (FactOf which) blind is = tt
+  each_told key told counts (OfOne op operand) blind is = each_told key told counts operand blind is
+  each_told key told counts (OfTwo op left right) blind is =
+      let each = both_true (all_known (λ other. is_same_key key other || known other) left) _ is in
+      (each_told key told counts left blind.0 each.0, each_told key told counts right blind.1 each.1)
 
-  all_are_known : (term : Term) → all_known known term ≡ true → AreTold known env solved term
-  all_are_known (Constant number) is = tt
-  all_are_known (Named name) is = inl is
-  all_are_known (RowsOf name) is = inl is
-  all_are_known (BitsAt name start width) is =
-      let one = both_true _ (all_known known width) is in
-      let two = both_true (known (place_key name)) (all_known known start) one.0 in (inl two.0, all_are_known start two.1, all_are_known width one.1)
-  all_are_known (FactOf which) is = tt
-  all_are_known (OfOne op operand) is = all_are_known operand is
-  all_are_known (OfTwo op left right) is = let each = both_true (all_known known left) _ is in (all_are_known left each.0, all_are_known right each.1)
+  all_are_known : (term : Term) → IsBlind term → all_known known term ≡ true → AreTold known env solved term
+  all_are_known (Constant number) blind is = tt
+  all_are_known (Named name) blind is = is
+  all_are_known (RowsOf name) blind is = inl is
+  all_are_known (BitsAt name start width) blind is = absurd blind
+  all_are_known (FactOf which) blind is = tt
+  all_are_known (OfOne op operand) blind is = all_are_known operand blind is
+  all_are_known (OfTwo op left right) blind is =
+      let each = both_true (all_known known left) _ is in (all_are_known left blind.0 each.0, all_are_known right blind.1 each.1)
 
 module _ (facts : Facts) (rest : PlainBody) (known : Names) (env : Environment) (width : ℕ) (term : Term) (stored : ℕ) (value : ℤ)
-    (is_value : value_of term (see facts no_bits env) ≡ Ok value) (back : SolvesBack known width (see facts no_bits env) term stored) where
+    (blind : IsBlind term) (places : NoPlaces rest) (is_value : value_of term (see facts no_bits env) ≡ Ok value) (back : SolvesBack known width (see facts no_bits env) term stored) where
   abbrev solved : Key → Environment → Option ℤ
   solved key names = solved_count width key (see facts no_bits names) term stored
 
@@ -175,12 +176,13 @@ module _ (facts : Facts) (rest : PlainBody) (known : Names) (env : Environment) 
           )
 
   pub names_told : (all_known known term || tells_one rest known term term) ≡ true → AreTold known env solved term
-  names_told is = either_of (all_known known term) (tells_one rest known term term) (all_are_known known env solved term)
+  names_told is = either_of (all_known known term) (tells_one rest known term term) (all_are_known known env solved term blind)
       (λ tells_it.
       let it = teller rest known term term tells_it in
       let one = both_true (declares rest it.key && can_solve it.key term) _ it.is in
       let two = both_true (declares rest it.key) (can_solve it.key term) one.0 in
-      each_told known env solved it.key (key_told it.key two.1 one.1) term one.1)
+      each_told known env solved it.key (key_told it.key two.1 one.1)
+      (λ name same. not_both (declares rest it.key) two.0 (ap (declares rest) (key_is it.key (place_key name) same) ∙ places _)) term blind one.1)
       is
 
 -- Reading it.
@@ -226,11 +228,11 @@ told_knows term passed names more knows kept has key is =
     before known = let it = knows key known in (it.0, kept.give key it.0 it.1)
 
 module _ (back : (width number : ℕ) → number < 2 ^ width → number_of (number_bits width number) ≡ number) (facts : Facts) (rest : PlainBody) (all : List Bool) (env : Environment) where
-  pub number_steps : (passed : Passed) (names : Environment) → NoneNear passed → Knows passed names → IsPartOf names env → (form : NumForm) (width : ℤ) (fixed : Option Term) (value : Option Tree)
-      (bits : List Bool) (at : ℕ) → is_number_read rest passed fixed ≡ true → IsNumber true passed form width fixed (see facts no_bits env) value bits
+  pub number_steps : (passed : Passed) (names : Environment) → NoPlaces rest → NoneNear passed → Knows passed names → IsPartOf names env → (form : NumForm) (width : ℤ) (fixed : Option Term) (value : Option Tree)
+      (bits : List Bool) (at : ℕ) → AreBlind (option_to_list fixed) → is_number_read rest passed fixed ≡ true → IsNumber true passed form width fixed (see facts no_bits env) value bits
       → take (length bits) (drop at all) ≡ bits → at + length bits ≤ length all
       → Steps (told_by fixed passed) env value (at + length bits) (number_step facts all form width fixed names at)
-  number_steps passed names none knows part form width None value bits at reads (n, is, small, are) there within =
+  number_steps passed names places none knows part form width None value bits at blind reads (n, is, small, are) there within =
       let long : length bits ≡ nat_abs width = ap length are ∙ length_is (nat_abs width) n in
       let found = number_there back all at (nat_abs width) n small (subst (λ (l : ℕ). at + l ≤ length all) long within) (sym (ap (λ (l : ℕ). take l (drop at all)) long) ∙ there ∙ are) in
       record {
@@ -240,13 +242,13 @@ module _ (back : (width number : ℕ) → number < 2 ^ width → number_of (numb
         knows = knows;
         part = part;
       }
-  number_steps passed names none knows part form width (Some term) value bits at reads (v, is, valued, fits, are, solves) there within =
+  number_steps passed names places none knows part form width (Some term) value bits at blind reads (v, is, valued, fits, are, solves) there within =
       let w = nat_abs width in
       let n = stored_number w v in
       let long : length bits ≡ w = ap length are ∙ length_is w n in
       let small : n < 2 ^ w = mod-lt _ (pow_pos w) in
       let found = number_there back all at w n small (subst (λ (l : ℕ). at + l ≤ length all) long within) (sym (ap (λ (l : ℕ). take l (drop at all)) long) ∙ there ∙ are) in
-      let told = names_told facts rest (is_known passed) env w term n v valued solves reads in
+      let told = names_told facts rest (is_known passed) env w term n v blind.0 places valued solves reads in
       let goes = all_told (is_known passed) env (λ key seen. solved_count w key (see facts no_bits seen) term n) term names (covers_known passed names none knows) part told in
       let now : value_of term (see facts no_bits goes.more) ≡ Ok v =
       value_same facts no_bits (λ key. has_key key term) goes.more env goes.has goes.part term (all_of_its (λ key. has_key key term) term (λ key has. has)) ∙ valued in

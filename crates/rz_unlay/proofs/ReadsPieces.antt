@@ -13,9 +13,13 @@ use Rattle.rz_types_fields.specs.Spells.{group_in, numbers_of_group, put, values
 use Rattle.rz_types.specs.Field.{Align, Fill, Number, PlainBody, PlainNumber, PlainPoints, PlainText, Points, Text}
 use Rattle.rz_types.specs.Readable.{are_pieces_read, is_number_read, is_read, is_text_read}
 use Rattle.rz_types.specs.Passed.{behind, behind_piece, behind_pieces, Passed}
-use Rattle.rz_types.specs.Piece.{fixed_integer, free_integer, integers, Filler, OneNumber, OneText, Piece, Zeros}
+use Rattle.rz_types.specs.Piece.{fixed_integer, free_integer, integers, points_terms, Filler, OneNumber, OneText, Piece, Place, Zeros}
+use Rattle.rz_types.specs.Sees.{bits_before}
 use Rattle.rz_types.specs.Shape.{numbers_of}
+use Rattle.rz_types.specs.Value.{no_bits}
 use Rattle.rz_unlay_pieces.specs.Pieces.{field_of_pieces, first_of_row, grouped, number_of_value, numbers_of_values, piece_step, pieces_found, with_value, zeros_step, Found, Step}
+use Rattle.rz_unlay.proofs.Blind.{number_blind, text_blind, AreBlind}
+use Rattle.rz_unlay.proofs.BlindFields.{IsBlindField, NoPlaces}
 use Rattle.rz_unlay.proofs.ReadsBits.{length_zeros, zeros_found}
 use Rattle.rz_types_fields.proofs.Near.{still_none, NoneNear}
 use Rattle.rz_unlay.proofs.ReadsNumber.{number_steps, Knows, Steps}
@@ -55,24 +59,26 @@ zeros_go facts all at count after bits names value none are ends long within the
 
 -- Numbers one behind the other.
 
+-- none of them names a label
 abbrev AreNumbers : List Piece → Type 0
 AreNumbers [] = Unit {0}
-AreNumbers (OneNumber number ∷ pieces) = AreNumbers pieces
+AreNumbers (OneNumber number ∷ pieces) = AreBlind (option_to_list number.fixed) × AreNumbers pieces
 AreNumbers (OneText text ∷ pieces) = ⊥
 AreNumbers (Zeros count ∷ pieces) = ⊥
 AreNumbers (Filler unit ∷ pieces) = ⊥
+AreNumbers (Place name ∷ pieces) = ⊥
 
 frees_are : (count : ℕ) → AreNumbers (replicate count free_integer)
 frees_are zero = tt
-frees_are (suc count) = frees_are count
+frees_are (suc count) = (tt, frees_are count)
 
-fixed_are : (terms : List Term) → AreNumbers (map fixed_integer terms)
-fixed_are [] = tt
-fixed_are (term ∷ terms) = fixed_are terms
+fixed_are : (terms : List Term) → AreBlind terms → AreNumbers (map fixed_integer terms)
+fixed_are [] blind = tt
+fixed_are (term ∷ terms) blind = ((blind.0, tt), fixed_are terms blind.1)
 
-integers_are : (rect : Bool) (fixed : Option (List Term)) → AreNumbers (integers rect fixed)
-integers_are rect None = frees_are (numbers_of rect)
-integers_are rect (Some terms) = fixed_are terms
+integers_are : (rect : Bool) (fixed : Option (List Term)) → AreBlind (points_terms fixed) → AreNumbers (integers rect fixed)
+integers_are rect None blind = frees_are (numbers_of rect)
+integers_are rect (Some terms) blind = fixed_are terms blind
 
 order_grows : (facts : Facts) (all : List Bool) (env : Environment) (passed : Passed) (pieces : List Piece) (values : List Tree) (at : ℕ) (late : List Bool) (after : ℕ) (late_after : List Bool)
     → InOrder (PieceSpells true facts all env) passed pieces values at late after late_after → at ≤ after
@@ -89,12 +95,14 @@ record Finds (passed : Passed) (env : Environment) (values : List Tree) (after :
   knows : Knows passed names
   part : IsPartOf names env
 
-module _ (back : (width number : ℕ) → number < 2 ^ width → number_of (number_bits width number) ≡ number) (facts : Facts) (all : List Bool) (env : Environment) (outermost : Bool) (rest : PlainBody) where
+module _ (back : (width number : ℕ) → number < 2 ^ width → number_of (number_bits width number) ≡ number) (facts : Facts) (all : List Bool) (env : Environment) (outermost : Bool) (rest : PlainBody)
+    (places : NoPlaces rest) where
   one_number : (number : PlainNumber) (passed : Passed) (names : Environment) (value : Option Tree) (at : ℕ) (late : List Bool) (after : ℕ) (late_after : List Bool)
-      → NoneNear passed → Knows passed names → IsPartOf names env → is_number_read rest passed number.fixed ≡ true → PieceSpells true facts all env passed (OneNumber number) value at late after late_after → after ≤ length all
+      → AreBlind (option_to_list number.fixed) → NoneNear passed → Knows passed names → IsPartOf names env → is_number_read rest passed number.fixed ≡ true → PieceSpells true facts all env passed (OneNumber number) value at late after late_after → after ≤ length all
       → Steps (behind_piece (OneNumber number) passed) env value after (piece_step facts all rest (OneNumber number) names at)
-  one_number number passed names value at late after late_after none knows part reads it within =
-      let goes = number_steps back facts rest all env passed names none knows part number.form number.width number.fixed value it.bits at reads it.stored it.there
+  one_number number passed names value at late after late_after blind none knows part reads it within =
+      let goes = number_steps back facts rest all env passed names places none knows part number.form number.width number.fixed value it.bits at blind reads
+      (number_blind facts (bits_before all at) no_bits env passed number.form number.width number.fixed blind value it.bits it.stored) it.there
       (subst (λ (n : ℕ). n ≤ length all) it.ends within) in
       record {
         names = goes.names;
@@ -115,8 +123,8 @@ module _ (back : (width number : ℕ) → number < 2 ^ width → number_of (numb
   numbers_go (OneNumber number ∷ pieces) passed names values at late after late_after are none knows part reads it within =
       let test = both_true (is_number_read rest passed number.fixed) (are_pieces_read outermost rest (behind_piece (OneNumber number) passed) pieces) reads in
       let more = order_grows facts all env (behind_piece (OneNumber number) passed) pieces it.1 it.2 it.3 after late_after it.6 in
-      let one = one_number number passed names it.0 at late it.2 it.3 none knows part test.0 it.5 (omega (arith, more, within)) in
-      let others = numbers_go pieces (behind_piece (OneNumber number) passed) one.names it.1 it.2 it.3 after late_after are (still_none (OneNumber number) passed none) one.knows one.part test.1 it.6 within in
+      let one = one_number number passed names it.0 at late it.2 it.3 are.0 none knows part test.0 it.5 (omega (arith, more, within)) in
+      let others = numbers_go pieces (behind_piece (OneNumber number) passed) one.names it.1 it.2 it.3 after late_after are.1 (still_none (OneNumber number) passed none) one.knows one.part test.1 it.6 within in
       record {
         names = others.names;
         is = ap (option_and_then (λ step. with_value step.value (pieces_found facts all rest pieces step.names step.after))) one.is
@@ -128,6 +136,7 @@ module _ (back : (width number : ℕ) → number < 2 ^ width → number_of (numb
   numbers_go (OneText text ∷ pieces) passed names values at late after late_after are none knows part reads it within = absurd are
   numbers_go (Zeros count ∷ pieces) passed names values at late after late_after are none knows part reads it within = absurd are
   numbers_go (Filler unit ∷ pieces) passed names values at late after late_after are none knows part reads it within = absurd are
+  numbers_go (Place name ∷ pieces) passed names values at late after late_after are none knows part reads it within = absurd are
 
 -- A point or a rectangle.
 
@@ -146,13 +155,13 @@ group_again (Some terms) value is = sym is
 module _ (read : (width number : ℕ) → number_of (number_bits width number) ≡ number % 2 ^ width) (written : (bits : List Bool) → number_bits (length bits) (number_of bits) ≡ bits)
     (again : (bytes : List ℕ) → ((k : ℕ) → slice_index bytes k < 256) → bytes_of (bits_of bytes) ≡ bytes)
     (back : (width number : ℕ) → number < 2 ^ width → number_of (number_bits width number) ≡ number) (facts : Facts) (all : List Bool) (env : Environment) (outermost : Bool) (rest : PlainBody)
-    (passed : Passed) (names : Environment) (none : NoneNear passed) (knows : Knows passed names) (part : IsPartOf names env) (value : Option Tree) (at : ℕ) (late : List Bool) (after : ℕ) (late_after : List Bool)
+    (places : NoPlaces rest) (passed : Passed) (names : Environment) (none : NoneNear passed) (knows : Knows passed names) (part : IsPartOf names env) (value : Option Tree) (at : ℕ) (late : List Bool) (after : ℕ) (late_after : List Bool)
     (within : after ≤ length all) where
-  pub number_field : (number : PlainNumber) → is_read outermost rest passed (Number number) ≡ true → FieldSpells true facts all (Number number) env passed value at late after late_after
+  pub number_field : (number : PlainNumber) → IsBlindField (Number number) → is_read outermost rest passed (Number number) ≡ true → FieldSpells true facts all (Number number) env passed value at late after late_after
       → Steps (behind (Number number) passed) env value after (field_of_pieces facts all rest (Number number) names at)
-  number_field number reads it =
+  number_field number blind reads it =
       let one = single facts all env passed (OneNumber number) (values_for (Number number) value) at late after late_after it.1 in
-      let goes = one_number back facts all env outermost rest number passed names one.value at late after one.late_after none knows part (both_true (is_number_read rest passed number.fixed) true reads).0 one.spelled within in
+      let goes = one_number back facts all env outermost rest places number passed names one.value at late after one.late_after blind none knows part (both_true (is_number_read rest passed number.fixed) true reads).0 one.spelled within in
       record {
         names = goes.names;
         is = field_one facts all rest (OneNumber number) names goes.names value one.value at after goes.is one.are;
@@ -160,13 +169,13 @@ module _ (read : (width number : ℕ) → number_of (number_bits width number) �
         part = goes.part;
       }
 
-  pub text_field : (text : PlainText) → is_read outermost rest passed (Text text) ≡ true → EndsAt outermost all rest after → FieldSpells true facts all (Text text) env passed value at late after late_after
+  pub text_field : (text : PlainText) → IsBlindField (Text text) → is_read outermost rest passed (Text text) ≡ true → EndsAt outermost all rest after → FieldSpells true facts all (Text text) env passed value at late after late_after
       → Steps (behind (Text text) passed) env value after (field_of_pieces facts all rest (Text text) names at)
-  text_field text reads end it =
+  text_field text blind reads end it =
       let one = single facts all env passed (OneText text) (values_for (Text text) value) at late after late_after it.1 in
       let here = one.spelled in
       let is = text_steps read written again back facts rest all env outermost text passed names none knows part one.value here.bits at
-      (both_true (is_text_read outermost rest passed text) true reads).0 here.stored
+      (both_true (is_text_read outermost rest passed text) true reads).0 (text_blind facts (bits_before all at) no_bits env text blind one.value here.bits here.stored)
       (subst (λ (n : ℕ). EndsAt outermost all rest n) here.ends end) (subst (λ (n : ℕ). n ≤ length all) here.ends within) here.there in
       record {
         names = names;
@@ -204,11 +213,11 @@ module _ (read : (width number : ℕ) → number_of (number_bits width number) �
         part = part;
       }
 
-  pub points_field : (points : PlainPoints) → is_read outermost rest passed (Points points) ≡ true → FieldSpells true facts all (Points points) env passed value at late after late_after
+  pub points_field : (points : PlainPoints) → IsBlindField (Points points) → is_read outermost rest passed (Points points) ≡ true → FieldSpells true facts all (Points points) env passed value at late after late_after
       → Steps (behind (Points points) passed) env value after (field_of_pieces facts all rest (Points points) names at)
-  points_field points reads it =
+  points_field points blind reads it =
       let pieces = integers points.rect points.fixed in
-      let found = numbers_go back facts all env outermost rest pieces passed names (values_for (Points points) value) at late after late_after (integers_are points.rect points.fixed) none knows part reads it.1 within in
+      let found = numbers_go back facts all env outermost rest places pieces passed names (values_for (Points points) value) at late after late_after (integers_are points.rect points.fixed blind) none knows part reads it.1 within in
       record {
         names = found.names;
         is = ap (option_map (λ (f : Found). let it : Step = record { value = grouped points.fixed f.row; after = f.after; names = f.names } in it)) found.is

@@ -1,6 +1,6 @@
 -- What is read is spelled plainly: fields, rows, cases and bodies.
-use Rattle.std.proofs.Common.{◌≡◌, ℕ, zero, suc, ◌+◌, ◌-◌, ◌*◌, ◌<◌, ◌≤◌, ◌==◌, ℤ, Bool, true, false, ◌&&◌, ◌||◌, List, [], ◌∷◌, ◌++◌, length, take, drop, Option, Some, None, refl, sym, ap, ◌∙◌, subst, arith}
-use Rattle.std.specs.Prelude.{if◌then◌else◌, nat_abs, nat_le, nat_lt, option_map, slice_index}
+use Rattle.std.proofs.Common.{◌≡◌, ℕ, zero, suc, ◌+◌, ◌-◌, ◌*◌, ◌<◌, ◌≤◌, ◌==◌, ℤ, Bool, true, false, ◌&&◌, ◌||◌, List, [], ◌∷◌, ◌++◌, length, map, take, drop, Option, Some, None, refl, sym, ap, ◌∙◌, subst, arith}
+use Rattle.std.specs.Prelude.{if◌then◌else◌, nat_abs, nat_le, nat_lt, option_map, replicate, slice_index}
 use Rattle.std.specs.List.{AllByRecursion}
 use Rattle.std.specs.Option.{is_some}
 use Rattle.std.specs.Str.{str_eq_ignore_ascii_case}
@@ -10,6 +10,7 @@ use Rattle.rz_core.proofs.Folds.{same_lower}
 use Rattle.rz_core.specs.declared.facts.Facts.{Facts}
 use Rattle.rz_core.specs.declared.resource.Word.{Word}
 use Rattle.rz_expr.specs.Environment.{Environment, IsPartOf, Key}
+use Rattle.rz_expr.specs.Term.{Term}
 use Rattle.rz_bits.specs.Bits.{bits_of, number_bits, number_of}
 use Rattle.rz_bits.specs.BitBuf.{filled, missing, zeros}
 use Rattle.rz_unlay.specs.Cursor.{body_found, case_found, count_known, ended, field_found, has_keys, line_of, reading, rows_by, Line, Lines}
@@ -18,16 +19,20 @@ use Rattle.rz_types_fields.specs.Known.{names_inside}
 use Rattle.rz_types_fields.specs.declared.tree.Tree.{Tree}
 use Rattle.rz_types_fields.specs.declared.tree.Tree.TheVariants as trees
 use Rattle.rz_types_fields.specs.Row.{By}
-use Rattle.rz_types_fields.specs.Spells.{choice_of_tree, is_case, most_bits, put, row_of, values_in, BodySpells, CaseSpells, FieldSpells, Inside, Late, RowOf, Spells}
-use Rattle.rz_types.specs.Field.{case_and, field_and, no_cases, no_fields, Align, Array, Fill, Number, PlainBody, PlainCases, PlainField, Points, Switch, Text}
+use Rattle.rz_types_fields.specs.Sees.{Late}
+use Rattle.rz_types_fields.specs.Spells.{choice_of_tree, is_case, most_bits, put, row_of, values_in, BodySpells, CaseSpells, FieldSpells, Inside, RowOf, Spells}
+use Rattle.rz_types.specs.Field.{case_and, field_and, no_cases, no_fields, Align, Array, Fill, Label, Number, PlainBody, PlainCases, PlainField, Points, Switch, Text}
 use Rattle.rz_types.specs.Kept.{AreCasesKept, AreKept, Differ, IsKept, IsKeptWithin}
 use Rattle.rz_types.specs.Readable.{are_cases_read, are_read, is_read, is_readable, rows_end}
 use Rattle.rz_types.specs.Rules.{case_names}
 use Rattle.rz_types.specs.Passed.{at_field, at_front, behind, declares, gives_count, gives_key, is_held, nothing_passed, outside, Passed}
-use Rattle.rz_types.specs.Piece.{Filler, OneNumber, OneText, Zeros}
-use Rattle.rz_types.specs.Walk.{names_of}
+use Rattle.rz_types.specs.Piece.{fixed_integer, free_integer, integers, points_terms, Filler, OneNumber, OneText, Zeros}
+use Rattle.rz_types.specs.Shape.{numbers_of}
+use Rattle.rz_types.specs.Walk.{and_names, names_of, Own}
 use Rattle.rz_types.specs.Width.{case_keys}
 use Rattle.rz_types_fields.proofs.Near.{none_near, NoneNear}
+use Rattle.rz_unlay.proofs.Blind.{AreBlind, IsBlindPiece, MeetsPredefined}
+use Rattle.rz_unlay.proofs.BlindFields.{meets_behind, meets_front, meets_outside, no_labels, template_blind, AreBlindCases, IsBlindBody, IsBlindField}
 use Rattle.rz_unlay.proofs.SpelledNames.{and_then, if_false, left_true, mapped, neither, none_is, some_same, Came, Grows, Knows}
 use Rattle.rz_unlay.proofs.Told.{part_of_part, same_part}
 use Rattle.rz_unlay.proofs.SpelledPieces.{field_pieces, points_fit, single_row, then_came, wide, Tells}
@@ -42,6 +47,20 @@ choice_name name chosen line = ap (str_eq_ignore_ascii_case name.bytes) (ap choi
 
 own_name : (name : Word) (line : List Tree) → is_case name (Some (trees.Choice name line)) ≡ true
 own_name name line = choice_name name name line ∙ (same_lower name.bytes name.bytes).1 refl
+
+-- the numbers of a point have no data functions where its expressions have none
+
+frees_blind : (count : ℕ) → AllByRecursion IsBlindPiece (replicate count free_integer)
+frees_blind zero = tt
+frees_blind (suc count) = (tt, frees_blind count)
+
+fixed_blind : (terms : List Term) → AreBlind terms → AllByRecursion IsBlindPiece (map fixed_integer terms)
+fixed_blind [] blind = tt
+fixed_blind (term ∷ terms) blind = ((blind.0, tt), fixed_blind terms blind.1)
+
+points_blind : (rect : Bool) (fixed : Option (List Term)) → AreBlind (points_terms fixed) → AllByRecursion IsBlindPiece (integers rect fixed)
+points_blind rect None blind = frees_blind (numbers_of rect)
+points_blind rect (Some terms) blind = fixed_blind terms blind
 
 -- a case was read: its name is one of these
 record CaseCame (facts : Facts) (all : List Bool) (cases : PlainCases) (passed : Passed) (names : Environment) (at : ℕ) (step : Step) : Type 0 where
@@ -165,41 +184,42 @@ module _ (tells : Tells) (facts : Facts) (all : List Bool) (short : length all �
       step.names inner.names step.after inner.after (λ env. BodySpells true facts all fields env (behind field here) inner.row) behind_it))
 
   mutual
-    field_came : (scope : List Word) (outermost : Bool) (rest : PlainBody) (passed : Passed) (field : PlainField) → IsKeptWithin scope field → is_read outermost rest passed field ≡ true → NoneNear passed → FieldCame rest passed field
-    field_came scope outermost rest passed (Number number) kept reads none names at step knows is =
-        field_pieces tells facts all short outermost rest (Number number) passed names at step (λ found so. (tt, single_row tells facts all short outermost rest (OneNumber number) names at found so)) reads none knows is
-    field_came scope outermost rest passed (Text text) kept reads none names at step knows is =
-        field_pieces tells facts all short outermost rest (Text text) passed names at step (λ found so. (tt, single_row tells facts all short outermost rest (OneText text) names at found so)) reads none knows is
-    field_came scope outermost rest passed (Points points) kept reads none names at step knows is =
-        field_pieces tells facts all short outermost rest (Points points) passed names at step (λ found so. points_fit tells facts all short outermost rest points.rect points.fixed names at found so) reads none knows is
-    field_came scope outermost rest passed (Fill unit count) kept reads none names at step knows is =
-        field_pieces tells facts all short outermost rest (Fill unit count) passed names at step (λ found so. (tt, single_row tells facts all short outermost rest (Zeros (unit * nat_abs count)) names at found so)) refl none knows is
-    field_came scope outermost rest passed (Align unit) kept reads none names at step knows is =
-        field_pieces tells facts all short outermost rest (Align unit) passed names at step (λ found so. (tt, single_row tells facts all short outermost rest (Filler unit) names at found so)) refl none knows is
-    field_came scope outermost rest passed (Array name count row) kept reads none names at step knows is =
+    field_came : (scope : Own) (outermost : Bool) (rest : PlainBody) (passed : Passed) (field : PlainField) → IsKeptWithin scope field → IsBlindField field → MeetsPredefined passed.met → is_read outermost rest passed field ≡ true → NoneNear passed → FieldCame rest passed field
+    field_came scope outermost rest passed (Number number) kept blind meets reads none names at step knows is =
+        field_pieces tells facts all short outermost rest (Number number) passed names at step (λ found so. (tt, single_row tells facts all short outermost rest (OneNumber number) names at found so)) (blind, tt) meets reads none knows is
+    field_came scope outermost rest passed (Text text) kept blind meets reads none names at step knows is =
+        field_pieces tells facts all short outermost rest (Text text) passed names at step (λ found so. (tt, single_row tells facts all short outermost rest (OneText text) names at found so)) (blind, tt) meets reads none knows is
+    field_came scope outermost rest passed (Points points) kept blind meets reads none names at step knows is =
+        field_pieces tells facts all short outermost rest (Points points) passed names at step (λ found so. points_fit tells facts all short outermost rest points.rect points.fixed names at found so) (points_blind points.rect points.fixed blind) meets reads none knows is
+    field_came scope outermost rest passed (Fill unit count) kept blind meets reads none names at step knows is =
+        field_pieces tells facts all short outermost rest (Fill unit count) passed names at step (λ found so. (tt, single_row tells facts all short outermost rest (Zeros (unit * nat_abs count)) names at found so)) (tt, tt) meets refl none knows is
+    field_came scope outermost rest passed (Align unit) kept blind meets reads none names at step knows is =
+        field_pieces tells facts all short outermost rest (Align unit) passed names at step (λ found so. (tt, single_row tells facts all short outermost rest (Filler unit) names at found so)) (tt, tt) meets refl none knows is
+    field_came scope outermost rest passed (Label name) kept blind meets reads none names at step knows is = absurd blind
+    field_came scope outermost rest passed (Array name count row) kept blind meets reads none names at step knows is =
         array_came rest passed name count row
-        (body_came (scope ++ names_of row) false (at_front row passed) row kept.2 (both_true (rows_end outermost rest passed name count row) (are_read false (at_front row passed) row) reads).1) names at step knows is
-    field_came scope outermost rest passed (Switch cases) kept reads none names at step knows is = switch_came rest passed cases (cases_came scope passed cases kept.0 kept.1 reads) names at step knows is
+        (body_came (and_names scope (names_of row)) false (at_front row passed) row kept.2 blind (meets_front row passed blind meets) (both_true (rows_end outermost rest passed name count row) (are_read false (at_front row passed) row) reads).1) names at step knows is
+    field_came scope outermost rest passed (Switch cases) kept blind meets reads none names at step knows is = switch_came rest passed cases (cases_came scope passed cases kept.0 kept.1 blind meets reads) names at step knows is
 
-    cases_came : (scope : List Word) (passed : Passed) (cases : PlainCases) → Differ (case_names cases) → AreCasesKept scope cases → are_cases_read passed cases ≡ true → CasesCame passed cases
-    cases_came scope passed no_cases differ kept reads names at step knows is = absurd (none_is step is)
-    cases_came scope passed (case_and name row others) differ kept reads names at step knows is =
+    cases_came : (scope : Own) (passed : Passed) (cases : PlainCases) → Differ (case_names cases) → AreCasesKept scope cases → AreBlindCases cases → MeetsPredefined passed.met → are_cases_read passed cases ≡ true → CasesCame passed cases
+    cases_came scope passed no_cases differ kept blind meets reads names at step knows is = absurd (none_is step is)
+    cases_came scope passed (case_and name row others) differ kept blind meets reads names at step knows is =
         let each = both_true (are_read false (at_front row passed) row) (are_cases_read passed others) reads in
         first_or (has_keys all at (case_keys row)) _ (case_found facts all others names at) step
-        (λ chosen. case_came passed name row others (body_came (scope ++ names_of row) false (at_front row passed) row kept.1 each.0) names at step knows chosen)
-        (λ later. other_came passed name row others differ.0 names at step (cases_came scope passed others differ.1 kept.2 each.1 names at step knows later))
+        (λ chosen. case_came passed name row others (body_came (and_names scope (names_of row)) false (at_front row passed) row kept.1 blind.0 (meets_front row passed blind.0 meets) each.0) names at step knows chosen)
+        (λ later. other_came passed name row others differ.0 names at step (cases_came scope passed others differ.1 kept.2 blind.1 meets each.1 names at step knows later))
         is
 
-    body_came : (scope : List Word) (outermost : Bool) (passed : Passed) (body : PlainBody) → AreKept scope body → are_read outermost passed body ≡ true → BodyCame passed body
-    body_came scope outermost passed no_fields kept reads names at found knows is =
+    body_came : (scope : Own) (outermost : Bool) (passed : Passed) (body : PlainBody) → AreKept scope body → IsBlindBody body → MeetsPredefined passed.met → are_read outermost passed body ≡ true → BodyCame passed body
+    body_came scope outermost passed no_fields kept blind meets reads names at found knows is =
         subst (λ (f : Found). Came (declares no_fields) names f.names at f.after (λ env. BodySpells true facts all no_fields env passed f.row))
         (some_same (record { row = []; after = at; names = names }) found is)
         (record { grows = record { kept = same_part names; same = λ key none. refl }; spells = λ env part late. (late, (refl, refl, refl)) })
-    body_came scope outermost passed (field_and field fields) kept reads names at found knows is =
+    body_came scope outermost passed (field_and field fields) kept blind meets reads names at found knows is =
         let here = at_field (field_and field fields) passed in
         let each = both_true (is_read outermost fields here field) (are_read outermost (behind field here) fields) reads in
-        body_and field fields passed (field_came scope outermost fields here field kept.2 each.0 (none_near (field_and field fields)))
-        (body_came scope outermost (behind field here) fields kept.3 each.1) names at found knows is
+        body_and field fields passed (field_came scope outermost fields here field kept.2 blind.0 meets each.0 (none_near (field_and field fields) (no_labels (field_and field fields) blind)))
+        (body_came scope outermost (behind field here) fields kept.3 blind.1 (meets_behind field here meets) each.1) names at found knows is
 
 -- The end.
 
@@ -273,7 +293,8 @@ was_read tells facts body row bytes kept reads few are = by (body_found facts (b
         let end = end_is (bits_of bytes) found row is in
         let long = length_bits bytes in
         let short : length (bits_of bytes) ≤ most_bits = omega (arith, long, few) in
-        let came = body_came tells facts (bits_of bytes) short (names_of body) true (at_front body nothing_passed) body kept.1 reads (names_inside body outside) 0 found
+        let blind = template_blind body kept reads in
+        let came = body_came tells facts (bits_of bytes) short (names_of body) true (at_front body nothing_passed) body kept.1 blind (meets_front body nothing_passed blind meets_outside) reads (names_inside body outside) 0 found
         (inside_knows body nothing_passed outside outside_knows) so in
         let spelled = came.spells found.names (same_part found.names) [] in
         subst (λ (r : List Tree). Spells true facts body r bytes) end.same (record {

@@ -9,7 +9,8 @@ use Rattle.rz_expr.specs.Environment.{count_key, place_key, Environment, IsPartO
 use Rattle.rz_expr.specs.Term.{BitsAt, Constant, FactOf, Named, OfOne, OfTwo, RowsOf, Term}
 use Rattle.rz_expr.specs.Value.{known_value, value_of}
 use Rattle.rz_expr.specs.declared.value.EvalFault.{EvalFault}
-use Rattle.rz_types_fields.specs.Spells.{Late, RowSpells}
+use Rattle.rz_types_fields.specs.Sees.{Late}
+use Rattle.rz_types_fields.specs.Spells.{RowSpells}
 use Rattle.rz_types.specs.Solve.{has_key, in_64_bits, solve, solved_count, undo_left, undo_one, undo_right}
 use Rattle.rz_types.specs.Passed.{Names}
 use Rattle.rz_types.specs.Value.{see}

@@ -1,12 +1,13 @@
 -- A number that is read is spelled plainly.
 use Rattle.std.proofs.Common.{◌≡◌, ◌⊎◌, inl, inr, ℕ, ◌+◌, ◌<◌, ◌≤◌, ◌^◌, ◌%◌, ◌==◌, ℤ, Bool, true, false, ◌&&◌, ◌||◌, List, length, take, drop, Option, Some, None, Result, Ok, Err, refl, sym, ap, ◌∙◌, subst, arith}
 use Rattle.std.specs.Prelude.{if◌then◌else◌, nat_abs, nat_le, not, option_and_then}
+use Rattle.std.specs.Option.{is_some, option_to_list}
 use Rattle.std.proofs.lemmas.Bool.Decides.{nat_tests}
 use Rattle.std.proofs.lemmas.List.{length-drop, length-take}
 use Rattle.std.proofs.lemmas.Nat.{pow_pos}
 use Rattle.std.proofs.Math.Nat.{mod-lt}
 use Rattle.rz_core.specs.declared.facts.Facts.{Facts}
-use Rattle.rz_expr.specs.Environment.{count_key, place_key, Environment, IsPartOf, Key}
+use Rattle.rz_expr.specs.Environment.{count_key, place_key, predefined, Environment, IsPartOf, Key}
 use Rattle.rz_expr.specs.Term.{BitsAt, Constant, FactOf, Named, OfOne, OfTwo, RowsOf, Term}
 use Rattle.rz_expr.specs.Value.{value_of}
 use Rattle.rz_expr.specs.declared.value.EvalFault.{EvalFault}
@@ -26,6 +27,7 @@ use Rattle.rz_types.specs.Stored.{stored_number}
 use Rattle.rz_types.specs.Value.{no_bits, see}
 use Rattle.rz_types_fields.proofs.Near.{held, NoneNear}
 use Rattle.rz_types_fields.proofs.SameNames.{key_is, key_itself}
+use Rattle.rz_unlay.proofs.Blind.{AreBlind, IsBlind, MeetsPredefined}
 use Rattle.rz_unlay.proofs.SpelledNames.{and_then, by_case, either_of, if_some, left_true, mapped, neither, none_is, not_both, right_true, solved_grows, some_same, value_grows, Grows, Knows}
 use Rattle.rz_unlay.proofs.Sees.{both_true}
 use Rattle.rz_unlay.proofs.Teller.{teller}
@@ -147,22 +149,34 @@ module _ (solved : Key → Environment → Option ℤ) where
         record { value = it.value; is = it.is; had = had_next names mid more key (first.same key none) it.value it.had });
   }
 
-  all_solved : (term : Term) (names more : Environment) → solve_all solved term names ≡ Some more → Solved solved (λ key. has_key key term) names more
-  all_solved (Constant number) names more is = nothing_solved names more is
-  all_solved (Named name) names more is = key_solved (place_key name) names more is
-  all_solved (RowsOf name) names more is = key_solved (count_key name) names more is
-  all_solved (BitsAt name start width) names more is =
-      let two = and_then (solve_all solved width) (option_and_then (solve_all solved start) (solve_key solved (place_key name) (names.give (place_key name)) names)) more is in
-      let one = and_then (solve_all solved start) (solve_key solved (place_key name) (names.give (place_key name)) names) two.0 two.1 in
-      both_solved (λ key. is_same_key key (place_key name) || has_key key start) (λ key. has_key key width) names two.0 more
-      (both_solved (λ key. is_same_key key (place_key name)) (λ key. has_key key start) names one.0 two.0
-      (key_solved (place_key name) names one.0 one.1) (all_solved start one.0 two.0 one.2))
-      (all_solved width two.0 more two.2)
-  all_solved (FactOf which) names more is = nothing_solved names more is
-  all_solved (OfOne op operand) names more is = all_solved operand names more is
-  all_solved (OfTwo op left right) names more is =
+  -- the values of `true` and `false` are known
+  abbrev pub Gives : Environment → Type 0
+  Gives names = (name : List ℕ) → is_some (predefined name) ≡ true → (value : ℤ) × (names.give (place_key name) ≡ Some value)
+
+  gives_more : (names more : Environment) → IsPartOf names more → Gives names → Gives more
+  gives_more names more part gives name is = let it = gives name is in (it.0, part.give (place_key name) it.0 it.1)
+
+  label_solved : (name : List ℕ) (names more : Environment) → (value : ℤ) × (names.give (place_key name) ≡ Some value) → Some names ≡ Some more
+      → Solved solved (λ key. is_same_key key (place_key name)) names more
+  label_solved name names more it is = subst (Solved solved (λ key. is_same_key key (place_key name)) names) (some_same names more is) (record {
+    kept = same_part names;
+    same = λ key none. refl;
+    told = λ key same.
+        let has : names.give key ≡ Some it.0 = ap names.give (key_is key (place_key name) same) ∙ it.1 in
+        record { value = it.0; is = has; had = inl has };
+  })
+
+  all_solved : (term : Term) → IsBlind term → (names more : Environment) → Gives names → solve_all solved term names ≡ Some more → Solved solved (λ key. has_key key term) names more
+  all_solved (Constant number) blind names more gives is = nothing_solved names more is
+  all_solved (Named name) blind names more gives is = label_solved name names more (gives name blind) is
+  all_solved (RowsOf name) blind names more gives is = key_solved (count_key name) names more is
+  all_solved (BitsAt name start width) blind names more gives is = absurd blind
+  all_solved (FactOf which) blind names more gives is = nothing_solved names more is
+  all_solved (OfOne op operand) blind names more gives is = all_solved operand blind names more gives is
+  all_solved (OfTwo op left right) blind names more gives is =
       let one = and_then (solve_all solved right) (solve_all solved left names) more is in
-      both_solved (λ key. has_key key left) (λ key. has_key key right) names one.0 more (all_solved left names one.0 one.1) (all_solved right one.0 more one.2)
+      let first = all_solved left blind.0 names one.0 gives one.1 in
+      both_solved (λ key. has_key key left) (λ key. has_key key right) names one.0 more first (all_solved right blind.1 one.0 more (gives_more names one.0 first.kept gives) one.2)
 
 -- Names of an expression that is read.
 
@@ -338,9 +352,9 @@ module _ (read : (width number : ℕ) → number_of (number_bits width number) �
       }
 
   pub number_came : (facts : Facts) (all : List Bool) (rest : PlainBody) (passed : Passed) (form : NumForm) (width : ℤ) (fixed : Option Term) (names : Environment) (at : ℕ) (step : Step)
-      → is_number_read rest passed fixed ≡ true → NoneNear passed → Knows (is_held passed) names → number_step facts all form width fixed names at ≡ Some step
+      → AreBlind (option_to_list fixed) → MeetsPredefined passed.met → is_number_read rest passed fixed ≡ true → NoneNear passed → Knows (is_held passed) names → number_step facts all form width fixed names at ≡ Some step
       → PieceRead (declares rest) (told_by fixed passed) names all at (λ env value bits. IsNumber true passed form width fixed (see facts no_bits env) value bits) step
-  number_came facts all rest passed form width None names at step reads none knows is =
+  number_came facts all rest passed form width None names at step blind meets reads none knows is =
       let it = mapped (λ n. record { value = Some (trees.Number n); after = at + nat_abs width; names = names }) (number_at all at (nat_abs width)) step is in
       let n = it.0 in
       let number = number_stands all at (nat_abs width) n it.1 in
@@ -353,7 +367,7 @@ module _ (read : (width number : ℕ) → number_of (number_bits width number) �
         knows = knows;
         stored = λ env part. (n, refl, small_is all at (nat_abs width) n number, bits_are all at (nat_abs width) n number);
       })
-  number_came facts all rest passed form width (Some term) names at step reads none knows is =
+  number_came facts all rest passed form width (Some term) names at step blind meets reads none knows is =
       let w = nat_abs width in
       let one = and_then (λ n. option_and_then (λ more.
       if is_stored form width (value_of term (see facts no_bits more)) n then Some (record { value = None; after = at + nat_abs width; names = more }) else None)
@@ -365,4 +379,5 @@ module _ (read : (width number : ℕ) → number_of (number_bits width number) �
       let three = if_some (is_stored form width (value_of term (see facts no_bits more)) n) (record { value = None; after = at + nat_abs width; names = more }) step two.2 in
       subst (PieceRead (declares rest) (told_by (Some term) passed) names all at (λ env value bits. IsNumber true passed form width (Some term) (see facts no_bits env) value bits)) three.1
       (fixed_came facts all rest passed form width term names more at n reads none knows (number_stands all at w n one.1)
-      (all_solved (λ key seen. solved_count w key (see facts no_bits seen) term n) term names more two.1) three.0)
+      (all_solved (λ key seen. solved_count w key (see facts no_bits seen) term n) term blind.0 names more
+      (λ name is. knows.covers (place_key name) (left_true (passed.met (place_key name)) (passed.told (place_key name)) (meets name is))) two.1) three.0)

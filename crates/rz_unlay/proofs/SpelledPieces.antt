@@ -1,9 +1,10 @@
 -- The pieces of a field that are read are spelled plainly.
 use Rattle.std.proofs.Common.{◌≡◌, ℕ, zero, suc, ◌+◌, ◌%◌, ◌≤◌, ◌^◌, ℤ, pos, Bool, true, false, List, [], ◌∷◌, ◌++◌, length, take, drop, map, Option, Some, None, refl, sym, ap, ◌∙◌, subst, arith}
 use Rattle.std.specs.Prelude.{if◌then◌else◌, nat_abs, option_and_then, replicate}
+use Rattle.std.specs.List.{AllByRecursion}
 use Rattle.std.specs.Option.{option_to_list}
 use Rattle.rz_core.specs.declared.facts.Facts.{Facts}
-use Rattle.rz_expr.specs.Environment.{Environment, Key, Sight}
+use Rattle.rz_expr.specs.Environment.{Environment, Key}
 use Rattle.rz_expr.specs.Term.{Term}
 use Rattle.rz_expr.specs.Value.{value_of}
 use Rattle.rz_bits.specs.Bits.{bits_of, bytes_of, number_bits, number_of}
@@ -14,32 +15,23 @@ use Rattle.rz_types_fields.specs.declared.field.NumForm.{NumForm}
 use Rattle.rz_types_fields.specs.declared.field.NumForm.TheVariants.{Integer}
 use Rattle.rz_types_fields.specs.declared.tree.Tree.{Tree}
 use Rattle.rz_types_fields.specs.declared.tree.Tree.TheVariants as trees
-use Rattle.rz_types_fields.specs.Spells.{group_in, is_late_size, is_one_late, marks, most_bits, numbers_of_group, put, values_for, InOrder, IsGrouped, IsGroupedFor, IsStored, Late, PieceSpells, PiecesSpell, RowSpells, Then}
+use Rattle.rz_types_fields.specs.Sees.{bits_before, sees}
+use Rattle.rz_types_fields.specs.Spells.{group_in, marks, most_bits, numbers_of_group, put, values_for, InOrder, IsGrouped, IsGroupedFor, IsStored, PieceSpells, PiecesSpell, RowSpells, Then}
 use Rattle.rz_types.specs.Field.{PlainBody, PlainField}
 use Rattle.rz_types.specs.Readable.{are_pieces_read, is_piece_read}
 use Rattle.rz_types.specs.Shape.{numbers_of}
 use Rattle.rz_types.specs.Passed.{behind_piece, behind_pieces, declares, is_held, Names, Passed}
-use Rattle.rz_types.specs.Piece.{fixed_integer, free_integer, integers, pieces_of, terms_of_text, Filler, OneNumber, OneText, Piece, Zeros}
+use Rattle.rz_types.specs.Piece.{fixed_integer, free_integer, integers, pieces_of, Filler, OneNumber, OneText, Piece, Place, Zeros}
 use Rattle.rz_types.specs.Solve.{solved_count}
 use Rattle.rz_types.specs.Value.{no_bits, see}
 use Rattle.rz_types_fields.proofs.Near.{still_none, NoneNear}
+use Rattle.rz_unlay.proofs.Blind.{early_piece, stored_blind, IsBlindPiece, MeetsPredefined}
+use Rattle.rz_unlay.proofs.BlindFields.{meets_piece}
 use Rattle.rz_unlay.proofs.SpelledNames.{and_then, grows_then, grows_wide, if_some, mapped, some_same, Came, Knows}
 use Rattle.rz_unlay.proofs.Told.{part_of_part, same_part}
 use Rattle.rz_unlay.proofs.SpelledNumber.{below, number_came, PieceRead}
 use Rattle.rz_unlay.proofs.SpelledText.{text_came, zeros_came}
 use Rattle.rz_unlay.proofs.Sees.{both_true}
-
--- No number is late so far.
-
-never_late_terms : (met : Names) (late : Late) (terms : List Term) (sight : Sight) → is_one_late met late terms sight ≡ false
-never_late_terms met late [] sight = refl
-never_late_terms met late (term ∷ terms) sight = never_late_terms met late terms sight
-
-never_late : (met : Names) (late : Late) (piece : Piece) (sight : Sight) → is_late_size met late piece sight ≡ false
-never_late met late (OneNumber number) sight = refl
-never_late met late (OneText text) sight = never_late_terms met late (terms_of_text text) sight
-never_late met late (Zeros count) sight = refl
-never_late met late (Filler unit) sight = refl
 
 -- One behind the other.
 
@@ -65,57 +57,59 @@ pub record Tells : Type 0 where
   pub bytes : (bits : List Bool) → length bits % 8 ≡ 0 → bits_of (bytes_of bits) ≡ bits
 
 module _ (tells : Tells) (facts : Facts) (all : List Bool) (short : length all ≤ most_bits) (outermost : Bool) (rest : PlainBody) where
-  came_of : (piece : Piece) (passed behind : Passed) (names : Environment) (at : ℕ) (step : Step)
+  came_of : (piece : Piece) (passed behind : Passed) (names : Environment) (at : ℕ) (step : Step) → IsBlindPiece piece → MeetsPredefined passed.met
       → PieceRead (declares rest) behind names all at (λ env value bits. IsStored true passed piece facts at (see facts no_bits env) value bits) step
       → Came (declares rest) names step.names at step.after (λ env. PieceSpells true facts all env passed piece step.value) × Knows (is_held behind) step.names
-  came_of piece passed behind names at step it =
+  came_of piece passed behind names at step blind meets it =
       let ends = it.ends in
       let within = it.stand.within in
       let most : step.after ≤ most_bits = omega (arith, ends, within, short) in (
         record {
           grows = it.grows;
-          spells = λ env part late. (
-            late ++ marks passed.met late piece (see facts no_bits env) (length it.bits),
-            record {
-              bits = it.bits;
-              stored = it.stored env part;
-              early = never_late passed.met late piece (see facts no_bits env);
-              there = ap (λ n. take n (drop at all)) it.stand.long ∙ it.stand.there;
-              ends = it.ends ∙ ap (λ n. at + n) (sym it.stand.long);
-              short = most;
-              marked = refl;
-            },
-          );
+          spells = λ env part late.
+              let stored = stored_blind facts no_bits (bits_before all at) env passed piece blind at step.value it.bits (it.stored env part) in (
+                late ++ marks passed.met late piece (sees facts all env at) (length it.bits),
+                record {
+                  bits = it.bits;
+                  stored = stored;
+                  early = early_piece facts (bits_before all at) env passed.met late meets passed piece blind at step.value it.bits stored;
+                  there = ap (λ n. take n (drop at all)) it.stand.long ∙ it.stand.there;
+                  ends = it.ends ∙ ap (λ n. at + n) (sym it.stand.long);
+                  short = most;
+                  marked = refl;
+                },
+              );
         },
         it.knows,
       )
 
-  piece_came : (piece : Piece) (passed : Passed) (names : Environment) (at : ℕ) (step : Step) → is_piece_read outermost rest passed piece ≡ true → NoneNear passed → Knows (is_held passed) names
+  piece_came : (piece : Piece) (passed : Passed) (names : Environment) (at : ℕ) (step : Step) → IsBlindPiece piece → MeetsPredefined passed.met → is_piece_read outermost rest passed piece ≡ true → NoneNear passed → Knows (is_held passed) names
       → piece_step facts all rest piece names at ≡ Some step
       → Came (declares rest) names step.names at step.after (λ env. PieceSpells true facts all env passed piece step.value) × Knows (is_held (behind_piece piece passed)) step.names
-  piece_came (OneNumber number) passed names at step reads none knows is =
-      came_of (OneNumber number) passed (behind_piece (OneNumber number) passed) names at step
-      (number_came tells.read tells.written facts all rest passed number.form number.width number.fixed names at step reads none knows is)
-  piece_came (OneText text) passed names at step reads none knows is =
-      came_of (OneText text) passed passed names at step (text_came (below tells.read tells.written) tells.bytes tells.read tells.written facts all rest passed text names at step knows is)
-  piece_came (Zeros count) passed names at step reads none knows is = came_of (Zeros count) passed passed names at step (zeros_came all rest passed count names at step knows is)
-  piece_came (Filler unit) passed names at step reads none knows is = came_of (Filler unit) passed passed names at step (zeros_came all rest passed (missing unit at) names at step knows is)
+  piece_came (OneNumber number) passed names at step blind meets reads none knows is =
+      came_of (OneNumber number) passed (behind_piece (OneNumber number) passed) names at step blind meets
+      (number_came tells.read tells.written facts all rest passed number.form number.width number.fixed names at step blind meets reads none knows is)
+  piece_came (OneText text) passed names at step blind meets reads none knows is =
+      came_of (OneText text) passed passed names at step blind meets (text_came (below tells.read tells.written) tells.bytes tells.read tells.written facts all rest passed text names at step knows is)
+  piece_came (Zeros count) passed names at step blind meets reads none knows is = came_of (Zeros count) passed passed names at step blind meets (zeros_came all rest passed count names at step knows is)
+  piece_came (Filler unit) passed names at step blind meets reads none knows is = came_of (Filler unit) passed passed names at step blind meets (zeros_came all rest passed (missing unit at) names at step knows is)
+  piece_came (Place name) passed names at step blind meets reads none knows is = absurd blind
 
-  pieces_came : (pieces : List Piece) (passed : Passed) (names : Environment) (at : ℕ) (found : Found) → are_pieces_read outermost rest passed pieces ≡ true → NoneNear passed → Knows (is_held passed) names
+  pieces_came : (pieces : List Piece) (passed : Passed) (names : Environment) (at : ℕ) (found : Found) → AllByRecursion IsBlindPiece pieces → MeetsPredefined passed.met → are_pieces_read outermost rest passed pieces ≡ true → NoneNear passed → Knows (is_held passed) names
       → pieces_found facts all rest pieces names at ≡ Some found
       → Came (declares rest) names found.names at found.after (λ env. InOrder (PieceSpells true facts all env) passed pieces found.row) × Knows (is_held (behind_pieces pieces passed)) found.names
-  pieces_came [] passed names at found reads none knows is =
+  pieces_came [] passed names at found blind meets reads none knows is =
       subst (λ (f : Found). Came (declares rest) names f.names at f.after (λ env. InOrder (PieceSpells true facts all env) passed [] f.row) × Knows (is_held passed) f.names)
       (some_same (record { row = []; after = at; names = names }) found is)
       (record { grows = record { kept = same_part names; same = λ key none. refl }; spells = λ env part late. (late, (refl, refl, refl)) }, knows)
-  pieces_came (piece ∷ pieces) passed names at found reads none knows is =
+  pieces_came (piece ∷ pieces) passed names at found blind meets reads none knows is =
       let each = both_true (is_piece_read outermost rest passed piece) (are_pieces_read outermost rest (behind_piece piece passed) pieces) reads in
       let one = and_then (λ step. with_value step.value (pieces_found facts all rest pieces step.names step.after)) (piece_step facts all rest piece names at) found is in
       let step : Step = one.0 in
       let more = mapped (λ f. record { row = put step.value f.row; after = f.after; names = f.names }) (pieces_found facts all rest pieces step.names step.after) found one.2 in
       let inner : Found = more.0 in
-      let first = piece_came piece passed names at step each.0 none knows one.1 in
-      let others = pieces_came pieces (behind_piece piece passed) step.names step.after inner each.1 (still_none piece passed none) first.1 more.1 in
+      let first = piece_came piece passed names at step blind.0 meets each.0 none knows one.1 in
+      let others = pieces_came pieces (behind_piece piece passed) step.names step.after inner blind.1 (meets_piece piece passed meets) each.1 (still_none piece passed none) first.1 more.1 in
       subst (λ (f : Found). Came (declares rest) names f.names at f.after (λ env. InOrder (PieceSpells true facts all env) passed (piece ∷ pieces) f.row) × Knows (is_held (behind_pieces (piece ∷ pieces) passed)) f.names)
       more.2 (
         then_came (declares rest) (λ env. PieceSpells true facts all env passed piece) (λ env. InOrder (PieceSpells true facts all env) (behind_piece piece passed) pieces)
@@ -186,13 +180,14 @@ module _ (tells : Tells) (facts : Facts) (all : List Bool) (short : length all �
   points_fit rect (Some terms) names at found is = (refl, fixed_row terms names at found is)
 
   pub field_pieces : (field : PlainField) (passed : Passed) (names : Environment) (at : ℕ) (step : Step) → ((found : Found) → pieces_found facts all rest (pieces_of field) names at ≡ Some found → Fits field found.row)
-      → are_pieces_read outermost rest passed (pieces_of field) ≡ true → NoneNear passed → Knows (is_held passed) names → field_of_pieces facts all rest field names at ≡ Some step
+      → AllByRecursion IsBlindPiece (pieces_of field) → MeetsPredefined passed.met → are_pieces_read outermost rest passed (pieces_of field) ≡ true → NoneNear passed → Knows (is_held passed) names
+      → field_of_pieces facts all rest field names at ≡ Some step
       → Came (declares rest) names step.names at step.after (λ env. PiecesSpell true facts all field env passed step.value) × Knows (is_held (behind_pieces (pieces_of field) passed)) step.names
-  field_pieces field passed names at step fits reads none knows is =
+  field_pieces field passed names at step fits blind meets reads none knows is =
       let it = mapped (λ f. record { value = value_of_field field f.row; after = f.after; names = f.names }) (pieces_found facts all rest (pieces_of field) names at) step is in
       let found : Found = it.0 in
       let fit = fits found it.1 in
-      let came = pieces_came (pieces_of field) passed names at found reads none knows it.1 in
+      let came = pieces_came (pieces_of field) passed names at found blind meets reads none knows it.1 in
       subst (λ (s : Step). Came (declares rest) names s.names at s.after (λ env. PiecesSpell true facts all field env passed s.value) × Knows (is_held (behind_pieces (pieces_of field) passed)) s.names)
       it.2 (
         record {

@@ -13,8 +13,9 @@ use Rattle.rz_types_fields.specs.Laid.{with_count}
 use Rattle.rz_unlay.specs.Cursor.{count_known, rows_at, rows_by, rows_while, up_to_end, Line, Lines}
 use Rattle.rz_types_fields.specs.declared.tree.Tree.{Tree}
 use Rattle.rz_types_fields.specs.Row.{IsStated}
-use Rattle.rz_types_fields.specs.Spells.{BodySpells, Inside, IsCounted, Late, RowOf, RowSpells, RowsSpell, Within}
-use Rattle.rz_types.specs.Field.{field_and, no_fields, Align, Array, Fill, Number, PlainBody, Points, Switch, Text}
+use Rattle.rz_types_fields.specs.Sees.{Late}
+use Rattle.rz_types_fields.specs.Spells.{BodySpells, Inside, IsCounted, RowOf, RowSpells, RowsSpell, Within}
+use Rattle.rz_types.specs.Field.{field_and, no_fields, Align, Array, Fill, Label, Number, PlainBody, Points, Switch, Text}
 use Rattle.rz_types.specs.Passed.{at_front, declares, gives_count, is_held, states, states_count, Passed}
 use Rattle.rz_types.specs.Width.{fixed_widths}
 use Rattle.rz_types_fields.proofs.SameNames.{key_is, key_itself}
@@ -154,6 +155,7 @@ stated (field_and (Text text) row) key = let it = stated row key in record { has
 stated (field_and (Points points) row) key = let it = stated row key in record { has = it.has; only = it.only }
 stated (field_and (Fill unit count) row) key = let it = stated row key in record { has = it.has; only = it.only }
 stated (field_and (Align unit) row) key = let it = stated row key in record { has = it.has; only = it.only }
+stated (field_and (Label name) row) key = let it = stated row key in record { has = it.has; only = it.only }
 stated (field_and (Array name count inner) row) key = let it = array_stated name count key row (stated row key) in record { has = it.0; only = it.1 }
 stated (field_and (Switch cases) row) key = let it = stated row key in record { has = it.has; only = it.only }
 

@@ -52,9 +52,9 @@ module _ (known : Names) (env : Environment) (solved : Key → Environment → O
 
   abbrev pub AreTold : Term → Type 0
   AreTold (Constant number) = Unit {0}
-  AreTold (Named name) = IsTold (place_key name)
+  AreTold (Named name) = known (place_key name) ≡ true
   AreTold (RowsOf name) = IsTold (count_key name)
-  AreTold (BitsAt name start width) = IsTold (place_key name) × AreTold start × AreTold width
+  AreTold (BitsAt name start width) = ⊥
   AreTold (FactOf which) = Unit {0}
   AreTold (OfOne op operand) = AreTold operand
   AreTold (OfTwo op left right) = AreTold left × AreTold right
@@ -113,23 +113,11 @@ module _ (known : Names) (env : Environment) (solved : Key → Environment → O
   pub all_told : (term : Term) (names : Environment) → Covers known names → IsPartOf names env → AreTold term
       → Tells (λ key. has_key key term ≡ true) names (solve_all solved term names)
   all_told (Constant number) names covers part told = record { more = names; is = refl; kept = same_part names; part = part; has = λ key has. absurd cc }
-  all_told (Named name) names covers part told = key_told (place_key name) names covers part told
+  all_told (Named name) names covers part told =
+      let it = covers (place_key name) told in
+      record { more = names; is = refl; kept = same_part names; part = part; has = λ key same. (it.0, ap names.give (key_is key (place_key name) same) ∙ it.1) }
   all_told (RowsOf name) names covers part told = key_told (count_key name) names covers part told
-  all_told (BitsAt name start width) names covers part told =
-      let one = key_told (place_key name) names covers part told.0 in
-      let two = all_told start one.more (covers_more names one.more covers one.kept) one.part told.1 in
-      let both = then_told _ _ names _ (solve_all solved start) one two in
-      let three = all_told width both.more (covers_more names both.more covers both.kept) both.part told.2 in
-      other_names _ _ names _ (λ key has. by_parts key has) (then_told _ _ names _ (solve_all solved width) both three)
-    where
-      by_parts : (key : Key) → has_key key (BitsAt name start width) ≡ true
-          → ((is_same_key key (place_key name) ≡ true) ⊎ (has_key key start ≡ true)) ⊎ (has_key key width ≡ true)
-      by_parts key has = outer (or_true (is_same_key key (place_key name) || has_key key start) (has_key key width) has)
-        where
-          outer : ((is_same_key key (place_key name) || has_key key start) ≡ true) ⊎ (has_key key width ≡ true)
-              → ((is_same_key key (place_key name) ≡ true) ⊎ (has_key key start ≡ true)) ⊎ (has_key key width ≡ true)
-          outer (inl it) = inl (or_true (is_same_key key (place_key name)) (has_key key start) it)
-          outer (inr it) = inr it
+  all_told (BitsAt name start width) names covers part told = absurd told
   all_told (FactOf which) names covers part told = record { more = names; is = refl; kept = same_part names; part = part; has = λ key has. absurd cc }
   all_told (OfOne op operand) names covers part told = all_told operand names covers part told
   all_told (OfTwo op left right) names covers part told =

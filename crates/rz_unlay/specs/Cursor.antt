@@ -9,7 +9,7 @@ use Rattle.rz_types_fields.specs.declared.keys.CaseKey.{CaseKey}
 use Rattle.rz_types_fields.specs.declared.tree.Tree.{Tree}
 use Rattle.rz_types_fields.specs.declared.tree.Tree.TheVariants as trees
 use Rattle.rz_types_fields.specs.Spells.{values_in}
-use Rattle.rz_types.specs.Field.{case_and, field_and, no_cases, no_fields, Align, Array, Fill, Number, PlainBody, PlainCases, PlainField, Points, Switch, Text}
+use Rattle.rz_types.specs.Field.{case_and, field_and, no_cases, no_fields, Align, Array, Fill, Label, Number, PlainBody, PlainCases, PlainField, Points, Switch, Text}
 use Rattle.rz_types.specs.Passed.{outside}
 use Rattle.rz_types.specs.Width.{case_keys, fixed_widths}
 use Rattle.rz_bits.specs.View.{number_at}
@@ -75,6 +75,7 @@ abbrev mutual
   field_found known all rest (Points points) names at = field_of_pieces known all rest (Points points) names at
   field_found known all rest (Fill unit count) names at = field_of_pieces known all rest (Fill unit count) names at
   field_found known all rest (Align unit) names at = field_of_pieces known all rest (Align unit) names at
+  field_found known all rest (Label name) names at = field_of_pieces known all rest (Label name) names at
   field_found known all rest (Array name count row) names at =
       option_and_then (λ lines. option_map (λ more. record { value = Some (trees.Rows lines.0); after = lines.1; names = more }) (claim_count name (length lines.0) names))
       (rows_by (λ place. line_of (body_found known all row (names_inside row names) place)) (length all) rest (count_known names name count) at)

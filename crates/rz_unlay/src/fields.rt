@@ -128,13 +128,17 @@ impl Reader<'_> {
         ensures grew { IfOk result (λ met. IfSome met (λ m. Grew notes.old.items notes.new.items)) }
     {
         match field {
-            Field::Num(_) | Field::Text(_) | Field::Points(_) | Field::Fill(..) | Field::Align(_) =>
-                {
-                    match read_pieces(self.alloc, self.view, field, rest, self.facts, notes, at)? {
-                        Some(came) => Ok(spend(came, left)),
-                        None => Ok(None),
-                    }
+            Field::Num(_)
+            | Field::Text(_)
+            | Field::Points(_)
+            | Field::Fill(..)
+            | Field::Align(_)
+            | Field::Label(_) => {
+                match read_pieces(self.alloc, self.view, field, rest, self.facts, notes, at)? {
+                    Some(came) => Ok(spend(came, left)),
+                    None => Ok(None),
                 }
+            }
             Field::Array(array) => self.read_array(array, rest, notes, at, left),
             Field::Switch(cases) => { self.read_case(cases.as_slice(), notes, at, left) }
         }

@@ -1,5 +1,4 @@
 pub mod Counts
-pub mod Noting
 pub mod Undone
 pub mod TextSteps
 pub mod PieceSteps

@@ -11,7 +11,7 @@ use Rattle.rz_core.specs.declared.facts.Facts.{Facts}
 use Rattle.rz_expr.specs.Environment.{Environment}
 use Rattle.rz_types_fields.specs.Field.{PlainBody, PlainText}
 use Rattle.rz_types_fields.specs.Width.{capped}
-use Rattle.rz_types_fields.specs.Spells.{sees}
+use Rattle.rz_types_fields.specs.Value.{no_bits, see}
 use Rattle.rz_unlay_pieces.specs.Texts.{sized_count, sized_step, stored_count}
 use Rattle.rz_types_fields.specs.declared.field.TextForm.{TextForm}
 use Rattle.rz_types_fields.specs.declared.field.TextForm.TheVariants as texts
@@ -279,12 +279,12 @@ left_capped len (Some width) at short = by (leb_tells (suc len) (at + width))
 
 module _ (known : Facts) (all : List Bool) (rest : PlainBody) (text : PlainText) (names : Environment) (at : ℕ) where
   abbrev behind_size : Option ℕ → Option Step
-  behind_size size = option_and_then (sized_step known all text size names at) (text_size known (sees known all names at) all rest text.form size text.fixed at)
+  behind_size size = option_and_then (sized_step known all text size names at) (text_size known (see known no_bits names) all rest text.form size text.fixed at)
 
-  pub text_found : (size : Option ℕ) (count : ℕ) → Some size ≡ size_read known all text.form text.size names at → Some count ≡ text_size known (sees known all names at) all rest text.form size text.fixed at
+  pub text_found : (size : Option ℕ) (count : ℕ) → Some size ≡ size_read known all text.form text.size names at → Some count ≡ text_size known (see known no_bits names) all rest text.form size text.fixed at
       → sized_step known all text size names at count ≡ text_step known all rest text names at
   text_found size count has counted = ap (option_and_then (sized_step known all text size names at)) counted ∙ ap (option_and_then behind_size) has
 
-  pub no_text : (size : Option ℕ) → Some size ≡ size_read known all text.form text.size names at → None ≡ text_size known (sees known all names at) all rest text.form size text.fixed at
+  pub no_text : (size : Option ℕ) → Some size ≡ size_read known all text.form text.size names at → None ≡ text_size known (see known no_bits names) all rest text.form size text.fixed at
       → None ≡ text_step known all rest text names at
   no_text size has counted = ap (option_and_then (sized_step known all text size names at)) counted ∙ ap (option_and_then behind_size) has

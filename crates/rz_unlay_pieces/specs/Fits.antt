@@ -3,7 +3,7 @@
 use Rattle.std.specs.Prelude.{◌≡◌, ◌<◌, ◌≤◌, nat_abs, true, List, Option, Some, None}
 use Rattle.std.specs.List.{AllByRecursion}
 use Rattle.rz_expr.specs.Term.{Term}
-use Rattle.rz_types_fields.specs.Field.{case_and, field_and, no_cases, no_fields, Align, Array, Fill, Number, PlainBody, PlainCases, PlainField, Points, Switch, Text}
+use Rattle.rz_types_fields.specs.Field.{case_and, field_and, no_cases, no_fields, Align, Array, Fill, Label, Number, PlainBody, PlainCases, PlainField, Points, Switch, Text}
 use Rattle.rz_types_fields.specs.Value.{is_fixed_expression}
 
 abbrev pub FixedFits : Option Term → Type 0
@@ -21,6 +21,7 @@ abbrev mutual
   Fits (Points points) = PointsFit points.fixed
   Fits (Fill unit count) = Unit {0}
   Fits (Align unit) = 0 < unit
+  Fits (Label name) = Unit {0}
   Fits (Array name count row) = AreFit row
   Fits (Switch cases) = CasesFit cases
 

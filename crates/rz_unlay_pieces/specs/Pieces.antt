@@ -6,7 +6,7 @@ use Rattle.std.specs.Result.{result_ok}
 use Rattle.std.specs.declared.result.Result.{Result}
 use Rattle.rz_core.specs.declared.facts.Facts.{Facts}
 use Rattle.rz_core.specs.declared.resource.Word.{Word}
-use Rattle.rz_expr.specs.Environment.{count_key, place_key, Environment, Key, Sight}
+use Rattle.rz_expr.specs.Environment.{count_key, Environment, Key, Sight}
 use Rattle.rz_expr.specs.Term.{BitsAt, Constant, FactOf, Named, OfOne, OfTwo, RowsOf, Term}
 use Rattle.rz_expr.specs.Value.{value_of}
 use Rattle.rz_expr.specs.declared.value.EvalFault.{EvalFault}
@@ -18,14 +18,15 @@ use Rattle.rz_types_fields.specs.Field.{PlainBody, PlainField, PlainText, Points
 use Rattle.rz_types_fields.specs.Range.{fits_number, may_be_size}
 use Rattle.rz_types_fields.specs.Solve.{is_same_key, solved_count}
 use Rattle.rz_types_fields.specs.Laid.{with_count}
-use Rattle.rz_types_fields.specs.Piece.{pieces_of, Filler, OneNumber, OneText, Piece, Zeros}
+use Rattle.rz_types_fields.specs.Piece.{pieces_of, Filler, OneNumber, OneText, Piece, Place, Zeros}
 use Rattle.rz_types_fields.specs.Stored.{stored_number, stored_text}
 use Rattle.rz_types_fields.specs.Text.{bytes_seen, PlainPart}
+use Rattle.rz_types_fields.specs.Value.{no_bits, see}
 use Rattle.rz_types_fields.specs.Width.{fixed_widths, sized_bytes}
 use Rattle.rz_types_fields.specs.declared.tree.Tree.{out-Tree, Tree}
 use Rattle.rz_types_fields.specs.declared.tree.Tree.TheOpen.{Tree-F}
 use Rattle.rz_types_fields.specs.declared.tree.Tree.TheVariants as trees
-use Rattle.rz_types_fields.specs.Spells.{nowhere, put, sees}
+use Rattle.rz_types_fields.specs.Spells.{nowhere, put}
 use Rattle.rz_bits.specs.View.{bytes_at, number_at}
 
 -- What is known.
@@ -53,16 +54,16 @@ pub record Step : Type 0 where
   pub after : ℕ
   pub names : Environment
 
--- the names of an expression that have no value are solved, one after the other
+-- the numbers of rows in an expression that have no value are solved, one after the other; so far no labels are
 abbrev pub solve_key : (Key → Environment → Option ℤ) → Key → Option ℤ → Environment → Option Environment
 solve_key solved key (Some value) names = Some names
 solve_key solved key None names = option_and_then (λ value. Some (also key value names)) (solved key names)
 
 abbrev pub solve_all : (Key → Environment → Option ℤ) → Term → Environment → Option Environment
 solve_all solved (Constant number) names = Some names
-solve_all solved (Named name) names = solve_key solved (place_key name) (names.give (place_key name)) names
+solve_all solved (Named name) names = Some names
 solve_all solved (RowsOf name) names = solve_key solved (count_key name) (names.give (count_key name)) names
-solve_all solved (BitsAt name start width) names = option_and_then (solve_all solved width) (option_and_then (solve_all solved start) (solve_key solved (place_key name) (names.give (place_key name)) names))
+solve_all solved (BitsAt name start width) names = Some names
 solve_all solved (FactOf which) names = Some names
 solve_all solved (OfOne op operand) names = solve_all solved operand names
 solve_all solved (OfTwo op left right) names = option_and_then (solve_all solved right) (solve_all solved left names)
@@ -76,8 +77,8 @@ abbrev pub number_step : Facts → List Bool → NumForm → ℤ → Option Term
 number_step known all form width None names at = option_map (λ n. record { value = Some (trees.Number n); after = at + nat_abs width; names = names }) (number_at all at (nat_abs width))
 number_step known all form width (Some term) names at =
     option_and_then (λ n. option_and_then (λ more.
-    if is_stored form width (value_of term (sees known all more at)) n then Some (record { value = None; after = at + nat_abs width; names = more }) else None)
-    (solve_all (λ key seen. solved_count (nat_abs width) key (sees known all seen at) term n) term names))
+    if is_stored form width (value_of term (see known no_bits more)) n then Some (record { value = None; after = at + nat_abs width; names = more }) else None)
+    (solve_all (λ key seen. solved_count (nat_abs width) key (see known no_bits seen) term n) term names))
     (number_at all at (nat_abs width))
 
 -- Texts.
@@ -147,7 +148,7 @@ size_found form (Ok size) = if may_be_size form size then Some (Some (nat_abs si
 
 abbrev pub size_read : Facts → List Bool → TextForm → Option Term → Environment → ℕ → Option (Option ℕ)
 size_read known all form None names at = Some None
-size_read known all form (Some term) names at = size_found form (value_of term (sees known all names at))
+size_read known all form (Some term) names at = size_found form (value_of term (see known no_bits names))
 
 -- the value of a text and its bytes; of a fixed text eight bits of each, as they are stored
 abbrev pub fixed_read : {E : Type 0} → Result (List ℕ) E → Option (Option Tree × List ℕ)
@@ -162,9 +163,9 @@ abbrev pub text_step : Facts → List Bool → PlainBody → PlainText → Envir
 text_step known all rest text names at =
     option_and_then (λ size. option_and_then (λ count. option_and_then (λ raw. option_and_then (λ found.
     if same_bytes (stored_text text.form size found.1) raw then Some (record { value = found.0; after = at + 8 * count; names = names }) else None)
-    (text_read known (sees known all names at) text.form size text.fixed raw))
+    (text_read known (see known no_bits names) text.form size text.fixed raw))
     (bytes_at all at count))
-    (text_size known (sees known all names at) all rest text.form size text.fixed at))
+    (text_size known (see known no_bits names) all rest text.form size text.fixed at))
     (size_read known all text.form text.size names at)
 
 -- Zero bits.
@@ -177,6 +178,8 @@ piece_step known all rest (OneNumber number) names at = number_step known all nu
 piece_step known all rest (OneText text) names at = text_step known all rest text names at
 piece_step known all rest (Zeros count) names at = zeros_step all count names at
 piece_step known all rest (Filler unit) names at = zeros_step all (missing unit at) names at
+-- so far no place of a label is learnt
+piece_step known all rest (Place name) names at = Some (record { value = None; after = at; names = names })
 
 -- Pieces in order.
 

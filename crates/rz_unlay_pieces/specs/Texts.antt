@@ -6,7 +6,7 @@ use Rattle.rz_types_fields.specs.declared.field.TextForm.{TextForm}
 use Rattle.rz_types_fields.specs.declared.field.TextForm.TheVariants as texts
 use Rattle.rz_types_fields.specs.Field.{PlainText}
 use Rattle.rz_types_fields.specs.Stored.{before_zero, stored_text}
-use Rattle.rz_types_fields.specs.Spells.{sees}
+use Rattle.rz_types_fields.specs.Value.{no_bits, see}
 use Rattle.rz_bits.specs.View.{bytes_at}
 use Rattle.rz_unlay_pieces.specs.Pieces.{same_bytes, text_read, Step}
 
@@ -18,7 +18,7 @@ raw_step known sight text size after names raw =
 
 -- a text whose stored form has so many bytes
 abbrev pub sized_step : Facts → List Bool → PlainText → Option ℕ → Environment → ℕ → ℕ → Option Step
-sized_step known all text size names at count = option_and_then (raw_step known (sees known all names at) text size (at + 8 * count) names) (bytes_at all at count)
+sized_step known all text size names at count = option_and_then (raw_step known (see known no_bits names) text size (at + 8 * count) names) (bytes_at all at count)
 
 -- how many bytes a size leaves of so many, or fills them to
 abbrev pub sized_count : Option ℕ → ℕ → ℕ

@@ -20,8 +20,8 @@ use rz_core::{Facts, NoMemory};
 use rz_types_fields::{Field, NamesEnv, Note};
 use std::alloc::Global;
 
-/// Reads the pieces of a field at a place, which is in bits; one with fields within it has none. What they tell of names
-/// is noted. `Ok(None)` where they aren't there or aren't stored so.
+/// Reads the pieces of a field at a place, which is in bits; that of a label has no bits, and a field with fields within it
+/// has no pieces of its own. What they tell of names is noted. `Ok(None)` where they aren't there or aren't stored so.
 pub fn read_pieces<'a>(
     alloc: Global,
     view: &BitView<'_>,
@@ -53,7 +53,7 @@ pub fn read_pieces<'a>(
             Ok(read_zeros(view, bits, at))
         }
         Field::Align(unit) => Ok(read_filler(view, *unit, at)),
-        Field::Array(_) | Field::Switch(_) => Ok(Some(Came {
+        Field::Label(_) | Field::Array(_) | Field::Switch(_) => Ok(Some(Came {
             value: None,
             after: at,
             cost: 0,

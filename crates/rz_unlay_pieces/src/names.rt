@@ -9,7 +9,7 @@ ghost use Rattle.rz_unlay_pieces.specs.Pieces.{claim_count};
 use rz_core::{NoMemory, Word};
 use rz_types_fields::{Field, Note, rows_of};
 
-/// Enters a body: what was known of the names of its own arrays is hidden, and their stated numbers are known.
+/// Enters a body: what was known of its own names is hidden, and the stated numbers of its arrays are known.
 pub fn enter<'a>(fields: &'a [Field], notes: &mut Vec<Note<'a>>) -> Result<(), NoMemory>
     ensures known { OnOk result (known notes.new.items ≡ names_inside (plain_body fields.now) (known notes.old.items)) }
     ensures grew { OnOk result (Grew notes.old.items notes.new.items) }

@@ -17,8 +17,8 @@ use rz_core::{Facts, NoMemory, Word};
 use rz_expr::{BinaryOp, Expr, UnaryOp, value_in};
 use rz_types_fields::{KeyRef, NamesEnv, Note, is_same_key, rows_of, standing_of};
 
-/// Solves the names of an expression that have no value yet, one after the other: each has the value with which the
-/// whole expression is stored as this number. False where there is none.
+/// Solves the numbers of rows in an expression that have no value yet, one after the other: each has the value with which
+/// the whole expression is stored as this number. False where there is none.
 pub fn solve_all<'a>(
     part: &'a Expr,
     whole: &Expr,
@@ -43,8 +43,7 @@ pub fn solve_all<'a>(
                 Ok(false)
             }
         }
-        Expr::Name(_name) => Ok(true),
-        Expr::Number(_) | Expr::Bits(..) | Expr::Fact(_) => Ok(true),
+        Expr::Number(_) | Expr::Name(_) | Expr::Bits(..) | Expr::Fact(_) => Ok(true),
     }
 }
 

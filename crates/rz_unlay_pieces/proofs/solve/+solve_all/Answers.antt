@@ -3,11 +3,10 @@ use Rattle.rz_expr.specs.Environment.{Environment, Key}
 use Rattle.rz_expr.specs.Term.{term_of}
 use Rattle.rz_expr.specs.declared.expr.Expr.{Expr}
 use Rattle.rz_types_fields.specs.Solve.{solved_count}
-use Rattle.rz_types_fields.specs.Value.{is_fixed_expression, no_bits, see}
+use Rattle.rz_types_fields.specs.Value.{no_bits, see}
 use Rattle.rz_unlay_pieces.specs.Pieces.{solve_all}
 use Rattle.rz_unlay_pieces.specs.Names.{told}
 use Rattle.rz_types_fields.specs.Known.{known}
-use Rattle.rz_unlay_pieces.proofs.Noting.{place_solved}
 use Rattle.rz_unlay_pieces.proofs.Undone.{both_solved}
 use Rattle.rz_unlay_pieces.proofs.solve.+solve_all.Goals as goal
 
@@ -23,9 +22,3 @@ returns-then-branch-clause-known t c =
     ∙ both_solved solved c.in-Binary.field-0 (term_of c.in-Binary.left.value) (term_of c.in-Binary.right.value) (known c.args.notes.now.items) more first
     ∙ ap (λ (e : Expr). solve_all solved (term_of e) (known c.args.notes.now.items)) (sym c.in-Binary.is))
     c.solve_all-then-branch.ensures.known
-
-pub returns-in-Name-clause-known : goal.returns-in-Name-clause-known
-returns-in-Name-clause-known t c =
-    let solved : Key → Environment → Option ℤ = λ key seen. solved_count c.args.width key (see c.args.facts.now no_bits seen) (term_of c.args.whole.now) c.args.stored in
-    place_solved solved c.args.notes.now.items c.in-Name._name.bytes (sym (ap (λ (e : Expr). is_fixed_expression (term_of e)) c.in-Name.is) ∙ c.requires.fixed)
-    ∙ ap (λ (e : Expr). solve_all solved (term_of e) (known c.args.notes.now.items)) (sym c.in-Name.is)
