@@ -1,0 +1,5 @@
+pub mod Drafting
+pub mod First
+pub mod Where
+pub mod Counts
+pub mod Left

@@ -1,0 +1,100 @@
+-- The pieces of a row in one list, and how they are drafted one after the other. (MPW Rez.)
+use Rattle.std.specs.Prelude.{ℕ, ◌+◌, if◌then◌else◌, List, [], ◌∷◌, ◌++◌, Option, Ok}
+use Rattle.std.specs.declared.result.Result.{Result}
+use Rattle.rz_core.specs.Stop.{◌>>=◌}
+use Rattle.rz_core.specs.declared.facts.Facts.{Facts}
+use Rattle.rz_types_fields.specs.Field.{case_and, field_and, no_cases, no_fields, takes_value, Align, Array, Fill, Label, Number, PlainBody, PlainCases, PlainField, Points, Switch, Text}
+use Rattle.rz_types_fields.specs.Laid.{enter, first_value, lay, leave, line_in, nothing_laid, other_values, rows_in, takes_one, Draft, Refusal}
+use Rattle.rz_types_fields.specs.Piece.{pieces_of, Piece}
+use Rattle.rz_types_fields.specs.Spells.{is_case, values_for}
+use Rattle.rz_types_fields.specs.declared.tree.Tree.{Tree}
+
+-- one step through a row: a piece with its value or none, the front of a body with its values, or the end of a body; from its
+-- front to its end a body has names of its own
+pub data Step : Type 0 where
+  Lays : (piece : Piece) (value : Option Tree) → Step
+  Begins : (body : PlainBody) (values : List Tree) → Step
+  Ends : (body : PlainBody) → Step
+
+-- The list.
+
+-- pieces in order, each with the next value where it takes one
+abbrev pub flat_pieces : List Piece → List Tree → List Step
+flat_pieces [] values = []
+flat_pieces (piece ∷ pieces) values = Lays piece (first_value (takes_one piece) values) ∷ flat_pieces pieces (other_values (takes_one piece) values)
+
+-- the steps of a body between its front and its end
+abbrev pub between : PlainBody → List Tree → List Step → List Step
+between body values steps = Begins body values ∷ (steps ++ Ends body ∷ [])
+
+-- the steps of rows, one row after the other
+abbrev pub flat_rows : (List Tree → List Step) → List (List Tree) → List Step
+flat_rows row [] = []
+flat_rows row (line ∷ lines) = row line ++ flat_rows row lines
+
+abbrev mutual
+  -- the pieces of a field: an array is the pieces of its rows, and a switch those of the case that is chosen
+  pub flat_field : PlainField → Option Tree → List Step
+  flat_field (Number number) value = flat_pieces (pieces_of (Number number)) (values_for (Number number) value)
+  flat_field (Text text) value = flat_pieces (pieces_of (Text text)) (values_for (Text text) value)
+  flat_field (Points points) value = flat_pieces (pieces_of (Points points)) (values_for (Points points) value)
+  flat_field (Fill unit count) value = flat_pieces (pieces_of (Fill unit count)) (values_for (Fill unit count) value)
+  flat_field (Align unit) value = flat_pieces (pieces_of (Align unit)) (values_for (Align unit) value)
+  flat_field (Label name) value = flat_pieces (pieces_of (Label name)) (values_for (Label name) value)
+  flat_field (Array name count row) value = flat_rows (λ line. between row line (flat row line)) (rows_in value)
+  flat_field (Switch cases) value = flat_case cases value
+
+  pub flat_case : PlainCases → Option Tree → List Step
+  flat_case no_cases value = []
+  flat_case (case_and name row others) value =
+      if is_case name value then between row (line_in value) (flat row (line_in value)) else flat_case others value
+
+  -- the pieces of the fields of a body, each field with the next value where it takes one
+  pub flat : PlainBody → List Tree → List Step
+  flat no_fields values = []
+  flat (field_and field fields) values =
+      flat_field field (first_value (takes_value field) values) ++ flat fields (other_values (takes_value field) values)
+
+-- the steps of a whole row
+abbrev pub flat_row : PlainBody → List Tree → List Step
+flat_row body row = between body row (flat body row)
+
+-- the number of pieces among steps
+abbrev pub pieces_in : List Step → ℕ
+pieces_in [] = 0
+pieces_in (Lays piece value ∷ steps) = pieces_in steps + 1
+pieces_in (Begins body values ∷ steps) = pieces_in steps
+pieces_in (Ends body ∷ steps) = pieces_in steps
+
+-- The drafts.
+
+-- the draft of the innermost body, and the drafts of the bodies around it as they were at its front, the nearest first
+pub record Drafts : Type 0 where
+  pub inner : Draft
+  pub around : List Draft
+
+abbrev pub nothing_drafted : Drafts
+nothing_drafted = record { inner = nothing_laid; around = [] }
+
+-- so much of the innermost body, with the same bodies around it
+abbrev pub within_bodies : Drafts → Draft → Drafts
+within_bodies drafts inner = record { inner = inner; around = drafts.around }
+
+-- with no body around it
+abbrev pub alone : Result Draft Refusal → Result Drafts Refusal
+alone laid = laid >>= λ draft. Ok (record { inner = draft; around = [] })
+
+-- the body around goes on behind what is laid of the one within it
+abbrev pub ended : PlainBody → Draft → List Draft → Drafts
+ended body inner [] = record { inner = inner; around = [] }
+ended body inner (outer ∷ others) = record { inner = leave body outer inner; around = others }
+
+abbrev pub step_drafted : Facts → Drafts → Step → Result Drafts Refusal
+step_drafted known drafts (Lays piece value) = lay known drafts.inner piece value >>= λ next. Ok (within_bodies drafts next)
+step_drafted known drafts (Begins body values) = Ok (record { inner = enter body values drafts.inner; around = drafts.inner ∷ drafts.around })
+step_drafted known drafts (Ends body) = Ok (ended body drafts.inner drafts.around)
+
+-- steps one after the other, or the refusal of the first piece that isn't laid
+abbrev pub steps_drafted : Facts → Drafts → List Step → Result Drafts Refusal
+steps_drafted known drafts [] = Ok drafts
+steps_drafted known drafts (step ∷ steps) = step_drafted known drafts step >>= λ next. steps_drafted known next steps
