@@ -3,12 +3,12 @@
 ghost use Rattle.std.specs.Prelude.{◌≡◌, ◌<◌, ℕ, List, length, map, Err, IfErr, IfOk, IfSome};
 ghost use Rattle.rz_tools_answer.specs.Warning.{AreWarnings};
 ghost use Rattle.rz_core.specs.Message.{IsNameable};
-ghost use Rattle.rz_core.specs.Stop.{OnFault, IsReadFault, OnRefusal, halted, left, Yields};
+ghost use Rattle.rz_core.specs.Stop.{OnFault, IsReadFault, Meets, OnRefusal, halted, left, seen, Yields};
 ghost use Rattle.rz_folder.specs.OnlyReads.{OnlyReads};
 ghost use Rattle.rz_lex.specs.Lexeme.{AreLexed};
 ghost use Rattle.rz_lex.specs.Within.{AreWithin};
 ghost use Rattle.rz_lex.specs.declared.token.Token.{Token};
-ghost use Rattle.rz_stmt.specs.Grammar.{statement_of};
+ghost use Rattle.rz_stmt.specs.Grammar.{statement_of, IsPlacedStatement, IsShapedStatement, Parses};
 ghost use Rattle.rz_stmt.specs.Statements.{AreStatements};
 ghost use Rattle.rz_tools_values.specs.Around.{around};
 ghost use Rattle.rz_tools_work.specs.Held.{work_of};
@@ -84,28 +84,28 @@ fn step<F: Folder>(
         start: 0,
         end: tokens.len(),
     };
-    step_at(alloc, folder, paths, &tokens, span, setting, work)
+    step_at(alloc, folder, paths, tokens, span, setting, work)
 }
 
-/// What the statement does that stands there.
+/// What the statement does that stands there. The tokens end where it is read.
 fn step_at<F: Folder>(
     alloc: Global,
     folder: &mut F,
     paths: &FileNames,
-    tokens: &Tokens,
+    tokens: Tokens,
     span: Span,
     setting: Setting,
     work: &mut Work,
 ) -> Result<(), Halt<Fault>>
-    requires span { IsSpan tokens.now span }
-    requires lexed { AreLexed tokens.now }
-    ensures stepped { IfSome (F.files folder.old) (λ files. Yields (with_work (work_of work.new) result) (Steps (around setting paths.now files) (work_of work.old) (tokens_at tokens.now span))) }
-    ensures nameable { (files : ℕ) → AreWithin files tokens.now → OnRefusal result (IsNameable files) }
-    ensures warned { (files : ℕ) → AreWithin files tokens.now → AreWarnings files work.old.warnings → AreWarnings files work.new.warnings }
+    requires span { IsSpan tokens span }
+    requires lexed { AreLexed tokens }
+    ensures stepped { IfSome (F.files folder.old) (λ files. Yields (with_work (work_of work.new) result) (Steps (around setting paths.now files) (work_of work.old) (tokens_at tokens span))) }
+    ensures nameable { (files : ℕ) → AreWithin files tokens → OnRefusal result (IsNameable files) }
+    ensures warned { (files : ℕ) → AreWithin files tokens → AreWarnings files work.old.warnings → AreWarnings files work.new.warnings }
     ensures reads { OnlyReads F.files F.read_faults F.write_faults folder.old folder.new (IsReadFault result) }
 {
     let mark = tokens.at(span.start).mark;
-    match parse(alloc, tokens, span) {
+    match statement_at(alloc, tokens, span) {
         Ok(stmt) => match done_by(setting.tool, stmt) {
             Stmt::Empty => Ok(()),
             Stmt::Raw(raw) => {
@@ -125,6 +125,18 @@ fn step_at<F: Folder>(
         },
         Err(stop) => halted(Err(stop)),
     }
+}
+
+/// The statement that stands there, or its first fault; the tokens end with it, so that no one holds them while the
+/// statement is done.
+fn statement_at(alloc: Global, tokens: Tokens, span: Span) -> Result<Stmt, Stop<Fault>>
+    requires { IsSpan tokens span }
+    ensures parsed { Meets (seen statement_of result) (Parses (tokens_at tokens span)) }
+    ensures nameable { (files : ℕ) → AreWithin files tokens → OnFault result (IsNameable files) }
+    ensures shaped { AreLexed tokens → IfOk result (λ stmt. IsShapedStatement (statement_of stmt)) }
+    ensures placed { (files : ℕ) → AreWithin files tokens → IfOk result (λ stmt. IsPlacedStatement files (statement_of stmt)) }
+{
+    parse(alloc, &tokens, span)
 }
 
 /// What a tool does of a statement: DeRez declares types, and nothing else.

@@ -23,8 +23,8 @@ use Rattle.rz_tools.specs.Step.{tokens_at, IsListBehind}
 
 pub returns-in-Empty-clause-stepped : goal.returns-in-Empty-clause-stepped
 returns-in-Empty-clause-stepped g c = always (g.F.Folder.files c.args.folder.now) _ (λ files.
-    did (around c.args.setting c.args.paths.now files) (work_of c.args.work.now) (tokens_at c.args.tokens.now c.args.span) c.at.result.now.mark
-    (first_mark c.args.tokens.now c.args.span c.at.result.now c.requires.span c.at.ensures) (statement_of c.in-Ok.stmt) Empty c.in-Ok.ensures.parsed c.in-Empty.ensures
+    did (around c.args.setting c.args.paths.now files) (work_of c.args.work.now) (tokens_at c.args.tokens c.args.span) c.at.result.now.mark
+    (first_mark c.args.tokens c.args.span c.at.result.now c.requires.span c.at.ensures) (statement_of c.in-Ok.stmt) Empty c.in-Ok.ensures.parsed c.in-Empty.ensures
     (Ok tt) (work_of c.args.work.now) refl tt)
 
 pub returns-in-Raw-clause-stepped : goal.returns-in-Raw-clause-stepped
@@ -32,7 +32,7 @@ returns-in-Raw-clause-stepped g c = IfSome_then (g.F.Folder.files c.args.folder.
     let all = around c.args.setting c.args.paths.now files in
     let work = work_of c.args.work.now in
     let one = resource_of all c.at.result.now.mark (raw_of c.in-Raw.raw) in
-    listed all work (tokens_at c.args.tokens.now c.args.span) c.at.result.now.mark (first_mark c.args.tokens.now c.args.span c.at.result.now c.requires.span c.at.ensures)
+    listed all work (tokens_at c.args.tokens c.args.span) c.at.result.now.mark (first_mark c.args.tokens c.args.span c.at.result.now c.requires.span c.at.ensures)
     (statement_of c.in-Ok.stmt) (Data (raw_of c.in-Raw.raw)) c.in-Ok.ensures.parsed c.in-Raw.ensures
     (Then (λ made. made ≡ one) (λ resource answer. answer ≡ list_with c.at.result.now.mark c.args.setting.over work.list resource))
     (λ list is. ap (with_list work) (put_one c.at.result.now.mark c.args.setting.over work.list one list is)) c.put_made.result c.put_made.new.resources
@@ -41,7 +41,7 @@ returns-in-Raw-clause-stepped g c = IfSome_then (g.F.Folder.files c.args.folder.
 
 pub returns-in-Raw-clause-nameable : goal.returns-in-Raw-clause-nameable
 returns-in-Raw-clause-nameable g c files within =
-    let place = within_at files c.args.tokens.now c.args.span.start c.at.result.now within c.at.ensures in
+    let place = within_at files c.args.tokens c.args.span.start c.at.result.now within c.at.ensures in
     c.put_made.ensures.nameable files place (c.resource_of-made.ensures.nameable files place)
 
 pub returns-in-Raw-clause-reads : goal.returns-in-Raw-clause-reads
@@ -53,20 +53,20 @@ pub returns-in-List-clause-stepped : goal.returns-in-List-clause-stepped
 returns-in-List-clause-stepped g c = IfSome_then (g.F.Folder.files c.args.folder.now) c.list_step.ensures.stepped (λ files so.
     let all = around c.args.setting c.args.paths.now files in
     let work = work_of c.args.work.now in
-    listed all work (tokens_at c.args.tokens.now c.args.span) c.at.result.now.mark (first_mark c.args.tokens.now c.args.span c.at.result.now c.requires.span c.at.ensures)
+    listed all work (tokens_at c.args.tokens c.args.span) c.at.result.now.mark (first_mark c.args.tokens c.args.span c.at.result.now c.requires.span c.at.ensures)
     (statement_of c.in-Ok.stmt) (Lists (list_of c.in-List.stmt)) c.in-Ok.ensures.parsed c.in-List.ensures
     (λ list. list ≡ list_after all c.at.result.now.mark work.list (list_of c.in-List.stmt)) (λ list is. ap (with_list work) is) c.list_step.result c.list_step.new.resources so)
 
 pub returns-in-List-clause-nameable : goal.returns-in-List-clause-nameable
 returns-in-List-clause-nameable g c files within =
-    c.list_step.ensures.nameable files (within_at files c.args.tokens.now c.args.span.start c.at.result.now within c.at.ensures)
+    c.list_step.ensures.nameable files (within_at files c.args.tokens c.args.span.start c.at.result.now within c.at.ensures)
 
 pub returns-in-Compile-clause-stepped : goal.returns-in-Compile-clause-stepped
 returns-in-Compile-clause-stepped g c = IfSome_then (g.F.Folder.files c.args.folder.now) c.resource_of_items-made.ensures.resource (λ files so.
     let all = around c.args.setting c.args.paths.now files in
     let work = work_of c.args.work.now in
     let one = compile_of c.in-Compile.stmt in
-    listed all work (tokens_at c.args.tokens.now c.args.span) c.at.result.now.mark (first_mark c.args.tokens.now c.args.span c.at.result.now c.requires.span c.at.ensures)
+    listed all work (tokens_at c.args.tokens c.args.span) c.at.result.now.mark (first_mark c.args.tokens c.args.span c.at.result.now c.requires.span c.at.ensures)
     (statement_of c.in-Ok.stmt) (Compiles one) c.in-Ok.ensures.parsed c.in-Compile.ensures
     (IsListBehind all c.at.result.now.mark work.types work.list one) (λ list is. (list, is, refl)) c.put_made-in-Compile.result c.put_made-in-Compile.new.resources
     (put_of c.at.result.now.mark c.args.setting.over work.list (IsResource all c.at.result.now.mark work.types one) c.resource_of_items-made.result
@@ -74,7 +74,7 @@ returns-in-Compile-clause-stepped g c = IfSome_then (g.F.Folder.files c.args.fol
 
 pub returns-in-Compile-clause-nameable : goal.returns-in-Compile-clause-nameable
 returns-in-Compile-clause-nameable g c files within =
-    let place = within_at files c.args.tokens.now c.args.span.start c.at.result.now within c.at.ensures in
+    let place = within_at files c.args.tokens c.args.span.start c.at.result.now within c.at.ensures in
     c.put_made-in-Compile.ensures.nameable files place (c.resource_of_items-made.ensures.nameable files place
     (subst (IsPlacedStatement files) (sym c.in-Compile.ensures)
     (done_so (IsPlacedStatement files) c.args.setting.tool (statement_of c.in-Ok.stmt) tt (c.in-Ok.ensures.placed files within))))
@@ -94,8 +94,8 @@ pub returns-in-Declare-clause-stepped : goal.returns-in-Declare-clause-stepped
 returns-in-Declare-clause-stepped g c = always (g.F.Folder.files c.args.folder.now) _ (λ files.
     let work = work_of c.args.work.now in
     let after = work_of c.declare_type.new.work in
-    did (around c.args.setting c.args.paths.now files) work (tokens_at c.args.tokens.now c.args.span) c.at.result.now.mark
-    (first_mark c.args.tokens.now c.args.span c.at.result.now c.requires.span c.at.ensures) (statement_of c.in-Ok.stmt) (Declares (declare_of c.in-Declare.stmt))
+    did (around c.args.setting c.args.paths.now files) work (tokens_at c.args.tokens c.args.span) c.at.result.now.mark
+    (first_mark c.args.tokens c.args.span c.at.result.now c.requires.span c.at.ensures) (statement_of c.in-Ok.stmt) (Declares (declare_of c.in-Declare.stmt))
     c.in-Ok.ensures.parsed c.in-Declare.ensures c.halted.result after
     (went_as (λ answer. answer ≡ declared c.args.setting c.at.result.now.mark work (declare_of c.in-Declare.stmt)) c.declare_type.result c.halted.result after
     c.halted.ensures.halted c.declare_type.ensures.declared)
@@ -103,13 +103,13 @@ returns-in-Declare-clause-stepped g c = always (g.F.Folder.files c.args.folder.n
 
 pub returns-in-Declare-clause-nameable : goal.returns-in-Declare-clause-nameable
 returns-in-Declare-clause-nameable g c files within =
-    c.halted.ensures.nameable files (c.declare_type.ensures.nameable files (within_at files c.args.tokens.now c.args.span.start c.at.result.now within c.at.ensures))
+    c.halted.ensures.nameable files (c.declare_type.ensures.nameable files (within_at files c.args.tokens c.args.span.start c.at.result.now within c.at.ensures))
 
 pub returns-in-Declare-clause-warned : goal.returns-in-Declare-clause-warned
 returns-in-Declare-clause-warned g c files within are =
-    c.declare_type.ensures.warned files (within_at files c.args.tokens.now c.args.span.start c.at.result.now within c.at.ensures) are
+    c.declare_type.ensures.warned files (within_at files c.args.tokens c.args.span.start c.at.result.now within c.at.ensures) are
 
 pub returns-in-Err-clause-stepped : goal.returns-in-Err-clause-stepped
 returns-in-Err-clause-stepped g c = always (g.F.Folder.files c.args.folder.now) _ (λ files.
-    stopped (around c.args.setting c.args.paths.now files) (work_of c.args.work.now) (tokens_at c.args.tokens.now c.args.span) c.in-Err.stop c.halted-in-Err.result
+    stopped (around c.args.setting c.args.paths.now files) (work_of c.args.work.now) (tokens_at c.args.tokens c.args.span) c.in-Err.stop c.halted-in-Err.result
     c.in-Err.ensures.parsed c.halted-in-Err.ensures.halted)
