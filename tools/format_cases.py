@@ -187,7 +187,8 @@ def types():
                                ("a text that is too long", 'pstring = $$Format("%s", "' + "a" * 256 + '");', "2: error 216 TextTooLong: 256")]:
         rez("type: " + name, "type 'Test' { %s };\nresource 'Test' (7) { };\n" % fields, err=says)
     rez("type: a number of rows of no array", "type 'Test' { pstring = $$Format(\"%d\", $$CountOf(rows)); };\n", err='1: error 212 UnknownLabel: "rows"')
-    for name, fields in [("a name", 'pstring = $$Format("%d", other);'), ("$$Read", 'pstring = $$Read("f");'), ("$$Resource", "pstring = $$Resource(\"f\", 'Test', 1);"),
+    rez("type: a name of no label", "type 'Test' { pstring = $$Format(\"%d\", other); };\n", err='1: error 212 UnknownLabel: "other"')
+    for name, fields in [("$$Read", 'pstring = $$Read("f");'), ("$$Resource", "pstring = $$Resource(\"f\", 'Test', 1);"),
                          ("$$Read in a format", 'pstring = $$Format("%s", $$Read("f"));')]:
         rez("type: no " + name, "type 'Test' { %s };\n" % fields, err="1: error 201 Syntax", files=[("f", b"held")])
     BOOK.say("What derez shows where a fixed text has a format.")

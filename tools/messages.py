@@ -4,15 +4,13 @@
     python3 tools/messages.py
 
 Each fault that crates/rz_core/src/message.rt names has a row of a table in docs/MESSAGES.md, which begins with its
-number and name, and a line of output there; those of NOT_YET, which no command gives today, have neither. tools/tour.py
-looks whether the commands there print these lines. What is wrong is printed, and the status is 1 if anything is.
+number and name, and a line of output there. tools/tour.py looks whether the commands there print these lines. What is wrong is printed, and the status is 1 if anything is.
 """
 import os
 import re
 import sys
 
 TOP = os.path.join(os.path.dirname(os.path.abspath(__file__)), "..")
-NOT_YET = {213, 214, 230}
 
 
 def text_of(path):
@@ -25,15 +23,14 @@ def main():
     text = text_of("docs/MESSAGES.md")
     rows = re.findall(r"^\| (\d{3}) (\w+)", text, re.M)
     lines = set(re.findall(r"^rezkit: .*?(?:error|warning) (\d{3}) (\w+)", text, re.M))
-    wanted = {(number, name) for number, name in named if int(number) not in NOT_YET}
-    wrong = ["%s %s: no row" % fault for fault in sorted(wanted - set(rows))]
-    wrong += ["%s %s: no line that a command prints" % fault for fault in sorted(wanted - lines)]
-    wrong += ["%s %s: a row, but no fault of today" % fault for fault in sorted(set(rows) - wanted)]
+    wrong = ["%s %s: no row" % fault for fault in sorted(named - set(rows))]
+    wrong += ["%s %s: no line that a command prints" % fault for fault in sorted(named - lines)]
+    wrong += ["%s %s: a row, but no fault of today" % fault for fault in sorted(set(rows) - named)]
     wrong += ["%s %s: two rows" % fault for fault in sorted(set(rows)) if rows.count(fault) > 1]
     for line in wrong:
         print(line)
-    print("%d messages, %d faults" % (len(wanted), len(wrong)))
-    sys.exit(1 if wrong or not wanted else 0)
+    print("%d messages, %d faults" % (len(named), len(wrong)))
+    sys.exit(1 if wrong or not named else 0)
 
 
 if __name__ == "__main__":

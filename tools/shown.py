@@ -14,7 +14,7 @@ A declaration is a list of fields, each a dictionary:
     {"is": "number", "form", "width", "unsigned", "radix", "symbols": [(name, value)], "fixed", "key"}
     {"is": "text", "form", "hex", "size", "fixed"}        {"is": "points", "count", "fixed"}
     {"is": "fill", "bits"}    {"is": "align", "bits"}     {"is": "array", "name", "count", "row"}
-    {"is": "switch", "cases": [(name, fields)]}
+    {"is": "switch", "cases": [(name, fields)]}           {"is": "label", "name"}
 
 where fixed values and sizes are expressions: numbers, names in lower case, and tuples of an operator and operands.
 """
@@ -149,6 +149,13 @@ class Reader:
             name = self.next().lower()
             self.want(")")
             return ("count", name)
+        if token.lower() in ("$$bitfield", "$$byte", "$$word", "$$long"):
+            self.want("(")
+            bits = ("bits", self.next().lower())
+            while self.take(","):
+                bits += (self.expression(),)
+            self.want(")")
+            return bits
         if token[0] == "'" or token[0] == '"':
             return int.from_bytes(bytes_of(token), "big")
         if token[0] == "$" and token[1] != "$":
@@ -169,6 +176,10 @@ class Reader:
         return out
 
     def field(self):
+        if self.peek(1) == ":":
+            name = self.next().lower()
+            self.want(":")
+            return {"is": "label", "name": name}
         if self.peek() in ("fill", "align"):
             word, unit = self.next().lower(), UNITS[self.next().lower()]
             count = 1
@@ -451,7 +462,15 @@ def expressions_of(field):
     return field["fixed"] if field["is"] == "points" else [field["fixed"]]
 
 
+def has_label(fields):
+    """A label stands among the fields or those within them; no type with one can be read."""
+    inner = [row for field in fields for row in ([field["row"]] if field["is"] == "array" else [each for _, each in field.get("cases", ())])]
+    return any(field["is"] == "label" for field in fields) or any(has_label(row) for row in inner)
+
+
 def is_readable(fields, known=frozenset(), outermost=True):
+    if has_label(fields):
+        return False
     for at, field in enumerate(fields):
         rest = fields[at + 1:]
         if field["is"] in ("number", "points"):
