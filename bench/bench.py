@@ -208,6 +208,26 @@ def write_inner_data(folder, rng, size):
     return fork_length({("Rows", 0): 4 + 11 * count})
 
 
+def write_sizes(folder, rng, size):
+    """One array, each row of a string whose size is read from a number before the array."""
+    count = size // len('"abc";\n')
+    with open(os.path.join(folder, "main.r"), "w") as source:
+        source.write("type 'Size' { n: integer; array { string[$$Word(n)]; }; };\nresource 'Size' (0) { 5, {\n")
+        source.writelines('"%s";\n' % rng.choice(("abc", "def", "xyz")) for _ in range(count))
+        source.write("} };\n")
+    return fork_length({("Size", 0): 2 + 5 * count})
+
+
+def write_late(folder, rng, size):
+    """One array, each row of two numbers and the place of a label behind the array."""
+    count = size // len("100, 100;\n")
+    with open(os.path.join(folder, "main.r"), "w") as source:
+        source.write("type 'Late' { array { longint = e; byte; byte; }; e: };\nresource 'Late' (0) { {\n")
+        source.writelines("%d, %d;\n" % (rng.randrange(100, 256), rng.randrange(100, 256)) for _ in range(count))
+        source.write("} };\n")
+    return fork_length({("Late", 0): 6 * count})
+
+
 def write_fork(folder, rng, size):
     """A fork of 4,000 resources in 500 types. Gives the length of its text."""
     count, kinds = 4000, 500
@@ -323,6 +343,8 @@ def main():
         ("rowsdata", write_rows_data),
         ("inner", write_inner),
         ("innerdata", write_inner_data),
+        ("sizes", write_sizes),
+        ("late", write_late),
         ("fork", write_fork),
     )
     print("%s, seed %d, %d cores" % (program, seed, os.cpu_count()))
