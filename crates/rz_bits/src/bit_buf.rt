@@ -1,6 +1,7 @@
 //! A list of bits that grows at its end and becomes bytes. See `specs/Bits` and `specs/BitBuf`.
 
-ghost use Rattle.std.specs.Prelude.{◌≡◌, ◌+◌, ◌^◌, ◌<◌, ◌≤◌, [], ◌++◌, length, take, drop, IfSome, OnOk, OnErr};
+ghost use Rattle.std.specs.Prelude.{◌≡◌, ◌+◌, ◌^◌, ◌<◌, ◌≤◌, ℕ, [], ◌++◌, length, take, drop, replicate, IfSome, OnOk, OnErr};
+ghost use Rattle.std.specs.List.{list_any};
 ghost use Rattle.rz_bits.specs.Bits.{number_bits, bits_of, bytes_of};
 ghost use Rattle.rz_bits.specs.BitBuf.{missing, filled};
 ghost use Rattle.rz_bits.specs.View.{number_at};
@@ -56,6 +57,22 @@ impl BitBuf {
         Ok(())
     }
 
+    /// Appends a bit so many times, 32 at once. Where memory is refused those that were appended stay, and the others are
+    /// left. Its time is in proportion to the count.
+    pub fn push_many(&mut self, bit: bool, count: u32) -> Result<(), NoMemory>
+        requires room { length self.old + count < 2 ^ 31 }
+        ensures ok { OnOk result (self.new ≡ self.old ++ replicate count bit) }
+        ensures err { OnErr result ((left : ℕ) × (self.new ++ replicate left bit ≡ self.old ++ replicate count bit)) }
+    {
+        let bits = repeated(bit);
+        let mut left = count;
+        while left > 32 {
+            self.push(bits, 32)?;
+            left -= 32;
+        }
+        self.push(bits, left as u8)
+    }
+
     /// Appends the zero bits that are missing to the next multiple of `unit` bits, none at a multiple. Rez aligns
     /// to 4, 8, 16 and 32. Where memory is refused the list is unchanged.
     pub fn align(&mut self, unit: u8) -> Result<(), NoMemory>
@@ -79,6 +96,19 @@ impl BitBuf {
             return None;
         }
         Some(number_in(&self.bytes, place, width))
+    }
+
+    /// Whether one of so many bits from a place on, counted from 0, is set; behind the last bit none is. It looks at five
+    /// bytes at most.
+    pub fn any(&self, place: u32, width: u8) -> bool
+        requires { width ≤ 32 }
+        ensures { result ≡ list_any (λ bit. bit) (take width (drop place self.now)) }
+    {
+        if place >= self.count {
+            return false;
+        }
+        let there = (self.count - place).min(u32::from(width)) as u8;
+        number_in(&self.bytes, place, there) != 0
     }
 
     /// Writes the last `width` binary digits of a number over the bits from a place on, counted from 0. All other bits
@@ -108,4 +138,11 @@ impl BitBuf {
         are_read_back(&bytes);
         Bytes::from_vec(bytes)
     }
+}
+
+/// The number whose last 32 digits are all this bit.
+fn repeated(bit: bool) -> u32
+    ensures { (width : ℕ) → width ≤ 32 → number_bits width result ≡ replicate width bit }
+{
+    if bit { u32::MAX } else { 0 }
 }

@@ -29,6 +29,25 @@ const GOING_ON: [Option<(u32, u8)>; 4] = [
 pub fn add_bits(rt: &(impl Abort + AllocGlobal), wrong: &mut String) {
     add_steps(rt, &NUMBERS, 44, &[0x90, 0, 1, 0xFF, 0xFF, 0], wrong);
     add_steps(rt, &GOING_ON, 36, &[0xB1, 0x23, 0x45, 0x67, 0x80], wrong);
+    add_many(rt, wrong);
+}
+
+/// Appends zero bits and one bits, more than 32 at once, and adds them if they are others.
+fn add_many(rt: &(impl Abort + AllocGlobal), wrong: &mut String) {
+    let mut bits = BitBuf::new(rt.alloc());
+    bits.push_many(false, 35).expect(rt, "memory");
+    if bits.len() > MOST {
+        panic!(rt; "too long for a test");
+    }
+    bits.push_many(true, 34).expect(rt, "memory");
+    if bits.any(3, 32) || bits.any(69, 8) {
+        panic!(rt; "a bit is set");
+    }
+    if !bits.any(34, 2) || !bits.any(68, 32) {
+        panic!(rt; "no bit is set");
+    }
+    let wanted = [0, 0, 0, 0, 0x1F, 0xFF, 0xFF, 0xFF, 0xF8];
+    add_if_wrong("many bits", &wanted, bits.finish().as_slice(), wrong).expect(rt, "memory");
 }
 
 /// Appends digits and zero bits in turn, and adds how many bits come and their bytes if they are others.
