@@ -79,7 +79,7 @@ entered_counts scope row line outer gives = record {
 -- Late numbers have the names of their body and of those around it in the end.
 
 abbrev pub IsGiven : Own → LateNumber → Type 0
-IsGiven scope one = (names : Environment) → GivesOwn scope names → all_known (met_in (one.names names)) one.term ≡ true
+IsGiven scope one = (names : Environment) → GivesOwn scope names → all_known (met_in (one.names names)) (met_in (one.names names)) one.term ≡ true
 
 module _ (scope : Own) (row : PlainBody) (own outer : Environment) (gives : (key : Key) → declares row key ≡ true → is_some (own.give key) ≡ true) (around : GivesOwn scope outer) where
   abbrev within : Environment

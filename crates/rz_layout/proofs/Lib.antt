@@ -3,7 +3,6 @@ pub mod Groups
 pub mod Rows
 pub mod Room
 pub mod Noted
-pub mod Marks
 pub mod Fills
 pub mod Forms
 pub mod Stands

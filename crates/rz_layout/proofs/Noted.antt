@@ -13,7 +13,8 @@ use Rattle.rz_layout.specs.declared.fault.LayFault.{LayFault}
 use Rattle.rz_types_fields.specs.Spells.{most_bits}
 use Rattle.rz_types_fields.specs.declared.tree.Tree.{Tree}
 use Rattle.rz_expr.specs.Environment.{Environment, Key}
-use Rattle.rz_layout.specs.Laid.{draft_of, has_name, has_names, kept_late, marked, IsEntered, IsLeft, IsNotedBy, IsShort}
+use Rattle.rz_types_fields.specs.Sees.{marked}
+use Rattle.rz_layout.specs.Laid.{draft_of, has_name, has_names, kept_late, IsEntered, IsLeft, IsNotedBy, IsShort}
 use Rattle.rz_layout.specs.Late.{behind_notes, closed_by, numbers_in}
 use Rattle.rz_layout.specs.declared.laid.Laid.{Laid}
 use Rattle.rz_layout.specs.declared.late.Late.{Late as HeldLate}

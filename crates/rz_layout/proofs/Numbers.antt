@@ -192,9 +192,9 @@ module _ (known : Facts) (draft : Draft) where
       (λ size. then_known (bytes_given known draft text.fixed value) _ (bytes_known text.fixed each.1 value) (λ bytes. laid_known draft.piece text.form size bytes)))
 
 -- With the values of expressions.
-module _ (values : (sight : Sight) (term : Term) → all_known (met_in sight.names) term ≡ true → NamesNothing (value_of term sight))
-    (names_end : (scope : Own) (names : Environment) (term : Term) → GivesOwn scope names → unknown_name scope term ≡ None → all_known (met_in names) term ≡ true)
-    (names_early : (scope : Own) (names : Environment) (term : Term) → GivesCounts scope.arrays names → unknown_name scope term ≡ None → names_later (met_in names) term ≡ false → all_known (met_in names) term ≡ true)
+module _ (values : (sight : Sight) (term : Term) → all_known (met_in sight.names) (met_in sight.names) term ≡ true → NamesNothing (value_of term sight))
+    (names_end : (scope : Own) (names : Environment) (term : Term) → GivesOwn scope names → unknown_name scope term ≡ None → all_known (met_in names) (met_in names) term ≡ true)
+    (names_early : (scope : Own) (names : Environment) (term : Term) → GivesCounts scope.arrays names → unknown_name scope term ≡ None → names_later (met_in names) term ≡ false → all_known (met_in names) (met_in names) term ≡ true)
     (known : Facts) where
   -- what stands in a draft: numbers of rows, and names for late numbers
   record Ready (scope : Own) (draft : Draft) : Type 0 where

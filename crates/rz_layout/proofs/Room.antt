@@ -12,7 +12,8 @@ use Rattle.std.proofs.lemmas.List.{append_assoc, append-nil, length-append, leng
 use Rattle.rz_bits.specs.BitBuf.{zeros}
 use Rattle.rz_bits.specs.Bits.{number_bits}
 use Rattle.rz_expr.specs.Environment.{Environment}
-use Rattle.rz_layout.specs.Laid.{marked, with_bits, with_late, HasRoom}
+use Rattle.rz_types_fields.specs.Sees.{marked}
+use Rattle.rz_layout.specs.Laid.{with_bits, with_late, HasRoom}
 use Rattle.rz_layout.specs.Sound.{IsWidth}
 use Rattle.rz_expr.specs.Term.{Term}
 use Rattle.rz_types_fields.specs.declared.field.NumForm.{NumForm}

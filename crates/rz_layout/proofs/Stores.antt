@@ -1,28 +1,15 @@
 -- Zero bits and the bits of bytes, one part after the other.
-use Rattle.std.proofs.Common.{◌≡◌, ℕ, zero, suc, ◌+◌, ◌-◌, ◌*◌, ◌/◌, ◌%◌, ◌^◌, ◌<◌, ◌≤◌, ◌==◌, Bool, true, false, List, [], ◌∷◌, ◌++◌, length, get_or, take, drop, Result, Ok, Err, Option, Some, None, refl, sym, ap, subst, ◌∙◌, arith}
+use Rattle.std.proofs.Common.{◌≡◌, ℕ, zero, suc, ◌+◌, ◌-◌, ◌*◌, ◌<◌, ◌≤◌, Bool, false, List, [], ◌∷◌, ◌++◌, length, get_or, take, drop, Result, Ok, Err, Option, Some, None, refl, sym, ap, subst, ◌∙◌, arith}
 use Rattle.std.specs.Prelude.{replicate, OnOk}
 use Rattle.std.proofs.lemmas.List.{append_assoc, append-nil, drop_more, length-append, length-replicate, length-take, replicate-append-replicate, take_all}
 use Rattle.rz_bits.specs.Bits.{bits_of, number_bits}
 use Rattle.rz_bits.specs.BitBuf.{zeros}
+use Rattle.rz_bits.proofs.Numbers.{number_bits-zero}
 use Rattle.rz_layout.specs.Text.{sized_length, stored_length}
 use Rattle.rz_types_fields.specs.declared.field.TextForm.{TextForm}
 use Rattle.rz_types_fields.specs.declared.field.TextForm.TheVariants as forms
 use Rattle.rz_types_fields.specs.Stored.{before_zero, sized, stored_text, to_size}
 use Rattle.rz_layout.proofs.Room.{length_number}
-
-zero_div : (n : ℕ) → 0 / n ≡ 0
-zero_div n = grind (arith)
-
--- the digits of 0
-pub number_zero : (width : ℕ) → number_bits width 0 ≡ zeros width
-unfolding number_bits
-number_zero zero = refl
-number_zero (suc width) = λ i. ((zero_div (2 ^ width) i) % 2 == 1) ∷ number_zero width i
-
-pub zeros_more : (bits after all : List Bool) (width left count : ℕ) → after ≡ bits ++ number_bits width 0 → bits ++ zeros (width + left) ≡ all → after ++ zeros left ≡ all
-zeros_more bits after all width left count is so =
-    ap (λ bs. bs ++ zeros left) (is ∙ ap (λ z. bits ++ z) (number_zero width)) ∙ append_assoc bits (zeros width) (zeros left)
-    ∙ ap (λ z. bits ++ z) (replicate-append-replicate width left false) ∙ so
 
 pub append_bits : (one other : List ℕ) → bits_of (one ++ other) ≡ bits_of one ++ bits_of other
 append_bits [] other = refl
@@ -37,7 +24,7 @@ length_bits (byte ∷ bytes) =
 pub zero_bytes : (count : ℕ) → bits_of (replicate count 0) ≡ zeros (8 * count)
 zero_bytes zero = refl
 zero_bytes (suc count) =
-    (λ i. number_zero 8 i ++ zero_bytes count i) ∙ replicate-append-replicate 8 (8 * count) false ∙ ap zeros (omega (arith))
+    (λ i. number_bits-zero 8 i ++ zero_bytes count i) ∙ replicate-append-replicate 8 (8 * count) false ∙ ap zeros (omega (arith))
 
 -- one byte more
 pub byte_more : (bits after all : List Bool) (bytes : List ℕ) (i : ℕ) → i < length bytes → after ≡ bits ++ number_bits 8 (get_or bytes i 0)
@@ -54,30 +41,6 @@ byte_room bits after byte i count less is room =
     let size : length after ≡ length bits + 8 = ap length is ∙ length-append bits (number_bits 8 byte) ∙ ap (λ n. length bits + n) (length_number 8 byte) in
     let split : count - i ≡ suc (count - (i + 1)) = omega (arith, less) in
     omega (arith, size, split, room, less)
-
--- one more one bit
-pub ones_more : (bits after all : List Bool) (left : ℕ) → 0 < left → after ≡ bits ++ number_bits 1 1 → bits ++ replicate left true ≡ all → after ++ replicate (left - 1) true ≡ all
-unfolding number_bits
-ones_more bits after all zero some is so = absurd (omega arith)
-ones_more bits after all (suc left) some is so =
-    let e : suc left - 1 ≡ left = omega arith in
-    ap (λ (n : ℕ). after ++ replicate n true) e
-    ∙ ap (λ (bs : List Bool). bs ++ replicate left true) is
-    ∙ append_assoc bits (true ∷ []) (replicate left true)
-    ∙ so
-
-pub ones_room : (bits after : List Bool) (left : ℕ) → 0 < left → after ≡ bits ++ number_bits 1 1 → length bits + left < 2147483648 → length after + (left - 1) < 2147483648
-ones_room bits after left some is room =
-    let size : length after ≡ length bits + 1 = ap length is ∙ length-append bits (number_bits 1 1) ∙ ap (λ n. length bits + n) (length_number 1 1) in
-    omega (arith, size, some, room)
-
-pub zeros_last : (bits after all : List Bool) (width : ℕ) → after ≡ bits ++ number_bits width 0 → bits ++ zeros width ≡ all → after ≡ all
-zeros_last bits after all width is so = is ∙ ap (λ z. bits ++ z) (number_zero width) ∙ so
-
-pub zeros_room : (bits after : List Bool) (left : ℕ) → 32 < left → after ≡ bits ++ number_bits 32 0 → length bits + left < 2147483648 → length after + (left - 32) < 2147483648
-zeros_room bits after left more is room =
-    let size : length after ≡ length bits + 32 = ap length is ∙ length-append bits (number_bits 32 0) ∙ ap (λ n. length bits + n) (length_number 32 0) in
-    omega (arith, size, more, room)
 
 -- a size cuts or fills
 pub length_sized : (size : ℕ) (bytes : List ℕ) → length (sized size bytes) ≡ size

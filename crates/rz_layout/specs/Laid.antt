@@ -1,5 +1,5 @@
 -- What the code has laid, and what a call gives of it.
-use Rattle.std.specs.Prelude.{◌≡◌, ℕ, ◌+◌, ◌-◌, ◌≤◌, ◌<◌, ℤ, nat_abs, Bool, true, false, List, [], ◌∷◌, ◌++◌, ◌||◌, length, map, take, drop, replicate, Option, None, Some, Ok, Err}
+use Rattle.std.specs.Prelude.{◌≡◌, ℕ, ◌+◌, ◌≤◌, ◌<◌, ℤ, nat_abs, Bool, true, false, List, [], ◌∷◌, ◌++◌, ◌||◌, length, map, take, drop, Option, None, Some, Ok, Err}
 use Rattle.std.specs.Borrow.{Bor}
 use Rattle.std.specs.Option.{is_some}
 use Rattle.std.specs.declared.result.Result.{Result}
@@ -28,13 +28,9 @@ use Rattle.rz_types_fields.specs.Piece.{Place, Zeros}
 use Rattle.rz_layout.specs.declared.late.Late.{Late as HeldLate}
 use Rattle.rz_types_fields.specs.declared.field.Field.{Field}
 use Rattle.rz_types_fields.specs.declared.names.Note.TheVariants.{Entered}
-use Rattle.rz_types_fields.specs.Sees.{Late}
+use Rattle.rz_types_fields.specs.Sees.{marked}
 use Rattle.rz_types_fields.specs.Spells.{most_bits}
 use Rattle.rz_types_fields.specs.Field.{field_and, no_fields, plain_body, Array, Label, PlainBody, PlainField, PlainText}
-
--- a mark for each of so many bits, where those behind the marks aren't late
-abbrev pub marked : ℕ → List Bool → Late
-marked count marks = marks ++ replicate (count - length marks) false
 
 abbrev pub draft_of : Laid → Draft
 draft_of laid = record {

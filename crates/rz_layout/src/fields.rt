@@ -26,8 +26,8 @@ use rz_bits::{
     numbers_are_read_back, numbers_are_written_back,
 };
 use rz_core::{Bytes, Facts, Listing, Stop};
+use rz_types::values::{choice_in, line_in, next_value, rows_in};
 use rz_types::{Case, Field, Template, named_values_are_there, rules_hold_within, takes_value};
-use rz_types_fields::values::{choice_in, line_in, next_value, rows_in};
 use rz_types_fields::{Row, Tree};
 use std::alloc::Global;
 use std::mem;

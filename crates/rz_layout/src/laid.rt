@@ -12,7 +12,6 @@ ghost use Rattle.rz_types_fields.specs.Laid.{in_bytes, nothing_laid, one_more};
 
 use crate::LayFault;
 use crate::late::{Late, LateNumber, Lates, note_place};
-use crate::store::{push_ones, push_zeros};
 use rz_bits::{BitBuf, missing};
 use rz_core::{Listing, Stop, Word};
 use rz_expr::Expr;
@@ -85,7 +84,7 @@ impl<'a> Laid<'a> {
             Ok(()) => {}
             Err(stop) => return Err(stop),
         }
-        push_zeros(&mut self.bits, count as u32)?;
+        self.bits.push_many(false, count as u32)?;
         self.piece = one_more(self.piece);
         Ok(())
     }
@@ -141,9 +140,9 @@ impl<'a> Laid<'a> {
             term,
         }))?;
         let before = at - self.marks.len();
-        push_zeros(&mut self.marks, before)?;
-        push_ones(&mut self.marks, width as u32)?;
-        push_zeros(&mut self.bits, width as u32)?;
+        self.marks.push_many(false, before)?;
+        self.marks.push_many(true, width as u32)?;
+        self.bits.push_many(false, width as u32)?;
         self.piece = one_more(self.piece);
         Ok(())
     }

@@ -10,8 +10,8 @@ ghost use Rattle.rz_types_fields.specs.Passed.{declares, gives_count, gives_key}
 use crate::laid::Laid;
 use crate::late::{Late, Lates, push_lates, push_notes};
 use rz_core::{NoMemory, Word};
+use rz_types::values::{next_value, rows_in};
 use rz_types::{Field, takes_value};
-use rz_types_fields::values::{next_value, rows_in};
 use rz_types_fields::{Note, Row, Tree};
 use std::alloc::Global;
 use std::mem;

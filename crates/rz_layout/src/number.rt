@@ -16,9 +16,9 @@ use crate::laid::Laid;
 use crate::seen::{early_fault, names_later, reads_late, value_behind};
 use rz_core::{Facts, Stop};
 use rz_expr::Expr;
+use rz_types::values::number_in;
 use rz_types::{NumField, NumForm, fits_number, stored_number};
 use rz_types_fields::Tree;
-use rz_types_fields::values::number_in;
 
 /// Lays a number: that of the row, or the value of its expression.
 pub fn lay_number<'a>(

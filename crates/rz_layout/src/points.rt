@@ -17,9 +17,9 @@ use crate::laid::Laid;
 use crate::number::lay_value;
 use rz_core::{Facts, Stop};
 use rz_expr::Expr;
+use rz_types::values::group_in;
 use rz_types::{NumForm, PointField};
 use rz_types_fields::Tree;
-use rz_types_fields::values::group_in;
 
 /// Lays the numbers of a point or a rectangle: those of the row, or the values of its expressions.
 pub fn lay_points<'a>(

@@ -5,7 +5,7 @@ ghost use Rattle.rz_bits.specs.Bits.{bits_of};
 ghost use Rattle.rz_layout.specs.Text.{sized_length, stored_length};
 ghost use Rattle.rz_types.specs.Stored.{in_size, sized, stored_text, to_size};
 
-use crate::store::{push_bytes, push_zeros};
+use crate::store::push_bytes;
 use crate::text::before_zero;
 use rz_bits::BitBuf;
 use rz_core::NoMemory;
@@ -71,5 +71,5 @@ fn push_cut(bits: &mut BitBuf, size: usize, bytes: &[u8]) -> Result<(), NoMemory
         return push_bytes(bits, bytes.split_at(size).0);
     }
     push_bytes(bits, bytes)?;
-    push_zeros(bits, 8 * (size - bytes.len()) as u32)
+    bits.push_many(false, 8 * (size - bytes.len()) as u32)
 }

@@ -92,14 +92,7 @@ fn is_hit(marks: &BitBuf, first: u32, width: u8) -> bool
     requires { width ≤ 32 }
     ensures { result ≡ hit marks.now (pos first) (pos width) }
 {
-    if first >= marks.len() {
-        return false;
-    }
-    let seen = (marks.len() - first).min(u32::from(width)) as u8;
-    match marks.at(first, seen) {
-        Some(number) => number != 0,
-        None => false,
-    }
+    marks.any(first, width)
 }
 
 /// Whether an expression names a label that has no place yet.

@@ -21,9 +21,9 @@ use crate::seen::bytes_behind;
 use crate::valued::{later_in, unvalued_in};
 use rz_core::{Bytes, Facts, Kept, Stop};
 use rz_expr::Expr;
+use rz_types::values::text_in;
 use rz_types::{TextField, TextForm, Texts, is_too_long, may_be_size};
 use rz_types_fields::Tree;
-use rz_types_fields::values::text_in;
 use std::alloc::Global;
 
 /// Lays a text: the bytes of the row, or those of its fixed parts, in its stored form.

@@ -15,10 +15,8 @@ use crate::line::{deeper, write_close, write_comma, write_end, write_margin};
 use crate::number::{write_group, write_number};
 use crate::text::write_text;
 use rz_core::{Bytes, NoMemory};
+use rz_types::values::{choice_in, group_in, line_in, next_value, number_in, rows_in, text_in};
 use rz_types::{Case, Field, rules_hold_within, takes_value};
-use rz_types_fields::values::{
-    choice_in, group_in, line_in, next_value, number_in, rows_in, text_in,
-};
 use rz_types_fields::{Row, Tree};
 
 /// Appends the lines of a row's items, at a depth of so many levels: what stands between the braces of its statement.

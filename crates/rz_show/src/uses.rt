@@ -8,8 +8,8 @@ ghost use Rattle.rz_types.specs.Field.{plain_body, plain_cases, plain_field};
 
 use crate::Hidden;
 use rz_core::NoMemory;
+use rz_types::values::{choice_in, line_in, next_value, rows_in};
 use rz_types::{Case, Field, takes_value};
-use rz_types_fields::values::{choice_in, line_in, next_value, rows_in};
 use rz_types_fields::{Row, Tree};
 use std::alloc::Global;
 

@@ -76,11 +76,52 @@ format_behind = refl
 abbrev label : List ℕ → PlainField
 label name = Label (record { bytes = name })
 
-labelled : is_readable (field_and (number None) (field_and (label (codes "e")) no_fields)) ≡ false
+labelled : is_readable (field_and (number None) (field_and (label (codes "e")) no_fields)) ≡ true
 labelled = refl
 
-labelled_inside : is_readable (field_and (Array None (Some (pos 2)) (field_and (number None) (field_and (label (codes "e")) no_fields))) no_fields) ≡ false
+labelled_inside : is_readable (field_and (Array None (Some (pos 2)) (field_and (number None) (field_and (label (codes "e")) no_fields))) no_fields) ≡ true
 labelled_inside = refl
+
+abbrev place : List ℕ → PlainField
+place name = number (Some (Named name))
+
+-- a number tells where a text ends, or rows do
+to_a_label : is_readable (field_and (place (codes "e")) (field_and open_text (field_and (label (codes "E")) (field_and pstring no_fields)))) ≡ true
+to_a_label = refl
+
+rows_to_a_label : is_readable (field_and (place (codes "e")) (field_and (Array None None (field_and pstring no_fields)) (field_and (label (codes "e")) (field_and pstring no_fields)))) ≡ true
+rows_to_a_label = refl
+
+-- but not behind an `align`
+label_aligned : is_readable (field_and (place (codes "e")) (field_and open_text (field_and (Align 2) (field_and (label (codes "e")) (field_and pstring no_fields))))) ≡ false
+label_aligned = refl
+
+untold : is_readable (field_and open_text (field_and (label (codes "e")) (field_and pstring no_fields))) ≡ false
+untold = refl
+
+-- a near label is known
+abbrev twice_named : PlainField
+twice_named = number (Some (OfTwo two.Plus (Named (codes "a")) (Named (codes "b"))))
+
+near_both : is_readable (field_and twice_named (field_and (label (codes "a")) (field_and (Align 8) (field_and (label (codes "b")) no_fields)))) ≡ true
+near_both = refl
+
+far_both : is_readable (field_and twice_named (field_and pstring (field_and (label (codes "a")) (field_and (label (codes "b")) no_fields)))) ≡ false
+far_both = refl
+
+-- only at the field itself
+near_once : is_readable (field_and twice_named (field_and (label (codes "a")) (field_and pstring (field_and twice_named (field_and pstring (field_and (label (codes "b")) no_fields)))))) ≡ true
+near_once = refl
+
+-- bits are asked for only at a label that stands before
+abbrev bits : List ℕ → PlainField
+bits name = number (Some (BitsAt name (Constant (pos 0)) (Constant (pos 8))))
+
+bits_before : is_readable (field_and (label (codes "e")) (field_and (number None) (field_and (bits (codes "e")) no_fields))) ≡ true
+bits_before = refl
+
+bits_near : is_readable (field_and (bits (codes "e")) (field_and (label (codes "e")) no_fields)) ≡ false
+bits_near = refl
 
 label_again : broken (field_and (label (codes "e")) (field_and (label (codes "E")) no_fields)) ≡ Some (name_fault 230 1 (record { bytes = codes "E" }))
 label_again = refl

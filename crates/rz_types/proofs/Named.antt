@@ -79,14 +79,14 @@ number_known : (sight : Sight) (first width : ℤ) → NamesNothing (number_at s
 number_known sight first width = in_width (int_lt width (pos 1) || int_lt (pos 32) width) first width (sight.bits first width)
 
 -- an expression of which each name has a value names nothing that has none
-pub known_there : (sight : Sight) (term : Term) → all_known (met_in sight.names) term ≡ true → NamesNothing (value_of term sight)
+pub known_there : (sight : Sight) (term : Term) → all_known (met_in sight.names) (met_in sight.names) term ≡ true → NamesNothing (value_of term sight)
 known_there sight (Constant number) all = tt
 known_there sight (Named name) all = value_known name (sight.names.give (place_key name)) all
 known_there sight (RowsOf name) all = value_known name (sight.names.give (count_key name)) all
 known_there sight (BitsAt name start width) all =
     let met = met_in sight.names in
-    let ends = both (met (place_key name) && all_known met start) (all_known met width) all in
-    let fronts = both (met (place_key name)) (all_known met start) ends.0 in
+    let ends = both (met (place_key name) && all_known met met start) (all_known met met width) all in
+    let fronts = both (met (place_key name)) (all_known met met start) ends.0 in
     chained (known_value name (sight.names.give (place_key name)))
     (λ place. value_of start sight >>= λ behind. value_of width sight >>= λ size. number_at sight (place +ℤ behind) size)
     (value_known name (sight.names.give (place_key name)) fronts.0)
@@ -97,7 +97,7 @@ known_there sight (BitsAt name start width) all =
 known_there sight (FactOf which) all = tt
 known_there sight (OfOne op operand) all = chained (value_of operand sight) (λ value. Ok (operate_one op value)) (known_there sight operand all) (λ x. tt)
 known_there sight (OfTwo op left right) all =
-    let each = both (all_known (met_in sight.names) left) (all_known (met_in sight.names) right) all in
+    let each = both (all_known (met_in sight.names) (met_in sight.names) left) (all_known (met_in sight.names) (met_in sight.names) right) all in
     chained (value_of left sight) (λ one. value_of right sight >>= λ other. operate op one other) (known_there sight left each.0)
     (λ one. chained (value_of right sight) (λ other. operate op one other) (known_there sight right each.1) (λ other. operate_known op one other))
 
@@ -137,21 +137,21 @@ rows_met arrays names gives name none =
     is_met names (names.give (count_key name)) given.0 given.1
 
 -- in the end all labels and arrays have values
-pub known_own : (scope : Own) (names : Environment) (term : Term) → GivesOwn scope names → unknown_name scope term ≡ None → all_known (met_in names) term ≡ true
+pub known_own : (scope : Own) (names : Environment) (term : Term) → GivesOwn scope names → unknown_name scope term ≡ None → all_known (met_in names) (met_in names) term ≡ true
 known_own scope names (Constant number) gives none = refl
 known_own scope names (Named name) gives none = name_met scope names gives name (is_some (predefined name)) refl none
 known_own scope names (RowsOf name) gives none = rows_met scope.arrays names gives.counts name none
 known_own scope names (BitsAt name start width) gives none =
     let front = or_else_none (not_among scope.labels name) (or_else (unknown_name scope start) (unknown_name scope width)) none in
     let each = or_else_none (unknown_name scope start) (unknown_name scope width) front.1 in
-    and_so (met_in names (place_key name) && all_known (met_in names) start) (all_known (met_in names) width)
-    (and_so (met_in names (place_key name)) (all_known (met_in names) start) (label_met scope names gives name front.0) (known_own scope names start gives each.0))
+    and_so (met_in names (place_key name) && all_known (met_in names) (met_in names) start) (all_known (met_in names) (met_in names) width)
+    (and_so (met_in names (place_key name)) (all_known (met_in names) (met_in names) start) (label_met scope names gives name front.0) (known_own scope names start gives each.0))
     (known_own scope names width gives each.1)
 known_own scope names (FactOf which) gives none = refl
 known_own scope names (OfOne op operand) gives none = known_own scope names operand gives none
 known_own scope names (OfTwo op left right) gives none =
     let each = or_else_none (unknown_name scope left) (unknown_name scope right) none in
-    and_so (all_known (met_in names) left) (all_known (met_in names) right) (known_own scope names left gives each.0) (known_own scope names right gives each.1)
+    and_so (all_known (met_in names) (met_in names) left) (all_known (met_in names) (met_in names) right) (known_own scope names left gives each.0) (known_own scope names right gives each.1)
 
 not_false : (holds : Bool) → not holds ≡ false → holds ≡ true
 not_false true is = refl
@@ -159,7 +159,7 @@ not_false false is = absurd cc
 
 -- before that all arrays have, and so have the labels that don't stand later
 pub known_early : (scope : Own) (names : Environment) (term : Term) → GivesCounts scope.arrays names → unknown_name scope term ≡ None
-    → names_later (met_in names) term ≡ false → all_known (met_in names) term ≡ true
+    → names_later (met_in names) term ≡ false → all_known (met_in names) (met_in names) term ≡ true
 known_early scope names (Constant number) gives none here = refl
 known_early scope names (Named name) gives none here = not_false (met_in names (place_key name)) here
 known_early scope names (RowsOf name) gives none here = rows_met scope.arrays names gives name none
@@ -169,8 +169,8 @@ known_early scope names (BitsAt name start width) gives none here =
     let each = or_else_none (unknown_name scope start) (unknown_name scope width) front.1 in
     let own = or_false (not (met (place_key name))) (names_later met start || names_later met width) here in
     let inner = or_false (names_later met start) (names_later met width) own.1 in
-    and_so (met (place_key name) && all_known met start) (all_known met width)
-    (and_so (met (place_key name)) (all_known met start) (not_false (met (place_key name)) own.0) (known_early scope names start gives each.0 inner.0))
+    and_so (met (place_key name) && all_known met met start) (all_known met met width)
+    (and_so (met (place_key name)) (all_known met met start) (not_false (met (place_key name)) own.0) (known_early scope names start gives each.0 inner.0))
     (known_early scope names width gives each.1 inner.1)
 known_early scope names (FactOf which) gives none here = refl
 known_early scope names (OfOne op operand) gives none here = known_early scope names operand gives none here
@@ -178,4 +178,4 @@ known_early scope names (OfTwo op left right) gives none here =
     let met = met_in names in
     let each = or_else_none (unknown_name scope left) (unknown_name scope right) none in
     let sides = or_false (names_later met left) (names_later met right) here in
-    and_so (all_known met left) (all_known met right) (known_early scope names left gives each.0 sides.0) (known_early scope names right gives each.1 sides.1)
+    and_so (all_known met met left) (all_known met met right) (known_early scope names left gives each.0 sides.0) (known_early scope names right gives each.1 sides.1)

@@ -6,44 +6,59 @@ use Rattle.rz_types_fields.specs.declared.field.Case.{Case}
 use Rattle.rz_types_fields.specs.declared.field.Field.{Field}
 use Rattle.rz_types_fields.specs.declared.field.Field.TheFolds.{fold-roll-Field}
 use Rattle.rz_types_fields.specs.declared.field.Field.TheOpen.{Field-F}
-use Rattle.rz_types_fields.specs.declared.field.Field.TheVariants as fields
+use Rattle.rz_types_fields.specs.declared.field.Field.TheVariants as fields_of
 use Rattle.rz_types_fields.specs.declared.field.Field.TheVariants.{rolls-Num, rolls-Switch, rolls-Text}
 use Rattle.rz_types_fields.specs.declared.field.NumField.{NumField}
 use Rattle.rz_types_fields.specs.declared.field.TextField.{TextField}
-use Rattle.rz_types_fields.specs.Field.{array_step, case_step, field_step, plain_cases, plain_field, plain_number, plain_text, Number, PlainCase, PlainField, Switch, Text}
+use Rattle.rz_types_fields.specs.Field.{array_step, case_step, field_step, plain_cases, plain_field, plain_number, plain_text, Number, PlainBody, PlainCase, PlainField, Switch, Text}
 use Rattle.rz_types_fields.specs.Passed.{behind, between, told_by}
-use Rattle.rz_types.specs.Notes.{passed}
+use Rattle.rz_types.specs.Notes.{passed, passed_at}
+use Rattle.rz_types.specs.Readable.{are_cases_read, is_read}
+use Rattle.rz_types.proofs.Noted.{cases_at}
 use Rattle.rz_types.specs.declared.passed.Note.{Note}
 
-num_is : (field : Field) (number : NumField) → field ≡ fields.Num number → plain_field field ≡ Number (plain_number number)
+num_is : (field : Field) (number : NumField) → field ≡ fields_of.Num number → plain_field field ≡ Number (plain_number number)
 num_is field number is = ap plain_field is ∙ ap plain_field (sym (rolls-Num number)) ∙ fold-roll-Field PlainField PlainField PlainCase field_step array_step case_step (Field-F.Num number)
 
-text_is : (field : Field) (text : TextField) → field ≡ fields.Text text → plain_field field ≡ Text (plain_text text)
+text_is : (field : Field) (text : TextField) → field ≡ fields_of.Text text → plain_field field ≡ Text (plain_text text)
 text_is field text is = ap plain_field is ∙ ap plain_field (sym (rolls-Text text)) ∙ fold-roll-Field PlainField PlainField PlainCase field_step array_step case_step (Field-F.Text text)
 
-switch_is : (field : Field) (cases : List Case) → field ≡ fields.Switch cases → plain_field field ≡ Switch (plain_cases cases)
+switch_is : (field : Field) (cases : List Case) → field ≡ fields_of.Switch cases → plain_field field ≡ Switch (plain_cases cases)
 switch_is field cases is = ap plain_field is ∙ ap plain_field (sym (rolls-Switch cases)) ∙ fold-roll-Field PlainField PlainField PlainCase field_step array_step case_step (Field-F.Switch cases)
 
-module _ {E : Type 0} (field : Field) (result : Result Bool E) (old new : List Note) where
+module _ {E : Type 0} (field : Field) (result : Result Bool E) (fields : PlainBody) (old new : List Note) where
   abbrev Behind : PlainField → Type 0
-  Behind plain = IfOk result (λ read. read ≡ true → passed new ≡ behind plain (passed old))
+  Behind plain = IfOk result (λ read. read ≡ true → passed new ≡ behind plain (passed_at fields old))
 
-  pub number_behind : (number : NumField) → field ≡ fields.Num number
-      → IfOk result (λ read. read ≡ true → passed new ≡ between (told_by (option_map term_of number.fixed) (passed old))) → Behind (plain_field field)
+  pub number_behind : (number : NumField) → field ≡ fields_of.Num number
+      → IfOk result (λ read. read ≡ true → passed new ≡ between (told_by (option_map term_of number.fixed) (passed_at fields old))) → Behind (plain_field field)
   number_behind number is told = subst Behind (sym (num_is field number is)) told
 
-  unchanged : (plain : PlainField) → OnOk result (new ≡ old) → passed old ≡ behind plain (passed old) → Behind plain
+  unchanged : (plain : PlainField) → OnOk result (new ≡ old) → passed old ≡ behind plain (passed_at fields old) → Behind plain
   unchanged plain same is = by result same
     where
-      by : (r : Result Bool E) → OnOk r (new ≡ old) → IfOk r (λ read. read ≡ true → passed new ≡ behind plain (passed old))
+      by : (r : Result Bool E) → OnOk r (new ≡ old) → IfOk r (λ read. read ≡ true → passed new ≡ behind plain (passed_at fields old))
       by (Ok read) same = λ so. ap passed same ∙ is
       by (Err stop) same = tt
 
-  pub text_behind : (text : TextField) → field ≡ fields.Text text → OnOk result (new ≡ old) → Behind (plain_field field)
-  text_behind text is same = unchanged (plain_field field) same (ap (λ (plain : PlainField). behind plain (passed old)) (sym (text_is field text is)))
+  pub text_behind : (text : TextField) → field ≡ fields_of.Text text → OnOk result (new ≡ old) → Behind (plain_field field)
+  text_behind text is same = unchanged (plain_field field) same (ap (λ (plain : PlainField). behind plain (passed_at fields old)) (sym (text_is field text is)))
 
-  pub switch_behind : (cases : List Case) → field ≡ fields.Switch cases → OnOk result (new ≡ old) → Behind (plain_field field)
-  switch_behind cases is same = unchanged (plain_field field) same (ap (λ (plain : PlainField). behind plain (passed old)) (sym (switch_is field cases is)))
+  pub switch_behind : (cases : List Case) → field ≡ fields_of.Switch cases → OnOk result (new ≡ old) → Behind (plain_field field)
+  switch_behind cases is same = unchanged (plain_field field) same (ap (λ (plain : PlainField). behind plain (passed_at fields old)) (sym (switch_is field cases is)))
+
+  -- what is near at a switch isn't in its cases
+  pub switch_read : (outermost : Bool) (rest : PlainBody) (cases items : List Case) → field ≡ fields_of.Switch cases → items ≡ cases
+      → IfOk result (λ read. read ≡ are_cases_read (passed old) (plain_cases items)) → IfOk result (λ read. read ≡ is_read outermost rest (passed_at fields old) (plain_field field))
+  switch_read outermost rest cases items is same read = by result read
+    where
+      by : (r : Result Bool E) → IfOk r (λ read. read ≡ are_cases_read (passed old) (plain_cases items))
+          → IfOk r (λ read. read ≡ is_read outermost rest (passed_at fields old) (plain_field field))
+      by (Ok read) so =
+          so ∙ ap (λ (cases : List Case). are_cases_read (passed old) (plain_cases cases)) same
+          ∙ cases_at fields (passed old) (plain_cases cases)
+          ∙ ap (is_read outermost rest (passed_at fields old)) (sym (switch_is field cases is))
+      by (Err stop) so = tt
 
 pub ok_same : {A E : Type 0} (result : Result Bool E) (x : A) → OnOk result (x ≡ x)
 ok_same (Ok read) x = refl

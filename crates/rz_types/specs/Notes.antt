@@ -1,27 +1,32 @@
 -- What the notes of a walk over a declaration tell: which names are known. (MPW Rez.)
-use Rattle.std.specs.Prelude.{Bool, ◌||◌, if◌then◌else◌, List, [], ◌∷◌, Option, Some, None}
+use Rattle.std.specs.Prelude.{Bool, ◌&&◌, ◌||◌, not, if◌then◌else◌, List, [], ◌∷◌, Option, Some, None}
 use Rattle.rz_core.specs.Lists.{or_else}
 use Rattle.rz_core.specs.declared.resource.Word.{Word}
 use Rattle.rz_expr.specs.Environment.{count_key, place_key, Key}
 use Rattle.rz_expr.specs.Term.{BitsAt, Constant, FactOf, Named, OfOne, OfTwo, RowsOf, Term}
-use Rattle.rz_types_fields.specs.Field.{plain_body}
+use Rattle.rz_types_fields.specs.Field.{plain_body, PlainBody}
 use Rattle.rz_types_fields.specs.Solve.{is_same_key}
-use Rattle.rz_types_fields.specs.Passed.{at_front, between, counts_rows, declares, gives_count, is_known, nothing_passed, states, Names, Passed}
+use Rattle.rz_types_fields.specs.Passed.{at_field, at_front, between, declares, is_known, nothing_passed, states, Names, Passed}
 use Rattle.rz_types_fields.specs.NameKey.{key_of}
 use Rattle.rz_types.specs.declared.passed.Note.{Note}
-use Rattle.rz_types.specs.declared.passed.Note.TheVariants.{Array, Front, Told}
+use Rattle.rz_types.specs.declared.passed.Note.TheVariants.{Front, Met, Told}
 
 -- with this name told too
 abbrev pub also_told : Key → Passed → Passed
 also_told key passed = record { met = passed.met; told = λ other. is_same_key key other || passed.told other; near = passed.near }
 
--- with the number of rows of an array of this name met too
-abbrev pub also_met : Option Word → Passed → Passed
-also_met name passed = record { met = λ key. gives_count name key || passed.met key; told = passed.told; near = passed.near }
+-- with this name met too
+abbrev pub also_met : Key → Passed → Passed
+also_met key passed = record { met = λ other. is_same_key key other || passed.met other; told = passed.told; near = passed.near }
 
--- what is passed behind a note: an array of this name, a name that was told, or the front of a body
+-- with the number of rows of an array of this name met too, where it has one
+abbrev pub also_counted : Option Word → Passed → Passed
+also_counted None passed = passed
+also_counted (Some name) passed = also_met (count_key name.bytes) passed
+
+-- what is passed behind a note: a name that stands before, one that was told, or the front of a body
 abbrev pub noted : Note → Passed → Passed
-noted (Array name) passed = also_met (Some name.now) passed
+noted (Met one) passed = also_met (key_of one) passed
 noted (Told one) passed = also_told (key_of one) passed
 noted (Front row) passed = at_front (plain_body row.now) passed
 
@@ -33,26 +38,37 @@ noted_all (note ∷ notes) passed = noted_all notes (noted note passed)
 abbrev pub passed : List Note → Passed
 passed notes = between (noted_all notes nothing_passed)
 
--- which names are known there
-abbrev pub known : List Note → Names
-known notes = is_known (passed notes)
+-- at the first of these fields
+abbrev pub passed_at : PlainBody → List Note → Passed
+passed_at fields notes = at_field fields (passed notes)
 
--- whether a name is known behind a note, where it was before it or wasn't
-abbrev pub noting : Note → Key → Bool → Bool
-noting (Array name) key before = counts_rows name.now.bytes key || before
-noting (Told one) key before = is_same_key (key_of one) key || before
-noting (Front row) key before = if declares (plain_body row.now) key then states (plain_body row.now) key else before
+-- which names are known there
+abbrev pub known : PlainBody → List Note → Names
+known fields notes = is_known (passed_at fields notes)
+
+-- whether a name is met behind a note, where it was before it or wasn't
+abbrev pub meeting : Note → Key → Bool → Bool
+meeting (Met one) key before = is_same_key (key_of one) key || before
+meeting (Told one) key before = before
+meeting (Front row) key before = not (declares (plain_body row.now) key) && before
+
+-- whether it is told behind a note, where it was before it or wasn't
+abbrev pub telling : Note → Key → Bool → Bool
+telling (Met one) key before = before
+telling (Told one) key before = is_same_key (key_of one) key || before
+telling (Front row) key before = if declares (plain_body row.now) key then states (plain_body row.now) key else before
 
 -- the name, where it isn't known
 abbrev pub if_unknown : Names → Key → Option Key
 if_unknown known key = if known key then None else Some key
 
--- the first name in an expression that isn't known
-abbrev pub first_unknown : Names → Term → Option Key
-first_unknown known (Constant number) = None
-first_unknown known (Named name) = if_unknown known (place_key name)
-first_unknown known (RowsOf name) = if_unknown known (count_key name)
-first_unknown known (BitsAt name start width) = or_else (if_unknown known (place_key name)) (or_else (first_unknown known start) (first_unknown known width))
-first_unknown known (FactOf which) = None
-first_unknown known (OfOne op operand) = first_unknown known operand
-first_unknown known (OfTwo op left right) = or_else (first_unknown known left) (first_unknown known right)
+-- the first name in an expression that isn't known, or isn't met where bits are asked for at it
+abbrev pub first_unknown : (met known : Names) → Term → Option Key
+first_unknown met known (Constant number) = None
+first_unknown met known (Named name) = if_unknown known (place_key name)
+first_unknown met known (RowsOf name) = if_unknown known (count_key name)
+first_unknown met known (BitsAt name start width) =
+    or_else (if_unknown met (place_key name)) (or_else (first_unknown met known start) (first_unknown met known width))
+first_unknown met known (FactOf which) = None
+first_unknown met known (OfOne op operand) = first_unknown met known operand
+first_unknown met known (OfTwo op left right) = or_else (first_unknown met known left) (first_unknown met known right)

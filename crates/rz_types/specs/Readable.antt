@@ -11,7 +11,7 @@ use Rattle.rz_types_fields.specs.Shape.{numbers_of}
 use Rattle.rz_types_fields.specs.Solve.{can_solve, is_same_key}
 use Rattle.rz_types_fields.specs.Passed.{at_field, at_front, behind, behind_piece, declares, is_known, nothing_passed, Names, Passed}
 use Rattle.rz_types_fields.specs.Piece.{pieces_of, terms_of_text, Filler, OneNumber, OneText, Piece, Place, Zeros}
-use Rattle.rz_types_fields.specs.Width.{fixed_widths, text_width}
+use Rattle.rz_types_fields.specs.Width.{fixed_width, fixed_widths, text_width}
 use Rattle.rz_types_fields.specs.declared.field.TextForm.{TextForm}
 use Rattle.rz_types_fields.specs.declared.field.TextForm.TheVariants as texts
 
@@ -56,56 +56,69 @@ abbrev mutual
 
 -- Names that an expression has.
 
--- all of them are known
-abbrev pub all_known : Names → Term → Bool
-all_known known (Constant number) = true
-all_known known (Named name) = known (place_key name)
-all_known known (RowsOf name) = known (count_key name)
-all_known known (BitsAt name start width) = known (place_key name) && all_known known start && all_known known width
-all_known known (FactOf which) = true
-all_known known (OfOne op operand) = all_known known operand
-all_known known (OfTwo op left right) = all_known known left && all_known known right
+-- all of them are known, and bits are asked for only at labels that are met
+abbrev pub all_known : (met known : Names) → Term → Bool
+all_known met known (Constant number) = true
+all_known met known (Named name) = known (place_key name)
+all_known met known (RowsOf name) = known (count_key name)
+all_known met known (BitsAt name start width) = met (place_key name) && all_known met known start && all_known met known width
+all_known met known (FactOf which) = true
+all_known met known (OfOne op operand) = all_known met known operand
+all_known met known (OfTwo op left right) = all_known met known left && all_known met known right
 
 -- it has no other unknown name than this, which is given by a field behind it in its body, and can be solved
-abbrev pub tells : PlainBody → Names → Term → Key → Bool
-tells rest known term key = declares rest key && can_solve key term && all_known (λ other. is_same_key key other || known other) term
+abbrev pub tells : PlainBody → (met known : Names) → Term → Key → Bool
+tells rest met known term key = declares rest key && can_solve key term && all_known met (λ other. is_same_key key other || known other) term
 
 -- one of its names is so
-abbrev pub tells_one : PlainBody → Names → Term → Term → Bool
-tells_one rest known whole (Constant number) = false
-tells_one rest known whole (Named name) = tells rest known whole (place_key name)
-tells_one rest known whole (RowsOf name) = tells rest known whole (count_key name)
-tells_one rest known whole (BitsAt name start width) = tells rest known whole (place_key name) || tells_one rest known whole start || tells_one rest known whole width
-tells_one rest known whole (FactOf which) = false
-tells_one rest known whole (OfOne op operand) = tells_one rest known whole operand
-tells_one rest known whole (OfTwo op left right) = tells_one rest known whole left || tells_one rest known whole right
+abbrev pub tells_one : PlainBody → (met known : Names) → Term → Term → Bool
+tells_one rest met known whole (Constant number) = false
+tells_one rest met known whole (Named name) = tells rest met known whole (place_key name)
+tells_one rest met known whole (RowsOf name) = tells rest met known whole (count_key name)
+tells_one rest met known whole (BitsAt name start width) =
+    tells rest met known whole (place_key name) || tells_one rest met known whole start || tells_one rest met known whole width
+tells_one rest met known whole (FactOf which) = false
+tells_one rest met known whole (OfOne op operand) = tells_one rest met known whole operand
+tells_one rest met known whole (OfTwo op left right) = tells_one rest met known whole left || tells_one rest met known whole right
 
 -- Fields.
 
 -- a fixed number's names are all known, or it tells the one that isn't
 abbrev pub is_number_read : PlainBody → Passed → Option Term → Bool
 is_number_read rest passed None = true
-is_number_read rest passed (Some term) = all_known (is_known passed) term || tells_one rest (is_known passed) term term
+is_number_read rest passed (Some term) =
+    all_known passed.met (is_known passed) term || tells_one rest passed.met (is_known passed) term term
 
 -- the end of the resource ends a field: of the outermost body, with only fields of fixed width behind it
 abbrev pub ends_at_end : (outermost : Bool) → PlainBody → Bool
 ends_at_end outermost rest = outermost && is_some (fixed_widths rest)
 
--- a text ends by its own form, or a `string` by its size or at the end of the resource
-abbrev pub text_ends : (outermost : Bool) → PlainBody → TextForm → Option Term → Bool
-text_ends outermost rest texts.Open size = is_some size || ends_at_end outermost rest
-text_ends outermost rest form size = true
+-- the field is a label whose place is told
+abbrev pub is_told_label : PlainField → Names → Bool
+is_told_label (Label name) told = told (place_key name.bytes)
+is_told_label field told = false
+
+-- a label ends a field: its place is told, and only fields of fixed width stand before it
+abbrev pub ends_at_label : PlainBody → Names → Bool
+ends_at_label no_fields told = false
+ends_at_label (field_and field fields) told = is_told_label field told || (is_some (fixed_width field) && ends_at_label fields told)
+
+-- a text ends by its own form, or a `string` by its size, at a label, or at the end of the resource
+abbrev pub text_ends : (outermost : Bool) → PlainBody → Names → TextForm → Option Term → Bool
+text_ends outermost rest told texts.Open size = is_some size || ends_at_label rest told || ends_at_end outermost rest
+text_ends outermost rest told form size = true
 
 -- all names of its size and of its formats are known
 abbrev pub is_text_read : (outermost : Bool) → PlainBody → Passed → PlainText → Bool
-is_text_read outermost rest passed text = text_ends outermost rest text.form text.size && list_all (all_known (is_known passed)) (terms_of_text text)
+is_text_read outermost rest passed text =
+    text_ends outermost rest passed.told text.form text.size && list_all (all_known passed.met (is_known passed)) (terms_of_text text)
 
 abbrev pub is_piece_read : (outermost : Bool) → PlainBody → Passed → Piece → Bool
 is_piece_read outermost rest passed (OneNumber number) = is_number_read rest passed number.fixed
 is_piece_read outermost rest passed (OneText text) = is_text_read outermost rest passed text
 is_piece_read outermost rest passed (Zeros count) = true
 is_piece_read outermost rest passed (Filler unit) = true
-is_piece_read outermost rest passed (Place name) = false
+is_piece_read outermost rest passed (Place name) = true
 
 abbrev pub are_pieces_read : (outermost : Bool) → PlainBody → Passed → List Piece → Bool
 are_pieces_read outermost rest passed [] = true
@@ -117,12 +130,13 @@ abbrev pub is_count_known : Passed → Option Word → Bool
 is_count_known passed None = false
 is_count_known passed (Some name) = is_known passed (count_key name.bytes)
 
--- rows end by a stated number; by a known one, where each has one bit at least; or at the end of the resource, where each has
--- eight bits at least
+-- rows end by a stated number; by a known one or at a label, where each has one bit at least; or at the end of the resource,
+-- where each has eight bits at least
 abbrev pub rows_end : (outermost : Bool) → PlainBody → Passed → Option Word → Option ℤ → PlainBody → Bool
 rows_end outermost rest passed name (Some count) row = true
 rows_end outermost rest passed name None row =
-    (is_count_known passed name && nat_le 1 (least_widths row)) || (ends_at_end outermost rest && nat_le 8 (least_widths row))
+    (is_count_known passed name && nat_le 1 (least_widths row)) || (ends_at_label rest passed.told && nat_le 1 (least_widths row))
+    || (ends_at_end outermost rest && nat_le 8 (least_widths row))
 
 abbrev mutual
   -- a field can be read where these fields stand behind it in its body and so much is known before it
@@ -132,8 +146,7 @@ abbrev mutual
   is_read outermost rest passed (Points points) = are_pieces_read outermost rest passed (pieces_of (Points points))
   is_read outermost rest passed (Fill unit count) = true
   is_read outermost rest passed (Align unit) = true
-  -- so far no declaration with a label can be read
-  is_read outermost rest passed (Label name) = false
+  is_read outermost rest passed (Label name) = true
   is_read outermost rest passed (Array name count row) = rows_end outermost rest passed name count row && are_read false (at_front row passed) row
   is_read outermost rest passed (Switch cases) = are_cases_read passed cases
 

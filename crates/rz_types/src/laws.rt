@@ -39,9 +39,9 @@ pub fn keys_stand_apart()
 /// one where it names only labels and arrays that have: in the end all of its body and of those around, and before that
 /// all arrays, if it names no label that stands later.
 pub fn named_values_are_there()
-    ensures values { (sight : Sight) (term : Term) → all_known (met_in sight.names) term ≡ true → NamesNothing (value_of term sight) }
+    ensures values { (sight : Sight) (term : Term) → all_known (met_in sight.names) (met_in sight.names) term ≡ true → NamesNothing (value_of term sight) }
     ensures names { (scope : Own) (names : Environment) (term : Term) → GivesOwn scope names → unknown_name scope term ≡ None
-        → all_known (met_in names) term ≡ true }
+        → all_known (met_in names) (met_in names) term ≡ true }
     ensures early { (scope : Own) (names : Environment) (term : Term) → GivesCounts scope.arrays names → unknown_name scope term ≡ None
-        → names_later (met_in names) term ≡ false → all_known (met_in names) term ≡ true }
+        → names_later (met_in names) term ≡ false → all_known (met_in names) (met_in names) term ≡ true }
 {}

@@ -1,19 +1,20 @@
-//! What the fields before one tell of names, as notes. What is known by them is in `specs/Notes`.
+//! What the fields before one tell of names, as notes, and what is near at it. What is known by them is in `specs/Notes`.
 
-ghost use Rattle.std.specs.Prelude.{◌≡◌, ◌||◌, Bool, IfOk, map, option_map};
+ghost use Rattle.std.specs.Prelude.{◌≡◌, ◌||◌, if◌then◌else◌, Bool, Some, None, IfOk, map, option_map};
 ghost use Rattle.std.specs.List.{list_all};
 ghost use Rattle.std.specs.Option.{unwrap_or};
 ghost use Rattle.rz_expr.specs.Term.{term_of};
-ghost use Rattle.rz_types_fields.specs.Field.{plain_text};
+ghost use Rattle.rz_types_fields.specs.Field.{plain_body, plain_field, plain_text};
+ghost use Rattle.rz_types_fields.specs.Passed.{is_label, is_measured, is_near};
 ghost use Rattle.rz_types_fields.specs.Piece.{terms_of_text};
 ghost use Rattle.rz_types_fields.specs.NameKey.{key_of};
-ghost use Rattle.rz_types.specs.Notes.{first_unknown, if_unknown, known, noting};
+ghost use Rattle.rz_types.specs.Notes.{first_unknown, known, meeting, passed, telling};
 ghost use Rattle.rz_types.specs.Readable.{all_known};
 
-use rz_core::{NoMemory, Word};
+use rz_core::NoMemory;
 use rz_expr::Expr;
 use rz_types_fields::{
-    Field, KeyRef, TextField, counts_rows, declares, is_predefined, is_same_key, states,
+    Field, KeyRef, TextField, declares, fixed_width, is_predefined, is_same_key, stands_at, states,
     text_expressions,
 };
 use std::alloc::Global;
@@ -21,33 +22,63 @@ use std::alloc::Global;
 /// What the fields before one tell of names.
 #[derive(Clone, Copy)]
 pub enum Note<'a> {
-    /// An array of this name stands before.
-    Array(&'a Word),
+    /// This name is met: an array of it, or its label, stands before.
+    Met(KeyRef<'a>),
     /// A number before tells this name.
     Told(KeyRef<'a>),
-    /// A body of these fields begins: of the names that it declares those with a stated count are known.
+    /// A body of these fields begins: none of the names that it declares is met, and those with a stated count are told.
     Front(&'a [Field]),
 }
 
-/// Whether a name is known behind these notes, the oldest first.
-pub fn is_known(notes: &[Note<'_>], key: KeyRef<'_>) -> bool
-    ensures { result ≡ known notes.now (key_of key.entry) }
+/// Whether a name is met behind these notes, the oldest first.
+pub fn is_met(notes: &[Note<'_>], key: KeyRef<'_>) -> bool
+    ensures { result ≡ (passed notes.now).met (key_of key.entry) }
 {
     for newer in 0..notes.len() {
-        match says(&notes[notes.len() - 1 - newer], key) {
-            Some(known) => return known,
+        match meets(&notes[notes.len() - 1 - newer], key) {
+            Some(met) => return met,
             None => {}
         }
     }
     is_predefined(key)
 }
 
-/// Whether a name is known, where a note says it.
-fn says(note: &Note<'_>, key: KeyRef<'_>) -> Option<bool>
-    ensures { (before : Bool) → noting note.now (key_of key.entry) before ≡ unwrap_or result before }
+/// Whether a name is met, where a note says it.
+fn meets(note: &Note<'_>, key: KeyRef<'_>) -> Option<bool>
+    ensures { (before : Bool) → meeting note.now (key_of key.entry) before ≡ unwrap_or result before }
 {
     match *note {
-        Note::Array(name) => if_so(counts_rows(name, key)),
+        Note::Met(one) => if_so(is_same_key(one, key)),
+        Note::Told(_) => None,
+        Note::Front(row) => {
+            if declares(row, key) {
+                Some(false)
+            } else {
+                None
+            }
+        }
+    }
+}
+
+/// Whether a name is told behind these notes, the oldest first.
+pub fn is_told(notes: &[Note<'_>], key: KeyRef<'_>) -> bool
+    ensures { result ≡ (passed notes.now).told (key_of key.entry) }
+{
+    for newer in 0..notes.len() {
+        match tells(&notes[notes.len() - 1 - newer], key) {
+            Some(told) => return told,
+            None => {}
+        }
+    }
+    false
+}
+
+/// Whether a name is told, where a note says it.
+fn tells(note: &Note<'_>, key: KeyRef<'_>) -> Option<bool>
+    ensures { (before : Bool) → telling note.now (key_of key.entry) before ≡ unwrap_or result before }
+{
+    match *note {
+        Note::Met(_) => None,
         Note::Told(one) => if_so(is_same_key(one, key)),
         Note::Front(row) => {
             if declares(row, key) {
@@ -66,65 +97,114 @@ fn if_so(known: bool) -> Option<bool>
     if known { Some(true) } else { None }
 }
 
-/// The name, where it isn't known.
-fn if_unknown<'a>(notes: &[Note<'_>], key: KeyRef<'a>) -> Option<KeyRef<'a>>
-    ensures { option_map key_of result ≡ if_unknown (known notes.now) (key_of key.entry) }
+/// Whether a label of this name stands in these fields at a known distance.
+fn is_near(fields: &[Field], key: KeyRef<'_>) -> bool
+    ensures { result ≡ is_near (plain_body fields.now) (key_of key.entry) }
 {
-    if is_known(notes, key) {
-        None
-    } else {
-        Some(key)
+    for field in fields {
+        if is_label(field, key) {
+            return true;
+        }
+        if !is_measured(field) {
+            return false;
+        }
+    }
+    false
+}
+
+/// Whether a field is a label of this name.
+fn is_label(field: &Field, key: KeyRef<'_>) -> bool
+    ensures { result ≡ is_label (plain_field field.now) (key_of key.entry) }
+{
+    match field {
+        Field::Label(name) => stands_at(name, key),
+        _ => false,
     }
 }
 
-/// The first name in an expression that isn't known.
-pub fn first_unknown<'a>(notes: &[Note<'_>], expr: &'a Expr) -> Option<KeyRef<'a>>
-    ensures { option_map key_of result ≡ first_unknown (known notes.now) (term_of expr.now) }
+/// Whether what stands behind a field is at a known distance.
+fn is_measured(field: &Field) -> bool
+    ensures { result ≡ is_measured (plain_field field.now) }
+{
+    match field {
+        Field::Align(_) => true,
+        _ => fixed_width(field).is_some(),
+    }
+}
+
+/// Whether a name is known at the first of these fields.
+pub fn is_known(fields: &[Field], notes: &[Note<'_>], key: KeyRef<'_>) -> bool
+    ensures { result ≡ known (plain_body fields.now) notes.now (key_of key.entry) }
+{
+    is_near(fields, key) || is_met(notes, key) || is_told(notes, key)
+}
+
+/// The name, where it isn't known.
+fn unless(known: bool, key: KeyRef<'_>) -> Option<KeyRef<'_>>
+    ensures { option_map key_of result ≡ (if known then None else Some (key_of key.entry)) }
+{
+    if known { None } else { Some(key) }
+}
+
+/// The first name in an expression that isn't known at the first of these fields, or isn't met where bits are asked for
+/// at it.
+pub fn first_unknown<'a>(fields: &[Field], notes: &[Note<'_>], expr: &'a Expr) -> Option<KeyRef<'a>>
+    ensures { option_map key_of result ≡ first_unknown (passed notes.now).met (known (plain_body fields.now) notes.now) (term_of expr.now) }
 {
     match expr {
         Expr::Number(_) | Expr::Fact(_) => None,
-        Expr::Name(name) => if_unknown(notes, KeyRef::Place(name)),
-        Expr::Count(name) => if_unknown(notes, KeyRef::Count(name)),
-        Expr::Unary(_, operand) => first_unknown(notes, operand),
-        Expr::Binary(_, left, right) => match first_unknown(notes, left) {
+        Expr::Name(name) => {
+            let key = KeyRef::Place(name);
+            unless(is_known(fields, notes, key), key)
+        }
+        Expr::Count(name) => {
+            let key = KeyRef::Count(name);
+            unless(is_known(fields, notes, key), key)
+        }
+        Expr::Unary(_, operand) => first_unknown(fields, notes, operand),
+        Expr::Binary(_, left, right) => match first_unknown(fields, notes, left) {
             Some(key) => Some(key),
-            None => first_unknown(notes, right),
+            None => first_unknown(fields, notes, right),
         },
-        Expr::Bits(name, start, width) => match if_unknown(notes, KeyRef::Place(name)) {
-            Some(key) => Some(key),
-            None => match first_unknown(notes, start) {
+        Expr::Bits(name, start, width) => {
+            let key = KeyRef::Place(name);
+            match unless(is_met(notes, key), key) {
                 Some(key) => Some(key),
-                None => first_unknown(notes, width),
-            },
-        },
+                None => match first_unknown(fields, notes, start) {
+                    Some(key) => Some(key),
+                    None => first_unknown(fields, notes, width),
+                },
+            }
+        }
     }
 }
 
-/// Whether all names in an expression are known.
-pub fn all_known(notes: &[Note<'_>], expr: &Expr) -> bool
-    ensures { result ≡ all_known (known notes.now) (term_of expr.now) }
+/// Whether all names in an expression are known at the first of these fields, and met where bits are asked for at them.
+pub fn all_known(fields: &[Field], notes: &[Note<'_>], expr: &Expr) -> bool
+    ensures { result ≡ all_known (passed notes.now).met (known (plain_body fields.now) notes.now) (term_of expr.now) }
 {
-    first_unknown(notes, expr).is_none()
+    first_unknown(fields, notes, expr).is_none()
 }
 
-/// Whether all names in the size of a text and in the formats of its fixed parts are known.
+/// Whether all names in the size of a text and in the formats of its fixed parts are.
 pub fn all_known_in_text(
     alloc: Global,
+    fields: &[Field],
     notes: &[Note<'_>],
     text: &TextField,
 ) -> Result<bool, NoMemory>
-    ensures { IfOk result (λ all. all ≡ list_all (all_known (known notes.now)) (terms_of_text (plain_text text.now))) }
+    ensures { IfOk result (λ all. all ≡ list_all (all_known (passed notes.now).met (known (plain_body fields.now) notes.now)) (terms_of_text (plain_text text.now))) }
 {
     let exprs = text_expressions(alloc, text)?;
-    Ok(are_known(notes, &exprs))
+    Ok(are_known(fields, notes, &exprs))
 }
 
-/// Whether all names in these expressions are known.
-fn are_known(notes: &[Note<'_>], exprs: &[&Expr]) -> bool
-    ensures { result ≡ list_all (all_known (known notes.now)) (map (λ expr. term_of expr.now) exprs.now) }
+/// Whether all names in these expressions are.
+fn are_known(fields: &[Field], notes: &[Note<'_>], exprs: &[&Expr]) -> bool
+    ensures { result ≡ list_all (all_known (passed notes.now).met (known (plain_body fields.now) notes.now)) (map (λ expr. term_of expr.now) exprs.now) }
 {
     for expr in exprs {
-        if !all_known(notes, expr) {
+        if !all_known(fields, notes, expr) {
             return false;
         }
     }

@@ -1,35 +1,37 @@
 //! Whether a resource of a declaration can be read; changed only with `specs/Readable`.
 
-ghost use Rattle.std.specs.Prelude.{◌≡◌, ◌≤◌, ◌||◌, IfOk, OnOk, true, false, length, drop, map, option_map, Bool};
+ghost use Rattle.std.specs.Prelude.{◌≡◌, ◌≤◌, ◌||◌, IfOk, OnOk, Some, true, length, drop, map, option_map, Bool};
 ghost use Rattle.rz_expr.specs.Term.{term_of};
-ghost use Rattle.rz_types_fields.specs.Field.{plain_array, plain_body, plain_cases, plain_field, plain_points, plain_text, Points};
+ghost use Rattle.rz_types_fields.specs.Field.{plain_array, plain_body, plain_cases, plain_field, plain_points, plain_text, PlainBody, Points};
 ghost use Rattle.rz_types_fields.specs.Solve.{is_same_key};
-ghost use Rattle.rz_types_fields.specs.Passed.{at_front, behind, behind_pieces, between, has_labels, is_a_label, told_by};
+ghost use Rattle.rz_types_fields.specs.Passed.{at_front, behind, behind_pieces, between, told_by};
 ghost use Rattle.rz_types_fields.specs.Piece.{fixed_integer};
 ghost use Rattle.rz_types_fields.specs.NameKey.{key_of};
-ghost use Rattle.rz_types.specs.Notes.{also_met, also_told, known, passed};
+ghost use Rattle.rz_types.specs.Notes.{also_counted, also_met, also_told, known, passed, passed_at};
 ghost use Rattle.rz_types_fields.specs.Known.{Grew};
-ghost use Rattle.rz_types.specs.Readable.{are_cases_read, are_pieces_read, are_read, ends_at_end, is_count_known, is_number_read, is_read, is_readable, is_text_read, rows_end, tells, text_ends};
+ghost use Rattle.rz_types.specs.Readable.{are_cases_read, are_pieces_read, are_read, ends_at_end, ends_at_label, is_count_known, is_number_read, is_read, is_readable, is_text_read, is_told_label, rows_end, tells, text_ends};
 ghost use Rattle.rz_types.specs.Template.{template_of};
 
 use crate::least::least_widths;
-use crate::passed::{Note, all_known, all_known_in_text, first_unknown, is_known};
+use crate::passed::{Note, all_known, all_known_in_text, first_unknown, is_known, is_told};
 use crate::template::Template;
 use rz_core::{NoMemory, Word};
 use rz_expr::Expr;
 use rz_types_fields::{
-    ArrayField, Case, Exprs, Field, KeyRef, PointField, TextField, TextForm, declares,
+    ArrayField, Case, Exprs, Field, KeyRef, PointField, TextField, TextForm, declares, fixed_width,
     fixed_widths, standing_of,
 };
 use std::alloc::Global;
 
 /// Whether a resource of this declaration can be read: exactly where its bytes say where each field ends, and how many
-/// rows each array has. So far none can be read of a declaration with a label. A number with a fixed value has no name
-/// that isn't known before it, or one that is the count of an array behind it in its body and that the value tells; then
-/// it is known from there on. A size and a format have known names only. A `string` without a size, and an array whose
-/// number of rows isn't known, stand outside of all rows and cases, with only fields of fixed width behind them: they end
-/// with the resource. Rows of an array without a stated count have one bit at least, and 8 where their number isn't known.
-/// (MPW Rez.)
+/// rows each array has. A number with a fixed value has no name that isn't known before it, or one that a field behind it
+/// in its body gives, an array by the number of its rows or a label by its place, and that the value tells; then it is
+/// known from there on. A size and a format have known names only. Known are also the places of labels behind a field in
+/// its body, where what stands between has a fixed width or is an `align`; but bits are asked for only at labels that
+/// stand before. A `string` without a size, and an array whose number of rows isn't known, end at a label behind them whose
+/// place is told, with only fields of fixed width between; or they stand outside of all rows and cases, with only fields
+/// of fixed width behind them, and end with the resource. Rows of an array without a stated count have one bit at least,
+/// and 8 where they end with the resource. (MPW Rez.)
 pub fn is_readable(template: &Template) -> bool
     ensures { result ≡ is_readable (template_of template.now) }
 {
@@ -72,71 +74,58 @@ fn are_read<'a>(
     ensures read { IfOk result (λ read. read ≡ are_read outermost (passed notes.old.items) (plain_body fields.now)) }
     ensures grew { OnOk result (Grew notes.old.items notes.new.items) }
 {
-    if has_labels(fields) {
-        return Ok(false);
-    }
-    let mut behind = 0;
-    for field in fields {
-        behind += 1;
-        if !is_read(outermost, field, behind_of(fields, behind), notes)? {
+    for position in 0..fields.len() {
+        let here = fields_from(fields, position);
+        if !is_read(outermost, &fields[position], here, notes)? {
             return Ok(false);
         }
     }
     Ok(true)
 }
 
-/// Whether one of the fields of a body is a label.
-fn has_labels(fields: &[Field]) -> bool
-    ensures { result ≡ has_labels (plain_body fields.now) }
-{
-    for field in fields {
-        if is_a_label(field) {
-            return true;
-        }
-    }
-    false
-}
-
-/// Whether a field is a label.
-fn is_a_label(field: &Field) -> bool
-    ensures { result ≡ is_a_label (plain_field field.now) }
-{
-    match field {
-        Field::Label(_) => true,
-        _ => false,
-    }
-}
-
 /// The fields from a position on.
-fn behind_of(fields: &[Field], position: usize) -> &[Field]
+fn fields_from(fields: &[Field], position: usize) -> &[Field]
     requires { position ≤ length fields.now }
     ensures { result.now ≡ drop position fields.now }
 {
     fields.split_at(position).1
 }
 
-/// Whether a field can be read, with these fields behind it in its body.
+/// The fields behind the first.
+fn rest_of(fields: &[Field]) -> &[Field]
+    ensures { result.now ≡ drop 1 fields.now }
+{
+    match fields.split_first() {
+        Some((_, rest)) => rest,
+        None => fields,
+    }
+}
+
+/// Whether a field can be read, with these fields from it on in its body.
 #[cycle(read)]
 fn is_read<'a>(
     outermost: bool,
     field: &'a Field,
-    rest: &[Field],
+    fields: &[Field],
     notes: &mut Vec<Note<'a>>,
 ) -> Result<bool, NoMemory>
-    ensures read { IfOk result (λ read. read ≡ is_read outermost (plain_body rest.now) (passed notes.old.items) (plain_field field.now)) }
-    ensures passed { IfOk result (λ read. read ≡ true → passed notes.new.items ≡ behind (plain_field field.now) (passed notes.old.items)) }
+    ensures read { IfOk result (λ read. read ≡ is_read outermost (plain_body (drop 1 fields.now)) (passed_at (plain_body fields.now) notes.old.items) (plain_field field.now)) }
+    ensures passed { IfOk result (λ read. read ≡ true → passed notes.new.items ≡ behind (plain_field field.now) (passed_at (plain_body fields.now) notes.old.items)) }
     ensures grew { OnOk result (Grew notes.old.items notes.new.items) }
 {
     match field {
-        Field::Num(number) => is_value_read(rest, &number.fixed, notes),
+        Field::Num(number) => is_value_read(fields, &number.fixed, notes),
         Field::Text(text) => {
             let alloc = *notes.allocator();
-            is_text_read(alloc, outermost, rest, text, notes.as_slice())
+            is_text_read(alloc, outermost, fields, text, notes.as_slice())
         }
-        Field::Points(points) => are_points_read(rest, points, notes),
+        Field::Points(points) => are_points_read(fields, points, notes),
         Field::Fill(..) | Field::Align(_) => Ok(true),
-        Field::Label(_) => Ok(false),
-        Field::Array(array) => is_array_read(outermost, array, rest, notes),
+        Field::Label(name) => {
+            push_met(KeyRef::Place(name), notes)?;
+            Ok(true)
+        }
+        Field::Array(array) => is_array_read(outermost, array, fields, notes),
         Field::Switch(cases) => are_cases_read(cases.as_slice(), notes),
     }
 }
@@ -146,17 +135,17 @@ fn is_read<'a>(
 fn is_array_read<'a>(
     outermost: bool,
     array: &'a ArrayField,
-    rest: &[Field],
+    fields: &[Field],
     notes: &mut Vec<Note<'a>>,
 ) -> Result<bool, NoMemory>
-    ensures read { IfOk result (λ read. read ≡ is_read outermost (plain_body rest.now) (passed notes.old.items) (plain_array array.now)) }
-    ensures passed { IfOk result (λ read. read ≡ true → passed notes.new.items ≡ behind (plain_array array.now) (passed notes.old.items)) }
+    ensures read { IfOk result (λ read. read ≡ is_read outermost (plain_body (drop 1 fields.now)) (passed_at (plain_body fields.now) notes.old.items) (plain_array array.now)) }
+    ensures passed { IfOk result (λ read. read ≡ true → passed notes.new.items ≡ behind (plain_array array.now) (passed_at (plain_body fields.now) notes.old.items)) }
     ensures grew { OnOk result (Grew notes.old.items notes.new.items) }
 {
     let row = array.row.as_slice();
     if !rows_end(
         outermost,
-        rest,
+        fields,
         &array.name,
         array.count,
         row,
@@ -185,41 +174,53 @@ fn are_cases_read<'a>(cases: &'a [Case], notes: &mut Vec<Note<'a>>) -> Result<bo
     Ok(true)
 }
 
-/// Notes that an array of this name stands before.
-fn push_name<'a>(name: &'a Option<Word>, notes: &mut Vec<Note<'a>>) -> Result<(), NoMemory>
-    ensures passed { OnOk result (passed notes.new.items ≡ also_met name.now (passed notes.old.items)) }
+/// Notes that a name is met.
+fn push_met<'a>(key: KeyRef<'a>, notes: &mut Vec<Note<'a>>) -> Result<(), NoMemory>
+    ensures passed { OnOk result (passed notes.new.items ≡ also_met (key_of key.entry) (passed notes.old.items)) }
     ensures grew { OnOk result (Grew notes.old.items notes.new.items) }
 {
-    if let Some(name) = name {
-        notes.push(Note::Array(name))?;
-    }
+    notes.push(Note::Met(key))?;
     Ok(())
+}
+
+/// Notes that an array of this name stands before.
+fn push_name<'a>(name: &'a Option<Word>, notes: &mut Vec<Note<'a>>) -> Result<(), NoMemory>
+    ensures passed { OnOk result (passed notes.new.items ≡ also_counted name.now (passed notes.old.items)) }
+    ensures grew { OnOk result (Grew notes.old.items notes.new.items) }
+{
+    match name {
+        Some(name) => push_met(KeyRef::Count(name), notes),
+        None => Ok(()),
+    }
 }
 
 /// Whether it is told where the rows of an array end.
 fn rows_end(
     outermost: bool,
-    rest: &[Field],
+    fields: &[Field],
     name: &Option<Word>,
     count: Option<i32>,
     row: &[Field],
     notes: &[Note<'_>],
 ) -> bool
-    ensures { result ≡ rows_end outermost (plain_body rest.now) (passed notes.now) name.now count (plain_body row.now) }
+    ensures { result ≡ rows_end outermost (plain_body (drop 1 fields.now)) (passed_at (plain_body fields.now) notes.now) name.now count (plain_body row.now) }
 {
     if count.is_some() {
         return true;
     }
+    let rest = rest_of(fields);
     let least = least_widths(row);
-    (is_count_known(name, notes) && 1 <= least) || (ends_at_end(outermost, rest) && 8 <= least)
+    (is_count_known(fields, name, notes) && 1 <= least)
+        || (ends_at_label(rest, notes) && 1 <= least)
+        || (ends_at_end(outermost, rest) && 8 <= least)
 }
 
 /// Whether the number of rows of an array of this name is known.
-fn is_count_known(name: &Option<Word>, notes: &[Note<'_>]) -> bool
-    ensures { result ≡ is_count_known (passed notes.now) name.now }
+fn is_count_known(fields: &[Field], name: &Option<Word>, notes: &[Note<'_>]) -> bool
+    ensures { result ≡ is_count_known (passed_at (plain_body fields.now) notes.now) name.now }
 {
     match name {
-        Some(name) => is_known(notes, KeyRef::Count(name)),
+        Some(name) => is_known(fields, notes, KeyRef::Count(name)),
         None => false,
     }
 }
@@ -231,30 +232,55 @@ fn ends_at_end(outermost: bool, rest: &[Field]) -> bool
     outermost && fixed_widths(rest).is_some()
 }
 
+/// Whether a field with these behind it ends at a label.
+fn ends_at_label(rest: &[Field], notes: &[Note<'_>]) -> bool
+    ensures { result ≡ ends_at_label (plain_body rest.now) (passed notes.now).told }
+{
+    for field in rest {
+        if is_told_label(field, notes) {
+            return true;
+        }
+        if fixed_width(field).is_none() {
+            return false;
+        }
+    }
+    false
+}
+
+/// Whether a field is a label whose place is told.
+fn is_told_label(field: &Field, notes: &[Note<'_>]) -> bool
+    ensures { result ≡ is_told_label (plain_field field.now) (passed notes.now).told }
+{
+    match field {
+        Field::Label(name) => is_told(notes, KeyRef::Place(name)),
+        _ => false,
+    }
+}
+
 /// Whether a text can be read.
 fn is_text_read(
     alloc: Global,
     outermost: bool,
-    rest: &[Field],
+    fields: &[Field],
     text: &TextField,
     notes: &[Note<'_>],
 ) -> Result<bool, NoMemory>
-    ensures { IfOk result (λ read. read ≡ is_text_read outermost (plain_body rest.now) (passed notes.now) (plain_text text.now)) }
+    ensures { IfOk result (λ read. read ≡ is_text_read outermost (plain_body (drop 1 fields.now)) (passed_at (plain_body fields.now) notes.now) (plain_text text.now)) }
 {
-    if !text_ends(outermost, rest, text) {
+    if !text_ends(outermost, rest_of(fields), text, notes) {
         return Ok(false);
     }
-    all_known_in_text(alloc, notes, text)
+    all_known_in_text(alloc, fields, notes, text)
 }
 
 /// Whether it is told where a text ends.
-fn text_ends(outermost: bool, rest: &[Field], text: &TextField) -> bool
-    ensures { result ≡ text_ends outermost (plain_body rest.now) text.now.form (option_map term_of text.now.size) }
+fn text_ends(outermost: bool, rest: &[Field], text: &TextField, notes: &[Note<'_>]) -> bool
+    ensures { result ≡ text_ends outermost (plain_body rest.now) (passed notes.now).told text.now.form (option_map term_of text.now.size) }
 {
     match text.form {
         TextForm::Open => match &text.size {
             Some(_) => true,
-            None => ends_at_end(outermost, rest),
+            None => ends_at_label(rest, notes) || ends_at_end(outermost, rest),
         },
         TextForm::Pascal | TextForm::WordLong | TextForm::Zero => true,
     }
@@ -262,33 +288,33 @@ fn text_ends(outermost: bool, rest: &[Field], text: &TextField) -> bool
 
 /// Whether a number that has a fixed value or none can be read; then it tells a name that wasn't known.
 fn is_value_read<'a>(
-    rest: &[Field],
+    fields: &[Field],
     value: &'a Option<Expr>,
     notes: &mut Vec<Note<'a>>,
 ) -> Result<bool, NoMemory>
-    ensures read { IfOk result (λ read. read ≡ is_number_read (plain_body rest.now) (passed notes.old.items) (option_map term_of value.now)) }
-    ensures passed { IfOk result (λ read. read ≡ true → passed notes.new.items ≡ between (told_by (option_map term_of value.now) (passed notes.old.items))) }
+    ensures read { IfOk result (λ read. read ≡ is_number_read (plain_body (drop 1 fields.now)) (passed_at (plain_body fields.now) notes.old.items) (option_map term_of value.now)) }
+    ensures passed { IfOk result (λ read. read ≡ true → passed notes.new.items ≡ between (told_by (option_map term_of value.now) (passed_at (plain_body fields.now) notes.old.items))) }
     ensures grew { OnOk result (Grew notes.old.items notes.new.items) }
 {
     match value {
-        Some(expr) => is_expression_read(rest, expr, notes),
+        Some(expr) => is_expression_read(fields, expr, notes),
         None => Ok(true),
     }
 }
 
 /// Whether a number with this value can be read.
 fn is_expression_read<'a>(
-    rest: &[Field],
+    fields: &[Field],
     expr: &'a Expr,
     notes: &mut Vec<Note<'a>>,
 ) -> Result<bool, NoMemory>
-    ensures read { IfOk result (λ read. read ≡ is_number_read (plain_body rest.now) (passed notes.old.items) (Some (term_of expr.now))) }
-    ensures passed { IfOk result (λ read. read ≡ true → passed notes.new.items ≡ told_by (Some (term_of expr.now)) (passed notes.old.items)) }
+    ensures read { IfOk result (λ read. read ≡ is_number_read (plain_body (drop 1 fields.now)) (passed_at (plain_body fields.now) notes.old.items) (Some (term_of expr.now))) }
+    ensures passed { IfOk result (λ read. read ≡ true → passed_at (plain_body fields.now) notes.new.items ≡ told_by (Some (term_of expr.now)) (passed_at (plain_body fields.now) notes.old.items)) }
     ensures grew { OnOk result (Grew notes.old.items notes.new.items) }
 {
-    match first_unknown(notes.as_slice(), expr) {
+    match first_unknown(fields, notes.as_slice(), expr) {
         Some(key) => {
-            let read = is_told(rest, key, expr, notes)?;
+            let read = tells(fields, key, expr, notes)?;
             Ok(read)
         }
         None => Ok(true),
@@ -296,30 +322,30 @@ fn is_expression_read<'a>(
 }
 
 /// Whether a number with this value tells a name that isn't known; notes that it is known.
-fn is_told<'a>(
-    rest: &[Field],
+fn tells<'a>(
+    fields: &[Field],
     key: KeyRef<'a>,
     expr: &Expr,
     notes: &mut Vec<Note<'a>>,
 ) -> Result<bool, NoMemory>
-    ensures told { IfOk result (λ told. told ≡ tells (plain_body rest.now) (known notes.old.items) (term_of expr.now) (key_of key.entry)) }
+    ensures told { IfOk result (λ told. told ≡ tells (plain_body (drop 1 fields.now)) (passed notes.old.items).met (known (plain_body fields.now) notes.old.items) (term_of expr.now) (key_of key.entry)) }
     ensures passed { OnOk result (passed notes.new.items ≡ also_told (key_of key.entry) (passed notes.old.items)) }
     ensures grew { OnOk result (Grew notes.old.items notes.new.items) }
 {
     push_told(key, notes)?;
-    if !declares(rest, key) {
+    if !declares(rest_of(fields), key) {
         return Ok(false);
     }
     if !standing_of(key, expr).solved {
         return Ok(false);
     }
-    Ok(all_known(notes.as_slice(), expr))
+    Ok(all_known(fields, notes.as_slice(), expr))
 }
 
-/// Notes that a number tells this name.
+/// Notes that a number tells this name; so it is noted also where the name turns out not to be told.
 fn push_told<'a>(key: KeyRef<'a>, notes: &mut Vec<Note<'a>>) -> Result<(), NoMemory>
     ensures passed { OnOk result (passed notes.new.items ≡ also_told (key_of key.entry) (passed notes.old.items)) }
-    ensures known { OnOk result (known notes.new.items ≡ (λ other. is_same_key (key_of key.entry) other || known notes.old.items other)) }
+    ensures known { OnOk result ((fields : PlainBody) → known fields notes.new.items ≡ (λ other. is_same_key (key_of key.entry) other || known fields notes.old.items other)) }
     ensures grew { OnOk result (Grew notes.old.items notes.new.items) }
 {
     notes.push(Note::Told(key))?;
@@ -328,17 +354,17 @@ fn push_told<'a>(key: KeyRef<'a>, notes: &mut Vec<Note<'a>>) -> Result<(), NoMem
 
 /// Whether the numbers of a point or a rectangle can be read.
 fn are_points_read<'a>(
-    rest: &[Field],
+    fields: &[Field],
     points: &'a PointField,
     notes: &mut Vec<Note<'a>>,
 ) -> Result<bool, NoMemory>
-    ensures read { IfOk result (λ read. (outermost : Bool) → read ≡ is_read outermost (plain_body rest.now) (passed notes.old.items) (Points (plain_points points.now))) }
-    ensures passed { IfOk result (λ read. read ≡ true → passed notes.new.items ≡ behind (Points (plain_points points.now)) (passed notes.old.items)) }
+    ensures read { IfOk result (λ read. (outermost : Bool) → read ≡ is_read outermost (plain_body (drop 1 fields.now)) (passed_at (plain_body fields.now) notes.old.items) (Points (plain_points points.now))) }
+    ensures passed { IfOk result (λ read. read ≡ true → passed notes.new.items ≡ behind (Points (plain_points points.now)) (passed_at (plain_body fields.now) notes.old.items)) }
     ensures grew { OnOk result (Grew notes.old.items notes.new.items) }
 {
     match &points.fixed {
         Some(values) => {
-            let read = are_values_read(rest, values, notes)?;
+            let read = are_values_read(fields, values, notes)?;
             Ok(read)
         }
         None => Ok(true),
@@ -347,16 +373,16 @@ fn are_points_read<'a>(
 
 /// Whether numbers with these values can be read, one behind the other.
 fn are_values_read<'a>(
-    rest: &[Field],
+    fields: &[Field],
     values: &'a Exprs,
     notes: &mut Vec<Note<'a>>,
 ) -> Result<bool, NoMemory>
-    ensures read { IfOk result (λ read. (outermost : Bool) → read ≡ are_pieces_read outermost (plain_body rest.now) (passed notes.old.items) (map fixed_integer (map term_of values.now))) }
-    ensures passed { IfOk result (λ read. read ≡ true → passed notes.new.items ≡ between (behind_pieces (map fixed_integer (map term_of values.now)) (passed notes.old.items))) }
+    ensures read { IfOk result (λ read. (outermost : Bool) → read ≡ are_pieces_read outermost (plain_body (drop 1 fields.now)) (passed_at (plain_body fields.now) notes.old.items) (map fixed_integer (map term_of values.now))) }
+    ensures passed { IfOk result (λ read. read ≡ true → passed notes.new.items ≡ between (behind_pieces (map fixed_integer (map term_of values.now)) (passed_at (plain_body fields.now) notes.old.items))) }
     ensures grew { OnOk result (Grew notes.old.items notes.new.items) }
 {
     for expr in values.as_slice() {
-        if !is_expression_read(rest, expr, notes)? {
+        if !is_expression_read(fields, expr, notes)? {
             return Ok(false);
         }
     }

@@ -5,4 +5,4 @@ pub mod Arithmetic
 pub mod Appending
 pub mod Bodies
 pub mod Capped
-pub mod Near
+pub mod Marks

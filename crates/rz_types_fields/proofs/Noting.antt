@@ -1,5 +1,6 @@
 -- What is known of names behind one note more.
 use Rattle.std.proofs.Common.{◌≡◌, ℕ, suc, ◌+◌, ◌-◌, ◌%◌, ◌<◌, Bool, false, ℤ, pos, negsuc, List, [], ◌∷◌, ◌++◌, length, get_or, take, Option, Some, None, refl, sym, ap, ◌∙◌, append_assoc, arith, w32, w64}
+use Rattle.std.specs.Option.{is_some}
 use Rattle.std.specs.Prelude.{if◌then◌else◌}
 use Rattle.std.specs.Int.{cast_signed, cast_unsigned, int_wrap}
 use Rattle.std.specs.Int.RustNames.{FitsSigned}
@@ -13,7 +14,7 @@ use Rattle.rz_expr.specs.Value.{reduced}
 use Rattle.rz_expr.proofs.Cases.{same_value}
 use Rattle.rz_types_fields.specs.Field.{field_and, no_fields, Align, Array, Fill, Label, Number, PlainBody, Points, Switch, Text}
 use Rattle.rz_types_fields.specs.Passed.{declares, gives_count, outside}
-use Rattle.rz_types_fields.specs.Known.{known, noted, noting, stated_in, stated_value, Grew}
+use Rattle.rz_types_fields.specs.Known.{known, meeting, met, met_noted, noted, noting, stated_in, stated_value, Grew}
 use Rattle.rz_types_fields.specs.declared.names.Note.{Note}
 
 -- Numbers of 64 bits.
@@ -52,6 +53,29 @@ older_known notes newer note key less item =
     ap (λ (n : ℕ). noting note key ((known (take n notes)).give key)) same
     ∙ sym (known_of_older notes older note key within item)
     ∙ ap (λ (n : ℕ). (known (take n notes)).give key) next
+
+-- what is met behind one note more
+
+met_more : (before : Bool) (notes : List Note) (note : Note) (key : Key) → met_noted before (notes ++ note ∷ []) key ≡ meeting note key (met_noted before notes key)
+met_more before [] note key = refl
+met_more before (first ∷ notes) note key = met_more (meeting first key before) notes note key
+
+met_of_older : (notes : List Note) (older : ℕ) (note : Note) (key : Key) → older < length notes → note ≡ get_or notes older note
+    → met (take (older + 1) notes) key ≡ meeting note key (met (take older notes) key)
+met_of_older notes older note key less item =
+    ap (λ (front : List Note). met front key) (take_more notes older note less ∙ ap (λ (one : Note). take older notes ++ one ∷ []) (sym item))
+    ∙ met_more (is_some (outside.give key)) (take older notes) note key
+
+pub older_met : (notes : List Note) (newer : ℕ) (note : Note) (key : Key) → newer < length notes → note ≡ get_or notes (length notes - 1 - newer) note
+    → meeting note key (met (take (length notes - (newer + 1)) notes) key) ≡ met (take (length notes - newer) notes) key
+older_met notes newer note key less item =
+    let older = length notes - 1 - newer in
+    let within : older < length notes = omega arith in
+    let same : length notes - (newer + 1) ≡ older = omega arith in
+    let next : older + 1 ≡ length notes - newer = omega arith in
+    ap (λ (n : ℕ). meeting note key (met (take n notes) key)) same
+    ∙ sym (met_of_older notes older note key within item)
+    ∙ ap (λ (n : ℕ). met (take n notes) key) next
 
 -- what was only added is cut off again
 pub cut_back : {A : Type 0} (old new : List A) (note : A) (count : ℕ) → count ≡ length old → Grew (old ++ note ∷ []) new → take count new ≡ old

@@ -78,10 +78,18 @@ abbrev pub states : PlainBody → Names
 states no_fields key = false
 states (field_and field fields) key = states_key field key || states fields key
 
+-- what stands before the front of a body: what was met outside of it but for its own names
+abbrev pub met_inside : PlainBody → Names → Names
+met_inside body met key = not (declares body key) && met key
+
+-- behind a field its own name is met
+abbrev pub met_behind : PlainField → Names → Names
+met_behind field met key = gives_key field key || met key
+
 -- at the front of a body: what was known outside of it but for its own names, and of these the stated counts
 abbrev pub at_front : PlainBody → Passed → Passed
 at_front body passed = record {
-  met = λ key. not (declares body key) && passed.met key;
+  met = met_inside body passed.met;
   told = λ key. if declares body key then states body key else passed.told key;
   near = λ key. false;
 }
@@ -90,16 +98,6 @@ at_front body passed = record {
 abbrev pub is_label : PlainField → Key → Bool
 is_label (Label name) key = stands_at name.bytes key
 is_label field key = false
-
--- the field is a label
-abbrev pub is_a_label : PlainField → Bool
-is_a_label (Label name) = true
-is_a_label field = false
-
--- one of the fields of a body is, without those within
-abbrev pub has_labels : PlainBody → Bool
-has_labels no_fields = false
-has_labels (field_and field fields) = is_a_label field || has_labels fields
 
 -- what stands behind the field is at a known distance
 abbrev pub is_measured : PlainField → Bool
@@ -135,4 +133,4 @@ behind_pieces (piece ∷ pieces) passed = behind_pieces pieces (behind_piece pie
 -- behind a field: an array or a label is met, and what its numbers tell is told
 abbrev pub behind : PlainField → Passed → Passed
 behind field passed =
-    between (behind_pieces (pieces_of field) (record { met = λ key. gives_key field key || passed.met key; told = passed.told; near = passed.near }))
+    between (behind_pieces (pieces_of field) (record { met = met_behind field passed.met; told = passed.told; near = passed.near }))

@@ -1,5 +1,5 @@
 -- What an expression sees at a place in a resource, and which numbers are computed after all others. (MPW Rez.)
-use Rattle.std.specs.Prelude.{ℕ, ℤ, pos, Bool, false, ◌||◌, not, if◌then◌else◌, List, take, drop, Option, None, option_map}
+use Rattle.std.specs.Prelude.{ℕ, ◌-◌, ℤ, pos, Bool, false, ◌||◌, not, if◌then◌else◌, List, ◌++◌, length, take, drop, replicate, Option, None, option_map}
 use Rattle.std.specs.List.{list_any}
 use Rattle.std.specs.Result.{is_ok}
 use Rattle.rz_core.specs.declared.facts.Facts.{Facts}
@@ -24,6 +24,10 @@ sees known all names at = see known (bits_before all at) names
 -- which bits are those of a late number, one that is computed after all others: a mark for each bit
 abbrev pub Late : Type 0
 Late = List Bool
+
+-- a mark for each of so many bits, where those behind the marks aren't late
+abbrev pub marked : ℕ → List Bool → Late
+marked count marks = marks ++ replicate (count - length marks) false
 
 -- one of so many bits from a bit on is late
 abbrev pub hit : Late → ℤ → ℤ → Bool

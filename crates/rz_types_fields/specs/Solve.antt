@@ -95,6 +95,11 @@ solve key sight (OfTwo op left right) number =
 abbrev pub solved_count : ℕ → Key → Sight → Term → ℕ → Option ℤ
 solved_count width key sight term stored = option_map (λ count. pos (cast_unsigned w64 count % 2 ^ width)) (solve key sight term (pos stored))
 
+-- the value of a name where an expression is stored so: a number of rows, or a place
+abbrev pub solved_value : ℕ → Key → Sight → Term → ℕ → Option ℤ
+solved_value width (place_of name) sight term stored = solve (place_of name) sight term (pos stored)
+solved_value width (count_of name) sight term stored = solved_count width (count_of name) sight term stored
+
 -- Which names can be solved.
 
 abbrev pub undoes_one : UnaryOp → Bool
@@ -147,4 +152,4 @@ AreSolved known solved names (OfTwo op left right) = AreSolved known solved name
 
 -- what a number stores tells the values of the names of its expression that weren't known before it
 abbrev pub SolvesBack : (known : Key → Bool) → ℕ → Sight → Term → ℕ → Type 0
-SolvesBack known width sight term stored = AreSolved known (λ key. solved_count width key sight term stored) sight.names term
+SolvesBack known width sight term stored = AreSolved known (λ key. solved_value width key sight term stored) sight.names term

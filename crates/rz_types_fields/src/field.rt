@@ -80,12 +80,12 @@ pub struct NumField {
     pub unsigned: bool,
     /// How it is shown.
     pub radix: Radix,
+    /// Whether it is the key of a case.
+    pub key: bool,
     /// Names for its values.
     pub symbols: Symbols,
     /// The fixed value, where there is one.
     pub fixed: Option<Expr>,
-    /// Whether it is the key of a case.
-    pub key: bool,
 }
 
 /// A text. (MPW Rez.)

@@ -13,7 +13,7 @@
 //! read in `rz_types`, the walk in `rz_types_check`, `copies` of `rz_types_table`, its form in `rz_stmt_fields` and, for
 //! strings and what has fields within it, in `rz_stmt_type`, which has the values of constants too, the item that fits it
 //! in `rz_stmt_items`, and what `rz_layout` lays. A new kind of name is a case of `KeyRef` and of `Note`; one that a field
-//! gives, of `gives_key`. A new kind of value is a variant of `Tree`, with a call of `values`.
+//! gives, of `gives_key`. A new kind of value is a variant of `Tree`, with a call of `rz_types::values`.
 #![tactic(auto)]
 
 mod expressions;
@@ -27,7 +27,6 @@ mod stored;
 mod text;
 mod tree;
 mod value;
-pub mod values;
 
 pub use expressions::{expressions_of, format_expressions, text_expressions};
 pub use field::{
@@ -39,7 +38,7 @@ pub use name_key::{
     KeyRef, Standing, counts_rows, declares, is_predefined, is_same_key, standing_of, stands_at,
     states,
 };
-pub use names::{NamesEnv, Note, place_of, rows_of};
+pub use names::{NamesEnv, Note, is_met, place_of, rows_of};
 pub use place::{TextPlace, may_say, may_stand};
 pub use range::{fits_number, may_be_size, own_width};
 pub use stored::{is_too_long, stored_number};

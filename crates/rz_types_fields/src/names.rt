@@ -1,12 +1,12 @@
 //! What expressions see of names: notes of the numbers of rows and of places, the oldest first, of which the newest of a
 //! name counts.
 
-ghost use Rattle.std.specs.Prelude.{◌≡◌, ℤ, Option, Some, if◌then◌else◌};
+ghost use Rattle.std.specs.Prelude.{◌≡◌, ℤ, Bool, Option, Some, if◌then◌else◌};
 ghost use Rattle.std.specs.Option.{unwrap_or};
 ghost use Rattle.rz_expr.specs.Environment.{count_key, place_key, IsSeenIn};
 ghost use Rattle.rz_expr.specs.Value.{reduced};
 ghost use Rattle.rz_types_fields.specs.Field.{plain_body, plain_field};
-ghost use Rattle.rz_types_fields.specs.Known.{known, noting, stated_by, stated_in, stated_value};
+ghost use Rattle.rz_types_fields.specs.Known.{known, meeting, met, noting, stated_by, stated_in, stated_value};
 ghost use Rattle.rz_types_fields.specs.NameKey.{key_of};
 ghost use Rattle.rz_types_fields.specs.Value.{no_bits, see};
 
@@ -22,6 +22,8 @@ pub enum Note<'a> {
     Told(&'a Word, i64),
     /// An array has so many rows.
     Counted(&'a Word, i64),
+    /// A number told where a label stands that comes later, in bits from the start of the resource.
+    PlaceTold(&'a Word, i32),
     /// A label stands at this place, in bits from the start of the resource.
     Placed(&'a Word, i32),
     /// A body was entered: its own labels have no place yet, and its own arrays no number of rows but the one that is stated.
@@ -108,7 +110,7 @@ fn places(note: &Note<'_>, name: &Word) -> Option<Option<i32>>
 {
     match *note {
         Note::Told(..) | Note::Counted(..) => None,
-        Note::Placed(label, place) => {
+        Note::Placed(label, place) | Note::PlaceTold(label, place) => {
             if stands_at(label, KeyRef::Place(name)) {
                 Some(Some(place))
             } else {
@@ -133,10 +135,47 @@ fn counts(note: &Note<'_>, name: &Word) -> Option<Option<i64>>
         Note::Told(array, rows) | Note::Counted(array, rows) => {
             if_so(counts_rows(array, KeyRef::Count(name)), rows)
         }
-        Note::Placed(..) => None,
+        Note::Placed(..) | Note::PlaceTold(..) => None,
         Note::Entered(fields) => {
             if declares(fields, KeyRef::Count(name)) {
                 Some(wide(stated_in(fields, KeyRef::Count(name))))
+            } else {
+                None
+            }
+        }
+    }
+}
+
+/// Whether a label of this name, in whatever case, stands before, or the name is `true` or `false`. It looks from the newest
+/// note on, and for each body that was entered through its fields.
+pub fn is_met(notes: &[Note<'_>], name: &Word) -> bool
+    ensures { result ≡ met notes.now (place_key name.now.bytes) }
+{
+    for newer in 0..notes.len() {
+        match meets(&notes[notes.len() - 1 - newer], name) {
+            Some(met) => return met,
+            None => {}
+        }
+    }
+    predefined(name).is_some()
+}
+
+/// Whether a label of this name stands before, where a note says it.
+fn meets(note: &Note<'_>, name: &Word) -> Option<bool>
+    ensures { (before : Bool) → meeting note.now (place_key name.now.bytes) before ≡ unwrap_or result before }
+{
+    match *note {
+        Note::Told(..) | Note::PlaceTold(..) | Note::Counted(..) => None,
+        Note::Placed(label, _) => {
+            if stands_at(label, KeyRef::Place(name)) {
+                Some(true)
+            } else {
+                None
+            }
+        }
+        Note::Entered(fields) => {
+            if declares(fields, KeyRef::Place(name)) {
+                Some(false)
             } else {
                 None
             }

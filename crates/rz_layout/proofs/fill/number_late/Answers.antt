@@ -10,7 +10,7 @@ use Rattle.rz_types_fields.specs.Known.{known}
 use Rattle.rz_types_fields.specs.Laid.{ranged, Refusal}
 use Rattle.rz_types_fields.specs.Sees.{sees}
 use Rattle.rz_layout.proofs.Fills.{late_value}
-use Rattle.rz_layout.proofs.Marks.{beside_none}
+use Rattle.rz_types_fields.proofs.Marks.{beside_none}
 use Rattle.rz_layout.proofs.fill.number_late.Goals as goal
 
 no : Refusal → Result (List Bool) Refusal

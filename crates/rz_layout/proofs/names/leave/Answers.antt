@@ -1,6 +1,6 @@
 use Rattle.std.proofs.Common.{◌≡◌, ◌-◌, true, List, ◌++◌, length, take, drop, refl, ap, ◌∙◌}
 use Rattle.rz_layout.specs.Laid.{has_names, kept_late}
-use Rattle.rz_layout.specs.Late.{closed_by, numbers_in}
+use Rattle.rz_layout.specs.Late.{numbers_in}
 use Rattle.rz_types_fields.specs.Field.{plain_body}
 use Rattle.rz_types_fields.specs.Laid.{LateNumber}
 use Rattle.rz_layout.proofs.Fills.{inside_is, numbers_append, numbers_more, rest_taken}

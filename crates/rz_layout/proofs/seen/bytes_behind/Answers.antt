@@ -3,7 +3,7 @@ use Rattle.rz_core.specs.Stop.{Gives}
 use Rattle.rz_expr.specs.Environment.{Sight}
 use Rattle.rz_types_fields.specs.Spells.{nowhere}
 use Rattle.rz_types_fields.specs.Text.{bytes_seen, plain_parts}
-use Rattle.rz_layout.proofs.Marks.{sight_is}
+use Rattle.rz_types_fields.proofs.Marks.{sight_is}
 use Rattle.rz_layout.proofs.seen.bytes_behind.Goals as goal
 
 pub returns : goal.returns

@@ -2,7 +2,8 @@ use Rattle.std.proofs.Common.{◌+ℤ◌, ◌≤ℤ◌, arith, ℤ, pos, take, d
 use Rattle.std.specs.Prelude.{nat_abs}
 use Rattle.std.proofs.lemmas.Int.{ints, to_z-of_z}
 use Rattle.rz_bits.specs.View.{number_at}
-use Rattle.rz_layout.proofs.Marks.{any_set, not_less, seen_number}
+use Rattle.rz_bits.proofs.Any.{any_set}
+use Rattle.rz_types_fields.proofs.Marks.{not_less, seen_number}
 use Rattle.rz_layout.proofs.seen.number_seen.Goals as goal
 
 pub returns : goal.returns

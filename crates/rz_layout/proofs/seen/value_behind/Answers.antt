@@ -1,7 +1,7 @@
 use Rattle.std.proofs.Common.{ap, ◌∙◌}
 use Rattle.rz_expr.specs.Term.{term_of}
 use Rattle.rz_expr.specs.Value.{value_of}
-use Rattle.rz_layout.proofs.Marks.{sight_is}
+use Rattle.rz_types_fields.proofs.Marks.{sight_is}
 use Rattle.rz_layout.proofs.seen.value_behind.Goals as goal
 
 pub returns : goal.returns

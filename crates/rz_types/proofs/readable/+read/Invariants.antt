@@ -5,11 +5,10 @@ use Rattle.rz_types_fields.specs.Known.{Grew}
 use Rattle.rz_types.specs.Readable.{are_cases_read, are_read}
 use Rattle.rz_types.proofs.readable.+read.Given as goal
 
-abbrev pub invariant-are_read-loop-field : goal.invariant-are_read-loop-field
-invariant-are_read-loop-field l = record {
-  read : are_read l.outermost (passed l.notes.items) (plain_body (drop l.field-index l.fields)) ≡ are_read l.outermost (passed l.fn.notes.items) (plain_body l.fields);
+abbrev pub invariant-are_read-loop-position : goal.invariant-are_read-loop-position
+invariant-are_read-loop-position l = record {
+  read : are_read l.outermost (passed l.notes.items) (plain_body (drop l.position l.fields)) ≡ are_read l.outermost (passed l.fn.notes.items) (plain_body l.fields);
   grew : Grew l.fn.notes.items l.notes.items;
-  behind : l.behind ≡ l.field-index;
 }
 
 abbrev pub invariant-are_cases_read-loop-case : goal.invariant-are_cases_read-loop-case

@@ -13,10 +13,10 @@ use Rattle.rz_layout.proofs.laid.Laid.put_late.Goals as goal
 pub returns-clause-laid : goal.returns-clause-laid
 returns-clause-laid c =
     let wide = to_z-of_z w32 c.args.width c.ranges.width in
-    late_draft c.args.self.now.piece c.one_more-self.result c.args.self.now.bits c.args.self.now.marks c.push_zeros.new.bits c.push_ones.new.bits c.push_zeros-2.new.bits
+    late_draft c.args.self.now.piece c.one_more-self.result c.args.self.now.bits c.args.self.now.marks c.push_many.new.self c.push_many-2.new.self c.push_many-3.new.self
     (known c.args.self.now.notes.items) (numbers_in c.args.self.now.late) (numbers_in c.push.new.self) c.args.form c.args.width (term_of c.args.term.now) _ _ _
-    c.one_more-self.ensures c.requires.short.marks c.in_ok-push_zeros.ensures (omega (arith, c.len-at.ensures.is, c.len.ensures.is)) c.in_ok-push_ones.ensures (ap nat_abs wide)
-    c.in_ok-push_zeros-2.ensures (ap nat_abs wide) (subst (λ (n : ℕ). length c.args.self.now.bits + n ≤ most_bits) (ap nat_abs wide) c.in-Ok.ensures)
+    c.one_more-self.ensures c.requires.short.marks c.in_ok-push_many.ensures.ok (omega (arith, c.len-at.ensures.is, c.len.ensures.is)) c.in_ok-push_many-2.ensures.ok (ap nat_abs wide)
+    c.in_ok-push_many-3.ensures.ok (ap nat_abs wide) (subst (λ (n : ℕ). length c.args.self.now.bits + n ≤ most_bits) (ap nat_abs wide) c.in-Ok.ensures)
     (ap numbers_in c.in_ok-push.ensures.ok ∙ numbers_more c.args.self.now.late _
     ∙ ap (λ (own : List LateNumber). numbers_in c.args.self.now.late ++ own) (number_is _ _ refl
     ∙ (λ i. record { piece = c.args.self.now.piece; at = c.len-at.ensures.is i; form = c.args.form; width = wide i; term = term_of c.args.term.now; names = λ names. names } ∷ [])))

@@ -3,7 +3,7 @@ use Rattle.std.specs.Prelude.{if◌then◌else◌, nat_abs, option_map, IfSome}
 use Rattle.std.specs.Int.RustNames.{FitsSigned}
 use Rattle.std.proofs.lemmas.Int.{ints, to_z-of_z}
 use Rattle.rz_types_fields.specs.Sees.{bits_before, hit}
-use Rattle.rz_layout.proofs.Marks.{width_back}
+use Rattle.rz_types_fields.proofs.Marks.{width_back}
 use Rattle.rz_layout.proofs.seen.DraftEnvEnv.bits.Goals as goal
 
 pub returns-in-Some : goal.returns-in-Some
