@@ -1,7 +1,7 @@
 -- What each kind of field is read as.
-use Rattle.std.proofs.Common.{◌≡◌, ℕ, ◌*◌, Bool, ℤ, List, Option, sym, ap, ◌∙◌}
+use Rattle.std.proofs.Common.{◌≡◌, ℕ, ◌*◌, ℤ, List, Option, sym, ap, ◌∙◌}
 use Rattle.std.specs.Prelude.{nat_abs}
-use Rattle.rz_core.specs.declared.facts.Facts.{Facts}
+use Rattle.rz_core.specs.declared.resource.Word.{Word}
 use Rattle.rz_bits.specs.BitBuf.{missing}
 use Rattle.rz_expr.specs.Environment.{Environment}
 use Rattle.rz_types_fields.specs.declared.field.ArrayField.{ArrayField}
@@ -10,13 +10,14 @@ use Rattle.rz_types_fields.specs.declared.field.Field.{Field}
 use Rattle.rz_types_fields.specs.declared.field.Field.TheFolds.{fold-roll-Field}
 use Rattle.rz_types_fields.specs.declared.field.Field.TheOpen.{Field-F}
 use Rattle.rz_types_fields.specs.declared.field.Field.TheVariants as fields
-use Rattle.rz_types_fields.specs.declared.field.Field.TheVariants.{rolls-Align, rolls-Array, rolls-Fill, rolls-Num, rolls-Points, rolls-Switch, rolls-Text}
+use Rattle.rz_types_fields.specs.declared.field.Field.TheVariants.{rolls-Align, rolls-Array, rolls-Fill, rolls-Label, rolls-Num, rolls-Points, rolls-Switch, rolls-Text}
 use Rattle.rz_types_fields.specs.declared.field.NumField.{NumField}
 use Rattle.rz_types_fields.specs.declared.field.PointField.{PointField}
 use Rattle.rz_types_fields.specs.declared.field.TextField.{TextField}
-use Rattle.rz_types_fields.specs.Field.{array_step, case_step, field_step, plain_array, plain_cases, plain_field, plain_number, plain_points, plain_text, Align, Fill, Number, PlainBody, PlainCase, PlainField, Points, Switch, Text}
-use Rattle.rz_unlay_pieces.specs.Pieces.{field_of_pieces, number_step, text_step, zeros_step, Step}
-use Rattle.rz_unlay_pieces.proofs.PieceSteps.{align_alone, fill_alone, number_alone, text_alone}
+use Rattle.rz_types_fields.specs.Field.{array_step, case_step, field_step, plain_array, plain_cases, plain_field, plain_number, plain_points, plain_text, Align, Fill, Label, Number, PlainCase, PlainField, Points, Switch, Text}
+use Rattle.rz_types_fields.specs.Sees.{Late}
+use Rattle.rz_unlay_pieces.specs.Pieces.{field_of_pieces, label_step, number_step, text_step, zeros_step, Here, Step}
+use Rattle.rz_unlay_pieces.proofs.PieceSteps.{align_alone, fill_alone, label_alone, number_alone, text_alone}
 
 pub num_is : (field : Field) (number : NumField) → field ≡ fields.Num number → plain_field field ≡ Number (plain_number number)
 num_is field number is = ap plain_field is ∙ ap plain_field (sym (rolls-Num number)) ∙ fold-roll-Field PlainField PlainField PlainCase field_step array_step case_step (Field-F.Num number)
@@ -33,28 +34,34 @@ fill_is field unit count is = ap plain_field is ∙ ap plain_field (sym (rolls-F
 pub align_is : (field : Field) (unit : ℕ) → field ≡ fields.Align unit → plain_field field ≡ Align unit
 align_is field unit is = ap plain_field is ∙ ap plain_field (sym (rolls-Align unit)) ∙ fold-roll-Field PlainField PlainField PlainCase field_step array_step case_step (Field-F.Align unit)
 
+pub label_is : (field : Field) (name : Word) → field ≡ fields.Label name → plain_field field ≡ Label name
+label_is field name is = ap plain_field is ∙ ap plain_field (sym (rolls-Label name)) ∙ fold-roll-Field PlainField PlainField PlainCase field_step array_step case_step (Field-F.Label name)
+
 pub array_field : (field : Field) (array : ArrayField) → field ≡ fields.Array array → plain_field field ≡ plain_array array
 array_field field array is = ap plain_field is ∙ ap plain_field (sym (rolls-Array array)) ∙ fold-roll-Field PlainField PlainField PlainCase field_step array_step case_step (Field-F.Array array)
 
 pub switch_is : (field : Field) (cases : List Case) → field ≡ fields.Switch cases → plain_field field ≡ Switch (plain_cases cases)
 switch_is field cases is = ap plain_field is ∙ ap plain_field (sym (rolls-Switch cases)) ∙ fold-roll-Field PlainField PlainField PlainCase field_step array_step case_step (Field-F.Switch cases)
 
-module _ (known : Facts) (all : List Bool) (rest : PlainBody) (names : Environment) (at : ℕ) (field : Field) where
+module _ (here : Here) (names : Environment) (at : ℕ) (late : Late) (field : Field) where
   abbrev whole : PlainField → Option Step
-  whole plain = field_of_pieces known all rest plain names at
+  whole plain = field_of_pieces here plain names at late
 
   pub number_piece : (number : NumField) → field ≡ fields.Num number
-      → number_step known all number.form number.width (plain_number number).fixed names at ≡ whole (plain_field field)
-  number_piece number is = sym (ap whole (num_is field number is) ∙ number_alone known all rest names at (plain_number number))
+      → number_step here number.form number.width (plain_number number).fixed names at late ≡ whole (plain_field field)
+  number_piece number is = sym (ap whole (num_is field number is) ∙ number_alone here names at late (plain_number number))
 
-  pub text_piece : (text : TextField) → field ≡ fields.Text text → text_step known all rest (plain_text text) names at ≡ whole (plain_field field)
-  text_piece text is = sym (ap whole (text_is field text is) ∙ text_alone known all rest names at (plain_text text))
+  pub text_piece : (text : TextField) → field ≡ fields.Text text → text_step here (plain_text text) names at late ≡ whole (plain_field field)
+  text_piece text is = sym (ap whole (text_is field text is) ∙ text_alone here names at late (plain_text text))
 
-  pub fill_piece : (unit : ℕ) (count : ℤ) → field ≡ fields.Fill unit count → zeros_step all (unit * nat_abs count) names at ≡ whole (plain_field field)
-  fill_piece unit count is = sym (ap whole (fill_is field unit count is) ∙ fill_alone known all rest names at unit count)
+  pub fill_piece : (unit : ℕ) (count : ℤ) → field ≡ fields.Fill unit count → zeros_step here.all (unit * nat_abs count) names at late ≡ whole (plain_field field)
+  fill_piece unit count is = sym (ap whole (fill_is field unit count is) ∙ fill_alone here names at late unit count)
 
-  pub align_piece : (unit : ℕ) → field ≡ fields.Align unit → zeros_step all (missing unit at) names at ≡ whole (plain_field field)
-  align_piece unit is = sym (ap whole (align_is field unit is) ∙ align_alone known all rest names at unit)
+  pub align_piece : (unit : ℕ) → field ≡ fields.Align unit → zeros_step here.all (missing unit at) names at late ≡ whole (plain_field field)
+  align_piece unit is = sym (ap whole (align_is field unit is) ∙ align_alone here names at late unit)
 
   pub points_piece : (points : PointField) → field ≡ fields.Points points → whole (Points (plain_points points)) ≡ whole (plain_field field)
   points_piece points is = sym (ap whole (points_is field points is))
+
+  pub label_piece : (name : Word) → field ≡ fields.Label name → label_step name names at late ≡ whole (plain_field field)
+  label_piece name is = sym (ap whole (label_is field name is) ∙ label_alone here names at late name)

@@ -1,5 +1,9 @@
 pub mod Counts
 pub mod Undone
+pub mod Marking
+pub mod Lateness
+pub mod Claims
+pub mod Labels
 pub mod TextSteps
 pub mod PieceSteps
 pub mod LeafSteps

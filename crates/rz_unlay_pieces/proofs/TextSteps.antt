@@ -7,15 +7,19 @@ use Rattle.rz_bits.specs.Bits.{front_bytes, number_of}
 use Rattle.rz_bits.specs.View.{bytes_at, number_at}
 use Rattle.rz_bits.proofs.Windows.{bytes_there, number_there}
 use Rattle.rz_types_fields.specs.Stored.{before_zero, stored_text, to_size}
-use Rattle.rz_core.specs.declared.facts.Facts.{Facts}
 use Rattle.rz_expr.specs.Environment.{Environment}
-use Rattle.rz_types_fields.specs.Field.{PlainBody, PlainText}
+use Rattle.rz_types_fields.specs.Field.{PlainText}
+use Rattle.rz_types_fields.specs.Piece.{terms_of_text}
+use Rattle.rz_types_fields.specs.Sees.{marked, Late}
+use Rattle.rz_types_fields.specs.Spells.{is_one_late}
+use Rattle.rz_unlay_pieces.specs.Ahead.{Told}
+use Rattle.rz_unlay_pieces.specs.Seen.{told_capped}
+use Rattle.rz_unlay_pieces.proofs.Marking.{marked_more}
 use Rattle.rz_types_fields.specs.Width.{capped}
-use Rattle.rz_types_fields.specs.Value.{no_bits, see}
 use Rattle.rz_unlay_pieces.specs.Texts.{sized_count, sized_step, stored_count}
 use Rattle.rz_types_fields.specs.declared.field.TextForm.{TextForm}
 use Rattle.rz_types_fields.specs.declared.field.TextForm.TheVariants as texts
-use Rattle.rz_unlay_pieces.specs.Pieces.{before_zeros, bytes_left, one_byte_size, same_bytes, size_read, text_size, text_step, Step, trimmed, two_byte_size, up_to_zero}
+use Rattle.rz_unlay_pieces.specs.Pieces.{before_zeros, bytes_before, bytes_left, early_text, late_behind, one_byte_size, open_size, same_bytes, seen_at, size_read, text_size, text_step, Here, Step, trimmed, two_byte_size, up_to_zero}
 
 -- The same bytes.
 
@@ -275,16 +279,85 @@ left_capped len (Some width) at short = by (leb_tells (suc len) (at + width))
         let same : capped width ≡ width = omega arith in
         ap (λ w. bytes_left len (Some w) at) same
 
+-- Sizes up to a label.
+
+abbrev whole_bytes : ℕ → Bool → Option ℕ
+whole_bytes room whole = if whole then Some (room / 8) else None
+
+abbrev to_label : Told → ℕ → Bool → Option ℕ
+to_label told at over = if over then None else whole_bytes (told.place - told.width - at) ((told.place - told.width - at) % 8 == 0)
+
+module _ (told : Told) (at : ℕ) where
+  pub before_over : told.place < at + told.width → None ≡ bytes_before told at
+  before_over over = let one : nat_lt told.place (at + told.width) ≡ true = grind (arith, nat_tests) in ap (to_label told at) (sym one)
+
+  pub before_whole : at + told.width ≤ told.place → (told.place - at - told.width) % 8 ≡ 0 → Some ((told.place - at - told.width) / 8) ≡ bytes_before told at
+  before_whole within whole =
+      let one : nat_lt told.place (at + told.width) ≡ false = grind (arith, nat_tests) in
+      let e : told.place - at - told.width ≡ told.place - told.width - at = omega arith in
+      let other : ((told.place - told.width - at) % 8 == 0) ≡ true = grind (arith, nat_tests) in
+      ap (λ (n : ℕ). Some (n / 8)) e ∙ ap (whole_bytes (told.place - told.width - at)) (sym other) ∙ ap (to_label told at) (sym one)
+
+  pub before_part : at + told.width ≤ told.place → (told.place - at - told.width) % 8 ≢ 0 → None ≡ bytes_before told at
+  before_part within part =
+      let one : nat_lt told.place (at + told.width) ≡ false = grind (arith, nat_tests) in
+      let e : told.place - at - told.width ≡ told.place - told.width - at = omega arith in
+      let other : ((told.place - told.width - at) % 8 == 0) ≡ false = grind (arith, nat_tests) in
+      ap (whole_bytes (told.place - told.width - at)) (sym other) ∙ ap (to_label told at) (sym one)
+
+-- one of a width that is capped
+pub before_capped : (told : Told) (at : ℕ) → told.place ≤ 134217696 → bytes_before (told_capped told) at ≡ bytes_before told at
+before_capped told at short = by (leb_tells told.width 134217697)
+  where
+    by : ((nat_le told.width 134217697 ≡ true) × (told.width ≤ 134217697)) ⊎ ((nat_le told.width 134217697 ≡ false) × (134217697 < told.width)) → bytes_before (told_capped told) at ≡ bytes_before told at
+    by (inl (is, few)) =
+        let same : capped told.width ≡ told.width = omega (arith, few) in
+        ap (λ (w : ℕ). bytes_before (record { place = told.place; width = w }) at) same
+    by (inr (is, many)) =
+        let one : nat_lt told.place (at + capped told.width) ≡ true = grind (arith, nat_tests) in
+        let other : nat_lt told.place (at + told.width) ≡ true = grind (arith, nat_tests) in
+        ap (λ (test : Bool). if test then None else if (told.place - capped told.width - at) % 8 == 0 then Some ((told.place - capped told.width - at) / 8) else None) one
+        ∙ sym (ap (λ (test : Bool). if test then None else if (told.place - told.width - at) % 8 == 0 then Some ((told.place - told.width - at) / 8) else None) other)
+
+told_some : (one other : Told) → ◌≡◌ {A = Option Told} (Some one) (Some other) → one ≡ other
+told_some one other is = cc
+
+pub open_told : (len : ℕ) (told : Option Told) (label : Told) (width : Option ℕ) (at : ℕ) → label.place ≤ 134217696 → Some label ≡ option_map told_capped told → bytes_before label at ≡ open_size len told width at
+open_told len None label width at short is = absurd cc
+open_told len (Some told) label width at short is =
+    let same = told_some label (told_capped told) is in
+    let place : label.place ≡ told.place = ap (λ (t : Told). t.place) same in
+    ap (λ (t : Told). bytes_before t at) same ∙ before_capped told at (omega (arith, short, place))
+
+pub open_left : (len : ℕ) (told : Option Told) (width : Option ℕ) (at : ℕ) → None ≡ option_map told_capped told → bytes_left len width at ≡ open_size len told width at
+open_left len None width at is = refl
+open_left len (Some told) width at is = absurd cc
+
 -- A text whose size and count of bytes are known.
 
-module _ (known : Facts) (all : List Bool) (rest : PlainBody) (text : PlainText) (names : Environment) (at : ℕ) where
+module _ (here : Here) (text : PlainText) (names : Environment) (at : ℕ) (late : Late) where
   abbrev behind_size : Option ℕ → Option Step
-  behind_size size = option_and_then (sized_step known all text size names at) (text_size known (see known no_bits names) all rest text.form size text.fixed at)
+  behind_size size = option_and_then (sized_step here text size names at late) (text_size here names text.form size text.fixed at)
 
-  pub text_found : (size : Option ℕ) (count : ℕ) → Some size ≡ size_read known all text.form text.size names at → Some count ≡ text_size known (see known no_bits names) all rest text.form size text.fixed at
-      → sized_step known all text size names at count ≡ text_step known all rest text names at
-  text_found size count has counted = ap (option_and_then (sized_step known all text size names at)) counted ∙ ap (option_and_then behind_size) has
+  pub text_found : (size : Option ℕ) (count : ℕ) → Some size ≡ size_read text.form text.size (seen_at here names at) → Some count ≡ text_size here names text.form size text.fixed at
+      → sized_step here text size names at late count ≡ early_text here text names at late
+  text_found size count has counted = ap (option_and_then (sized_step here text size names at late)) counted ∙ ap (option_and_then behind_size) has
 
-  pub no_text : (size : Option ℕ) → Some size ≡ size_read known all text.form text.size names at → None ≡ text_size known (see known no_bits names) all rest text.form size text.fixed at
-      → None ≡ text_step known all rest text names at
-  no_text size has counted = ap (option_and_then (sized_step known all text size names at)) counted ∙ ap (option_and_then behind_size) has
+  pub no_text : (size : Option ℕ) → Some size ≡ size_read text.form text.size (seen_at here names at) → None ≡ text_size here names text.form size text.fixed at
+      → None ≡ early_text here text names at late
+  no_text size has counted = ap (option_and_then (sized_step here text size names at late)) counted ∙ ap (option_and_then behind_size) has
+
+  -- none of its expressions is late, or one is
+
+  abbrev early_if : Bool → Option Step
+  early_if test = if test then None else early_text here text names at late
+
+  pub early_is : false ≡ is_one_late here.met late (terms_of_text text) (seen_at here names at) → early_text here text names at late ≡ text_step here text names at late
+  early_is is = ap early_if is
+
+  pub late_text : true ≡ is_one_late here.met late (terms_of_text text) (seen_at here names at) → None ≡ text_step here text names at late
+  late_text is = ap early_if is
+
+-- The place behind a text.
+pub after_text : (marks : List Bool) (at count : ℕ) → length marks ≤ at → marked (at + 8 * count) marks ≡ late_behind (marked at marks) (8 * count) false
+after_text marks at count few = marked_more marks at (8 * count) few

@@ -98,10 +98,10 @@ module _ (key : Key) (sight : Sight) (op : BinaryOp) (left right : Term) (number
       → Some inner ≡ option_and_then in_64_bits (undo_right op side number) → result ≡ solve key sight right inner → result ≡ solve key sight (OfTwo op left right) number
   right_solved side inner result has known undone is = is ∙ ap (option_and_then (solve key sight right)) undone ∙ ap by_right known ∙ ap by_test (sym has)
 
-pub both_solved : (solved : Key → Environment → Option ℤ) (op : BinaryOp) (left right : Term) (names more : Environment) → Some more ≡ solve_all solved left names
-    → solve_all solved right more ≡ solve_all solved (OfTwo op left right) names
-both_solved solved op left right names more is = ap (option_and_then (solve_all solved right)) is
+pub both_solved : (near : Environment → Environment) (solved : Key → Environment → Option ℤ) (op : BinaryOp) (left right : Term) (names more : Environment) → Some more ≡ solve_all near solved left names
+    → solve_all near solved right more ≡ solve_all near solved (OfTwo op left right) names
+both_solved near solved op left right names more is = ap (option_and_then (solve_all near solved right)) is
 
-pub not_both : (solved : Key → Environment → Option ℤ) (op : BinaryOp) (left right : Term) (names : Environment) → None ≡ solve_all solved left names
-    → None ≡ solve_all solved (OfTwo op left right) names
-not_both solved op left right names is = ap (option_and_then (solve_all solved right)) is
+pub not_both : (near : Environment → Environment) (solved : Key → Environment → Option ℤ) (op : BinaryOp) (left right : Term) (names : Environment) → None ≡ solve_all near solved left names
+    → None ≡ solve_all near solved (OfTwo op left right) names
+not_both near solved op left right names is = ap (option_and_then (solve_all near solved right)) is

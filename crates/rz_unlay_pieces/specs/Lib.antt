@@ -1,8 +1,12 @@
+pub mod Ahead
+pub mod Asked
 pub mod Pieces
 pub mod Came
 pub mod Few
 pub mod Fits
 pub mod Names
+pub mod Numbers
 pub mod Points
+pub mod Seen
 pub mod Power
 pub mod Texts

@@ -1,53 +1,95 @@
-//! What is known of the names of arrays. What a claim tells is in `specs/Pieces`, what is noted in `specs/Names`.
+//! What is known of the names of arrays and of labels. What a claim tells is in `specs/Pieces`, what notes mean in
+//! `rz_types_fields`, in `specs/Known`.
 
-ghost use Rattle.std.specs.Prelude.{◌≡◌, IfOk, OnOk, Some, pos};
+ghost use Rattle.std.specs.Prelude.{◌≡◌, IfOk, OnOk, Some, pos, true};
+ghost use Rattle.rz_expr.specs.Environment.{count_key, place_key};
 ghost use Rattle.rz_types_fields.specs.Field.{plain_body};
-ghost use Rattle.rz_types_fields.specs.Known.{known, names_inside, Grew};
+ghost use Rattle.rz_types_fields.specs.Known.{known, met, names_inside, Grew};
+ghost use Rattle.rz_types_fields.specs.Passed.{met_inside, stands_at};
 ghost use Rattle.rz_unlay_pieces.specs.Names.{told};
-ghost use Rattle.rz_unlay_pieces.specs.Pieces.{claim_count};
+ghost use Rattle.rz_unlay_pieces.specs.Pieces.{agrees, claim, claim_count};
+ghost use Rattle.rz_unlay_pieces.specs.Seen.{met_counted, met_placed};
 
+use crate::learnt::Learnt;
 use rz_core::{NoMemory, Word};
-use rz_types_fields::{Field, Note, rows_of};
+use rz_types_fields::{Field, Note, place_of, rows_of};
 
-/// Enters a body: what was known of its own names is hidden, and the stated numbers of its arrays are known.
-pub fn enter<'a>(fields: &'a [Field], notes: &mut Vec<Note<'a>>) -> Result<(), NoMemory>
-    ensures known { OnOk result (known notes.new.items ≡ names_inside (plain_body fields.now) (known notes.old.items)) }
-    ensures grew { OnOk result (Grew notes.old.items notes.new.items) }
+/// Enters a body, with one note: what was known of its own names is hidden, and the stated numbers of its arrays are known.
+pub fn enter<'a>(fields: &'a [Field], learnt: &mut Learnt<'a>) -> Result<(), NoMemory>
+    ensures known { OnOk result (known learnt.new.notes.items ≡ names_inside (plain_body fields.now) (known learnt.old.notes.items)) }
+    ensures met { OnOk result (met learnt.new.notes.items ≡ met_inside (plain_body fields.now) (met learnt.old.notes.items)) }
+    ensures grew { OnOk result (Grew learnt.old.notes.items learnt.new.notes.items) }
+    ensures marks { OnOk result (learnt.new.marks ≡ learnt.old.marks) }
 {
-    notes.push(Note::Entered(fields))?;
+    learnt.notes.push(Note::Entered(fields))?;
     Ok(())
 }
 
-/// Notes that the array of this name, if it has one, has so many rows. False if it is known to have another number.
+/// Notes that the array of this name, if it has one, has so many rows. False, with no note, if it is known to have another
+/// number. The name is looked for from the newest note on.
 pub fn claim_count<'a>(
     name: &'a Option<Word>,
     rows: u32,
-    notes: &mut Vec<Note<'a>>,
+    learnt: &mut Learnt<'a>,
 ) -> Result<bool, NoMemory>
-    ensures known { IfOk result (λ holds. told holds (known notes.new.items) ≡ claim_count name.now rows (known notes.old.items)) }
-    ensures grew { IfOk result (λ holds. Grew notes.old.items notes.new.items) }
+    ensures known { IfOk result (λ holds. told holds (known learnt.new.notes.items) ≡ claim_count name.now rows (known learnt.old.notes.items)) }
+    ensures met { IfOk result (λ holds. holds ≡ true → met learnt.new.notes.items ≡ met_counted name.now (met learnt.old.notes.items)) }
+    ensures grew { IfOk result (λ holds. Grew learnt.old.notes.items learnt.new.notes.items) }
+    ensures marks { IfOk result (λ holds. learnt.new.marks ≡ learnt.old.marks) }
 {
     match name {
-        Some(name) => claim_name(name, rows, notes),
+        Some(name) => claim_rows(name, i64::from(rows), learnt),
         None => Ok(true),
     }
 }
 
-fn claim_name<'a>(name: &'a Word, rows: u32, notes: &mut Vec<Note<'a>>) -> Result<bool, NoMemory>
-    ensures known { IfOk result (λ holds. told holds (known notes.new.items) ≡ claim_count (Some name.now) rows (known notes.old.items)) }
-    ensures grew { IfOk result (λ holds. Grew notes.old.items notes.new.items) }
+/// Notes that the array of this name has so many rows.
+fn claim_rows<'a>(name: &'a Word, rows: i64, learnt: &mut Learnt<'a>) -> Result<bool, NoMemory>
+    ensures known { IfOk result (λ holds. told holds (known learnt.new.notes.items) ≡ claim (count_key name.now.bytes) rows (known learnt.old.notes.items)) }
+    ensures met { IfOk result (λ holds. holds ≡ true → met learnt.new.notes.items ≡ met_counted (Some name.now) (met learnt.old.notes.items)) }
+    ensures grew { IfOk result (λ holds. Grew learnt.old.notes.items learnt.new.notes.items) }
+    ensures marks { IfOk result (λ holds. learnt.new.marks ≡ learnt.old.marks) }
 {
-    match rows_of(notes.as_slice(), name) {
-        Some(before) => Ok(before == i64::from(rows)),
-        None => {
-            notes.push(Note::Counted(name, wide(rows)))?;
-            Ok(true)
-        }
+    if agrees(rows_of(learnt.notes.as_slice(), name), rows) {
+        learnt.notes.push(Note::Counted(name, rows))?;
+        Ok(true)
+    } else {
+        Ok(false)
     }
 }
 
-fn wide(rows: u32) -> i64
-    ensures { result ≡ pos rows }
+/// Notes that the label of this name stands at a place, in bits. False if another place of it was told. The name is looked for
+/// from the newest note on.
+pub fn claim_place<'a>(name: &'a Word, at: i32, learnt: &mut Learnt<'a>) -> Result<bool, NoMemory>
+    ensures known { IfOk result (λ holds. told holds (known learnt.new.notes.items) ≡ claim (place_key name.now.bytes) at (known learnt.old.notes.items)) }
+    ensures met { IfOk result (λ holds. holds ≡ true → met learnt.new.notes.items ≡ met_placed name.now (met learnt.old.notes.items)) }
+    ensures grew { IfOk result (λ holds. Grew learnt.old.notes.items learnt.new.notes.items) }
+    ensures marks { IfOk result (λ holds. learnt.new.marks ≡ learnt.old.marks) }
 {
-    i64::from(rows)
+    if agrees_place(place_of(learnt.notes.as_slice(), name), at) {
+        learnt.notes.push(Note::Placed(name, at))?;
+        Ok(true)
+    } else {
+        Ok(false)
+    }
+}
+
+/// Whether no other value is known.
+fn agrees(known: Option<i64>, value: i64) -> bool
+    ensures { result ≡ agrees known value }
+{
+    match known {
+        Some(known) => known == value,
+        None => true,
+    }
+}
+
+/// Whether no other place is known.
+fn agrees_place(known: Option<i32>, place: i32) -> bool
+    ensures { result ≡ agrees known place }
+{
+    match known {
+        Some(known) => known == place,
+        None => true,
+    }
 }

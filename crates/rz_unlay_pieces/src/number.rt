@@ -1,60 +1,63 @@
 //! Numbers at a place: those of the row, and those with fixed values. They are defined in `specs/Pieces`.
 
-ghost use Rattle.std.specs.Prelude.{◌≡◌, ◌+◌, ◌<◌, ◌≤◌, ◌^◌, nat_abs, true, length, IfOk, IfSome, None, Some, option_map};
+ghost use Rattle.std.specs.Prelude.{◌≡◌, ◌+◌, ◌<◌, ◌≤◌, ◌^◌, nat_abs, false, length, IfOk, IfSome, None, Ok, Some, option_map};
 ghost use Rattle.rz_bits.specs.View.{number_at, seen};
 ghost use Rattle.rz_expr.specs.Environment.{Environment};
 ghost use Rattle.rz_expr.specs.Term.{term_of};
-ghost use Rattle.rz_expr.specs.Value.{value_of};
 ghost use Rattle.rz_types_fields.specs.Field.{plain_number};
-ghost use Rattle.rz_types_fields.specs.Value.{is_fixed_expression, no_bits, see};
-ghost use Rattle.rz_unlay_pieces.specs.Came.{step_in, step_of};
-ghost use Rattle.rz_unlay_pieces.specs.Pieces.{is_stored, number_step};
-ghost use Rattle.rz_unlay_pieces.specs.Fits.{FixedFits};
-ghost use Rattle.rz_types_fields.specs.Known.{known, Grew};
+ghost use Rattle.rz_types_fields.specs.Known.{known, met, Grew};
+ghost use Rattle.rz_types_fields.specs.Sees.{marked, Late};
+ghost use Rattle.rz_unlay_pieces.specs.Came.{here_of, step_in, step_of};
+ghost use Rattle.rz_types_fields.specs.Passed.{Names};
+ghost use Rattle.rz_types_fields.specs.declared.field.NumForm.{NumForm};
+ghost use Rattle.rz_unlay_pieces.specs.Pieces.{is_stored, late_behind, number_step};
+ghost use Rattle.rz_unlay_pieces.specs.Numbers.{stored_step};
+ghost use Rattle.rz_unlay_pieces.specs.Seen.{sight_at};
 
 use crate::came::Came;
-use crate::solve::solve_all;
+use crate::late::value_at;
+use crate::learnt::{Learnt, mark_bits};
+use crate::solve::{Asked, solve_all};
+use crate::spot::Spot;
 use rz_bits::BitView;
-use rz_core::{Facts, NoMemory};
-use rz_expr::{Expr, value_in};
-use rz_types_fields::{NamesEnv, Note, NumField, NumForm, Tree, fits_number, stored_number};
+use rz_core::NoMemory;
+use rz_expr::Expr;
+use rz_types_fields::{NumField, NumForm, Tree, fits_number, stored_number};
 
 /// Reads a number: its bits are the value of the row, or are as its expression is stored, which tells the names that
-/// aren't known. `Ok(None)` where they aren't there or aren't stored so.
+/// aren't known. `Ok(None)` where they aren't there or aren't stored so. Its bits are late where its expression names a label
+/// behind it, or has no value beside late bits.
 pub fn read_number<'a>(
-    view: &BitView<'_>,
+    spot: &Spot<'_>,
     field: &'a NumField,
-    facts: &Facts,
-    notes: &mut Vec<Note<'a>>,
+    learnt: &mut Learnt<'a>,
     at: u32,
 ) -> Result<Option<Came>, NoMemory>
     requires width { nat_abs field.now.width ≤ 32 }
-    requires fixed { FixedFits (plain_number field.now).fixed }
-    ensures step { IfOk result (λ came. option_map (step_of notes.new.items) came
-        ≡ number_step facts.now (seen view.now) field.now.form field.now.width (plain_number field.now).fixed (known notes.old.items) at) }
-    ensures within { IfOk result (λ came. IfSome came (λ c. c.after ≤ length (seen view.now))) }
-    ensures grew { IfOk result (λ came. Grew notes.old.items notes.new.items) }
+    requires marks { length learnt.old.marks ≤ at }
+    ensures step { IfOk result (λ came. option_map (step_of learnt.new) came
+        ≡ number_step (here_of spot.now (met learnt.old.notes.items)) field.now.form field.now.width (plain_number field.now).fixed (known learnt.old.notes.items) at (marked at learnt.old.marks)) }
+    ensures within { IfOk result (λ came. IfSome came (λ c. c.after ≤ length (seen spot.now.view.now))) }
+    ensures met { IfOk result (λ came. met learnt.new.notes.items ≡ met learnt.old.notes.items) }
+    ensures grew { IfOk result (λ came. Grew learnt.old.notes.items learnt.new.notes.items) }
+    ensures marks { IfOk result (λ came. IfSome came (λ c. length learnt.new.marks ≤ c.after)) }
 {
     match &field.fixed {
-        Some(expr) => read_fixed(view, expr, field.form, field.width, facts, notes, at),
-        None => Ok(read_free(view, field.form, field.width, facts, at)),
+        Some(expr) => read_fixed(spot, expr, field.form, field.width, learnt, at),
+        None => Ok(read_free(spot, field.width, at)),
     }
 }
 
 /// Reads a number of the row.
 #[tactic(auto, using(crate::proofs::PieceSteps::seen_length, crate::proofs::Counts::count_number))]
-fn read_free(
-    view: &BitView<'_>,
-    _form: NumForm,
-    width: i32,
-    _facts: &Facts,
-    at: u32,
-) -> Option<Came>
+fn read_free(spot: &Spot<'_>, width: i32, at: u32) -> Option<Came>
     requires { nat_abs width ≤ 32 }
-    ensures step { (names : Environment) → option_map (step_in names) result ≡ number_step _facts.now (seen view.now) _form width None names at }
-    ensures within { IfSome result (λ c. c.after ≤ length (seen view.now)) }
+    ensures step { (before : Names) (form : NumForm) (names : Environment) (late : Late)
+        → option_map (step_in names (late_behind late (nat_abs width) false)) result ≡ number_step (here_of spot.now before) form width None names at late }
+    ensures after { IfSome result (λ c. c.after ≡ at + nat_abs width) }
+    ensures within { IfSome result (λ c. c.after ≤ length (seen spot.now.view.now)) }
 {
-    match number_at(view, at, width) {
+    match number_at(spot.view, at, width) {
         Some(number) => Some(Came {
             value: Some(Tree::Number(number)),
             after: at + width.unsigned_abs(),
@@ -65,37 +68,36 @@ fn read_free(
 }
 
 /// Reads a number with a fixed value.
-#[tactic(auto, using(crate::proofs::PieceSteps::seen_length))]
 pub fn read_fixed<'a>(
-    view: &BitView<'_>,
+    spot: &Spot<'_>,
     expr: &'a Expr,
     form: NumForm,
     width: i32,
-    facts: &Facts,
-    notes: &mut Vec<Note<'a>>,
+    learnt: &mut Learnt<'a>,
     at: u32,
 ) -> Result<Option<Came>, NoMemory>
     requires width { nat_abs width ≤ 32 }
-    requires fixed { is_fixed_expression (term_of expr.now) ≡ true }
-    ensures step { IfOk result (λ came. option_map (step_of notes.new.items) came
-        ≡ number_step facts.now (seen view.now) form width (Some (term_of expr.now)) (known notes.old.items) at) }
+    requires marks { length learnt.old.marks ≤ at }
+    ensures step { IfOk result (λ came. option_map (step_of learnt.new) came
+        ≡ number_step (here_of spot.now (met learnt.old.notes.items)) form width (Some (term_of expr.now)) (known learnt.old.notes.items) at (marked at learnt.old.marks)) }
     ensures none { IfOk result (λ came. IfSome came (λ c. c.value ≡ None)) }
-    ensures within { IfOk result (λ came. IfSome came (λ c. c.after ≤ length (seen view.now))) }
-    ensures grew { IfOk result (λ came. Grew notes.old.items notes.new.items) }
+    ensures within { IfOk result (λ came. IfSome came (λ c. c.after ≤ length (seen spot.now.view.now))) }
+    ensures met { IfOk result (λ came. met learnt.new.notes.items ≡ met learnt.old.notes.items) }
+    ensures grew { IfOk result (λ came. Grew learnt.old.notes.items learnt.new.notes.items) }
+    ensures marks { IfOk result (λ came. IfSome came (λ c. length learnt.new.marks ≤ c.after)) }
 {
     let bits = width.unsigned_abs();
-    match number_at(view, at, width) {
+    match number_at(spot.view, at, width) {
         Some(number) => {
-            if solve_all(expr, expr, bits, number, facts, notes)? {
-                if is_stored(expr, form, width, number, facts, notes.as_slice()) {
-                    Ok(Some(Came {
-                        value: None,
-                        after: at + bits,
-                        cost: 0,
-                    }))
-                } else {
-                    Ok(None)
-                }
+            let asked = Asked {
+                whole: expr,
+                width: bits,
+                stored: number,
+                spot,
+                at,
+            };
+            if solve_all(expr, &asked, learnt)? {
+                read_stored(spot, expr, form, width, number, learnt, at)
             } else {
                 Ok(None)
             }
@@ -114,20 +116,47 @@ fn number_at(view: &BitView<'_>, at: u32, width: i32) -> Option<u32>
     view.at(at, width.unsigned_abs() as u8)
 }
 
-/// Whether the value of an expression is in range and is stored as this number.
-fn is_stored(
+/// Reads a number with a fixed value whose names are known: it is in range and is stored as this number.
+fn read_stored(
+    spot: &Spot<'_>,
     expr: &Expr,
     form: NumForm,
     width: i32,
     number: u32,
-    facts: &Facts,
-    notes: &[Note<'_>],
-) -> bool
-    ensures { result ≡ is_stored form width (value_of (term_of expr.now) (see facts.now no_bits (known notes.now))) number }
+    learnt: &mut Learnt<'_>,
+    at: u32,
+) -> Result<Option<Came>, NoMemory>
+    requires width { nat_abs width ≤ 32 }
+    requires within { at + nat_abs width ≤ length (seen spot.now.view.now) }
+    requires marks { length learnt.old.marks ≤ at }
+    ensures step { IfOk result (λ came. option_map (step_of learnt.new) came
+        ≡ stored_step (met learnt.old.notes.items) form width (term_of expr.now) number (sight_at spot.now learnt.old at) (known learnt.old.notes.items) at (marked at learnt.old.marks)) }
+    ensures none { IfOk result (λ came. IfSome came (λ c. c.value ≡ None)) }
+    ensures after { IfOk result (λ came. IfSome came (λ c. c.after ≡ at + nat_abs width)) }
+    ensures notes { IfOk result (λ came. learnt.new.notes.items ≡ learnt.old.notes.items) }
+    ensures marks { IfOk result (λ came. IfSome came (λ c. length learnt.new.marks ≤ c.after)) }
 {
-    let names = NamesEnv { facts, notes };
-    match value_in(expr, &names) {
-        Ok(value) => fits_number(form, width, value) && stored_number(width, value) == number,
-        Err(_) => false,
+    match value_at(expr, spot, learnt, at) {
+        Some(valued) => {
+            if is_stored(form, width, valued.value, number) {
+                let bits = width.unsigned_abs();
+                mark_bits(valued.late, at, bits, &mut learnt.marks)?;
+                Ok(Some(Came {
+                    value: None,
+                    after: at + bits,
+                    cost: 0,
+                }))
+            } else {
+                Ok(None)
+            }
+        }
+        None => Ok(None),
     }
+}
+
+/// Whether a value is in range and is stored as this number.
+fn is_stored(form: NumForm, width: i32, value: i32, number: u32) -> bool
+    ensures { result ≡ is_stored form width (Ok value) number }
+{
+    fits_number(form, width, value) && stored_number(width, value) == number
 }

@@ -1,111 +1,189 @@
-//! Expressions solved for the numbers of rows that they name. What is solved is in `specs/Pieces`.
+//! Expressions solved for the numbers of rows and the labels that they name. What is solved is in `specs/Pieces`.
 
-ghost use Rattle.std.specs.Prelude.{◌≡◌, ◌≤◌, ◌%◌, ◌^◌, ◌+ℤ◌, ◌-ℤ◌, ◌*ℤ◌, neg_ℤ, pos, true, IfOk, Some, option_and_then, option_map};
+ghost use Rattle.std.specs.Prelude.{◌≡◌, ◌≤◌, ◌%◌, ◌^◌, ◌+ℤ◌, ◌-ℤ◌, ◌*ℤ◌, neg_ℤ, pos, IfOk, Some, option_and_then};
 ghost use Rattle.std.specs.Int.{cast_unsigned, w64};
 ghost use Rattle.std.specs.Result.{result_ok};
-ghost use Rattle.rz_expr.specs.Environment.{count_key};
+ghost use Rattle.rz_expr.specs.Environment.{count_key, place_key};
 ghost use Rattle.rz_expr.specs.Term.{term_of};
 ghost use Rattle.rz_expr.specs.Value.{value_of};
-ghost use Rattle.rz_types_fields.specs.Solve.{exact, has_key, in_64_bits, solve, solved_count, undo_left, undo_one, undo_right};
-ghost use Rattle.rz_types_fields.specs.Value.{is_fixed_expression, no_bits, see};
-ghost use Rattle.rz_unlay_pieces.specs.Pieces.{also, solve_all, solve_key};
+ghost use Rattle.rz_types_fields.specs.Known.{known, met, Grew};
+ghost use Rattle.rz_types_fields.specs.NameKey.{key_of};
+ghost use Rattle.rz_types_fields.specs.Solve.{exact, found_if, has_key, in_64_bits, solve, undo_left, undo_one, undo_right};
+ghost use Rattle.rz_unlay_pieces.specs.Ahead.{in_resource};
+ghost use Rattle.rz_unlay_pieces.specs.Asked.{asked_sight, solves};
 ghost use Rattle.rz_unlay_pieces.specs.Names.{told};
-ghost use Rattle.rz_types_fields.specs.Known.{known, Grew};
+ghost use Rattle.rz_unlay_pieces.specs.Pieces.{also, solve_all, solve_key};
 ghost use Rattle.rz_unlay_pieces.specs.Power.{power_of};
+ghost use Rattle.rz_unlay_pieces.specs.Seen.{env_sight, near_names};
 
-use rz_core::{Facts, NoMemory, Word};
+use crate::learnt::Learnt;
+use crate::seen::{SpotEnv, place_seen};
+use crate::spot::Spot;
+use rz_core::{NoMemory, Word};
 use rz_expr::{BinaryOp, Expr, UnaryOp, value_in};
-use rz_types_fields::{KeyRef, NamesEnv, Note, is_same_key, rows_of, standing_of};
+use rz_types_fields::{KeyRef, Note, is_same_key, rows_of, standing_of};
 
-/// Solves the numbers of rows in an expression that have no value yet, one after the other: each has the value with which
-/// the whole expression is stored as this number. False where there is none.
+/// An expression that is stored as a number.
+#[derive(Clone, Copy)]
+pub struct Asked<'r> {
+    /// The expression.
+    pub whole: &'r Expr,
+    /// How many bits the number has.
+    pub width: u32,
+    /// The number.
+    pub stored: u32,
+    /// Where the field is read.
+    pub spot: &'r Spot<'r>,
+    /// The place of the number, in bits.
+    pub at: u32,
+}
+
+/// Solves the numbers of rows and the labels in an expression that have no value yet, one after the other: each has the value
+/// with which the whole expression is stored as this number, and a label lies in the resource. False where there is none.
 pub fn solve_all<'a>(
     part: &'a Expr,
-    whole: &Expr,
-    width: u32,
-    stored: u32,
-    facts: &Facts,
-    notes: &mut Vec<Note<'a>>,
+    asked: &Asked<'_>,
+    learnt: &mut Learnt<'a>,
 ) -> Result<bool, NoMemory>
-    requires width { width ≤ 32 }
-    requires fixed { is_fixed_expression (term_of part.now) ≡ true }
-    ensures known { IfOk result (λ holds. told holds (known notes.new.items)
-        ≡ solve_all (λ key seen. solved_count width key (see facts.now no_bits seen) (term_of whole.now) stored) (term_of part.now) (known notes.old.items)) }
-    ensures grew { IfOk result (λ holds. Grew notes.old.items notes.new.items) }
+    requires { asked.now.width ≤ 32 }
+    ensures known { IfOk result (λ holds. told holds (known learnt.new.notes.items)
+        ≡ solve_all (near_names asked.now.spot.now) (solves asked.now) (term_of part.now) (known learnt.old.notes.items)) }
+    ensures met { IfOk result (λ holds. met learnt.new.notes.items ≡ met learnt.old.notes.items) }
+    ensures grew { IfOk result (λ holds. Grew learnt.old.notes.items learnt.new.notes.items) }
+    ensures marks { IfOk result (λ holds. learnt.new.marks ≡ learnt.old.marks) }
 {
     match part {
-        Expr::Count(name) => solve_name(name, whole, width, stored, facts, notes),
-        Expr::Unary(_, operand) => solve_all(operand, whole, width, stored, facts, notes),
+        Expr::Name(name) => solve_place(name, asked, learnt),
+        Expr::Count(name) => solve_count(name, asked, learnt),
+        Expr::Unary(_, operand) => solve_all(operand, asked, learnt),
         Expr::Binary(_, left, right) => {
-            if solve_all(left, whole, width, stored, facts, notes)? {
-                solve_all(right, whole, width, stored, facts, notes)
+            if solve_all(left, asked, learnt)? {
+                solve_all(right, asked, learnt)
             } else {
                 Ok(false)
             }
         }
-        Expr::Number(_) | Expr::Name(_) | Expr::Bits(..) | Expr::Fact(_) => Ok(true),
+        Expr::Number(_) | Expr::Bits(..) | Expr::Fact(_) => Ok(true),
     }
 }
 
-/// Solves the number of rows of an array, where it isn't known.
-fn solve_name<'a>(
+/// Solves the place of a label, where it isn't known.
+fn solve_place<'a>(
     name: &'a Word,
-    whole: &Expr,
-    width: u32,
-    stored: u32,
-    facts: &Facts,
-    notes: &mut Vec<Note<'a>>,
+    asked: &Asked<'_>,
+    learnt: &mut Learnt<'a>,
 ) -> Result<bool, NoMemory>
-    requires { width ≤ 32 }
-    ensures known { IfOk result (λ holds. told holds (known notes.new.items)
-        ≡ solve_key (λ key seen. solved_count width key (see facts.now no_bits seen) (term_of whole.now) stored)
-        (count_key name.now.bytes) ((known notes.old.items).give (count_key name.now.bytes)) (known notes.old.items)) }
-    ensures grew { IfOk result (λ holds. Grew notes.old.items notes.new.items) }
+    ensures known { IfOk result (λ holds. told holds (known learnt.new.notes.items)
+        ≡ solve_key (solves asked.now) (place_key name.now.bytes) ((near_names asked.now.spot.now (known learnt.old.notes.items)).give (place_key name.now.bytes)) (known learnt.old.notes.items)) }
+    ensures met { IfOk result (λ holds. met learnt.new.notes.items ≡ met learnt.old.notes.items) }
+    ensures grew { IfOk result (λ holds. Grew learnt.old.notes.items learnt.new.notes.items) }
+    ensures marks { IfOk result (λ holds. learnt.new.marks ≡ learnt.old.marks) }
 {
-    match rows_of(notes.as_slice(), name) {
+    match place_seen(name, asked.spot, learnt) {
         Some(_) => Ok(true),
         None => {
-            let seen = notes.as_slice();
-            let solved = solved_count(name, whole, width, stored, facts, seen);
-            tell(name, solved, notes)
+            let solved = solved_place(name, asked, learnt);
+            tell_place(name, solved, learnt)
         }
     }
 }
 
-/// Notes the number of rows of an array, where it was solved.
-fn tell<'a>(
+/// Solves the number of rows of an array, where it isn't known.
+fn solve_count<'a>(
     name: &'a Word,
-    solved: Option<i64>,
-    notes: &mut Vec<Note<'a>>,
+    asked: &Asked<'_>,
+    learnt: &mut Learnt<'a>,
 ) -> Result<bool, NoMemory>
-    ensures known { IfOk result (λ holds. told holds (known notes.new.items)
-        ≡ option_and_then (λ value. Some (also (count_key name.now.bytes) value (known notes.old.items))) solved) }
-    ensures grew { IfOk result (λ holds. Grew notes.old.items notes.new.items) }
+    requires { asked.now.width ≤ 32 }
+    ensures known { IfOk result (λ holds. told holds (known learnt.new.notes.items)
+        ≡ solve_key (solves asked.now) (count_key name.now.bytes) ((near_names asked.now.spot.now (known learnt.old.notes.items)).give (count_key name.now.bytes)) (known learnt.old.notes.items)) }
+    ensures met { IfOk result (λ holds. met learnt.new.notes.items ≡ met learnt.old.notes.items) }
+    ensures grew { IfOk result (λ holds. Grew learnt.old.notes.items learnt.new.notes.items) }
+    ensures marks { IfOk result (λ holds. learnt.new.marks ≡ learnt.old.marks) }
+{
+    match rows_of(learnt.notes.as_slice(), name) {
+        Some(_) => Ok(true),
+        None => {
+            let solved = solved_count(name, asked, learnt);
+            tell_count(name, solved, learnt)
+        }
+    }
+}
+
+/// Notes the place of a label, where it was solved.
+fn tell_place<'a>(
+    name: &'a Word,
+    solved: Option<i32>,
+    learnt: &mut Learnt<'a>,
+) -> Result<bool, NoMemory>
+    ensures known { IfOk result (λ holds. told holds (known learnt.new.notes.items)
+        ≡ option_and_then (λ value. Some (also (place_key name.now.bytes) value (known learnt.old.notes.items))) solved) }
+    ensures met { IfOk result (λ holds. met learnt.new.notes.items ≡ met learnt.old.notes.items) }
+    ensures grew { IfOk result (λ holds. Grew learnt.old.notes.items learnt.new.notes.items) }
+    ensures marks { IfOk result (λ holds. learnt.new.marks ≡ learnt.old.marks) }
 {
     match solved {
-        Some(rows) => {
-            notes.push(Note::Told(name, rows))?;
+        Some(place) => {
+            learnt.notes.push(Note::PlaceTold(name, place))?;
             Ok(true)
         }
         None => Ok(false),
     }
 }
 
-/// The number of rows with which the expression is stored as this number.
-fn solved_count(
-    name: &Word,
-    whole: &Expr,
-    width: u32,
-    stored: u32,
-    facts: &Facts,
-    notes: &[Note<'_>],
-) -> Option<i64>
-    requires { width ≤ 32 }
-    ensures { result ≡ solved_count width (count_key name.now.bytes) (see facts.now no_bits (known notes.now)) (term_of whole.now) stored }
+/// Notes the number of rows of an array, where it was solved.
+fn tell_count<'a>(
+    name: &'a Word,
+    solved: Option<i64>,
+    learnt: &mut Learnt<'a>,
+) -> Result<bool, NoMemory>
+    ensures known { IfOk result (λ holds. told holds (known learnt.new.notes.items)
+        ≡ option_and_then (λ value. Some (also (count_key name.now.bytes) value (known learnt.old.notes.items))) solved) }
+    ensures met { IfOk result (λ holds. met learnt.new.notes.items ≡ met learnt.old.notes.items) }
+    ensures grew { IfOk result (λ holds. Grew learnt.old.notes.items learnt.new.notes.items) }
+    ensures marks { IfOk result (λ holds. learnt.new.marks ≡ learnt.old.marks) }
 {
-    let names = NamesEnv { facts, notes };
-    match solve(name, whole, &names, i64::from(stored)) {
-        Some(number) => Some(lowest(number, width)),
+    match solved {
+        Some(rows) => {
+            learnt.notes.push(Note::Told(name, rows))?;
+            Ok(true)
+        }
+        None => Ok(false),
+    }
+}
+
+/// The place with which the expression is stored as this number, where it lies in the resource.
+fn solved_place(name: &Word, asked: &Asked<'_>, learnt: &Learnt<'_>) -> Option<i32>
+    ensures { result ≡ solves asked.now (place_key name.now.bytes) (known learnt.now.notes.items) }
+{
+    let solved = solve_whole(KeyRef::Place(name), asked, learnt);
+    in_resource(asked.spot.view.len(), solved)
+}
+
+/// A place that was solved, where it lies in a resource of so many bits.
+fn in_resource(len: u32, place: Option<i64>) -> Option<i32>
+    requires { len ≤ 134217696 }
+    ensures { result ≡ in_resource len place }
+{
+    match place {
+        Some(place) => {
+            if place >= 0 && place <= i64::from(len) {
+                Some(place as i32)
+            } else {
+                None
+            }
+        }
+        None => None,
+    }
+}
+
+/// The number of rows with which the expression is stored as this number.
+fn solved_count(name: &Word, asked: &Asked<'_>, learnt: &Learnt<'_>) -> Option<i64>
+    requires { asked.now.width ≤ 32 }
+    ensures { result ≡ solves asked.now (count_key name.now.bytes) (known learnt.now.notes.items) }
+{
+    match solve_whole(KeyRef::Count(name), asked, learnt) {
+        Some(number) => Some(lowest(number, asked.width)),
         None => None,
     }
 }
@@ -118,60 +196,75 @@ fn lowest(number: i64, width: u32) -> i64
     (number.cast_unsigned() % 2_u64.pow(width)) as i64
 }
 
-/// The number of rows that the array of this name has for the expression to come to a number.
-fn solve(name: &Word, expr: &Expr, names: &NamesEnv<'_>, number: i64) -> Option<i64>
-    ensures { result ≡ solve (count_key name.now.bytes) (see names.now.facts.now no_bits (known names.now.notes.now)) (term_of expr.now) number }
+/// The value of a name with which the whole expression comes to the number.
+fn solve_whole(key: KeyRef<'_>, asked: &Asked<'_>, learnt: &Learnt<'_>) -> Option<i64>
+    ensures { result ≡ solve (key_of key.entry) (asked_sight asked.now (known learnt.now.notes.items)) (term_of asked.now.whole.now) (pos asked.now.stored) }
+{
+    let env = SpotEnv {
+        spot: asked.spot,
+        learnt,
+        hides: false,
+        at: asked.at,
+    };
+    solve(key, asked.whole, &env, i64::from(asked.stored))
+}
+
+/// The value that a name has for the expression to come to a number.
+fn solve(key: KeyRef<'_>, expr: &Expr, env: &SpotEnv<'_>, number: i64) -> Option<i64>
+    ensures { result ≡ solve (key_of key.entry) (env_sight env.now) (term_of expr.now) number }
 {
     match expr {
-        Expr::Count(other) => {
-            if is_same_key(KeyRef::Count(name), KeyRef::Count(other)) {
-                Some(number)
-            } else {
-                None
-            }
-        }
+        Expr::Name(other) => found_if(is_same_key(key, KeyRef::Place(other)), number),
+        Expr::Count(other) => found_if(is_same_key(key, KeyRef::Count(other)), number),
         Expr::Unary(op, operand) => match undo_one(*op, number) {
-            Some(inner) => solve(name, operand, names, inner),
+            Some(inner) => solve(key, operand, env, inner),
             None => None,
         },
         Expr::Binary(op, left, right) => {
-            if has_name(left, name) {
-                match known_side(right, names) {
+            if has_key(left, key) {
+                match known_side(right, env) {
                     Some(side) => match undo_left(*op, side, number) {
-                        Some(inner) => solve(name, left, names, inner),
+                        Some(inner) => solve(key, left, env, inner),
                         None => None,
                     },
                     None => None,
                 }
             } else {
-                match known_side(left, names) {
+                match known_side(left, env) {
                     Some(side) => match undo_right(*op, side, number) {
-                        Some(inner) => solve(name, right, names, inner),
+                        Some(inner) => solve(key, right, env, inner),
                         None => None,
                     },
                     None => None,
                 }
             }
         }
-        Expr::Number(_) | Expr::Name(_) | Expr::Bits(..) | Expr::Fact(_) => None,
+        Expr::Number(_) | Expr::Bits(..) | Expr::Fact(_) => None,
     }
+}
+
+/// The number, where it is so.
+fn found_if(holds: bool, number: i64) -> Option<i64>
+    ensures { result ≡ found_if holds number }
+{
+    if holds { Some(number) } else { None }
+}
+
+/// Whether a name stands in an expression.
+fn has_key(expr: &Expr, key: KeyRef<'_>) -> bool
+    ensures { result ≡ has_key (key_of key.entry) (term_of expr.now) }
+{
+    standing_of(key, expr).stands
 }
 
 /// The value of an operand, where it has one.
-fn known_side(expr: &Expr, names: &NamesEnv<'_>) -> Option<i32>
-    ensures { result ≡ result_ok (value_of (term_of expr.now) (see names.now.facts.now no_bits (known names.now.notes.now))) }
+fn known_side(expr: &Expr, env: &SpotEnv<'_>) -> Option<i32>
+    ensures { result ≡ result_ok (value_of (term_of expr.now) (env_sight env.now)) }
 {
-    match value_in(expr, names) {
+    match value_in(expr, env) {
         Ok(value) => Some(value),
         Err(_) => None,
     }
-}
-
-/// Whether the number of rows of an array of this name stands in an expression.
-fn has_name(expr: &Expr, name: &Word) -> bool
-    ensures { result ≡ has_key (count_key name.now.bytes) (term_of expr.now) }
-{
-    standing_of(KeyRef::Count(name), expr).stands
 }
 
 /// The operand of which an operator made this number, where it has 64 bits.

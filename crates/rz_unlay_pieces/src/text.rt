@@ -2,49 +2,78 @@
 
 ghost use Rattle.std.specs.Prelude.{◌≡◌, ◌+◌, ◌-◌, ◌*◌, ◌/◌, ◌<◌, ◌≤◌, ◌^◌, length, IfOk, IfSome, option_and_then, option_map};
 ghost use Rattle.rz_bits.specs.View.{bytes_at, number_at, seen};
-ghost use Rattle.rz_expr.specs.Environment.{Environment};
 ghost use Rattle.rz_expr.specs.Term.{term_of};
 ghost use Rattle.std.specs.Result.{result_ok};
 ghost use Rattle.rz_types_fields.specs.Field.{plain_body, plain_text as plain_field_text};
+ghost use Rattle.rz_types_fields.specs.Known.{known, met};
+ghost use Rattle.rz_types_fields.specs.Sees.{marked};
 ghost use Rattle.rz_types_fields.specs.Stored.{stored_text};
 ghost use Rattle.rz_types_fields.specs.Text.{bytes_seen, plain_parts};
-ghost use Rattle.rz_types_fields.specs.Value.{no_bits, see};
 ghost use Rattle.rz_types_fields.specs.Spells.{nowhere};
-ghost use Rattle.rz_unlay_pieces.specs.Came.{step_in};
-ghost use Rattle.rz_unlay_pieces.specs.Pieces.{bytes_left, size_read, stored_size, text_size, text_step, up_to_zero};
-ghost use Rattle.rz_types_fields.specs.Known.{known};
+ghost use Rattle.rz_types_fields.specs.Width.{fixed_widths};
+ghost use Rattle.rz_unlay_pieces.specs.Ahead.{told_label};
+ghost use Rattle.rz_unlay_pieces.specs.Came.{here_of, step_of};
+ghost use Rattle.rz_unlay_pieces.specs.Pieces.{bytes_before, bytes_left, early_text, open_size, size_read, stored_size, text_size, text_step, up_to_zero};
+ghost use Rattle.rz_unlay_pieces.specs.Seen.{sight_at, told_of};
 ghost use Rattle.rz_unlay_pieces.specs.Texts.{raw_step, sized_step};
 
+use crate::ahead::{LabelAhead, told_label};
 use crate::came::Came;
+use crate::late::{is_late_text, value_with_late};
+use crate::learnt::Learnt;
 use crate::plain::plain_text;
+use crate::seen::SpotEnv;
+use crate::spot::Spot;
 use crate::stored::{is_stored_fixed, is_stored_text, stored_length};
 use rz_bits::BitView;
 use rz_core::{Bytes, Mark, NoMemory, Stop};
-use rz_expr::{Expr, value_in};
+use rz_expr::Expr;
 use rz_types_fields::{
-    Field, NamesEnv, TextField, TextForm, Texts, Tree, fixed_widths, may_be_size, sized_bytes,
-    text_seen,
+    TextField, TextForm, Texts, Tree, fixed_widths, may_be_size, sized_bytes, text_seen,
 };
 use std::alloc::Global;
 
 /// Reads a text: its bytes are the value of the row, or those of its fixed parts. `Ok(None)` where they aren't there
-/// or aren't stored so.
+/// or aren't stored so, or one of its expressions is late.
 pub fn read_text(
     alloc: Global,
-    view: &BitView<'_>,
+    spot: &Spot<'_>,
     field: &TextField,
-    rest: &[Field],
-    names: &NamesEnv<'_>,
+    learnt: &Learnt<'_>,
     at: u32,
 ) -> Result<Option<Came>, NoMemory>
-    requires { at ≤ length (seen view.now) }
-    ensures step { IfOk result (λ came. option_map (step_in (known names.now.notes.now)) came
-        ≡ text_step names.now.facts.now (seen view.now) (plain_body rest.now) (plain_field_text field.now) (known names.now.notes.now) at) }
-    ensures within { IfOk result (λ came. IfSome came (λ c. c.after ≤ length (seen view.now))) }
+    requires at { at ≤ length (seen spot.now.view.now) }
+    requires marks { length learnt.now.marks ≤ at }
+    ensures step { IfOk result (λ came. option_map (step_of learnt.now) came
+        ≡ text_step (here_of spot.now (met learnt.now.notes.items)) (plain_field_text field.now) (known learnt.now.notes.items) at (marked at learnt.now.marks)) }
+    ensures after { IfOk result (λ came. IfSome came (λ c. at ≤ c.after)) }
+    ensures within { IfOk result (λ came. IfSome came (λ c. c.after ≤ length (seen spot.now.view.now))) }
 {
-    match size_in(view, &field.size, field.form, names, at) {
-        Some(size) => match text_size(alloc, view, rest, field, size, names, at)? {
-            Some(count) => read_sized(alloc, view, field, size, count, names, at),
+    if is_late_text(alloc, field, spot, learnt, at)? {
+        Ok(None)
+    } else {
+        read_early(alloc, spot, field, learnt, at)
+    }
+}
+
+/// Reads a text none of whose expressions is late.
+fn read_early(
+    alloc: Global,
+    spot: &Spot<'_>,
+    field: &TextField,
+    learnt: &Learnt<'_>,
+    at: u32,
+) -> Result<Option<Came>, NoMemory>
+    requires at { at ≤ length (seen spot.now.view.now) }
+    requires marks { length learnt.now.marks ≤ at }
+    ensures step { IfOk result (λ came. option_map (step_of learnt.now) came
+        ≡ early_text (here_of spot.now (met learnt.now.notes.items)) (plain_field_text field.now) (known learnt.now.notes.items) at (marked at learnt.now.marks)) }
+    ensures after { IfOk result (λ came. IfSome came (λ c. at ≤ c.after)) }
+    ensures within { IfOk result (λ came. IfSome came (λ c. c.after ≤ length (seen spot.now.view.now))) }
+{
+    match size_in(&field.size, field.form, spot, learnt, at) {
+        Some(size) => match text_size(alloc, spot, field, size, learnt, at)? {
+            Some(count) => read_sized(alloc, spot, field, size, count, learnt, at),
             None => Ok(None),
         },
         None => Ok(None),
@@ -53,24 +82,24 @@ pub fn read_text(
 
 /// The size of a text, where it has one. `None` where the text may not have it.
 fn size_in(
-    _view: &BitView<'_>,
     size: &Option<Expr>,
     form: TextForm,
-    names: &NamesEnv<'_>,
-    _at: u32,
+    spot: &Spot<'_>,
+    learnt: &Learnt<'_>,
+    at: u32,
 ) -> Option<Option<u32>>
-    ensures { result ≡ size_read names.now.facts.now (seen _view.now) form (option_map term_of size.now) (known names.now.notes.now) _at }
+    ensures { result ≡ size_read form (option_map term_of size.now) (sight_at spot.now learnt.now at) }
 {
     match size {
-        Some(expr) => match value_in(expr, names) {
-            Ok(size) => {
+        Some(expr) => match value_with_late(expr, spot, learnt, at) {
+            Some(size) => {
                 if may_be_size(form, size) {
                     Some(Some(size.unsigned_abs()))
                 } else {
                     None
                 }
             }
-            Err(_) => None,
+            None => None,
         },
         None => Some(None),
     }
@@ -79,20 +108,19 @@ fn size_in(
 /// How many bytes the stored form of a text has: that of its fixed parts, or what stands here.
 fn text_size(
     alloc: Global,
-    view: &BitView<'_>,
-    rest: &[Field],
+    spot: &Spot<'_>,
     field: &TextField,
     size: Option<u32>,
-    names: &NamesEnv<'_>,
+    learnt: &Learnt<'_>,
     at: u32,
 ) -> Result<Option<u64>, NoMemory>
-    requires { at ≤ length (seen view.now) }
+    requires { at ≤ length (seen spot.now.view.now) }
     ensures { IfOk result (λ count. count
-        ≡ text_size names.now.facts.now (see names.now.facts.now no_bits (known names.now.notes.now)) (seen view.now) (plain_body rest.now) field.now.form size (plain_field_text field.now).fixed at) }
+        ≡ text_size (here_of spot.now (met learnt.now.notes.items)) (known learnt.now.notes.items) field.now.form size (plain_field_text field.now).fixed at) }
 {
     match &field.fixed {
-        Some(parts) => fixed_size(alloc, field.form, size, parts, names),
-        None => Ok(stored_size(view, rest, field.form, size, at)),
+        Some(parts) => fixed_size(alloc, field.form, size, parts, spot, learnt, at),
+        None => Ok(stored_size(spot, field.form, size, learnt, at)),
     }
 }
 
@@ -102,12 +130,14 @@ fn fixed_size(
     form: TextForm,
     size: Option<u32>,
     parts: &Texts,
-    names: &NamesEnv<'_>,
+    spot: &Spot<'_>,
+    learnt: &Learnt<'_>,
+    at: u32,
 ) -> Result<Option<u64>, NoMemory>
     ensures { IfOk result (λ count. count
-        ≡ option_map (λ bytes. length (stored_text form size bytes)) (result_ok (bytes_seen nowhere names.now.facts.now (see names.now.facts.now no_bits (known names.now.notes.now)) (plain_parts parts.now)))) }
+        ≡ option_map (λ bytes. length (stored_text form size bytes)) (result_ok (bytes_seen nowhere spot.now.facts.now (sight_at spot.now learnt.now at) (plain_parts parts.now)))) }
 {
-    match fixed_bytes(alloc, parts, names)? {
+    match fixed_bytes(alloc, parts, spot, learnt, at)? {
         Some(bytes) => Ok(Some(stored_length(form, size, bytes.as_slice()))),
         None => Ok(None),
     }
@@ -115,30 +145,55 @@ fn fixed_size(
 
 /// How many bytes stand here as a text.
 fn stored_size(
-    view: &BitView<'_>,
-    rest: &[Field],
+    spot: &Spot<'_>,
     form: TextForm,
     size: Option<u32>,
+    learnt: &Learnt<'_>,
     at: u32,
 ) -> Option<u64>
-    requires { at ≤ length (seen view.now) }
-    ensures { result ≡ stored_size (seen view.now) (plain_body rest.now) form size at }
+    requires { at ≤ length (seen spot.now.view.now) }
+    ensures { result ≡ stored_size (seen spot.now.view.now) (plain_body spot.now.rest.now) (known learnt.now.notes.items) form size at }
 {
     match size {
         Some(size) => Some(sized_bytes(form, size)),
         None => match form {
-            TextForm::Open => bytes_left(view, fixed_widths(rest), at),
-            TextForm::Pascal => match view.at(at, 8) {
+            TextForm::Open => open_size(spot, learnt, at),
+            TextForm::Pascal => match spot.view.at(at, 8) {
                 Some(count) => Some(1 + u64::from(count)),
                 None => None,
             },
-            TextForm::WordLong => match view.at(at, 16) {
+            TextForm::WordLong => match spot.view.at(at, 16) {
                 Some(count) => Some(2 + u64::from(count)),
                 None => None,
             },
-            TextForm::Zero => bytes_to_zero(view, at),
+            TextForm::Zero => bytes_to_zero(spot.view, at),
         },
     }
+}
+
+/// How many bytes stand from a place up to a told label, or as many as are left.
+fn open_size(spot: &Spot<'_>, learnt: &Learnt<'_>, at: u32) -> Option<u64>
+    requires { at ≤ length (seen spot.now.view.now) }
+    ensures { result
+        ≡ open_size (length (seen spot.now.view.now)) (told_label (length (seen spot.now.view.now)) (plain_body spot.now.rest.now) (known learnt.now.notes.items)) (fixed_widths (plain_body spot.now.rest.now)) at }
+{
+    match told_label(spot.rest, learnt.notes.as_slice(), spot.view.len()) {
+        Some(label) => bytes_before(label, at),
+        None => bytes_left(spot.view, fixed_widths(spot.rest), at),
+    }
+}
+
+/// How many whole bytes stand from a place up to just so many bits before a label.
+fn bytes_before(label: LabelAhead, at: u32) -> Option<u64>
+    ensures { result ≡ bytes_before (told_of label) at }
+{
+    let place = u64::from(label.place);
+    let at = u64::from(at);
+    if place < at || place - at < label.width {
+        return None;
+    }
+    let room = place - at - label.width;
+    if room % 8 == 0 { Some(room / 8) } else { None }
 }
 
 /// How many whole bytes stand from a place up to so many bits before the end.
@@ -181,46 +236,50 @@ fn bytes_to_zero(view: &BitView<'_>, at: u32) -> Option<u64>
 /// Reads a text whose stored form has so many bytes.
 fn read_sized(
     alloc: Global,
-    view: &BitView<'_>,
+    spot: &Spot<'_>,
     field: &TextField,
     size: Option<u32>,
     count: u64,
-    names: &NamesEnv<'_>,
+    learnt: &Learnt<'_>,
     at: u32,
 ) -> Result<Option<Came>, NoMemory>
-    requires { at ≤ length (seen view.now) }
-    ensures step { IfOk result (λ came. option_map (step_in (known names.now.notes.now)) came
-        ≡ sized_step names.now.facts.now (seen view.now) (plain_field_text field.now) size (known names.now.notes.now) at count) }
-    ensures within { IfOk result (λ came. IfSome came (λ c. c.after ≤ length (seen view.now))) }
+    requires at { at ≤ length (seen spot.now.view.now) }
+    requires marks { length learnt.now.marks ≤ at }
+    ensures step { IfOk result (λ came. option_map (step_of learnt.now) came
+        ≡ sized_step (here_of spot.now (met learnt.now.notes.items)) (plain_field_text field.now) size (known learnt.now.notes.items) at (marked at learnt.now.marks) count) }
+    ensures after { IfOk result (λ came. IfSome came (λ c. at ≤ c.after)) }
+    ensures within { IfOk result (λ came. IfSome came (λ c. c.after ≤ length (seen spot.now.view.now))) }
 {
-    if count > u64::from(view.len()) {
+    if count > u64::from(spot.view.len()) {
         return Ok(None);
     }
-    match view.bytes(alloc, at, count as u32)? {
+    match spot.view.bytes(alloc, at, count as u32)? {
         Some(raw) => {
             let after = at + 8 * count as u32;
-            read_raw(alloc, field, size, raw.as_slice(), names, after)
+            read_raw(alloc, field, size, raw.as_slice(), spot, learnt, at, after)
         }
         None => Ok(None),
     }
 }
 
-/// Reads a text that is stored as these bytes.
+/// Reads a text at a place that is stored as these bytes, which end at another.
 #[tactic(auto, using(crate::proofs::Counts::count_text))]
 fn read_raw(
     alloc: Global,
     field: &TextField,
     size: Option<u32>,
     raw: &[u8],
-    names: &NamesEnv<'_>,
+    spot: &Spot<'_>,
+    learnt: &Learnt<'_>,
+    at: u32,
     after: u32,
 ) -> Result<Option<Came>, NoMemory>
-    ensures step { IfOk result (λ came. option_map (step_in (known names.now.notes.now)) came
-        ≡ raw_step names.now.facts.now (see names.now.facts.now no_bits (known names.now.notes.now)) (plain_field_text field.now) size after (known names.now.notes.now) raw.now) }
+    ensures step { IfOk result (λ came. option_map (step_of learnt.now) came
+        ≡ raw_step spot.now.facts.now (sight_at spot.now learnt.now at) (plain_field_text field.now) size after (known learnt.now.notes.items) (marked after learnt.now.marks) raw.now) }
     ensures after { IfOk result (λ came. IfSome came (λ c. c.after ≡ after)) }
 {
     match &field.fixed {
-        Some(parts) => match fixed_bytes(alloc, parts, names)? {
+        Some(parts) => match fixed_bytes(alloc, parts, spot, learnt, at)? {
             Some(bytes) => {
                 if is_stored_fixed(field.form, size, bytes.as_slice(), raw) {
                     Ok(Some(Came {
@@ -250,15 +309,23 @@ fn read_raw(
     }
 }
 
-/// The bytes of the fixed parts of a text, with the numbers of rows in their formats.
+/// The bytes of the fixed parts of a text, with what their formats see at a place.
 fn fixed_bytes(
     alloc: Global,
     parts: &Texts,
-    names: &NamesEnv<'_>,
+    spot: &Spot<'_>,
+    learnt: &Learnt<'_>,
+    at: u32,
 ) -> Result<Option<Bytes>, NoMemory>
-    ensures { IfOk result (λ bytes. bytes ≡ result_ok (bytes_seen nowhere names.now.facts.now (see names.now.facts.now no_bits (known names.now.notes.now)) (plain_parts parts.now))) }
+    ensures { IfOk result (λ bytes. bytes ≡ result_ok (bytes_seen nowhere spot.now.facts.now (sight_at spot.now learnt.now at) (plain_parts parts.now))) }
 {
-    match text_seen(alloc, parts, Mark { file: 0, line: 0 }, names.facts, names) {
+    let env = SpotEnv {
+        spot,
+        learnt,
+        hides: false,
+        at,
+    };
+    match text_seen(alloc, parts, Mark { file: 0, line: 0 }, spot.facts, &env) {
         Ok(bytes) => Ok(Some(bytes)),
         Err(Stop::Refused(_)) => Ok(None),
         Err(Stop::NoMemory) => Err(NoMemory),

@@ -1,7 +1,8 @@
-use Rattle.std.proofs.Common.{ap, ◌∙◌}
-use Rattle.rz_types_fields.specs.Known.{known}
-use Rattle.rz_types_fields.proofs.Noting.{known_more}
+use Rattle.rz_unlay_pieces.proofs.Claims.{known_now, met_now}
 use Rattle.rz_unlay_pieces.proofs.names.enter.Goals as goal
 
 pub returns-clause-known : goal.returns-clause-known
-returns-clause-known c = ap known c.in_ok-push.ensures.items ∙ known_more c.args.notes.now.items _
+returns-clause-known c = known_now c.args.learnt.now.notes.items c.push.new.self.items _ c.in_ok-push.ensures.items
+
+pub returns-clause-met : goal.returns-clause-met
+returns-clause-met c = met_now c.args.learnt.now.notes.items c.push.new.self.items _ c.in_ok-push.ensures.items

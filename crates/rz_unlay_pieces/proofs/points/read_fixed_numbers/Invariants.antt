@@ -1,19 +1,17 @@
-use Rattle.std.proofs.Common.{◌≡◌, ◌≤◌, true, length, drop, map}
-use Rattle.std.specs.List.{AllByRecursion}
+use Rattle.std.proofs.Common.{◌≡◌, ◌≤◌, length}
 use Rattle.rz_bits.specs.View.{seen}
-use Rattle.rz_expr.specs.Term.{term_of}
-use Rattle.rz_types_fields.specs.Field.{plain_body}
-use Rattle.rz_types_fields.specs.Piece.{fixed_integer}
-use Rattle.rz_types_fields.specs.Value.{is_fixed_expression}
-use Rattle.rz_unlay_pieces.specs.Pieces.{pieces_found}
-use Rattle.rz_types_fields.specs.Known.{known, Grew}
+use Rattle.rz_types_fields.specs.Known.{known, met, Grew}
+use Rattle.rz_types_fields.specs.Sees.{marked}
+use Rattle.rz_unlay_pieces.specs.Came.{here_of}
+use Rattle.rz_unlay_pieces.proofs.PieceSteps.{exprs_found}
 use Rattle.rz_unlay_pieces.proofs.points.read_fixed_numbers.Given as goal
 
 abbrev pub invariant-loop-expr : goal.invariant-loop-expr
 invariant-loop-expr l = record {
-  read : pieces_found l.facts (seen l.view) (plain_body l._rest) (map fixed_integer (map term_of (drop l.expr-index l.exprs))) (known l.notes.items) l.after
-      ≡ pieces_found l.facts (seen l.view) (plain_body l._rest) (map fixed_integer (map term_of l.exprs)) (known l.fn.notes.items) l.at;
-  within : l.after ≤ length (seen l.view);
-  fixed : AllByRecursion (λ term. is_fixed_expression term ≡ true) (map term_of (drop l.expr-index l.exprs));
-  grew : Grew l.fn.notes.items l.notes.items;
+  read : exprs_found (here_of l.spot (met l.fn.learnt.notes.items)) l.exprs l.expr-index (known l.learnt.notes.items) l.after (marked l.after l.learnt.marks)
+      ≡ exprs_found (here_of l.spot (met l.fn.learnt.notes.items)) l.exprs 0 (known l.fn.learnt.notes.items) l.at (marked l.at l.fn.learnt.marks);
+  within : l.after ≤ length (seen l.spot.view.now);
+  met : met l.learnt.notes.items ≡ met l.fn.learnt.notes.items;
+  grew : Grew l.fn.learnt.notes.items l.learnt.notes.items;
+  marks : length l.learnt.marks ≤ l.after;
 }

@@ -1,0 +1,62 @@
+-- What an expression sees where a field is read, as the code has it.
+use Rattle.std.specs.Prelude.{ℕ, ◌+◌, Bool, false, ◌&&◌, ◌||◌, if◌then◌else◌, List, Option, Some, None, option_map}
+use Rattle.rz_expr.specs.Environment.{Environment, Sight}
+use Rattle.rz_bits.specs.BitBuf.{missing}
+use Rattle.rz_types_fields.specs.Field.{Align, PlainField}
+use Rattle.rz_types_fields.specs.Known.{known, met}
+use Rattle.rz_types_fields.specs.Passed.{gives_count, is_label, stands_at, Names}
+use Rattle.rz_types_fields.specs.Sees.{hit}
+use Rattle.rz_types_fields.specs.Width.{capped, fixed_width}
+use Rattle.rz_core.specs.declared.resource.Word.{Word}
+use Rattle.rz_unlay_pieces.specs.Ahead.{Told}
+use Rattle.rz_unlay_pieces.specs.Came.{here_of}
+use Rattle.rz_unlay_pieces.specs.Pieces.{seen_at, with_near}
+use Rattle.rz_unlay_pieces.specs.declared.ahead.LabelAhead.{LabelAhead}
+use Rattle.rz_unlay_pieces.specs.declared.learnt.Learnt.{Learnt}
+use Rattle.rz_unlay_pieces.specs.declared.seen.SpotEnv.{SpotEnv}
+use Rattle.rz_unlay_pieces.specs.declared.spot.Spot.{Spot}
+
+-- what is known of names at a field, with the labels that are near
+abbrev pub near_names : Spot → Environment → Environment
+near_names spot names = with_near (here_of spot (λ key. false)) names
+
+-- what an expression sees at a place of a field, where so much is learnt
+abbrev pub sight_at : Spot → Learnt → ℕ → Sight
+sight_at spot learnt at = seen_at (here_of spot (met learnt.notes.items)) (known learnt.notes.items) at
+
+-- the same without the late bits, where they are hidden
+abbrev pub hidden_by : Bool → List Bool → Sight → Sight
+hidden_by hides marks sight = record {
+  names = sight.names;
+  bits = λ first width. if hides && hit marks first width then None else sight.bits first width;
+  fact = sight.fact;
+}
+
+abbrev pub env_sight : SpotEnv → Sight
+env_sight env = hidden_by env.hides env.learnt.now.marks (sight_at env.spot.now env.learnt.now env.at)
+
+-- Labels that are met.
+
+-- behind the pieces of a field that is a label it is met
+abbrev pub met_past : PlainField → Names → Names
+met_past field met key = is_label field key || met key
+
+abbrev pub met_placed : Word → Names → Names
+met_placed name met key = stands_at name.bytes key || met key
+
+-- behind the rows of an array its name is met
+abbrev pub met_counted : Option Word → Names → Names
+met_counted name met key = gives_count name key || met key
+
+-- Labels ahead.
+
+-- a place behind a field, where widths of more bits than a resource has are as good as one more than it can have
+abbrev pub behind_capped : PlainField → ℕ → Option ℕ
+behind_capped (Align unit) at = Some (at + missing unit at)
+behind_capped field at = option_map (λ width. at + capped width) (fixed_width field)
+
+abbrev pub told_of : LabelAhead → Told
+told_of label = record { place = label.place; width = label.width }
+
+abbrev pub told_capped : Told → Told
+told_capped told = record { place = told.place; width = capped told.width }

@@ -1,0 +1,140 @@
+//! Labels that stand ahead: those at a known distance, and those whose place is told. They are defined in `specs/Ahead`.
+
+ghost use Rattle.std.specs.Prelude.{◌≡◌, ◌+◌, ◌≤◌, IfSome, option_map, pos};
+ghost use Rattle.rz_bits.specs.BitBuf.{missing};
+ghost use Rattle.rz_expr.specs.Environment.{place_key};
+ghost use Rattle.rz_types_fields.specs.Field.{plain_body, plain_field};
+ghost use Rattle.rz_types_fields.specs.Known.{known};
+ghost use Rattle.rz_types_fields.specs.Passed.{is_label};
+ghost use Rattle.rz_types_fields.specs.Width.{capped};
+ghost use Rattle.rz_unlay_pieces.specs.Ahead.{label_place, near_place, place_within, told_label};
+ghost use Rattle.rz_unlay_pieces.specs.Seen.{behind_capped, told_capped, told_of};
+
+use rz_bits::missing;
+use rz_core::Word;
+use rz_types_fields::{Field, KeyRef, Note, fixed_width, place_of, stands_at};
+
+/// One bit more than the most bits of a resource.
+const TOO_MANY_BITS: u64 = 134_217_697;
+
+/// A label that stands ahead, with its place, which is known.
+#[derive(Clone, Copy)]
+pub struct LabelAhead {
+    /// Its place, in bits.
+    pub place: u32,
+    /// How many bits stand before it: at most one more than a resource can have.
+    pub width: u64,
+}
+
+/// The first label behind fields of fixed width of which the place is known, in a resource of so many bits. Each label on
+/// the way is looked for from the newest note on, and each field is measured, with the fields of arrays within it.
+pub fn told_label(rest: &[Field], notes: &[Note<'_>], len: u32) -> Option<LabelAhead>
+    ensures within { IfSome result (λ label. label.place ≤ len) }
+    ensures label { option_map told_of result ≡ option_map told_capped (told_label len (plain_body rest.now) (known notes.now)) }
+{
+    let mut width = 0;
+    for field in rest {
+        if let Some(place) = label_place(field, notes, len) {
+            return Some(LabelAhead { place, width });
+        }
+        match fixed_width(field) {
+            Some(own) => width = capped_sum(width, own),
+            None => return None,
+        }
+    }
+    None
+}
+
+/// The place that is known of the label that a field is.
+fn label_place(field: &Field, notes: &[Note<'_>], len: u32) -> Option<u32>
+    ensures within { IfSome result (λ p. p ≤ len) }
+    ensures place { result ≡ label_place len (plain_field field.now) (known notes.now) }
+{
+    match field {
+        Field::Label(name) => place_within(len, place_of(notes, name)),
+        _ => None,
+    }
+}
+
+/// A place, where it lies in a resource of so many bits.
+fn place_within(len: u32, place: Option<i32>) -> Option<u32>
+    ensures within { IfSome result (λ p. p ≤ len) }
+    ensures place { result ≡ place_within len place }
+{
+    match place {
+        Some(place) => {
+            if place >= 0 && place.unsigned_abs() <= len {
+                Some(place.unsigned_abs())
+            } else {
+                None
+            }
+        }
+        None => None,
+    }
+}
+
+/// The sum of two widths, at most one more than a resource can have.
+fn capped_sum(one: u64, other: u64) -> u64
+    ensures { result ≡ capped (one + other) }
+{
+    one.saturating_add(other).min(TOO_MANY_BITS)
+}
+
+/// The place of a label of this name, in whatever case, that stands at a known distance in fields that begin at a place,
+/// where it lies in a resource of so many bits. It looks through the fields, as far as they lie there.
+pub fn near_place(fields: &[Field], first: u32, name: &Word, len: u32) -> Option<u32>
+    requires { len ≤ 134217696 }
+    ensures within { IfSome result (λ p. p ≤ len) }
+    ensures place { result ≡ place_within len (option_map (λ p. pos p) (near_place (plain_body fields.now) first (place_key name.now.bytes))) }
+{
+    let mut at = first;
+    for field in fields {
+        if at > len {
+            return None;
+        }
+        if is_label(field, name) {
+            return Some(at);
+        }
+        match behind_measured(field, at) {
+            Some(next) => at = next,
+            None => return None,
+        }
+    }
+    None
+}
+
+/// Whether a field is a label of this name.
+fn is_label(field: &Field, name: &Word) -> bool
+    ensures { result ≡ is_label (plain_field field.now) (place_key name.now.bytes) }
+{
+    match field {
+        Field::Label(label) => stands_at(label, KeyRef::Place(name)),
+        _ => false,
+    }
+}
+
+/// The place behind a field, where it is at a known distance.
+fn behind_measured(field: &Field, at: u32) -> Option<u32>
+    requires { at ≤ 134217696 }
+    ensures { result ≡ behind_capped (plain_field field.now) at }
+{
+    match field {
+        Field::Align(unit) => Some(aligned(at, *unit)),
+        _ => match fixed_width(field) {
+            Some(width) => Some(at + width as u32),
+            None => None,
+        },
+    }
+}
+
+/// The next multiple of a unit; of no unit, the same place.
+fn aligned(at: u32, unit: u8) -> u32
+    requires { at ≤ 134217696 }
+    ensures { result ≡ at + missing unit at }
+{
+    if unit == 0 {
+        at
+    } else {
+        at + u32::from(missing(unit, at))
+    }
+}
