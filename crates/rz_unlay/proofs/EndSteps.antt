@@ -39,33 +39,36 @@ none_of : (a d : Bool) → d ≡ false → (a && d) ≡ false
 none_of true d is = is
 none_of false d is = refl
 
+abbrev line_is : Found → Line
+line_is f = record { row = f.row; after = f.after; late = f.late }
+
 module _ (all : List Bool) where
-  by_end : (f : Found) (line : Line) → line ≡ (f.row, f.after) → line.1 ≤ length all → values_in line.0 ≤ 1048576
-      → ended all (Some f) ≡ (if is_end all line.1 then Some line.0 else None)
+  by_end : (f : Found) (line : Line) → line ≡ line_is f → line.after ≤ length all → values_in line.row ≤ 1048576
+      → ended all (Some f) ≡ (if is_end all line.after then Some line.row else None)
   by_end f line is within fits =
       ap (λ (test : Bool). if test then Some f.row else None)
       (four (nat_le f.after (length all)) (nat_lt (length all) (f.after + 8)) (number_of (drop f.after all) == 0) (nat_le (values_in f.row) 1048576)
-      (le_true f.after (length all) (let e = ap (λ (l : Line). l.1) is in omega (arith, e, within)))
-      (le_true (values_in f.row) 1048576 (let e = ap (λ (l : Line). values_in l.0) is in omega (arith, e, fits))))
-      ∙ ap (λ (l : Line). if is_end all l.1 then Some l.0 else None) (sym is)
+      (le_true f.after (length all) (let e = ap (λ (l : Line). l.after) is in omega (arith, e, within)))
+      (le_true (values_in f.row) 1048576 (let e = ap (λ (l : Line). values_in l.row) is in omega (arith, e, fits))))
+      ∙ ap (λ (l : Line). if is_end all l.after then Some l.row else None) (sym is)
 
-  at_end : (found : Option Found) (line : Line) → Some line ≡ few line_count 1048576 (line_of found) → line.1 ≤ length all
-      → ended all found ≡ (if is_end all line.1 then Some line.0 else None)
+  at_end : (found : Option Found) (line : Line) → Some line ≡ few line_count 1048576 (line_of found) → line.after ≤ length all
+      → ended all found ≡ (if is_end all line.after then Some line.row else None)
   at_end None line is within = absurd cc
   at_end (Some f) line is within =
-      let it = first_within line_count 1048576 (Some (f.row, f.after)) line is in by_end f line (sym (some_same (f.row, f.after) line it.0)) within it.1
+      let it = first_within line_count 1048576 (Some (line_is f)) line is in by_end f line (sym (some_same (line_is f) line it.0)) within it.1
 
-  pub ended_so : (found : Option Found) (line : Line) → Some line ≡ few line_count 1048576 (line_of found) → line.1 ≤ length all → is_end all line.1 ≡ true
-      → Some line.0 ≡ ended all found
-  ended_so found line is within end = ap (λ (test : Bool). if test then Some line.0 else None) (sym end) ∙ sym (at_end found line is within)
+  pub ended_so : (found : Option Found) (line : Line) → Some line ≡ few line_count 1048576 (line_of found) → line.after ≤ length all → is_end all line.after ≡ true
+      → Some line.row ≡ ended all found
+  ended_so found line is within end = ap (λ (test : Bool). if test then Some line.row else None) (sym end) ∙ sym (at_end found line is within)
 
-  pub not_ended : (found : Option Found) (line : Line) → Some line ≡ few line_count 1048576 (line_of found) → line.1 ≤ length all → is_end all line.1 ≡ false
+  pub not_ended : (found : Option Found) (line : Line) → Some line ≡ few line_count 1048576 (line_of found) → line.after ≤ length all → is_end all line.after ≡ false
       → None ≡ ended all found
-  not_ended found line is within end = ap (λ (test : Bool). if test then Some line.0 else None) (sym end) ∙ sym (at_end found line is within)
+  not_ended found line is within end = ap (λ (test : Bool). if test then Some line.row else None) (sym end) ∙ sym (at_end found line is within)
 
   pub none_ended : (found : Option Found) → None ≡ few line_count 1048576 (line_of found) → None ≡ ended all found
   none_ended None none = refl
   none_ended (Some f) none =
       sym (ap (λ (test : Bool). if test then Some f.row else None)
       (none_of ((nat_le f.after (length all) && nat_lt (length all) (f.after + 8)) && (number_of (drop f.after all) == 0)) (nat_le (values_in f.row) 1048576)
-      (le_false (values_in f.row) 1048576 (is_over line_count 1048576 (f.row, f.after) none))))
+      (le_false (values_in f.row) 1048576 (is_over line_count 1048576 (line_is f) none))))

@@ -1,23 +1,28 @@
-use Rattle.std.proofs.Common.{◌≡◌, refl, ℕ, ℤ, pos, List, [], ◌∷◌, Option, Some, None, true, false}
-use Rattle.std.specs.Prelude.{codes}
+use Rattle.std.proofs.Common.{◌≡◌, refl, ℕ, ℤ, pos, List, [], ◌∷◌, ◌++◌, Option, Some, None, true, false}
+use Rattle.std.specs.Prelude.{codes, replicate}
 use Rattle.rz_core.specs.declared.facts.Facts.{Facts}
 use Rattle.rz_core.specs.declared.resource.Word.{Word}
-use Rattle.rz_expr.specs.Term.{Constant, OfTwo, RowsOf, Term}
+use Rattle.rz_expr.specs.Term.{BitsAt, Constant, Named, OfTwo, RowsOf, Term}
 use Rattle.rz_expr.specs.declared.expr.BinaryOp.TheVariants as two
 use Rattle.std.specs.Int.{int_wrap}
 use Rattle.rz_bits.specs.Bits.{bits_of, number_bits}
-use Rattle.rz_types.specs.Passed.{outside}
+use Rattle.rz_types.specs.Passed.{at_front, nothing_passed, outside}
 use Rattle.rz_unlay.specs.Cursor.{body_found, line_of, Line}
 use Rattle.rz_types_fields.specs.Known.{names_inside}
 use Rattle.rz_types_fields.specs.declared.field.NumForm.TheVariants as forms
 use Rattle.rz_types_fields.specs.declared.field.Radix.TheVariants as radixes
 use Rattle.rz_types_fields.specs.declared.field.TextForm.TheVariants as texts
+use Rattle.rz_types_fields.specs.declared.tree.Tree.{Tree}
 use Rattle.rz_types_fields.specs.declared.tree.Tree.TheVariants as trees
-use Rattle.rz_types.specs.Field.{case_and, field_and, no_cases, no_fields, Array, Number, PlainBody, PlainField, Switch, Text}
+use Rattle.rz_types.specs.Field.{case_and, field_and, no_cases, no_fields, Array, Label, Number, PlainBody, PlainField, Switch, Text}
 use Rattle.rz_types.specs.Text.{Plain}
 
 abbrev read : Facts → PlainBody → List ℕ → Option Line
-read known body bytes = line_of (body_found known (bits_of bytes) body (names_inside body outside) 0)
+read known body bytes = line_of (body_found known (bits_of bytes) (at_front body nothing_passed).met body (names_inside body outside) 0 [])
+
+-- a row and the place behind it, where no bit is late
+abbrev line : List Tree → ℕ → Option Line
+line row after = Some (record { row = row; after = after; late = replicate after false })
 
 abbrev number : Option Term → PlainField
 number fixed = Number (record { form = forms.Integer; width = pos 16; unsigned = false; radix = radixes.Plain; symbols = []; fixed = fixed; key = false })
@@ -41,7 +46,7 @@ abbrev list_of_strings : PlainBody
 list_of_strings = field_and (number (Some (RowsOf (codes "Strings")))) (field_and (named (codes "strings") pstring) no_fields)
 
 strings : (known : Facts) → read known list_of_strings (0 ∷ 2 ∷ 1 ∷ 65 ∷ 0 ∷ [])
-    ≡ Some ((trees.Rows ((trees.Text (65 ∷ []) ∷ []) ∷ (trees.Text [] ∷ []) ∷ []) ∷ []), 40)
+    ≡ line (trees.Rows ((trees.Text (65 ∷ []) ∷ []) ∷ (trees.Text [] ∷ []) ∷ []) ∷ []) 40
 unfolding number_bits int_wrap
 strings known = refl
 
@@ -50,17 +55,17 @@ dialog = field_and (number (Some (OfTwo two.Minus (RowsOf (codes "Parts")) (Cons
     (field_and (named (codes "Parts")
     (Switch (case_and (word (codes "A")) (field_and (key (pos 4)) (field_and pstring no_fields)) (case_and (word (codes "B")) (field_and (key (pos 0)) no_fields) no_cases)))) no_fields)
 
-empty : (known : Facts) → read known dialog (255 ∷ 255 ∷ []) ≡ Some ((trees.Rows [] ∷ []), 16)
+empty : (known : Facts) → read known dialog (255 ∷ 255 ∷ []) ≡ line (trees.Rows [] ∷ []) 16
 unfolding number_bits int_wrap
 empty known = refl
 
 two_parts : (known : Facts) → read known dialog (0 ∷ 1 ∷ 0 ∷ 4 ∷ 1 ∷ 66 ∷ [])
-    ≡ Some ((trees.Rows ((trees.Choice (word (codes "B")) [] ∷ []) ∷ (trees.Choice (word (codes "A")) (trees.Text (66 ∷ []) ∷ []) ∷ []) ∷ []) ∷ []), 48)
+    ≡ line (trees.Rows ((trees.Choice (word (codes "B")) [] ∷ []) ∷ (trees.Choice (word (codes "A")) (trees.Text (66 ∷ []) ∷ []) ∷ []) ∷ []) ∷ []) 48
 unfolding number_bits int_wrap
 two_parts known = refl
 
 to_the_end : (known : Facts) → read known (field_and open_text (field_and (number None) no_fields)) (65 ∷ 66 ∷ 1 ∷ 2 ∷ [])
-    ≡ Some ((trees.Text (65 ∷ 66 ∷ []) ∷ trees.Number 258 ∷ []), 32)
+    ≡ line (trees.Text (65 ∷ 66 ∷ []) ∷ trees.Number 258 ∷ []) 32
 unfolding number_bits int_wrap
 to_the_end known = refl
 
@@ -69,6 +74,82 @@ fixed_text bytes = Text (record { form = texts.Zero; hex = false; size = None; f
 
 -- a fixed text has its own length, also where a zero byte stands within it
 zero_within : (known : Facts) → read known (field_and (fixed_text (97 ∷ 0 ∷ 98 ∷ [])) (field_and (number None) no_fields)) (97 ∷ 0 ∷ 98 ∷ 0 ∷ 1 ∷ 2 ∷ [])
-    ≡ Some ((trees.Number 258 ∷ []), 48)
+    ≡ line (trees.Number 258 ∷ []) 48
 unfolding number_bits int_wrap
 zero_within known = refl
+
+-- Labels.
+
+abbrev label : List ℕ → PlainField
+label name = Label (word name)
+
+abbrev place : List ℕ → Term
+place name = Named name
+
+-- the distance from one label to another in bytes
+abbrev bytes_to : List ℕ → List ℕ → Term
+bytes_to end start = OfTwo two.Divide (OfTwo two.Minus (place end) (place start)) (Constant (pos 8))
+
+abbrev zero_ended : PlainField
+zero_ended = Text (record { form = texts.Zero; hex = false; size = None; fixed = None })
+
+abbrev byte : Option Term → PlainField
+byte fixed = Number (record { form = forms.Byte; width = pos 8; unsigned = false; radix = radixes.Plain; symbols = []; fixed = fixed; key = false })
+
+-- a label that is passed
+behind_text : (known : Facts) → read known (field_and zero_ended (field_and (label (codes "e")) (field_and (number (Some (place (codes "E")))) no_fields)))
+    (103 ∷ 111 ∷ 114 ∷ 102 ∷ 0 ∷ 0 ∷ 40 ∷ []) ≡ line (trees.Text (codes "gorf") ∷ []) 56
+unfolding number_bits int_wrap
+behind_text known = refl
+
+-- a number tells where a text ends, a label behind it
+abbrev ends : PlainBody
+ends = field_and (number (Some (bytes_to (codes "e") (codes "s"))))
+    (field_and (label (codes "s")) (field_and open_text (field_and (label (codes "e")) (field_and (number None) no_fields))))
+
+text_to_a_label : (known : Facts) → read known ends (0 ∷ 2 ∷ 1 ∷ 2 ∷ 0 ∷ 5 ∷ []) ≡ Some (record {
+  row = trees.Text (1 ∷ 2 ∷ []) ∷ trees.Number 5 ∷ [];
+  after = 48;
+  late = replicate 16 true ++ replicate 32 false;
+})
+unfolding number_bits int_wrap
+text_to_a_label known = refl
+
+-- then what stands behind it isn't there
+text_too_long : (known : Facts) → read known ends (0 ∷ 3 ∷ 1 ∷ 2 ∷ 0 ∷ 5 ∷ []) ≡ None
+unfolding number_bits int_wrap
+text_too_long known = refl
+
+-- rows end there too
+rows_to_a_label : (known : Facts)
+    → read known
+    (field_and (number (Some (bytes_to (codes "e") (codes "s"))))
+    (field_and (label (codes "s")) (field_and (Array None None (field_and (byte None) no_fields)) (field_and (label (codes "e")) (field_and (byte (Some (Constant (pos 7)))) no_fields)))))
+    (0 ∷ 3 ∷ 1 ∷ 0 ∷ 2 ∷ 7 ∷ []) ≡ Some (record {
+      row = trees.Rows ((trees.Number 1 ∷ []) ∷ (trees.Number 0 ∷ []) ∷ (trees.Number 2 ∷ []) ∷ []) ∷ [];
+      after = 48;
+      late = replicate 16 true ++ replicate 32 false;
+    })
+unfolding number_bits int_wrap
+rows_to_a_label known = refl
+
+-- a size that is read from the bits before
+size_by_word : (known : Facts)
+    → read known
+    (field_and (label (codes "n"))
+    (field_and (number None)
+    (field_and (label (codes "s")) (field_and (Text (record { form = texts.Open; hex = false; size = Some (BitsAt (codes "n") (Constant (pos 0)) (Constant (pos 16))); fixed = None })) no_fields))))
+    (0 ∷ 3 ∷ 97 ∷ 98 ∷ 99 ∷ []) ≡ line (trees.Number 3 ∷ trees.Text (codes "abc") ∷ []) 40
+unfolding number_bits int_wrap
+size_by_word known = refl
+
+-- a size that reads a late number is none
+late_size : (known : Facts)
+    → read known
+    (field_and (label (codes "n"))
+    (field_and (number (Some (bytes_to (codes "e") (codes "s"))))
+    (field_and (label (codes "s"))
+    (field_and (Text (record { form = texts.Open; hex = false; size = Some (BitsAt (codes "n") (Constant (pos 0)) (Constant (pos 16))); fixed = None })) (field_and (label (codes "e")) no_fields)))))
+    (0 ∷ 2 ∷ 97 ∷ 98 ∷ []) ≡ None
+unfolding number_bits int_wrap
+late_size known = refl

@@ -13,7 +13,7 @@ use Rattle.rz_types_fields.specs.declared.tree.Tree.TheVariants as trees
 use Rattle.rz_types_fields.specs.declared.tree.Tree.TheVariants.{rolls-Choice, rolls-Rows}
 use Rattle.rz_types_fields.specs.Spells.{count_in, count_step, put, values_in}
 use Rattle.rz_unlay_pieces.specs.Pieces.{with_value, Found}
-use Rattle.rz_unlay.specs.Cursor.{Line, Lines}
+use Rattle.rz_unlay.specs.Cursor.{and_lines, Line, Lines}
 use Rattle.rz_unlay.specs.Rows.{pushed}
 use Rattle.rz_unlay_pieces.specs.Few.{few, value_count}
 use Rattle.rz_unlay.specs.Few.{found_count, line_count, lines_count, rows_count}
@@ -114,50 +114,50 @@ module _ {X Y : Type 0} (count : X → ℕ) (total : Y → ℕ) where
 pub value_behind : (value : Option Tree) (found : Option Found) (most more : ℕ) → more + value_count value ≡ most
     → few found_count most (with_value value found) ≡ with_value value (few found_count more found)
 value_behind value found most more is =
-    few_map found_count found_count more most (λ f. record { row = put value f.row; after = f.after; names = f.names }) found
+    few_map found_count found_count more most (λ f. record { row = put value f.row; after = f.after; names = f.names; late = f.late }) found
     (λ f le. let n = put_count value f.row in omega (arith, n, le, is)) (λ f less. let n = put_count value f.row in omega (arith, n, less, is))
 
 pub value_less : (value : Option Tree) (found : Option Found) (whole : Found) → with_value value found ≡ Some whole → value_count value ≤ found_count whole
 value_less value None whole is = absurd cc
 value_less value (Some f) whole is =
-    let same : record { row = put value f.row; after = f.after; names = f.names } ≡ whole = some_same _ _ is in
+    let same : record { row = put value f.row; after = f.after; names = f.names; late = f.late } ≡ whole = some_same _ _ is in
     subst (λ (w : Found). value_count value ≤ found_count w) same (let n = put_count value f.row in omega (arith, n))
 
 -- Rows of an array.
 
-module _ (row : ℕ → Option Line) (behind : ℕ → Option Lines) where
+module _ (row : Option Line) (behind : Line → Option Lines) where
   -- a row, and those behind it
-  abbrev pub one_and : ℕ → Option Lines
-  one_and at = option_and_then (λ line. option_map (λ lines. (line.0 ∷ lines.0, lines.1)) (behind line.1)) (row at)
+  abbrev pub one_and : Option Lines
+  one_and = option_and_then (λ line. option_map (and_lines line) (behind line)) row
 
-  front_less : (line : Line) (lines : Option Lines) (whole : Lines) → option_map (λ lines. (line.0 ∷ lines.0, lines.1)) lines ≡ Some whole → 1 + line_count line ≤ lines_count whole
+  front_less : (line : Line) (lines : Option Lines) (whole : Lines) → option_map (and_lines line) lines ≡ Some whole → 1 + line_count line ≤ lines_count whole
   front_less line None whole is = absurd cc
   front_less line (Some lines) whole is =
-      let same : (line.0 ∷ lines.0, lines.1) ≡ whole = some_same _ _ is in
-      subst (λ (w : Lines). 1 + line_count line ≤ lines_count w) same (let n = row_count line.0 lines.0 in omega (arith, n))
+      let same : and_lines line lines ≡ whole = some_same _ _ is in
+      subst (λ (w : Lines). 1 + line_count line ≤ lines_count w) same (let n = row_count line.row lines.rows in omega (arith, n))
 
-  pub no_line : (most at : ℕ) → 0 < most → None ≡ few line_count (most - 1) (row at) → None ≡ few lines_count most (one_and at)
-  no_line most at some none =
-      none_behind line_count lines_count (most - 1) most (row at) (λ line. option_map (λ lines. (line.0 ∷ lines.0, lines.1)) (behind line.1))
-      (λ line whole is over. let n = front_less line (behind line.1) whole is in omega (arith, n, over, some)) none
+  pub no_line : (most : ℕ) → 0 < most → None ≡ few line_count (most - 1) row → None ≡ few lines_count most one_and
+  no_line most some none =
+      none_behind line_count lines_count (most - 1) most row (λ line. option_map (and_lines line) (behind line))
+      (λ line whole is over. let n = front_less line (behind line) whole is in omega (arith, n, over, some)) none
 
-  pub no_more : (most at : ℕ) → most ≡ 0 → None ≡ few lines_count most (one_and at)
-  no_more most at none = by (row at)
+  pub no_more : (most : ℕ) → most ≡ 0 → None ≡ few lines_count most one_and
+  no_more most none = by row
     where
-      at_line : (line : Line) (lines : Option Lines) → None ≡ few lines_count most (option_map (λ lines. (line.0 ∷ lines.0, lines.1)) lines)
+      at_line : (line : Line) (lines : Option Lines) → None ≡ few lines_count most (option_map (and_lines line) lines)
       at_line line None = refl
-      at_line line (Some lines) = sym (few_over lines_count most (line.0 ∷ lines.0, lines.1) (let n = row_count line.0 lines.0 in omega (arith, n, none)))
+      at_line line (Some lines) = sym (few_over lines_count most (and_lines line lines) (let n = row_count line.row lines.rows in omega (arith, n, none)))
 
-      by : (o : Option Line) → None ≡ few lines_count most (option_and_then (λ line. option_map (λ lines. (line.0 ∷ lines.0, lines.1)) (behind line.1)) o)
+      by : (o : Option Line) → None ≡ few lines_count most (option_and_then (λ line. option_map (and_lines line) (behind line)) o)
       by None = refl
-      by (Some line) = at_line line (behind line.1)
+      by (Some line) = at_line line (behind line)
 
-  pub line_behind : (most more at : ℕ) (line : Line) → 0 < most → Some line ≡ few line_count (most - 1) (row at) → more + values_in line.0 ≡ most - 1
-      → few lines_count most (one_and at) ≡ option_map (λ lines. (line.0 ∷ lines.0, lines.1)) (few lines_count more (behind line.1))
-  line_behind most more at line some is left =
-      some_behind line_count lines_count (most - 1) most (row at) line (λ line. option_map (λ lines. (line.0 ∷ lines.0, lines.1)) (behind line.1)) is
-      ∙ few_map lines_count lines_count more most (λ lines. (line.0 ∷ lines.0, lines.1)) (behind line.1)
-      (λ lines le. let n = row_count line.0 lines.0 in omega (arith, n, le, left, some)) (λ lines less. let n = row_count line.0 lines.0 in omega (arith, n, less, left, some))
+  pub line_behind : (most more : ℕ) (line : Line) → 0 < most → Some line ≡ few line_count (most - 1) row → more + values_in line.row ≡ most - 1
+      → few lines_count most one_and ≡ option_map (and_lines line) (few lines_count more (behind line))
+  line_behind most more line some is left =
+      some_behind line_count lines_count (most - 1) most row line (λ line. option_map (and_lines line) (behind line)) is
+      ∙ few_map lines_count lines_count more most (and_lines line) (behind line)
+      (λ lines le. let n = row_count line.row lines.rows in omega (arith, n, le, left, some)) (λ lines less. let n = row_count line.row lines.rows in omega (arith, n, less, left, some))
 
 -- One more.
 

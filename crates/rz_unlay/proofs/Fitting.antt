@@ -1,22 +1,19 @@
 -- The fields of a template fit what the code asks of them.
-use Rattle.std.proofs.Common.{◌≡◌, ℕ, zero, suc, ◌<◌, ◌≤◌, ℤ, pos, Bool, true, false, ◌&&◌, ◌==◌, List, [], ◌∷◌, length, Option, Some, None, sym, subst, arith}
+use Rattle.std.proofs.Common.{◌≡◌, ℕ, zero, suc, ◌<◌, ◌≤◌, ℤ, pos, Bool, true, false, ◌&&◌, ◌==◌, None, sym, subst, arith}
 use Rattle.std.specs.Prelude.{if◌then◌else◌, nat_abs, not}
 use Rattle.std.specs.Ordering.{int_eq}
 use Rattle.std.proofs.lemmas.Bool.Decides.{nat_tests, Decides-int_eq}
-use Rattle.std.specs.List.{list_all, AllByRecursion}
+use Rattle.std.specs.List.{list_all}
 use Rattle.rz_core.proofs.Tests.{both, true_false}
-use Rattle.rz_expr.specs.Term.{Term}
 use Rattle.rz_types_fields.specs.declared.field.NumForm.{NumForm}
 use Rattle.rz_types_fields.specs.declared.field.NumForm.TheVariants.{Bits, Boolean, Byte, Char, Integer, Longint}
-use Rattle.rz_types_fields.specs.declared.field.Symbol.{Symbol}
-use Rattle.rz_types.specs.Field.{case_and, field_and, no_cases, no_fields, Align, Array, Fill, Label, Number, PlainBody, PlainCases, PlainField, PlainNumber, Points, Switch, Text}
+use Rattle.rz_types_fields.specs.Field.{case_and, field_and, no_cases, no_fields, Align, Array, Fill, Label, Number, PlainBody, PlainCases, PlainField, PlainNumber, Points, Switch, Text}
 use Rattle.rz_types.specs.Kept.{AreCasesKept, AreKept, IsKept, IsKeptWithin}
-use Rattle.rz_types.specs.Range.{is_between}
+use Rattle.rz_types_fields.specs.Range.{is_between}
 use Rattle.rz_types.specs.Rules.{bad_width, may_be_width, unless}
-use Rattle.rz_types.specs.Shape.{are_cases_shaped, are_fixed_points, are_shaped, is_empty, is_fixed_number, is_key_shaped, is_none_or, is_number_shaped, is_own_name, is_own_width, is_shaped, is_symbol_of, is_unit, is_well_shaped, numbers_of}
-use Rattle.rz_types.specs.Value.{is_fixed_expression}
+use Rattle.rz_types_fields.specs.Shape.{are_cases_shaped, are_shaped, is_fixed_number, is_key_shaped, is_none_or, is_number_shaped, is_own_name, is_own_width, is_shaped, is_symbol_of, is_unit, is_well_shaped}
 use Rattle.rz_types.specs.Walk.{and_names, names_of, Own}
-use Rattle.rz_unlay_pieces.specs.Fits.{AreFit, CasesFit, Fits, FixedFits, PointsFit}
+use Rattle.rz_unlay_pieces.specs.Fits.{AreFit, CasesFit, Fits}
 
 -- Widths and units.
 
@@ -34,26 +31,13 @@ form_width Longint width own kept = same_width width 32 own (omega arith)
 form_width Boolean width own kept = same_width width 1 own (omega arith)
 form_width Char width own kept = same_width width 8 own (omega arith)
 
-fixed_fits : (symbols : List Symbol) (fixed : Option Term) → is_fixed_number symbols fixed ≡ true → FixedFits fixed
-fixed_fits symbols None is = tt
-fixed_fits symbols (Some term) is = (both (is_fixed_expression term) (is_empty symbols) is).0
-
-number_fits : (in_case : Bool) (number : PlainNumber) → is_number_shaped in_case number ≡ true → unless (may_be_width number.form number.width) number.width ≡ None
-    → (nat_abs number.width ≤ 32) × FixedFits number.fixed
+number_fits : (in_case : Bool) (number : PlainNumber) → is_number_shaped in_case number ≡ true → unless (may_be_width number.form number.width) number.width ≡ None → nat_abs number.width ≤ 32
 number_fits in_case number is kept =
     let own : Bool = is_own_width number.form number.width in
     let front : Bool = own && list_all (is_symbol_of number.form number.width) number.symbols in
     let one = both (front && is_fixed_number number.symbols number.fixed) (if number.key then is_key_shaped in_case number else true) is in
     let two = both front (is_fixed_number number.symbols number.fixed) one.0 in
-    (form_width number.form number.width (both own (list_all (is_symbol_of number.form number.width) number.symbols) two.0).0 kept, fixed_fits number.symbols number.fixed two.1)
-
-all_fit : (terms : List Term) → list_all is_fixed_expression terms ≡ true → AllByRecursion (λ term. is_fixed_expression term ≡ true) terms
-all_fit [] is = tt
-all_fit (term ∷ terms) is = let each = both (is_fixed_expression term) (list_all is_fixed_expression terms) is in (each.0, all_fit terms each.1)
-
-points_fit : (rect : Bool) (fixed : Option (List Term)) → is_none_or (are_fixed_points rect) fixed ≡ true → PointsFit fixed
-points_fit rect None is = tt
-points_fit rect (Some terms) is = all_fit terms (both (length terms == numbers_of rect) (list_all is_fixed_expression terms) is).1
+    form_width number.form number.width (both own (list_all (is_symbol_of number.form number.width) number.symbols) two.0).0 kept
 
 unit_above : (unit : ℕ) → (is_unit unit && not (unit == 1)) ≡ true → 0 < unit
 unit_above zero is = absurd (true_false (sym is))
@@ -65,7 +49,7 @@ mutual
   field_fits : (scope : Own) (in_case : Bool) (field : PlainField) → is_shaped in_case field ≡ true → bad_width field ≡ None → IsKeptWithin scope field → Fits field
   field_fits scope in_case (Number number) is wide kept = number_fits in_case number is wide
   field_fits scope in_case (Text text) is wide kept = tt
-  field_fits scope in_case (Points points) is wide kept = points_fit points.rect points.fixed is
+  field_fits scope in_case (Points points) is wide kept = tt
   field_fits scope in_case (Fill unit count) is wide kept = tt
   field_fits scope in_case (Align unit) is wide kept = unit_above unit is
   field_fits scope in_case (Label name) is wide kept = tt

@@ -12,10 +12,10 @@ use Rattle.rz_types_fields.specs.declared.tree.Tree.TheVariants as trees
 use Rattle.rz_types_fields.specs.Row.{By}
 use Rattle.rz_types_fields.specs.Sees.{sees, Late}
 use Rattle.rz_types_fields.specs.Spells.{is_case, row_of, values_for, AreBytes, BodySpells, CaseSpells, FieldSpells, Inside, InOrder, IsNumber, IsStored, IsText, PieceSpells, PiecesSpell, RowsSpell, Spells}
-use Rattle.rz_types.specs.Field.{case_and, field_and, no_cases, no_fields, Align, Array, Fill, Label, Number, PlainBody, PlainCases, PlainField, PlainText, Points, Switch, Text}
-use Rattle.rz_types.specs.Passed.{at_field, at_front, behind, behind_piece, nothing_passed, Passed}
-use Rattle.rz_types.specs.Piece.{pieces_of, Filler, OneNumber, OneText, Piece, Place, Zeros}
-use Rattle.rz_types.specs.Text.{PlainPart}
+use Rattle.rz_types_fields.specs.Field.{case_and, field_and, no_cases, no_fields, Align, Array, Fill, Label, Number, PlainBody, PlainCases, PlainField, PlainText, Points, Switch, Text}
+use Rattle.rz_types_fields.specs.Passed.{at_field, at_front, behind, behind_piece, nothing_passed, Passed}
+use Rattle.rz_types_fields.specs.Piece.{pieces_of, Filler, OneNumber, OneText, Piece, Place, Zeros}
+use Rattle.rz_types_fields.specs.Text.{PlainPart}
 
 number_loose : (passed : Passed) (form : NumForm) (width : ℤ) (fixed : Option Term) (sight : Sight) (value : Option Tree) (bits : List Bool)
     → IsNumber true passed form width fixed sight value bits → IsNumber false passed form width fixed sight value bits

@@ -8,7 +8,7 @@ use Rattle.rz_unlay_pieces.specs.Pieces.{before_zeros, or_none, plain_text, trim
 use Rattle.rz_types_fields.specs.declared.field.TextForm.{TextForm}
 use Rattle.rz_types_fields.specs.declared.field.TextForm.TheVariants as texts
 use Rattle.rz_types_fields.specs.Spells.{IsPlainShort, IsPlainText}
-use Rattle.rz_types.specs.Stored.{before_zero, in_size, stored_text, to_size}
+use Rattle.rz_types_fields.specs.Stored.{before_zero, in_size, stored_text, to_size}
 
 -- Sizes.
 

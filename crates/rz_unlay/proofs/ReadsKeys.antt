@@ -27,12 +27,12 @@ use Rattle.rz_types.specs.Value.{see}
 use Rattle.rz_types.specs.Width.{capped, case_keys, field_key, fixed_width, key_bits, keys_from, number_key, plus}
 use Rattle.rz_unlay.specs.Cursor.{has_bits, has_key_at, has_keys, key_at}
 use Rattle.rz_bits.specs.View.{number_at}
-use Rattle.rz_unlay.proofs.BlindFields.{no_places, AreBlindCases, IsBlindBody, IsBlindField}
+use Rattle.rz_unlay.proofs.Ahead.{HasPlaces}
+use Rattle.rz_unlay.proofs.OnePiece.{single}
 use Rattle.rz_unlay.proofs.ReadsBits.{all_append, length_number, number_found}
-use Rattle.rz_unlay.proofs.ReadsNames.{places_inside, HasPlaces}
-use Rattle.rz_unlay.proofs.ReadsTests.{itself, some_is, there_is}
-use Rattle.rz_unlay.proofs.ReadsWidths.{body_wide, by_choice, constant_value, field_wide, single}
-use Rattle.rz_unlay.proofs.Sees.{both_true}
+use Rattle.rz_unlay.proofs.ReadsNames.{places_inside}
+use Rattle.rz_unlay.proofs.ReadsTests.{both_true, itself, some_is, there_is}
+use Rattle.rz_unlay.proofs.ReadsWidths.{body_wide, by_choice, constant_value, field_wide}
 
 -- The bits of a key.
 
@@ -93,18 +93,18 @@ module _ (back : (width number : ℕ) → number < 2 ^ width → number_of (numb
               ∙ ap (λ (n : ℕ). Some n) (ap number_of key.are ∙ back (nat_abs number.width) (key_bits number.width number.fixed) key.small)
 
   field_keys_there : (in_case : Bool) (field : PlainField) (before : Option ℕ) (start : ℕ) (env : Environment) (passed : Passed) (value : Option Tree) (at : ℕ) (late : List Bool) (after : ℕ) (late_after : List Bool)
-      → is_shaped in_case field ≡ true → IsBlindField field → HasPlaces env → FieldSpells true known all field env passed value at late after late_after → after ≤ length all
+      → is_shaped in_case field ≡ true → HasPlaces env → FieldSpells true known all field env passed value at late after late_after → after ≤ length all
       → ((b : ℕ) → before ≡ Some b → at ≡ start + b) → AllByRecursion (KeyThere all start) (field_key before field)
-  field_keys_there in_case (Number number) before start env passed value at late after late_after shaped blind has it within place =
+  field_keys_there in_case (Number number) before start env passed value at late after late_after shaped has it within place =
       let one = single known all env passed (OneNumber number) (values_for (Number number) value) at late after late_after it.1 in
-      number_key_there in_case number before start env passed one.value at late after one.late_after shaped has one.spelled within place
-  field_keys_there in_case (Text text) before start env passed value at late after late_after shaped blind has it within place = tt
-  field_keys_there in_case (Points points) before start env passed value at late after late_after shaped blind has it within place = tt
-  field_keys_there in_case (Fill unit count) before start env passed value at late after late_after shaped blind has it within place = tt
-  field_keys_there in_case (Align unit) before start env passed value at late after late_after shaped blind has it within place = tt
-  field_keys_there in_case (Label name) before start env passed value at late after late_after shaped blind has it within place = tt
-  field_keys_there in_case (Array name count row) before start env passed value at late after late_after shaped blind has it within place = tt
-  field_keys_there in_case (Switch cases) before start env passed value at late after late_after shaped blind has it within place = tt
+      number_key_there in_case number before start env passed one.value at late after late_after shaped has one.spelled within place
+  field_keys_there in_case (Text text) before start env passed value at late after late_after shaped has it within place = tt
+  field_keys_there in_case (Points points) before start env passed value at late after late_after shaped has it within place = tt
+  field_keys_there in_case (Fill unit count) before start env passed value at late after late_after shaped has it within place = tt
+  field_keys_there in_case (Align unit) before start env passed value at late after late_after shaped has it within place = tt
+  field_keys_there in_case (Label name) before start env passed value at late after late_after shaped has it within place = tt
+  field_keys_there in_case (Array name count row) before start env passed value at late after late_after shaped has it within place = tt
+  field_keys_there in_case (Switch cases) before start env passed value at late after late_after shaped has it within place = tt
 
   next_place : (before fixed : Option ℕ) (start at mid : ℕ) → ((b : ℕ) → before ≡ Some b → at ≡ start + b) → ((width : ℕ) → fixed ≡ Some width → mid ≡ at + width)
       → (b : ℕ) → plus before fixed ≡ Some b → mid ≡ start + b
@@ -114,25 +114,25 @@ module _ (back : (width number : ℕ) → number < 2 ^ width → number_of (numb
       let one = place x refl in let other = wide y refl in let sum = some_is (x + y) b is in omega (arith, one, other, sum)
 
   keys_there : (in_case : Bool) (body : PlainBody) (before : Option ℕ) (start : ℕ) (env : Environment) (passed : Passed) (line : List Tree) (at : ℕ) (late : List Bool) (after : ℕ) (late_after : List Bool)
-      → are_shaped in_case body ≡ true → IsBlindBody body → HasPlaces env → BodySpells true known all body env passed line at late after late_after → after ≤ length all
+      → are_shaped in_case body ≡ true → HasPlaces env → BodySpells true known all body env passed line at late after late_after → after ≤ length all
       → ((b : ℕ) → before ≡ Some b → at ≡ start + b) → AllByRecursion (KeyThere all start) (keys_from before body)
-  keys_there in_case no_fields before start env passed line at late after late_after shaped blind has it within place = tt
-  keys_there in_case (field_and field fields) before start env passed line at late after late_after shaped blind has it within place =
+  keys_there in_case no_fields before start env passed line at late after late_after shaped has it within place = tt
+  keys_there in_case (field_and field fields) before start env passed line at late after late_after shaped has it within place =
       let test = both_true (is_shaped in_case field) (are_shaped in_case fields) shaped in
       let here = at_field (field_and field fields) passed in
-      let first = field_wide known all in_case field env here it.0 at late it.2 it.3 test.0 blind.0 has it.5 in
-      let rest = body_wide known all in_case fields env (behind field here) it.1 it.2 it.3 after late_after test.1 blind.1 has it.6 in
+      let first = field_wide known all in_case field env here it.0 at late it.2 it.3 test.0 has it.5 in
+      let rest = body_wide known all in_case fields env (behind field here) it.1 it.2 it.3 after late_after test.1 has it.6 in
       let grows = rest.grows in
       all_append (KeyThere all start) (field_key before field) (keys_from (plus before (fixed_width field)) fields)
-      (field_keys_there in_case field before start env here it.0 at late it.2 it.3 test.0 blind.0 has it.5 (omega (arith, grows, within)) place)
-      (keys_there in_case fields (plus before (fixed_width field)) start env (behind field here) it.1 it.2 it.3 after late_after test.1 blind.1 has it.6 within
+      (field_keys_there in_case field before start env here it.0 at late it.2 it.3 test.0 has it.5 (omega (arith, grows, within)) place)
+      (keys_there in_case fields (plus before (fixed_width field)) start env (behind field here) it.1 it.2 it.3 after late_after test.1 has it.6 within
       (next_place before (fixed_width field) start at it.2 place first.is))
 
   -- those of a case
   pub case_keys_there : (row : PlainBody) (env : Environment) (passed : Passed) (line : List Tree) (at : ℕ) (late : List Bool) (after : ℕ) (late_after : List Bool)
-      → are_shaped true row ≡ true → IsBlindBody row → HasPlaces env → BodySpells true known all row env passed line at late after late_after → after ≤ length all → AllByRecursion (KeyThere all at) (case_keys row)
-  case_keys_there row env passed line at late after late_after shaped blind has it within =
-      keys_there true row (Some 0) at env passed line at late after late_after shaped blind has it within (λ b is. (let e = some_is 0 b is in omega (arith, e)))
+      → are_shaped true row ≡ true → HasPlaces env → BodySpells true known all row env passed line at late after late_after → after ≤ length all → AllByRecursion (KeyThere all at) (case_keys row)
+  case_keys_there row env passed line at late after late_after shaped has it within =
+      keys_there true row (Some 0) at env passed line at late after late_after shaped has it within (λ b is. (let e = some_is 0 b is in omega (arith, e)))
 
 -- The key of a case.
 
@@ -169,24 +169,24 @@ other_key all at one other apart found =
 module _ (back : (width number : ℕ) → number < 2 ^ width → number_of (number_bits width number) ≡ number) (known : Facts) (all : List Bool) where
   -- a key that stands apart from those of all these cases isn't there, where one of these is spelled
   key_apart : (cases : PlainCases) (key : CaseKey) (env : Environment) (passed : Passed) (value : Option Tree) (at : ℕ) (late : List Bool) (after : ℕ) (late_after : List Bool)
-      → are_cases_shaped cases ≡ true → AreBlindCases cases → HasPlaces env → AreCasesApart cases → IsApartFrom key cases → CaseSpells true known all cases env passed value at late after late_after → after ≤ length all
+      → are_cases_shaped cases ≡ true → HasPlaces env → AreCasesApart cases → IsApartFrom key cases → CaseSpells true known all cases env passed value at late after late_after → after ≤ length all
       → has_key_at all at key ≡ false
-  key_apart no_cases key env passed value at late after late_after shaped blind has apart from it within = absurd it
-  key_apart (case_and name row others) key env passed value at late after late_after shaped blind has apart from it within =
+  key_apart no_cases key env passed value at late after late_after shaped has apart from it within = absurd it
+  key_apart (case_and name row others) key env passed value at late after late_after shaped has apart from it within =
       let test = both_true (is_own_name name) (are_shaped true row && are_cases_shaped others) shaped in
       let both = both_true (are_shaped true row) (are_cases_shaped others) test.1 in
       by_choice (has_key_at all at key ≡ false) _ _
       (λ this.
       let inside = this.2 in
-      let there = case_keys_there back known all row inside.0 (at_front row passed) this.0 at late after late_after both.0 blind.0 (places_inside row None env inside.0 (no_places row blind.0) inside.1 has) inside.2 within in
+      let there = case_keys_there back known all row inside.0 (at_front row passed) this.0 at late after late_after both.0 (places_inside true row None env inside.0 both.0 inside.1 has) inside.2 within in
       other_key all at key apart.0.key (subst (λ (keys : List CaseKey). AllByRecursion (StandApart key) keys) apart.0.alone from.0).0 (key_found all at row others apart.0 there))
-      (λ other. key_apart others key env passed value at late after late_after both.1 blind.1 has apart.2 from.1 other within)
+      (λ other. key_apart others key env passed value at late after late_after both.1 has apart.2 from.1 other within)
       (is_case name value) it
 
   -- so the keys of a case aren't there where another behind it is spelled
   pub keys_absent : (row : PlainBody) (others : PlainCases) (own : HasKey row others) (env : Environment) (passed : Passed) (value : Option Tree) (at : ℕ) (late : List Bool) (after : ℕ) (late_after : List Bool)
-      → are_cases_shaped others ≡ true → AreBlindCases others → HasPlaces env → AreCasesApart others → CaseSpells true known all others env passed value at late after late_after → after ≤ length all
+      → are_cases_shaped others ≡ true → HasPlaces env → AreCasesApart others → CaseSpells true known all others env passed value at late after late_after → after ≤ length all
       → has_keys all at (case_keys row) ≡ false
-  keys_absent row others own env passed value at late after late_after shaped blind has apart it within =
+  keys_absent row others own env passed value at late after late_after shaped has apart it within =
       ap (has_keys all at) own.alone
-      ∙ ap (λ (b : Bool). b && true) (key_apart others own.key env passed value at late after late_after shaped blind has apart own.apart it within)
+      ∙ ap (λ (b : Bool). b && true) (key_apart others own.key env passed value at late after late_after shaped has apart own.apart it within)

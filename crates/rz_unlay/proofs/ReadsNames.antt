@@ -1,20 +1,31 @@
 -- What is known of names inside a body, and outside of all fields.
-use Rattle.std.proofs.Common.{◌≡◌, ℕ, ℤ, pos, Bool, true, false, ◌&&◌, ◌||◌, not, List, length, Option, Some, None, refl, sym, ap, ◌∙◌, subst}
-use Rattle.std.specs.Prelude.{if◌then◌else◌}
+use Rattle.std.proofs.Common.{◌≡◌, ℕ, ◌==◌, ℤ, pos, Bool, true, false, ◌&&◌, ◌||◌, not, List, [], ◌∷◌, length, Option, Some, None, refl, sym, ap, ◌∙◌, subst}
+use Rattle.std.specs.Prelude.{codes, if◌then◌else◌}
 use Rattle.std.specs.Option.{is_some}
+use Rattle.std.specs.Str.{str_to_ascii_lowercase}
+use Rattle.std.proofs.lemmas.Bool.{eqb-true}
 use Rattle.rz_core.specs.Lists.{or_else}
 use Rattle.rz_core.specs.declared.facts.Facts.{Facts}
 use Rattle.rz_core.specs.declared.resource.Word.{Word}
-use Rattle.rz_expr.specs.Environment.{count_key, place_of, predefined, Environment, IsPartOf, Key}
+use Rattle.rz_expr.specs.Attribute.{attribute_word}
+use Rattle.rz_expr.specs.Environment.{count_key, place_key, place_of, predefined, Environment, IsPartOf, Key}
+use Rattle.rz_expr.specs.Keyword.{keyword_of}
+use Rattle.rz_expr.specs.Words.{is_label}
+use Rattle.rz_expr.specs.Words as words
+use Rattle.rz_expr.specs.declared.words.Role.{Role}
+use Rattle.rz_expr.specs.declared.words.Role.TheVariants.{OtherName}
+use Rattle.rz_expr.proofs.Cases.{same_value}
 use Rattle.rz_types_fields.specs.declared.tree.Tree.{Tree}
-use Rattle.rz_types_fields.specs.Spells.{BodySpells, IsCounted, RowOf, Within}
+use Rattle.rz_types_fields.specs.Field.{field_and, no_fields, Align, Array, Fill, Label, Number, PlainBody, PlainField, Points, Switch, Text}
 use Rattle.rz_types_fields.specs.Known.{names_inside, stated_in}
+use Rattle.rz_types_fields.specs.Passed.{at_field, at_front, behind, declares, gives_count, gives_key, nothing_passed, outside, states, Passed}
+use Rattle.rz_types_fields.specs.Shape.{are_shaped, is_shaped}
+use Rattle.rz_types_fields.specs.Solve.{is_same_key}
+use Rattle.rz_types_fields.specs.Spells.{BodySpells, IsCounted, RowOf, Within}
 use Rattle.rz_types_fields.proofs.SameNames.{key_is}
-use Rattle.rz_types.specs.Field.{field_and, no_fields, Align, Array, Fill, Label, Number, PlainBody, Points, Switch, Text}
-use Rattle.rz_types.specs.Passed.{at_field, at_front, behind, declares, gives_count, nothing_passed, outside, states, Passed}
-use Rattle.rz_unlay.proofs.BlindFields.{NoPlaces}
-use Rattle.rz_unlay.proofs.ReadsNumber.{Knows}
-use Rattle.rz_unlay.proofs.ReadsTests.{some_is}
+use Rattle.rz_unlay.proofs.Ahead.{HasPlaces}
+use Rattle.rz_unlay.proofs.Near.{Knows}
+use Rattle.rz_unlay.proofs.ReadsTests.{both_true, neither, some_is}
 
 -- Inside a body.
 
@@ -91,11 +102,54 @@ module _ (known : Facts) (all : List Bool) where
 
 -- `true` and `false` have their values everywhere.
 
-abbrev pub HasPlaces : Environment → Type 0
-HasPlaces env = (name : List ℕ) → env.give (place_of name) ≡ predefined name
+unnamed : (test : Bool) (role : Role) → is_label (if test then OtherName else role) ≡ true → test ≡ false
+unnamed true role is = absurd cc
+unnamed false role is = refl
 
-pub places_inside : (body : PlainBody) (which : Option RowOf) (env own : Environment) → NoPlaces body → Within body which env own → HasPlaces env → HasPlaces own
-places_inside body which env own none within has name = within.give (place_of name) (none name) ∙ has name
+plain_label : (name : List ℕ) → is_label (words.plain_role name) ≡ true → predefined name ≡ None
+plain_label name is =
+    let two = neither (is_some (attribute_word name) || words.is (codes "true") name) (words.is (codes "false") name) (unnamed (words.is_other_name name) (words.keyword_role (keyword_of name)) is) in
+    let one = neither (is_some (attribute_word name)) (words.is (codes "true") name) two.0 in
+    λ i. if one.1 i then Some (pos 1) else if two.1 i then Some (pos 0) else None
+
+-- no label is named so
+pub no_label : (name : List ℕ) → is_label (words.role_of name) ≡ true → predefined name ≡ None
+no_label [] is = refl
+no_label (byte ∷ bytes) is = by (byte == 36) refl is
+  where
+    by : (test : Bool) → (byte == 36) ≡ test → is_label (if test then words.dollar_role (byte ∷ bytes) bytes else words.plain_role (byte ∷ bytes)) ≡ true → predefined (byte ∷ bytes) ≡ None
+    by true so is = subst (λ (first : ℕ). predefined (first ∷ bytes) ≡ None) (sym (eqb-true byte 36 so)) refl
+    by false so is = plain_label (byte ∷ bytes) is
+
+not_given : (in_case : Bool) (field : PlainField) (name : List ℕ) (value : ℤ) → is_shaped in_case field ≡ true → predefined name ≡ Some value → gives_key field (place_of name) ≡ false
+not_given in_case (Number number) name value shaped is = refl
+not_given in_case (Text text) name value shaped is = refl
+not_given in_case (Points points) name value shaped is = refl
+not_given in_case (Fill unit count) name value shaped is = refl
+not_given in_case (Align unit) name value shaped is = refl
+not_given in_case (Label own) name value shaped is = by (is_same_key (place_key own.bytes) (place_of name)) refl
+  where
+    same_place : (one other : List ℕ) → place_of one ≡ place_of other → one ≡ other
+    same_place one other same = cc
+
+    by : (test : Bool) → is_same_key (place_key own.bytes) (place_of name) ≡ test → test ≡ false
+    by false so = refl
+    by true so =
+        let same = same_place (str_to_ascii_lowercase own.bytes) name (key_is (place_key own.bytes) (place_of name) so) in
+        let absent = no_label own.bytes (both_true _ (is_label (words.role_of own.bytes)) shaped).1 in
+        absurd (let wrong = sym is ∙ ap predefined (sym same) ∙ sym (same_value own.bytes) ∙ absent in cc)
+not_given in_case (Array None count row) name value shaped is = refl
+not_given in_case (Array (Some own) count row) name value shaped is = refl
+not_given in_case (Switch cases) name value shaped is = refl
+
+pub not_declared : (in_case : Bool) (body : PlainBody) (name : List ℕ) (value : ℤ) → are_shaped in_case body ≡ true → predefined name ≡ Some value → declares body (place_of name) ≡ false
+not_declared in_case no_fields name value shaped is = refl
+not_declared in_case (field_and field fields) name value shaped is =
+    let each = both_true (is_shaped in_case field) (are_shaped in_case fields) shaped in
+    λ i. not_given in_case field name value each.0 is i || not_declared in_case fields name value each.1 is i
+
+pub places_inside : (in_case : Bool) (body : PlainBody) (which : Option RowOf) (env own : Environment) → are_shaped in_case body ≡ true → Within body which env own → HasPlaces env → HasPlaces own
+places_inside in_case body which env own shaped within has name value is = within.give (place_of name) (not_declared in_case body name value shaped is) ∙ has name value is
 
 -- Outside of all fields.
 
@@ -111,4 +165,4 @@ knows_outside key is = some_has (outside.give key) (met (is_some (outside.give k
     some_has (Some v) is = (v, refl)
 
 pub places_outside : HasPlaces outside
-places_outside name = refl
+places_outside name value is = is

@@ -1,38 +1,39 @@
 -- A number that is spelled plainly is read.
-use Rattle.std.proofs.Common.{◌≡◌, inl, inr, ℕ, zero, suc, ◌+◌, ◌<◌, ◌≤◌, ◌^◌, ◌%◌, ◌==◌, ℤ, pos, Bool, true, false, ◌&&◌, ◌||◌, List, length, take, drop, Option, Some, None, Result, Ok, Err, refl, sym, ap, ◌∙◌, subst, arith}
-use Rattle.std.specs.Prelude.{if◌then◌else◌, nat_abs, nat_le, not, option_and_then, option_map}
+use Rattle.std.proofs.Common.{◌≡◌, inl, inr, ℕ, ◌+◌, ◌<◌, ◌≤◌, ◌^◌, ◌%◌, ◌==◌, ℤ, pos, Bool, true, false, ◌&&◌, ◌||◌, List, ◌++◌, length, take, drop, Option, Some, None, Result, Ok, Err, refl, sym, ap, ◌∙◌, subst, arith}
+use Rattle.std.specs.Prelude.{if◌then◌else◌, nat_abs, not, option_and_then, option_map, replicate}
 use Rattle.std.specs.Int.{cast_unsigned, w64}
-use Rattle.std.specs.Option.{option_to_list}
 use Rattle.std.proofs.lemmas.Bool.Decides.{nat_tests}
 use Rattle.std.proofs.lemmas.Nat.{pow_pos}
 use Rattle.std.proofs.Math.Nat.{mod-lt}
 use Rattle.rz_core.specs.Stop.{◌>>=◌}
 use Rattle.rz_core.specs.declared.facts.Facts.{Facts}
-use Rattle.rz_expr.specs.Environment.{count_key, place_key, Environment, IsPartOf, Key}
+use Rattle.rz_expr.specs.Environment.{count_key, count_of, place_key, place_of, Environment, IsPartOf, Key, Sight}
 use Rattle.rz_expr.specs.Term.{BitsAt, Constant, FactOf, Named, OfOne, OfTwo, RowsOf, Term}
 use Rattle.rz_expr.specs.Value.{known_value, value_of}
 use Rattle.rz_expr.specs.declared.value.EvalFault.{EvalFault}
 use Rattle.rz_bits.specs.Bits.{number_bits, number_of}
-use Rattle.rz_unlay_pieces.specs.Pieces.{is_stored, number_step, solve_all, Step}
-use Rattle.rz_bits.specs.View.{number_at}
 use Rattle.rz_types_fields.specs.declared.field.NumForm.{NumForm}
 use Rattle.rz_types_fields.specs.declared.tree.Tree.{Tree}
 use Rattle.rz_types_fields.specs.declared.tree.Tree.TheVariants as trees
-use Rattle.rz_types_fields.specs.Spells.{IsNumber}
-use Rattle.rz_types.specs.Field.{PlainBody}
-use Rattle.rz_types.specs.Readable.{all_known, is_number_read, tells_one}
-use Rattle.rz_types.specs.Solve.{can_solve, has_key, is_same_key, solved_count, undoes_one, undoes_right, AreSolved, IsSolvedTo, SolvesBack}
-use Rattle.rz_types.specs.Passed.{declares, is_held, is_known, told_by, Names, Passed}
-use Rattle.rz_types.specs.Stored.{stored_number}
-use Rattle.rz_types.specs.Value.{no_bits, see}
-use Rattle.rz_unlay.proofs.Sees.{both_true, by_test, solve_same, value_same, Covers}
-use Rattle.rz_unlay.proofs.Blind.{AreBlind, IsBlind}
-use Rattle.rz_unlay.proofs.BlindFields.{NoPlaces}
-use Rattle.rz_unlay.proofs.SpelledNames.{either_of, left_true, not_both, right_true}
-use Rattle.rz_unlay.proofs.Teller.{teller}
-use Rattle.rz_types_fields.proofs.Near.{held, NoneNear}
+use Rattle.rz_types_fields.specs.Field.{field_and, PlainBody, PlainField}
+use Rattle.rz_types_fields.specs.Passed.{declares, is_held, is_known, is_near, told_by, Names, Passed}
+use Rattle.rz_types_fields.specs.Sees.{bits_before, is_late, sees, Late}
+use Rattle.rz_types_fields.specs.Solve.{can_solve, has_key, is_same_key, solved_value, undoes_left, undoes_one, undoes_right, AreSolved, IsSolvedTo, SolvesBack}
+use Rattle.rz_types_fields.specs.Spells.{is_late_value, IsNumber}
+use Rattle.rz_types_fields.specs.Stored.{stored_number}
+use Rattle.rz_types_fields.specs.Value.{see}
 use Rattle.rz_types_fields.proofs.SameNames.{key_is, key_itself}
-use Rattle.rz_unlay.proofs.Told.{all_told, AreTold, IsTold}
+use Rattle.rz_types.specs.Readable.{all_known, is_number_read, tells_one}
+use Rattle.rz_unlay_pieces.specs.Ahead.{in_resource}
+use Rattle.rz_unlay_pieces.specs.Pieces.{here_at, is_stored, late_behind, number_step, seen_at, solve_all, solved_at, with_near, Step}
+use Rattle.rz_unlay.proofs.Ahead.{Ahead}
+use Rattle.rz_unlay.proofs.Near.{in_resource_is, near_alone, near_covers, near_part, near_widens}
+pub use Rattle.rz_unlay.proofs.Near.{Knows}
+use Rattle.rz_unlay.proofs.ReadsBits.{length_number, number_found}
+use Rattle.rz_unlay.proofs.ReadsTests.{both_true, by_test, either_of, left_true, neither, not_true, right_true, some_same}
+use Rattle.rz_unlay.proofs.Sees.{late_same, met_known, others_known, solve_same, value_same, Covers}
+use Rattle.rz_unlay.proofs.Teller.{teller}
+use Rattle.rz_unlay.proofs.Told.{all_told, AreTold, IsTold, Widens}
 
 -- Names of an expression.
 
@@ -53,28 +54,28 @@ solved_to true solved value is to = absurd cc
 solved_to false solved value is to = to
 
 -- a name in it that isn't known is solved to its value
-solved_at : (known : Names) (solved : Key → Option ℤ) (names : Environment) (key : Key) → known key ≡ false → (term : Term) → AreSolved known solved names term → has_key key term ≡ true
+solved_back : (known : Names) (solved : Key → Option ℤ) (names : Environment) (key : Key) → known key ≡ false → (term : Term) → AreSolved known solved names term → has_key key term ≡ true
     → solved key ≡ names.give key
-solved_at known solved names key unknown (Constant number) are has = absurd cc
-solved_at known solved names key unknown (Named name) are has =
+solved_back known solved names key unknown (Constant number) are has = absurd cc
+solved_back known solved names key unknown (Named name) are has =
     subst (λ (k : Key). known k ≡ false → solved k ≡ names.give k) (sym (key_is key (place_key name) has)) (λ so. solved_to (known (place_key name)) _ _ so are) unknown
-solved_at known solved names key unknown (RowsOf name) are has =
+solved_back known solved names key unknown (RowsOf name) are has =
     subst (λ (k : Key). known k ≡ false → solved k ≡ names.give k) (sym (key_is key (count_key name) has)) (λ so. solved_to (known (count_key name)) _ _ so are) unknown
-solved_at known solved names key unknown (BitsAt name start width) are has =
+solved_back known solved names key unknown (BitsAt name start width) are has =
     either_of (is_same_key key (place_key name) || has_key key start) (has_key key width)
     (either_of (is_same_key key (place_key name)) (has_key key start)
     (λ same. subst (λ (k : Key). known k ≡ false → solved k ≡ names.give k) (sym (key_is key (place_key name) same)) (λ so. solved_to (known (place_key name)) _ _ so are.0) unknown)
-    (λ there. solved_at known solved names key unknown start are.1 there))
-    (λ there. solved_at known solved names key unknown width are.2 there)
+    (λ there. solved_back known solved names key unknown start are.1 there))
+    (λ there. solved_back known solved names key unknown width are.2 there)
     has
-solved_at known solved names key unknown (FactOf which) are has = absurd cc
-solved_at known solved names key unknown (OfOne op operand) are has = solved_at known solved names key unknown operand are has
-solved_at known solved names key unknown (OfTwo op left right) are has =
-    either_of (has_key key left) (has_key key right) (λ there. solved_at known solved names key unknown left are.0 there)
-    (λ there. solved_at known solved names key unknown right are.1 there) has
+solved_back known solved names key unknown (FactOf which) are has = absurd cc
+solved_back known solved names key unknown (OfOne op operand) are has = solved_back known solved names key unknown operand are has
+solved_back known solved names key unknown (OfTwo op left right) are has =
+    either_of (has_key key left) (has_key key right) (λ there. solved_back known solved names key unknown left are.0 there)
+    (λ there. solved_back known solved names key unknown right are.1 there) has
 
 -- names that stand in it are all its names
-all_of_its : (known : Names) (term : Term) → ((key : Key) → has_key key term ≡ true → known key ≡ true) → all_known known term ≡ true
+pub all_of_its : (known : Names) (term : Term) → ((key : Key) → has_key key term ≡ true → known key ≡ true) → all_known known known term ≡ true
 all_of_its known (Constant number) each = refl
 all_of_its known (Named name) each = each (place_key name) (key_itself (place_key name))
 all_of_its known (RowsOf name) each = each (count_key name) (key_itself (count_key name))
@@ -99,7 +100,7 @@ name_has : (name : List ℕ) (found : Option ℤ) (value : ℤ) → known_value 
 name_has name None value is = absurd cc
 name_has name (Some v) value is = (v, refl)
 
-has_value : (facts : Facts) (bits : ℤ → ℤ → Option ℤ) (names : Environment) (key : Key) (term : Term) (value : ℤ) → value_of term (see facts bits names) ≡ Ok value → has_key key term ≡ true
+pub has_value : (facts : Facts) (bits : ℤ → ℤ → Option ℤ) (names : Environment) (key : Key) (term : Term) (value : ℤ) → value_of term (see facts bits names) ≡ Ok value → has_key key term ≡ true
     → (v : ℤ) × (names.give key ≡ Some v)
 has_value facts bits names key (Constant number) value is has = absurd cc
 has_value facts bits names key (Named name) value is has =
@@ -128,141 +129,181 @@ has_value facts bits names key (OfTwo op left right) value is has =
 -- What a number tells.
 
 -- each name of an expression, whose names are known but for one that it tells
-module _ (known : Names) (env : Environment) (solved : Key → Environment → Option ℤ) where
-  told_if : (key : Key) → IsTold known env solved key → (name : Key) → (is_same_key key name || known name) ≡ true → IsTold known env solved name
-  told_if key told name is = either_of (is_same_key key name) (known name) (λ same. subst (IsTold known env solved) (key_is key name same) told) (λ is_known. inl is_known) is
+module _ (met known : Names) (env : Environment) (near : Environment → Environment) (solved : Key → Environment → Option ℤ) where
+  all_are_known : (term : Term) → all_known met known term ≡ true → AreTold met known env near solved term
+  all_are_known (Constant number) is = tt
+  all_are_known (Named name) is = inl is
+  all_are_known (RowsOf name) is = inl is
+  all_are_known (BitsAt name start width) is = is
+  all_are_known (FactOf which) is = tt
+  all_are_known (OfOne op operand) is = all_are_known operand is
+  all_are_known (OfTwo op left right) is =
+      let each = both_true (all_known met known left) (all_known met known right) is in (all_are_known left each.0, all_are_known right each.1)
 
-  each_told : (key : Key) → IsTold known env solved key → ((name : List ℕ) → is_same_key key (place_key name) ≡ true → ⊥) → (term : Term) → IsBlind term
-      → all_known (λ other. is_same_key key other || known other) term ≡ true → AreTold known env solved term
-  each_told key told counts (Constant number) blind is = tt
-  each_told key told counts (Named name) blind is = either_of (is_same_key key (place_key name)) (known (place_key name)) (λ same. absurd (counts name same)) (λ is_known. is_known) is
-  each_told key told counts (RowsOf name) blind is = told_if key told (count_key name) is
-  each_told key told counts (BitsAt name start width) blind is = absurd blind
-  each_told key told counts (FactOf which) blind is = tt
-  each_told key told counts (OfOne op operand) blind is = each_told key told counts operand blind is
-  each_told key told counts (OfTwo op left right) blind is =
-      let each = both_true (all_known (λ other. is_same_key key other || known other) left) _ is in
-      (each_told key told counts left blind.0 each.0, each_told key told counts right blind.1 each.1)
+  each_told : (key : Key) → IsTold known env near solved key → (term : Term) → can_solve key term ≡ true
+      → all_known met (λ other. is_same_key key other || known other) term ≡ true → AreTold met known env near solved term
+  each_told key told (Constant number) can is = absurd cc
+  each_told key told (Named name) can is = subst (IsTold known env near solved) (key_is key (place_key name) can) told
+  each_told key told (RowsOf name) can is = subst (IsTold known env near solved) (key_is key (count_key name) can) told
+  each_told key told (BitsAt name start width) can is = absurd cc
+  each_told key told (FactOf which) can is = absurd cc
+  each_told key told (OfOne op operand) can is = each_told key told operand (both_true (undoes_one op) (can_solve key operand) can).1 is
+  each_told key told (OfTwo op left right) can is =
+      let each = both_true (all_known met (λ other. is_same_key key other || known other) left) _ is in
+      by_test (has_key key left) _ _
+      (λ there one.
+      let second = both_true (undoes_left op && not (has_key key right)) (can_solve key left) one in
+      let first = both_true (undoes_left op) (not (has_key key right)) second.0 in
+      (each_told key told left second.1 each.0, all_are_known right (others_known met known key right (not_true (has_key key right) first.1) each.1)))
+      (λ absent other.
+      (all_are_known left (others_known met known key left absent each.0), each_told key told right (both_true (undoes_right op) (can_solve key right) other).1 each.1))
+      can
 
-  all_are_known : (term : Term) → IsBlind term → all_known known term ≡ true → AreTold known env solved term
-  all_are_known (Constant number) blind is = tt
-  all_are_known (Named name) blind is = is
-  all_are_known (RowsOf name) blind is = inl is
-  all_are_known (BitsAt name start width) blind is = absurd blind
-  all_are_known (FactOf which) blind is = tt
-  all_are_known (OfOne op operand) blind is = all_are_known operand blind is
-  all_are_known (OfTwo op left right) blind is =
-      let each = both_true (all_known known left) _ is in (all_are_known left blind.0 each.0, all_are_known right blind.1 each.1)
-
-module _ (facts : Facts) (rest : PlainBody) (known : Names) (env : Environment) (width : ℕ) (term : Term) (stored : ℕ) (value : ℤ)
-    (blind : IsBlind term) (places : NoPlaces rest) (is_value : value_of term (see facts no_bits env) ≡ Ok value) (back : SolvesBack known width (see facts no_bits env) term stored) where
+module _ (facts : Facts) (bits : ℤ → ℤ → Option ℤ) (rest : PlainBody) (len : ℕ) (met known : Names) (leads : (key : Key) → met key ≡ true → known key ≡ true) (env : Environment) (near : Environment → Environment) (widens : Widens env near)
+    (lies : (name : List ℕ) → declares rest (place_of name) ≡ true → (place : ℕ) × (env.give (place_of name) ≡ Some (pos place)) × (place ≤ len))
+    (width : ℕ) (term : Term) (stored : ℕ) (value : ℤ) (is_value : value_of term (see facts bits env) ≡ Ok value) (back : SolvesBack known width (see facts bits env) term stored) where
   abbrev solved : Key → Environment → Option ℤ
-  solved key names = solved_count width key (see facts no_bits names) term stored
+  solved key names = solved_at len width key (see facts bits (near names)) term stored
 
-  key_told : (key : Key) → can_solve key term ≡ true → all_known (λ other. is_same_key key other || known other) term ≡ true → IsTold known env solved key
-  key_told key can others = by (known key) refl
+  solved_same : (key : Key) → can_solve key term ≡ true → all_known met (λ other. is_same_key key other || known other) term ≡ true
+      → (names : Environment) → Covers known (near names) → IsPartOf names env → solved_value width key (see facts bits (near names)) term stored ≡ solved_value width key (see facts bits env) term stored
+  solved_same (place_of name) can others names covers part = solve_same facts bits met known leads (near names) env covers (widens.part names part) (place_of name) term can others (pos stored)
+  solved_same (count_of name) can others names covers part =
+      ap (λ (o : Option ℤ). option_map (λ count. pos (cast_unsigned w64 count % 2 ^ width)) o)
+      (solve_same facts bits met known leads (near names) env covers (widens.part names part) (count_of name) term can others (pos stored))
+
+  -- the value of a place lies in the resource
+  solved_in : (key : Key) (sight : Sight) (v : ℤ) → declares rest key ≡ true → env.give key ≡ Some v → solved_value width key sight term stored ≡ Some v → solved_at len width key sight term stored ≡ Some v
+  solved_in (place_of name) sight v declared has is =
+      let it = lies name declared in
+      let same : pos it.0 ≡ v = some_same (pos it.0) v (sym it.1 ∙ has) in
+      ap (in_resource len) is ∙ subst (λ (x : ℤ). in_resource len (Some x) ≡ Some x) same (in_resource_is len it.0 it.2)
+  solved_in (count_of name) sight v declared has is = is
+
+  key_told : (key : Key) → declares rest key ≡ true → can_solve key term ≡ true → all_known met (λ other. is_same_key key other || known other) term ≡ true → IsTold known env near solved key
+  key_told key declared can others = by (known key) refl
     where
-      by : (test : Bool) → known key ≡ test → IsTold known env solved key
+      by : (test : Bool) → known key ≡ test → IsTold known env near solved key
       by true is = inl is
       by false is =
           let there = solved_there key term can in
-          let has = has_value facts no_bits env key term value is_value there in
+          let has = has_value facts bits env key term value is_value there in
           inr (
             has.0,
             has.1,
             λ names covers part.
-                ap (λ (o : Option ℤ). option_map (λ count. pos (cast_unsigned w64 count % 2 ^ width)) o) (solve_same facts no_bits known names env covers part key term can others (pos stored))
-                ∙ solved_at known (λ key. solved key env) env key is term back there ∙ has.1,
+                solved_in key (see facts bits (near names)) has.0 declared has.1
+                (solved_same key can others names covers part ∙ solved_back known (λ key. solved_value width key (see facts bits env) term stored) env key is term back there ∙ has.1),
           )
 
-  pub names_told : (all_known known term || tells_one rest known term term) ≡ true → AreTold known env solved term
-  names_told is = either_of (all_known known term) (tells_one rest known term term) (all_are_known known env solved term blind)
+  pub names_told : (all_known met known term || tells_one rest met known term term) ≡ true → AreTold met known env near solved term
+  names_told is = either_of (all_known met known term) (tells_one rest met known term term) (all_are_known met known env near solved term)
       (λ tells_it.
-      let it = teller rest known term term tells_it in
+      let it = teller rest met known term term tells_it in
       let one = both_true (declares rest it.key && can_solve it.key term) _ it.is in
       let two = both_true (declares rest it.key) (can_solve it.key term) one.0 in
-      each_told known env solved it.key (key_told it.key two.1 one.1)
-      (λ name same. not_both (declares rest it.key) two.0 (ap (declares rest) (key_is it.key (place_key name) same) ∙ places _)) term blind one.1)
+      each_told met known env near solved it.key (key_told it.key two.0 two.1 one.1) term two.1 one.1)
       is
 
 -- Reading it.
 
-length_is : (width number : ℕ) → length (number_bits width number) ≡ width
-unfolding number_bits
-length_is zero number = refl
-length_is (suc width) number = ap suc (length_is width number)
-
-number_there : (back : (width number : ℕ) → number < 2 ^ width → number_of (number_bits width number) ≡ number) → (all : List Bool) (at width number : ℕ) → number < 2 ^ width
-    → at + width ≤ length all → take width (drop at all) ≡ number_bits width number → number_at all at width ≡ Some number
-number_there back all at width number small within there =
-    let test : nat_le (at + width) (length all) ≡ true = grind (arith, nat_tests, within) in
-    ap (λ (b : Bool). option_map number_of (if b then Some (take width (drop at all)) else None)) test
-    ∙ ap (λ (bits : List Bool). Some (number_of bits)) there
-    ∙ ap (λ (n : ℕ). Some n) (back width number small)
-
--- the names that are held have values
-abbrev pub Knows : Passed → Environment → Type 0
-Knows passed names = Covers (is_held passed) names
-
--- so have those that are known, where none is near
-pub covers_known : (passed : Passed) (names : Environment) → NoneNear passed → Knows passed names → Covers (is_known passed) names
-covers_known passed names none knows key known = knows key (held passed none key known)
-
--- the reader is behind a piece or a field, with its value, and knows a part of the finished names
-pub record Steps (passed : Passed) (env : Environment) (value : Option Tree) (after : ℕ) (step : Option Step) : Type 0 where
+-- the reader is behind a piece or a field, with its value and the late bits, and knows a part of the finished names
+pub record Steps (passed : Passed) (env : Environment) (value : Option Tree) (after : ℕ) (late_after : Late) (step : Option Step) : Type 0 where
   pub names : Environment
-  pub is : step ≡ Some (record { value = value; after = after; names = names })
+  pub is : step ≡ Some (record { value = value; after = after; names = names; late = late_after })
   pub knows : Knows passed names
   pub part : IsPartOf names env
 
 told_knows : (term : Term) (passed : Passed) (names more : Environment) → Knows passed names → IsPartOf names more
-    → ((key : Key) → has_key key term ≡ true → (value : ℤ) × (more.give key ≡ Some value)) → Knows (told_by (Some term) passed) more
+    → ((key : Key) → has_key key term ≡ true → is_known passed key ≡ false → (value : ℤ) × (more.give key ≡ Some value)) → Knows (told_by (Some term) passed) more
 told_knows term passed names more knows kept has key is =
     either_of (passed.met key) ((has_key key term && not (is_known passed key)) || passed.told key)
     (λ met. before (left_true (passed.met key) (passed.told key) met))
-    (either_of (has_key key term && not (is_known passed key)) (passed.told key) (λ new. has key (both_true (has_key key term) (not (is_known passed key)) new).0)
+    (either_of (has_key key term && not (is_known passed key)) (passed.told key)
+    (λ new. let each = both_true (has_key key term) (not (is_known passed key)) new in has key each.0 (not_true (is_known passed key) each.1))
     (λ told. before (right_true (passed.met key) (passed.told key) told)))
     is
   where
     before : is_held passed key ≡ true → (value : ℤ) × (more.give key ≡ Some value)
     before known = let it = knows key known in (it.0, kept.give key it.0 it.1)
 
-module _ (back : (width number : ℕ) → number < 2 ^ width → number_of (number_bits width number) ≡ number) (facts : Facts) (rest : PlainBody) (all : List Bool) (env : Environment) where
-  pub number_steps : (passed : Passed) (names : Environment) → NoPlaces rest → NoneNear passed → Knows passed names → IsPartOf names env → (form : NumForm) (width : ℤ) (fixed : Option Term) (value : Option Tree)
-      (bits : List Bool) (at : ℕ) → AreBlind (option_to_list fixed) → is_number_read rest passed fixed ≡ true → IsNumber true passed form width fixed (see facts no_bits env) value bits
-      → take (length bits) (drop at all) ≡ bits → at + length bits ≤ length all
-      → Steps (told_by fixed passed) env value (at + length bits) (number_step facts all form width fixed names at)
-  number_steps passed names places none knows part form width None value bits at blind reads (n, is, small, are) there within =
-      let long : length bits ≡ nat_abs width = ap length are ∙ length_is (nat_abs width) n in
-      let found = number_there back all at (nat_abs width) n small (subst (λ (l : ℕ). at + l ≤ length all) long within) (sym (ap (λ (l : ℕ). take l (drop at all)) long) ∙ there ∙ are) in
+module _ (back : (width number : ℕ) → number < 2 ^ width → number_of (number_bits width number) ≡ number) (facts : Facts) (all : List Bool) (field : PlainField) (rest : PlainBody) (env : Environment) (first after : ℕ)
+    (met : Names) (ahead : Ahead all field rest env first after) where
+  abbrev near : Environment → Environment
+  near = with_near (here_at facts all field rest first met)
+
+  abbrev lateness : Passed → Late → Option Term → ℕ → Bool
+  lateness passed late fixed at = is_late_value passed.met late fixed (sees facts all env at)
+
+  free_steps : (passed : Passed) (names : Environment) → Knows passed names → IsPartOf names env → (form : NumForm) (width : ℤ) (value : Option Tree) (bits : List Bool) (at : ℕ) (late : Late)
+      → IsNumber true passed form width None (sees facts all env at) value bits → take (length bits) (drop at all) ≡ bits → at + length bits ≤ length all
+      → Steps passed env value (at + length bits) (late ++ replicate (length bits) false) (number_step (here_at facts all field rest first met) form width None names at late)
+  free_steps passed names knows part form width value bits at late (n, is, small, are) there within =
+      let w = nat_abs width in
+      let long : length bits ≡ w = ap length are ∙ length_number w n in
+      let found = number_found all at w bits long within there ∙ ap (λ (bs : List Bool). Some (number_of bs)) are ∙ ap (λ (n : ℕ). Some n) (back w n small) in
       record {
         names = names;
-        is = ap (option_map (λ n. record { value = Some (trees.Number n); after = at + nat_abs width; names = names })) found
-            ∙ sym (λ i. Some (record { value = is i; after = at + long i; names = names }));
+        is = ap (option_map (λ n. record { value = Some (trees.Number n); after = at + w; names = names; late = late_behind late w false })) found
+            ∙ sym (λ i. Some (record { value = is i; after = at + long i; names = names; late = late ++ replicate (long i) false }));
         knows = knows;
         part = part;
       }
-  number_steps passed names places none knows part form width (Some term) value bits at blind reads (v, is, valued, fits, are, solves) there within =
+
+  -- of the names that it tells, none is near
+  newly : (passed : Passed) → passed.near ≡ is_near (field_and field rest) → (term : Term) (more : Environment) → ((key : Key) → has_key key term ≡ true → (value : ℤ) × ((near more).give key ≡ Some value))
+      → (key : Key) → has_key key term ≡ true → is_known passed key ≡ false → (value : ℤ) × (more.give key ≡ Some value)
+  newly passed near_is term more has key there unknown =
+      let it = has key there in
+      let absent = (neither (passed.near key) (is_held passed key) unknown).0 in
+      (it.0, sym (near_alone facts all field rest first met more key (sym (ap (λ (near : Names). near key) near_is) ∙ absent)) ∙ it.1)
+
+  fixed_steps : (passed : Passed) (names : Environment) → passed.met ≡ met → passed.near ≡ is_near (field_and field rest) → Knows passed names → IsPartOf names env
+      → (form : NumForm) (width : ℤ) (term : Term) (value : Option Tree) (bits : List Bool) (at : ℕ) (late : Late) → is_number_read rest passed (Some term) ≡ true
+      → IsNumber true passed form width (Some term) (sees facts all env at) value bits → take (length bits) (drop at all) ≡ bits → at + length bits ≤ length all
+      → Steps (told_by (Some term) passed) env value (at + length bits) (late ++ replicate (length bits) (lateness passed late (Some term) at))
+      (number_step (here_at facts all field rest first met) form width (Some term) names at late)
+  fixed_steps passed names met_is near_is knows part form width term value bits at late reads (v, is, valued, fits, are, solves) there within =
       let w = nat_abs width in
+      let here = here_at facts all field rest first met in
       let n = stored_number w v in
-      let long : length bits ≡ w = ap length are ∙ length_is w n in
+      let long : length bits ≡ w = ap length are ∙ length_number w n in
       let small : n < 2 ^ w = mod-lt _ (pow_pos w) in
-      let found = number_there back all at w n small (subst (λ (l : ℕ). at + l ≤ length all) long within) (sym (ap (λ (l : ℕ). take l (drop at all)) long) ∙ there ∙ are) in
-      let told = names_told facts rest (is_known passed) env w term n v blind.0 places valued solves reads in
-      let goes = all_told (is_known passed) env (λ key seen. solved_count w key (see facts no_bits seen) term n) term names (covers_known passed names none knows) part told in
-      let now : value_of term (see facts no_bits goes.more) ≡ Ok v =
-      value_same facts no_bits (λ key. has_key key term) goes.more env goes.has goes.part term (all_of_its (λ key. has_key key term) term (λ key has. has)) ∙ valued in
+      let found = number_found all at w bits long within there ∙ ap (λ (bs : List Bool). Some (number_of bs)) are ∙ ap (λ (n : ℕ). Some n) (back w n small) in
+      let seen = bits_before all at in
+      let widens = near_widens facts all field rest env first after met ahead in
+      let told = names_told facts seen rest (length all) passed.met (is_known passed) (met_known passed) env near widens ahead.lies w term n v valued solves reads in
+      let goes = all_told passed.met (is_known passed) (met_known passed) env near widens (λ key now. solved_at (length all) w key (seen_at here now at) term n) term names
+      (near_covers facts all field rest env first after met ahead passed names knows near_is) part told in
+      let its = λ (key : Key). has_key key term in
+      let whole = near_part facts all field rest env first after met ahead goes.more goes.part in
+      let all_its = all_of_its its term (λ key has. has) in
+      let now : value_of term (seen_at here goes.more at) ≡ Ok v = value_same facts seen its its (λ key has. has) (near goes.more) env goes.has whole term all_its ∙ valued in
+      let later : is_late met late term (seen_at here goes.more at) ≡ lateness passed late (Some term) at =
+      ap (λ (m : Names). is_late m late term (seen_at here goes.more at)) (sym met_is) ∙ late_same facts seen its its (λ key has. has) (near goes.more) env goes.has whole passed.met late term all_its in
       let same : (n == n) ≡ true = grind (arith, nat_tests) in
-      let stored : is_stored form width (value_of term (see facts no_bits goes.more)) n ≡ true =
+      let stored : is_stored form width (value_of term (seen_at here goes.more at)) n ≡ true =
       ap (λ (r : Result ℤ EvalFault). is_stored form width r n) now ∙ ap (λ (b : Bool). b && (n == n)) fits ∙ same in
+      let answer = λ (more : Environment).
+      let it : Step = record { value = None; after = at + w; names = more; late = late_behind late w (is_late met late term (seen_at here more at)) } in it in
       record {
         names = goes.more;
         is = ap (option_and_then (λ n. option_and_then (λ more.
-            if is_stored form width (value_of term (see facts no_bits more)) n then Some (record { value = None; after = at + w; names = more }) else None)
-            (solve_all (λ key seen. solved_count w key (see facts no_bits seen) term n) term names))) found
-            ∙ ap (option_and_then (λ more. if is_stored form width (value_of term (see facts no_bits more)) n then Some (record { value = None; after = at + w; names = more }) else None)) goes.is
-            ∙ ap (λ (b : Bool). if b then Some (record { value = None; after = at + w; names = goes.more }) else None) stored
-            ∙ sym (λ i. Some (record { value = is i; after = at + long i; names = goes.more }));
-        knows = told_knows term passed names goes.more knows goes.kept goes.has;
+            if is_stored form width (value_of term (seen_at here more at)) n then Some (answer more) else None)
+            (solve_all near (λ key now. solved_at (length all) w key (seen_at here now at) term n) term names))) found
+            ∙ ap (option_and_then (λ more. if is_stored form width (value_of term (seen_at here more at)) n then Some (answer more) else None)) goes.is
+            ∙ ap (λ (b : Bool). if b then Some (answer goes.more) else None) stored
+            ∙ sym (λ i. Some (record { value = is i; after = at + long i; names = goes.more; late = late ++ replicate (long i) (sym later i) }));
+        knows = told_knows term passed names goes.more knows goes.kept (newly passed near_is term goes.more goes.has);
         part = goes.part;
       }
+
+  pub number_steps : (passed : Passed) (names : Environment) → passed.met ≡ met → passed.near ≡ is_near (field_and field rest) → Knows passed names → IsPartOf names env
+      → (form : NumForm) (width : ℤ) (fixed : Option Term) (value : Option Tree) (bits : List Bool) (at : ℕ) (late : Late) → is_number_read rest passed fixed ≡ true
+      → IsNumber true passed form width fixed (sees facts all env at) value bits → take (length bits) (drop at all) ≡ bits → at + length bits ≤ length all
+      → Steps (told_by fixed passed) env value (at + length bits) (late ++ replicate (length bits) (lateness passed late fixed at))
+      (number_step (here_at facts all field rest first met) form width fixed names at late)
+  number_steps passed names met_is near_is knows part form width None value bits at late reads it there within =
+      free_steps passed names knows part form width value bits at late it there within
+  number_steps passed names met_is near_is knows part form width (Some term) value bits at late reads it there within =
+      fixed_steps passed names met_is near_is knows part form width term value bits at late reads it there within

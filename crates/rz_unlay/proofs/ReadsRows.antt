@@ -1,66 +1,88 @@
 -- The rows of an array are read, and their number is known behind it.
-use Rattle.std.proofs.Common.{◌≡◌, ◌⊎◌, inl, inr, ℕ, zero, suc, ◌+◌, ◌-◌, ◌<◌, ◌≤◌, ℤ, pos, Bool, true, false, ◌&&◌, ◌||◌, List, [], ◌∷◌, length, Option, Some, None, refl, sym, ap, ◌∙◌, arith}
+use Rattle.std.proofs.Common.{◌≡◌, ℕ, zero, suc, ◌+◌, ◌-◌, ◌<◌, ◌≤◌, ◌==◌, ℤ, pos, Bool, true, false, ◌&&◌, ◌||◌, List, [], ◌∷◌, length, Option, Some, None, refl, sym, ap, ◌∙◌, arith}
 use Rattle.std.specs.Prelude.{if◌then◌else◌, nat_le, nat_lt, option_and_then, option_map}
 use Rattle.std.specs.Option.{is_some}
-use Rattle.std.specs.Ordering.{int_eq}
+use Rattle.std.specs.Str.{str_to_ascii_lowercase}
 use Rattle.std.proofs.lemmas.Bool.Decides.{Decides-int_eq, nat_tests}
 use Rattle.rz_core.specs.declared.resource.Word.{Word}
-use Rattle.rz_expr.specs.Environment.{count_key, Environment, IsPartOf, Key}
+use Rattle.rz_expr.specs.Environment.{count_key, count_of, place_of, Environment, IsPartOf, Key}
 use Rattle.rz_types_fields.specs.declared.tree.Tree.{Tree}
 use Rattle.rz_types_fields.specs.Row.{IsStated}
+use Rattle.rz_types_fields.specs.Sees.{Late}
 use Rattle.rz_types_fields.specs.Spells.{IsCounted, RowSpells, RowsSpell}
-use Rattle.rz_types.specs.Field.{PlainBody}
-use Rattle.rz_types.specs.Readable.{ends_at_end, is_count_known, least_widths, rows_end}
-use Rattle.rz_types.specs.Passed.{gives_count, Passed}
-use Rattle.rz_types.specs.Width.{fixed_widths}
-use Rattle.rz_unlay_pieces.specs.Pieces.{claim_count, count_claimed, known_count}
-use Rattle.rz_types_fields.specs.Laid.{with_count}
-use Rattle.rz_unlay.specs.Cursor.{count_known, rows_at, rows_by, rows_while, up_to_end, Line}
-use Rattle.rz_types_fields.proofs.SameNames.{key_is}
-use Rattle.rz_unlay.proofs.ReadsNames.{counted_at}
-use Rattle.rz_types_fields.proofs.Near.{NoneNear}
-use Rattle.rz_unlay.proofs.ReadsNumber.{covers_known, Knows}
-use Rattle.rz_unlay.proofs.ReadsTests.{below, not_below, some_is, there_is}
+use Rattle.rz_types_fields.specs.Field.{field_and, no_fields, Align, Array, Fill, Label, Number, PlainBody, PlainField, Points, Switch, Text}
+use Rattle.rz_types_fields.specs.Passed.{declares, gives_count, is_held, is_label, is_measured, is_near, Passed}
+use Rattle.rz_types_fields.specs.Width.{fixed_widths}
+use Rattle.rz_types.specs.Readable.{ends_at_end, ends_at_label, is_count_known, least_widths, rows_end}
+use Rattle.rz_unlay_pieces.specs.Ahead.{told_label, Told}
+use Rattle.rz_unlay_pieces.specs.Pieces.{agrees, also, claim_count, known_count}
+use Rattle.rz_unlay.specs.Cursor.{and_lines, count_known, no_lines, open_rows, rows_at, rows_by, rows_to, rows_while, up_to_end, up_to_label, Lines, ReadsRow}
+use Rattle.rz_unlay.proofs.Near.{told_there}
+use Rattle.rz_unlay.proofs.ReadsNumber.{Knows}
+use Rattle.rz_unlay.proofs.ReadsTests.{below, both_true, either_of, itself, not_below, right_true, some_is, there_is}
 use Rattle.rz_unlay.proofs.ReadsText.{EndsAt}
-use Rattle.rz_unlay.proofs.Sees.{both_true}
+use Rattle.rz_unlay.proofs.Told.{also_part}
 
 -- Rows one behind the other.
 
-module _ (f : ℕ → Option Line) (Row : ℕ → List Tree → RowSpells) (least last : ℕ)
-    (one : (number : ℕ) (line : List Tree) (at : ℕ) (late : List Bool) (after : ℕ) (late_after : List Bool) → after ≤ last → Row number line at late after late_after → f at ≡ Some (line, after))
-    (rise : (number : ℕ) (line : List Tree) (at : ℕ) (late : List Bool) (after : ℕ) (late_after : List Bool) → Row number line at late after late_after → at + least ≤ after) where
-  rows_rise : (number : ℕ) (rows : List (List Tree)) (at : ℕ) (late : List Bool) (after : ℕ) (late_after : List Bool) → RowsSpell Row number rows at late after late_after → at ≤ after
+module _ (f : ReadsRow) (Row : ℕ → List Tree → RowSpells) (least last : ℕ)
+    (one : (number : ℕ) (line : List Tree) (at : ℕ) (late : Late) (after : ℕ) (late_after : Late) → after ≤ last → Row number line at late after late_after
+    → f number at late ≡ Some (record { row = line; after = after; late = late_after }))
+    (rise : (number : ℕ) (line : List Tree) (at : ℕ) (late : Late) (after : ℕ) (late_after : Late) → Row number line at late after late_after → at + least ≤ after) where
+  rows_rise : (number : ℕ) (rows : List (List Tree)) (at : ℕ) (late : Late) (after : ℕ) (late_after : Late) → RowsSpell Row number rows at late after late_after → at ≤ after
   rows_rise number [] at late after late_after it = let e = it.0 in omega (arith, e)
   rows_rise number (row ∷ rows) at late after late_after it =
       let first = rise number row at late it.0 it.1 it.2 in
       let rest = rows_rise (number + 1) rows it.0 it.1 after late_after it.3 in
       omega (arith, first, rest)
 
-  rows_again : (number : ℕ) (rows : List (List Tree)) (at : ℕ) (late : List Bool) (after : ℕ) (late_after : List Bool) → after ≤ last → RowsSpell Row number rows at late after late_after
-      → rows_at f (length rows) at ≡ Some (rows, after)
-  rows_again number [] at late after late_after within it = λ i. Some ([], sym it.0 i)
+  rows_again : (number : ℕ) (rows : List (List Tree)) (at : ℕ) (late : Late) (after : ℕ) (late_after : Late) → after ≤ last → RowsSpell Row number rows at late after late_after
+      → rows_at f (length rows) number at late ≡ Some (record { rows = rows; after = after; late = late_after })
+  rows_again number [] at late after late_after within it = λ i. Some (record { rows = []; after = sym it.0 i; late = sym it.1 i })
   rows_again number (row ∷ rows) at late after late_after within it =
       let rest = rows_rise (number + 1) rows it.0 it.1 after late_after it.3 in
-      ap (option_and_then (λ line. option_map (λ lines. (line.0 ∷ lines.0, lines.1)) (rows_at f (length rows) line.1))) (one number row at late it.0 it.1 (omega (arith, rest, within)) it.2)
-      ∙ ap (option_map (λ lines. (row ∷ lines.0, lines.1))) (rows_again (number + 1) rows it.0 it.1 after late_after within it.3)
+      ap (option_and_then (λ line. option_map (and_lines line) (rows_at f (length rows) (number + 1) line.after line.late))) (one number row at late it.0 it.1 (omega (arith, rest, within)) it.2)
+      ∙ ap (option_map (and_lines (record { row = row; after = it.0; late = it.1 }))) (rows_again (number + 1) rows it.0 it.1 after late_after within it.3)
 
-  while_again : (stop most number : ℕ) (rows : List (List Tree)) (at : ℕ) (late : List Bool) (after : ℕ) (late_after : List Bool) → after ≤ last → RowsSpell Row number rows at late after late_after
-      → 8 ≤ least → after ≤ stop → stop < after + 8 → after < at + most → rows_while f stop most at ≡ Some (rows, after)
+  while_again : (stop most number : ℕ) (rows : List (List Tree)) (at : ℕ) (late : Late) (after : ℕ) (late_after : Late) → after ≤ last → RowsSpell Row number rows at late after late_after
+      → 8 ≤ least → after ≤ stop → stop < after + 8 → after < at + most → rows_while f stop most number at late ≡ Some (record { rows = rows; after = after; late = late_after })
   while_again stop zero number rows at late after late_after within it low before over fuel =
       let rest = rows_rise number rows at late after late_after it in absurd (omega (arith, rest, fuel))
   while_again stop (suc most) number [] at late after late_after within it low before over fuel =
       let e = it.0 in
       let test : nat_lt stop (at + 8) ≡ true = below stop (at + 8) (omega (arith, e, over)) in
-      ap (λ (b : Bool). if b then Some ([], at) else option_and_then (λ line. option_map (λ lines. (line.0 ∷ lines.0, lines.1)) (rows_while f stop most line.1)) (f at)) test
-      ∙ (λ i. Some ([], sym e i))
+      ap (λ (b : Bool). if b then Some (no_lines at late) else option_and_then (λ line. option_map (and_lines line) (rows_while f stop most (number + 1) line.after line.late)) (f number at late)) test
+      ∙ (λ i. Some (record { rows = []; after = sym e i; late = sym it.1 i }))
   while_again stop (suc most) number (row ∷ rows) at late after late_after within it low before over fuel =
       let first = rise number row at late it.0 it.1 it.2 in
       let rest = rows_rise (number + 1) rows it.0 it.1 after late_after it.3 in
       let test : nat_lt stop (at + 8) ≡ false = not_below stop (at + 8) (omega (arith, first, rest, low, before)) in
-      ap (λ (b : Bool). if b then Some ([], at) else option_and_then (λ line. option_map (λ lines. (line.0 ∷ lines.0, lines.1)) (rows_while f stop most line.1)) (f at)) test
-      ∙ ap (option_and_then (λ line. option_map (λ lines. (line.0 ∷ lines.0, lines.1)) (rows_while f stop most line.1))) (one number row at late it.0 it.1 (omega (arith, rest, within)) it.2)
-      ∙ ap (option_map (λ lines. (row ∷ lines.0, lines.1)))
+      ap (λ (b : Bool). if b then Some (no_lines at late) else option_and_then (λ line. option_map (and_lines line) (rows_while f stop most (number + 1) line.after line.late)) (f number at late)) test
+      ∙ ap (option_and_then (λ line. option_map (and_lines line) (rows_while f stop most (number + 1) line.after line.late))) (one number row at late it.0 it.1 (omega (arith, rest, within)) it.2)
+      ∙ ap (option_map (and_lines (record { row = row; after = it.0; late = it.1 })))
       (while_again stop most (number + 1) rows it.0 it.1 after late_after within it.3 low before over (omega (arith, first, low, fuel)))
+
+  to_again : (stop most number : ℕ) (rows : List (List Tree)) (at : ℕ) (late : Late) (after : ℕ) (late_after : Late) → after ≤ last → RowsSpell Row number rows at late after late_after
+      → 1 ≤ least → after ≡ stop → after < at + most → rows_to f stop most number at late ≡ Some (record { rows = rows; after = after; late = late_after })
+  to_again stop zero number rows at late after late_after within it low ends fuel =
+      let rest = rows_rise number rows at late after late_after it in absurd (omega (arith, rest, fuel))
+  to_again stop (suc most) number [] at late after late_after within it low ends fuel =
+      let e = it.0 in
+      let test : nat_lt at stop ≡ false = not_below at stop (omega (arith, e, ends)) in
+      let there : (at == stop) ≡ true = ap (λ (n : ℕ). n == stop) (sym e ∙ ends) ∙ itself stop in
+      ap (λ (b : Bool). if b then option_and_then (λ line. option_map (and_lines line) (rows_to f stop most (number + 1) line.after line.late)) (f number at late)
+      else if at == stop then Some (no_lines at late) else None) test
+      ∙ ap (λ (b : Bool). if b then Some (no_lines at late) else None) there
+      ∙ (λ i. Some (record { rows = []; after = sym e i; late = sym it.1 i }))
+  to_again stop (suc most) number (row ∷ rows) at late after late_after within it low ends fuel =
+      let first = rise number row at late it.0 it.1 it.2 in
+      let rest = rows_rise (number + 1) rows it.0 it.1 after late_after it.3 in
+      let test : nat_lt at stop ≡ true = below at stop (omega (arith, first, rest, low, ends)) in
+      ap (λ (b : Bool). if b then option_and_then (λ line. option_map (and_lines line) (rows_to f stop most (number + 1) line.after line.late)) (f number at late)
+      else if at == stop then Some (no_lines at late) else None) test
+      ∙ ap (option_and_then (λ line. option_map (and_lines line) (rows_to f stop most (number + 1) line.after line.late))) (one number row at late it.0 it.1 (omega (arith, rest, within)) it.2)
+      ∙ ap (option_map (and_lines (record { row = row; after = it.0; late = it.1 })))
+      (to_again stop most (number + 1) rows it.0 it.1 after late_after within it.3 low ends (omega (arith, first, low, fuel)))
 
 -- Their number.
 
@@ -69,51 +91,122 @@ known_is : (name : Option Word) (rows : ℕ) (names env : Environment) (v : ℤ)
 known_is None rows names env v part counted is = absurd cc
 known_is (Some name) rows names env v part counted is = some_is v (pos rows) (sym (part.give (count_key name.bytes) v is) ∙ counted)
 
-or_other : (a b : Bool) → (a || b) ≡ true → (a ≡ true) ⊎ (b ≡ true)
-or_other true b is = inl refl
-or_other false b is = inr is
+-- no number of rows is near
+not_label : (field : PlainField) (name : List ℕ) → is_label field (count_of name) ≡ false
+not_label (Number number) name = refl
+not_label (Text text) name = refl
+not_label (Points points) name = refl
+not_label (Fill unit count) name = refl
+not_label (Align unit) name = refl
+not_label (Label own) name = refl
+not_label (Array own count row) name = refl
+not_label (Switch cases) name = refl
 
-count_given : (passed : Passed) (name : Option Word) (names : Environment) → NoneNear passed → Knows passed names → is_count_known passed name ≡ true → (v : ℤ) × (known_count name names ≡ Some v)
-count_given passed None names none knows is = absurd cc
-count_given passed (Some name) names none knows is = covers_known passed names none knows (count_key name.bytes) is
+pub not_near : (body : PlainBody) (name : List ℕ) → is_near body (count_of name) ≡ false
+not_near no_fields name = refl
+not_near (field_and field fields) name = (λ i. not_label field name i || (is_measured field && not_near fields name i)) ∙ no_more (is_measured field)
+  where
+    no_more : (test : Bool) → (false || (test && false)) ≡ false
+    no_more true = refl
+    no_more false = refl
+
+count_given : (passed : Passed) (name : Option Word) (names : Environment) → ((own : List ℕ) → passed.near (count_of own) ≡ false) → Knows passed names → is_count_known passed name ≡ true
+    → (v : ℤ) × (known_count name names ≡ Some v)
+count_given passed None names apart knows is = absurd cc
+count_given passed (Some name) names apart knows is =
+    knows (count_key name.bytes) (held (passed.near (count_key name.bytes)) (apart (str_to_ascii_lowercase name.bytes)) (is_held passed (count_key name.bytes)) is)
+  where
+    held : (near : Bool) → near ≡ false → (others : Bool) → (near || others) ≡ true → others ≡ true
+    held true none others is = absurd cc
+    held false none others is = is
 
 le_is : (a b : ℕ) → nat_le a b ≡ true → a ≤ b
 le_is a b is = grind (arith, nat_tests)
 
-module _ (f : ℕ → Option Line) (Row : ℕ → List Tree → RowSpells) (least last : ℕ)
-    (one : (number : ℕ) (line : List Tree) (at : ℕ) (late : List Bool) (after : ℕ) (late_after : List Bool) → after ≤ last → Row number line at late after late_after → f at ≡ Some (line, after))
-    (rise : (number : ℕ) (line : List Tree) (at : ℕ) (late : List Bool) (after : ℕ) (late_after : List Bool) → Row number line at late after late_after → at + least ≤ after) where
-  pub rows_go : (outermost : Bool) (all : List Bool) (rest row : PlainBody) (name : Option Word) (count : Option ℤ) (rows : List (List Tree)) (names env : Environment) (passed : Passed)
-      (at : ℕ) (late : List Bool) (after : ℕ) (late_after : List Bool) → least ≡ least_widths row → rows_end outermost rest passed name count row ≡ true → NoneNear passed → Knows passed names → IsPartOf names env
-      → IsStated count (length rows) → IsCounted name (length rows) env → RowsSpell Row 1 rows at late after late_after → EndsAt outermost all rest after → after ≤ last → after ≤ length all
-      → rows_by f (length all) rest (count_known names name count) at ≡ Some (rows, after)
-  rows_go outermost all rest row name (Some count) rows names env passed at late after late_after low ends none knows part stated counted it end within below =
-      ap (λ (c : ℤ). rows_by f (length all) rest (Some c) at) stated ∙ rows_again f Row least last one rise 1 rows at late after late_after within it
-  rows_go outermost all rest row name None rows names env passed at late after late_after low ends none knows part stated counted it end within below = by (known_count name names) refl
+-- what is asked of the field that ends rows
+abbrev pub Lies : List Bool → PlainBody → Environment → Type 0
+Lies all rest env = (name : List ℕ) → declares rest (place_of name) ≡ true → (place : ℕ) × (env.give (place_of name) ≡ Some (pos place)) × (place ≤ length all)
+
+abbrev pub Stops : List Bool → PlainBody → Environment → ℕ → Type 0
+Stops all rest env after = (names : Environment) → IsPartOf names env → (told : Told) → told_label (length all) rest names ≡ Some told → told.place ≡ after + told.width
+
+module _ (f : ReadsRow) (Row : ℕ → List Tree → RowSpells) (least last : ℕ)
+    (one : (number : ℕ) (line : List Tree) (at : ℕ) (late : Late) (after : ℕ) (late_after : Late) → after ≤ last → Row number line at late after late_after
+    → f number at late ≡ Some (record { row = line; after = after; late = late_after }))
+    (rise : (number : ℕ) (line : List Tree) (at : ℕ) (late : Late) (after : ℕ) (late_after : Late) → Row number line at late after late_after → at + least ≤ after)
+    (outermost : Bool) (all : List Bool) (rest row : PlainBody) (name : Option Word) (rows : List (List Tree)) (names env : Environment) (passed : Passed)
+    (at : ℕ) (late : Late) (after : ℕ) (late_after : Late) (low : least ≡ least_widths row) (apart : (own : List ℕ) → passed.near (count_of own) ≡ false) (knows : Knows passed names) (part : IsPartOf names env)
+    (it : RowsSpell Row 1 rows at late after late_after) (within : after ≤ last) (inside : after ≤ length all) where
+  abbrev AreFound : Option Lines → Type 0
+  AreFound found = found ≡ Some (record { rows = rows; after = after; late = late_after })
+
+  -- up to a label whose place is told
+  at_label : (told : Told) → told.place ≡ after + told.width → 1 ≤ least → AreFound (up_to_label f (length all) told at late)
+  at_label told stands wide =
+      let fits : nat_lt told.place told.width ≡ false = not_below told.place told.width (omega (arith, stands)) in
+      ap (λ (test : Bool). if test then None else rows_to f (told.place - told.width) (suc (length all)) 1 at late) fits
+      ∙ to_again f Row least last one rise (told.place - told.width) (suc (length all)) 1 rows at late after late_after within it wide (omega (arith, stands)) (omega (arith, inside))
+
+  -- up to the end of the resource
+  at_end : EndsAt outermost all rest after → ends_at_end outermost rest ≡ true → 8 ≤ least → AreFound (up_to_end f (length all) (fixed_widths rest) at late)
+  at_end end last_one wide =
+      let outer = both_true outermost (is_some (fixed_widths rest)) last_one in
+      let width = there_is (fixed_widths rest) outer.1 in
+      let there = end width.0 outer.0 width.1 in
+      let a = there.0 in
+      let b = there.1 in
+      let fits : nat_lt (length all) width.0 ≡ false = not_below (length all) width.0 (omega (arith, a)) in
+      ap (λ (o : Option ℕ). up_to_end f (length all) o at late) width.1
+      ∙ ap (λ (test : Bool). if test then None else rows_while f (length all - width.0) (suc (length all)) 1 at late) fits
+      ∙ while_again f Row least last one rise (length all - width.0) (suc (length all)) 1 rows at late after late_after within it wide (omega (arith, a)) (omega (arith, a, b)) (omega (arith, inside))
+
+  -- where no label is told no label ends them
+  no_label : (told_label (length all) rest names ≡ None) → Lies all rest env → ends_at_label rest passed.told ≡ true → ⊥
+  no_label is lies ends =
+      let there = told_there (length all) passed.told names env (λ key told. knows key (right_true (passed.met key) (passed.told key) told)) part rest lies ends in
+      let wrong = sym is ∙ there.1 in cc
+
+  -- whatever ends them, each is at least so wide
+  low_label : (ends_at_label rest passed.told && nat_le 1 (least_widths row)) ≡ true → 1 ≤ least
+  low_label is = let wide = le_is 1 (least_widths row) (both_true (ends_at_label rest passed.told) (nat_le 1 (least_widths row)) is).1 in omega (arith, wide, low)
+
+  low_end : (ends_at_end outermost rest && nat_le 8 (least_widths row)) ≡ true → 8 ≤ least
+  low_end is = let wide = le_is 8 (least_widths row) (both_true (ends_at_end outermost rest) (nat_le 8 (least_widths row)) is).1 in omega (arith, wide, low)
+
+  -- up to a label or to the end
+  open_go : known_count name names ≡ None → rows_end outermost rest passed name None row ≡ true → Lies all rest env → Stops all rest env after → EndsAt outermost all rest after
+      → AreFound (open_rows f (length all) (told_label (length all) rest names) (fixed_widths rest) at late)
+  open_go unknown ends lies stops end = by (told_label (length all) rest names) refl
     where
-      by : (o : Option ℤ) → known_count name names ≡ o → rows_by f (length all) rest o at ≡ Some (rows, after)
+      known_one : (is_count_known passed name && nat_le 1 (least_widths row)) ≡ true → ⊥
+      known_one is =
+          let given = count_given passed name names apart knows (both_true (is_count_known passed name) (nat_le 1 (least_widths row)) is).0 in let wrong = sym given.1 ∙ unknown in cc
+
+      wide_one : 1 ≤ least
+      wide_one =
+          either_of ((is_count_known passed name && nat_le 1 (least_widths row)) || (ends_at_label rest passed.told && nat_le 1 (least_widths row))) (ends_at_end outermost rest && nat_le 8 (least_widths row))
+          (either_of (is_count_known passed name && nat_le 1 (least_widths row)) (ends_at_label rest passed.told && nat_le 1 (least_widths row)) (λ is. absurd (known_one is)) low_label)
+          (λ is. (let wide = low_end is in omega (arith, wide))) ends
+
+      by : (o : Option Told) → told_label (length all) rest names ≡ o → AreFound (open_rows f (length all) o (fixed_widths rest) at late)
+      by (Some told) is = at_label told (stops names part told is) wide_one
+      by None is =
+          either_of ((is_count_known passed name && nat_le 1 (least_widths row)) || (ends_at_label rest passed.told && nat_le 1 (least_widths row))) (ends_at_end outermost rest && nat_le 8 (least_widths row))
+          (either_of (is_count_known passed name && nat_le 1 (least_widths row)) (ends_at_label rest passed.told && nat_le 1 (least_widths row)) (λ known. absurd (known_one known))
+          (λ ends. absurd (no_label is lies (both_true (ends_at_label rest passed.told) (nat_le 1 (least_widths row)) ends).0)))
+          (λ last_one. at_end end (both_true (ends_at_end outermost rest) (nat_le 8 (least_widths row)) last_one).0 (low_end last_one)) ends
+
+  pub rows_go : (count : Option ℤ) → rows_end outermost rest passed name count row ≡ true → IsStated count (length rows) → IsCounted name (length rows) env
+      → Lies all rest env → Stops all rest env after → EndsAt outermost all rest after → AreFound (rows_by f (length all) rest names (count_known names name count) at late)
+  rows_go (Some count) ends stated counted lies stops end =
+      ap (λ (c : ℤ). rows_by f (length all) rest names (Some c) at late) stated ∙ rows_again f Row least last one rise 1 rows at late after late_after within it
+  rows_go None ends stated counted lies stops end = by (known_count name names) refl
+    where
+      by : (o : Option ℤ) → known_count name names ≡ o → AreFound (rows_by f (length all) rest names o at late)
       by (Some v) is =
-          ap (λ (c : ℤ). rows_by f (length all) rest (Some c) at) (known_is name (length rows) names env v part counted is)
+          ap (λ (c : ℤ). rows_by f (length all) rest names (Some c) at late) (known_is name (length rows) names env v part counted is)
           ∙ rows_again f Row least last one rise 1 rows at late after late_after within it
-      by None is = at_end (or_other (is_count_known passed name && nat_le 1 (least_widths row)) (ends_at_end outermost rest && nat_le 8 (least_widths row)) ends)
-        where
-          at_end : ((is_count_known passed name && nat_le 1 (least_widths row)) ≡ true) ⊎ ((ends_at_end outermost rest && nat_le 8 (least_widths row)) ≡ true)
-              → up_to_end f (length all) (fixed_widths rest) at ≡ Some (rows, after)
-          at_end (inl known) =
-              let given = count_given passed name names none knows (both_true (is_count_known passed name) _ known).0 in absurd (let wrong = sym given.1 ∙ is in cc)
-          at_end (inr last_one) =
-              let test = both_true (ends_at_end outermost rest) (nat_le 8 (least_widths row)) last_one in
-              let outer = both_true outermost (is_some (fixed_widths rest)) test.0 in
-              let width = there_is (fixed_widths rest) outer.1 in
-              let there = end width.0 outer.0 width.1 in
-              let eight = le_is 8 (least_widths row) test.1 in
-              let a = there.0 in
-              let b = there.1 in
-              let fits : nat_lt (length all) width.0 ≡ false = not_below (length all) width.0 (omega (arith, a)) in
-              ap (λ (o : Option ℕ). up_to_end f (length all) o at) width.1
-              ∙ ap (λ (test : Bool). if test then None else rows_while f (length all - width.0) (suc (length all)) at) fits
-              ∙ while_again f Row least last one rise (length all - width.0) (suc (length all)) 1 rows at late after late_after within it
-              (omega (arith, low, eight)) (omega (arith, a)) (omega (arith, a, b)) (omega (arith, below))
+      by None is = open_go is ends lies stops end
 
 -- Behind the array.
 
@@ -126,53 +219,26 @@ pub record Claims (passed : Passed) (env : Environment) (name : Option Word) (ro
   pub knows : Knows (passed_behind passed name) more
   pub part : IsPartOf more env
 
-without_own : (own met told : Bool) → own ≡ false → ((own || met) || told) ≡ true → (met || told) ≡ true
-without_own true met told none is = absurd cc
-without_own false met told none is = is
-
-still_knows : (name : Option Word) (rows : ℕ) (passed : Passed) (names : Environment) → Knows passed names → Knows (passed_behind passed name) (with_count name rows names)
-still_knows name rows passed names knows key is = by (gives_count name key) refl
-  where
-    by : (own : Bool) → gives_count name key ≡ own → (v : ℤ) × ((if own then Some (pos rows) else names.give key) ≡ Some v)
-    by true gives = (pos rows, refl)
-    by false none = knows key (without_own (gives_count name key) (passed.met key) (passed.told key) none is)
-
-count_part : (name : Option Word) (rows : ℕ) (names env : Environment) → IsCounted name rows env → IsPartOf names env → IsPartOf (with_count name rows names) env
-count_part name rows names env counted part = record { give = λ key v is. by key v (gives_count name key) refl is }
-  where
-    by : (key : Key) (v : ℤ) (own : Bool) → gives_count name key ≡ own → (if own then Some (pos rows) else names.give key) ≡ Some v → env.give key ≡ Some v
-    by key v true gives is = counted_at name rows env key counted gives ∙ is
-    by key v false none is = part.give key v is
+-- the number that is known agrees with that of the rows
+agrees_there : (o : Option ℤ) (value : ℤ) → ((v : ℤ) → o ≡ Some v → v ≡ value) → agrees o value ≡ true
+agrees_there None value same = refl
+agrees_there (Some v) value same = (Decides-int_eq v value).1 (same v refl)
 
 pub count_claims : (passed : Passed) (env : Environment) (name : Option Word) (rows : ℕ) (names : Environment) → Knows passed names → IsPartOf names env → IsCounted name rows env
     → Claims passed env name rows names
-count_claims passed env None rows names knows part counted = record {
-  more = with_count None rows names;
-  is = refl;
-  knows = still_knows None rows passed names knows;
-  part = count_part None rows names env counted part;
+count_claims passed env None rows names knows part counted = record { more = names; is = refl; knows = knows; part = part }
+count_claims passed env (Some name) rows names knows part counted = record {
+  more = also (count_key name.bytes) (pos rows) names;
+  is = ap (λ (b : Bool). if b then Some (also (count_key name.bytes) (pos rows) names) else None)
+      (agrees_there (names.give (count_key name.bytes)) (pos rows) (λ v is. known_is (Some name) rows names env v part counted is));
+  knows = λ key is. by key (gives_count (Some name) key) refl is;
+  part = also_part (count_key name.bytes) (pos rows) names env part counted;
 }
-count_claims passed env (Some name) rows names knows part counted = by (names.give (count_key name.bytes)) refl
   where
-    own_known : (v : ℤ) → names.give (count_key name.bytes) ≡ Some v → Knows (passed_behind passed (Some name)) names
-    own_known v given key is = each (gives_count (Some name) key) refl
-      where
-        each : (own : Bool) → gives_count (Some name) key ≡ own → (v : ℤ) × (names.give key ≡ Some v)
-        each true gives = (v, sym (ap names.give (key_is (count_key name.bytes) key gives)) ∙ given)
-        each false none = knows key (without_own (gives_count (Some name) key) (passed.met key) (passed.told key) none is)
+    without_own : (own met told : Bool) → own ≡ false → ((own || met) || told) ≡ true → (met || told) ≡ true
+    without_own true met told none is = absurd cc
+    without_own false met told none is = is
 
-    by : (o : Option ℤ) → names.give (count_key name.bytes) ≡ o → Claims passed env (Some name) rows names
-    by None is = record {
-      more = with_count (Some name) rows names;
-      is = ap (λ (o : Option ℤ). count_claimed o (Some name) rows names) is;
-      knows = still_knows (Some name) rows passed names knows;
-      part = count_part (Some name) rows names env counted part;
-    }
-    by (Some v) is =
-        let same : int_eq v (pos rows) ≡ true = (Decides-int_eq v (pos rows)).1 (known_is (Some name) rows names env v part counted is) in
-        record {
-          more = names;
-          is = ap (λ (o : Option ℤ). count_claimed o (Some name) rows names) is ∙ ap (λ (b : Bool). if b then Some names else None) same;
-          knows = own_known v is;
-          part = part;
-        }
+    by : (key : Key) (own : Bool) → gives_count (Some name) key ≡ own → ((gives_count (Some name) key || passed.met key) || passed.told key) ≡ true → (v : ℤ) × ((if own then Some (pos rows) else names.give key) ≡ Some v)
+    by key true gives is = (pos rows, refl)
+    by key false none is = knows key (without_own (gives_count (Some name) key) (passed.met key) (passed.told key) none is)

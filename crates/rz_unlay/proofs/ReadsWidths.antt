@@ -2,7 +2,7 @@
 use Rattle.std.proofs.Common.{◌≡◌, ℕ, zero, suc, ◌+◌, ◌*◌, ◌≤◌, ◌==◌, ℤ, pos, Bool, true, false, ◌&&◌, List, [], ◌∷◌, length, map, Option, Some, None, Result, Ok, Err, refl, sym, ap, ◌∙◌, subst, arith}
 use Rattle.std.specs.Prelude.{if◌then◌else◌, min, nat_abs, option_map, replicate}
 use Rattle.std.specs.List.{list_all}
-use Rattle.std.specs.Option.{unwrap_or}
+use Rattle.std.specs.Option.{is_some, unwrap_or}
 use Rattle.std.specs.Result.{result_ok}
 use Rattle.std.specs.Str.{str_to_ascii_lowercase}
 use Rattle.std.proofs.lemmas.Bool.Decides.{nat_tests}
@@ -10,7 +10,8 @@ use Rattle.std.proofs.lemmas.List.{length-append}
 use Rattle.rz_core.specs.Stop.{◌>>=◌}
 use Rattle.rz_core.specs.declared.facts.Facts.{Facts}
 use Rattle.rz_expr.specs.Constant.{constant_of, constant_sight, is_constant}
-use Rattle.rz_expr.specs.Environment.{Environment, Sight}
+use Rattle.rz_expr.proofs.Cases.{same_value}
+use Rattle.rz_expr.specs.Environment.{predefined, Environment, Sight}
 use Rattle.rz_expr.specs.Term.{BitsAt, Constant, FactOf, Named, OfOne, OfTwo, RowsOf, Term}
 use Rattle.rz_expr.specs.Value.{known_value, operate, operate_one, value_of}
 use Rattle.rz_expr.specs.declared.value.EvalFault.{EvalFault}
@@ -20,29 +21,35 @@ use Rattle.rz_types_fields.specs.declared.field.TextForm.{TextForm}
 use Rattle.rz_types_fields.specs.declared.field.TextForm.TheVariants as texts
 use Rattle.rz_types_fields.specs.declared.tree.Tree.{Tree}
 use Rattle.rz_types_fields.specs.Row.{By, IsStated}
-use Rattle.rz_types_fields.specs.Spells.{is_case, put, row_of, values_for, BodySpells, CaseSpells, FieldSpells, InOrder, IsNumber, IsSize, PieceSpells, RowSpells, RowsSpell}
+use Rattle.rz_types_fields.specs.Spells.{is_case, row_of, values_for, BodySpells, CaseSpells, FieldSpells, InOrder, IsNumber, IsSize, PieceSpells, RowSpells, RowsSpell}
 use Rattle.rz_types.specs.Field.{case_and, field_and, no_cases, no_fields, Align, Array, Fill, Label, Number, PlainBody, PlainCases, PlainField, Points, Switch, Text}
 use Rattle.rz_types.specs.Readable.{least_case, least_of, least_rows, least_text, least_width, least_widths}
 use Rattle.rz_types.specs.Shape.{are_cases_shaped, are_fixed_points, are_shaped, is_none_or, is_own_name, is_shaped, numbers_of}
 use Rattle.rz_types.specs.Passed.{at_field, at_front, behind, behind_piece, Passed}
-use Rattle.rz_types.specs.Piece.{fixed_integer, free_integer, integers, Filler, OneNumber, OneText, Piece, Zeros}
+use Rattle.rz_types.specs.Piece.{fixed_integer, free_integer, integers, Filler, OneNumber, OneText, Place, Zeros}
 use Rattle.rz_types.specs.Stored.{before_zero, stored_text, to_size}
 use Rattle.rz_types.specs.Sees.{bits_before, sees}
 use Rattle.rz_types.specs.Value.{see}
 use Rattle.rz_types.specs.Width.{constant_size, fixed_width, fixed_widths, plus, rows_width, sized_bytes, text_width}
-use Rattle.rz_unlay.proofs.BlindFields.{no_places, AreBlindCases, IsBlindBody, IsBlindField}
+use Rattle.rz_unlay.proofs.Ahead.{HasPlaces}
+use Rattle.rz_unlay.proofs.OnePiece.{single}
 use Rattle.rz_unlay.proofs.ReadsBits.{length_bits, length_number, length_zeros}
-use Rattle.rz_unlay.proofs.ReadsNames.{places_inside, HasPlaces}
-use Rattle.rz_unlay.proofs.ReadsTests.{some_is}
+use Rattle.rz_unlay.proofs.ReadsNames.{places_inside}
+use Rattle.rz_unlay.proofs.ReadsTests.{both_true, some_is}
 use Rattle.rz_unlay.proofs.ReadsText.{length_with_size}
-use Rattle.rz_unlay.proofs.Sees.{both_true}
 
 -- Constants have the same value everywhere.
+
+value_there : (o : Option ℤ) → is_some o ≡ true → (v : ℤ) × (o ≡ Some v)
+value_there None is = absurd cc
+value_there (Some v) is = (v, refl)
 
 module _ (facts : Facts) (bits : ℤ → ℤ → Option ℤ) (env : Environment) (has : HasPlaces env) where
   same_constant : (term : Term) → is_constant term ≡ true → value_of term constant_sight ≡ value_of term (see facts bits env)
   same_constant (Constant number) is = refl
-  same_constant (Named name) is = ap (known_value name) (sym (has (str_to_ascii_lowercase name)))
+  same_constant (Named name) is =
+      let there = value_there (predefined (str_to_ascii_lowercase name)) (sym (ap is_some (same_value name)) ∙ is) in
+      ap (known_value name) (there.1 ∙ sym (has (str_to_ascii_lowercase name) there.0 there.1))
   same_constant (RowsOf name) is = absurd cc
   same_constant (BitsAt name start width) is = absurd cc
   same_constant (FactOf which) is = absurd cc
@@ -81,22 +88,6 @@ not_fixed least at after grows = record { grows = grows; is = λ width is. absur
     none width is = cc is
 
 -- Pieces.
-
--- one piece alone
-pub record Single (known : Facts) (all : List Bool) (env : Environment) (passed : Passed) (piece : Piece) (values : List Tree) (at : ℕ) (late : List Bool) (after : ℕ) : Type 0 where
-  pub value : Option Tree
-  pub are : values ≡ put value []
-  pub late_after : List Bool
-  pub spelled : PieceSpells true known all env passed piece value at late after late_after
-
-pub single : (known : Facts) (all : List Bool) (env : Environment) (passed : Passed) (piece : Piece) (values : List Tree) (at : ℕ) (late : List Bool) (after : ℕ) (late_after : List Bool)
-    → InOrder (PieceSpells true known all env) passed (piece ∷ []) values at late after late_after → Single known all env passed piece values at late after
-single known all env passed piece values at late after late_after it = record {
-  value = it.0;
-  are = it.4 ∙ ap (put it.0) it.6.0;
-  late_after = it.3;
-  spelled = subst (λ (m : ℕ). PieceSpells true known all env passed piece it.0 at late m it.3) (sym it.6.1) it.5;
-}
 
 number_long : (sight : Sight) (passed : Passed) (form : NumForm) (width : ℤ) (fixed : Option Term) (value : Option Tree) (bits : List Bool)
     → IsNumber true passed form width fixed sight value bits → length bits ≡ nat_abs width
@@ -225,62 +216,64 @@ least_other least o other at after is grows = (min least other, ap (λ (o : Opti
 module _ (known : Facts) (all : List Bool) where
   mutual
     pub field_wide : (in_case : Bool) (field : PlainField) (env : Environment) (passed : Passed) (value : Option Tree) (at : ℕ) (late : List Bool) (after : ℕ) (late_after : List Bool)
-        → is_shaped in_case field ≡ true → IsBlindField field → HasPlaces env → FieldSpells true known all field env passed value at late after late_after → Wide (least_width field) (fixed_width field) at after
-    field_wide in_case (Number number) env passed value at late after late_after shaped blind has it =
+        → is_shaped in_case field ≡ true → HasPlaces env → FieldSpells true known all field env passed value at late after late_after → Wide (least_width field) (fixed_width field) at after
+    field_wide in_case (Number number) env passed value at late after late_after shaped has it =
         let one = single known all env passed (OneNumber number) (values_for (Number number) value) at late after late_after it.1 in
         just_so (nat_abs number.width) at after
         (one.spelled.ends ∙ ap (λ (n : ℕ). at + n) (number_long (sees known all env at) passed number.form number.width number.fixed one.value one.spelled.bits one.spelled.stored))
-    field_wide in_case (Text text) env passed value at late after late_after shaped blind has it =
+    field_wide in_case (Text text) env passed value at late after late_after shaped has it =
         let one = single known all env passed (OneText text) (values_for (Text text) value) at late after late_after it.1 in
         let stored = one.spelled.stored in
         text_wide known (bits_before all at) env has text.form text.size stored.size stored.bytes at after stored.has_size
         (one.spelled.ends ∙ ap (λ (n : ℕ). at + n) (ap length stored.are_bits ∙ length_bits (stored_text text.form stored.size stored.bytes)))
-    field_wide in_case (Points points) env passed value at late after late_after shaped blind has it =
+    field_wide in_case (Points points) env passed value at late after late_after shaped has it =
         just_so (16 * numbers_of points.rect) at after
         (points_long known all env points.rect points.fixed passed (values_for (Points points) value) at late after late_after shaped it.1)
-    field_wide in_case (Fill unit count) env passed value at late after late_after shaped blind has it =
+    field_wide in_case (Fill unit count) env passed value at late after late_after shaped has it =
         let one = single known all env passed (Zeros (unit * nat_abs count)) (values_for (Fill unit count) value) at late after late_after it.1 in
         just_so (unit * nat_abs count) at after
         (one.spelled.ends ∙ ap (λ (n : ℕ). at + n) (ap length one.spelled.stored.1 ∙ length_zeros (unit * nat_abs count)))
-    field_wide in_case (Align unit) env passed value at late after late_after shaped blind has it =
+    field_wide in_case (Align unit) env passed value at late after late_after shaped has it =
         let one = single known all env passed (Filler unit) (values_for (Align unit) value) at late after late_after it.1 in
         let ends = one.spelled.ends in
         not_fixed 0 at after (omega (arith, ends))
-    field_wide in_case (Label name) env passed value at late after late_after shaped blind has it = absurd blind
-    field_wide in_case (Array name count row) env passed value at late after late_after shaped blind has it =
+    field_wide in_case (Label name) env passed value at late after late_after shaped has it =
+        let one = single known all env passed (Place name) (values_for (Label name) value) at late after late_after it.1 in
+        just_so 0 at after (one.spelled.ends ∙ ap (λ (n : ℕ). at + n) (ap length one.spelled.stored.2))
+    field_wide in_case (Array name count row) env passed value at late after late_after shaped has it =
         let test = both_true (is_none_or is_own_name name) (are_shaped false row) shaped in
         let wide = rows_wide _ (least_widths row) (fixed_widths row)
         (λ number line at late after late_after inside.
-        body_wide false row inside.0 (at_front row passed) line at late after late_after test.1 blind
-        (places_inside row (row_of name number) env inside.0 (no_places row blind) inside.1 has) inside.2)
+        body_wide false row inside.0 (at_front row passed) line at late after late_after test.1
+        (places_inside false row (row_of name number) env inside.0 test.1 inside.1 has) inside.2)
         1 it.0 at late after late_after it.4 in
         array_wide count (length it.0) (least_widths row) (fixed_widths row) at after it.2 wide.0 wide.1
-    field_wide in_case (Switch cases) env passed value at late after late_after shaped blind has it =
-        let least = cases_wide cases env passed value at late after late_after shaped blind has it in
+    field_wide in_case (Switch cases) env passed value at late after late_after shaped has it =
+        let least = cases_wide cases env passed value at late after late_after shaped has it in
         not_fixed (unwrap_or (least_case cases) 0) at after (case_least (least_case cases) least.0 at after least.1 least.2)
 
     cases_wide : (cases : PlainCases) (env : Environment) (passed : Passed) (value : Option Tree) (at : ℕ) (late : List Bool) (after : ℕ) (late_after : List Bool)
-        → are_cases_shaped cases ≡ true → AreBlindCases cases → HasPlaces env → CaseSpells true known all cases env passed value at late after late_after → LeastAt cases at after
-    cases_wide no_cases env passed value at late after late_after shaped blind has it = absurd it
-    cases_wide (case_and name row others) env passed value at late after late_after shaped blind has it =
+        → are_cases_shaped cases ≡ true → HasPlaces env → CaseSpells true known all cases env passed value at late after late_after → LeastAt cases at after
+    cases_wide no_cases env passed value at late after late_after shaped has it = absurd it
+    cases_wide (case_and name row others) env passed value at late after late_after shaped has it =
         let test = both_true (is_own_name name) (are_shaped true row && are_cases_shaped others) shaped in
         let both = both_true (are_shaped true row) (are_cases_shaped others) test.1 in
         by_choice (LeastAt (case_and name row others) at after) _ _
         (λ this.
         let inside = this.2 in
-        let wide = body_wide true row inside.0 (at_front row passed) this.0 at late after late_after both.0 blind.0 (places_inside row None env inside.0 (no_places row blind.0) inside.1 has) inside.2 in
+        let wide = body_wide true row inside.0 (at_front row passed) this.0 at late after late_after both.0 (places_inside true row None env inside.0 both.0 inside.1 has) inside.2 in
         least_own (least_widths row) (least_case others) at after wide.grows)
         (λ other.
-        let least = cases_wide others env passed value at late after late_after both.1 blind.1 has other in
+        let least = cases_wide others env passed value at late after late_after both.1 has other in
         least_other (least_widths row) (least_case others) least.0 at after least.1 least.2)
         (is_case name value) it
 
     pub body_wide : (in_case : Bool) (body : PlainBody) (env : Environment) (passed : Passed) (line : List Tree) (at : ℕ) (late : List Bool) (after : ℕ) (late_after : List Bool)
-        → are_shaped in_case body ≡ true → IsBlindBody body → HasPlaces env → BodySpells true known all body env passed line at late after late_after → Wide (least_widths body) (fixed_widths body) at after
-    body_wide in_case no_fields env passed line at late after late_after shaped blind has it = just_so 0 at after (let e = it.1 in omega (arith, e))
-    body_wide in_case (field_and field fields) env passed line at late after late_after shaped blind has it =
+        → are_shaped in_case body ≡ true → HasPlaces env → BodySpells true known all body env passed line at late after late_after → Wide (least_widths body) (fixed_widths body) at after
+    body_wide in_case no_fields env passed line at late after late_after shaped has it = just_so 0 at after (let e = it.1 in omega (arith, e))
+    body_wide in_case (field_and field fields) env passed line at late after late_after shaped has it =
         let test = both_true (is_shaped in_case field) (are_shaped in_case fields) shaped in
         let here = at_field (field_and field fields) passed in
         both_wide (least_width field) (least_widths fields) (fixed_width field) (fixed_widths fields) at it.2 after
-        (field_wide in_case field env here it.0 at late it.2 it.3 test.0 blind.0 has it.5)
-        (body_wide in_case fields env (behind field here) it.1 it.2 it.3 after late_after test.1 blind.1 has it.6)
+        (field_wide in_case field env here it.0 at late it.2 it.3 test.0 has it.5)
+        (body_wide in_case fields env (behind field here) it.1 it.2 it.3 after late_after test.1 has it.6)

@@ -1,6 +1,7 @@
 -- A text that is read is spelled plainly, and so are zero bits.
-use Rattle.std.proofs.Common.{◌≡◌, ◌≢◌, ℕ, zero, suc, ◌+◌, ◌-◌, ◌*◌, ◌/◌, ◌%◌, ◌<◌, ◌≤◌, ◌^◌, ◌==◌, ℤ, pos, negsuc, Bool, true, false, List, [], ◌∷◌, ◌++◌, length, map, take, drop, Option, Some, None, Result, Ok, Err, refl, sym, ap, ◌∙◌, subst, arith}
-use Rattle.std.specs.Prelude.{if◌then◌else◌, option_map}
+use Rattle.std.proofs.Common.{◌≡◌, ◌≢◌, ℕ, zero, suc, ◌+◌, ◌-◌, ◌*◌, ◌/◌, ◌%◌, ◌<◌, ◌≤◌, ◌^◌, ◌==◌, ℤ, pos, negsuc, Bool, true, false, ◌||◌, List, [], ◌∷◌, ◌++◌, length, map, take, drop, Option, Some, None, Result, Ok, Err, refl, sym, ap, ◌∙◌, subst, arith}
+use Rattle.std.specs.Prelude.{if◌then◌else◌, not, option_and_then, option_map, replicate}
+use Rattle.std.specs.Result.{is_ok}
 use Rattle.std.specs.List.{AllByRecursion}
 use Rattle.std.proofs.lemmas.Bool.{le-ltb}
 use Rattle.std.proofs.lemmas.Bool.Decides.{nat_tests}
@@ -14,26 +15,30 @@ use Rattle.rz_expr.specs.Value.{value_of}
 use Rattle.rz_expr.specs.declared.value.EvalFault.{EvalFault}
 use Rattle.rz_bits.specs.Bits.{bits_of, bytes_of, front_bytes, number_bits, number_of}
 use Rattle.rz_bits.specs.BitBuf.{zeros}
-use Rattle.rz_unlay_pieces.specs.Pieces.{before_zeros, fixed_read, one_byte_size, or_none, plain_text, same_bytes, size_found, size_read, stored_size, text_read, text_size, text_step, trimmed, two_byte_size, up_to_zero, zeros_step, Step}
 use Rattle.rz_bits.specs.View.{bits_at, bytes_at, number_at}
 use Rattle.rz_types_fields.specs.declared.field.TextForm.{TextForm}
 use Rattle.rz_types_fields.specs.declared.field.TextForm.TheVariants as texts
 use Rattle.rz_types_fields.specs.declared.tree.Tree.{Tree}
 use Rattle.rz_types_fields.specs.declared.tree.Tree.TheVariants as trees
-use Rattle.rz_types_fields.specs.Spells.{nowhere, AreBytes, IsPlainText, IsSize, IsText}
-use Rattle.rz_types.specs.Field.{PlainBody, PlainText}
-use Rattle.rz_types.specs.Range.{may_be_size}
-use Rattle.rz_types.specs.Passed.{declares, is_held, Passed}
-use Rattle.rz_types.specs.Stored.{is_too_long, stored_text}
-use Rattle.rz_types.specs.Text.{bytes_seen, text_terms, PlainPart}
-use Rattle.rz_types.specs.Value.{no_bits, see}
-use Rattle.rz_types.specs.Width.{sized_bytes}
+use Rattle.rz_types_fields.specs.Field.{field_and, PlainBody, PlainField, PlainText}
+use Rattle.rz_types_fields.specs.Passed.{declares, is_held, Names, Passed}
+use Rattle.rz_types_fields.specs.Piece.{terms_of_text}
+use Rattle.rz_types_fields.specs.Range.{may_be_size}
+use Rattle.rz_types_fields.specs.Sees.{beside, bits_before, hit, is_late, names_later, sees, Late}
+use Rattle.rz_types_fields.specs.Spells.{is_one_late, nowhere, AreBytes, IsPlainText, IsSize, IsText}
+use Rattle.rz_types_fields.specs.Stored.{is_too_long, stored_text}
+use Rattle.rz_types_fields.specs.Text.{bytes_seen, text_terms, PlainPart}
+use Rattle.rz_types_fields.specs.Value.{see}
+use Rattle.rz_types_fields.specs.Width.{sized_bytes}
 use Rattle.rz_types.proofs.Texts.{bytes_kept, Keeps}
-use Rattle.rz_unlay.proofs.SpelledNames.{and_then, if_false, if_some, mapped, none_is, some_same, value_grows, Knows}
-use Rattle.rz_unlay.proofs.Told.{same_part}
-use Rattle.rz_unlay.proofs.SpelledNumber.{bits_stand, number_stands, PieceRead}
+use Rattle.rz_unlay_pieces.specs.Pieces.{before_zeros, early_text, fixed_read, here_at, late_behind, one_byte_size, or_none, plain_text, same_bytes, seen_at, size_found, size_read, stored_size, text_read, text_size, text_step, trimmed, two_byte_size, up_to_zero, with_near, zeros_step, Here, Step}
+use Rattle.rz_unlay_pieces.specs.Texts.{raw_step, sized_step}
+use Rattle.rz_unlay.proofs.ReadsTests.{and_then, both_true, if_false, if_some, mapped, neither, none_is, some_same}
 use Rattle.rz_unlay.proofs.ReadsText.{stored_bits}
-use Rattle.rz_unlay.proofs.Sees.{both_true}
+use Rattle.rz_unlay.proofs.SpelledNames.{value_grows, Knows}
+use Rattle.rz_unlay.proofs.SpelledNear.{with_part}
+use Rattle.rz_unlay.proofs.SpelledNumber.{bits_stand, number_stands, PieceRead, Stand}
+use Rattle.rz_unlay.proofs.Told.{same_part}
 
 -- Zero bits.
 
@@ -48,22 +53,24 @@ number_zero n is = grind (arith, nat_tests, is)
 pub zero_bits : (bits : List Bool) → (number_of bits == 0) ≡ true → bits ≡ zeros (length bits)
 zero_bits bits is = zeros_are bits (number_zero (number_of bits) is)
 
-pub zeros_came : (all : List Bool) (rest : PlainBody) (passed : Passed) (count : ℕ) (names : Environment) (at : ℕ) (step : Step) → Knows (is_held passed) names → zeros_step all count names at ≡ Some step
-    → PieceRead (declares rest) passed names all at (λ env value bits. (value ≡ None) × (bits ≡ zeros count)) step
-zeros_came all rest passed count names at step knows is =
-    let one = and_then _ (number_at all at count) step is in
-    let two = if_some (one.0 == 0) (record { value = None; after = at + count; names = names }) step one.2 in
-    let number = number_stands all at count one.0 one.1 in
-    let none : (number_of number.bits == 0) ≡ true = ap (λ n. n == 0) number.is ∙ two.0 in
-    subst (PieceRead (declares rest) passed names all at (λ env value bits. (value ≡ None) × (bits ≡ zeros count))) two.1 (record {
-      count = count;
-      bits = number.bits;
-      stand = number.stand;
-      ends = refl;
-      grows = record { kept = same_part names; same = λ key none. refl };
-      knows = knows;
-      stored = λ env part. (refl, zero_bits number.bits none ∙ ap zeros number.stand.long);
-    })
+module _ (facts : Facts) (all : List Bool) (field : PlainField) (rest : PlainBody) (first at : ℕ) (late : Late) (passed : Passed) (names : Environment) where
+  pub zeros_came : (count : ℕ) (step : Step) → Knows (is_held passed) names → zeros_step all count names at late ≡ Some step
+      → PieceRead all (field_and field rest) first (declares rest) passed names at late (λ env value bits. (value ≡ None) × (bits ≡ zeros count)) (λ env many. replicate many false) step
+  zeros_came count step knows is =
+      let one = and_then (λ n. if n == 0 then Some (record { value = None; after = at + count; names = names; late = late_behind late count false }) else None) (number_at all at count) step is in
+      let two = if_some (one.0 == 0) (record { value = None; after = at + count; names = names; late = late_behind late count false }) step one.2 in
+      let number = number_stands all at count one.0 one.1 in
+      let none : (number_of number.bits == 0) ≡ true = ap (λ n. n == 0) number.is ∙ two.0 in
+      subst (PieceRead all (field_and field rest) first (declares rest) passed names at late (λ env value bits. (value ≡ None) × (bits ≡ zeros count)) (λ env many. replicate many false)) two.1 (record {
+        count = count;
+        bits = number.bits;
+        stand = number.stand;
+        ends = refl;
+        grows = record { kept = same_part names; same = λ key none. refl };
+        knows = knows;
+        stored = λ env part near_in. (refl, zero_bits number.bits none ∙ ap zeros number.stand.long);
+        marked = λ env part near_in. ap (λ (many : ℕ). late ++ replicate many false) (sym number.stand.long);
+      })
 
 -- Bytes.
 
@@ -224,16 +231,10 @@ size_is form (Err fault) size is = absurd (none_is size is)
 size_is form (Ok (pos n)) size is = let it = if_some (may_be_size form (pos n)) (Some n) size is in (n, refl, it.0, sym it.1)
 size_is form (Ok (negsuc n)) size is = let it = if_some (may_be_size form (negsuc n)) _ size is in absurd (negative_size form n it.0)
 
-size_came : (facts : Facts) (all : List Bool) (names env : Environment) (at : ℕ) → IsPartOf names env → (form : TextForm) (term : Option Term) (size : Option ℕ)
-    → size_read facts all form term names at ≡ Some size → IsSize form (see facts no_bits env) term size
-size_came facts all names env at part form None size is = sym (some_same None size is)
-size_came facts all names env at part form (Some term) size is =
-    let it = size_is form (value_of term (see facts no_bits names)) size is in
-    (it.0, value_grows facts no_bits names env part term (pos it.0) it.1, it.2, it.3)
-
-sized_is : (all : List Bool) (rest : PlainBody) (form : TextForm) (size : Option ℕ) (at count : ℕ) (raw : List ℕ) → stored_size all rest form size at ≡ Some count → length raw ≡ count → IsSized form size raw
-sized_is all rest form None at count raw is long = tt
-sized_is all rest form (Some size) at count raw is long = long ∙ sym (some_same (sized_bytes form size) count is)
+sized_is : (all : List Bool) (rest : PlainBody) (names : Environment) (form : TextForm) (size : Option ℕ) (at count : ℕ) (raw : List ℕ) → stored_size all rest names form size at ≡ Some count → length raw ≡ count
+    → IsSized form size raw
+sized_is all rest names form None at count raw is long = tt
+sized_is all rest names form (Some size) at count raw is long = long ∙ sym (some_same (sized_bytes form size) count is)
 
 -- Its bytes.
 
@@ -251,27 +252,66 @@ record BytesCame (form : TextForm) (facts : Facts) (sight : Sight) (fixed : Opti
   long : length bytes ≡ length found.1
   same : bits_of (stored_text form size bytes) ≡ bits_of (stored_text form size found.1)
 
--- a value that is known is that of the finished names
-terms_grow : (facts : Facts) (names env : Environment) → IsPartOf names env → (terms : List Term) → AllByRecursion (Keeps (see facts no_bits names) (see facts no_bits env)) terms
-terms_grow facts names env part [] = tt
-terms_grow facts names env part (term ∷ terms) = (value_grows facts no_bits names env part term, terms_grow facts names env part terms)
+-- What is read of its expressions stays so with more names.
 
-bytes_came : ((width number : ℕ) → number_of (number_bits width number) ≡ number % 2 ^ width) → ((bits : List Bool) → number_bits (length bits) (number_of bits) ≡ bits)
-    → (facts : Facts) (all : List Bool) (rest : PlainBody) (names : Environment) (form : TextForm) (size : Option ℕ) (fixed : Option (List PlainPart)) (at count : ℕ) (raw : List ℕ)
-    (found : Option Tree × List ℕ) → AreSmall raw
-    → text_size facts (see facts no_bits names) all rest form size fixed at ≡ Some count → length raw ≡ count → text_read facts (see facts no_bits names) form size fixed raw ≡ Some found
-    → (env : Environment) → IsPartOf names env → BytesCame form facts (see facts no_bits env) fixed size found
-bytes_came read numbers facts all rest names form size None at count raw found small so long is env part =
-    subst (BytesCame form facts (see facts no_bits env) None size) (some_same (Some (trees.Text (plain_text form size raw)), plain_text form size raw) found is)
-    (record { bytes = plain_text form size raw; are = (refl, plain_is form size raw small (sized_is all rest form size at count raw so long)); long = refl; same = refl })
-bytes_came read numbers facts all rest names form size (Some parts) at count raw found small so long is env part =
-    let it = fixed_is (bytes_seen nowhere facts (see facts no_bits names) parts) found is in
-    record {
-      bytes = it.0;
-      are = (it.1, bytes_kept nowhere facts (see facts no_bits names) (see facts no_bits env) parts (terms_grow facts names env part (text_terms parts)) it.0 it.2);
-      long = sym (length-map it.0 (λ byte. byte % 256)) ∙ sym (ap length it.3);
-      same = stored_bits read numbers it.0 form size ∙ ap (λ (bs : List ℕ). bits_of (stored_text form size bs)) (sym it.3);
-    }
+ok_there : (found : Result ℤ EvalFault) → not (is_ok found) ≡ false → (value : ℤ) × (found ≡ Ok value)
+ok_there (Ok value) is = (value, refl)
+ok_there (Err fault) is = absurd cc
+
+module _ (facts : Facts) (bits : ℤ → ℤ → Option ℤ) (part whole : Environment) (is_part : IsPartOf part whole) where
+  size_came : (form : TextForm) (term : Option Term) (size : Option ℕ) → size_read form term (see facts bits part) ≡ Some size → IsSize form (see facts bits whole) term size
+  size_came form None size is = sym (some_same None size is)
+  size_came form (Some term) size is =
+      let it = size_is form (value_of term (see facts bits part)) size is in
+      (it.0, value_grows facts bits part whole is_part term (pos it.0) it.1, it.2, it.3)
+
+  -- a value that is known is that of the finished names
+  terms_grow : (terms : List Term) → AllByRecursion (Keeps (see facts bits part) (see facts bits whole)) terms
+  terms_grow [] = tt
+  terms_grow (term ∷ terms) = (value_grows facts bits part whole is_part term, terms_grow terms)
+
+  -- an expression that isn't late stays so
+  still_early : (met : Names) (late : Late) (term : Term) → is_late met late term (see facts bits part) ≡ false → is_late met late term (see facts bits whole) ≡ false
+  still_early met late term is =
+      let each = neither (names_later met term) (not (is_ok (value_of term (beside late (see facts bits part))))) is in
+      let found = ok_there (value_of term (beside late (see facts bits part))) each.1 in
+      let grown : value_of term (beside late (see facts bits whole)) ≡ Ok found.0 =
+      value_grows facts (λ from size. if hit late from size then None else bits from size) part whole is_part term found.0 found.1 in
+      λ i. each.0 i || not (is_ok (grown i))
+
+  all_early : (met : Names) (late : Late) (terms : List Term) → is_one_late met late terms (see facts bits part) ≡ false → is_one_late met late terms (see facts bits whole) ≡ false
+  all_early met late [] is = refl
+  all_early met late (term ∷ terms) is =
+      let each = neither (is_late met late term (see facts bits part)) (is_one_late met late terms (see facts bits part)) is in
+      λ i. still_early met late term each.0 i || all_early met late terms each.1 i
+
+module _ (read : (width number : ℕ) → number_of (number_bits width number) ≡ number % 2 ^ width) (numbers : (bits : List Bool) → number_bits (length bits) (number_of bits) ≡ bits)
+    (facts : Facts) (all : List Bool) (field : PlainField) (rest : PlainBody) (first at : ℕ) (met : Names) (names : Environment) where
+  abbrev here : Here
+  here = here_at facts all field rest first met
+
+  abbrev seen : Sight
+  seen = seen_at here names at
+
+  bytes_came : (form : TextForm) (size : Option ℕ) (fixed : Option (List PlainPart)) (count : ℕ) (raw : List ℕ) (found : Option Tree × List ℕ) → AreSmall raw
+      → text_size here names form size fixed at ≡ Some count → length raw ≡ count → text_read facts seen form size fixed raw ≡ Some found
+      → (env : Environment) → IsPartOf (with_near here names) env → BytesCame form facts (sees facts all env at) fixed size found
+  bytes_came form size None count raw found small so long is env part =
+      subst (BytesCame form facts (sees facts all env at) None size) (some_same (Some (trees.Text (plain_text form size raw)), plain_text form size raw) found is)
+      (record { bytes = plain_text form size raw; are = (refl, plain_is form size raw small (sized_is all rest names form size at count raw so long)); long = refl; same = refl })
+  bytes_came form size (Some parts) count raw found small so long is env part =
+      let it = fixed_is (bytes_seen nowhere facts seen parts) found is in
+      record {
+        bytes = it.0;
+        are = (it.1, bytes_kept nowhere facts seen (sees facts all env at) parts (terms_grow facts (bits_before all at) (with_near here names) env part (text_terms parts)) it.0 it.2);
+        long = sym (length-map it.0 (λ byte. byte % 256)) ∙ sym (ap length it.3);
+        same = stored_bits read numbers it.0 form size ∙ ap (λ (bs : List ℕ). bits_of (stored_text form size bs)) (sym it.3);
+      }
+
+-- an answer where a test fails
+fails_first : {A : Type 0} (test : Bool) (x : Option A) (y : A) → (if test then None else x) ≡ Some y → (test ≡ false) × (x ≡ Some y)
+fails_first true x y is = absurd (none_is y is)
+fails_first false x y is = (refl, is)
 
 module _ (below : (bits : List Bool) → number_of bits < 2 ^ length bits) (written : (bits : List Bool) → length bits % 8 ≡ 0 → bits_of (bytes_of bits) ≡ bits) where
   byte_small : (bits : List Bool) → number_of (take 8 bits) < 256
@@ -285,45 +325,84 @@ module _ (below : (bits : List Bool) → number_of bits < 2 ^ length bits) (writ
   fronts_small zero bits = tt
   fronts_small (suc count) bits = (byte_small bits, fronts_small count (drop 8 bits))
 
-  pub text_came : ((width number : ℕ) → number_of (number_bits width number) ≡ number % 2 ^ width) → ((bits : List Bool) → number_bits (length bits) (number_of bits) ≡ bits)
-      → (facts : Facts) (all : List Bool) (rest : PlainBody) (passed : Passed) (text : PlainText) (names : Environment) (at : ℕ) (step : Step) → Knows (is_held passed) names
-      → text_step facts all rest text names at ≡ Some step
-      → PieceRead (declares rest) passed names all at (λ env value bits. IsText true text facts (see facts no_bits env) value bits) step
-  text_came read numbers facts all rest passed text names at step knows is =
-      let one = and_then _ (size_read facts all text.form text.size names at) step is in
-      let size : Option ℕ = one.0 in
-      let two = and_then _ (text_size facts (see facts no_bits names) all rest text.form size text.fixed at) step one.2 in
-      let count : ℕ = two.0 in
-      let three = and_then _ (bytes_at all at count) step two.2 in
-      let raw : List ℕ = three.0 in
-      let four = and_then _ (text_read facts (see facts no_bits names) text.form size text.fixed raw) step three.2 in
-      let found : Option Tree × List ℕ = four.0 in
-      let five = if_some (same_bytes (stored_text text.form size found.1) raw) (record { value = found.0; after = at + 8 * count; names = names }) step four.2 in
-      let there = mapped bytes_of (bits_at all at (8 * count)) raw three.1 in
+  -- what stands there in bits is what was read in bytes
+  record RawThere (all : List Bool) (at count : ℕ) (raw : List ℕ) : Type 0 where
+    bits : List Bool
+    stand : Stand all at (8 * count) bits
+    small : AreSmall raw
+    long : length raw ≡ count
+    are : bits ≡ bits_of raw
+
+  raw_stands : (all : List Bool) (at count : ℕ) (raw : List ℕ) → bytes_at all at count ≡ Some raw → RawThere all at count raw
+  raw_stands all at count raw is =
+      let there = mapped bytes_of (bits_at all at (8 * count)) raw is in
       let bits : List Bool = there.0 in
       let stand = bits_stand all at (8 * count) bits there.1 in
       let long : length bits ≡ 8 * count = stand.long in
-      let stored : stored_text text.form size found.1 ≡ raw = same_bytes_are (stored_text text.form size found.1) raw five.0 in
-      let small : AreSmall raw = subst AreSmall there.2 (fronts_small (length bits / 8) bits) in
       let eighth : length bits / 8 ≡ count = omega (arith, long) in
-      let raw_long : length raw ≡ count = sym (ap length there.2) ∙ length_fronts (length bits / 8) bits ∙ eighth in
       let whole : length bits % 8 ≡ 0 = omega (arith, long) in
-      let came = bytes_came read numbers facts all rest names text.form size text.fixed at count raw found small two.1 raw_long four.1 in
-      subst (PieceRead (declares rest) passed names all at (λ env value bits. IsText true text facts (see facts no_bits env) value bits)) five.1 (record {
-        count = 8 * count;
+      record {
         bits = bits;
         stand = stand;
-        ends = refl;
-        grows = record { kept = same_part names; same = λ key none. refl };
-        knows = knows;
-        stored = λ env part.
-            let it = came env part in
-            record {
-              size = size;
-              has_size = size_came facts all names env at part text.form text.size size one.1;
-              bytes = it.bytes;
-              are_bytes = it.are;
-              short = ap (is_too_long text.form size) it.long ∙ not_long text.form size raw found.1 small stored;
-              are_bits = sym (written bits whole) ∙ ap bits_of (there.2 ∙ sym stored) ∙ sym it.same;
-            };
-      })
+        small = subst AreSmall there.2 (fronts_small (length bits / 8) bits);
+        long = sym (ap length there.2) ∙ length_fronts (length bits / 8) bits ∙ eighth;
+        are = sym (written bits whole) ∙ ap bits_of there.2;
+      }
+
+  module _ (read : (width number : ℕ) → number_of (number_bits width number) ≡ number % 2 ^ width) (numbers : (bits : List Bool) → number_bits (length bits) (number_of bits) ≡ bits)
+      (facts : Facts) (all : List Bool) (field : PlainField) (rest : PlainBody) (first at : ℕ) (late : Late) (passed : Passed) (names : Environment) (text : PlainText) where
+    abbrev own : Here
+    own = here_at facts all field rest first passed.met
+
+    abbrev Read : Step → Type 0
+    Read step = PieceRead all (field_and field rest) first (declares rest) passed names at late
+        (λ env value bits. IsText true text facts (sees facts all env at) value bits × (is_one_late passed.met late (terms_of_text text) (sees facts all env at) ≡ false)) (λ env count. replicate count false) step
+
+    abbrev seen_here : Sight
+    seen_here = seen_at own names at
+
+    early_came : (size : Option ℕ) (count : ℕ) (raw : List ℕ) (found : Option Tree × List ℕ) (step : Step) → Knows (is_held passed) names
+        → is_one_late passed.met late (terms_of_text text) seen_here ≡ false → size_read text.form text.size seen_here ≡ Some size
+        → text_size own names text.form size text.fixed at ≡ Some count → bytes_at all at count ≡ Some raw → text_read facts seen_here text.form size text.fixed raw ≡ Some found
+        → same_bytes (stored_text text.form size found.1) raw ≡ true
+        → record { value = found.0; after = at + 8 * count; names = names; late = late_behind late (8 * count) false } ≡ step → Read step
+    early_came size count raw found step knows early sized counted there is same made =
+        let it = raw_stands all at count raw there in
+        let stored : stored_text text.form size found.1 ≡ raw = same_bytes_are (stored_text text.form size found.1) raw same in
+        let finished = with_part facts all field rest first passed.met names in
+        subst Read made (record {
+          count = 8 * count;
+          bits = it.bits;
+          stand = it.stand;
+          ends = refl;
+          grows = record { kept = same_part names; same = λ key none. refl };
+          knows = knows;
+          stored = λ env part near_in.
+              let bytes = bytes_came read numbers facts all field rest first at passed.met names text.form size text.fixed count raw found it.small counted it.long is env (finished env part near_in) in (
+                record {
+                  size = size;
+                  has_size = size_came facts (bits_before all at) (with_near own names) env (finished env part near_in) text.form text.size size sized;
+                  bytes = bytes.bytes;
+                  are_bytes = bytes.are;
+                  short = ap (is_too_long text.form size) bytes.long ∙ not_long text.form size raw found.1 it.small stored;
+                  are_bits = it.are ∙ ap bits_of (sym stored) ∙ sym bytes.same;
+                },
+                all_early facts (bits_before all at) (with_near own names) env (finished env part near_in) passed.met late (terms_of_text text) early,
+              );
+          marked = λ env part near_in. ap (λ (many : ℕ). late ++ replicate many false) (sym it.stand.long);
+        })
+
+    pub text_came : (step : Step) → Knows (is_held passed) names → text_step own text names at late ≡ Some step → Read step
+    text_came step knows is =
+        let zero = fails_first (is_one_late passed.met late (terms_of_text text) seen_here) (early_text own text names at late) step is in
+        let one = and_then (λ size. option_and_then (sized_step own text size names at late) (text_size own names text.form size text.fixed at)) (size_read text.form text.size seen_here) step zero.1 in
+        let size : Option ℕ = one.0 in
+        let two = and_then (sized_step own text size names at late) (text_size own names text.form size text.fixed at) step one.2 in
+        let count : ℕ = two.0 in
+        let three = and_then (raw_step facts seen_here text size (at + 8 * count) names (late_behind late (8 * count) false)) (bytes_at all at count) step two.2 in
+        let raw : List ℕ = three.0 in
+        let four = and_then (λ found. if same_bytes (stored_text text.form size found.1) raw then Some (record { value = found.0; after = at + 8 * count; names = names; late = late_behind late (8 * count) false }) else None)
+        (text_read facts seen_here text.form size text.fixed raw) step three.2 in
+        let found : Option Tree × List ℕ = four.0 in
+        let five = if_some (same_bytes (stored_text text.form size found.1) raw) (record { value = found.0; after = at + 8 * count; names = names; late = late_behind late (8 * count) false }) step four.2 in
+        early_came size count raw found step knows zero.0 one.1 two.1 three.1 four.1 five.0 five.1

@@ -3,7 +3,7 @@ use Rattle.std.proofs.Common.{◌≡◌, ℕ, true, List, Option, Some, None, �
 use Rattle.rz_core.specs.declared.facts.Facts.{Facts}
 use Rattle.rz_types_fields.specs.declared.tree.Tree.{Tree}
 use Rattle.rz_types_fields.specs.Spells.{Spells}
-use Rattle.rz_types.specs.Field.{PlainBody}
+use Rattle.rz_types_fields.specs.Field.{PlainBody}
 use Rattle.rz_unlay.specs.Cursor.{reading}
 use Rattle.rz_unlay.specs.Reading.{IsTold}
 

@@ -5,27 +5,33 @@ use Rattle.rz_core.specs.declared.resource.Word.{Word}
 use Rattle.rz_expr.specs.Environment.{Environment}
 use Rattle.rz_types_fields.specs.declared.tree.Tree.TheVariants as trees
 use Rattle.rz_types.specs.Field.{PlainBody}
-use Rattle.rz_unlay.specs.Cursor.{body_found, line_of, Line, Lines}
+use Rattle.rz_types_fields.specs.Passed.{met_inside, Names}
+use Rattle.rz_types_fields.specs.Sees.{marked, Late}
+use Rattle.rz_unlay.specs.Cursor.{body_found, line_of, Line, Lines, ReadsRow}
+use Rattle.rz_unlay_pieces.specs.declared.learnt.Learnt.{Learnt}
 use Rattle.rz_unlay_pieces.specs.Pieces.{Found, Step}
 use Rattle.rz_types_fields.specs.Known.{known, names_inside}
 use Rattle.rz_unlay.specs.declared.came.RowCame.{RowCame}
 use Rattle.rz_unlay.specs.declared.came.RowsCame.{RowsCame}
-use Rattle.rz_types_fields.specs.declared.names.Note.{Note}
 
 -- the row of a body, where so much is known behind it
-abbrev pub found_of : List Note → RowCame → Found
-found_of notes came = record { row = came.row; after = came.after; names = known notes }
+abbrev pub found_of : Learnt → RowCame → Found
+found_of learnt came = record { row = came.row; after = came.after; names = known learnt.notes.items; late = marked came.after learnt.marks }
 
-abbrev pub line_in : RowCame → Line
-line_in came = (came.row, came.after)
+abbrev pub line_in : Learnt → RowCame → Line
+line_in learnt came = record { row = came.row; after = came.after; late = marked came.after learnt.marks }
 
-abbrev pub lines_in : RowsCame → Lines
-lines_in came = (came.rows, came.after)
+abbrev pub lines_in : Learnt → RowsCame → Lines
+lines_in learnt came = record { rows = came.rows; after = came.after; late = marked came.after learnt.marks }
 
--- a row of a body within, from a place on, where so much is known outside of it
-abbrev pub row_at : Facts → List Bool → PlainBody → Environment → ℕ → Option Line
-row_at known all body names place = line_of (body_found known all body (names_inside body names) place)
+-- the row of a body within, from a place on, where so much is met and known outside of it
+abbrev pub line_at : Facts → List Bool → PlainBody → Names → Environment → ℕ → Late → Option Line
+line_at facts all body met names place late = line_of (body_found facts all (met_inside body met) body (names_inside body names) place late)
+
+-- a row of an array; so far none tells its number
+abbrev pub row_at : Facts → List Bool → PlainBody → Names → Environment → ReadsRow
+row_at facts all body met names number place late = line_at facts all body met names place late
 
 -- a row as the value of a switch
 abbrev pub chosen : Word → Environment → Option Line → Option Step
-chosen name names line = option_map (λ l. record { value = Some (trees.Choice name l.0); after = l.1; names = names }) line
+chosen name names line = option_map (λ l. record { value = Some (trees.Choice name l.row); after = l.after; names = names; late = l.late }) line

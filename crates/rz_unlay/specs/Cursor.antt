@@ -10,47 +10,82 @@ use Rattle.rz_types_fields.specs.declared.tree.Tree.{Tree}
 use Rattle.rz_types_fields.specs.declared.tree.Tree.TheVariants as trees
 use Rattle.rz_types_fields.specs.Spells.{values_in}
 use Rattle.rz_types.specs.Field.{case_and, field_and, no_cases, no_fields, Align, Array, Fill, Label, Number, PlainBody, PlainCases, PlainField, Points, Switch, Text}
-use Rattle.rz_types.specs.Passed.{outside}
+use Rattle.rz_types.specs.Passed.{at_front, met_behind, met_inside, nothing_passed, outside, Names}
+use Rattle.rz_types.specs.Sees.{Late}
 use Rattle.rz_types.specs.Width.{case_keys, fixed_widths}
 use Rattle.rz_bits.specs.View.{number_at}
-use Rattle.rz_unlay_pieces.specs.Pieces.{claim_count, field_of_pieces, known_count, with_value, Found, Step}
+use Rattle.rz_unlay_pieces.specs.Ahead.{told_label, Told}
+use Rattle.rz_unlay_pieces.specs.Pieces.{claim_count, field_of_pieces, here_at, known_count, with_value, Found, Step}
 use Rattle.rz_types_fields.specs.Known.{names_inside}
 
 -- Rows.
 
-abbrev pub Line : Type 0
-Line = List Tree × ℕ
+-- a row of an array, the place behind it, and the late bits before that
+pub record Line : Type 0 where
+  pub row : List Tree
+  pub after : ℕ
+  pub late : Late
 
-abbrev pub Lines : Type 0
-Lines = List (List Tree) × ℕ
+pub record Lines : Type 0 where
+  pub rows : List (List Tree)
+  pub after : ℕ
+  pub late : Late
 
 abbrev pub line_of : Option Found → Option Line
-line_of found = option_map (λ f. (f.row, f.after)) found
+line_of found = option_map (λ f. record { row = f.row; after = f.after; late = f.late }) found
+
+-- how a row is read that has this number, from 1, from a place on, with the late bits before it
+abbrev pub ReadsRow : Type 0
+ReadsRow = ℕ → ℕ → Late → Option Line
+
+abbrev pub no_lines : ℕ → Late → Lines
+no_lines at late = record { rows = []; after = at; late = late }
+
+abbrev pub and_lines : Line → Lines → Lines
+and_lines line lines = record { rows = line.row ∷ lines.rows; after = lines.after; late = lines.late }
 
 -- so many rows
-abbrev pub rows_at : (ℕ → Option Line) → ℕ → ℕ → Option Lines
-rows_at row zero at = Some ([], at)
-rows_at row (suc count) at = option_and_then (λ line. option_map (λ lines. (line.0 ∷ lines.0, lines.1)) (rows_at row count line.1)) (row at)
+abbrev pub rows_at : ReadsRow → ℕ → ℕ → ℕ → Late → Option Lines
+rows_at row zero number at late = Some (no_lines at late)
+rows_at row (suc count) number at late =
+    option_and_then (λ line. option_map (and_lines line) (rows_at row count (number + 1) line.after line.late)) (row number at late)
 
 -- rows as long as eight bits stand before a place, but no more than so many
-abbrev pub rows_while : (ℕ → Option Line) → ℕ → ℕ → ℕ → Option Lines
-rows_while row stop zero at = None
-rows_while row stop (suc most) at =
-    if nat_lt stop (at + 8) then Some ([], at) else option_and_then (λ line. option_map (λ lines. (line.0 ∷ lines.0, lines.1)) (rows_while row stop most line.1)) (row at)
+abbrev pub rows_while : ReadsRow → ℕ → ℕ → ℕ → ℕ → Late → Option Lines
+rows_while row stop zero number at late = None
+rows_while row stop (suc most) number at late =
+    if nat_lt stop (at + 8) then Some (no_lines at late)
+    else option_and_then (λ line. option_map (and_lines line) (rows_while row stop most (number + 1) line.after line.late)) (row number at late)
 
-abbrev pub up_to_end : (ℕ → Option Line) → ℕ → Option ℕ → ℕ → Option Lines
-up_to_end row len None at = None
-up_to_end row len (Some width) at = if nat_lt len width then None else rows_while row (len - width) (suc len) at
+-- rows up to just this place, but no more than so many
+abbrev pub rows_to : ReadsRow → ℕ → ℕ → ℕ → ℕ → Late → Option Lines
+rows_to row stop zero number at late = None
+rows_to row stop (suc most) number at late =
+    if nat_lt at stop then option_and_then (λ line. option_map (and_lines line) (rows_to row stop most (number + 1) line.after line.late)) (row number at late)
+    else if at == stop then Some (no_lines at late) else None
+
+-- rows from the first on, to the end of the resource or to a label
+abbrev pub up_to_end : ReadsRow → ℕ → Option ℕ → ℕ → Late → Option Lines
+up_to_end row len None at late = None
+up_to_end row len (Some width) at late = if nat_lt len width then None else rows_while row (len - width) (suc len) 1 at late
+
+abbrev pub up_to_label : ReadsRow → ℕ → Told → ℕ → Late → Option Lines
+up_to_label row len told at late = if nat_lt told.place told.width then None else rows_to row (told.place - told.width) (suc len) 1 at late
+
+abbrev pub open_rows : ReadsRow → ℕ → Option Told → Option ℕ → ℕ → Late → Option Lines
+open_rows row len (Some told) width at late = up_to_label row len told at late
+open_rows row len None width at late = up_to_end row len width at late
 
 -- the number of rows, where it is stated or known
 abbrev pub count_known : Environment → Option Word → Option ℤ → Option ℤ
 count_known names name (Some count) = Some count
 count_known names name None = known_count name names
 
-abbrev pub rows_by : (ℕ → Option Line) → ℕ → PlainBody → Option ℤ → ℕ → Option Lines
-rows_by row len rest (Some (pos count)) at = rows_at row count at
-rows_by row len rest (Some (negsuc n)) at = None
-rows_by row len rest None at = up_to_end row len (fixed_widths rest) at
+-- as many rows as are known, or those up to a label or the end of the resource, behind which these fields stand
+abbrev pub rows_by : ReadsRow → ℕ → PlainBody → Environment → Option ℤ → ℕ → Late → Option Lines
+rows_by row len rest names (Some (pos count)) at late = rows_at row count 1 at late
+rows_by row len rest names (Some (negsuc n)) at late = None
+rows_by row len rest names None at late = open_rows row len (told_label len rest names) (fixed_widths rest) at late
 
 -- the bits at the place of a key are its own
 abbrev pub has_bits : Option ℕ → ℕ → Bool
@@ -69,30 +104,31 @@ has_keys all at [] = true
 has_keys all at (key ∷ keys) = has_key_at all at key && has_keys all at keys
 
 abbrev mutual
-  pub field_found : Facts → List Bool → PlainBody → PlainField → Environment → ℕ → Option Step
-  field_found known all rest (Number number) names at = field_of_pieces known all rest (Number number) names at
-  field_found known all rest (Text text) names at = field_of_pieces known all rest (Text text) names at
-  field_found known all rest (Points points) names at = field_of_pieces known all rest (Points points) names at
-  field_found known all rest (Fill unit count) names at = field_of_pieces known all rest (Fill unit count) names at
-  field_found known all rest (Align unit) names at = field_of_pieces known all rest (Align unit) names at
-  field_found known all rest (Label name) names at = field_of_pieces known all rest (Label name) names at
-  field_found known all rest (Array name count row) names at =
-      option_and_then (λ lines. option_map (λ more. record { value = Some (trees.Rows lines.0); after = lines.1; names = more }) (claim_count name (length lines.0) names))
-      (rows_by (λ place. line_of (body_found known all row (names_inside row names) place)) (length all) rest (count_known names name count) at)
-  field_found known all rest (Switch cases) names at = case_found known all cases names at
+  -- a field, where these labels stand before it
+  pub field_found : Facts → List Bool → PlainBody → Names → PlainField → Environment → ℕ → Late → Option Step
+  field_found known all rest met (Number number) names at late = field_of_pieces (here_at known all (Number number) rest at met) (Number number) names at late
+  field_found known all rest met (Text text) names at late = field_of_pieces (here_at known all (Text text) rest at met) (Text text) names at late
+  field_found known all rest met (Points points) names at late = field_of_pieces (here_at known all (Points points) rest at met) (Points points) names at late
+  field_found known all rest met (Fill unit count) names at late = field_of_pieces (here_at known all (Fill unit count) rest at met) (Fill unit count) names at late
+  field_found known all rest met (Align unit) names at late = field_of_pieces (here_at known all (Align unit) rest at met) (Align unit) names at late
+  field_found known all rest met (Label name) names at late = field_of_pieces (here_at known all (Label name) rest at met) (Label name) names at late
+  field_found known all rest met (Array name count row) names at late =
+      option_and_then (λ lines. option_map (λ more. record { value = Some (trees.Rows lines.rows); after = lines.after; names = more; late = lines.late }) (claim_count name (length lines.rows) names))
+      (rows_by (λ number place marks. line_of (body_found known all (met_inside row met) row (names_inside row names) place marks)) (length all) rest names (count_known names name count) at late)
+  field_found known all rest met (Switch cases) names at late = case_found known all met cases names at late
 
   -- the first case whose key stands there
-  pub case_found : Facts → List Bool → PlainCases → Environment → ℕ → Option Step
-  case_found known all no_cases names at = None
-  case_found known all (case_and name row others) names at =
+  pub case_found : Facts → List Bool → Names → PlainCases → Environment → ℕ → Late → Option Step
+  case_found known all met no_cases names at late = None
+  case_found known all met (case_and name row others) names at late =
       if has_keys all at (case_keys row)
-      then option_map (λ f. record { value = Some (trees.Choice name f.row); after = f.after; names = names }) (body_found known all row (names_inside row names) at)
-      else case_found known all others names at
+      then option_map (λ f. record { value = Some (trees.Choice name f.row); after = f.after; names = names; late = f.late }) (body_found known all (met_inside row met) row (names_inside row names) at late)
+      else case_found known all met others names at late
 
-  pub body_found : Facts → List Bool → PlainBody → Environment → ℕ → Option Found
-  body_found known all no_fields names at = Some (record { row = []; after = at; names = names })
-  body_found known all (field_and field fields) names at =
-      option_and_then (λ step. with_value step.value (body_found known all fields step.names step.after)) (field_found known all fields field names at)
+  pub body_found : Facts → List Bool → Names → PlainBody → Environment → ℕ → Late → Option Found
+  body_found known all met no_fields names at late = Some (record { row = []; after = at; names = names; late = late })
+  body_found known all met (field_and field fields) names at late =
+      option_and_then (λ step. with_value step.value (body_found known all (met_behind field met) fields step.names step.after step.late)) (field_found known all fields met field names at late)
 
 -- the row that bytes tell: behind it are fewer than eight bits, all zero, and it has at most 1,048,576 values
 abbrev pub ended : List Bool → Option Found → Option (List Tree)
@@ -102,4 +138,4 @@ ended all (Some found) =
     then Some found.row else None
 
 abbrev pub reading : Facts → PlainBody → List ℕ → Option (List Tree)
-reading known body bytes = ended (bits_of bytes) (body_found known (bits_of bytes) body (names_inside body outside) 0)
+reading known body bytes = ended (bits_of bytes) (body_found known (bits_of bytes) (at_front body nothing_passed).met body (names_inside body outside) 0 [])

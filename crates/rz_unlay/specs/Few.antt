@@ -14,7 +14,7 @@ abbrev pub found_count : Found → ℕ
 found_count found = values_in found.row
 
 abbrev pub line_count : Line → ℕ
-line_count line = values_in line.0
+line_count line = values_in line.row
 
 abbrev pub lines_count : Lines → ℕ
-lines_count lines = rows_count lines.0
+lines_count lines = rows_count lines.rows

@@ -3,22 +3,30 @@
 ghost use Rattle.std.specs.Prelude.{◌≡◌, ◌+◌, ◌≤◌, pos, suc, length, drop, IfOk, IfSome, OnOk, option_map};
 ghost use Rattle.rz_bits.specs.View.{seen};
 ghost use Rattle.rz_types_fields.specs.Spells.{values_in};
-ghost use Rattle.rz_types.specs.Field.{plain_array, plain_body, plain_case, plain_cases, plain_field};
-ghost use Rattle.rz_unlay.specs.Came.{chosen, found_of, line_in, lines_in, row_at};
+ghost use Rattle.rz_types.specs.Field.{field_and, plain_array, plain_body, plain_case, plain_cases, plain_field};
+ghost use Rattle.rz_unlay.specs.Came.{chosen, found_of, line_at, line_in, lines_in, row_at};
 ghost use Rattle.rz_unlay_pieces.specs.Came.{met_of};
-ghost use Rattle.rz_unlay.specs.Cursor.{body_found, case_found, count_known, field_found, rows_at, rows_by, rows_while};
+ghost use Rattle.rz_unlay.specs.Cursor.{body_found, case_found, count_known, field_found, rows_at, open_rows, rows_by, rows_to, rows_while};
 ghost use Rattle.rz_unlay_pieces.specs.Few.{few, step_count, value_count};
 ghost use Rattle.rz_unlay.specs.Few.{found_count, line_count, lines_count, rows_count};
 ghost use Rattle.rz_unlay_pieces.specs.Fits.{AreFit, CasesFit, Fits};
-ghost use Rattle.rz_types_fields.specs.Known.{known, Grew};
-ghost use Rattle.rz_unlay.specs.Rows.{pushed, stop_at};
+ghost use Rattle.rz_types_fields.specs.Known.{known, met, Grew};
+ghost use Rattle.rz_types_fields.specs.Passed.{met_behind};
+ghost use Rattle.rz_types_fields.specs.Sees.{marked};
+ghost use Rattle.rz_types_fields.specs.Width.{fixed_widths};
+ghost use Rattle.rz_unlay_pieces.specs.Ahead.{told_label};
+ghost use Rattle.rz_unlay_pieces.specs.Seen.{told_of};
+ghost use Rattle.rz_unlay.specs.Rows.{pushed, stop_at, stop_before};
 
 use crate::came::{RowCame, RowsCame};
 use crate::cases::has_keys;
+use crate::steps::{count_known, push_value, stop_at, stop_before, tail};
 use rz_bits::BitView;
 use rz_core::{Facts, NoMemory, Word};
 use rz_types_fields::{ArrayField, Case, Field, Note, Row, RowList, Tree, fixed_widths, rows_of};
-use rz_unlay_pieces::{Met, claim_count, enter, read_pieces, spend};
+use rz_unlay_pieces::{
+    LabelAhead, Learnt, Met, Spot, claim_count, enter, read_pieces, spend, told_label,
+};
 use std::alloc::Global;
 
 /// What is read: the bits of a resource, and what is known of it.
@@ -36,37 +44,44 @@ impl Reader<'_> {
     ghost use Rattle.std.specs.Prelude.{◌≡◌, ◌+◌, ◌≤◌, pos, suc, length, drop, IfOk, IfSome, OnOk, option_map};
     ghost use Rattle.rz_bits.specs.View.{seen};
     ghost use Rattle.rz_types_fields.specs.Spells.{values_in};
-    ghost use Rattle.rz_types.specs.Field.{plain_array, plain_body, plain_case, plain_cases, plain_field};
-    ghost use Rattle.rz_unlay.specs.Came.{chosen, found_of, line_in, lines_in, row_at};
+    ghost use Rattle.rz_types.specs.Field.{field_and, plain_array, plain_body, plain_case, plain_cases, plain_field};
+    ghost use Rattle.rz_unlay.specs.Came.{chosen, found_of, line_at, line_in, lines_in, row_at};
     ghost use Rattle.rz_unlay_pieces.specs.Came.{met_of};
-    ghost use Rattle.rz_unlay.specs.Cursor.{body_found, case_found, count_known, field_found, rows_at, rows_by, rows_while};
+    ghost use Rattle.rz_unlay.specs.Cursor.{body_found, case_found, count_known, field_found, rows_at, open_rows, rows_by, rows_to, rows_while};
     ghost use Rattle.rz_unlay_pieces.specs.Few.{few, step_count, value_count};
     ghost use Rattle.rz_unlay.specs.Few.{found_count, line_count, lines_count, rows_count};
     ghost use Rattle.rz_unlay_pieces.specs.Fits.{AreFit, CasesFit, Fits};
-    ghost use Rattle.rz_types_fields.specs.Known.{known, Grew};
-    ghost use Rattle.rz_unlay.specs.Rows.{pushed, stop_at};
+    ghost use Rattle.rz_types_fields.specs.Known.{known, met, Grew};
+    ghost use Rattle.rz_types_fields.specs.Passed.{met_behind};
+    ghost use Rattle.rz_types_fields.specs.Sees.{marked};
+    ghost use Rattle.rz_types_fields.specs.Width.{fixed_widths};
+    ghost use Rattle.rz_unlay_pieces.specs.Ahead.{told_label};
+    ghost use Rattle.rz_unlay_pieces.specs.Seen.{told_of};
+    ghost use Rattle.rz_unlay.specs.Rows.{pushed, stop_at, stop_before};
 
     /// Reads the row of a body, with at most so many values: what is learnt of the names of its own is forgotten behind it.
     #[cycle(read)]
     pub fn read_body<'a>(
         &self,
         fields: &'a [Field],
-        notes: &mut Vec<Note<'a>>,
+        learnt: &mut Learnt<'a>,
         at: u32,
         left: u32,
     ) -> Result<Option<RowCame>, NoMemory>
         requires fits { AreFit (plain_body fields.now) }
         requires at { at ≤ length (seen self.now.view.now) }
-        ensures row { IfOk result (λ came. option_map line_in came
-            ≡ few line_count left (row_at self.now.facts.now (seen self.now.view.now) (plain_body fields.now) (known notes.old.items) at)) }
+        requires marks { length learnt.old.marks ≤ at }
+        ensures row { IfOk result (λ came. option_map (line_in learnt.new) came
+            ≡ few line_count left (line_at self.now.facts.now (seen self.now.view.now) (plain_body fields.now) (met learnt.old.notes.items) (known learnt.old.notes.items) at (marked at learnt.old.marks))) }
         ensures left { IfOk result (λ came. IfSome came (λ r. r.left + values_in r.row ≡ left)) }
         ensures within { IfOk result (λ came. IfSome came (λ r. r.after ≤ length (seen self.now.view.now))) }
-        ensures notes { IfOk result (λ came. IfSome came (λ r. notes.new.items ≡ notes.old.items)) }
+        ensures marks { IfOk result (λ came. IfSome came (λ r. length learnt.new.marks ≤ r.after)) }
+        ensures notes { IfOk result (λ came. IfSome came (λ r. learnt.new.notes.items ≡ learnt.old.notes.items)) }
     {
-        let around = notes.len();
-        enter(fields, notes)?;
-        let came = self.read_fields(fields, notes, at, left)?;
-        notes.truncate(around);
+        let around = learnt.notes.len();
+        enter(fields, learnt)?;
+        let came = self.read_fields(fields, learnt, at, left)?;
+        learnt.notes.truncate(around);
         Ok(came)
     }
 
@@ -75,29 +90,32 @@ impl Reader<'_> {
     fn read_fields<'a>(
         &self,
         fields: &'a [Field],
-        notes: &mut Vec<Note<'a>>,
+        learnt: &mut Learnt<'a>,
         at: u32,
         left: u32,
     ) -> Result<Option<RowCame>, NoMemory>
         requires fits { AreFit (plain_body fields.now) }
         requires at { at ≤ length (seen self.now.view.now) }
-        ensures row { IfOk result (λ came. option_map (found_of notes.new.items) came
-            ≡ few found_count left (body_found self.now.facts.now (seen self.now.view.now) (plain_body fields.now) (known notes.old.items) at)) }
+        requires marks { length learnt.old.marks ≤ at }
+        ensures row { IfOk result (λ came. option_map (found_of learnt.new) came
+            ≡ few found_count left (body_found self.now.facts.now (seen self.now.view.now) (met learnt.old.notes.items) (plain_body fields.now) (known learnt.old.notes.items) at (marked at learnt.old.marks))) }
         ensures left { IfOk result (λ came. IfSome came (λ r. r.left + values_in r.row ≡ left)) }
         ensures within { IfOk result (λ came. IfSome came (λ r. r.after ≤ length (seen self.now.view.now))) }
-        ensures grew { IfOk result (λ came. IfSome came (λ r. Grew notes.old.items notes.new.items)) }
+        ensures marks { IfOk result (λ came. IfSome came (λ r. length learnt.new.marks ≤ r.after)) }
+        ensures grew { IfOk result (λ came. IfSome came (λ r. Grew learnt.old.notes.items learnt.new.notes.items)) }
     {
         let mut row = Row::new(self.alloc);
         let mut end = at;
         let mut more = left;
         let mut behind = 0;
         for field in fields {
+            let here = tail(fields, behind);
             behind += 1;
-            match self.read_field(field, tail(fields, behind), notes, end, more)? {
-                Some(met) => {
-                    push_value(&mut row, met.value)?;
-                    end = met.after;
-                    more = met.left;
+            match self.read_field(field, here, tail(fields, behind), learnt, end, more)? {
+                Some(found) => {
+                    push_value(&mut row, found.value)?;
+                    end = found.after;
+                    more = found.left;
                 }
                 None => return Ok(None),
             }
@@ -114,18 +132,23 @@ impl Reader<'_> {
     fn read_field<'a>(
         &self,
         field: &'a Field,
+        here: &[Field],
         rest: &[Field],
-        notes: &mut Vec<Note<'a>>,
+        learnt: &mut Learnt<'a>,
         at: u32,
         left: u32,
     ) -> Result<Option<Met>, NoMemory>
+        requires here { plain_body here.now ≡ field_and (plain_field field.now) (plain_body rest.now) }
         requires fits { Fits (plain_field field.now) }
         requires at { at ≤ length (seen self.now.view.now) }
-        ensures step { IfOk result (λ met. option_map (met_of notes.new.items) met
-            ≡ few step_count left (field_found self.now.facts.now (seen self.now.view.now) (plain_body rest.now) (plain_field field.now) (known notes.old.items) at)) }
-        ensures left { IfOk result (λ met. IfSome met (λ m. m.left + value_count m.value ≡ left)) }
-        ensures within { IfOk result (λ met. IfSome met (λ m. m.after ≤ length (seen self.now.view.now))) }
-        ensures grew { IfOk result (λ met. IfSome met (λ m. Grew notes.old.items notes.new.items)) }
+        requires marks { length learnt.old.marks ≤ at }
+        ensures step { IfOk result (λ found. option_map (met_of learnt.new) found
+            ≡ few step_count left (field_found self.now.facts.now (seen self.now.view.now) (plain_body rest.now) (met learnt.old.notes.items) (plain_field field.now) (known learnt.old.notes.items) at (marked at learnt.old.marks))) }
+        ensures left { IfOk result (λ found. IfSome found (λ m. m.left + value_count m.value ≡ left)) }
+        ensures within { IfOk result (λ found. IfSome found (λ m. m.after ≤ length (seen self.now.view.now))) }
+        ensures marks { IfOk result (λ found. IfSome found (λ m. length learnt.new.marks ≤ m.after)) }
+        ensures met { IfOk result (λ found. IfSome found (λ m. met learnt.new.notes.items ≡ met_behind (plain_field field.now) (met learnt.old.notes.items))) }
+        ensures grew { IfOk result (λ found. IfSome found (λ m. Grew learnt.old.notes.items learnt.new.notes.items)) }
     {
         match field {
             Field::Num(_)
@@ -134,13 +157,20 @@ impl Reader<'_> {
             | Field::Fill(..)
             | Field::Align(_)
             | Field::Label(_) => {
-                match read_pieces(self.alloc, self.view, field, rest, self.facts, notes, at)? {
+                let spot = Spot {
+                    view: self.view,
+                    facts: self.facts,
+                    fields: here,
+                    rest,
+                    first: at,
+                };
+                match read_pieces(self.alloc, &spot, field, learnt, at)? {
                     Some(came) => Ok(spend(came, left)),
                     None => Ok(None),
                 }
             }
-            Field::Array(array) => self.read_array(array, rest, notes, at, left),
-            Field::Switch(cases) => { self.read_case(cases.as_slice(), notes, at, left) }
+            Field::Array(array) => self.read_array(array, rest, learnt, at, left),
+            Field::Switch(cases) => { self.read_case(cases.as_slice(), learnt, at, left) }
         }
     }
 
@@ -150,22 +180,25 @@ impl Reader<'_> {
         &self,
         array: &'a ArrayField,
         rest: &[Field],
-        notes: &mut Vec<Note<'a>>,
+        learnt: &mut Learnt<'a>,
         at: u32,
         left: u32,
     ) -> Result<Option<Met>, NoMemory>
         requires fits { Fits (plain_array array.now) }
         requires at { at ≤ length (seen self.now.view.now) }
-        ensures step { IfOk result (λ met. option_map (met_of notes.new.items) met
-            ≡ few step_count left (field_found self.now.facts.now (seen self.now.view.now) (plain_body rest.now) (plain_array array.now) (known notes.old.items) at)) }
-        ensures left { IfOk result (λ met. IfSome met (λ m. m.left + value_count m.value ≡ left)) }
-        ensures within { IfOk result (λ met. IfSome met (λ m. m.after ≤ length (seen self.now.view.now))) }
-        ensures grew { IfOk result (λ met. IfSome met (λ m. Grew notes.old.items notes.new.items)) }
+        requires marks { length learnt.old.marks ≤ at }
+        ensures step { IfOk result (λ found. option_map (met_of learnt.new) found
+            ≡ few step_count left (field_found self.now.facts.now (seen self.now.view.now) (plain_body rest.now) (met learnt.old.notes.items) (plain_array array.now) (known learnt.old.notes.items) at (marked at learnt.old.marks))) }
+        ensures left { IfOk result (λ found. IfSome found (λ m. m.left + value_count m.value ≡ left)) }
+        ensures within { IfOk result (λ found. IfSome found (λ m. m.after ≤ length (seen self.now.view.now))) }
+        ensures marks { IfOk result (λ found. IfSome found (λ m. length learnt.new.marks ≤ m.after)) }
+        ensures met { IfOk result (λ found. IfSome found (λ m. met learnt.new.notes.items ≡ met_behind (plain_array array.now) (met learnt.old.notes.items))) }
+        ensures grew { IfOk result (λ found. IfSome found (λ m. Grew learnt.old.notes.items learnt.new.notes.items)) }
     {
         let row = array.row.as_slice();
-        match self.read_rows(&array.name, array.count, row, rest, notes, at, left)? {
+        match self.read_rows(&array.name, array.count, row, rest, learnt, at, left)? {
             Some(came) => {
-                if claim_count(&array.name, came.rows.len() as u32, notes)? {
+                if claim_count(&array.name, came.rows.len() as u32, learnt)? {
                     Ok(Some(Met {
                         value: Some(Tree::Rows(came.rows)),
                         after: came.after,
@@ -179,7 +212,7 @@ impl Reader<'_> {
         }
     }
 
-    /// Reads rows: as many as are stated or known, or those up to the end of the resource.
+    /// Reads rows: as many as are stated or known, or those up to a told label or the end of the resource.
     #[cycle(read)]
     fn read_rows<'a>(
         &self,
@@ -187,29 +220,61 @@ impl Reader<'_> {
         count: Option<i32>,
         row: &'a [Field],
         rest: &[Field],
-        notes: &mut Vec<Note<'a>>,
+        learnt: &mut Learnt<'a>,
         at: u32,
         left: u32,
     ) -> Result<Option<RowsCame>, NoMemory>
         requires fits { AreFit (plain_body row.now) }
         requires at { at ≤ length (seen self.now.view.now) }
-        ensures rows { IfOk result (λ came. option_map lines_in came
-            ≡ few lines_count left (rows_by (row_at self.now.facts.now (seen self.now.view.now) (plain_body row.now) (known notes.old.items)) (length (seen self.now.view.now)) (plain_body rest.now)
-            (count_known (known notes.old.items) name.now count) at)) }
+        requires marks { length learnt.old.marks ≤ at }
+        ensures rows { IfOk result (λ came. option_map (lines_in learnt.new) came
+            ≡ few lines_count left (rows_by (row_at self.now.facts.now (seen self.now.view.now) (plain_body row.now) (met learnt.old.notes.items) (known learnt.old.notes.items)) (length (seen self.now.view.now)) (plain_body rest.now) (known learnt.old.notes.items)
+            (count_known (known learnt.old.notes.items) name.now count) at (marked at learnt.old.marks))) }
         ensures left { IfOk result (λ came. IfSome came (λ r. r.left + rows_count r.rows ≡ left)) }
         ensures within { IfOk result (λ came. IfSome came (λ r. r.after ≤ length (seen self.now.view.now))) }
-        ensures notes { IfOk result (λ came. IfSome came (λ r. notes.new.items ≡ notes.old.items)) }
+        ensures marks { IfOk result (λ came. IfSome came (λ r. length learnt.new.marks ≤ r.after)) }
+        ensures notes { IfOk result (λ came. IfSome came (λ r. learnt.new.notes.items ≡ learnt.old.notes.items)) }
     {
-        match count_known(name, count, notes.as_slice()) {
+        match count_known(name, count, learnt.notes.as_slice()) {
             Some(count) => {
                 if count < 0 {
                     Ok(None)
                 } else {
-                    self.read_so_many(row, count as u64, notes, at, left)
+                    self.read_so_many(row, count as u64, learnt, at, left)
                 }
             }
+            None => self.read_open(row, rest, learnt, at, left),
+        }
+    }
+
+    /// Reads rows up to a label whose place is told, or else to the end of the resource.
+    #[cycle(read)]
+    fn read_open<'a>(
+        &self,
+        row: &'a [Field],
+        rest: &[Field],
+        learnt: &mut Learnt<'a>,
+        at: u32,
+        left: u32,
+    ) -> Result<Option<RowsCame>, NoMemory>
+        requires fits { AreFit (plain_body row.now) }
+        requires at { at ≤ length (seen self.now.view.now) }
+        requires marks { length learnt.old.marks ≤ at }
+        ensures rows { IfOk result (λ came. option_map (lines_in learnt.new) came
+            ≡ few lines_count left (open_rows (row_at self.now.facts.now (seen self.now.view.now) (plain_body row.now) (met learnt.old.notes.items) (known learnt.old.notes.items)) (length (seen self.now.view.now))
+            (told_label (length (seen self.now.view.now)) (plain_body rest.now) (known learnt.old.notes.items)) (fixed_widths (plain_body rest.now)) at (marked at learnt.old.marks))) }
+        ensures left { IfOk result (λ came. IfSome came (λ r. r.left + rows_count r.rows ≡ left)) }
+        ensures within { IfOk result (λ came. IfSome came (λ r. r.after ≤ length (seen self.now.view.now))) }
+        ensures marks { IfOk result (λ came. IfSome came (λ r. length learnt.new.marks ≤ r.after)) }
+        ensures notes { IfOk result (λ came. IfSome came (λ r. learnt.new.notes.items ≡ learnt.old.notes.items)) }
+    {
+        match told_label(rest, learnt.notes.as_slice(), self.view.len()) {
+            Some(told) => match stop_before(told) {
+                Some(stop) => self.read_to(row, stop, learnt, at, left),
+                None => Ok(None),
+            },
             None => match stop_at(self.view, fixed_widths(rest)) {
-                Some(stop) => self.read_while(row, stop, notes, at, left),
+                Some(stop) => self.read_while(row, stop, learnt, at, left),
                 None => Ok(None),
             },
         }
@@ -221,17 +286,19 @@ impl Reader<'_> {
         &self,
         row: &'a [Field],
         count: u64,
-        notes: &mut Vec<Note<'a>>,
+        learnt: &mut Learnt<'a>,
         at: u32,
         left: u32,
     ) -> Result<Option<RowsCame>, NoMemory>
         requires fits { AreFit (plain_body row.now) }
         requires at { at ≤ length (seen self.now.view.now) }
-        ensures rows { IfOk result (λ came. option_map lines_in came
-            ≡ few lines_count left (rows_at (row_at self.now.facts.now (seen self.now.view.now) (plain_body row.now) (known notes.old.items)) count at)) }
+        requires marks { length learnt.old.marks ≤ at }
+        ensures rows { IfOk result (λ came. option_map (lines_in learnt.new) came
+            ≡ few lines_count left (rows_at (row_at self.now.facts.now (seen self.now.view.now) (plain_body row.now) (met learnt.old.notes.items) (known learnt.old.notes.items)) count 1 at (marked at learnt.old.marks))) }
         ensures left { IfOk result (λ came. IfSome came (λ r. r.left + rows_count r.rows ≡ left)) }
         ensures within { IfOk result (λ came. IfSome came (λ r. r.after ≤ length (seen self.now.view.now))) }
-        ensures notes { IfOk result (λ came. IfSome came (λ r. notes.new.items ≡ notes.old.items)) }
+        ensures marks { IfOk result (λ came. IfSome came (λ r. length learnt.new.marks ≤ r.after)) }
+        ensures notes { IfOk result (λ came. IfSome came (λ r. learnt.new.notes.items ≡ learnt.old.notes.items)) }
     {
         let mut rows = RowList::new(self.alloc);
         let mut end = at;
@@ -240,7 +307,7 @@ impl Reader<'_> {
             if more == 0 {
                 return Ok(None);
             }
-            match self.read_body(row, notes, end, more - 1)? {
+            match self.read_body(row, learnt, end, more - 1)? {
                 Some(came) => {
                     rows.push(came.row)?;
                     end = came.after;
@@ -262,17 +329,19 @@ impl Reader<'_> {
         &self,
         row: &'a [Field],
         stop: u32,
-        notes: &mut Vec<Note<'a>>,
+        learnt: &mut Learnt<'a>,
         at: u32,
         left: u32,
     ) -> Result<Option<RowsCame>, NoMemory>
         requires fits { AreFit (plain_body row.now) }
         requires at { at ≤ length (seen self.now.view.now) }
-        ensures rows { IfOk result (λ came. option_map lines_in came
-            ≡ few lines_count left (rows_while (row_at self.now.facts.now (seen self.now.view.now) (plain_body row.now) (known notes.old.items)) stop (suc (length (seen self.now.view.now))) at)) }
+        requires marks { length learnt.old.marks ≤ at }
+        ensures rows { IfOk result (λ came. option_map (lines_in learnt.new) came
+            ≡ few lines_count left (rows_while (row_at self.now.facts.now (seen self.now.view.now) (plain_body row.now) (met learnt.old.notes.items) (known learnt.old.notes.items)) stop (suc (length (seen self.now.view.now))) 1 at (marked at learnt.old.marks))) }
         ensures left { IfOk result (λ came. IfSome came (λ r. r.left + rows_count r.rows ≡ left)) }
         ensures within { IfOk result (λ came. IfSome came (λ r. r.after ≤ length (seen self.now.view.now))) }
-        ensures notes { IfOk result (λ came. IfSome came (λ r. notes.new.items ≡ notes.old.items)) }
+        ensures marks { IfOk result (λ came. IfSome came (λ r. length learnt.new.marks ≤ r.after)) }
+        ensures notes { IfOk result (λ came. IfSome came (λ r. learnt.new.notes.items ≡ learnt.old.notes.items)) }
     {
         let mut rows = RowList::new(self.alloc);
         let mut end = at;
@@ -288,7 +357,56 @@ impl Reader<'_> {
             if more == 0 {
                 return Ok(None);
             }
-            match self.read_body(row, notes, end, more - 1)? {
+            match self.read_body(row, learnt, end, more - 1)? {
+                Some(came) => {
+                    rows.push(came.row)?;
+                    end = came.after;
+                    more = came.left;
+                }
+                None => return Ok(None),
+            }
+        }
+        Ok(None)
+    }
+
+    /// Reads rows up to just this place.
+    #[cycle(read)]
+    fn read_to<'a>(
+        &self,
+        row: &'a [Field],
+        stop: u32,
+        learnt: &mut Learnt<'a>,
+        at: u32,
+        left: u32,
+    ) -> Result<Option<RowsCame>, NoMemory>
+        requires fits { AreFit (plain_body row.now) }
+        requires at { at ≤ length (seen self.now.view.now) }
+        requires marks { length learnt.old.marks ≤ at }
+        ensures rows { IfOk result (λ came. option_map (lines_in learnt.new) came
+            ≡ few lines_count left (rows_to (row_at self.now.facts.now (seen self.now.view.now) (plain_body row.now) (met learnt.old.notes.items) (known learnt.old.notes.items)) stop (suc (length (seen self.now.view.now))) 1 at (marked at learnt.old.marks))) }
+        ensures left { IfOk result (λ came. IfSome came (λ r. r.left + rows_count r.rows ≡ left)) }
+        ensures within { IfOk result (λ came. IfSome came (λ r. r.after ≤ length (seen self.now.view.now))) }
+        ensures marks { IfOk result (λ came. IfSome came (λ r. length learnt.new.marks ≤ r.after)) }
+        ensures notes { IfOk result (λ came. IfSome came (λ r. learnt.new.notes.items ≡ learnt.old.notes.items)) }
+    {
+        let mut rows = RowList::new(self.alloc);
+        let mut end = at;
+        let mut more = left;
+        for _turn in 0..self.view.len() + 1 {
+            if end == stop {
+                return Ok(Some(RowsCame {
+                    rows,
+                    after: end,
+                    left: more,
+                }));
+            }
+            if stop < end {
+                return Ok(None);
+            }
+            if more == 0 {
+                return Ok(None);
+            }
+            match self.read_body(row, learnt, end, more - 1)? {
                 Some(came) => {
                     rows.push(came.row)?;
                     end = came.after;
@@ -305,21 +423,23 @@ impl Reader<'_> {
     fn read_case<'a>(
         &self,
         cases: &'a [Case],
-        notes: &mut Vec<Note<'a>>,
+        learnt: &mut Learnt<'a>,
         at: u32,
         left: u32,
     ) -> Result<Option<Met>, NoMemory>
         requires fits { CasesFit (plain_cases cases.now) }
         requires at { at ≤ length (seen self.now.view.now) }
-        ensures step { IfOk result (λ met. option_map (met_of notes.new.items) met
-            ≡ few step_count left (case_found self.now.facts.now (seen self.now.view.now) (plain_cases cases.now) (known notes.old.items) at)) }
-        ensures left { IfOk result (λ met. IfSome met (λ m. m.left + value_count m.value ≡ left)) }
-        ensures within { IfOk result (λ met. IfSome met (λ m. m.after ≤ length (seen self.now.view.now))) }
-        ensures notes { IfOk result (λ met. IfSome met (λ m. notes.new.items ≡ notes.old.items)) }
+        requires marks { length learnt.old.marks ≤ at }
+        ensures step { IfOk result (λ found. option_map (met_of learnt.new) found
+            ≡ few step_count left (case_found self.now.facts.now (seen self.now.view.now) (met learnt.old.notes.items) (plain_cases cases.now) (known learnt.old.notes.items) at (marked at learnt.old.marks))) }
+        ensures left { IfOk result (λ found. IfSome found (λ m. m.left + value_count m.value ≡ left)) }
+        ensures within { IfOk result (λ found. IfSome found (λ m. m.after ≤ length (seen self.now.view.now))) }
+        ensures marks { IfOk result (λ found. IfSome found (λ m. length learnt.new.marks ≤ m.after)) }
+        ensures notes { IfOk result (λ found. IfSome found (λ m. learnt.new.notes.items ≡ learnt.old.notes.items)) }
     {
         for case in cases {
             if has_keys(self.view, case.row.as_slice(), at) {
-                return self.read_choice(case, notes, at, left);
+                return self.read_choice(case, learnt, at, left);
             }
         }
         Ok(None)
@@ -330,20 +450,22 @@ impl Reader<'_> {
     fn read_choice<'a>(
         &self,
         case: &'a Case,
-        notes: &mut Vec<Note<'a>>,
+        learnt: &mut Learnt<'a>,
         at: u32,
         left: u32,
     ) -> Result<Option<Met>, NoMemory>
         requires fits { AreFit (plain_case case.now).row }
         requires at { at ≤ length (seen self.now.view.now) }
-        ensures step { IfOk result (λ met. option_map (met_of notes.new.items) met
-            ≡ few step_count left (chosen (plain_case case.now).name (known notes.old.items) (row_at self.now.facts.now (seen self.now.view.now) (plain_case case.now).row (known notes.old.items) at))) }
-        ensures left { IfOk result (λ met. IfSome met (λ m. m.left + value_count m.value ≡ left)) }
-        ensures within { IfOk result (λ met. IfSome met (λ m. m.after ≤ length (seen self.now.view.now))) }
-        ensures notes { IfOk result (λ met. IfSome met (λ m. notes.new.items ≡ notes.old.items)) }
+        requires marks { length learnt.old.marks ≤ at }
+        ensures step { IfOk result (λ found. option_map (met_of learnt.new) found
+            ≡ few step_count left (chosen (plain_case case.now).name (known learnt.old.notes.items) (line_at self.now.facts.now (seen self.now.view.now) (plain_case case.now).row (met learnt.old.notes.items) (known learnt.old.notes.items) at (marked at learnt.old.marks)))) }
+        ensures left { IfOk result (λ found. IfSome found (λ m. m.left + value_count m.value ≡ left)) }
+        ensures within { IfOk result (λ found. IfSome found (λ m. m.after ≤ length (seen self.now.view.now))) }
+        ensures marks { IfOk result (λ found. IfSome found (λ m. length learnt.new.marks ≤ m.after)) }
+        ensures notes { IfOk result (λ found. IfSome found (λ m. learnt.new.notes.items ≡ learnt.old.notes.items)) }
     {
         let fields = case.row.as_slice();
-        match self.read_body(fields, notes, at, left)? {
+        match self.read_body(fields, learnt, at, left)? {
             Some(came) => {
                 let name = case.name.copy(self.alloc)?;
                 Ok(Some(Met {
@@ -354,53 +476,5 @@ impl Reader<'_> {
             }
             None => Ok(None),
         }
-    }
-}
-
-/// The fields behind so many.
-fn tail(fields: &[Field], count: usize) -> &[Field]
-    requires { count ≤ length fields.now }
-    ensures { result.now ≡ drop count fields.now }
-{
-    fields.split_at(count).1
-}
-
-/// Appends a value to a row, where there is one.
-fn push_value(row: &mut Row, value: Option<Tree>) -> Result<(), NoMemory>
-    ensures { OnOk result (row.new ≡ pushed row.old value) }
-{
-    match value {
-        Some(value) => row.push(value),
-        None => Ok(()),
-    }
-}
-
-/// The number of rows, where it is stated or known.
-fn count_known(name: &Option<Word>, count: Option<i32>, notes: &[Note<'_>]) -> Option<i64>
-    ensures { result ≡ count_known (known notes.now) name.now count }
-{
-    match count {
-        Some(count) => Some(i64::from(count)),
-        None => match name {
-            Some(name) => rows_of(notes, name),
-            None => None,
-        },
-    }
-}
-
-/// The place that is so many bits before the end.
-fn stop_at(view: &BitView<'_>, width: Option<u64>) -> Option<u32>
-    ensures { result ≡ stop_at (length (seen view.now)) width }
-{
-    let len = u64::from(view.len());
-    match width {
-        Some(width) => {
-            if len < width {
-                None
-            } else {
-                Some((len - width) as u32)
-            }
-        }
-        None => None,
     }
 }

@@ -16,7 +16,7 @@ use crate::spelled::{read_rows_are_plain, spelled_bytes_are_few};
 use rz_bits::{
     bytes_are_read_back, filled_to_a_multiple, numbers_are_read_back, numbers_are_written_back,
 };
-use rz_types::{keys_stand_apart, rules_hold_within};
+use rz_types::keys_stand_apart;
 
 /// A law, with nothing to run: under a declaration that can be read, a row that spells bytes plainly is read of them.
 pub fn plain_rows_are_read()
@@ -28,7 +28,6 @@ pub fn plain_rows_are_read()
     bytes_are_read_back();
     filled_to_a_multiple();
     keys_stand_apart();
-    rules_hold_within();
 }
 
 /// A law, with nothing to run: under a declaration that can be read, two rows that spell the same bytes plainly are equal.

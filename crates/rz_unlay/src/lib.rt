@@ -2,8 +2,8 @@
 //! none.
 //! It rests on `rz_core`, `rz_expr`, `rz_bits`, `rz_types_fields`, which has the definitions of spelling and the notes of
 //! names, `rz_types`, and `rz_unlay_pieces`, which reads what stands at a place.
-//! Fields are read from left to right; what is learnt of names is cut at the end of each row, and values are counted down,
-//! so that no more are read than a row has.
+//! Fields are read from left to right; what is learnt of names is cut at the end of each row, the marks of late bits are
+//! kept, and values are counted down, so that no more are read than a row has.
 //! A new kind of field with fields within it is a case of `field_found` in `specs/Cursor` and one of `read_field` here; a
 //! new kind of piece changes `rz_unlay_pieces`, and one lemma of each of the two laws here.
 #![tactic(auto)]
@@ -15,6 +15,7 @@ mod found;
 mod resource;
 mod row;
 mod spelled;
+mod steps;
 
 pub use found::{one_plain_row, plain_rows_are_read, told_rows_are_decided};
 pub use resource::{Reading, read};

@@ -13,6 +13,7 @@ use rz_bits::BitView;
 use rz_core::{Facts, NoMemory};
 use rz_types::rules_hold_within;
 use rz_types_fields::{Body, Row};
+use rz_unlay_pieces::Learnt;
 use std::alloc::Global;
 
 /// The most values that a row has.
@@ -33,14 +34,14 @@ pub fn read_row(
 {
     rules_hold_within();
     let view = BitView::over(bytes);
-    let mut notes = Vec::new(alloc);
+    let mut learnt = Learnt::new(alloc);
     let fields = body.as_slice();
     let reader = Reader {
         alloc,
         view: &view,
         facts,
     };
-    match reader.read_body(fields, &mut notes, 0, MOST_VALUES)? {
+    match reader.read_body(fields, &mut learnt, 0, MOST_VALUES)? {
         Some(came) => {
             if is_end(&view, came.after) {
                 Ok(Some(came.row))
