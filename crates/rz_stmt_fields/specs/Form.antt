@@ -1,7 +1,9 @@
 -- A `type` statement as it is written, with expressions where constants stand. (MPW Rez.)
-use Rattle.std.specs.Prelude.{ℕ, ℤ, Bool, List, [], ◌∷◌, map, Option, option_map}
+use Rattle.std.specs.Prelude.{ℕ, ℤ, box_value, Bool, List, [], ◌∷◌, map, Option, option_map}
+use Rattle.std.specs.Global.{Box}
 use Rattle.rz_core.specs.declared.resource.Word.{Word}
 use Rattle.rz_expr.specs.Term.{term_of, Term}
+use Rattle.rz_expr.specs.declared.expr.Expr.{Expr}
 use Rattle.rz_stmt_fields.specs.declared.form.ArrayExpr.{ArrayExpr}
 use Rattle.rz_stmt_fields.specs.declared.form.CaseExpr.{CaseExpr}
 use Rattle.rz_stmt_fields.specs.declared.form.DeclareExpr.{DeclareExpr}
@@ -80,9 +82,12 @@ pub record DeclareForm : Type 0 where
 abbrev pub named_of : Named → NamedTerm
 named_of named = record { name = named.name; value = option_map term_of named.value }
 
+abbrev pub boxed_term : Box Expr → Term
+boxed_term expr = term_of (box_value expr)
+
 abbrev pub width_form : Width → WidthForm
 width_form (widths.Own bits) = Own bits
-width_form (widths.Written expr) = Written (term_of expr)
+width_form (widths.Written expr) = Written (boxed_term expr)
 
 abbrev pub number_form : NumberExpr → NumberForm
 number_form number = record {
@@ -91,7 +96,7 @@ number_form number = record {
   unsigned = number.unsigned;
   radix = number.radix;
   symbols = map named_of number.symbols;
-  fixed = option_map term_of number.fixed;
+  fixed = option_map boxed_term number.fixed;
   key = number.key;
 }
 
@@ -116,12 +121,12 @@ case_step one = record { name = one.name; row = body_of one.row }
 
 abbrev pub field_step : FieldExpr-F FieldForm FieldForm CaseForm → FieldForm
 field_step (FieldExpr-F.Number number) = Number (number_form number)
-field_step (FieldExpr-F.Text text) = Text (plain_text text)
+field_step (FieldExpr-F.Text text) = Text (plain_text (box_value text))
 field_step (FieldExpr-F.Points points) = Points (plain_points points)
 field_step (FieldExpr-F.Fill unit count) = Fill unit (option_map term_of count)
 field_step (FieldExpr-F.Align unit) = Align unit
 field_step (FieldExpr-F.Label name) = Label name
-field_step (FieldExpr-F.Array array) = array
+field_step (FieldExpr-F.Array array) = box_value array
 field_step (FieldExpr-F.Switch cases) = Switch (cases_of cases)
 
 abbrev pub field_form : FieldExpr → FieldForm

@@ -1,6 +1,6 @@
 -- Numbers of type declarations as they are written. (MPW Rez.)
 use Rattle.std.specs.Prelude.{◌≡◌, ℤ, Bool, true, false, List, [], ◌∷◌, map, Option, Some, None, option_map}
-use Rattle.rz_expr.specs.Term.{term_of, Term}
+use Rattle.rz_expr.specs.Term.{Term}
 use Rattle.rz_lex.specs.declared.token.Token.{Token}
 use Rattle.rz_stmt_brackets.specs.Bracket.{IsBracketed}
 use Rattle.rz_stmt_brackets.specs.Pieces.{AreCut, Parted}
@@ -10,7 +10,7 @@ use Rattle.rz_stmt_fields.specs.Each.{AreEach}
 use Rattle.rz_expr.specs.Constant.{IsConstant}
 use Rattle.rz_stmt_fields.specs.FieldValue.{is_equals, IsFixedValue}
 use Rattle.rz_stmt_fields.specs.FieldWord.{FieldFront}
-use Rattle.rz_stmt_fields.specs.Form.{named_of, NamedTerm, NumberForm, Own, WidthForm, Written}
+use Rattle.rz_stmt_fields.specs.Form.{boxed_term, named_of, NamedTerm, NumberForm, Own, WidthForm, Written}
 use Rattle.rz_stmt_fields.specs.Symbols.{IsSymbol}
 use Rattle.rz_stmt_fields.specs.declared.number_field.Tail.{Tail}
 use Rattle.rz_types_fields.specs.Range.{own_width}
@@ -25,7 +25,7 @@ pub record NumberTail : Type 0 where
   pub fixed : Option Term
 
 abbrev pub tail_of : Tail → NumberTail
-tail_of tail = record { symbols = map named_of tail.symbols; fixed = option_map term_of tail.fixed }
+tail_of tail = record { symbols = map named_of tail.symbols; fixed = option_map boxed_term tail.fixed }
 
 -- behind `=` a fixed value
 abbrev pub IsFixed : NumForm → List Token → NumberTail → Type 0

@@ -35,14 +35,15 @@ pub enum MadeExpr {
     Copy(OsType, Option<Expr>),
 }
 
-/// A field as it is written. (MPW Rez.)
+/// A field as it is written. What few fields have stands behind a `Box`, so that millions of plain ones take little
+/// memory. (MPW Rez.)
 #[derive(Drop)]
 #[cycle(form)]
 pub enum FieldExpr {
     /// A number.
     Number(NumberExpr),
     /// A text.
-    Text(TextField),
+    Text(Box<TextField>),
     /// A point or a rectangle.
     Points(PointField),
     /// `fill`: a unit in bits, and how many of it where that is written.
@@ -52,7 +53,7 @@ pub enum FieldExpr {
     /// A label: its name.
     Label(Word),
     /// `array`
-    Array(ArrayExpr),
+    Array(Box<ArrayExpr>),
     /// `switch`
     Switch(CaseExprs),
 }
@@ -90,18 +91,18 @@ pub type CaseExprs = Listing<CaseExpr>;
 pub struct NumberExpr {
     /// The type.
     pub form: NumForm,
-    /// How many bits.
-    pub width: Width,
     /// Whether `unsigned` stands before it.
     pub unsigned: bool,
     /// How it is shown.
     pub radix: Radix,
+    /// Whether it is the key of a case.
+    pub key: bool,
+    /// How many bits.
+    pub width: Width,
     /// Names for its values.
     pub symbols: Names,
     /// The fixed value, where there is one.
-    pub fixed: Option<Expr>,
-    /// Whether it is the key of a case.
-    pub key: bool,
+    pub fixed: Option<Box<Expr>>,
 }
 
 /// How many bits a number has. (MPW Rez.)
@@ -110,7 +111,7 @@ pub enum Width {
     /// As many as its type has.
     Own(i32),
     /// As many as is written, of a `bitstring`.
-    Written(Expr),
+    Written(Box<Expr>),
 }
 
 /// A symbol as it is written: a name, and its value where it has one. (MPW Rez.)

@@ -2,8 +2,7 @@
 
 ghost use Rattle.std.specs.Prelude.{◌≡◌, IfOk, option_map};
 ghost use Rattle.rz_core.specs.Decided.{Decided};
-ghost use Rattle.rz_expr.specs.Term.{term_of};
-ghost use Rattle.rz_stmt_fields.specs.Form.{field_form};
+ghost use Rattle.rz_stmt_fields.specs.Form.{boxed_term, field_form};
 ghost use Rattle.rz_stmt_fields.specs.Held.{held_front};
 ghost use Rattle.rz_stmt_fields.specs.Key.{is_key_value, IsKey, IsKeyFront, IsKeyNumber};
 ghost use Rattle.rz_types_fields.specs.Shape.{may_be_key};
@@ -68,8 +67,8 @@ fn read_key_number(
 }
 
 /// Whether a constant is the fixed value.
-fn is_key_value(fixed: &Option<Expr>) -> bool
-    ensures { result ≡ is_key_value (option_map term_of fixed.now) }
+fn is_key_value(fixed: &Option<Box<Expr>>) -> bool
+    ensures { result ≡ is_key_value (option_map boxed_term fixed.now) }
 {
     match fixed {
         Some(value) => is_constant(value),

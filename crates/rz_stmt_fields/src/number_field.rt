@@ -21,7 +21,7 @@ use std::alloc::Global;
 #[derive(Drop)]
 struct Tail {
     symbols: Names,
-    fixed: Option<Expr>,
+    fixed: Option<Box<Expr>>,
 }
 
 /// The number of a type that a front begins.
@@ -63,8 +63,9 @@ fn read_bits(alloc: Global, form: NumForm, front: &Front) -> Result<Option<Numbe
     let Some(width) = read_constant(alloc, split.front)? else {
         return Ok(None);
     };
+    let width = Width::Written(Box::new(alloc, width)?);
     match read_tail(alloc, form, split.behind)? {
-        Some(tail) => Ok(Some(numbered(form, Width::Written(width), front, tail))),
+        Some(tail) => Ok(Some(numbered(form, width, front, tail))),
         None => Ok(None),
     }
 }
@@ -75,12 +76,12 @@ fn numbered(form: NumForm, width: Width, front: &Front, tail: Tail) -> NumberExp
 {
     NumberExpr {
         form,
-        width,
         unsigned: front.unsigned,
         radix: shown(front.radix),
+        key: false,
+        width,
         symbols: tail.symbols,
         fixed: tail.fixed,
-        key: false,
     }
 }
 
@@ -118,7 +119,7 @@ fn read_fixed(alloc: Global, form: NumForm, tokens: &[Token]) -> Result<Option<T
     match read_fixed_value(alloc, form, tokens)? {
         Some(value) => Ok(Some(Tail {
             symbols: Names::new(alloc),
-            fixed: Some(value),
+            fixed: Some(Box::new(alloc, value)?),
         })),
         None => Ok(None),
     }

@@ -1,46 +1,99 @@
 -- Items, one more at a time.
-use Rattle.std.proofs.Common.{◌≡◌, ℕ, false, List, [], ◌∷◌, ◌++◌, length, map, take, refl, sym, ap, subst, ◌∙◌, append_assoc, arith}
-use Rattle.std.proofs.lemmas.List.{append-nil, map-append, take_all}
-use Rattle.std.specs.Borrow.{Bor}
+use Rattle.std.proofs.Common.{◌≡◌, ℕ, ◌+◌, ◌≤◌, false, List, [], ◌∷◌, ◌++◌, length, length-append, refl, sym, ap, subst, ◌∙◌, append_assoc, arith}
+use Rattle.std.proofs.lemmas.List.{append-nil}
 use Rattle.std.specs.Prelude.{◌==◌}
+use Rattle.rz_stmt_brackets.proofs.OneCut.{never_parted, one_cut, one_parting}
 use Rattle.rz_stmt_brackets.proofs.Short.{AreShort}
+use Rattle.rz_stmt_brackets.specs.Pieces.{has_divider, last, more, AreCut, IsParted, Parted}
+use Rattle.rz_stmt_brackets.specs.declared.pieces.Divider.{Divider}
+use Rattle.rz_stmt_brackets.specs.declared.pieces.Divider.TheVariants.{Separator}
 use Rattle.rz_lex.specs.declared.token.Token.{Token}
 use Rattle.rz_stmt_items.specs.Item.{PlainItem}
-use Rattle.rz_stmt_items.specs.Items.{no_more, one_more, stripped, AreEach, IsItem}
-
--- whatever items the rest is, all are those so far and they; and where all are items, so is the rest
-pub record Leads (all rest : List (List Token)) (so_far : List PlainItem) : Type 0 where
-  pub forth : (more : List PlainItem) → AreEach rest more → AreEach all (so_far ++ more)
-  pub back : (items : List PlainItem) → AreEach all items → (more : List PlainItem) × AreEach rest more
-
-pub leads_first : (all : List (List Token)) → Leads all all []
-leads_first all = record { forth = λ more are. are; back = λ items are. (items, are) }
+use Rattle.rz_stmt_items.specs.Items.{cut, no_more, one_more, stripped, AreEach, AreItems, IsItem}
 
 -- the first piece and the others
 pub each_split : (piece : List Token) (pieces : List (List Token)) (items : List PlainItem) → AreEach (piece ∷ pieces) items
     → (one : PlainItem) × (others : List PlainItem) × IsItem piece one × AreEach pieces others
 each_split piece pieces items (one_more same rest one others is each) = (one, others, is, each)
 
-module _ (all rest behind : List (List Token)) (so_far : List PlainItem) (piece : List Token) (leads : Leads all rest so_far) (are : rest ≡ piece ∷ behind) where
-  pub each_more : (one : PlainItem) (after : List PlainItem) → IsItem piece one → after ≡ so_far ++ one ∷ [] → Leads all behind after
-  each_more one after is pushed = subst (Leads all behind) (sym pushed) (record {
-    forth = λ others are_others. subst (AreEach all) (sym (append_assoc so_far (one ∷ []) others))
-        (leads.forth (one ∷ others) (subst (λ (ps : List (List Token)). AreEach ps (one ∷ others)) (sym are) (one_more piece behind one others is are_others)));
-    back = λ items are_all.
-        let found = leads.back items are_all in
-        let split = each_split piece behind found.0 (subst (λ (ps : List (List Token)). AreEach ps found.0) are found.1) in
-        (split.1, split.3);
-  })
+-- a piece in front of others stays
+stripped_more : {divider : Divider} {tokens : List Token} (piece : List Token) {pieces : List (List Token)} → AreCut divider tokens pieces
+    → stripped (piece ∷ pieces) ≡ piece ∷ stripped pieces
+stripped_more [] (last rest none) = refl
+stripped_more (token ∷ piece) (last rest none) = refl
+stripped_more [] (more whole parted pieces is are) = refl
+stripped_more (token ∷ piece) (more whole parted pieces is are) = refl
 
-  pub each_nowhere : ((one : PlainItem) → IsItem piece one → ⊥) → (items : List PlainItem) → AreEach all items → ⊥
-  each_nowhere never items are_all =
-      let found = leads.back items are_all in
-      let split = each_split piece behind found.0 (subst (λ (ps : List (List Token)). AreEach ps found.0) are found.1) in
-      never split.0 split.2
+-- The tokens before a separator are an item, and those behind it items.
+module _ (tokens : List Token) (parted : Parted) (is : IsParted Separator tokens parted) where
+  pub parted_short : length parted.front + length parted.behind + 1 ≤ length tokens
+  parted_short = omega (arith, ap (λ (ts : List Token). length ts) is.are, length-append parted.front (is.sign ∷ parted.behind))
 
-pub each_all : (all rest : List (List Token)) (so_far : List PlainItem) → Leads all rest so_far → rest ≡ [] → AreEach all so_far
-each_all all rest so_far leads none =
-    subst (AreEach all) (append-nil so_far) (leads.forth [] (subst (λ (ps : List (List Token)). AreEach ps []) (sym none) no_more))
+  items_more : (one : PlainItem) (others : List PlainItem) → IsItem parted.front one → AreItems parted.behind others → AreItems tokens (one ∷ others)
+  items_more one others item (cut same pieces them are each) =
+      cut tokens (parted.front ∷ pieces) (one ∷ others) (more tokens parted pieces is are)
+      (subst (λ (ps : List (List Token)). AreEach ps (one ∷ others)) (sym (stripped_more parted.front are)) (one_more parted.front (stripped pieces) one others item each))
+
+  items_split : (items : List PlainItem) → AreItems tokens items → (one : PlainItem) × (others : List PlainItem) × IsItem parted.front one × AreItems parted.behind others
+  items_split items (cut same pieces them are each) = by pieces are each
+    where
+      by : (pieces : List (List Token)) → AreCut Separator tokens pieces → AreEach (stripped pieces) items
+          → (one : PlainItem) × (others : List PlainItem) × IsItem parted.front one × AreItems parted.behind others
+      by pieces (last piece none) each = absurd (never_parted Separator tokens parted none is)
+      by pieces (more whole other rest also behind) each =
+          let split = each_split other.front (stripped rest) items (subst (λ (ps : List (List Token)). AreEach ps items) (stripped_more other.front behind) each) in
+          subst (λ (p : Parted). (one : PlainItem) × (others : List PlainItem) × IsItem p.front one × AreItems p.behind others) (one_parting Separator tokens other parted also is)
+          (split.0, split.1, split.2, cut other.behind rest split.1 behind split.3)
+
+-- Tokens without a separator are an item, where there are some.
+module _ (tokens : List Token) (none : has_divider Separator 0 tokens ≡ false) (some : (length tokens == 0) ≡ false) where
+  alone : stripped (tokens ∷ []) ≡ tokens ∷ []
+  alone = by tokens some
+    where
+      by : (tokens : List Token) → (length tokens == 0) ≡ false → stripped (tokens ∷ []) ≡ tokens ∷ []
+      by [] some = cc
+      by (token ∷ tokens) some = refl
+
+  items_last : (one : PlainItem) → IsItem tokens one → AreItems tokens (one ∷ [])
+  items_last one is =
+      cut tokens (tokens ∷ []) (one ∷ []) (last tokens none) (subst (λ (ps : List (List Token)). AreEach ps (one ∷ [])) (sym alone) (one_more tokens [] one [] is no_more))
+
+  items_only : (items : List PlainItem) → AreItems tokens items → (one : PlainItem) × IsItem tokens one
+  items_only items (cut same pieces them are each) =
+      let split = each_split tokens [] items
+      (subst (λ (ps : List (List Token)). AreEach ps items) (ap stripped (one_cut Separator tokens pieces (tokens ∷ []) are (last tokens none)) ∙ alone) each) in
+      (split.0, split.2)
+
+-- whatever items the rest is, all are those so far and they; and where all are items, so is the rest
+pub record Leads (all rest : List Token) (so_far : List PlainItem) : Type 0 where
+  pub forth : (more : List PlainItem) → AreItems rest more → AreItems all (so_far ++ more)
+  pub back : (items : List PlainItem) → AreItems all items → (more : List PlainItem) × AreItems rest more
+
+pub leads_first : (all : List Token) → Leads all all []
+leads_first all = record { forth = λ more are. are; back = λ items are. (items, are) }
+
+module _ (all rest : List Token) (so_far : List PlainItem) (leads : Leads all rest so_far) where
+  -- before a separator
+  module _ (parted : Parted) (is : IsParted Separator rest parted) where
+    pub leads_more : (one : PlainItem) (after : List PlainItem) → IsItem parted.front one → after ≡ so_far ++ one ∷ [] → Leads all parted.behind after
+    leads_more one after item pushed = subst (Leads all parted.behind) (sym pushed) (record {
+      forth = λ others are. subst (AreItems all) (sym (append_assoc so_far (one ∷ []) others)) (leads.forth (one ∷ others) (items_more rest parted is one others item are));
+      back = λ items are. let found = leads.back items are in let split = items_split rest parted is found.0 found.1 in (split.1, split.3);
+    })
+
+    pub leads_nowhere : ((one : PlainItem) → IsItem parted.front one → ⊥) → (items : List PlainItem) → AreItems all items → ⊥
+    leads_nowhere never items are = let found = leads.back items are in let split = items_split rest parted is found.0 found.1 in never split.0 split.2
+
+  -- at the end
+  pub leads_all : rest ≡ [] → AreItems all so_far
+  leads_all end = subst (AreItems all) (append-nil so_far) (leads.forth [] (subst (λ (ts : List Token). AreItems ts []) (sym end) (cut [] ([] ∷ []) [] (last [] refl) no_more)))
+
+  module _ (none : has_divider Separator 0 rest ≡ false) (some : (length rest == 0) ≡ false) where
+    pub leads_last : (one : PlainItem) (after : List PlainItem) → IsItem rest one → after ≡ so_far ++ one ∷ [] → AreItems all after
+    leads_last one after item pushed = subst (AreItems all) (sym pushed) (leads.forth (one ∷ []) (items_last rest none some one item))
+
+    pub leads_never : ((one : PlainItem) → IsItem rest one → ⊥) → (items : List PlainItem) → AreItems all items → ⊥
+    leads_never never items are = let found = leads.back items are in let only = items_only rest none some found.0 found.1 in never only.0 only.1
 
 -- Stripped pieces are no longer.
 
@@ -50,44 +103,3 @@ stripped_short size ([] ∷ []) are = tt
 stripped_short size ((token ∷ tokens) ∷ []) are = are
 stripped_short size ([] ∷ next ∷ pieces) are = (are.0, stripped_short size (next ∷ pieces) are.1)
 stripped_short size ((token ∷ tokens) ∷ next ∷ pieces) are = (are.0, stripped_short size (next ∷ pieces) are.1)
-
--- An empty last piece is left out.
-
-pub stripped_empty : (pieces : List (List Token)) → stripped (pieces ++ [] ∷ []) ≡ pieces
-stripped_empty [] = refl
-stripped_empty ([] ∷ []) = refl
-stripped_empty ((token ∷ tokens) ∷ []) = refl
-stripped_empty ([] ∷ next ∷ pieces) = ap (λ (ps : List (List Token)). [] ∷ ps) (stripped_empty (next ∷ pieces))
-stripped_empty ((token ∷ tokens) ∷ next ∷ pieces) = ap (λ (ps : List (List Token)). (token ∷ tokens) ∷ ps) (stripped_empty (next ∷ pieces))
-
-pub stripped_other : (pieces : List (List Token)) (first : Token) (rest : List Token) → stripped (pieces ++ (first ∷ rest) ∷ []) ≡ pieces ++ (first ∷ rest) ∷ []
-stripped_other [] first rest = refl
-stripped_other ([] ∷ []) first rest = refl
-stripped_other ((token ∷ tokens) ∷ []) first rest = refl
-stripped_other ([] ∷ next ∷ pieces) first rest = ap (λ (ps : List (List Token)). [] ∷ ps) (stripped_other (next ∷ pieces) first rest)
-stripped_other ((token ∷ tokens) ∷ next ∷ pieces) first rest = ap (λ (ps : List (List Token)). (token ∷ tokens) ∷ ps) (stripped_other (next ∷ pieces) first rest)
-
-stripped_some : (pieces : List (List Token)) (piece : List Token) → (length piece == 0) ≡ false → stripped (pieces ++ piece ∷ []) ≡ pieces ++ piece ∷ []
-stripped_some pieces [] some = cc
-stripped_some pieces (first ∷ rest) some = stripped_other pieces first rest
-
-take_before : {A : Type 0} (xs ys : List A) → take (length xs) (xs ++ ys) ≡ xs
-take_before [] ys = refl
-take_before (x ∷ xs) ys = ap (λ l. x ∷ l) (take_before xs ys)
-
-abbrev texts_of : List (Bor (List Token)) → List (List Token)
-texts_of pieces = map (λ piece. piece.now) pieces
-
-module _ (pieces before : List (Bor (List Token))) (end : Bor (List Token)) (are : pieces ≡ before ++ end ∷ []) where
-  whole : stripped (texts_of pieces) ≡ stripped (texts_of before ++ end.now ∷ [])
-  whole = ap (λ (ps : List (Bor (List Token))). stripped (texts_of ps)) are ∙ ap stripped (map-append (λ piece. piece.now) before (end ∷ []))
-
-  pub empty_left_out : end.now ≡ [] → texts_of (take (length before) pieces) ≡ stripped (texts_of pieces)
-  empty_left_out none =
-      ap (λ (ps : List (Bor (List Token))). texts_of (take (length before) ps)) are ∙ ap texts_of (take_before before (end ∷ []))
-      ∙ sym (whole ∙ ap (λ (p : List Token). stripped (texts_of before ++ p ∷ [])) none ∙ stripped_empty (texts_of before))
-
-  pub other_kept : (length end.now == 0) ≡ false → texts_of (take (length pieces) pieces) ≡ stripped (texts_of pieces)
-  other_kept some =
-      ap texts_of (take_all (length pieces) pieces (omega arith) ∙ are) ∙ map-append (λ piece. piece.now) before (end ∷ [])
-      ∙ sym (whole ∙ stripped_some (texts_of before) end.now some)

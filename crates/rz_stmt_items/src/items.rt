@@ -10,7 +10,7 @@ use crate::simple::read_simple;
 use rz_core::{Mark, NoMemory, Word};
 use rz_expr::role_of;
 use rz_lex::{Shape, Token};
-use rz_stmt_brackets::{Bracket, Divider, begins, bracketed, pieces_by};
+use rz_stmt_brackets::{Bracket, Divider, begins, bracketed, split_at};
 use std::alloc::Global;
 
 /// The items that the tokens are.
@@ -18,14 +18,22 @@ use std::alloc::Global;
 pub fn read_items(alloc: Global, tokens: &[Token]) -> Result<Option<Items>, NoMemory>
     ensures { IfOk result (λ items. Decided (AreItems tokens.now) (option_map plain_items items)) }
 {
-    let pieces = pieces_by(alloc, tokens, Divider::Separator)?;
-    let mut items = Items::with_capacity(alloc, pieces.len())?;
-    for piece in stripped(&pieces) {
-        let Some(item) = read_item(alloc, piece)? else {
+    let mut items = Items::new(alloc);
+    let mut rest = tokens;
+    while let Some(split) = split_at(rest, Divider::Separator) {
+        let Some(item) = read_item(alloc, split.front)? else {
             return Ok(None);
         };
         items.push(item)?;
+        rest = split.behind;
     }
+    if rest.is_empty() {
+        return Ok(Some(items));
+    }
+    let Some(item) = read_item(alloc, rest)? else {
+        return Ok(None);
+    };
+    items.push(item)?;
     Ok(Some(items))
 }
 
@@ -108,29 +116,5 @@ fn name_in(shape: &Shape) -> Option<&Word>
             }
         }
         _ => None,
-    }
-}
-
-/// The pieces without the last of them, where that is empty.
-fn stripped<'a, 'b>(pieces: &'b [&'a [Token]]) -> &'b [&'a [Token]]
-    ensures { map (λ piece. piece.now) result.now ≡ stripped (map (λ piece. piece.now) pieces.now) }
-{
-    pieces.split_at(kept(pieces)).0
-}
-
-/// How many pieces there are without the last of them, where that is empty.
-fn kept(pieces: &[&[Token]]) -> usize
-    ensures kept { map (λ piece. piece.now) (take result pieces.now) ≡ stripped (map (λ piece. piece.now) pieces.now) }
-    ensures within { result ≤ length pieces.now }
-{
-    match pieces.split_last() {
-        Some((last, before)) => {
-            if last.is_empty() {
-                before.len()
-            } else {
-                pieces.len()
-            }
-        }
-        None => 0,
     }
 }

@@ -76,11 +76,14 @@ fn read_array(alloc: Global, tokens: &[Token]) -> Result<Option<FieldExpr>, NoMe
         return Ok(None);
     };
     match read_body(alloc, false, false, front.row)? {
-        Some(row) => Ok(Some(FieldExpr::Array(ArrayExpr {
-            name: front.name,
-            count: front.count,
-            row,
-        }))),
+        Some(row) => {
+            let array = ArrayExpr {
+                name: front.name,
+                count: front.count,
+                row,
+            };
+            Ok(Some(FieldExpr::Array(Box::new(alloc, array)?)))
+        }
         None => Ok(None),
     }
 }

@@ -6,7 +6,7 @@ ghost use Rattle.rz_core.specs.Stop.{Gives, OnFault, seen};
 ghost use Rattle.rz_expr.specs.Term.{term_of};
 ghost use Rattle.rz_types_fields.specs.Field.{plain_array, plain_body, plain_case, plain_cases, plain_field, plain_number};
 ghost use Rattle.rz_stmt_type.specs.Constants.{body_value, case_value, cases_value, count_value, declare_of, declared, field_value, given_value, key_value, made_of, made_value, number_of_width, number_value, scope_value, two_value, width_value};
-ghost use Rattle.rz_stmt_fields.specs.Form.{array_form, body_form, case_form, cases_form, declare_form, field_form, made_form, number_form, scope_form, width_form};
+ghost use Rattle.rz_stmt_fields.specs.Form.{array_form, body_form, boxed_term, case_form, cases_form, declare_form, field_form, made_form, number_form, scope_form, width_form};
 
 use crate::values::values_of;
 use rz_core::{Fault, Mark, OsType, Stop};
@@ -17,6 +17,9 @@ use rz_stmt_fields::{
 };
 use rz_types_fields::{ArrayField, Body, Case, Cases, Field, NumField, constant_value};
 use std::alloc::Global;
+
+/// The room of fewer fields isn't given back while others wait.
+const LEAST_SPARE: usize = 1024;
 
 /// For which ids a declaration is, as the statement says it. (MPW Rez.)
 #[derive(Clone, Copy, PartialEq, Eq)]
@@ -137,19 +140,34 @@ fn value_given(alloc: Global, mark: Mark, given: &Option<Expr>) -> Result<Option
     }
 }
 
-/// The fields, one after the other.
+/// The fields, one after the other. The memory of those that have their values is given back, so that the fields never
+/// stand twice.
 #[cycle(constants)]
 fn value_body(alloc: Global, mark: Mark, fields: FieldExprs) -> Result<Body, Stop<Fault>>
     ensures { Gives (body_value mark (body_form fields)) (seen plain_body result) }
 {
     let mut body = Body::new(alloc);
-    for field in fields.into_vec() {
+    let mut left = fields.into_vec();
+    left.reverse();
+    while let Some(field) = left.pop() {
         match value_field(alloc, mark, field) {
             Ok(field) => body.push(field)?,
             Err(stop) => return Err(stop),
         }
+        give_back(&mut left);
     }
     Ok(body)
+}
+
+/// Gives back the memory behind the fields, once it is that of many and more than an eighth of all.
+fn give_back(left: &mut Vec<FieldExpr>)
+    ensures { left.new.items ≡ left.old.items }
+{
+    let room = left.capacity();
+    let spare = room.saturating_sub(left.len());
+    if spare > LEAST_SPARE && spare > room / 8 {
+        left.shrink_to_fit();
+    }
 }
 
 #[cycle(constants)]
@@ -161,7 +179,7 @@ fn value_field(alloc: Global, mark: Mark, field: FieldExpr) -> Result<Field, Sto
             Ok(number) => Ok(Field::Num(number)),
             Err(stop) => Err(stop),
         },
-        FieldExpr::Text(text) => Ok(Field::Text(text)),
+        FieldExpr::Text(text) => Ok(Field::Text(Box::into_inner(text))),
         FieldExpr::Points(points) => Ok(Field::Points(points)),
         FieldExpr::Fill(unit, count) => match value_count(alloc, mark, &count) {
             Ok(count) => Ok(Field::Fill(unit, count)),
@@ -169,7 +187,7 @@ fn value_field(alloc: Global, mark: Mark, field: FieldExpr) -> Result<Field, Sto
         },
         FieldExpr::Align(unit) => Ok(Field::Align(unit)),
         FieldExpr::Label(name) => Ok(Field::Label(name)),
-        FieldExpr::Array(array) => match value_array(alloc, mark, array) {
+        FieldExpr::Array(array) => match value_array(alloc, mark, Box::into_inner(array)) {
             Ok(array) => Ok(Field::Array(array)),
             Err(stop) => Err(stop),
         },
@@ -251,8 +269,13 @@ fn value_number(alloc: Global, mark: Mark, number: NumberExpr) -> Result<NumFiel
 }
 
 /// The fixed value of a key, which is computed and not kept.
-fn value_key(alloc: Global, mark: Mark, key: bool, fixed: &Option<Expr>) -> Result<(), Stop<Fault>>
-    ensures { Gives (key_value mark key (option_map term_of fixed.now)) result }
+fn value_key(
+    alloc: Global,
+    mark: Mark,
+    key: bool,
+    fixed: &Option<Box<Expr>>,
+) -> Result<(), Stop<Fault>>
+    ensures { Gives (key_value mark key (option_map boxed_term fixed.now)) result }
 {
     match fixed {
         Some(value) if key => match constant_value(alloc, value, mark) {
@@ -287,9 +310,19 @@ fn make_number(
             unsigned: number.unsigned,
             radix: number.radix,
             symbols,
-            fixed: number.fixed,
+            fixed: unboxed(number.fixed),
             key: number.key,
         }),
         Err(stop) => Err(stop),
+    }
+}
+
+/// The fixed value without its box.
+fn unboxed(fixed: Option<Box<Expr>>) -> Option<Expr>
+    ensures { option_map term_of result ≡ option_map boxed_term fixed }
+{
+    match fixed {
+        Some(value) => Some(Box::into_inner(value)),
+        None => None,
     }
 }

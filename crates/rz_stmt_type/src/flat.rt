@@ -50,7 +50,7 @@ fn read_text_field(
         return Ok(None);
     };
     match read_text(alloc, hex, form, front.tail)? {
-        Some(text) => Ok(Some(FieldExpr::Text(text))),
+        Some(text) => Ok(Some(FieldExpr::Text(Box::new(alloc, text)?))),
         None => Ok(None),
     }
 }

@@ -1,22 +1,19 @@
-use Rattle.std.proofs.Common.{◌+◌, Bor, List, [], ◌∷◌, Some, drop, length, map, sym, ap, subst, ◌∙◌}
-use Rattle.std.proofs.lemmas.Bool.{eqb-false}
-use Rattle.std.proofs.lemmas.List.{at_drop_more, drop_all, map-append}
+use Rattle.std.proofs.Common.{List, [], ◌∷◌, Some, length, sym, ap, subst, ◌∙◌, arith}
+use Rattle.std.proofs.lemmas.Bool.{eqb-false, eqb-true}
+use Rattle.std.proofs.lemmas.List.{map-append, nil_from_length}
 use Rattle.std.specs.Prelude.{option_map}
 use Rattle.rz_stmt_brackets.specs.Held.{held_split}
-use Rattle.rz_stmt_brackets.specs.Pieces.{AreCut, Parted}
+use Rattle.rz_stmt_brackets.specs.Pieces.{Parted}
 use Rattle.rz_stmt_brackets.specs.declared.bracket.Bracket.TheVariants.{Curly}
-use Rattle.rz_stmt_brackets.specs.declared.pieces.Divider.TheVariants.{Separator}
 use Rattle.rz_core.specs.Decided.{Decided}
 use Rattle.rz_core.specs.declared.resource.Word.{Word}
 use Rattle.rz_lex.specs.declared.token.Token.{Token}
 use Rattle.rz_stmt_items.specs.Item.{plain_item, plain_items}
-use Rattle.rz_stmt_items.specs.Items.{cut, AreEach, IsItem}
+use Rattle.rz_stmt_items.specs.Items.{IsItem}
 use Rattle.rz_stmt_items.specs.Simple.{IsSimple}
 use Rattle.rz_stmt_brackets.proofs.OneBracket.{never_within, same_within}
-use Rattle.rz_stmt_brackets.proofs.Short.{cut_short, AreShort}
 use Rattle.rz_stmt_data.proofs.Answering.{ok_so}
-use Rattle.rz_stmt_items.proofs.Answering.{no_items}
-use Rattle.rz_stmt_items.proofs.Each.{each_all, each_more, each_nowhere, leads_first, stripped_short, Leads}
+use Rattle.rz_stmt_items.proofs.Each.{leads_all, leads_first, leads_last, leads_more, leads_never, leads_nowhere, parted_short, Leads}
 use Rattle.rz_stmt_items.proofs.First.{listed_here, named_here, simple_here}
 use Rattle.rz_stmt_items.proofs.items.+items.Goals as goal
 
@@ -48,46 +45,44 @@ read_item-returns-in-None t c =
     (sym c.in-None.ensures))
     c.read_simple.result c.read_simple.ensures
 
-pub read_items-loop-piece-init : goal.read_items-loop-piece-init
-read_items-loop-piece-init t c = record {
-  leads = subst (Leads (map (λ piece. piece.now) c.stripped-piece-items.result.now) (map (λ piece. piece.now) c.stripped-piece-items.result.now))
-      (sym (ap plain_items c.in_ok-items.ensures)) (leads_first (map (λ piece. piece.now) c.stripped-piece-items.result.now));
-  short = subst (AreShort (length c.args.tokens.now)) (sym c.stripped-piece-items.ensures)
-      (stripped_short (length c.args.tokens.now) (map (λ piece. piece.now) c.deref.result.now)
-      (cut_short Separator c.args.tokens.now (map (λ piece. piece.now) c.deref.result.now)
-      (subst (λ (ps : List (Bor (List Token))). AreCut Separator c.args.tokens.now (map (λ piece. piece.now) ps)) (sym c.deref.ensures.value) c.in_ok-pieces.ensures.cut)));
+pub read_items-loop-split-init : goal.read_items-loop-split-init
+read_items-loop-split-init t c = record {
+  leads = subst (Leads c.args.tokens.now c.args.tokens.now) (sym (ap plain_items c.new-items.ensures)) (leads_first c.args.tokens.now);
+  short = omega arith;
 }
 
-pub read_items-returns-in_default : goal.read_items-returns-in_default
-read_items-returns-in_default t c =
-    let pieces = c.stripped-piece-items.result.now in
-    let i = c.loop-piece.piece-index in
-    let d = c.piece-item.result in
-    no_items c.args.tokens.now (map (λ piece. piece.now) c.deref.result.now)
-    (λ others is. ap (map (λ piece. piece.now)) c.deref.ensures.value ∙ c.in_ok-pieces.ensures.every others is)
-    (λ items each. each_nowhere (map (λ piece. piece.now) pieces) (map (λ piece. piece.now) (drop i pieces)) (map (λ piece. piece.now) (drop (i + 1) pieces))
-    (plain_items c.loop-piece.items) d.now c.loop-piece.invariant.leads
-    (at_drop_more (map (λ piece. piece.now)) pieces i d c.loop-piece-test.true ∙ ap (λ piece. piece.now ∷ map (λ piece. piece.now) (drop (i + 1) pieces)) (sym c.piece-item.is))
-    (rw c.in_default.is at c.in_ok-item.ensures) items (subst (λ (ps : List (List Token)). AreEach ps items) (sym c.stripped-piece-items.ensures) each))
+pub read_items-read_item-requires : goal.read_items-read_item-requires
+read_items-read_item-requires t c =
+    let short = parted_short c.loop-split.rest.now (held_split c.in-Some.split) c.in-Some.ensures.found in
+    (omega (arith, c.decreases, short, c.loop-split.invariant.short), tt)
 
-pub read_items-loop-piece-preserved : goal.read_items-loop-piece-preserved
-read_items-loop-piece-preserved t c =
-    let pieces = c.stripped-piece-items.result.now in
-    let i = c.loop-piece.piece-index in
-    let d = c.piece-item.result in
-    let are = at_drop_more (map (λ piece. piece.now)) pieces i d c.loop-piece-test.true ∙ ap (λ piece. piece.now ∷ map (λ piece. piece.now) (drop (i + 1) pieces)) (sym c.piece-item.is) in record {
-      leads = each_more (map (λ piece. piece.now) pieces) (map (λ piece. piece.now) (drop i pieces)) (map (λ piece. piece.now) (drop (i + 1) pieces))
-          (plain_items c.loop-piece.items) d.now c.loop-piece.invariant.leads are
-          (plain_item c.in-Some.item) (plain_items c.push.new.self) (rw c.in-Some.is at c.in_ok-item.ensures)
-          (ap plain_items c.in_ok-push.ensures.ok ∙ map-append plain_item c.loop-piece.items (c.in-Some.item ∷ []));
-      short = (subst (AreShort (length c.args.tokens.now)) are c.loop-piece.invariant.short).1;
+pub read_items-loop-split-preserved : goal.read_items-loop-split-preserved
+read_items-loop-split-preserved t c =
+    let loop = c.loop-split in
+    let short = parted_short loop.rest.now (held_split c.in-Some.split) c.in-Some.ensures.found in record {
+      leads = leads_more c.args.tokens.now loop.rest.now (plain_items loop.items) loop.invariant.leads (held_split c.in-Some.split) c.in-Some.ensures.found
+          (plain_item c.in-Some-2.item) (plain_items c.push.new.self) (rw c.in-Some-2.is at c.in_ok-item.ensures)
+          (ap plain_items c.in_ok-push.ensures.ok ∙ map-append plain_item loop.items (c.in-Some-2.item ∷ []));
+      short = omega (arith, short, loop.invariant.short);
     }
+
+pub read_items-returns-in_default-2 : goal.read_items-returns-in_default-2
+read_items-returns-in_default-2 t c =
+    leads_nowhere c.args.tokens.now c.loop-split.rest.now (plain_items c.loop-split.items) c.loop-split.invariant.leads (held_split c.in-Some.split) c.in-Some.ensures.found
+    (rw c.in_default-2.is at c.in_ok-item.ensures)
+
+pub read_items-returns-then-is_empty : goal.read_items-returns-then-is_empty
+read_items-returns-then-is_empty t c =
+    leads_all c.args.tokens.now c.loop-split.rest.now (plain_items c.loop-split.items) c.loop-split.invariant.leads
+    (nil_from_length c.loop-split.rest.now (eqb-true (length c.loop-split.rest.now) 0 (sym c.if-is_empty.ensures)))
+
+pub read_items-returns-in_default-3 : goal.read_items-returns-in_default-3
+read_items-returns-in_default-3 t c =
+    leads_never c.args.tokens.now c.loop-split.rest.now (plain_items c.loop-split.items) c.loop-split.invariant.leads c.in_default.ensures.none (sym c.if-is_empty.ensures)
+    (rw c.in_default-3.is at c.in_ok-item-2.ensures)
 
 pub read_items-returns : goal.read_items-returns
 read_items-returns t c =
-    let pieces = c.stripped-piece-items.result.now in
-    cut c.args.tokens.now (map (λ piece. piece.now) c.deref.result.now) (plain_items c.loop-piece.items)
-    (subst (λ (ps : List (Bor (List Token))). AreCut Separator c.args.tokens.now (map (λ piece. piece.now) ps)) (sym c.deref.ensures.value) c.in_ok-pieces.ensures.cut)
-    (subst (λ (ps : List (List Token)). AreEach ps (plain_items c.loop-piece.items)) c.stripped-piece-items.ensures
-    (each_all (map (λ piece. piece.now) pieces) (map (λ piece. piece.now) (drop c.loop-piece.piece-index pieces)) (plain_items c.loop-piece.items) c.loop-piece.invariant.leads
-    (ap (map (λ piece. piece.now)) (drop_all c.loop-piece.piece-index pieces c.loop-piece-test.false))))
+    leads_last c.args.tokens.now c.loop-split.rest.now (plain_items c.loop-split.items) c.loop-split.invariant.leads c.in_default.ensures.none (sym c.if-is_empty.ensures)
+    (plain_item c.in-Some-3.item) (plain_items c.push-2.new.self) (rw c.in-Some-3.is at c.in_ok-item-2.ensures)
+    (ap plain_items c.in_ok-push-2.ensures.ok ∙ map-append plain_item c.loop-split.items (c.in-Some-3.item ∷ []))

@@ -1,6 +1,5 @@
-use Rattle.std.proofs.Common.{◌+◌, ◌*◌, drop, length, map}
+use Rattle.std.proofs.Common.{◌+◌, ◌*◌, ◌≤◌, length}
 use Rattle.rz_stmt_items.specs.Item.{plain_items}
-use Rattle.rz_stmt_brackets.proofs.Short.{AreShort}
 use Rattle.rz_stmt_items.proofs.Each.{Leads}
 use Rattle.rz_stmt_items.proofs.items.+items.Given as goal
 
@@ -13,8 +12,8 @@ decreases-read_item l = 4 * length l.tokens.now + 2
 abbrev pub decreases-read_braced : goal.decreases-read_braced
 decreases-read_braced l = 4 * length l.tokens.now + 1
 
-abbrev pub invariant-read_items-loop-piece : goal.invariant-read_items-loop-piece
-invariant-read_items-loop-piece l = record {
-  leads : Leads (map (λ piece. piece.now) l.piece-items) (map (λ piece. piece.now) (drop l.piece-index l.piece-items)) (plain_items l.items);
-  short : AreShort (length l.tokens) (map (λ piece. piece.now) (drop l.piece-index l.piece-items));
-}
+abbrev pub invariant-read_items-loop-split : goal.invariant-read_items-loop-split
+invariant-read_items-loop-split l = record { leads : Leads l.tokens l.rest (plain_items l.items); short : length l.rest ≤ length l.tokens }
+
+abbrev pub decreases-read_items-loop-split : goal.decreases-read_items-loop-split
+decreases-read_items-loop-split l = length l.rest

@@ -28,13 +28,13 @@ use Rattle.rz_stmt_type.proofs.body.+body.Goals as goal
 pub read_array-returns-in_default : goal.read_array-returns-in_default
 read_array-returns-in_default t c field is = let never = rw c.in_default.is at c.in_ok-front.ensures in never is.0 is.2
 
-pub read_array-returns-in-Some-2 : goal.read_array-returns-in-Some-2
-read_array-returns-in-Some-2 t c = (
+pub read_array-returns-in_ok-new-in-Some-2 : goal.read_array-returns-in_ok-new-in-Some-2
+read_array-returns-in_ok-new-in-Some-2 t c = (
   held_array c.in-Some.front,
   body_form c.in-Some-2.row,
   rw c.in-Some.is at c.in_ok-front.ensures,
   rw c.in-Some-2.is at c.in_ok-row.ensures,
-  array_is c.in-Some.front.name c.in-Some.front.count c.in-Some-2.row,
+  array_is c.in_ok-new-in-Some-2.field-0 c.in-Some.front.name c.in-Some.front.count c.in-Some-2.row c.in_ok-new-in-Some-2.ensures.ok,
 )
 
 pub read_array-returns-in-None : goal.read_array-returns-in-None
