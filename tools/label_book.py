@@ -1,14 +1,17 @@
 """A case file of types with labels: each row stands as fields and values, and in part with its bytes or its fault by hand.
 
-labels.py tells what comes, and what label_spelling.py says of the bytes must be the same. label_cases.py and
-late_cases.py stand on it.
+labels.py tells what comes, and what label_spelling.py says of the bytes must be the same. Of `derez` label_reading.py
+tells which bytes are rows, and shown.py, which reads the text of the type, has to say so too. label_cases.py,
+late_cases.py and the scripts on what `derez` shows stand on it.
 """
 import re
 
+import shown
 from casefile import Book, image
 from fork import spelled as bytes_spelled
+from label_reading import read
 from label_spelling import is_spelled
-from label_types import (Align, Array, Fill, Refused, Switch, bits_at, byte, byte_at, field_bits, integer, items_text, key,
+from label_types import (Align, Array, Fill, Number, Points, Refused, Switch, bits_at, byte, byte_at, field_bits, integer, items_text, key,
                          long_at, longint, num, number, points, text, type_text, word_at)
 from labels import FACTS, bytes_of, check
 
@@ -29,9 +32,14 @@ class Cases:
 
     names = set()
 
-    def __init__(self, name, script, says):
+    def __init__(self, name, script, says, read_back=None):
         self.book = Book(name, says, WRITTEN % script)
         self.say = self.book.say
+        self.read_back = read_back and Shown(read_back, script, "What derez shows of the rows of %s." % name)
+
+    def finish(self):
+        """Writes the files; with --check it says whether they are what stands there."""
+        return self.book.finish() & (self.read_back is None or self.read_back.book.finish())
 
     def add(self, name, source, resources, error, words="rez s.r -o x", keys=(), files=()):
         """A case with its source, and the resources or the line that come."""
@@ -53,7 +61,11 @@ class Cases:
             found = bytes_of(body, values, facts)
             agree(is_spelled(body, values, facts, found), name, source, found.hex(), "isn't spelled")
             agree(by_hand is None or found == wanted, name, source, found.hex(), by_hand)
-            self.add(name, source, [(b"Test", facts["ID"], facts["Name"], facts["Attributes"], found)], None)
+            resource = (b"Test", facts["ID"], facts["Name"], facts["Attributes"], found)
+            self.add(name, source, [resource], None)
+            if self.read_back:
+                told = "d" if read(body, found, facts_of(resource)) is None else "r"
+                self.read_back.add(name, type_text(body), [resource], told, again=False)
         except Refused as fault:
             agree(by_hand is None or str(fault) == by_hand, name, source, str(fault), by_hand)
             self.add(name, source, None, "s.r:%d: error %s" % (line, fault))
@@ -65,6 +77,76 @@ class Cases:
             self.add(name, source, None, "s.r:%d: error %s" % given)
         else:
             self.add(name, source, [(b"Test", k + 1, b"", 0, bytes_spelled(each)) for k, each in enumerate(given)], None)
+
+
+class Shown:
+    """Cases of `derez` of types with labels, and of `rez` on what it shows."""
+
+    names = set()
+
+    def __init__(self, name, script, says):
+        self.book = Book(name, says, WRITTEN_OF_SHOWN % script)
+        self.say = self.book.say
+
+    def case(self, name, body, marks, *contents, out=None, kind="Test", first=1, also=""):
+        """A type and resources of it with the ids from the first on, each bytes in the pieces of fork.py, or a row.
+
+        The marks by hand say of each whether it is shown by a `resource` statement, `r`, or as bytes, `d`; so may the
+        whole text. A row that has no bytes is given with zeros in the fixed numbers of the type.
+        """
+        check(body)
+        types = also + type_text(body, kind)
+        resources = [(kind.encode(), first + k, b"", 0, content_of(body, each, first + k)) for k, each in enumerate(contents)]
+        told = "".join("r" if read(body, each[4], facts_of(each)) is not None else "d" for each in resources)
+        agree(marks in (None, told), name, types + str([each[4].hex() for each in resources]), told, marks)
+        self.add(name, types, resources, told, out)
+
+    def add(self, name, types, resources, told, out=None, again=True):
+        """A case of `derez` of resources, of which the model told which ones are shown, and the text back."""
+        assert name not in self.names, name
+        self.names.add(name)
+        fork = image(resources)
+        text = shown.derez(["f", "t.r"], {"f": fork, "t.r": types.encode()})
+        agree(told == "".join(line[0] for line in text.split("\n") if re.match("(resource|data) '", line)),
+            name, types, text, told)
+        agree(out in (None, text), name, types, text, out)
+        self.book.case("shown: " + name, "derez f t.r", [("f", fork), ("t.r", types)], (), 0, (), (), text, "")
+        if again and "r" in told:
+            self.book.case("again: " + name, "rez t.r s.r -o x", [("t.r", types), ("s.r", text)], (), 0, [("x", fork)], (), "", "")
+
+
+WRITTEN_OF_SHOWN = ("Written by tools/%s. What is shown is told by tools/label_reading.py and tools/shown.py, and in part by hand; "
+                    "again: is the text that is shown.")
+
+
+def facts_of(resource):
+    return shown.all_facts(resource + (0,))
+
+
+def with_zeros(body):
+    """The fields with zeros in place of fixed numbers, but of keys."""
+    out = []
+    for field in body:
+        if isinstance(field, Number) and field.fixed and not field.key:
+            field = field._replace(fixed=number(0))
+        elif isinstance(field, Points) and field.fixed:
+            field = field._replace(fixed=[number(0)] * field.count)
+        elif isinstance(field, Array):
+            field = field._replace(row=with_zeros(field.row))
+        elif isinstance(field, Switch):
+            field = Switch([(name, with_zeros(row)) for name, row in field.cases])
+        out.append(field)
+    return out
+
+
+def content_of(body, given, ident):
+    if isinstance(given, str):
+        return bytes_spelled(given)
+    facts = facts_of((b"Test", ident, b"", 0, b""))
+    try:
+        return bytes_of(body, given, facts)
+    except Refused:
+        return bytes_of(with_zeros(body), given, facts)
 
 
 # Fields of each kind, with the values of their items.

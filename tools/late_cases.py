@@ -13,7 +13,8 @@ from label_book import Cases, FUNCTIONS, KINDS, WRONG
 from label_types import (Align, Array, Fill, Format, Label, Switch, at, bits_at, byte, byte_at, field_bits, integer, key,
                          long_at, longint, num, number, points, rows_of, text, word_at)
 
-LATE = Cases("late.cases", "late_cases.py", "Numbers that are computed after all others, what reads bits, and the order of refusals.")
+LATE = Cases("late.cases", "late_cases.py", "Numbers that are computed after all others, what reads bits, and the order of refusals.",
+    "late_read.cases")
 
 
 # Bits.
@@ -355,8 +356,8 @@ def refusals():
 def main():
     for section in (reading, lateness, late_rows, refusals):
         section()
-    done = [cases.book.finish() for cases in (LATE,)]
-    sys.exit(0 if all(done) and not WRONG else 1)
+    done = LATE.finish()
+    sys.exit(0 if done and not WRONG else 1)
 
 
 if __name__ == "__main__":

@@ -4,15 +4,18 @@
     python3 tools/random_rows.py SEED COUNT > FOLDER/random.cases
 
 Each two cases have one random declaration and resources of it: most spell a row, and some of these are changed in a
-byte, cut or lengthened; now and then a name is a live macro. The first case has what `derez` shows, and the second has
-this text behind the type file, from which `rez` must make the fork again. This is no part of the gate: the program can
-be tried against it for as long as one likes.
+byte, cut or lengthened; now and then a name is a live macro. Every other declaration has labels, by random_types.py. The
+first case has what `derez` shows, and the second has this text behind the type file, from which `rez` must make the fork
+again. This is no part of the gate: the program can be tried against it for as long as one likes.
 """
 import random
 import sys
 
 import shown
 from fork import fork_of
+from label_reading import read
+from label_types import type_text
+from random_types import LONG, changed, row_bytes, some_type
 
 NAMES = ["one", "Two", "three", "locked", "true", "kFour", "_five", "ONE"]
 FORMS = ["byte", "integer", "longint", "boolean", "char", "bitstring"]
@@ -123,7 +126,7 @@ def row_bits(fields, facts, counts, before=0):
         elif field["is"] == "text":
             text = some_text(field, counts, facts)
             if field["fixed"] is not None:
-                text = b"".join(facts[2] if each == "$$Name" else shown.bytes_of(each) for each in field["fixed"])
+                text = b"".join(shown.part_bytes(each, facts) for each in field["fixed"])
             stored = shown.text_bits(field, text, counts, facts)
             out += bits_of(int.from_bytes(stored, "big"), 8 * len(stored))
         elif field["is"] == "fill":
@@ -138,10 +141,21 @@ def row_bits(fields, facts, counts, before=0):
     return out
 
 
-def some_resource(fields, ident):
+def some_head(ident):
     name = bytes(random.choice(b'ab"\\\0\xE9') for _ in range(random.choice([0, 0, 1, 5, 65, 130])))
     attr = random.choice([0, 0, 0x20, 0x7E, random.randrange(256)])
-    facts = (b"Rand", ident, name, attr, b"")
+    return b"Rand", ident, name, attr, b""
+
+
+def labelled_resource(body, ident):
+    """A resource of a type with labels."""
+    head = some_head(ident)
+    content = row_bytes(body, shown.all_facts(head), LONG)
+    return head[:4] + (changed(content) if random.random() < 0.4 else content,)
+
+
+def some_resource(fields, ident):
+    facts = some_head(ident)
     bits = row_bits(fields, facts, {})
     bits += "0" * (-len(bits) % 8)
     content = bytearray(int(bits[at:at + 8], 2) for at in range(0, len(bits), 8))
@@ -163,17 +177,40 @@ def byte_lines(content):
     return "".join("| %s\n" % content[at:at + 64].hex() for at in range(0, len(content), 64))
 
 
+MACROS = [""] * 4 + ["#define one\n", "#define Two 2\n", "#define TRUTH\n#define three four\n"]
+
+
+def some_idents():
+    return random.sample(range(-3, 4), random.randrange(1, 4))
+
+
+def labelled():
+    """A declaration with labels, and resources of it."""
+    body = some_type(2, 3)
+    resources = [labelled_resource(body, ident) for ident in some_idents()]
+    types = type_text(body, "Rand")
+    fields = shown.declarations_of(shown.tokens_of(types))[0][3]
+    for each in resources:
+        row = read(body, each[4], shown.all_facts(each))
+        assert (row is None) == (shown.row_by_both(fields, each[4], each) is None), types
+    return types, resources
+
+
+def unlabelled():
+    """A declaration without labels, and resources of it."""
+    while True:
+        types = "type 'Rand' { %s };\n" % Declaration().whole()
+        fields = shown.declarations_of(shown.tokens_of(types))[0][3]
+        try:
+            return types, [some_resource(fields, ident) for ident in some_idents()]
+        except shown.NoRow:
+            pass
+
+
 def cases(k):
     """The two cases of a random declaration."""
-    fields = None
-    while fields is None:
-        types = "type 'Rand' { %s };\n" % Declaration().whole()
-        types += random.choice([""] * 4 + ["#define one\n", "#define Two 2\n", "#define TRUTH\n#define three four\n"])
-        fields = shown.declarations_of(shown.tokens_of(types.split("\n")[0]))[0][3]
-        try:
-            resources = [some_resource(fields, ident) for ident in random.sample(range(-3, 4), random.randrange(1, 4))]
-        except shown.NoRow:
-            fields = None
+    types, resources = labelled() if random.random() < 0.5 else unlabelled()
+    types += random.choice(MACROS)
     fork = fork_of(resources)
     text = shown.derez(["f", "t.r"], {"f": fork, "t.r": types.encode()})
     given = "file text t.r\n" + text_lines(types)

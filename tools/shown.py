@@ -16,13 +16,17 @@ A declaration is a list of fields, each a dictionary:
     {"is": "fill", "bits"}    {"is": "align", "bits"}     {"is": "array", "name", "count", "row"}
     {"is": "switch", "cases": [(name, fields)]}           {"is": "label", "name"}
 
-where fixed values and sizes are expressions: numbers, names in lower case, and tuples of an operator and operands.
+where fixed values and sizes are expressions: numbers, names in lower case, and tuples of an operator and operands. The
+fixed value of a text is a list of bytes, of facts in lower case, and of formats: tuples of "format", bytes, and a list of
+expressions and lists. Rows of types with labels or formats are told by label_reading.py; those of all other short
+resources are told by both, which have to agree.
 """
 import re
 import sys
 from datetime import datetime, timedelta
 
 from forms import form_of, read_form
+from label_forms import FACTS, has_name_or_format, row_by_labels
 
 WORDS = set("""type resource data include read change delete as to not array wide switch case key fill align bit nibble
 byte word long integer longint bitstring boolean char string pstring wstring cstring point rect hex decimal octal binary
@@ -34,8 +38,11 @@ LEVELS = (("||",), ("&&",), ("|",), ("^",), ("&",), ("==", "!="), (">=", "<=", "
           ("*", "/", "%"))
 FORMS = {"boolean": 1, "byte": 8, "char": 8, "integer": 16, "longint": 32, "bitstring": 0}
 UNITS = {"bit": 1, "nibble": 4, "byte": 8, "word": 16, "long": 32}
+FUNCTIONS = {"$$bitfield": "BitField", "$$byte": "Byte", "$$word": "Word", "$$long": "Long"}
+TEXT_FACTS = ("$$name", "$$date", "$$time", "$$version")
 LENGTHS = {"string": 0, "cstring": 0, "pstring": 8, "wstring": 16}
 MOST_VALUES = 1048576
+BOTH = 5000  # so many bytes are read in both ways
 
 
 class NoRow(Exception):
@@ -85,8 +92,6 @@ def program_of(name, files, paths, macros):
     for line in files[name].replace("\\\n", "").split("\n"):
         if not line.lstrip().startswith("#"):
             out += expand(tokens_of(line), macros)
-            if "$$format" in (token.lower() for token in out):
-                raise NotImplementedError("$$Format")
             continue
         word, *rest = tokens_of(line.lstrip()[1:])
         if word == "define":
@@ -149,9 +154,9 @@ class Reader:
             name = self.next().lower()
             self.want(")")
             return ("count", name)
-        if token.lower() in ("$$bitfield", "$$byte", "$$word", "$$long"):
+        if token.lower() in FUNCTIONS:
             self.want("(")
-            bits = ("bits", self.next().lower())
+            bits = ("bits", FUNCTIONS[token.lower()], self.next().lower())
             while self.take(","):
                 bits += (self.expression(),)
             self.want(")")
@@ -211,10 +216,28 @@ class Reader:
             size = self.expression()
             self.want("]")
         if self.take("="):
-            fixed = []
-            while self.peek()[:1] in ('"', "$"):
-                fixed.append(self.next())
+            fixed = self.parts()
         return {"is": "text", "form": form, "hex": is_hex, "size": size, "fixed": fixed}
+
+    def begins_part(self):
+        token = self.peek()
+        return token[:1] == '"' or token[:2] == '$"' or token in TEXT_FACTS or token == "$$format"
+
+    def parts(self):
+        """The parts of a string: bytes, facts, and formats with an argument each that is an expression or a list of parts."""
+        out = []
+        while self.begins_part():
+            token = self.next()
+            if token.lower() != "$$format":
+                out.append(token.lower() if token.lower() in TEXT_FACTS else bytes_of(token))
+                continue
+            self.want("(")
+            text, arguments = bytes_of(self.next()), []
+            while self.take(","):
+                arguments.append(self.parts() if self.begins_part() else self.expression())
+            self.want(")")
+            out.append(("format", text, arguments))
+        return out
 
     def number(self):
         field = {"is": "number", "unsigned": False, "radix": "", "symbols": [], "fixed": None, "key": self.take("key")}
@@ -331,13 +354,18 @@ def fact_of(word, facts):
             "$$weekday": now.isoweekday() % 7 + 1}[word]
 
 
-def part_bytes(token, facts):
-    """The bytes of a part of a string."""
-    if not token.startswith("$$"):
-        return bytes_of(token)
+def part_bytes(part, facts):
+    """The bytes of a part of a string that is no format."""
+    if isinstance(part, bytes):
+        return part
     now = moment_of(facts)
     return {"$$name": facts[2], "$$date": now.strftime("%Y-%m-%d").encode(), "$$time": now.strftime("%H:%M:%S").encode(),
-            "$$version": b"V1.0"}[token.lower()]
+            "$$version": b"V1.0"}[part]
+
+
+def all_facts(facts):
+    """The facts of the resource and of the moment by the names that label_reading.py has for them."""
+    return {name: part_bytes(word, facts) if word in TEXT_FACTS else fact_of(word, facts) for word, name in FACTS.items()}
 
 
 def value_of(term, counts, facts):
@@ -462,15 +490,7 @@ def expressions_of(field):
     return field["fixed"] if field["is"] == "points" else [field["fixed"]]
 
 
-def has_label(fields):
-    """A label stands among the fields or those within them; no type with one can be read."""
-    inner = [row for field in fields for row in ([field["row"]] if field["is"] == "array" else [each for _, each in field.get("cases", ())])]
-    return any(field["is"] == "label" for field in fields) or any(has_label(row) for row in inner)
-
-
 def is_readable(fields, known=frozenset(), outermost=True):
-    if has_label(fields):
-        return False
     for at, field in enumerate(fields):
         rest = fields[at + 1:]
         if field["is"] in ("number", "points"):
@@ -653,11 +673,23 @@ def read_row(fields, counts, facts, bits):
 
 
 def row_of(fields, content, facts):
-    """The row of a resource; NoRow if it has none."""
-    bits = Bits(content)
-    row = read_row(fields, {}, facts, bits)
-    if bits.left() > 7 or bits.take(bits.left()):
-        raise NoRow
+    """The row of a resource by fields without labels and formats; None if it has none."""
+    if not is_readable(fields):
+        return None
+    try:
+        bits = Bits(content)
+        row = read_row(fields, {}, facts, bits)
+        return None if bits.left() > 7 or bits.take(bits.left()) else row
+    except NoRow:
+        return None
+
+
+def row_by_both(fields, content, facts):
+    """The row of a resource, or None: of a type without labels and formats it is told in two ways, which agree."""
+    if has_name_or_format(fields):
+        return row_by_labels(fields, content, all_facts(facts))
+    row = row_of(fields, content, facts)
+    assert len(content) > BOTH or row == row_by_labels(fields, content, all_facts(facts)), (fields, content)
     return row
 
 
@@ -771,13 +803,9 @@ def head_text(word, resource):
 def resource_text(resource, table, hidden, moment):
     fields, content = found(table, resource[0], resource[1]), resource[4]
     word, lines = "data", ["    " + hex_text(each) for each in pieces(content, 16)]
-    if fields is not None and is_readable(fields):
-        try:
-            row = row_of(fields, content, resource + (moment,))
-            if not uses_hidden(fields, row, hidden):
-                word, lines = "resource", lines_of(items_of(fields, row, hidden), 1)
-        except NoRow:
-            pass
+    row = None if fields is None else row_by_both(fields, content, resource + (moment,))
+    if row is not None and not uses_hidden(fields, row, hidden):
+        word, lines = "resource", lines_of(items_of(fields, row, hidden), 1)
     return "\n".join([head_text(word, resource)] + lines + ["};", "", ""])
 
 

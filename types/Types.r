@@ -41,10 +41,10 @@
    More is More Macintosh Toolbox, Imaging is Imaging With QuickDraw, and the others have their own names. Types
    without a book are of Mac OS 8 or of a tool.
 
-   What needs labels, which derez doesn't read yet, or labels in rows, which the language doesn't have yet: hmnu, hdlg,
-   hfdr and hovr, whose parts begin with their length, cfrg and ictb, which aren't here; of cicn, ppat, crsr, snd, NFNT,
-   FONT and FOND the parts behind the fields that stand here, which are one string; and a DITL whose padding behind an
-   odd text isn't zero, as ResEdit leaves it now and then, which derez shows as data. */
+   What takes labels, which these types don't have yet, or labels in rows, which the language doesn't have yet: hmnu,
+   hdlg, hfdr and hovr, whose parts begin with their length, cfrg and ictb, which aren't here; of cicn, ppat, crsr, snd,
+   NFNT, FONT and FOND the parts behind the fields that stand here, which are one string; and a DITL whose padding behind
+   an odd text isn't zero, as ResEdit leaves it now and then, which derez shows as data. */
 #ifndef __TYPES_R__
 #define __TYPES_R__
 
