@@ -4,12 +4,14 @@
 usage: bench/shown.py [PROGRAM [SEED]]
 
 Two forks are made from the seed in a folder of their own, which is removed at the end: lists of strings ('STR#') of a
-few strings each, and one array whose rows are a number, a string and a flag, counted before it. Each is made in two
-sizes, of which the second is four times the first. Each run is done five times; printed are the median of the seconds,
+few strings each, and one array whose rows are a number, a string and a flag, counted before it. The same array is made
+with a length in front of it, which two labels around it tell, in place of its count. Each is made in two sizes, of which
+the second is four times the first. Each run is done five times; printed are the median of the seconds,
 the peak memory, both for each byte that is read and written, and how much of both the second size takes in place of the
 first. What each run writes is compared, byte by byte, with a text that is made here together with the fork; and the text
 with the fields is compiled by `rez` with the type file in front of it, which must give the fork again. The status is 1
-where something differs, or where the second size takes more than five times the time or the memory of the first.
+where something differs, where the second size takes more than five times the time or the memory of the first, or where
+the array with labels takes more than twice the time or the memory of the one with a count, shown by fields.
 Memory is told by `/usr/bin/time -v`; where that isn't on the machine, none is told.
 """
 import os
@@ -28,6 +30,7 @@ from fork import fork_of  # noqa: E402
 MB = 1_000_000
 RUNS = 5
 MOST_GROWTH = 5.0
+MOST_TIMES_COUNTED = 2.0
 TIME = "/usr/bin/time"
 LETTERS = "abcdefghijklmnopqrstuvwxyz ABCDEFGHIJKLMNOPQRSTUVWXYZ.,!?"
 
@@ -61,19 +64,39 @@ def strings(rng, count):
     return types, fork_of(resources), "".join(plain), "".join(shown)
 
 
-def rows(rng, count):
-    """One array of so many rows: the type file, the fork, its text without the type file and with it."""
-    types = ("type 'Rows' { longint = $$CountOf(All);\n"
-             "    array All { integer none, one, last = -1; pstring; boolean off, on; align byte; }; };\n")
-    content, items = bytearray(count.to_bytes(4, "big")), []
+ROW = "{ integer none, one, last = -1; pstring; boolean off, on; align byte; };"
+
+
+def some_rows(rng, count):
+    """The bytes of so many rows, and their items."""
+    content, items = bytearray(), []
     for _ in range(count):
         number, flag = rng.choice((0, 1, 65535, rng.randrange(65536))), rng.randrange(2)
         text = "".join(rng.choices(LETTERS, k=rng.randrange(13)))
         content += number.to_bytes(2, "big") + bytes([len(text)]) + text.encode() + bytes([128 * flag])
         signed = number - 65536 if number >= 32768 else number
         items += [{0: "none", 1: "one", -1: "last"}.get(signed, "%d" % signed), '"%s"' % text, ("off", "on")[flag]]
-    resource = (b"Rows", 128, b"", 0, bytes(content))
+    return bytes(content), items
+
+
+def one_array(types, content, items):
+    """One resource of one array: the type file, the fork, its text without the type file and with it."""
+    resource = (b"Rows", 128, b"", 0, content)
     return types, fork_of([resource]), data_text("Rows", 128, content), resource_text("Rows", 128, items)
+
+
+def rows(rng, count):
+    """One array of so many rows behind its count."""
+    content, items = some_rows(rng, count)
+    types = "type 'Rows' { longint = $$CountOf(All);\n    array All %s };\n" % ROW
+    return one_array(types, count.to_bytes(4, "big") + content, items)
+
+
+def lengths(rng, count):
+    """The same array behind its length in bytes, with labels around it."""
+    content, items = some_rows(rng, count)
+    types = "type 'Rows' { longint = (end - start) / 8;\n    start: array %s\n    end: };\n" % ROW
+    return one_array(types, len(content).to_bytes(4, "big") + content, items)
 
 
 def put(folder, name, content):
@@ -143,8 +166,9 @@ def main():
     seed = int(sys.argv[2]) if len(sys.argv) > 2 else 1984
     print("%s, seed %d, %d cores, median of %d runs" % (program, seed, os.cpu_count(), RUNS))
     print("%-8s %8s %-10s %10s %8s %7s %8s %7s %10s" % ("kind", "count", "way", "bytes", "seconds", "MB/s", "peak MB", "/byte", "growth"))
-    good = True
-    for kind, make, counts in (("strings", strings, (1_000, 4_000)), ("rows", rows, (25_000, 100_000))):
+    good, by_fields = True, {}
+    kinds = ("strings", strings, (1_000, 4_000)), ("rows", rows, (25_000, 100_000)), ("lengths", lengths, (25_000, 100_000))
+    for kind, make, counts in kinds:
         before, took = {}, {}
         for count in counts:
             for name, handled, seconds, memory, right in measures(program, random.Random(seed), make, count):
@@ -160,6 +184,10 @@ def main():
                 before[name] = (seconds, memory)
                 took[name] = seconds
         print("%s: by fields takes %.1f times the time of as data" % (kind, took["by fields"] / took["as data"]))
+        by_fields[kind] = before["by fields"]
+    times = [of_lengths / of_rows for of_lengths, of_rows in zip(by_fields["lengths"], by_fields["rows"])]
+    print("lengths: by fields takes %.2f times the time and %.2f times the memory of rows" % tuple(times))
+    good = good and max(times) <= MOST_TIMES_COUNTED
     print("all is as wanted" if good else "something differs or takes too much")
     sys.exit(0 if good else 1)
 
