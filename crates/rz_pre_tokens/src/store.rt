@@ -70,11 +70,12 @@ impl TokenStore {
         Ok(())
     }
 
-    /// The tokens, to be read from the first on.
-    pub fn reader(&self) -> TokenReader<'_>
-        ensures { result ≡ self.now }
+    /// The tokens, to be read from the first on. It takes no memory.
+    pub fn into_reader(self) -> TokenReader
+        ensures { result ≡ self }
     {
-        TokenReader::new(&self.pieces, &self.bytes)
+        let TokenStore { pieces, bytes } = self;
+        TokenReader::new(pieces, bytes)
     }
 }
 

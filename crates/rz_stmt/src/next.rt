@@ -14,10 +14,7 @@ use std::alloc::Global;
 /// The first statement of the tokens that are left: all of them up to the first `;` that stands outside all
 /// brackets, or without such a `;` all of them. `None` exactly where none is left. The tokens after it are left
 /// then. Where memory is refused some tokens may be lost. (MPW Rez.)
-pub fn next_statement(
-    alloc: Global,
-    reader: &mut TokenReader<'_>,
-) -> Result<Option<Tokens>, NoMemory>
+pub fn next_statement(alloc: Global, reader: &mut TokenReader) -> Result<Option<Tokens>, NoMemory>
     ensures first { (statements : List (List Token)) → AreStatements reader.old statements
         → IfOk result (λ given. BeginsWith given statements reader.new) }
     ensures front { IfOk result (λ given. IsFront given reader.old reader.new) }

@@ -6,7 +6,8 @@ use crate::expansions::FIFTEEN;
 use crate::outcome::{show_answer, show_names, show_roman};
 use rz_core::Bytes;
 use rz_lex::{Shape, Token};
-use rz_pre::{Program, Tool};
+use rz_pre::Tool;
+use rz_pre_tokens::TokenStore;
 use rz_test_tables::Text;
 use std::process::Abort;
 
@@ -41,24 +42,25 @@ pub fn show_call(rt: &(impl Abort + AllocGlobal), call: Call, text: &str, came: 
 
 /// Shows the answer.
 fn show_meaning(rt: &(impl Abort + AllocGlobal), asked: &mut Asked, came: &mut Text) {
-    show_answer(rt, &asked.answer(), came);
+    show_answer(rt, asked.answer(), came);
 }
 
 /// Shows how many words `P` a program is whose `main` begins with the fifteen macros, and the line of them all; or
 /// `refused`.
 fn show_words(rt: &(impl Abort + AllocGlobal), text: &str, came: &mut Text) {
     match Asked::of_case(rt, FIFTEEN, text).answer() {
-        Ok(program) => show_count(rt, &program, came),
+        Ok(program) => show_count(rt, program.tokens, came),
         Err(_) => came.put(b"refused"),
     }
 }
 
 /// Shows how many words `P` a program is, and the line of them all; `other tokens` where one isn't such a word or on
 /// another line.
-fn show_count(rt: &(impl Abort + AllocGlobal), program: &Program, came: &mut Text) {
-    let mut reader = program.tokens.reader();
+fn show_count(rt: &(impl Abort + AllocGlobal), tokens: TokenStore, came: &mut Text) {
+    let count = tokens.len();
+    let mut reader = tokens.into_reader();
     let mut line = None;
-    for _ in 0..program.tokens.len() {
+    for _ in 0..count {
         let token = reader.next(rt.alloc()).expect(rt, "memory");
         let found = token.as_ref().and_then(line_of_word);
         if found.is_none() || line.is_some() && line != found {
@@ -67,7 +69,7 @@ fn show_count(rt: &(impl Abort + AllocGlobal), program: &Program, came: &mut Tex
         }
         line = found;
     }
-    came.number(program.tokens.len());
+    came.number(count);
     came.put(b" on ");
     came.number(u64::from(line.unwrap_or(0)));
 }

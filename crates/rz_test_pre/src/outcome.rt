@@ -11,13 +11,19 @@ use std::process::Abort;
 /// alone.
 pub fn show_answer(
     rt: &(impl Abort + AllocGlobal),
-    answer: &Result<Program, Halt<Failure>>,
+    answer: Result<Program, Halt<Failure>>,
     came: &mut Text,
 ) {
     match answer {
-        Ok(program) => {
-            show_tokens(rt.alloc(), &program.tokens, came);
-            show_files(&program.files, came);
+        Ok(
+            Program {
+                files,
+                tokens,
+                macros: _,
+            },
+        ) => {
+            show_tokens(rt.alloc(), tokens, came);
+            show_files(&files, came);
         }
         Err(Halt::Refused(failure)) => {
             show_fault(rt, &failure.fault, came);
@@ -69,13 +75,14 @@ fn show_files(files: &FileNames, came: &mut Text) {
 }
 
 /// Shows each token after its place and a colon, with blanks between them; `nothing` where there is none.
-fn show_tokens(alloc: Global, store: &TokenStore, came: &mut Text) {
+fn show_tokens(alloc: Global, store: TokenStore, came: &mut Text) {
     if store.is_empty() {
         came.put(b"nothing");
     }
-    let mut reader = store.reader();
+    let count = store.len();
+    let mut reader = store.into_reader();
     let mut between: &[u8] = b"";
-    for _ in 0..store.len() {
+    for _ in 0..count {
         match reader.next(alloc) {
             Ok(Some(token)) => {
                 came.put(between);
