@@ -5,7 +5,7 @@ use Rattle.std.proofs.lemmas.Bool.Decides.{leb_tells}
 use Rattle.rz_bits.specs.Bits.{number_of}
 use Rattle.rz_types_fields.specs.Spells.{values_in}
 use Rattle.rz_unlay.specs.Cursor.{ended, line_of, Line}
-use Rattle.rz_unlay_pieces.specs.Pieces.{Found}
+use Rattle.rz_unlay.specs.Pieces.{Found}
 use Rattle.rz_unlay_pieces.specs.Few.{few}
 use Rattle.rz_unlay.specs.Few.{line_count}
 use Rattle.rz_unlay.specs.Rows.{is_end}

@@ -12,7 +12,7 @@ use Rattle.rz_types_fields.specs.declared.tree.Tree.TheOpen.{Tree-F}
 use Rattle.rz_types_fields.specs.declared.tree.Tree.TheVariants as trees
 use Rattle.rz_types_fields.specs.declared.tree.Tree.TheVariants.{rolls-Choice, rolls-Rows}
 use Rattle.rz_types_fields.specs.Spells.{count_in, count_step, put, values_in}
-use Rattle.rz_unlay_pieces.specs.Pieces.{with_value, Found}
+use Rattle.rz_unlay.specs.Pieces.{with_value, Found}
 use Rattle.rz_unlay.specs.Cursor.{and_lines, Line, Lines}
 use Rattle.rz_unlay.specs.Rows.{pushed}
 use Rattle.rz_unlay_pieces.specs.Few.{few, value_count}

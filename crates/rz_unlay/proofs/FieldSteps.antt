@@ -23,19 +23,20 @@ use Rattle.rz_types_fields.specs.Field.{field_and, plain_body, plain_cases, plai
 use Rattle.rz_types.specs.Width.{capped, case_keys}
 use Rattle.rz_unlay.specs.Came.{chosen, found_of, line_at, line_in}
 use Rattle.rz_unlay.specs.Cursor.{and_lines, body_found, case_found, field_found, has_keys, line_of, no_lines, open_rows, rows_at, rows_by, rows_to, rows_while, up_to_end, up_to_label, Line, Lines, ReadsRow}
-use Rattle.rz_unlay_pieces.specs.Pieces.{claim_count, field_of_pieces, here_at, with_value, Found, Step}
+use Rattle.rz_unlay.specs.Pieces.{field_of_pieces, with_value, met_past, Found}
+use Rattle.rz_unlay_pieces.specs.Pieces.{claim_count, here_at, Step}
 use Rattle.rz_unlay_pieces.specs.Came.{met_in, met_of}
 use Rattle.rz_unlay_pieces.specs.declared.came.Met.{Met}
-use Rattle.rz_unlay_pieces.proofs.LeafSteps.{align_is, fill_is, label_is, num_is, points_is, text_is}
+use Rattle.rz_unlay.proofs.LeafSteps.{align_is, fill_is, label_is, num_is, points_is, text_is}
 use Rattle.rz_types_fields.specs.Known.{known, names_inside}
 use Rattle.rz_unlay_pieces.specs.Few.{few, step_count, value_count}
 use Rattle.rz_unlay.specs.Few.{found_count, line_count, lines_count}
-use Rattle.rz_unlay_pieces.specs.Fits.{AreFit, CasesFit, Fits}
+use Rattle.rz_unlay.specs.Fits.{AreFit, CasesFit, Fits}
 use Rattle.rz_unlay.specs.declared.came.RowCame.{RowCame}
 use Rattle.rz_types_fields.specs.Passed.{met_behind, met_inside, Names}
 use Rattle.rz_types_fields.specs.Sees.{marked, Late}
 use Rattle.rz_unlay_pieces.specs.Ahead.{Told}
-use Rattle.rz_unlay_pieces.specs.Seen.{met_past, told_capped}
+use Rattle.rz_unlay_pieces.specs.Seen.{told_capped}
 use Rattle.rz_unlay_pieces.specs.declared.learnt.Learnt.{Learnt}
 use Rattle.rz_unlay.specs.Rows.{pushed, stop_at, stop_before}
 use Rattle.rz_unlay.proofs.FewValues.{count_choice, count_rows, few_fits, first_within, line_behind, no_line, no_more, none_behind, some_behind, some_same, value_behind, value_less}

@@ -1,3 +1,6 @@
+pub mod PieceSteps
+pub mod LeafSteps
+pub mod TextSteps
 pub mod MetBehind
 pub mod Ahead
 pub mod ReadsTests
@@ -41,3 +44,4 @@ pub mod Tells
 pub mod EveryRow
 mod Examples
 pub mod SpelledShort
+pub mod Trees

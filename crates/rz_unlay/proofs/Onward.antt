@@ -17,7 +17,8 @@ use Rattle.rz_types_fields.specs.Width.{case_keys, fixed_width, fixed_widths, pl
 use Rattle.rz_types_fields.specs.declared.tree.Tree.{Tree}
 use Rattle.rz_types_fields.specs.declared.tree.Tree.TheVariants as trees
 use Rattle.rz_unlay_pieces.specs.Ahead.{behind_measured, near_place}
-use Rattle.rz_unlay_pieces.specs.Pieces.{claim, claim_count, field_of_pieces, here_at, label_step, pieces_found, value_of_field, with_value, Found, Here, Step}
+use Rattle.rz_unlay.specs.Pieces.{field_of_pieces, pieces_found, value_of_field, with_value, Found}
+use Rattle.rz_unlay_pieces.specs.Pieces.{claim, claim_count, here_at, label_step, Here, Step}
 use Rattle.rz_unlay.specs.Cursor.{body_found, case_found, count_known, field_found, has_keys, line_of, rows_by, Line, Lines, ReadsRow}
 use Rattle.rz_unlay.proofs.Ahead.{HasPlaces}
 use Rattle.rz_unlay.proofs.Claims.{claim_came}

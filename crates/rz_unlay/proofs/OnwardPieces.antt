@@ -27,7 +27,9 @@ use Rattle.rz_types_fields.specs.declared.field.TextForm.{TextForm}
 use Rattle.rz_types_fields.specs.declared.tree.Tree.{Tree}
 use Rattle.rz_types_fields.specs.declared.tree.Tree.TheVariants as trees
 use Rattle.rz_unlay_pieces.specs.Ahead.{in_resource, near_place}
-use Rattle.rz_unlay_pieces.specs.Pieces.{early_text, field_of_pieces, is_stored, label_step, late_behind, number_step, piece_step, pieces_found, same_bytes, seen_at, size_found, size_read, solve_all, solved_at, text_read, text_size, text_step, value_of_field, with_near, with_value, zeros_step, claim, Found, Here, Step}
+use Rattle.rz_unlay.specs.Pieces.{early_text, field_of_pieces, piece_step, pieces_found, size_here, sized_step, sized_text, text_step, value_of_field, with_value, Found}
+use Rattle.rz_unlay_pieces.specs.Pieces.{is_stored, label_step, late_behind, number_step, seen_at, solve_all, solved_at, with_near, zeros_step, claim, Here, Step}
+use Rattle.rz_unlay_texts.specs.Texts.{size_found, size_read, stored_value, text_value}
 use Rattle.rz_unlay.proofs.Ahead.{HasPlaces}
 use Rattle.rz_unlay.proofs.Claims.{claim_came}
 use Rattle.rz_unlay.proofs.ReadsText.{length_with_size}
@@ -61,7 +63,7 @@ near_part here names = record {
 -- Sizes of texts.
 
 module _ (here : Here) (form : TextForm) (fixed : Option (List PlainPart)) (names : Environment) (at count : ℕ) where
-  sized_count : (size : Option (List PlainPart)) (n : ℕ) → text_size here names form (Some n) size at ≡ Some count → count ≡ sized_bytes form n
+  sized_count : (size : Option (List PlainPart)) (n : ℕ) → size_here here names form (Some n) size at ≡ Some count → count ≡ sized_bytes form n
   sized_count None n is = some_same count (sized_bytes form n) (sym is)
   sized_count (Some parts) n is =
       let it = mapped (λ bytes. length (stored_text form (Some n) bytes)) _ count is in
@@ -74,7 +76,7 @@ module _ (here : Here) (form : TextForm) (fixed : Option (List PlainPart)) (name
       sym it.1
 
   text_just : HasPlaces names → (size_term : Option Term) (size : Option ℕ) → size_read form size_term (seen_at here names at) ≡ Some size
-      → text_size here names form size fixed at ≡ Some count → (width : ℕ) → text_width form size_term ≡ Some width → 8 * count ≡ width
+      → size_here here names form size fixed at ≡ Some count → (width : ℕ) → text_width form size_term ≡ Some width → 8 * count ≡ width
   text_just has None size sized counted width is = absurd (none_is width is)
   text_just has (Some term) size sized counted width is = by (constant_of term) refl is
     where
@@ -84,7 +86,7 @@ module _ (here : Here) (form : TextForm) (fixed : Option (List PlainPart)) (name
           let places = places_kept names (with_near here names) (near_part here names) has in
           let valued = constant_value here.known _ (with_near here names) places term c so in
           let n_is = read_size term size c valued sized in
-          let same = sized_count fixed (nat_abs c) (ap (λ (o : Option ℕ). text_size here names form o fixed at) (sym n_is) ∙ counted) in
+          let same = sized_count fixed (nat_abs c) (ap (λ (o : Option ℕ). size_here here names form o fixed at) (sym n_is) ∙ counted) in
           ap (λ (n : ℕ). 8 * n) same ∙ some_same (8 * sized_bytes form (nat_abs c)) width is
 
 -- One piece.
@@ -146,7 +148,7 @@ module _ (here : Here) where
 
   -- a text of so many bytes, which its size told
   bytes_go : (text : PlainText) (names : Environment) (at : ℕ) (late : Late) (size : Option ℕ) (count : ℕ) (raw : List ℕ) (value : Option Tree) → HasPlaces names
-      → size_read text.form text.size (seen_at here names at) ≡ Some size → text_size here names text.form size text.fixed at ≡ Some count → bytes_at here.all at count ≡ Some raw
+      → size_read text.form text.size (seen_at here names at) ≡ Some size → size_here here names text.form size text.fixed at ≡ Some count → bytes_at here.all at count ≡ Some raw
       → On names (behind_one (OneText text) at) (record { value = value; after = at + 8 * count; names = names; late = late })
   bytes_go text names at late size count raw value has sized counted there = record {
     kept = same_part names;
@@ -159,13 +161,12 @@ module _ (here : Here) where
   early_goes : (text : PlainText) (names : Environment) (at : ℕ) (late : Late) (step : Step) → HasPlaces names → early_text here text names at late ≡ Some step
       → On names (behind_one (OneText text) at) step
   early_goes text names at late step has is =
-      let one = and_then _ (size_read text.form text.size (seen_at here names at)) step is in
-      let two = and_then _ (text_size here names text.form one.0 text.fixed at) step one.2 in
-      let three = and_then _ (bytes_at here.all at two.0) step two.2 in
-      let four = and_then _ (text_read here.known (seen_at here names at) text.form one.0 text.fixed three.0) step three.2 in
-      let five = if_some (same_bytes (stored_text text.form one.0 four.0.1) three.0)
-      (record { value = four.0.0; after = at + 8 * two.0; names = names; late = late_behind late (8 * two.0) false }) step four.2 in
-      subst (On names (behind_one (OneText text) at)) five.1 (bytes_go text names at (late_behind late (8 * two.0) false) one.0 two.0 three.0 four.0.0 has one.1 two.1 three.1)
+      let one = and_then (λ size. sized_text here text size names at late) (size_read text.form text.size (seen_at here names at)) step is in
+      let two = and_then (sized_step here text one.0 names at late) (size_here here names text.form one.0 text.fixed at) step one.2 in
+      let came = mapped (λ value. record { value = value; after = at + 8 * two.0; names = names; late = late_behind late (8 * two.0) false })
+      (text_value here.known (seen_at here names at) here.all text one.0 two.0 at) step two.2 in
+      let raw = and_then (stored_value here.known (seen_at here names at) text one.0) (bytes_at here.all at two.0) came.0 came.1 in
+      subst (On names (behind_one (OneText text) at)) came.2 (bytes_go text names at (late_behind late (8 * two.0) false) one.0 two.0 raw.0 came.0 has one.1 two.1 raw.1)
 
   text_goes : (text : PlainText) (names : Environment) (at : ℕ) (late : Late) (step : Step) → HasPlaces names → text_step here text names at late ≡ Some step
       → On names (behind_one (OneText text) at) step

@@ -4,7 +4,7 @@ use Rattle.std.specs.Prelude.{if◌then◌else◌, option_map, replicate}
 use Rattle.std.specs.List.{AllByRecursion}
 use Rattle.std.proofs.lemmas.Bool.Decides.{nat_tests}
 use Rattle.std.proofs.Math.Seq.{take-append_seam}
-use Rattle.rz_unlay_pieces.specs.Pieces.{before_zeros, or_none, plain_text, trimmed, up_to_zero}
+use Rattle.rz_unlay_texts.specs.Plain.{before_zeros, or_none, plain_text, trimmed, up_to_zero}
 use Rattle.rz_types_fields.specs.declared.field.TextForm.{TextForm}
 use Rattle.rz_types_fields.specs.declared.field.TextForm.TheVariants as texts
 use Rattle.rz_types_fields.specs.Spells.{IsPlainShort, IsPlainText}

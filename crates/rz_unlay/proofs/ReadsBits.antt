@@ -8,7 +8,7 @@ use Rattle.std.proofs.lemmas.Nat.{pow-add}
 use Rattle.rz_bits.specs.Bits.{bits_of, bytes_of, digit, front_bytes, number_bits, number_of}
 use Rattle.rz_bits.specs.BitBuf.{zeros}
 use Rattle.rz_bits.specs.View.{bits_at, bytes_at, number_at}
-use Rattle.rz_unlay_pieces.specs.Pieces.{up_to_zero}
+use Rattle.rz_unlay_texts.specs.Plain.{up_to_zero}
 
 -- Lengths.
 

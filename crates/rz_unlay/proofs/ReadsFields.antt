@@ -19,7 +19,8 @@ use Rattle.rz_types_fields.specs.Spells.{is_case, put, row_of, values_in, BodySp
 use Rattle.rz_types_fields.specs.Width.{case_keys}
 use Rattle.rz_types.specs.Kept.{AreCasesApart, AreKeysApart, AreKeysApartIn}
 use Rattle.rz_types.specs.Readable.{are_cases_read, are_read, is_read, is_readable, least_widths, rows_end}
-use Rattle.rz_unlay_pieces.specs.Pieces.{claim_count, with_value, Found, Step}
+use Rattle.rz_unlay.specs.Pieces.{with_value, Found}
+use Rattle.rz_unlay_pieces.specs.Pieces.{claim_count, Step}
 use Rattle.rz_unlay.specs.Came.{row_at}
 use Rattle.rz_unlay.specs.Cursor.{body_found, case_found, count_known, ended, field_found, has_keys, line_of, reading, rows_by, Lines}
 use Rattle.rz_unlay.proofs.Ahead.{Ahead, HasPlaces}

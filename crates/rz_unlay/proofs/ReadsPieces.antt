@@ -19,7 +19,8 @@ use Rattle.rz_types_fields.specs.Sees.{Late}
 use Rattle.rz_types_fields.specs.Shape.{numbers_of}
 use Rattle.rz_types_fields.specs.Spells.{group_in, numbers_of_group, put, values_for, FieldSpells, InOrder, IsGrouped, PieceSpells}
 use Rattle.rz_types.specs.Readable.{are_pieces_read, is_number_read, is_read, is_text_read}
-use Rattle.rz_unlay_pieces.specs.Pieces.{agrees, also, field_of_pieces, first_of_row, grouped, here_at, label_step, number_of_value, numbers_of_values, piece_step, pieces_found, with_value, zeros_step, Found, Here, Step}
+use Rattle.rz_unlay.specs.Pieces.{field_of_pieces, first_of_row, grouped, number_of_value, numbers_of_values, piece_step, pieces_found, with_value, Found}
+use Rattle.rz_unlay_pieces.specs.Pieces.{agrees, also, here_at, label_step, zeros_step, Here, Step}
 use Rattle.rz_unlay.proofs.Ahead.{Ahead}
 use Rattle.rz_unlay.proofs.OnePiece.{single}
 use Rattle.rz_unlay.proofs.ReadsBits.{length_zeros, zeros_found}

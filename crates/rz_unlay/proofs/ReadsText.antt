@@ -30,9 +30,11 @@ use Rattle.rz_types_fields.specs.Value.{see}
 use Rattle.rz_types_fields.specs.Width.{fixed_widths, sized_bytes}
 use Rattle.rz_types.specs.Readable.{all_known, ends_at_end, ends_at_label, is_text_read, text_ends}
 use Rattle.rz_types.proofs.Texts.{bytes_kept, Keeps}
-use Rattle.rz_unlay_pieces.specs.Ahead.{told_label, Told}
-use Rattle.rz_unlay_pieces.specs.Pieces.{bytes_before, bytes_left, early_text, fixed_read, here_at, late_behind, open_size, same_bytes, seen_at, size_found, size_read, stored_size, text_read, text_size, text_step, up_to_zero, with_near, Here}
-use Rattle.rz_unlay_pieces.specs.Texts.{raw_step, sized_step}
+use Rattle.rz_unlay_pieces.specs.Ahead.{told_label, bytes_before, bytes_left, open_size, Told}
+use Rattle.rz_unlay.specs.Pieces.{early_text, room, size_here, sized_step, sized_text, text_step}
+use Rattle.rz_unlay_pieces.specs.Pieces.{here_at, late_behind, seen_at, with_near, Here}
+use Rattle.rz_unlay_texts.specs.Plain.{same_bytes, up_to_zero}
+use Rattle.rz_unlay_texts.specs.Texts.{fixed_read, size_found, size_read, stored_size, stored_value, text_read}
 use Rattle.rz_unlay.proofs.Ahead.{Ahead}
 use Rattle.rz_unlay.proofs.Near.{near_covers, near_part, told_there, Knows}
 use Rattle.rz_unlay.proofs.PlainText.{plain_text_is}
@@ -184,11 +186,11 @@ module _ (all : List Bool) (rest : PlainBody) (outermost : Bool) (passed : Passe
           either_of (ends_at_label rest passed.told) (ends_at_end outermost rest)
           (λ label. let it = told_there (length all) passed.told names env told_known part rest lies label in absurd (let wrong = sym so ∙ it.1 in cc)) end_left reads
 
-module _ (back : (width number : ℕ) → number < 2 ^ width → number_of (number_bits width number) ≡ number) (all : List Bool) (rest : PlainBody) (names : Environment) (at : ℕ) (bytes : List ℕ) where
+module _ (back : (width number : ℕ) → number < 2 ^ width → number_of (number_bits width number) ≡ number) (all : List Bool) (room : Option ℕ) (at : ℕ) (bytes : List ℕ) where
   -- a free text without a size says its own length
-  size_stored : (form : TextForm) (bits : List Bool) → (form ≡ texts.Open → open_size (length all) (told_label (length all) rest names) (fixed_widths rest) at ≡ Some (length bytes)) → IsPlainText form None bytes
+  size_stored : (form : TextForm) (bits : List Bool) → (form ≡ texts.Open → room ≡ Some (length bytes)) → IsPlainText form None bytes
       → is_too_long form None (length bytes) ≡ false → bits ≡ bits_of (stored_text form None bytes) → at + length bits ≤ length all → take (length bits) (drop at all) ≡ bits
-      → stored_size all rest names form None at ≡ Some (length (stored_text form None bytes))
+      → stored_size all room form None at ≡ Some (length (stored_text form None bytes))
   size_stored texts.Open bits opens plain short are within there = opens refl
   size_stored texts.Pascal bits opens plain short are within there =
       let size = not_over 255 (length bytes) short in
@@ -276,18 +278,17 @@ module _ (facts : Facts) (seen : ℤ → ℤ → Option ℤ) (met known : Names)
       λ i. late_same facts seen met known leads some whole covers part later late term each.0 i || early_same later late terms each.1 i
 
 -- a text is read where its stored form tells its bytes
-raw_goes : (facts : Facts) (sight : Sight) (text : PlainText) (size : Option ℕ) (after : ℕ) (names : Environment) (late : Late) (value : Option Tree) (found : List ℕ)
-    → text_read facts sight text.form size text.fixed (stored_text text.form size found) ≡ Some (value, found)
-    → raw_step facts sight text size after names late (stored_text text.form size found) ≡ Some (record { value = value; after = after; names = names; late = late })
-raw_goes facts sight text size after names late value found is =
+raw_goes : (facts : Facts) (sight : Sight) (text : PlainText) (size : Option ℕ) (value : Option Tree) (found : List ℕ) → text_read facts sight text.form size text.fixed (stored_text text.form size found) ≡ Some (value, found)
+    → stored_value facts sight text size (stored_text text.form size found) ≡ Some value
+raw_goes facts sight text size value found is =
     let raw = stored_text text.form size found in
-    ap (option_and_then (λ found. if same_bytes (stored_text text.form size found.1) raw then Some (record { value = found.0; after = after; names = names; late = late }) else None)) is
-    ∙ ap (λ (b : Bool). if b then Some (record { value = value; after = after; names = names; late = late }) else None) (same_again raw)
+    ap (option_and_then (λ found. if same_bytes (stored_text text.form size found.1) raw then Some found.0 else None)) is
+    ∙ ap (λ (b : Bool). if b then Some value else None) (same_again raw)
 
 -- the bytes that are stored there, and those that tell them
 record TextTold (here : Here) (names : Environment) (form : TextForm) (size : Option ℕ) (fixed : Option (List PlainPart)) (value : Option Tree) (at : ℕ) (bits : List Bool) : Type 0 where
   found : List ℕ
-  has_size : text_size here names form size fixed at ≡ Some (length (stored_text form size found))
+  has_size : size_here here names form size fixed at ≡ Some (length (stored_text form size found))
   has_value : text_read here.known (seen_at here names at) form size fixed (stored_text form size found) ≡ Some (value, found)
   are_bytes : AreBytes (stored_text form size found)
   are_bits : bits ≡ bits_of (stored_text form size found)
@@ -324,7 +325,7 @@ module _ (read : (width number : ℕ) → number_of (number_bits width number) �
   }
   text_told form None None None value bytes bits reads sized (is, plain) short are ends within there = record {
     found = bytes;
-    has_size = size_stored back all rest names at bytes form bits (opens_so form bytes bits reads are ends) plain short are within there;
+    has_size = size_stored back all (room here names at) at bytes form bits (opens_so form bytes bits reads are ends) plain short are within there;
     has_value = (λ i. Some (Some (trees.Text (plain_text_is form None bytes plain i)), plain_text_is form None bytes plain i)) ∙ (λ i. Some (sym is i, bytes));
     are_bytes = stored_are form None bytes plain.0 tt short;
     are_bits = are;
@@ -361,11 +362,11 @@ module _ (read : (width number : ℕ) → number_of (number_bits width number) �
       let long : length bits ≡ 8 * length raw = ap length told.are_bits ∙ length_bits raw in
       ap (λ (b : Bool). if b then None else early_text here text names at late)
       (early_same facts seen passed.met (is_known passed) (met_known passed) near env covers whole passed.met late (terms_of_text text) each.1 ∙ early)
-      ∙ ap (option_and_then (λ size. option_and_then (sized_step here text size names at late) (text_size here names text.form size text.fixed at)))
+      ∙ ap (option_and_then (λ size. sized_text here text size names at late))
       (size_is_read facts seen passed.met (is_known passed) (met_known passed) near env covers whole text.form text.size it.size
       (size_known passed.met (is_known passed) text.size (fixed_terms text.fixed) each.1) it.has_size)
       ∙ ap (option_and_then (sized_step here text it.size names at late)) told.has_size
-      ∙ ap (option_and_then (raw_step facts (seen_at here names at) text it.size (at + 8 * length raw) names (late_behind late (8 * length raw) false)))
-      (bytes_found again all at raw bits told.are_bytes told.are_bits within there)
-      ∙ raw_goes facts (seen_at here names at) text it.size (at + 8 * length raw) names (late_behind late (8 * length raw) false) value told.found told.has_value
+      ∙ ap (option_map (λ value. record { value = value; after = at + 8 * length raw; names = names; late = late_behind late (8 * length raw) false }))
+      (ap (option_and_then (stored_value facts (seen_at here names at) text it.size)) (bytes_found again all at raw bits told.are_bytes told.are_bits within there)
+      ∙ raw_goes facts (seen_at here names at) text it.size value told.found told.has_value)
       ∙ ap (λ (n : ℕ). Some (record { value = value; after = at + n; names = names; late = late ++ replicate n false })) (sym long)

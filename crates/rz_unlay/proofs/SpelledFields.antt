@@ -21,7 +21,8 @@ use Rattle.rz_types.specs.Kept.{AreCasesKept, AreKept, Differ, IsKeptWithin}
 use Rattle.rz_types.specs.Readable.{are_cases_read, are_read, is_read, rows_end}
 use Rattle.rz_types.specs.Rules.{case_names}
 use Rattle.rz_types.specs.Walk.{and_names, names_of, Own}
-use Rattle.rz_unlay_pieces.specs.Pieces.{claim_count, with_value, Found, Step}
+use Rattle.rz_unlay.specs.Pieces.{with_value, Found}
+use Rattle.rz_unlay_pieces.specs.Pieces.{claim_count, Step}
 use Rattle.rz_unlay.specs.Cursor.{body_found, case_found, count_known, field_found, has_keys, line_of, rows_by, Line, Lines, ReadsRow}
 use Rattle.rz_unlay.proofs.Ahead.{HasPlaces}
 use Rattle.rz_unlay.proofs.MetBehind.{met_field}

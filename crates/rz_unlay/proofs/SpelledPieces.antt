@@ -23,7 +23,8 @@ use Rattle.rz_types_fields.specs.Shape.{numbers_of}
 use Rattle.rz_types_fields.specs.Spells.{group_in, is_late_size, marks, most_bits, numbers_of_group, put, values_for, InOrder, IsGrouped, IsGroupedFor, IsStored, PieceSpells, PiecesSpell, RowSpells, Then}
 use Rattle.rz_types_fields.proofs.SameNames.{key_itself}
 use Rattle.rz_types.specs.Readable.{are_pieces_read, is_piece_read}
-use Rattle.rz_unlay_pieces.specs.Pieces.{claim, field_of_pieces, first_of_row, grouped, here_at, is_stored, late_behind, number_of_value, number_step, numbers_of_values, piece_step, pieces_found, seen_at, solve_all, solved_at, value_of_field, with_near, with_value, Found, Here, Step}
+use Rattle.rz_unlay.specs.Pieces.{field_of_pieces, first_of_row, grouped, number_of_value, numbers_of_values, piece_step, pieces_found, value_of_field, with_value, Found}
+use Rattle.rz_unlay_pieces.specs.Pieces.{claim, here_at, is_stored, late_behind, number_step, seen_at, solve_all, solved_at, with_near, Here, Step}
 use Rattle.rz_unlay.proofs.Claims.{claim_came, claimed_knows}
 use Rattle.rz_unlay.proofs.MetBehind.{met_piece}
 use Rattle.rz_unlay.proofs.ReadsTests.{and_then, both_true, if_some, mapped, neither, none_is, some_same}

@@ -19,7 +19,7 @@ use Rattle.rz_types.specs.Shape.{numbers_of}
 use Rattle.rz_types.specs.Passed.{at_field, at_front, behind, behind_piece, nothing_passed, Passed}
 use Rattle.rz_types.specs.Piece.{free_integer, integers, Filler, OneNumber, OneText, Piece, Place, Zeros}
 use Rattle.rz_types.specs.Text.{PlainPart}
-use Rattle.rz_unlay_pieces.specs.Pieces.{number_of_value}
+use Rattle.rz_unlay.specs.Pieces.{number_of_value}
 
 -- a value where one is taken, and else none
 abbrev Takes : Bool → (Tree → Type 0) → Option Tree → Type 0

@@ -1,6 +1,6 @@
 -- A text that is read is spelled plainly, and so are zero bits.
 use Rattle.std.proofs.Common.{◌≡◌, ◌≢◌, ℕ, zero, suc, ◌+◌, ◌-◌, ◌*◌, ◌/◌, ◌%◌, ◌<◌, ◌≤◌, ◌^◌, ◌==◌, ℤ, pos, negsuc, Bool, true, false, ◌||◌, List, [], ◌∷◌, ◌++◌, length, map, take, drop, Option, Some, None, Result, Ok, Err, refl, sym, ap, ◌∙◌, subst, arith}
-use Rattle.std.specs.Prelude.{if◌then◌else◌, not, option_and_then, option_map, replicate}
+use Rattle.std.specs.Prelude.{if◌then◌else◌, not, option_map, replicate}
 use Rattle.std.specs.Result.{is_ok}
 use Rattle.std.specs.List.{AllByRecursion}
 use Rattle.std.proofs.lemmas.Bool.{le-ltb}
@@ -31,8 +31,10 @@ use Rattle.rz_types_fields.specs.Text.{bytes_seen, text_terms, PlainPart}
 use Rattle.rz_types_fields.specs.Value.{see}
 use Rattle.rz_types_fields.specs.Width.{sized_bytes}
 use Rattle.rz_types.proofs.Texts.{bytes_kept, Keeps}
-use Rattle.rz_unlay_pieces.specs.Pieces.{before_zeros, early_text, fixed_read, here_at, late_behind, one_byte_size, or_none, plain_text, same_bytes, seen_at, size_found, size_read, stored_size, text_read, text_size, text_step, trimmed, two_byte_size, up_to_zero, with_near, zeros_step, Here, Step}
-use Rattle.rz_unlay_pieces.specs.Texts.{raw_step, sized_step}
+use Rattle.rz_unlay.specs.Pieces.{early_text, room, size_here, sized_step, sized_text, text_step}
+use Rattle.rz_unlay_pieces.specs.Pieces.{here_at, late_behind, seen_at, with_near, zeros_step, Here, Step}
+use Rattle.rz_unlay_texts.specs.Plain.{before_zeros, one_byte_size, or_none, plain_text, same_bytes, trimmed, two_byte_size, up_to_zero}
+use Rattle.rz_unlay_texts.specs.Texts.{fixed_read, size_found, size_read, stored_size, stored_value, text_read, text_value}
 use Rattle.rz_unlay.proofs.ReadsTests.{and_then, both_true, if_false, if_some, mapped, neither, none_is, some_same}
 use Rattle.rz_unlay.proofs.ReadsText.{stored_bits}
 use Rattle.rz_unlay.proofs.SpelledNames.{value_grows, Knows}
@@ -231,10 +233,10 @@ size_is form (Err fault) size is = absurd (none_is size is)
 size_is form (Ok (pos n)) size is = let it = if_some (may_be_size form (pos n)) (Some n) size is in (n, refl, it.0, sym it.1)
 size_is form (Ok (negsuc n)) size is = let it = if_some (may_be_size form (negsuc n)) _ size is in absurd (negative_size form n it.0)
 
-sized_is : (all : List Bool) (rest : PlainBody) (names : Environment) (form : TextForm) (size : Option ℕ) (at count : ℕ) (raw : List ℕ) → stored_size all rest names form size at ≡ Some count → length raw ≡ count
+sized_is : (all : List Bool) (room : Option ℕ) (form : TextForm) (size : Option ℕ) (at count : ℕ) (raw : List ℕ) → stored_size all room form size at ≡ Some count → length raw ≡ count
     → IsSized form size raw
-sized_is all rest names form None at count raw is long = tt
-sized_is all rest names form (Some size) at count raw is long = long ∙ sym (some_same (sized_bytes form size) count is)
+sized_is all room form None at count raw is long = tt
+sized_is all room form (Some size) at count raw is long = long ∙ sym (some_same (sized_bytes form size) count is)
 
 -- Its bytes.
 
@@ -294,11 +296,11 @@ module _ (read : (width number : ℕ) → number_of (number_bits width number) �
   seen = seen_at here names at
 
   bytes_came : (form : TextForm) (size : Option ℕ) (fixed : Option (List PlainPart)) (count : ℕ) (raw : List ℕ) (found : Option Tree × List ℕ) → AreSmall raw
-      → text_size here names form size fixed at ≡ Some count → length raw ≡ count → text_read facts seen form size fixed raw ≡ Some found
+      → size_here here names form size fixed at ≡ Some count → length raw ≡ count → text_read facts seen form size fixed raw ≡ Some found
       → (env : Environment) → IsPartOf (with_near here names) env → BytesCame form facts (sees facts all env at) fixed size found
   bytes_came form size None count raw found small so long is env part =
       subst (BytesCame form facts (sees facts all env at) None size) (some_same (Some (trees.Text (plain_text form size raw)), plain_text form size raw) found is)
-      (record { bytes = plain_text form size raw; are = (refl, plain_is form size raw small (sized_is all rest names form size at count raw so long)); long = refl; same = refl })
+      (record { bytes = plain_text form size raw; are = (refl, plain_is form size raw small (sized_is all (room here names at) form size at count raw so long)); long = refl; same = refl })
   bytes_came form size (Some parts) count raw found small so long is env part =
       let it = fixed_is (bytes_seen nowhere facts seen parts) found is in
       record {
@@ -363,7 +365,7 @@ module _ (below : (bits : List Bool) → number_of bits < 2 ^ length bits) (writ
 
     early_came : (size : Option ℕ) (count : ℕ) (raw : List ℕ) (found : Option Tree × List ℕ) (step : Step) → Knows (is_held passed) names
         → is_one_late passed.met late (terms_of_text text) seen_here ≡ false → size_read text.form text.size seen_here ≡ Some size
-        → text_size own names text.form size text.fixed at ≡ Some count → bytes_at all at count ≡ Some raw → text_read facts seen_here text.form size text.fixed raw ≡ Some found
+        → size_here own names text.form size text.fixed at ≡ Some count → bytes_at all at count ≡ Some raw → text_read facts seen_here text.form size text.fixed raw ≡ Some found
         → same_bytes (stored_text text.form size found.1) raw ≡ true
         → record { value = found.0; after = at + 8 * count; names = names; late = late_behind late (8 * count) false } ≡ step → Read step
     early_came size count raw found step knows early sized counted there is same made =
@@ -395,14 +397,15 @@ module _ (below : (bits : List Bool) → number_of bits < 2 ^ length bits) (writ
     pub text_came : (step : Step) → Knows (is_held passed) names → text_step own text names at late ≡ Some step → Read step
     text_came step knows is =
         let zero = fails_first (is_one_late passed.met late (terms_of_text text) seen_here) (early_text own text names at late) step is in
-        let one = and_then (λ size. option_and_then (sized_step own text size names at late) (text_size own names text.form size text.fixed at)) (size_read text.form text.size seen_here) step zero.1 in
+        let one = and_then (λ size. sized_text own text size names at late) (size_read text.form text.size seen_here) step zero.1 in
         let size : Option ℕ = one.0 in
-        let two = and_then (sized_step own text size names at late) (text_size own names text.form size text.fixed at) step one.2 in
+        let two = and_then (sized_step own text size names at late) (size_here own names text.form size text.fixed at) step one.2 in
         let count : ℕ = two.0 in
-        let three = and_then (raw_step facts seen_here text size (at + 8 * count) names (late_behind late (8 * count) false)) (bytes_at all at count) step two.2 in
+        let came = mapped (λ value. record { value = value; after = at + 8 * count; names = names; late = late_behind late (8 * count) false }) (text_value facts seen_here all text size count at) step two.2 in
+        let three = and_then (stored_value facts seen_here text size) (bytes_at all at count) came.0 came.1 in
         let raw : List ℕ = three.0 in
-        let four = and_then (λ found. if same_bytes (stored_text text.form size found.1) raw then Some (record { value = found.0; after = at + 8 * count; names = names; late = late_behind late (8 * count) false }) else None)
-        (text_read facts seen_here text.form size text.fixed raw) step three.2 in
+        let four = and_then (λ found. if same_bytes (stored_text text.form size found.1) raw then Some found.0 else None) (text_read facts seen_here text.form size text.fixed raw) came.0 three.2 in
         let found : Option Tree × List ℕ = four.0 in
-        let five = if_some (same_bytes (stored_text text.form size found.1) raw) (record { value = found.0; after = at + 8 * count; names = names; late = late_behind late (8 * count) false }) step four.2 in
-        early_came size count raw found step knows zero.0 one.1 two.1 three.1 four.1 five.0 five.1
+        let five = if_some (same_bytes (stored_text text.form size found.1) raw) found.0 came.0 four.2 in
+        early_came size count raw found step knows zero.0 one.1 two.1 three.1 four.1 five.0
+        (ap (λ (value : Option Tree). record { value = value; after = at + 8 * count; names = names; late = late_behind late (8 * count) false }) five.1 ∙ came.2)

@@ -17,7 +17,7 @@ use Rattle.rz_types_fields.specs.declared.tree.Tree.{Tree}
 use Rattle.rz_types.specs.Kept.{IsKept}
 use Rattle.rz_types.specs.Readable.{is_readable}
 use Rattle.rz_types.specs.Walk.{names_of}
-use Rattle.rz_unlay_pieces.specs.Pieces.{Found}
+use Rattle.rz_unlay.specs.Pieces.{Found}
 use Rattle.rz_unlay.specs.Cursor.{body_found, ended, reading}
 use Rattle.rz_unlay.proofs.Onward.{places_within}
 use Rattle.rz_unlay.proofs.ReadsBits.{length_bits}

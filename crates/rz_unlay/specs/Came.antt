@@ -9,7 +9,8 @@ use Rattle.rz_types_fields.specs.Passed.{met_inside, Names}
 use Rattle.rz_types_fields.specs.Sees.{marked, Late}
 use Rattle.rz_unlay.specs.Cursor.{body_found, line_of, Line, Lines, ReadsRow}
 use Rattle.rz_unlay_pieces.specs.declared.learnt.Learnt.{Learnt}
-use Rattle.rz_unlay_pieces.specs.Pieces.{Found, Step}
+use Rattle.rz_unlay.specs.Pieces.{Found}
+use Rattle.rz_unlay_pieces.specs.Pieces.{Step}
 use Rattle.rz_types_fields.specs.Known.{known, names_inside}
 use Rattle.rz_unlay.specs.declared.came.RowCame.{RowCame}
 use Rattle.rz_unlay.specs.declared.came.RowsCame.{RowsCame}

@@ -15,7 +15,8 @@ use Rattle.rz_types.specs.Sees.{Late}
 use Rattle.rz_types.specs.Width.{case_keys, fixed_widths}
 use Rattle.rz_bits.specs.View.{number_at}
 use Rattle.rz_unlay_pieces.specs.Ahead.{told_label, Told}
-use Rattle.rz_unlay_pieces.specs.Pieces.{claim_count, field_of_pieces, here_at, known_count, with_value, Found, Step}
+use Rattle.rz_unlay.specs.Pieces.{field_of_pieces, with_value, Found}
+use Rattle.rz_unlay_pieces.specs.Pieces.{claim_count, here_at, known_count, Step}
 use Rattle.rz_types_fields.specs.Known.{names_inside}
 
 -- Rows.

@@ -3,7 +3,7 @@ use Rattle.std.specs.Prelude.{ℕ, ◌+◌, List, length}
 use Rattle.std.specs.List.{sum_by}
 use Rattle.rz_types_fields.specs.declared.tree.Tree.{Tree}
 use Rattle.rz_types_fields.specs.Spells.{values_in}
-use Rattle.rz_unlay_pieces.specs.Pieces.{Found}
+use Rattle.rz_unlay.specs.Pieces.{Found}
 use Rattle.rz_unlay.specs.Cursor.{Line, Lines}
 
 -- rows count their values, and each row one more

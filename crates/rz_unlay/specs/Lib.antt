@@ -1,3 +1,6 @@
+pub mod Fits
+pub mod Pieces
+pub mod Points
 pub mod Cursor
 pub mod Came
 pub mod Few

@@ -5,7 +5,7 @@ ghost use Rattle.rz_bits.specs.View.{seen};
 ghost use Rattle.rz_types.specs.Field.{plain_body, plain_field, plain_number};
 ghost use Rattle.rz_types.specs.Width.{capped, case_keys, field_key, number_key, plus};
 ghost use Rattle.rz_unlay.specs.Cursor.{has_bits, has_keys, key_at};
-ghost use Rattle.rz_unlay_pieces.specs.Fits.{AreFit, Fits};
+ghost use Rattle.rz_unlay.specs.Fits.{AreFit, Fits};
 
 use rz_bits::BitView;
 use rz_types_fields::{Field, NumField, fixed_width, key_bits};

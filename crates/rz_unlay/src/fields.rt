@@ -9,7 +9,7 @@ ghost use Rattle.rz_unlay_pieces.specs.Came.{met_of};
 ghost use Rattle.rz_unlay.specs.Cursor.{body_found, case_found, count_known, field_found, rows_at, open_rows, rows_by, rows_to, rows_while};
 ghost use Rattle.rz_unlay_pieces.specs.Few.{few, step_count, value_count};
 ghost use Rattle.rz_unlay.specs.Few.{found_count, line_count, lines_count, rows_count};
-ghost use Rattle.rz_unlay_pieces.specs.Fits.{AreFit, CasesFit, Fits};
+ghost use Rattle.rz_unlay.specs.Fits.{AreFit, CasesFit, Fits};
 ghost use Rattle.rz_types_fields.specs.Known.{known, met, Grew};
 ghost use Rattle.rz_types_fields.specs.Passed.{met_behind};
 ghost use Rattle.rz_types_fields.specs.Sees.{marked};
@@ -20,13 +20,12 @@ ghost use Rattle.rz_unlay.specs.Rows.{pushed, stop_at, stop_before};
 
 use crate::came::{RowCame, RowsCame};
 use crate::cases::has_keys;
+use crate::leaf::{read_pieces, spend};
 use crate::steps::{count_known, push_value, stop_at, stop_before, tail};
 use rz_bits::BitView;
 use rz_core::{Facts, NoMemory, Word};
 use rz_types_fields::{ArrayField, Case, Field, Note, Row, RowList, Tree, fixed_widths, rows_of};
-use rz_unlay_pieces::{
-    LabelAhead, Learnt, Met, Spot, claim_count, enter, read_pieces, spend, told_label,
-};
+use rz_unlay_pieces::{LabelAhead, Learnt, Met, Spot, claim_count, enter, told_label};
 use std::alloc::Global;
 
 /// What is read: the bits of a resource, and what is known of it.
@@ -50,7 +49,7 @@ impl Reader<'_> {
     ghost use Rattle.rz_unlay.specs.Cursor.{body_found, case_found, count_known, field_found, rows_at, open_rows, rows_by, rows_to, rows_while};
     ghost use Rattle.rz_unlay_pieces.specs.Few.{few, step_count, value_count};
     ghost use Rattle.rz_unlay.specs.Few.{found_count, line_count, lines_count, rows_count};
-    ghost use Rattle.rz_unlay_pieces.specs.Fits.{AreFit, CasesFit, Fits};
+    ghost use Rattle.rz_unlay.specs.Fits.{AreFit, CasesFit, Fits};
     ghost use Rattle.rz_types_fields.specs.Known.{known, met, Grew};
     ghost use Rattle.rz_types_fields.specs.Passed.{met_behind};
     ghost use Rattle.rz_types_fields.specs.Sees.{marked};

@@ -4,6 +4,5 @@ pub mod Marking
 pub mod Lateness
 pub mod Claims
 pub mod Labels
-pub mod TextSteps
+pub mod OpenTexts
 pub mod PieceSteps
-pub mod LeafSteps

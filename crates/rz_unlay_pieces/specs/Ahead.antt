@@ -1,5 +1,5 @@
--- Labels that stand ahead: those at a known distance, and those whose place is told. (MPW Rez.)
-use Rattle.std.specs.Prelude.{ℕ, ◌+◌, ℤ, pos, nat_le, if◌then◌else◌, Option, Some, None, option_and_then, option_map}
+-- Labels that stand ahead: those at a known distance, and those whose place is told, where open texts end. (MPW Rez.)
+use Rattle.std.specs.Prelude.{ℕ, ◌+◌, ◌-◌, ◌/◌, ◌%◌, ◌==◌, ℤ, pos, nat_le, nat_lt, if◌then◌else◌, Option, Some, None, option_and_then, option_map}
 use Rattle.rz_core.specs.Lists.{or_else}
 use Rattle.rz_expr.specs.Environment.{place_key, Environment, Key}
 use Rattle.rz_bits.specs.BitBuf.{missing}
@@ -49,3 +49,20 @@ told_label len no_fields names = None
 told_label len (field_and field fields) names =
     or_else (option_map (λ place. record { place = place; width = 0 }) (label_place len field names))
     (option_and_then (λ width. option_map (wider width) (told_label len fields names)) (fixed_width field))
+
+-- Open texts.
+
+-- how many whole bytes stand from a place up to fields of this width at the end
+abbrev pub bytes_left : ℕ → Option ℕ → ℕ → Option ℕ
+bytes_left len None at = None
+bytes_left len (Some width) at = if nat_lt len (at + width) then None else Some ((len - width - at) / 8)
+
+-- how many whole bytes stand from a place up to just so many bits before a label
+abbrev pub bytes_before : Told → ℕ → Option ℕ
+bytes_before told at =
+    if nat_lt told.place (at + told.width) then None else if (told.place - told.width - at) % 8 == 0 then Some ((told.place - told.width - at) / 8) else None
+
+-- how many bytes an open text has: up to a told label, or as many as are left
+abbrev pub open_size : ℕ → Option Told → Option ℕ → ℕ → Option ℕ
+open_size len (Some told) width at = bytes_before told at
+open_size len None width at = bytes_left len width at

@@ -3,10 +3,7 @@ pub mod Asked
 pub mod Pieces
 pub mod Came
 pub mod Few
-pub mod Fits
 pub mod Names
 pub mod Numbers
-pub mod Points
 pub mod Seen
 pub mod Power
-pub mod Texts

@@ -1,9 +1,7 @@
--- What stands at a place: the value of each piece, where it ends, and what is known behind it. (Inside Macintosh: More Macintosh
--- Toolbox, Resource Manager; MPW Rez.)
+-- What stands at a place: numbers, zero bits and labels, where they end, and what is known behind them. (MPW Rez.)
 use Rattle.rz_core.specs.Lists.{or_else}
-use Rattle.std.specs.Prelude.{ℕ, ◌+◌, ◌-◌, ◌*◌, ◌/◌, ◌%◌, ◌==◌, ◌++◌, ℤ, pos, nat_abs, nat_lt, Bool, true, false, ◌&&◌, if◌then◌else◌, List, [], ◌∷◌, length, map, take, drop, replicate, Option, Some, None, option_and_then, option_map, Ok, Err}
+use Rattle.std.specs.Prelude.{ℕ, ◌+◌, ◌==◌, ◌++◌, ℤ, pos, nat_abs, Bool, true, false, ◌&&◌, if◌then◌else◌, List, length, replicate, Option, Some, None, option_and_then, option_map, Ok, Err}
 use Rattle.std.specs.Ordering.{int_eq}
-use Rattle.std.specs.Result.{result_ok}
 use Rattle.std.specs.declared.result.Result.{Result}
 use Rattle.rz_core.specs.declared.facts.Facts.{Facts}
 use Rattle.rz_core.specs.declared.resource.Word.{Word}
@@ -11,25 +9,17 @@ use Rattle.rz_expr.specs.Environment.{count_key, count_of, place_key, place_of, 
 use Rattle.rz_expr.specs.Term.{BitsAt, Constant, FactOf, Named, OfOne, OfTwo, RowsOf, Term}
 use Rattle.rz_expr.specs.Value.{value_of}
 use Rattle.rz_expr.specs.declared.value.EvalFault.{EvalFault}
-use Rattle.rz_bits.specs.BitBuf.{missing}
 use Rattle.rz_types_fields.specs.declared.field.NumForm.{NumForm}
-use Rattle.rz_types_fields.specs.declared.field.TextForm.{TextForm}
-use Rattle.rz_types_fields.specs.declared.field.TextForm.TheVariants as texts
-use Rattle.rz_types_fields.specs.Field.{field_and, PlainBody, PlainField, PlainText, Points}
-use Rattle.rz_types_fields.specs.Range.{fits_number, may_be_size}
+use Rattle.rz_types_fields.specs.Field.{field_and, PlainBody, PlainField}
+use Rattle.rz_types_fields.specs.Range.{fits_number}
 use Rattle.rz_types_fields.specs.Passed.{Names}
 use Rattle.rz_types_fields.specs.Sees.{is_late, sees, Late}
 use Rattle.rz_types_fields.specs.Solve.{is_same_key, solved_value}
-use Rattle.rz_types_fields.specs.Piece.{pieces_of, terms_of_text, Filler, OneNumber, OneText, Piece, Place, Zeros}
-use Rattle.rz_types_fields.specs.Stored.{stored_number, stored_text}
-use Rattle.rz_types_fields.specs.Text.{bytes_seen, PlainPart}
-use Rattle.rz_types_fields.specs.Width.{fixed_widths, sized_bytes}
-use Rattle.rz_types_fields.specs.declared.tree.Tree.{out-Tree, Tree}
-use Rattle.rz_types_fields.specs.declared.tree.Tree.TheOpen.{Tree-F}
+use Rattle.rz_types_fields.specs.Stored.{stored_number}
+use Rattle.rz_types_fields.specs.declared.tree.Tree.{Tree}
 use Rattle.rz_types_fields.specs.declared.tree.Tree.TheVariants as trees
-use Rattle.rz_types_fields.specs.Spells.{is_one_late, nowhere, put}
-use Rattle.rz_bits.specs.View.{bytes_at, number_at}
-use Rattle.rz_unlay_pieces.specs.Ahead.{in_resource, near_place, told_label, Told}
+use Rattle.rz_bits.specs.View.{number_at}
+use Rattle.rz_unlay_pieces.specs.Ahead.{in_resource, near_place}
 
 -- What is known.
 
@@ -124,110 +114,6 @@ number_step here form width (Some term) names at late =
     (solve_all (with_near here) (λ key now. solved_at (length here.all) (nat_abs width) key (seen_at here now at) term n) term names))
     (number_at here.all at (nat_abs width))
 
--- Texts.
-
--- bytes up to the first zero byte, where there is one
-abbrev pub up_to_zero : List ℕ → Option (List ℕ)
-up_to_zero [] = None
-up_to_zero (byte ∷ bytes) = if byte == 0 then Some [] else option_map (λ front. byte ∷ front) (up_to_zero bytes)
-
--- without the zero bytes at the end
-abbrev pub before_zeros : ℕ → List ℕ → List ℕ
-before_zeros byte [] = if byte == 0 then [] else byte ∷ []
-before_zeros byte (next ∷ bytes) = byte ∷ next ∷ bytes
-
-abbrev pub trimmed : List ℕ → List ℕ
-trimmed [] = []
-trimmed (byte ∷ bytes) = before_zeros byte (trimmed bytes)
-
--- how many whole bytes stand from a place up to fields of this width at the end
-abbrev pub bytes_left : ℕ → Option ℕ → ℕ → Option ℕ
-bytes_left len None at = None
-bytes_left len (Some width) at = if nat_lt len (at + width) then None else Some ((len - width - at) / 8)
-
--- how many whole bytes stand from a place up to just so many bits before a label
-abbrev pub bytes_before : Told → ℕ → Option ℕ
-bytes_before told at =
-    if nat_lt told.place (at + told.width) then None else if (told.place - told.width - at) % 8 == 0 then Some ((told.place - told.width - at) / 8) else None
-
--- how many bytes an open text has: up to a told label, or as many as are left
-abbrev pub open_size : ℕ → Option Told → Option ℕ → ℕ → Option ℕ
-open_size len (Some told) width at = bytes_before told at
-open_size len None width at = bytes_left len width at
-
--- how many bytes the stored form of a text of the row has here
-abbrev pub stored_size : List Bool → PlainBody → Environment → TextForm → Option ℕ → ℕ → Option ℕ
-stored_size all rest names form (Some size) at = Some (sized_bytes form size)
-stored_size all rest names texts.Open None at = open_size (length all) (told_label (length all) rest names) (fixed_widths rest) at
-stored_size all rest names texts.Pascal None at = option_map (λ n. 1 + n) (number_at all at 8)
-stored_size all rest names texts.WordLong None at = option_map (λ n. 2 + n) (number_at all at 16)
-stored_size all rest names texts.Zero None at =
-    option_and_then (λ bytes. option_map (λ front. length front + 1) (up_to_zero bytes)) (bytes_at all at ((length all - at) / 8))
-
--- how many bytes the stored form of a text has: that of its fixed parts, or what stands here
-abbrev pub text_size : Here → Environment → TextForm → Option ℕ → Option (List PlainPart) → ℕ → Option ℕ
-text_size here names form size None at = stored_size here.all here.rest names form size at
-text_size here names form size (Some parts) at =
-    option_map (λ bytes. length (stored_text form size bytes)) (result_ok (bytes_seen nowhere here.known (seen_at here names at) parts))
-
-abbrev pub two_byte_size : List ℕ → ℕ
-two_byte_size (high ∷ low ∷ bytes) = high * 256 + low
-two_byte_size bytes = 0
-
-abbrev pub one_byte_size : List ℕ → ℕ
-one_byte_size (byte ∷ bytes) = byte
-one_byte_size bytes = 0
-
-abbrev pub or_none : Option (List ℕ) → List ℕ
-or_none None = []
-or_none (Some bytes) = bytes
-
--- the only bytes that can be stored so plainly
-abbrev pub plain_text : TextForm → Option ℕ → List ℕ → List ℕ
-plain_text texts.Open None raw = raw
-plain_text texts.Open (Some size) raw = trimmed raw
-plain_text texts.Pascal size raw = take (one_byte_size raw) (drop 1 raw)
-plain_text texts.WordLong size raw = take (two_byte_size raw) (drop 2 raw)
-plain_text texts.Zero size raw = or_none (up_to_zero raw)
-
-abbrev pub same_bytes : List ℕ → List ℕ → Bool
-same_bytes [] [] = true
-same_bytes (one ∷ ones) (other ∷ others) = (one == other) && same_bytes ones others
-same_bytes ones others = false
-
--- the size of a text, which it may have
-abbrev pub size_found : TextForm → Result ℤ EvalFault → Option (Option ℕ)
-size_found form (Err fault) = None
-size_found form (Ok size) = if may_be_size form size then Some (Some (nat_abs size)) else None
-
-abbrev pub size_read : TextForm → Option Term → Sight → Option (Option ℕ)
-size_read form None sight = Some None
-size_read form (Some term) sight = size_found form (value_of term sight)
-
--- the value of a text and its bytes; of a fixed text eight bits of each, as they are stored
-abbrev pub fixed_read : {E : Type 0} → Result (List ℕ) E → Option (Option Tree × List ℕ)
-fixed_read (Err fault) = None
-fixed_read (Ok bytes) = Some (None, map (λ byte. byte % 256) bytes)
-
-abbrev pub text_read : Facts → Sight → TextForm → Option ℕ → Option (List PlainPart) → List ℕ → Option (Option Tree × List ℕ)
-text_read known sight form size None raw = Some (Some (trees.Text (plain_text form size raw)), plain_text form size raw)
-text_read known sight form size (Some parts) raw = fixed_read (bytes_seen nowhere known sight parts)
-
--- a text none of whose expressions is late
-abbrev pub early_text : Here → PlainText → Environment → ℕ → Late → Option Step
-early_text here text names at late =
-    option_and_then (λ size. option_and_then (λ count. option_and_then (λ raw. option_and_then (λ found.
-    if same_bytes (stored_text text.form size found.1) raw
-    then Some (record { value = found.0; after = at + 8 * count; names = names; late = late_behind late (8 * count) false }) else None)
-    (text_read here.known (seen_at here names at) text.form size text.fixed raw))
-    (bytes_at here.all at count))
-    (text_size here names text.form size text.fixed at))
-    (size_read text.form text.size (seen_at here names at))
-
-abbrev pub text_step : Here → PlainText → Environment → ℕ → Late → Option Step
-text_step here text names at late =
-    if is_one_late here.met late (terms_of_text text) (seen_at here names at) then None else early_text here text names at late
-
 -- Zero bits.
 
 abbrev pub zeros_step : List Bool → ℕ → Environment → ℕ → Late → Option Step
@@ -238,52 +124,3 @@ zeros_step all count names at late =
 abbrev pub label_step : Word → Environment → ℕ → Late → Option Step
 label_step name names at late =
     option_map (λ more. record { value = None; after = at; names = more; late = late }) (claim (place_key name.bytes) (pos at) names)
-
-abbrev pub piece_step : Here → Piece → Environment → ℕ → Late → Option Step
-piece_step here (OneNumber number) names at late = number_step here number.form number.width number.fixed names at late
-piece_step here (OneText text) names at late = text_step here text names at late
-piece_step here (Zeros count) names at late = zeros_step here.all count names at late
-piece_step here (Filler unit) names at late = zeros_step here.all (missing unit at) names at late
-piece_step here (Place name) names at late = label_step name names at late
-
--- Pieces in order.
-
--- what is read of pieces or of a body: its row, the place behind it, and what is known there of names and of late bits
-pub record Found : Type 0 where
-  pub row : List Tree
-  pub after : ℕ
-  pub names : Environment
-  pub late : Late
-
-abbrev pub with_value : Option Tree → Option Found → Option Found
-with_value value found = option_map (λ f. record { row = put value f.row; after = f.after; names = f.names; late = f.late }) found
-
-abbrev pub pieces_found : Here → List Piece → Environment → ℕ → Late → Option Found
-pieces_found here [] names at late = Some (record { row = []; after = at; names = names; late = late })
-pieces_found here (piece ∷ pieces) names at late =
-    option_and_then (λ step. with_value step.value (pieces_found here pieces step.names step.after step.late)) (piece_step here piece names at late)
-
--- the value of a field of pieces: of a point or a rectangle its numbers as one
-abbrev pub number_of_value : Tree-F Tree → ℕ
-number_of_value (Tree-F.Number number) = number
-number_of_value value = 0
-
-abbrev pub numbers_of_values : List Tree → List ℕ
-numbers_of_values [] = []
-numbers_of_values (value ∷ values) = number_of_value (out-Tree value) ∷ numbers_of_values values
-
-abbrev pub grouped : Option (List Term) → List Tree → Option Tree
-grouped None values = Some (trees.Group (numbers_of_values values))
-grouped (Some terms) values = None
-
-abbrev pub first_of_row : List Tree → Option Tree
-first_of_row [] = None
-first_of_row (value ∷ values) = Some value
-
-abbrev pub value_of_field : PlainField → List Tree → Option Tree
-value_of_field (Points points) values = grouped points.fixed values
-value_of_field field values = first_of_row values
-
-abbrev pub field_of_pieces : Here → PlainField → Environment → ℕ → Late → Option Step
-field_of_pieces here field names at late =
-    option_map (λ f. record { value = value_of_field field f.row; after = f.after; names = f.names; late = f.late }) (pieces_found here (pieces_of field) names at late)

@@ -4,7 +4,7 @@ use Rattle.rz_expr.specs.Environment.{Environment, Sight}
 use Rattle.rz_bits.specs.BitBuf.{missing}
 use Rattle.rz_types_fields.specs.Field.{Align, PlainField}
 use Rattle.rz_types_fields.specs.Known.{known, met}
-use Rattle.rz_types_fields.specs.Passed.{gives_count, is_label, stands_at, Names}
+use Rattle.rz_types_fields.specs.Passed.{gives_count, stands_at, Names}
 use Rattle.rz_types_fields.specs.Sees.{hit}
 use Rattle.rz_types_fields.specs.Width.{capped, fixed_width}
 use Rattle.rz_core.specs.declared.resource.Word.{Word}
@@ -37,10 +37,7 @@ env_sight env = hidden_by env.hides env.learnt.now.marks (sight_at env.spot.now 
 
 -- Labels that are met.
 
--- behind the pieces of a field that is a label it is met
-abbrev pub met_past : PlainField → Names → Names
-met_past field met key = is_label field key || met key
-
+-- behind a label it is met
 abbrev pub met_placed : Word → Names → Names
 met_placed name met key = stands_at name.bytes key || met key
 

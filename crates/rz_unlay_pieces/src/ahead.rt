@@ -1,18 +1,22 @@
-//! Labels that stand ahead: those at a known distance, and those whose place is told. They are defined in `specs/Ahead`.
+//! Labels that stand ahead: those at a known distance, and those whose place is told, where open texts end. They are defined
+//! in `specs/Ahead`.
 
-ghost use Rattle.std.specs.Prelude.{◌≡◌, ◌+◌, ◌≤◌, IfSome, option_map, pos};
+ghost use Rattle.std.specs.Prelude.{◌≡◌, ◌+◌, ◌≤◌, length, IfSome, option_map, pos};
 ghost use Rattle.rz_bits.specs.BitBuf.{missing};
+ghost use Rattle.rz_bits.specs.View.{seen};
 ghost use Rattle.rz_expr.specs.Environment.{place_key};
 ghost use Rattle.rz_types_fields.specs.Field.{plain_body, plain_field};
 ghost use Rattle.rz_types_fields.specs.Known.{known};
 ghost use Rattle.rz_types_fields.specs.Passed.{is_label};
-ghost use Rattle.rz_types_fields.specs.Width.{capped};
-ghost use Rattle.rz_unlay_pieces.specs.Ahead.{label_place, near_place, place_within, told_label};
+ghost use Rattle.rz_types_fields.specs.Width.{capped, fixed_widths};
+ghost use Rattle.rz_unlay_pieces.specs.Ahead.{bytes_before, bytes_left, label_place, near_place, open_size, place_within, told_label};
 ghost use Rattle.rz_unlay_pieces.specs.Seen.{behind_capped, told_capped, told_of};
 
-use rz_bits::missing;
+use crate::learnt::Learnt;
+use crate::spot::Spot;
+use rz_bits::{BitView, missing};
 use rz_core::Word;
-use rz_types_fields::{Field, KeyRef, Note, fixed_width, place_of, stands_at};
+use rz_types_fields::{Field, KeyRef, Note, fixed_width, fixed_widths, place_of, stands_at};
 
 /// One bit more than the most bits of a resource.
 const TOO_MANY_BITS: u64 = 134_217_697;
@@ -136,5 +140,48 @@ fn aligned(at: u32, unit: u8) -> u32
         at
     } else {
         at + u32::from(missing(unit, at))
+    }
+}
+
+/// How many bytes an open text has that stands at a place: those up to a told label, or as many as are left.
+pub fn open_size(spot: &Spot<'_>, learnt: &Learnt<'_>, at: u32) -> Option<u64>
+    requires { at ≤ length (seen spot.now.view.now) }
+    ensures { result
+        ≡ open_size (length (seen spot.now.view.now)) (told_label (length (seen spot.now.view.now)) (plain_body spot.now.rest.now) (known learnt.now.notes.items)) (fixed_widths (plain_body spot.now.rest.now)) at }
+{
+    match told_label(spot.rest, learnt.notes.as_slice(), spot.view.len()) {
+        Some(label) => bytes_before(label, at),
+        None => bytes_left(spot.view, fixed_widths(spot.rest), at),
+    }
+}
+
+/// How many whole bytes stand from a place up to just so many bits before a label.
+fn bytes_before(label: LabelAhead, at: u32) -> Option<u64>
+    ensures { result ≡ bytes_before (told_of label) at }
+{
+    let place = u64::from(label.place);
+    let at = u64::from(at);
+    if place < at || place - at < label.width {
+        return None;
+    }
+    let room = place - at - label.width;
+    if room % 8 == 0 { Some(room / 8) } else { None }
+}
+
+/// How many whole bytes stand from a place up to so many bits before the end.
+fn bytes_left(view: &BitView<'_>, width: Option<u64>, at: u32) -> Option<u64>
+    requires { at ≤ length (seen view.now) }
+    ensures { result ≡ bytes_left (length (seen view.now)) width at }
+{
+    let room = u64::from(view.len() - at);
+    match width {
+        Some(width) => {
+            if room < width {
+                None
+            } else {
+                Some((room - width) / 8)
+            }
+        }
+        None => None,
     }
 }

@@ -54,7 +54,7 @@ pub fn value_at(expr: &Expr, spot: &Spot<'_>, learnt: &Learnt<'_>, at: u32) -> O
 }
 
 /// The value of an expression that sees the late bits too, where it has one.
-pub fn value_with_late(expr: &Expr, spot: &Spot<'_>, learnt: &Learnt<'_>, at: u32) -> Option<i32>
+fn value_with_late(expr: &Expr, spot: &Spot<'_>, learnt: &Learnt<'_>, at: u32) -> Option<i32>
     ensures { result ≡ result_ok (value_of (term_of expr.now) (sight_at spot.now learnt.now at)) }
 {
     let env = SpotEnv {

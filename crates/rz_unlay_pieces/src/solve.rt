@@ -12,7 +12,7 @@ ghost use Rattle.rz_types_fields.specs.Solve.{exact, found_if, has_key, in_64_bi
 ghost use Rattle.rz_unlay_pieces.specs.Ahead.{in_resource};
 ghost use Rattle.rz_unlay_pieces.specs.Asked.{asked_sight, solves};
 ghost use Rattle.rz_unlay_pieces.specs.Names.{told};
-ghost use Rattle.rz_unlay_pieces.specs.Pieces.{also, solve_all, solve_key};
+ghost use Rattle.rz_unlay_pieces.specs.Pieces.{solve_all, solve_key};
 ghost use Rattle.rz_unlay_pieces.specs.Power.{power_of};
 ghost use Rattle.rz_unlay_pieces.specs.Seen.{env_sight, near_names};
 
@@ -81,10 +81,13 @@ fn solve_place<'a>(
 {
     match place_seen(name, asked.spot, learnt) {
         Some(_) => Ok(true),
-        None => {
-            let solved = solved_place(name, asked, learnt);
-            tell_place(name, solved, learnt)
-        }
+        None => match solved_place(name, asked, learnt) {
+            Some(place) => {
+                learnt.notes.push(Note::PlaceTold(name, place))?;
+                Ok(true)
+            }
+            None => Ok(false),
+        },
     }
 }
 
@@ -103,52 +106,13 @@ fn solve_count<'a>(
 {
     match rows_of(learnt.notes.as_slice(), name) {
         Some(_) => Ok(true),
-        None => {
-            let solved = solved_count(name, asked, learnt);
-            tell_count(name, solved, learnt)
-        }
-    }
-}
-
-/// Notes the place of a label, where it was solved.
-fn tell_place<'a>(
-    name: &'a Word,
-    solved: Option<i32>,
-    learnt: &mut Learnt<'a>,
-) -> Result<bool, NoMemory>
-    ensures known { IfOk result (λ holds. told holds (known learnt.new.notes.items)
-        ≡ option_and_then (λ value. Some (also (place_key name.now.bytes) value (known learnt.old.notes.items))) solved) }
-    ensures met { IfOk result (λ holds. met learnt.new.notes.items ≡ met learnt.old.notes.items) }
-    ensures grew { IfOk result (λ holds. Grew learnt.old.notes.items learnt.new.notes.items) }
-    ensures marks { IfOk result (λ holds. learnt.new.marks ≡ learnt.old.marks) }
-{
-    match solved {
-        Some(place) => {
-            learnt.notes.push(Note::PlaceTold(name, place))?;
-            Ok(true)
-        }
-        None => Ok(false),
-    }
-}
-
-/// Notes the number of rows of an array, where it was solved.
-fn tell_count<'a>(
-    name: &'a Word,
-    solved: Option<i64>,
-    learnt: &mut Learnt<'a>,
-) -> Result<bool, NoMemory>
-    ensures known { IfOk result (λ holds. told holds (known learnt.new.notes.items)
-        ≡ option_and_then (λ value. Some (also (count_key name.now.bytes) value (known learnt.old.notes.items))) solved) }
-    ensures met { IfOk result (λ holds. met learnt.new.notes.items ≡ met learnt.old.notes.items) }
-    ensures grew { IfOk result (λ holds. Grew learnt.old.notes.items learnt.new.notes.items) }
-    ensures marks { IfOk result (λ holds. learnt.new.marks ≡ learnt.old.marks) }
-{
-    match solved {
-        Some(rows) => {
-            learnt.notes.push(Note::Told(name, rows))?;
-            Ok(true)
-        }
-        None => Ok(false),
+        None => match solved_count(name, asked, learnt) {
+            Some(rows) => {
+                learnt.notes.push(Note::Told(name, rows))?;
+                Ok(true)
+            }
+            None => Ok(false),
+        },
     }
 }
 

@@ -3,7 +3,7 @@ use Rattle.rz_bits.specs.View.{seen}
 use Rattle.rz_types.specs.Field.{plain_body}
 use Rattle.rz_types.specs.Width.{case_keys, keys_from}
 use Rattle.rz_unlay.specs.Cursor.{has_keys}
-use Rattle.rz_unlay_pieces.specs.Fits.{AreFit}
+use Rattle.rz_unlay.specs.Fits.{AreFit}
 use Rattle.rz_unlay.proofs.cases.has_keys.Given as goal
 
 abbrev pub invariant-loop-field : goal.invariant-loop-field

@@ -9,10 +9,10 @@ use Rattle.rz_types_fields.specs.Sees.{marked}
 use Rattle.rz_unlay.specs.Came.{line_at, line_in}
 use Rattle.rz_unlay.specs.Cursor.{body_found, ended}
 use Rattle.rz_types_fields.specs.Known.{known, met, names_inside}
-use Rattle.rz_unlay_pieces.specs.Pieces.{Found}
+use Rattle.rz_unlay.specs.Pieces.{Found}
 use Rattle.rz_unlay_pieces.specs.Few.{few}
 use Rattle.rz_unlay.specs.Few.{line_count}
-use Rattle.rz_unlay_pieces.specs.Fits.{AreFit}
+use Rattle.rz_unlay.specs.Fits.{AreFit}
 use Rattle.rz_unlay.proofs.EndSteps.{ended_so, none_ended, not_ended}
 use Rattle.rz_unlay.proofs.Fitting.{template_fits}
 use Rattle.rz_unlay.proofs.row.read_row.Goals as goal

@@ -6,7 +6,7 @@ use Rattle.rz_unlay.specs.Came.{row_at}
 use Rattle.rz_unlay.specs.Cursor.{body_found, case_found, rows_at, rows_to, rows_while}
 use Rattle.rz_unlay_pieces.specs.Few.{few}
 use Rattle.rz_unlay.specs.Few.{found_count, lines_count, rows_count}
-use Rattle.rz_unlay_pieces.specs.Fits.{AreFit, CasesFit}
+use Rattle.rz_unlay.specs.Fits.{AreFit, CasesFit}
 use Rattle.rz_types_fields.specs.Known.{known, met, Grew}
 use Rattle.rz_types_fields.specs.Sees.{marked}
 use Rattle.rz_unlay.proofs.FieldSteps.{with_lines, with_row}

@@ -1,7 +1,0 @@
-use Rattle.std.proofs.Common.{◌≡◌, take, drop}
-use Rattle.rz_unlay_pieces.specs.Pieces.{up_to_zero}
-use Rattle.rz_unlay_pieces.proofs.TextSteps.{with_bytes}
-use Rattle.rz_unlay_pieces.proofs.plain.before_zero_byte.Given as goal
-
-abbrev pub invariant-loop-count : goal.invariant-loop-count
-invariant-loop-count l = with_bytes (take l.count l.bytes) (up_to_zero (drop l.count l.bytes)) ≡ up_to_zero l.bytes

@@ -1,5 +1,0 @@
-use Rattle.rz_unlay_pieces.proofs.TextSteps.{zeros_length}
-use Rattle.rz_unlay_pieces.proofs.stored.is_zeros.Goals as goal
-
-pub returns-then-bytes-count : goal.returns-then-bytes-count
-returns-then-bytes-count c = zeros_length c.args.count c.args.bytes.now c.if-bytes-count.true
