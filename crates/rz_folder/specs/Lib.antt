@@ -4,6 +4,7 @@ pub mod Sink
 pub mod FolderState
 pub mod Entries
 pub mod MemFolder
+pub mod Shelf
 pub mod SinkState
 pub mod MemSink
 pub mod RealFaults

@@ -1,5 +1,6 @@
 //! Files by name and places to write to, each with counts of its faults: the two traits, and a folder and a sink
 //! in memory whose contracts are exact. It rests on `rz_core`, `arrayvec` and `itoa`.
+//! `Shelf` holds files in memory that are read and never written, for a command that has its files of its own.
 //! `RealFolder` and `RealSink` are the host's: what the host's calls do is trusted and tested, not proved.
 //! `replace` writes a regular file so that it is replaced whole or stays as it was; `temporary` names the file
 //! that it fills.
@@ -12,6 +13,7 @@ mod mem_sink;
 mod real_folder;
 mod real_sink;
 mod replace;
+mod shelf;
 mod sink;
 mod temporary;
 
@@ -20,4 +22,5 @@ pub use mem_folder::MemFolder;
 pub use mem_sink::MemSink;
 pub use real_folder::RealFolder;
 pub use real_sink::RealSink;
+pub use shelf::Shelf;
 pub use sink::{Put, Sink};

@@ -1,5 +1,5 @@
-//! Tests of what no command shows: the host's files and streams, folders and streams in memory, and the layout of a
-//! fork. Each test is a table of calls in turn, with what each gives. It rests on `rz_core`, `rz_folder`, `rz_fork` and
+//! Tests of what no command shows: the host's files and streams, folders, shelves and streams in memory, and the layout
+//! of a fork. Each test is a table of calls in turn, with what each gives. It rests on `rz_core`, `rz_folder`, `rz_fork` and
 //! `rz_test_tables`, and has no code that ships. `failing` lets each call of a write or a read fail in turn, and changes
 //! with `replace` of `rz_folder`.
 #![tactic(auto)]

@@ -1,4 +1,4 @@
-//! Folders and streams in memory, and a fork.
+//! Folders, shelves and streams in memory, and a fork.
 
 /// A folder in memory has room for what was reserved.
 pub const ROOM: &str = "
@@ -24,6 +24,21 @@ memory read a => old
 memory read a => Failed
 memory read b => Missing
 memory faults  => 1 0
+";
+
+/// A shelf is read and never written.
+pub const SHELF: &str = "
+shelf read a => Missing
+shelf insert a old =>\x20
+shelf insert ab =>\x20
+shelf read a => old
+shelf read ab =>\x20
+shelf insert a new =>\x20
+shelf write a other => Failed
+shelf write b new => Failed
+shelf read a => new
+shelf read b => Missing
+shelf faults  => 0 18446744073709551615
 ";
 
 /// A stream in memory takes a front of the put that is named.

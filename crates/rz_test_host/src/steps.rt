@@ -1,9 +1,13 @@
 //! Calls of folders and streams, and what they give, as text.
 
+ghost use Rattle.std.specs.Prelude.{◌<◌, ◌^◌, length};
+
 use crate::failing::{Calls, FailingFiles};
 use crate::files::{show_file_call, show_rewrite};
 use crate::forks::show_fork;
-use rz_folder::{Folder, MemFolder, MemSink, Put, Read, RealFolder, RealSink, Sink, Written};
+use rz_folder::{
+    Folder, MemFolder, MemSink, Put, Read, RealFolder, RealSink, Shelf, Sink, Written,
+};
 use rz_test_tables::Text;
 use std::alloc::Global;
 use std::cell::Cell;
@@ -17,6 +21,7 @@ const MOST: usize = 1_000_000;
 pub struct World {
     pub rt: HostRuntime,
     pub memory: MemFolder,
+    pub shelf: Shelf,
     pub sink: MemSink,
     pub host: RealFolder<HostRuntime>,
 }
@@ -27,6 +32,7 @@ impl World {
         World {
             rt,
             memory: MemFolder::new(rt.alloc()),
+            shelf: Shelf::new(rt.alloc()),
             sink: MemSink::new(rt.alloc()),
             host: RealFolder::new(rt),
         }
@@ -39,6 +45,7 @@ pub fn show_call(world: &mut World, text: &str, came: &mut Text) {
     let (on, call) = in_two(text);
     match on {
         "memory" => show_memory(rt.alloc(), &mut world.memory, call, came),
+        "shelf" => show_shelf(rt.alloc(), &mut world.shelf, call, came),
         "sink" => show_sink(&mut world.sink, call, came),
         "host" => show_folder(rt.alloc(), &mut world.host, call, came),
         "rewrite" => show_rewrite(rt, &mut world.host, call, came),
@@ -92,7 +99,10 @@ pub fn show_done<E: Drop>(done: Result<(), E>, came: &mut Text) {
 /// Shows what a call of a folder in memory gives.
 fn show_memory(alloc: Global, folder: &mut MemFolder, call: &str, came: &mut Text) {
     match in_two(call) {
-        ("insert", rest) => show_insert(folder, rest, came),
+        ("insert", rest) => {
+            let (name, content) = content_in(rest, came);
+            show_done(folder.insert(name, content), came);
+        }
         ("reserve", rest) => {
             let (writes, bytes) = in_two(rest);
             let (writes, bytes) = (number_in(writes, came), number_in(bytes, came));
@@ -107,14 +117,27 @@ fn show_memory(alloc: Global, folder: &mut MemFolder, call: &str, came: &mut Tex
     }
 }
 
-/// Lets a name hold a content.
-fn show_insert(folder: &mut MemFolder, call: &str, came: &mut Text) {
+/// Shows what a call of a shelf gives.
+fn show_shelf(alloc: Global, shelf: &mut Shelf, call: &str, came: &mut Text) {
+    match in_two(call) {
+        ("insert", rest) => {
+            let (name, content) = content_in(rest, came);
+            show_done(shelf.insert(name, content), came);
+        }
+        _ => show_folder(alloc, shelf, call, came),
+    }
+}
+
+/// The name and the content of a call.
+fn content_in<'a>(call: &'a str, came: &mut Text) -> (&'a str, &'a [u8])
+    ensures { length result.1.now < 2 ^ 32 }
+{
     let (name, content) = in_two(call);
     if content.len() > MOST {
         came.fail();
-        return;
+        return (name, &[]);
     }
-    show_done(folder.insert(name, content.as_bytes()), came);
+    (name, content.as_bytes())
 }
 
 /// Shows what a call of any folder gives.
@@ -138,12 +161,8 @@ pub fn show_folder<F: Folder>(alloc: Global, folder: &mut F, call: &str, came: &
 
 /// Shows what the write of a file gives.
 fn show_write<F: Folder>(folder: &mut F, call: &str, came: &mut Text) {
-    let (name, content) = in_two(call);
-    if content.len() > MOST {
-        came.fail();
-        return;
-    }
-    match folder.write(name, content.as_bytes()) {
+    let (name, content) = content_in(call, came);
+    match folder.write(name, content) {
         Written::Done => came.put(b"Done"),
         Written::Failed => came.put(b"Failed"),
     }

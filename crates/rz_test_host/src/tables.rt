@@ -5,10 +5,11 @@ use crate::{memory, replaced};
 use rz_test_tables::{CaseFault, Text, add_if_wrong, cases_of, expanded};
 
 /// All tables.
-fn tables() -> [&'static str; 10] {
+fn tables() -> [&'static str; 11] {
     [
         memory::ROOM,
         memory::NAMED,
+        memory::SHELF,
         memory::PUTS,
         memory::FORKS,
         replaced::HOST,
