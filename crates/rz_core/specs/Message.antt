@@ -122,14 +122,18 @@ fault_name number =
     else if nat_lt number 420 then fork_fault number
     else bridge_fault number
 
--- the numbers that have a name
+-- the numbers of the faults that refuse
 abbrev pub is_between : ℕ → ℕ → ℕ → Bool
 is_between first last number = nat_le first number && nat_le number last
 
 abbrev pub is_fault : ℕ → Bool
 is_fault number =
-    is_between 101 115 number || is_between 201 222 number || is_between 230 240 number || is_between 301 304 number
+    is_between 101 115 number || is_between 201 222 number || is_between 230 239 number || is_between 301 304 number
     || is_between 401 410 number || is_between 421 428 number || is_between 441 447 number
+
+-- the numbers that have a name: those of faults that refuse, and that of the one warning
+abbrev pub is_named : ℕ → Bool
+is_named number = is_fault number || number == 240
 
 -- 240 is a warning, and every other fault an error
 abbrev pub severity : ℕ → List ℕ
@@ -139,9 +143,15 @@ severity number = if number == 240 then codes "warning " else codes "error "
 abbrev pub IsMarked : ℕ → Option Mark → Type 0
 IsMarked files mark = IfSome mark (λ mark. mark.file < files)
 
--- a message can name the fault: the table has its number, and its mark is of one of so many files
+-- a message can name the fault of a refusal: it is no warning, the table has its number, and its mark is of one of so
+-- many files
 pub record IsNameable (files : ℕ) (fault : Fault) : Type 0 where
   pub number : is_fault fault.number ≡ true
+  pub place : IsMarked files fault.mark
+
+-- there is a line for the fault, whether it refuses or warns
+pub record HasLine (files : ℕ) (fault : Fault) : Type 0 where
+  pub number : is_named fault.number ≡ true
   pub place : IsMarked files fault.mark
 
 -- the file and the line, where there is a mark

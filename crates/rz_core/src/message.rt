@@ -2,7 +2,7 @@
 
 ghost use Rattle.std.specs.Prelude.{◌≡◌, ◌++◌, length, true, OnOk, OnErr};
 ghost use Rattle.std.specs.Option.{option_copied};
-ghost use Rattle.rz_core.specs.Message.{is_fault, fault_name, source_fault, statement_fault, declaration_fault, fork_fault, bridge_fault, severity, place_text, kept_text, rule_text, fault_line, IsMarked, IsNameable};
+ghost use Rattle.rz_core.specs.Message.{is_named, fault_name, source_fault, statement_fault, declaration_fault, fork_fault, bridge_fault, severity, place_text, kept_text, rule_text, fault_line, IsMarked, HasLine};
 
 use crate::{
     Bytes, Fault, FileNames, Kept, Mark, NoMemory, write_decimal, write_quoted, write_signed,
@@ -14,7 +14,7 @@ use crate::{
 /// where nothing is kept. The mark's file must be a position of `files`, and the number one that the
 /// table of faults has. Where memory is refused `into` is unchanged.
 pub fn write_fault(fault: &Fault, files: &FileNames, into: &mut Bytes) -> Result<(), NoMemory>
-    requires { IsNameable (length files.now) fault.now }
+    requires { HasLine (length files.now) fault.now }
     ensures ok { OnOk result (into.new ≡ into.old ++ fault_line files.now fault.now) }
     ensures err { OnErr result (into.new ≡ into.old) }
 {
@@ -26,7 +26,7 @@ pub fn write_fault(fault: &Fault, files: &FileNames, into: &mut Bytes) -> Result
 
 #[tactic(auto, unfolding(crate::specs::Message::fault_line))]
 fn append_line(fault: &Fault, files: &FileNames, line: &mut Bytes) -> Result<(), NoMemory>
-    requires { IsNameable (length files.now) fault.now }
+    requires { HasLine (length files.now) fault.now }
     ensures { OnOk result (line.new ≡ line.old ++ fault_line files.now fault.now) }
 {
     line.append(b"rezkit: ")?;
@@ -51,7 +51,7 @@ fn severity(number: u16) -> &'static [u8]
 /// What rule is broken: `error NUMBER NAME`.
 #[tactic(auto, unfolding(crate::specs::Message::rule_text))]
 fn append_rule(number: u16, line: &mut Bytes) -> Result<(), NoMemory>
-    requires { is_fault number ≡ true }
+    requires { is_named number ≡ true }
     ensures { OnOk result (line.new ≡ line.old ++ rule_text number) }
 {
     line.append(severity(number))?;

@@ -1,7 +1,7 @@
 //! Faults and their message lines.
 
 ghost use Rattle.std.specs.Prelude.{◌≡◌, true, IsTrue};
-ghost use Rattle.rz_core.specs.Message.{is_fault};
+ghost use Rattle.rz_core.specs.Message.{is_named};
 
 use rz_core::{Bytes, Fault, FileNames, Kept, Mark, OsType, to_roman, write_fault};
 use rz_test_tables::Text;
@@ -110,7 +110,7 @@ pub const KEPT: &str = r#"
 
 /// Whether the table has a fault of this number.
 fn is_in_table(number: u16) -> bool
-    ensures { IsTrue result → is_fault number ≡ true }
+    ensures { IsTrue result → is_named number ≡ true }
 {
     matches!(number, 101..=115 | 201..=222 | 230..=240 | 301..=304 | 401..=410 | 421..=428 | 441..=447)
 }
