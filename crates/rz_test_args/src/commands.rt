@@ -1,10 +1,10 @@
 //! Command lines.
 
-/// Words with a blank between them, and what they ask for; `~` is the empty word. `rez` shows its sources, the
-/// file to write, its paths for included files and for the files of statements, its definitions, each text by the number
-/// of its tokens, `-rd`, `-a`, `-ov`, `-ro`, its type and its creator, each by its number, and its form. `derez` shows
-/// its fork, its type files, and the same; and then its types and its form. `bridge` shows its file, the file to write
-/// and both forms. `word` shows the position of the first word that can't stand where it stands.
+/// Words with a blank between them, and what they ask for; `~` is the empty word. A command shows its name, its files or
+/// its number, and then what its items say, of several that don't add up the last: the file to write, its paths for
+/// included files and for the files of statements, its definitions, each text by the number of its tokens, `-rd`, `-a`,
+/// `-ov`, `-ro`, its types, and the type and the creator, each by its number, and its forms. `word` shows the position of
+/// the first word that can't stand where it stands.
 pub const CASES: &str = r#"
 // no command
  => word 1
@@ -18,35 +18,35 @@ rez.r => word 1
 -- => word 1
 // sources
 rez => word 2
-rez a.r => rez a.r -o Rez.Out
-rez a b c => rez a b c -o Rez.Out
-rez a a => rez a a -o Rez.Out
-rez rez derez => rez rez derez -o Rez.Out
-rez é => rez é -o Rez.Out
-rez ~ => rez  -o Rez.Out
+rez a.r => rez a.r
+rez a b c => rez a b c
+rez a a => rez a a
+rez rez derez => rez rez derez
+rez é => rez é
+rez ~ => rez 
 // the file to write: the last counts
 rez -o x a => rez a -o x
 rez a -o x => rez a -o x
 rez a -o x b -o y => rez a b -o y
 rez a -o ~ => rez a -o 
 // paths and definitions add up in their order
-rez -i p a => rez a -o Rez.Out -i p
-rez -i p a -i q b -i p => rez a b -o Rez.Out -i p -i q -i p
-rez -d n a => rez a -o Rez.Out -d n 0
-rez -d n= a => rez a -o Rez.Out -d n 0
-rez -d n=1 a => rez a -o Rez.Out -d n 1
-rez -d n=1+2 a => rez a -o Rez.Out -d n 3
-rez -d n=a=b a => rez a -o Rez.Out -d n 3
-rez -d n=-1 a => rez a -o Rez.Out -d n 2
-rez -d n=x -d n=1+2 a => rez a -o Rez.Out -d n 1 -d n 3
-rez -u n a => rez a -o Rez.Out -u n
-rez -u n -d n=1 -u N a => rez a -o Rez.Out -u n -d n 1 -u N
+rez -i p a => rez a -i p
+rez -i p a -i q b -i p => rez a b -i p -i q -i p
+rez -d n a => rez a -d n 0
+rez -d n= a => rez a -d n 0
+rez -d n=1 a => rez a -d n 1
+rez -d n=1+2 a => rez a -d n 3
+rez -d n=a=b a => rez a -d n 3
+rez -d n=-1 a => rez a -d n 2
+rez -d n=x -d n=1+2 a => rez a -d n 1 -d n 3
+rez -u n a => rez a -u n
+rez -u n -d n=1 -u N a => rez a -u n -d n 1 -u N
 rez -d _a1 -i p -o x -u b a => rez a -o x -i p -d _a1 0 -u b
-rez -d n="é" a => rez a -o Rez.Out -d n 1
-rez -d n=$"0A" a => rez a -o Rez.Out -d n 1
+rez -d n="é" a => rez a -d n 1
+rez -d n=$"0A" a => rez a -d n 1
 // types may be declared again: an option without a value
-rez -rd a => rez a -o Rez.Out -rd
-rez a -rd -rd => rez a -o Rez.Out -rd
+rez -rd a => rez a -rd
+rez a -rd -rd => rez a -rd
 rez -rd -o x a => rez a -o x -rd
 rez -o -rd a => rez a -o -rd
 rez -rd => word 3
@@ -55,8 +55,8 @@ rez -r d a => word 2
 // a word after an option is its value, whatever it begins with
 rez -o -o a => rez a -o -o
 rez -o -d a => rez a -o -d
-rez -i -u a => rez a -o Rez.Out -i -u
-rez -i --help a => rez a -o Rez.Out -i --help
+rez -i -u a => rez a -i -u
+rez -i --help a => rez a -i --help
 // a word is missing at the end
 rez -o => word 3
 rez -i => word 3
@@ -168,13 +168,13 @@ rez a -only Test => word 3
 rez -skip Test a => word 2
 derez --help => word 2
 // a form, a type and a creator, of which the last counts
-rez a -form hqx => rez a -o Rez.Out -form hqx
-rez -form raw a -form macbin => rez a -o Rez.Out -form macbin
-rez -form double -form raw a => rez a -o Rez.Out -form raw
-rez a -t Test -c Kind => rez a -o Rez.Out -t 1415934836 -c 1265200740
-rez -t Kind -c Test -t Test a -c Kind => rez a -o Rez.Out -t 1415934836 -c 1265200740
-rez -t -abc a => rez a -o Rez.Out -t 761356899
-rez a -c éééé => rez a -o Rez.Out -c 2391707278
+rez a -form hqx => rez a -form hqx
+rez -form raw a -form macbin => rez a -form macbin
+rez -form double -form raw a => rez a -form raw
+rez a -t Test -c Kind => rez a -t 1415934836 -c 1265200740
+rez -t Kind -c Test -t Test a -c Kind => rez a -t 1415934836 -c 1265200740
+rez -t -abc a => rez a -t 761356899
+rez a -c éééé => rez a -c 2391707278
 derez f -from raw => derez f -from raw
 derez -from hqx f -from macbin g -from double => derez f g -from double
 rez a -form => word 4
@@ -209,16 +209,16 @@ derez f -from raw -from ~ => word 6
 bridge a -to single -o b => word 4
 bridge a -to raw -o b -from sit => word 8
 // paths for the files of statements add up in their order
-rez -s p a => rez a -o Rez.Out -s p
-rez a -s p => rez a -o Rez.Out -s p
-rez a -s q -s p b -s q => rez a b -o Rez.Out -s q -s p -s q
-rez a -s ~ => rez a -o Rez.Out -s 
-rez a -s p -i q -s r -i t => rez a -o Rez.Out -i q -i t -s p -s r
-rez a -s Test => rez a -o Rez.Out -s Test
-rez a -s abc => rez a -o Rez.Out -s abc
-rez a -s é/è => rez a -o Rez.Out -s é/è
-rez a -s -a => rez a -o Rez.Out -s -a
-rez a -s -s -s -s => rez a -o Rez.Out -s -s -s -s
+rez -s p a => rez a -s p
+rez a -s p => rez a -s p
+rez a -s q -s p b -s q => rez a b -s q -s p -s q
+rez a -s ~ => rez a -s 
+rez a -s p -i q -s r -i t => rez a -i q -i t -s p -s r
+rez a -s Test => rez a -s Test
+rez a -s abc => rez a -s abc
+rez a -s é/è => rez a -s é/è
+rez a -s -a => rez a -s -a
+rez a -s -s -s -s => rez a -s -s -s -s
 rez a -s => word 4
 rez -s => word 3
 rez -s a => word 4
@@ -230,9 +230,9 @@ derez f -s p => word 4
 derez f -s -rd! -rd => derez f -rd -skip 762471457
 bridge a -s Test -to raw -o b => word 3
 // the file of that name is gone on with: an option without a value
-rez a -a => rez a -o Rez.Out -a
-rez -a a => rez a -o Rez.Out -a
-rez -a a -a -a => rez a -o Rez.Out -a
+rez a -a => rez a -a
+rez -a a => rez a -a
+rez -a a -a -a => rez a -a
 rez -a -o x a -o y => rez a -o y -a
 rez -o -a a => rez a -o -a
 rez -a => word 3
@@ -244,29 +244,29 @@ derez f -a => word 3
 derez -a f => word 2
 bridge a -a -to raw -o b => word 3
 // protected resources may be replaced, changed and removed: an option without a value
-rez a -ov => rez a -o Rez.Out -ov
-rez -ov a -ov => rez a -o Rez.Out -ov
+rez a -ov => rez a -ov
+rez -ov a -ov => rez a -ov
 rez -ov -o -ov a => rez a -o -ov -ov
 rez -ov => word 3
 rez a -OV => word 3
 rez a -o v => rez a -o v
-rez a -ov v => rez a v -o Rez.Out -ov
+rez a -ov v => rez a v -ov
 derez f -ov => word 3
 bridge a -to raw -o b -ov => word 7
 // the map becomes read-only: an option without a value
-rez a -ro => rez a -o Rez.Out -ro
-rez -ro a -ro -ro => rez a -o Rez.Out -ro
+rez a -ro => rez a -ro
+rez -ro a -ro -ro => rez a -ro
 rez -ro => word 3
 rez a -Ro => word 3
 rez a -r o => word 3
 derez -ro f => word 2
 bridge -ro a -to raw -o b => word 2
 // all of them, in whatever order and number
-rez a -a -ov -ro -rd => rez a -o Rez.Out -rd -a -ov -ro
-rez -rd -ro -ov -a a => rez a -o Rez.Out -rd -a -ov -ro
-rez -a -a a -ov -ov -a => rez a -o Rez.Out -a -ov
-rez -ov -ro a -ov => rez a -o Rez.Out -ov -ro
-rez -a a -ro => rez a -o Rez.Out -a -ro
+rez a -a -ov -ro -rd => rez a -rd -a -ov -ro
+rez -rd -ro -ov -a a => rez a -rd -a -ov -ro
+rez -a -a a -ov -ov -a => rez a -a -ov
+rez -ov -ro a -ov => rez a -ov -ro
+rez -a a -ro => rez a -a -ro
 rez -c Kind -s p -ro a -form hqx -u n -a -i q -t Test -d m -o x -s r b => rez a b -o x -i q -s p -s r -u n -d m 0 -a -ro -t 1415934836 -c 1265200740 -form hqx
 rez -a -ov -ro -rd => word 6
 rez -a -ov -x -ro a => word 4
@@ -300,9 +300,57 @@ bridge a -form raw -o b => word 3
 bridge a -t Test -to raw -o b => word 3
 bridge --help => word 2
 Bridge a -to raw -o b => word 1
+// an option of another command
+rez a -skip Test => word 3
+rez a -form raw -from raw => word 5
+derez f -to raw => word 3
+derez -form raw f => word 2
+derez f -rd -ov => word 4
+bridge a -i p -to raw -o b => word 3
+bridge a -only Test -to raw -o b => word 3
+bridge a -to raw -o b -c Test => word 7
+bridge a -to raw -o b -u n => word 7
+sample 2 -rd => word 3
+sample 2 -o x => word 3
+sample -i p 2 => word 2
+--help -rd => word 2
+--version -o x => word 2
+// a number of resources
+sample 1 => sample 1
+sample 2 => sample 2
+sample 10 => sample 10
+sample 4999 => sample 4999
+sample 5000 => sample 5000
+sample => word 2
+sample ~ => word 2
+sample 0 => word 2
+sample 00 => word 2
+sample 01 => word 2
+sample 5001 => word 2
+sample 10000 => word 2
+sample -5 => word 2
+sample +2 => word 2
+sample 2x => word 2
+sample x2 => word 2
+sample 2.0 => word 2
+sample é => word 2
+sample two => word 2
+sample 4294967295 => word 2
+sample 4294967297 => word 2
+sample 18446744073709551617 => word 2
+sample 99999999999999999999 => word 2
+sample 2 3 => word 3
+sample 2 2 => word 3
+sample 2 ~ => word 3
+sample 0 2 => word 2
+sample 2 --help => word 3
+sample --help => word 2
+sample sample 2 => word 2
+Sample 2 => word 1
+samples 2 => word 1
 // help and version stand alone
---help => help
---version => version
+--help => --help
+--version => --version
 --help x => word 2
 --help --help => word 2
 --version --help => word 2

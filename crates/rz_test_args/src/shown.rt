@@ -1,10 +1,58 @@
 //! What the words of a command line ask for, as text.
 
 use rz_bridge_form::Form;
-use rz_core::{FileNames, OsType};
+use rz_core::{FileNames, NoMemory, OsType};
 use rz_pre::Defs;
 use rz_test_tables::Text;
-use rz_tools_args::{BridgeWords, DeRezWords, Kinds, RezWords};
+use rz_tools_args::{Command, CommandName, Flag, Kinds, Switch, syntax_of};
+use std::alloc::Global;
+
+/// What words ask for, as text.
+pub fn show_command(alloc: Global, command: Command<'_>, text: &mut Text) -> Result<(), NoMemory> {
+    let mut behind = Text::new(alloc);
+    show_behind(alloc, &command, &mut behind)?;
+    show_files(alloc, &command, text)?;
+    let defs = command.into_defs(alloc)?;
+    show_definitions(&defs, text);
+    text.put(behind.as_slice());
+    Ok(())
+}
+
+/// The name of a command, and what it asks for by names, as text.
+fn show_files(alloc: Global, command: &Command<'_>, text: &mut Text) -> Result<(), NoMemory> {
+    text.put(syntax_of(command.name).name.as_bytes());
+    show_names(b" ", &command.files(alloc)?, text);
+    if let Some(output) = command.name(Flag::Output) {
+        text.put(b" -o ");
+        text.put(output.as_bytes());
+    }
+    show_names(b" -i ", &command.names(alloc, Flag::Path)?, text);
+    show_names(b" -s ", &command.names(alloc, Flag::Search)?, text);
+    Ok(())
+}
+
+/// What stands behind the definitions, as text.
+fn show_behind(alloc: Global, command: &Command<'_>, text: &mut Text) -> Result<(), NoMemory> {
+    show_switch(b" -rd", command.has(Switch::Redeclare), text);
+    show_switch(b" -a", command.has(Switch::Append), text);
+    show_switch(b" -ov", command.has(Switch::Over), text);
+    show_switch(b" -ro", command.has(Switch::ReadOnly), text);
+    show_kinds(b" -only ", &command.kinds(alloc, Flag::Only)?, text);
+    show_kinds(b" -skip ", &command.kinds(alloc, Flag::Skip)?, text);
+    show_kind(b" -t ", command.kind(Flag::Kind), text);
+    show_kind(b" -c ", command.kind(Flag::Creator), text);
+    show_form(word_of_into(command.name), command.form(Flag::Into), text);
+    show_form(b" -from ", command.form(Flag::From), text);
+    Ok(())
+}
+
+/// How a command names the form of the file to write.
+fn word_of_into(command: CommandName) -> &'static [u8] {
+    match command {
+        CommandName::Bridge => b" -to ",
+        _ => b" -form ",
+    }
+}
 
 /// Names behind a word, as text.
 fn show_names(word: &[u8], names: &FileNames, text: &mut Text) {
@@ -26,28 +74,17 @@ fn show_definitions(defs: &Defs, text: &mut Text) {
     }
 }
 
-/// What `rez` is asked for, as text.
-pub fn show_rez(asked: &RezWords<'_>, text: &mut Text) {
-    text.put(b"rez");
-    show_names(b" ", &asked.files, text);
-    text.put(b" -o ");
-    text.put(asked.output.as_bytes());
-    show_names(b" -i ", &asked.paths, text);
-    show_names(b" -s ", &asked.searches, text);
-    show_definitions(&asked.defs, text);
-    show_switch(b" -rd", asked.redeclare, text);
-    show_switch(b" -a", asked.append, text);
-    show_switch(b" -ov", asked.over, text);
-    show_switch(b" -ro", asked.read_only, text);
-    show_kind(b" -t ", asked.kind, text);
-    show_kind(b" -c ", asked.creator, text);
-    show_form(b" -form ", asked.form, text)
-}
-
 /// An option without a value, where it is asked for, as text.
 fn show_switch(word: &[u8], asked: bool, text: &mut Text) {
     if asked {
         text.put(word);
+    }
+}
+
+/// Types behind a word, as text.
+fn show_kinds(word: &[u8], kinds: &Kinds, text: &mut Text) {
+    for kind in kinds.as_slice() {
+        show_kind(word, Some(*kind), text);
     }
 }
 
@@ -70,35 +107,4 @@ fn show_form(word: &[u8], form: Option<Form>, text: &mut Text) {
             Form::BinHex => b"hqx",
         });
     }
-}
-
-/// What `bridge` is asked for, as text.
-pub fn show_bridge(asked: &BridgeWords<'_>, text: &mut Text) {
-    text.put(b"bridge ");
-    text.put(asked.file.as_bytes());
-    text.put(b" -o ");
-    text.put(asked.output.as_bytes());
-    show_form(b" -to ", Some(asked.to), text);
-    show_form(b" -from ", asked.from, text)
-}
-
-/// Types behind a word, as text.
-fn show_kinds(word: &[u8], kinds: &Kinds, text: &mut Text) {
-    for kind in kinds.as_slice() {
-        text.put(word);
-        text.number(u64::from(kind.code));
-    }
-}
-
-/// What `derez` is asked for, as text.
-pub fn show_derez(asked: &DeRezWords, text: &mut Text) {
-    text.put(b"derez ");
-    text.put(asked.file.as_bytes());
-    show_names(b" ", &asked.files, text);
-    show_names(b" -i ", &asked.paths, text);
-    show_definitions(&asked.defs, text);
-    show_switch(b" -rd", asked.redeclare, text);
-    show_kinds(b" -only ", &asked.only, text);
-    show_kinds(b" -skip ", &asked.skip, text);
-    show_form(b" -from ", asked.from, text)
 }

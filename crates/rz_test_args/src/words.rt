@@ -1,10 +1,10 @@
 //! The test of command lines.
 
 use crate::commands::CASES;
-use crate::shown::{show_bridge, show_derez, show_rez};
+use crate::shown::show_command;
 use rz_core::Stop;
 use rz_test_tables::{Case, Text, add_if_wrong, cases_of};
-use rz_tools_args::{Command, read_words};
+use rz_tools_args::{CommandName, read_words};
 use std::alloc::Global;
 use std::process::Abort;
 
@@ -26,11 +26,14 @@ fn words_of(rt: &(impl Abort + AllocGlobal), text: &str) -> Vec<String> {
 /// Shows what words ask for.
 fn show_words(alloc: Global, words: &[String], came: &mut Text) {
     match read_words(alloc, words) {
-        Ok(Command::Rez(asked)) => show_rez(&asked, came),
-        Ok(Command::DeRez(asked)) => show_derez(&asked, came),
-        Ok(Command::Bridge(asked)) => show_bridge(&asked, came),
-        Ok(Command::Help) => came.put(b"help"),
-        Ok(Command::Version) => came.put(b"version"),
+        Ok(command) => {
+            if let CommandName::Sample = command.name {
+                came.put(b"sample ");
+                came.number(u64::from(command.number()));
+            } else if show_command(alloc, command, came).is_err() {
+                came.fail();
+            }
+        }
         Err(Stop::Refused(fault)) => {
             came.put(b"word ");
             came.number(fault.position);

@@ -46,10 +46,12 @@ use Rattle.rz_stmt.specs.Raw.{Raw}
 use Rattle.rz_stmt.specs.Statements.{AreStatements}
 use Rattle.rz_set.proofs.Puts.{flipped}
 use Rattle.rz_tools.specs.Again.{AreShort, HasMacros, MeanResources, MeansAgain, SparesWords}
-use Rattle.rz_tools.specs.DeRez.{ShowsEach}
+use Rattle.rz_tools_text.proofs.Showings.{shown_each, AreShownBy}
+use Rattle.rz_tools_text.specs.Text.{ShowsEach}
 use Rattle.rz_tools_resource.specs.Items.{items_read}
 use Rattle.rz_tools_resource.specs.Resource.{no_type, IsMade, IsResource}
-use Rattle.rz_tools.specs.Shown.{facts_of, its_bytes, its_row, IsShownBy, Known, TellsRow}
+use Rattle.rz_tools_text.specs.Shown.{its_bytes, its_row, IsShownBy, Known, TellsRow}
+use Rattle.rz_unlay.specs.Reading.{facts_of}
 use Rattle.rz_set.specs.After.{forbidden}
 use Rattle.rz_tools_values.specs.Around.{Around}
 use Rattle.rz_tools_work.specs.Put.{list_with}
@@ -207,30 +209,18 @@ pub record Laws : Type 0 where
 
 -- How each resource is shown.
 
-abbrev pub AreShownBy : Known → List Resource → List Showing → Type 0
-AreShownBy known [] [] = Unit {0}
-AreShownBy known (r ∷ rs) (showing ∷ showings) = IsShownBy known r showing × AreShownBy known rs showings
-AreShownBy known rs showings = ⊥
-
-pub shown_each : (known : Known) (list : List Resource) (text : List ℕ) → ShowsEach known list text
-    → (showings : List Showing) × AreShownBy known list showings × (text ≡ showings_text known.is_macro showings)
-shown_each known [] text shows = ([], tt, shows)
-shown_each known (r ∷ rs) text (front, behind, eq, (showing, by, is), shows) =
-    let more = shown_each known rs behind shows in
-    (showing ∷ more.0, (by, more.1), eq ∙ (λ i. is i ++ more.2 i) ∙ sym (flat_map-cons (showing_text known.is_macro) showing more.0))
-
 module _ (laws : Laws) (known : Known) where
   one_can_be_shown : (r : Resource) (showing : Showing) → IsStored r → IsShownBy known r showing → CanBeShown known.is_macro showing
   one_can_be_shown r showing stored (its_row body row tells is) =
-      let spelled = tells.told.1 in
+      let spelled = tells.tree.told.1 in
       subst (CanBeShown known.is_macro) (sym is) (
         stored,
         record {
-          shaped = tells.shaped;
-          kept = tells.kept;
-          is = laws.rows true (facts_of known r) body row r.bytes spelled;
-          bytes = laws.bytes (facts_of known r) body row r.bytes spelled;
-          short = laws.short true (facts_of known r) body row r.bytes spelled;
+          shaped = tells.tree.shaped;
+          kept = tells.tree.kept;
+          is = laws.rows true (facts_of known.moment r) body row r.bytes spelled;
+          bytes = laws.bytes (facts_of known.moment r) body row r.bytes spelled;
+          short = laws.short true (facts_of known.moment r) body row r.bytes spelled;
           uses = tells.bare;
         },
       )
@@ -277,8 +267,8 @@ module _ (laws : Laws) (known : Known) (around : Around) (warnings : List Fault)
       let there : Facts = record { kind = r.kind; id = r.id; name = r.name; attr = r.attr; moment = around.setting.moment } in
       let spelled : Spells false there body row r.bytes =
       subst (λ (m : Moment). Spells false (record { kind = r.kind; id = r.id; name = r.name; attr = r.attr; moment = m }) body row r.bytes) (sym at)
-      (laws.plain (facts_of known r) body row r.bytes tells.told.1) in
-      inl (r.bytes, inl (body, sym (ap (λ (o : Option PlainBody). ok_or o (no_type mark there)) tells.declared), inl (items, sym (same there), inl (row, fits there, spelled))), refl)
+      (laws.plain (facts_of known.moment r) body row r.bytes tells.tree.told.1) in
+      inl (r.bytes, inl (body, sym (ap (λ (o : Option PlainBody). ok_or o (no_type mark there)) tells.tree.declared), inl (items, sym (same there), inl (row, fits there, spelled))), refl)
 
   -- and that of a `resource` statement
   row_step : (front : List Resource) (tokens : List Token) (r : Resource) (body : PlainBody) (row : List Tree) → IsWholeRow tokens r body row → TellsRow known r body row

@@ -1,30 +1,24 @@
 -- The text that is shown of resources, as the one source of rez.
-use Rattle.std.proofs.Common.{◌≡◌, inl, ℕ, Bool, false, if◌then◌else◌, List, [], ◌∷◌, Some, Ok, refl, sym, ap, subst, ◌∙◌}
-use Rattle.std.specs.Prelude.{is_some, option_map}
+use Rattle.std.proofs.Common.{◌≡◌, inl, ℕ, Bool, false, if◌then◌else◌, List, [], ◌∷◌, None, Some, Ok, refl, sym, subst}
+use Rattle.std.specs.Prelude.{is_some}
 use Rattle.std.specs.Str.{str_to_ascii_lowercase}
 use Rattle.std.specs.FinMap as finite
 use Rattle.std.specs.declared.result.Result.{Result}
-use Rattle.std.proofs.lemmas.Option.{none-some}
 use Rattle.rz_core.specs.declared.fault.Fault.{Fault}
 use Rattle.rz_core.specs.declared.moment.Moment.{Moment}
 use Rattle.rz_core.specs.declared.resource.Resource.{Resource}
 use Rattle.rz_folder.specs.Folder.{Files}
 use Rattle.rz_pre.specs.Program.{NamesGo, State, start}
 use Rattle.rz_pre.specs.declared.condition.Tool.TheVariants as tools
-use Rattle.rz_tools_args.specs.Command.{IsCommand, Rez, RezAsked}
 use Rattle.rz_tools.specs.Again.{MeansAgain}
-use Rattle.rz_tools.specs.DeRez.{ShowsEach}
-use Rattle.rz_tools.specs.Shown.{its_bytes, its_row, Known, TellsRow}
-use Rattle.rz_show.specs.Showing.{by_bytes, showing_text}
+use Rattle.rz_tools_text.specs.Shown.{Known}
 use Rattle.rz_pre.specs.Live.{Live}
-use Rattle.rz_types_fields.specs.declared.tree.Tree.{Tree}
-use Rattle.rz_types.specs.Field.{PlainBody}
-use Rattle.rz_types_table.specs.Table.{found, Declaration}
 use Rattle.rz_tools_answer.specs.Answer.{or_refused, written}
 use Rattle.rz_tools.specs.Program.{command, Answers}
+use Rattle.rz_tools_args.specs.declared.name.CommandName.TheVariants as names
 use Rattle.rz_tools_output.specs.Base.{base_in, base_of, new_base, or_empty}
 use Rattle.rz_tools_output.specs.Output.{IsOutput}
-use Rattle.rz_tools.specs.Rez.{around_of, BeginsWith, Compiles}
+use Rattle.rz_tools.specs.Rez.{around_of, AnswersRez, BeginsWith, Compiles, IsRez, RezAsked}
 use Rattle.rz_tools.specs.Sources.{compiled}
 use Rattle.rz_tools_answer.specs.Warning.{said_beside}
 use Rattle.rz_tools_work.specs.Work.{Work}
@@ -33,25 +27,9 @@ use Rattle.rz_tools_work.specs.Work.{Work}
 abbrev pub bare_known : Live → Moment → Known
 bare_known live moment = record { types = []; is_macro = λ name. is_some (live (str_to_ascii_lowercase name)); moment = moment }
 
--- where no types are declared no row is told, whatever the macros and the moment are
-no_row : (known : Known) (r : Resource) (body : PlainBody) (row : List Tree) → known.types ≡ [] → TellsRow known r body row → ⊥
-no_row known r body row none tells =
-    none-some body (sym (ap (λ (types : List Declaration). option_map (λ one. one.template) (found r.kind r.id types)) none) ∙ tells.declared)
-
-pub none_declared : (known other : Known) → known.types ≡ [] → other.types ≡ [] → (list : List Resource) (text : List ℕ) → ShowsEach known list text → ShowsEach other list text
-none_declared known other none too [] text shows = shows
-none_declared known other none too (r ∷ rs) text (front, behind, eq, (showing, its_row body row tells is, so), shows) = absurd (no_row known r body row none tells)
-none_declared known other none too (r ∷ rs) text (front, behind, eq, (showing, its_bytes none_tells is, so), shows) = (
-  front,
-  behind,
-  eq,
-  (by_bytes r, its_bytes (λ body row tells. no_row other r body row too tells) refl, so ∙ ap (showing_text known.is_macro) is),
-  none_declared known other none too rs behind shows,
-)
-
 module _ (text : List ℕ) (list : List Resource) (asked : RezAsked) (files : Files) (moment : Moment) (name : List ℕ) (new : asked.append ≡ false)
     (again : MeansAgain (bare_known (start asked.defs).live moment) text list) (held : finite.get files name ≡ Some text)
-    (output : Result (List ℕ) Fault) (is_output : IsOutput asked moment new_base list output) where
+    (output : Result (List ℕ) Fault) (is_output : IsOutput asked.target moment new_base list output) where
   after : State
   after = record { live = (start asked.defs).live; tokens = (again.read files name asked.paths (start asked.defs) held (λ word. refl)).0; files = name ∷ [] }
 
@@ -63,8 +41,8 @@ module _ (text : List ℕ) (list : List Resource) (asked : RezAsked) (files : Fi
   goes = inl (_, (again.read files name asked.paths (start asked.defs) held (λ word. refl)).1, refl)
 
   -- the program begins with nothing
-  begins : BeginsWith after (base_of asked files) (Ok new_base)
-  begins = subst (λ (append : Bool). BeginsWith after (if append then base_in (or_empty (finite.get files asked.output)) else Ok new_base) (Ok new_base)) (sym new) refl
+  begins : BeginsWith after (base_of asked.append asked.target.name files) (Ok new_base)
+  begins = subst (λ (append : Bool). BeginsWith after (if append then base_in None (or_empty (finite.get files asked.target.name)) else Ok new_base) (Ok new_base)) (sym new) refl
 
   compiles : asked.files ≡ name ∷ [] → Compiles moment asked files (said_beside (name ∷ []) [] output)
   unfolding after work
@@ -84,6 +62,9 @@ module _ (text : List ℕ) (list : List Resource) (asked : RezAsked) (files : Fi
         ),
       )
 
-  pub compiles_alone : (words : List (List ℕ)) → IsCommand words (Rez asked) → asked.files ≡ name ∷ []
-      → Answers words files moment (or_refused (written asked.output) (said_beside (name ∷ []) [] output))
-  compiles_alone words is sole = command (Rez asked) is (said_beside (name ∷ []) [] output, compiles sole, refl)
+  pub compiles_alone : (words : List (List ℕ)) → IsRez words asked → asked.files ≡ name ∷ []
+      → Answers words files moment (or_refused (written asked.target.name) (said_beside (name ∷ []) [] output))
+  compiles_alone words (items, is, same) sole =
+      command (record { name = names.Rez; items = items }) is
+      (subst (λ (a : RezAsked). AnswersRez a files moment (or_refused (written asked.target.name) (said_beside (name ∷ []) [] output))) same
+      (said_beside (name ∷ []) [] output, compiles sole, refl))

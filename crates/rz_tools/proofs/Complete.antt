@@ -1,5 +1,5 @@
 -- A run ends with the one answer to its words.
-use Rattle.std.proofs.Common.{◌≡◌, ℕ, List, [], ◌++◌, Some, None, sym, ap, subst, ◌∙◌}
+use Rattle.std.proofs.Common.{◌≡◌, ◌⊎◌, inl, inr, ℕ, List, [], ◌++◌, Some, None, refl, sym, ap, subst, ◌∙◌}
 use Rattle.std.specs.Prelude.{IfSome}
 use Rattle.std.specs.declared.option.Option.{Option}
 use Rattle.std.proofs.lemmas.List.{append-nil}
@@ -8,7 +8,7 @@ use Rattle.rz_folder.specs.Folder.{Files}
 use Rattle.rz_tools_answer.specs.Answer.{files_after, Answer, Write}
 use Rattle.rz_tools_answer.specs.Carried.{CarriesOut, EndsWith, IsAnswered, IsUnhindered, IsUntouched}
 use Rattle.rz_tools_answer.specs.WellFormed.{FitsOutcome, IsWellFormed}
-use Rattle.rz_tools_answer.specs.World.{Says, World}
+use Rattle.rz_tools_answer.specs.World.{ReadFailed, Says, World, WriteFailed}
 use Rattle.rz_tools_answer.specs.declared.outcome.Outcome.{Outcome}
 use Rattle.rz_tools_answer.specs.declared.outcome.Outcome.TheVariants.{Done, Usage, Refused, ReadFault, WriteFault, NoMemory}
 use Rattle.rz_tools.proofs.Running.{OneAnswer}
@@ -60,6 +60,16 @@ answered ReadFault free = free
 answered WriteFault free = absurd free
 answered NoMemory free = free
 
+-- where no read and no write failed, want of memory alone hinders a run
+unfailed : (answer : Answer) (before after : World) (result : Outcome) → CarriesOut answer before after result → (ReadFailed before after → ⊥) → (WriteFailed before after → ⊥)
+    → (result ≡ NoMemory) ⊎ IsUnhindered result
+unfailed answer before after Done carried read wrote = inr tt
+unfailed answer before after (Usage fault) carried read wrote = inr tt
+unfailed answer before after (Refused fault) carried read wrote = inr tt
+unfailed answer before after ReadFault carried read wrote = absurd (read carried.ends.0)
+unfailed answer before after WriteFault carried read wrote = absurd (wrote carried.ends.1)
+unfailed answer before after NoMemory carried read wrote = inl refl
+
 module _ (one : OneAnswer) (every : EveryAnswer) (words : List (List ℕ)) (moment : Moment) where
   only : (files : Files) → IsOnlyAnswer words files moment (every words files moment).0
   only files = record {
@@ -83,3 +93,17 @@ module _ (one : OneAnswer) (every : EveryAnswer) (words : List (List ℕ)) (mome
     pub hindered : (IsUnhindered result → ⊥) → (files : Option Files) → IfSome files IsComplete
     hindered not None = tt
     hindered not (Some files) = ((every words files moment).0, only files, λ free. absurd (not free))
+
+    -- where no read and no write failed, the run ends with the answer, or for want of memory
+    abbrev IsWhole : Files → Type 0
+    IsWhole files =
+        (answer : Answer) × IsOnlyAnswer words files moment answer
+        × ((ReadFailed before after → ⊥) → (WriteFailed before after → ⊥) → (result ≡ NoMemory) ⊎ EndsWith answer before after result)
+
+    pub whole : (done : Answer) → CarriesOut done before after result → (files : Option Files) → IfSome files IsComplete → IfSome files IsWhole
+    whole done carried None known = tt
+    whole done carried (Some files) (answer, is, ends) = (answer, is, λ read wrote. by (unfailed done before after result carried read wrote))
+      where
+        by : (result ≡ NoMemory) ⊎ IsUnhindered result → (result ≡ NoMemory) ⊎ EndsWith answer before after result
+        by (inl none) = inl none
+        by (inr free) = inr (ends free)

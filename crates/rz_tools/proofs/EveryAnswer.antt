@@ -23,25 +23,32 @@ use Rattle.rz_pre.specs.Program.{ProgramGoes, State}
 use Rattle.rz_pre.specs.declared.condition.Tool.{Tool}
 use Rattle.rz_pre.specs.declared.program.Def.{Def}
 use Rattle.rz_tools.proofs.EveryMeaning.{has_beside, has_unsaid}
-use Rattle.rz_tools.proofs.EveryText.{has_file_text, Tells}
+use Rattle.rz_tools.proofs.EveryText.{has_file_text}
 use Rattle.rz_tools_output.specs.Base.{attributes_asked, base_of, or_empty, Base}
-use Rattle.rz_tools_output.specs.Bridge.{bridged, one, two, AreWrites, Bridges, HasBeside, IsRead, IsWrittenAs}
-use Rattle.rz_tools.specs.DeRez.{derez_around, known_by, HasFileText, HasText, Shows, TypesAre}
-use Rattle.rz_tools_output.specs.Output.{file_of, form_asked, list_fork, IsFileOf, IsOutput}
-use Rattle.rz_tools.specs.Program.{command, misplaced, Answers, AnswersTo}
-use Rattle.rz_tools.specs.Rez.{around_of, BeginsWith, Compiles, HasOutput, IsMadeBehind, IsMadeOf}
+use Rattle.rz_tools_output.specs.Bridge.{bridge_asked, bridged, BridgeAsked, one, two, AreWrites, Bridges, HasBeside, IsRead, IsWrittenAs}
+use Rattle.rz_tools.specs.DeRez.{derez_asked, DeRezAsked, HasFileText, HasText, Shows}
+use Rattle.rz_tools.specs.Types.{known_by, types_around, TypesAre, TypesAsked}
+use Rattle.rz_tools_output.specs.Output.{file_of, form_asked, list_fork, IsFileOf, IsOutput, Target}
+use Rattle.rz_tools.specs.Program.{command, misplaced, Answers, AnswersItems}
+use Rattle.rz_tools.specs.Rez.{around_of, rez_asked, BeginsWith, Compiles, HasOutput, IsMadeBehind, IsMadeOf, RezAsked}
 use Rattle.rz_tools.specs.Sources.{HasWork, IsProgramOf}
+use Rattle.rz_tools_text.specs.Shown.{Known}
+use Rattle.rz_tools_text.specs.Text.{ShowsEach}
 use Rattle.rz_tools_values.specs.Around.{Around}
-use Rattle.rz_tools_args.specs.Command.{Asked, Bridge, BridgeAsked, DeRez, DeRezAsked, Help, IsCommand, IsMisplaced, Rez, RezAsked, Version}
+use Rattle.rz_tools_args.specs.Command.{places_of, ArePlaces, Asked, IsCommand, IsMisplaced, Item}
+use Rattle.rz_tools_args.specs.Syntax.{syntax_of}
+use Rattle.rz_tools_args.specs.declared.name.CommandName.{CommandName}
+use Rattle.rz_tools_args.specs.declared.name.CommandName.TheVariants as names
+use Rattle.rz_tools_work.specs.Work.{begun}
 
 module _ (name : (form : Form) (path : List ℕ) (file : MacFile) → Has (Named form path file)) where
-  has_output : (asked : RezAsked) (moment : Moment) (base : Base) (list : List Resource) → Has (IsOutput asked moment base list)
+  has_output : (asked : Target) (moment : Moment) (base : Base) (list : List Resource) → Has (IsOutput asked moment base list)
   has_output asked moment base list =
-      has_then (λ fork. fork ≡ list_fork (attributes_asked asked base) base.fork.reserved list) (IsFileOf asked moment base)
-      (has_is (list_fork (attributes_asked asked base) base.fork.reserved list))
-      (λ fork is. has_then (Named (form_asked asked base) asked.output (file_of asked moment base.file fork))
+      has_then (λ fork. fork ≡ list_fork (attributes_asked asked.read_only base) base.fork.reserved list) (IsFileOf asked moment base)
+      (has_is (list_fork (attributes_asked asked.read_only base) base.fork.reserved list))
+      (λ fork is. has_then (Named (form_asked asked base) asked.name (file_of asked moment base.file fork))
       (λ file bytes. bytes ≡ written_as (form_asked asked base) file)
-      (name (form_asked asked base) asked.output (file_of asked moment base.file fork))
+      (name (form_asked asked base) asked.name (file_of asked moment base.file fork))
       (λ file named. has_is (written_as (form_asked asked base) file)))
 
   -- What `bridge` reads and writes.
@@ -91,7 +98,8 @@ module _ (name : (form : Form) (path : List ℕ) (file : MacFile) → Has (Named
   -- What `rez` and `derez` mean.
 
   module _ (programs : (files : Files) (tool : Tool) (names paths : List (List ℕ)) (defs : List Def) → Has (ProgramGoes files tool names paths defs))
-      (works : (around : Around) (list : List Resource) (program : State) → Has (HasWork around list program)) (tells : Tells) where
+      (works : (around : Around) (list : List Resource) (program : State) → Has (HasWork around (begun list) program))
+      (texts : (known : Known) (list : List Resource) → (text : List ℕ) × ShowsEach known list text) where
     has_program : (around : Around) (names paths : List (List ℕ)) (defs : List Def) → Has (IsProgramOf around names paths defs)
     has_program around names paths defs =
         has_unsaid (ProgramGoes around.files around.setting.tool names paths defs) (programs around.files around.setting.tool names paths defs)
@@ -102,39 +110,47 @@ module _ (name : (form : Form) (path : List ℕ) (file : MacFile) → Has (Named
 
     has_made_of : (moment : Moment) (asked : RezAsked) (files : Files) (program : State) → Has (IsMadeOf moment asked files program)
     has_made_of moment asked files program =
-        has_then (BeginsWith program (base_of asked files)) (IsMadeBehind moment asked files program) (has_begun program (base_of asked files))
-        (λ base is. has_then (HasWork (around_of moment asked files) base.fork.list program) (HasOutput moment asked base)
+        has_then (BeginsWith program (base_of asked.append asked.target.name files)) (IsMadeBehind moment asked files program) (has_begun program (base_of asked.append asked.target.name files))
+        (λ base is. has_then (HasWork (around_of moment asked files) (begun base.fork.list) program) (HasOutput moment asked.target base)
         (works (around_of moment asked files) base.fork.list program)
-        (λ made so. has_beside made (IsOutput asked moment base made.work.list) (has_output asked moment base made.work.list)))
+        (λ made so. has_beside made (IsOutput asked.target moment base made.work.list) (has_output asked.target moment base made.work.list)))
 
     has_rez : (moment : Moment) (asked : RezAsked) (files : Files) → Has (Compiles moment asked files)
     has_rez moment asked files =
         has_then (IsProgramOf (around_of moment asked files) asked.files asked.paths asked.defs) (IsMadeOf moment asked files)
         (has_program (around_of moment asked files) asked.files asked.paths asked.defs) (λ program is. has_made_of moment asked files program)
 
-    has_types : (moment : Moment) (asked : DeRezAsked) (files : Files) → Has (TypesAre moment asked files)
+    has_types : (moment : Moment) (asked : TypesAsked) (files : Files) → Has (TypesAre moment asked files)
     has_types moment asked files =
-        has_then (IsProgramOf (derez_around moment asked files) asked.files asked.paths asked.defs) (HasWork (derez_around moment asked files) [])
-        (has_program (derez_around moment asked files) asked.files asked.paths asked.defs) (λ program is. works (derez_around moment asked files) [] program)
+        has_then (IsProgramOf (types_around moment asked files) asked.files asked.paths asked.defs) (HasWork (types_around moment asked files) (begun []))
+        (has_program (types_around moment asked files) asked.files asked.paths asked.defs) (λ program is. works (types_around moment asked files) [] program)
 
     has_shows : (moment : Moment) (asked : DeRezAsked) (files : Files) → Has (Shows moment asked files)
     has_shows moment asked files =
-        has_then (TypesAre moment asked files) (HasText moment asked files) (has_types moment asked files)
+        has_then (TypesAre moment asked.types files) (HasText moment asked files) (has_types moment asked.types files)
         (λ made is. has_beside made (HasFileText (known_by moment made) asked (finite.get files asked.file))
-        (has_file_text tells (known_by moment made) asked (finite.get files asked.file)))
+        (has_file_text texts (known_by moment made) asked (finite.get files asked.file)))
 
     module _ (data_file : (header : List ℕ) → (name : List ℕ) × IsDataFile header name) where
-      has_answer : (asked : Asked) (files : Files) (moment : Moment) → (answer : Answer) × AnswersTo asked files moment answer
-      has_answer (Rez asked) files moment = let made = has_rez moment asked files in (or_refused (written asked.output) made.0, (made.0, made.1, refl))
-      has_answer (DeRez asked) files moment = let made = has_shows moment asked files in (or_refused shown made.0, (made.0, made.1, refl))
-      has_answer (Bridge asked) files moment = let made = has_bridged data_file asked files in (bridged made.0, (made.0, made.1, refl))
-      has_answer Help files moment = (shown (record { bytes = help_text; said = [] }), refl)
-      has_answer Version files moment = (shown (record { bytes = version_text; said = [] }), refl)
+      has_answer : (name : CommandName) (items : List Item) (files : Files) (moment : Moment) → ArePlaces (syntax_of name).places (places_of items)
+          → (answer : Answer) × AnswersItems name items files moment answer
+      has_answer names.Rez items files moment places =
+          let asked = rez_asked items in
+          let made = has_rez moment asked files in
+          (or_refused (written asked.target.name) made.0, (made.0, made.1, refl))
+      has_answer names.DeRez items files moment places =
+          let made = has_shows moment (derez_asked items) files in
+          (or_refused shown made.0, (made.0, made.1, refl))
+      has_answer names.Bridge items files moment places =
+          let made = has_bridged data_file (bridge_asked items) files in
+          (bridged made.0, (made.0, made.1, refl))
+      has_answer names.Help items files moment places = (shown (record { bytes = help_text; said = [] }), refl)
+      has_answer names.Version items files moment places = (shown (record { bytes = version_text; said = [] }), refl)
 
       pub every_answer : ((words : List (List ℕ)) → ((asked : Asked) × IsCommand words asked) ⊎ ((position : ℕ) × IsMisplaced words position))
           → (words : List (List ℕ)) (files : Files) (moment : Moment) → (answer : Answer) × Answers words files moment answer
       every_answer commands words files moment = by (commands words)
         where
           by : ((asked : Asked) × IsCommand words asked) ⊎ ((position : ℕ) × IsMisplaced words position) → (answer : Answer) × Answers words files moment answer
-          by (inl (asked, is)) = let answers = has_answer asked files moment in (answers.0, command asked is answers.1)
+          by (inl (asked, is)) = let answers = has_answer asked.name asked.items files moment is.places in (answers.0, command asked is answers.1)
           by (inr (position, is)) = (misused position, misplaced position is refl)

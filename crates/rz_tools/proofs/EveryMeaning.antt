@@ -23,7 +23,7 @@ use Rattle.rz_tools.specs.Step.{done_by, list_behind, IsBehind, IsListBehind, Me
 use Rattle.rz_tools_values.specs.Around.{Around}
 use Rattle.rz_tools_work.specs.Lists.{list_after}
 use Rattle.rz_tools_work.specs.ToolWords.{numbered}
-use Rattle.rz_tools_work.specs.Work.{begun, declared, with_list, Work}
+use Rattle.rz_tools_work.specs.Work.{declared, with_list, Work}
 
 -- An answer, and what is said with it.
 
@@ -110,8 +110,8 @@ module _ (parsed : (tokens : List Token) → Has (Parses tokens)) (parted : (tok
       (has_step around work kept (map (numbered around.setting.tool) tokens))
       (λ next is. has_meaning around next (steps_kept around work (map (numbered around.setting.tool) tokens) next is kept) statements)
 
-  pub has_work : (around : Around) (list : List Resource) (program : State) → Has (HasWork around list program)
-  has_work around list program =
+  pub has_work : (around : Around) (start : Work) → AreKept start.types → (program : State) → Has (HasWork around start program)
+  has_work around start kept program =
       let statements = parted program.tokens in
-      let made = has_in program (Means around (begun list) statements.0) (has_meaning around (begun list) tt statements.0) in
+      let made = has_in program (Means around start statements.0) (has_meaning around start kept statements.0) in
       (made.0, (statements.0, statements.1, made.1))

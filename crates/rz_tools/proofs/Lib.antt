@@ -8,15 +8,14 @@ pub mod PutOut
 pub mod Values
 pub mod Again
 pub mod Planned
-pub mod Lists
 pub mod Typing
 pub mod Showing
 pub mod ShownAgain
 pub mod Running
+pub mod Views
 pub mod Reserved
 pub mod CompiledAgain
 pub mod Spared
-pub mod Rows
 pub mod EveryResource
 pub mod EveryMeaning
 pub mod EveryText

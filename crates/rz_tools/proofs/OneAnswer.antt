@@ -1,8 +1,7 @@
 -- Words have one answer at most.
-use Rattle.std.proofs.Common.{◌≡◌, inl, inr, ℕ, true, List, [], ◌∷◌, ◌++◌, map, Option, Some, None, Ok, Err, sym, ap, subst, ◌∙◌}
+use Rattle.std.proofs.Common.{◌≡◌, inl, inr, ℕ, List, [], ◌∷◌, map, Option, Some, None, Ok, Err, sym, ap, subst, ◌∙◌}
 use Rattle.std.specs.FinMap as finite
 use Rattle.std.specs.declared.result.Result.{Result}
-use Rattle.std.proofs.lemmas.Option.{same_Some}
 use Rattle.rz_core.specs.declared.facts.Facts.{Facts}
 use Rattle.rz_core.specs.declared.fault.Fault.{Fault}
 use Rattle.rz_core.specs.declared.fault.Mark.{Mark}
@@ -16,9 +15,11 @@ use Rattle.rz_pre.specs.declared.program.Failure.{Failure}
 use Rattle.rz_pre.specs.declared.condition.Tool.{Tool}
 use Rattle.rz_pre.specs.declared.program.Def.{Def}
 use Rattle.rz_stmt.specs.Statements.{AreStatements}
-use Rattle.rz_tools_args.specs.Command.{Asked, BridgeAsked, DeRezAsked, Rez, DeRez, Bridge, Help, Version, IsCommand, IsMisplaced, RezAsked}
+use Rattle.rz_tools_args.specs.Command.{places_of, Asked, IsCommand, IsMisplaced, Item}
+use Rattle.rz_tools_args.specs.declared.name.CommandName.{CommandName}
+use Rattle.rz_tools_args.specs.declared.name.CommandName.TheVariants as names
 use Rattle.rz_tools_answer.specs.Answer.{misused, or_refused, shown, written, Answer, Write}
-use Rattle.rz_tools.specs.Program.{Answers, AnswersTo, command, misplaced}
+use Rattle.rz_tools.specs.Program.{Answers, AnswersItems, AnswersTo, command, misplaced}
 use Rattle.rz_bridge.specs.declared.file.MacFile.{MacFile}
 use Rattle.rz_bridge_files.specs.Contents.{file_in, fork_in, form_or}
 use Rattle.rz_bridge_files.specs.Names.{Named}
@@ -27,14 +28,15 @@ use Rattle.rz_bridge_files.specs.Written.{written_as}
 use Rattle.rz_bridge_form.specs.declared.form.Form.{Form}
 use Rattle.rz_bridge_form.specs.declared.form.Form.TheVariants as forms
 use Rattle.rz_fork.specs.Contents.{Fork}
-use Rattle.rz_tools.specs.Chosen.{chosen}
-use Rattle.rz_tools.specs.DeRez.{derez_around, known_by, HasFileText, HasForkText, HasText, Shows, ShowsEach, TypesAre}
+use Rattle.rz_tools_text.specs.Chosen.{chosen}
+use Rattle.rz_tools.specs.DeRez.{derez_asked, DeRezAsked, HasFileText, HasForkText, HasText, Shows}
+use Rattle.rz_tools.specs.Types.{known_by, types_around, TypesAre}
+use Rattle.rz_tools_text.specs.Text.{ShowsEach}
 use Rattle.rz_tools_output.specs.Base.{attributes_asked, base_of, or_empty, Base}
-use Rattle.rz_tools_output.specs.Bridge.{bridged, one as one_write, two as two_writes, AreWrites, Bridges, HasBeside, IsRead, IsWrittenAs}
-use Rattle.rz_tools_output.specs.Output.{file_of, form_asked, list_fork, IsFileOf, IsOutput}
-use Rattle.rz_tools.specs.Rez.{around_of, BeginsWith, Compiles, HasOutput, IsMadeBehind, IsMadeOf}
-use Rattle.rz_tools.specs.Shown.{facts_of, its_bytes, its_row, IsShownBy, Known, Shown, TellsRow}
-use Rattle.rz_show.specs.Showing.{by_row, showing_text, Showing}
+use Rattle.rz_tools_output.specs.Bridge.{bridge_asked, bridged, BridgeAsked, one as one_write, two as two_writes, AreWrites, Bridges, HasBeside, IsRead, IsWrittenAs}
+use Rattle.rz_tools_output.specs.Output.{file_of, form_asked, list_fork, IsFileOf, IsOutput, Target}
+use Rattle.rz_tools.specs.Rez.{around_of, rez_asked, BeginsWith, Compiles, HasOutput, IsMadeBehind, IsMadeOf, RezAsked}
+use Rattle.rz_tools_text.specs.Shown.{Known}
 use Rattle.rz_tools.specs.Sources.{compiled, AreCompiled, Compiled, HasWork, InProgram, IsProgramOf, SaidBeside, Unsaid}
 use Rattle.rz_tools_answer.specs.Warning.{said_beside, warning_lines}
 use Rattle.rz_tools_values.specs.Around.{Around}
@@ -49,11 +51,7 @@ use Rattle.rz_layout.specs.Compiled.{IsCompiled}
 use Rattle.rz_stmt_items.specs.Match.{IsMatch}
 use Rattle.rz_types_fields.specs.declared.tree.Tree.{Tree}
 use Rattle.rz_types_fields.specs.Laid.{Refusal}
-use Rattle.rz_types_fields.specs.Spells.{Spells}
 use Rattle.rz_types.specs.Field.{PlainBody}
-use Rattle.rz_types.specs.Readable.{is_readable}
-use Rattle.rz_types.specs.Rules.{keeps_rules}
-use Rattle.rz_types.specs.Shape.{is_well_shaped}
 use Rattle.rz_tools.proofs.Resources.{once_list}
 use Rattle.rz_core.proofs.Once.{err, ok, ok_or_err, once_is, once_then, same_err, same_ok, Once}
 
@@ -99,43 +97,17 @@ once_beside made answers once a b is also = is.2 ∙ ap (said_beside made.files 
 
 -- The text of a fork.
 
-abbrev pub OnePlainRow : Type 0
-OnePlainRow =
-    (known : Facts) (body : PlainBody) (row other : List Tree) (bytes : List ℕ) → is_well_shaped body ≡ true → keeps_rules body ≡ true
-    → is_readable body ≡ true → Spells true known body row bytes → Spells true known body other bytes → row ≡ other
+abbrev pub OneText : Type 0
+OneText = (known : Known) (list : List Resource) (text others : List ℕ) → ShowsEach known list text → ShowsEach known list others → text ≡ others
 
--- one row is told, of one body of fields
-one_row : OnePlainRow → (known : Known) (r : Resource) (body other : PlainBody) (row others : List Tree) → body ≡ other → TellsRow known r body row → TellsRow known r other others
-    → by_row r body row ≡ by_row r other others
-one_row rows known r body other row others same tells also =
-    let there = subst (λ (b : PlainBody). TellsRow known r b others) (sym same) also in
-    (λ i. by_row r body (rows (facts_of known r) body row others r.bytes tells.shaped tells.kept tells.told.0 tells.told.1 there.told.1 i))
-    ∙ (λ i. by_row r (same i) others)
+once_fork_text : OneText → (known : Known) (asked : DeRezAsked) (fork : Result Fork Fault) → Once (HasForkText known asked fork)
+once_fork_text texts known asked (Ok fork) a b is also =
+    is.2 ∙ ap ok (texts known (chosen asked.only asked.skip fork.list) is.0 also.0 is.1 also.1) ∙ sym also.2
+once_fork_text texts known asked (Err fault) a b is also = is ∙ sym also
 
-pub one_showing : OnePlainRow → (known : Known) (r : Resource) (showing other : Showing) → IsShownBy known r showing → IsShownBy known r other → showing ≡ other
-one_showing rows known r showing other (its_row body row tells is) (its_row another others also so) =
-    is ∙ one_row rows known r body another row others (same_Some body another (sym tells.declared ∙ also.declared)) tells also ∙ sym so
-one_showing rows known r showing other (its_row body row tells is) (its_bytes none so) = absurd (none body row tells)
-one_showing rows known r showing other (its_bytes none is) (its_row body row tells so) = absurd (none body row tells)
-one_showing rows known r showing other (its_bytes none is) (its_bytes nothing so) = is ∙ sym so
-
-one_shown : OnePlainRow → (known : Known) (r : Resource) (text others : List ℕ) → Shown known r text → Shown known r others → text ≡ others
-one_shown rows known r text others (showing, by, is) (other, also, so) =
-    is ∙ ap (showing_text known.is_macro) (one_showing rows known r showing other by also) ∙ sym so
-
-one_text : OnePlainRow → (known : Known) (list : List Resource) (text others : List ℕ) → ShowsEach known list text → ShowsEach known list others → text ≡ others
-one_text rows known [] text others is also = is ∙ sym also
-one_text rows known (r ∷ rs) text others (f, b, eq, shown, shows) (g, c, eq_too, shown_too, shows_too) =
-    eq ∙ (λ i. one_shown rows known r f g shown shown_too i ++ one_text rows known rs b c shows shows_too i) ∙ sym eq_too
-
-once_fork_text : OnePlainRow → (known : Known) (asked : DeRezAsked) (fork : Result Fork Fault) → Once (HasForkText known asked fork)
-once_fork_text rows known asked (Ok fork) a b is also =
-    is.2 ∙ ap ok (one_text rows known (chosen asked.only asked.skip fork.list) is.0 also.0 is.1 also.1) ∙ sym also.2
-once_fork_text rows known asked (Err fault) a b is also = is ∙ sym also
-
-once_file_text : OnePlainRow → (known : Known) (asked : DeRezAsked) (entry : Option (List ℕ)) → Once (HasFileText known asked entry)
-once_file_text rows known asked None = once_is (Err (missing_file None asked.file))
-once_file_text rows known asked (Some bytes) = once_fork_text rows known asked (fork_in None asked.from bytes)
+once_file_text : OneText → (known : Known) (asked : DeRezAsked) (entry : Option (List ℕ)) → Once (HasFileText known asked entry)
+once_file_text texts known asked None = once_is (Err (missing_file None asked.file))
+once_file_text texts known asked (Some bytes) = once_fork_text texts known asked (fork_in None asked.from bytes)
 
 once_unsaid : {X : Type 0} (answers : Result X Failure → Type 0) → Once answers → Once (Unsaid answers)
 once_unsaid answers once (Ok a) (Ok b) is also = ap ok (same_ok {F = Failure} a b (once (Ok a) (Ok b) is also))
@@ -168,13 +140,13 @@ once_begins : (program : State) (base : Result Base Fault) → Once (BeginsWith 
 once_begins program (Ok base) = once_is (Ok base)
 once_begins program (Err fault) = once_is (Err (record { fault = fault; files = program.files; said = [] }))
 
-once_output : OneNamed → (asked : RezAsked) (moment : Moment) (base : Base) (list : List Resource) → Once (IsOutput asked moment base list)
+once_output : OneNamed → (asked : Target) (moment : Moment) (base : Base) (list : List Resource) → Once (IsOutput asked moment base list)
 once_output named asked moment base list =
-    once_then (λ fork. fork ≡ list_fork (attributes_asked asked base) base.fork.reserved list) (IsFileOf asked moment base)
-    (once_is (list_fork (attributes_asked asked base) base.fork.reserved list))
-    (λ fork. once_then (Named (form_asked asked base) asked.output (file_of asked moment base.file fork))
+    once_then (λ fork. fork ≡ list_fork (attributes_asked asked.read_only base) base.fork.reserved list) (IsFileOf asked moment base)
+    (once_is (list_fork (attributes_asked asked.read_only base) base.fork.reserved list))
+    (λ fork. once_then (Named (form_asked asked base) asked.name (file_of asked moment base.file fork))
     (λ file bytes. bytes ≡ written_as (form_asked asked base) file)
-    (named (form_asked asked base) asked.output (file_of asked moment base.file fork))
+    (named (form_asked asked base) asked.name (file_of asked moment base.file fork))
     (λ file. once_is (written_as (form_asked asked base) file)))
 
 once_read : OneDataFile → (asked : BridgeAsked) (files : Files) (entry : Option (List ℕ)) → Once (IsRead asked files entry)
@@ -209,7 +181,7 @@ once_bridges named beside asked files =
     (once_is (written_as asked.to file))
     (λ bytes a b is also. is.2 ∙ ap ok (once_writes beside asked file bytes is.0 also.0 is.1 also.1) ∙ sym also.2)))
 
-module _ (cutting : OneCutting) (statement_law : OneStatement) (matching : OneMatch) (spelling : OneSpelling) (rows : OnePlainRow) where
+module _ (cutting : OneCutting) (statement_law : OneStatement) (matching : OneMatch) (spelling : OneSpelling) (texts : OneText) where
   once_behind : (around : Around) (mark : Mark) (work : Work) (statement : Statement) → Once (IsBehind around mark work statement)
   once_behind around mark work Empty = once_is (Ok work)
   once_behind around mark work (Data raw) = once_is (with_list work (list_behind around mark work.list raw))
@@ -230,26 +202,26 @@ module _ (cutting : OneCutting) (statement_law : OneStatement) (matching : OneMa
       once_then (Steps around work (map (numbered around.setting.tool) tokens)) (λ next. Means around next statements)
       (one_step around work (map (numbered around.setting.tool) tokens)) (λ next. one_meaning around next statements)
 
-  once_work : (around : Around) (list : List Resource) (program : State) → Once (HasWork around list program)
-  once_work around list program a b is also =
-      once_in program (Means around (begun list) is.0) (one_meaning around (begun list) is.0) a b is.2
-      (subst (λ (ss : List (List Token)). InProgram program (Means around (begun list) ss) b) (sym (cutting program.tokens is.0 also.0 is.1 also.1)) also.2)
+  once_work : (around : Around) (start : Work) (program : State) → Once (HasWork around start program)
+  once_work around start program a b is also =
+      once_in program (Means around start is.0) (one_meaning around start is.0) a b is.2
+      (subst (λ (ss : List (List Token)). InProgram program (Means around start ss) b) (sym (cutting program.tokens is.0 also.0 is.1 also.1)) also.2)
 
   module _ (program : OneProgram) (named : OneNamed) (data_file : OneDataFile) where
     once_program : (around : Around) (names paths : List (List ℕ)) (defs : List Def) → Once (IsProgramOf around names paths defs)
     once_program around names paths defs =
         once_unsaid (ProgramGoes around.files around.setting.tool names paths defs) (program around.files around.setting.tool names paths defs)
 
-    once_compiled : (around : Around) (names paths : List (List ℕ)) (defs : List Def) → Once (AreCompiled around names paths defs)
-    once_compiled around names paths defs =
-        once_then (IsProgramOf around names paths defs) (HasWork around []) (once_program around names paths defs) (once_work around [])
+    once_compiled : (around : Around) (start : Work) (names paths : List (List ℕ)) (defs : List Def) → Once (AreCompiled around start names paths defs)
+    once_compiled around start names paths defs =
+        once_then (IsProgramOf around names paths defs) (HasWork around start) (once_program around names paths defs) (once_work around start)
 
     once_made_of : (moment : Moment) (asked : RezAsked) (files : Files) (state : State) → Once (IsMadeOf moment asked files state)
     once_made_of moment asked files state =
-        once_then (BeginsWith state (base_of asked files)) (IsMadeBehind moment asked files state) (once_begins state (base_of asked files))
-        (λ base. once_then (HasWork (around_of moment asked files) base.fork.list state) (HasOutput moment asked base)
-        (once_work (around_of moment asked files) base.fork.list state)
-        (λ made. once_beside made (IsOutput asked moment base made.work.list) (once_output named asked moment base made.work.list)))
+        once_then (BeginsWith state (base_of asked.append asked.target.name files)) (IsMadeBehind moment asked files state) (once_begins state (base_of asked.append asked.target.name files))
+        (λ base. once_then (HasWork (around_of moment asked files) (begun base.fork.list) state) (HasOutput moment asked.target base)
+        (once_work (around_of moment asked files) (begun base.fork.list) state)
+        (λ made. once_beside made (IsOutput asked.target moment base made.work.list) (once_output named asked.target moment base made.work.list)))
 
     once_rez : (moment : Moment) (asked : RezAsked) (files : Files) → Once (Compiles moment asked files)
     once_rez moment asked files =
@@ -258,24 +230,27 @@ module _ (cutting : OneCutting) (statement_law : OneStatement) (matching : OneMa
 
     once_shows : (moment : Moment) (asked : DeRezAsked) (files : Files) → Once (Shows moment asked files)
     once_shows moment asked files =
-        once_then (TypesAre moment asked files) (HasText moment asked files) (once_compiled (derez_around moment asked files) asked.files asked.paths asked.defs)
+        once_then (TypesAre moment asked.types files) (HasText moment asked files)
+        (once_compiled (types_around moment asked.types files) (begun []) asked.types.files asked.types.paths asked.types.defs)
         (λ made. once_beside made (HasFileText (known_by moment made) asked (finite.get files asked.file))
-        (once_file_text rows (known_by moment made) asked (finite.get files asked.file)))
+        (once_file_text texts (known_by moment made) asked (finite.get files asked.file)))
 
-    one_to : (asked : Asked) (files : Files) (moment : Moment) (a b : Answer) → AnswersTo asked files moment a → AnswersTo asked files moment b → a ≡ b
-    one_to (Rez asked) files moment a b is also =
-        is.2 ∙ ap (or_refused (written asked.output)) (once_rez moment asked files is.0 also.0 is.1 also.1) ∙ sym also.2
-    one_to (DeRez asked) files moment a b is also =
-        is.2 ∙ ap (or_refused shown) (once_shows moment asked files is.0 also.0 is.1 also.1) ∙ sym also.2
-    one_to (Bridge asked) files moment a b is also =
-        is.2 ∙ ap bridged (once_bridges named data_file asked files is.0 also.0 is.1 also.1) ∙ sym also.2
-    one_to Help files moment a b is also = is ∙ sym also
-    one_to Version files moment a b is also = is ∙ sym also
+    one_to : (name : CommandName) (items : List Item) (files : Files) (moment : Moment) (a b : Answer)
+        → AnswersItems name items files moment a → AnswersItems name items files moment b → a ≡ b
+    one_to names.Rez items files moment a b is also =
+        let asked = rez_asked items in
+        is.2 ∙ ap (or_refused (written asked.target.name)) (once_rez moment asked files is.0 also.0 is.1 also.1) ∙ sym also.2
+    one_to names.DeRez items files moment a b is also =
+        is.2 ∙ ap (or_refused shown) (once_shows moment (derez_asked items) files is.0 also.0 is.1 also.1) ∙ sym also.2
+    one_to names.Bridge items files moment a b is also =
+        is.2 ∙ ap bridged (once_bridges named data_file (bridge_asked items) files is.0 also.0 is.1 also.1) ∙ sym also.2
+    one_to names.Help items files moment a b is also = is ∙ sym also
+    one_to names.Version items files moment a b is also = is ∙ sym also
 
     pub one_answer : OneCommand → OnePosition → (words : List (List ℕ)) (files : Files) (moment : Moment) (a b : Answer)
         → Answers words files moment a → Answers words files moment b → a ≡ b
     one_answer commands positions words files moment a b (command asked is to) (command others also to_others) =
-        one_to asked files moment a b to (subst (λ (x : Asked). AnswersTo x files moment b) (sym (commands words asked others is also)) to_others)
+        one_to asked.name asked.items files moment a b to (subst (λ (x : Asked). AnswersTo x files moment b) (sym (commands words asked others is also)) to_others)
     one_answer commands positions words files moment a b (command asked is to) (misplaced position also says) = absurd (also.none asked is)
     one_answer commands positions words files moment a b (misplaced position is says) (command others also to_others) = absurd (is.none others also)
     one_answer commands positions words files moment a b (misplaced position is says) (misplaced another also tells) =

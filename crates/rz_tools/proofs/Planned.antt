@@ -1,14 +1,19 @@
 -- The answer of a command, from what it makes or is stopped by.
-use Rattle.std.proofs.Common.{◌≡◌, ℕ, List, Ok, Err, Some, None, subst}
+use Rattle.std.proofs.Common.{◌≡◌, ℕ, List, Ok, Err, Some, None, sym, ap, subst, ◌∙◌}
 use Rattle.std.specs.Prelude.{IfOk, IfSome}
 use Rattle.std.specs.FinMap as finite
 use Rattle.std.specs.declared.option.Option.{Option}
 use Rattle.std.specs.declared.result.Result.{Result}
 use Rattle.rz_core.specs.declared.moment.Moment.{Moment}
 use Rattle.rz_folder.specs.Folder.{Files}
-use Rattle.rz_tools_args.specs.Command.{Asked, DeRez, DeRezAsked, IsCommand, IsMisplaced}
+use Rattle.rz_tools_args.specs.Command.{Asked, IsCommand, IsMisplaced, Item}
+use Rattle.rz_tools_args.specs.declared.name.CommandName.TheVariants as names
+use Rattle.rz_tools.specs.DeRez.{derez_asked, AnswersDeRez, DeRezAsked, IsDeRez}
 use Rattle.rz_tools.specs.Again.{HoldsFile}
-use Rattle.rz_tools.specs.Program.{command, misplaced, Answers, AnswersTo}
+use Rattle.rz_tools.specs.Program.{command, misplaced, Answers, AnswersItems, AnswersTo}
+use Rattle.rz_tools.specs.Rez.{AnswersRez, RezAsked}
+use Rattle.rz_tools_output.specs.Bridge.{AnswersBridge, BridgeAsked}
+use Rattle.rz_tools_args.specs.declared.name.CommandName.{CommandName}
 use Rattle.rz_tools_answer.specs.Answer.{misused, Answer, Answered, Making}
 use Rattle.rz_tools_answer.specs.declared.made.Failing.{Failing}
 use Rattle.rz_tools_answer.specs.Made.{making_of}
@@ -63,12 +68,44 @@ as_misused words moment position is plan before says = always before (λ files. 
 
 -- A fork's file is as short as one, where the words have one meaning.
 
-same_asked : (one other : DeRezAsked) → DeRez one ≡ DeRez other → one ≡ other
-same_asked one other is = cc
-
-pub held_asked : {E : Type 0} (one other : DeRezAsked) → DeRez one ≡ DeRez other → (before : Option Files) (result : Result Plan E)
-    → IfSome before (λ files. IfSome (finite.get files one.file) (λ bytes. IfOk result (λ plan. plan.outcome ≡ Done → HoldsFile one.from bytes)))
-    → IfSome before (λ files. IfSome (finite.get files other.file) (λ bytes. IfOk result (λ plan. plan.outcome ≡ Done → HoldsFile other.from bytes)))
-held_asked one other same before result held =
+pub held_asked : {E : Type 0} (commands : (words : List (List ℕ)) (asked others : Asked) → IsCommand words asked → IsCommand words others → asked ≡ others)
+    (words : List (List ℕ)) (one : Asked) → IsCommand words one → (asked : DeRezAsked) → IsDeRez words asked → (before : Option Files) (result : Result Plan E)
+    → (one.name ≡ names.DeRez → IfSome before (λ files. IfSome (finite.get files (derez_asked one.items).file) (λ bytes. IfOk result (λ plan. plan.outcome ≡ Done → HoldsFile (derez_asked one.items).from bytes))))
+    → IfSome before (λ files. IfSome (finite.get files asked.file) (λ bytes. IfOk result (λ plan. plan.outcome ≡ Done → HoldsFile asked.from bytes)))
+held_asked commands words one is asked (items, also, same) before result held =
+    let e : one ≡ record { name = names.DeRez; items = items } = commands words one (record { name = names.DeRez; items = items }) is also in
     subst (λ (a : DeRezAsked). IfSome before (λ files. IfSome (finite.get files a.file) (λ bytes. IfOk result (λ plan. plan.outcome ≡ Done → HoldsFile a.from bytes))))
-    (same_asked one other same) held
+    (ap (λ (x : Asked). derez_asked x.items) e ∙ sym same) (held (ap (λ (x : Asked). x.name) e))
+
+-- The answer to a command of some items, by its name.
+
+module _ {E : Type 0} (name other : CommandName) (items : List Item) (moment : Moment) (same : name ≡ other) (before : Option Files) (result : Result Plan E) where
+  pub as_named : IfSome before (λ files. IfOk result (λ plan. AnswersItems other items files moment (answer_of plan)))
+      → IfSome before (λ files. IfOk result (λ plan. AnswersItems name items files moment (answer_of plan)))
+  as_named answers = subst (λ (n : CommandName). IfSome before (λ files. IfOk result (λ plan. AnswersItems n items files moment (answer_of plan)))) (sym same) answers
+
+module _ {E : Type 0} (moment : Moment) (before : Option Files) (result : Result Plan E) where
+  pub as_rez : (asked other : RezAsked) → asked ≡ other → IfSome before (λ files. IfOk result (λ plan. AnswersRez asked files moment (answer_of plan)))
+      → IfSome before (λ files. IfOk result (λ plan. AnswersRez other files moment (answer_of plan)))
+  as_rez asked other same answers = subst (λ (a : RezAsked). IfSome before (λ files. IfOk result (λ plan. AnswersRez a files moment (answer_of plan)))) same answers
+
+  pub as_derez : (asked other : DeRezAsked) → asked ≡ other → IfSome before (λ files. IfOk result (λ plan. AnswersDeRez asked files moment (answer_of plan)))
+      → IfSome before (λ files. IfOk result (λ plan. AnswersDeRez other files moment (answer_of plan)))
+  as_derez asked other same answers = subst (λ (a : DeRezAsked). IfSome before (λ files. IfOk result (λ plan. AnswersDeRez a files moment (answer_of plan)))) same answers
+
+  pub as_bridge : (asked other : BridgeAsked) → asked ≡ other → IfSome before (λ files. IfOk result (λ plan. AnswersBridge asked files (answer_of plan)))
+      → IfSome before (λ files. IfOk result (λ plan. AnswersBridge other files (answer_of plan)))
+  as_bridge asked other same answers = subst (λ (a : BridgeAsked). IfSome before (λ files. IfOk result (λ plan. AnswersBridge a files (answer_of plan)))) same answers
+
+  pub as_held : (asked other : DeRezAsked) → asked ≡ other
+      → IfSome before (λ files. IfSome (finite.get files asked.file) (λ bytes. IfOk result (λ plan. plan.outcome ≡ Done → HoldsFile asked.from bytes)))
+      → IfSome before (λ files. IfSome (finite.get files other.file) (λ bytes. IfOk result (λ plan. plan.outcome ≡ Done → HoldsFile other.from bytes)))
+  as_held asked other same held =
+      subst (λ (a : DeRezAsked). IfSome before (λ files. IfSome (finite.get files a.file) (λ bytes. IfOk result (λ plan. plan.outcome ≡ Done → HoldsFile a.from bytes)))) same held
+
+-- a plan that is there whatever the files hold
+pub as_planned : (name other : CommandName) (items : List Item) (moment : Moment) → name ≡ other → (before : Option Files) (plan : Plan)
+    → ((files : Files) → AnswersItems other items files moment (answer_of plan)) → IfSome before (λ files. AnswersItems name items files moment (answer_of plan))
+as_planned name other items moment same before plan answers =
+    always before (λ files. AnswersItems name items files moment (answer_of plan))
+    (λ files. subst (λ (n : CommandName). AnswersItems n items files moment (answer_of plan)) (sym same) (answers files))

@@ -20,15 +20,16 @@ use Rattle.rz_fork.specs.declared.read.ForkList.{ForkList}
 use Rattle.rz_bridge_form.specs.declared.form.Form.{Form}
 use Rattle.rz_folder_paths.specs.Names.{missing_file}
 use Rattle.rz_tools.specs.Again.{HoldsFile}
-use Rattle.rz_tools.specs.Chosen.{chosen}
-use Rattle.rz_tools.specs.DeRez.{known_by, HasFileText, HasForkText, HasText, ShowsEach}
+use Rattle.rz_tools_text.specs.Chosen.{chosen}
+use Rattle.rz_tools.specs.DeRez.{DeRezAsked, HasFileText, HasForkText, HasText}
+use Rattle.rz_tools.specs.Types.{known_by}
+use Rattle.rz_tools_text.specs.Text.{ShowsEach}
 use Rattle.rz_tools_answer.specs.Made.{making_of, SaysBeside}
-use Rattle.rz_tools.specs.Shown.{Known}
+use Rattle.rz_tools_text.specs.Shown.{Known}
 use Rattle.rz_tools.specs.Sources.{Compiled}
 use Rattle.rz_tools_answer.specs.declared.made.Made.{Made}
 use Rattle.rz_core.specs.declared.stop.Halt.{Halt}
 use Rattle.rz_tools_answer.specs.declared.made.Failing.{Failing}
-use Rattle.rz_tools_args.specs.Command.{DeRezAsked}
 use Rattle.rz_tools.proofs.Sourced.{beside}
 
 module _ (moment : Moment) (asked : DeRezAsked) (compiled : Compiled) (name : List ℕ) (named : name ≡ asked.file) (output : Result (List ℕ) (Stop Fault)) (result : Result Made (Halt Failing))

@@ -15,19 +15,23 @@ use Rattle.rz_fork.specs.Admit.{admitted}
 use Rattle.rz_bridge_form.specs.declared.form.Form.{Form}
 use Rattle.rz_fork.specs.Contents.{Fork}
 use Rattle.rz_fork.specs.declared.fault.ForkFault.{ForkFault}
-use Rattle.rz_tools_args.specs.Command.{Asked, DeRez, DeRezAsked, IsCommand}
+use Rattle.rz_tools_args.specs.Command.{Asked, IsCommand}
+use Rattle.rz_tools_args.specs.declared.name.CommandName.TheVariants as names
+use Rattle.rz_tools_work.specs.Work.{begun, Work}
 use Rattle.rz_tools.specs.Again.{AreShort, HoldsFile, MeansAgain, ShowsAgain, SparesWords}
 use Rattle.rz_tools_answer.specs.Answer.{Answer, Making}
 use Rattle.rz_tools_answer.specs.declared.made.Failing.{Failing}
-use Rattle.rz_tools.specs.Chosen.{chosen}
-use Rattle.rz_tools.specs.DeRez.{derez_around, known_by, AnswersDeRez, HasFileText, HasForkText, ShowsEach, TypesAre}
+use Rattle.rz_tools_text.specs.Chosen.{chosen}
+use Rattle.rz_tools.specs.DeRez.{AnswersDeRez, DeRezAsked, HasFileText, HasForkText, IsDeRez}
+use Rattle.rz_tools.specs.Types.{known_by, types_around, TypesAre}
+use Rattle.rz_tools_text.specs.Text.{ShowsEach}
 use Rattle.rz_tools.specs.Sources.{AreCompiled, Compiled}
 use Rattle.rz_tools_values.specs.Around.{Around}
 use Rattle.rz_pre_laws.specs.Definitions.{AreFree}
 use Rattle.rz_pre.specs.declared.program.Def.{Def}
 use Rattle.rz_tools.specs.Program.{command, misplaced, Answers, AnswersTo}
 use Rattle.rz_tools_answer.specs.Carried.{CarriesOut}
-use Rattle.rz_tools.specs.Shown.{Known}
+use Rattle.rz_tools_text.specs.Shown.{Known}
 use Rattle.rz_tools_answer.specs.World.{World}
 use Rattle.rz_tools_answer.specs.declared.outcome.Outcome.{Outcome}
 use Rattle.rz_tools_answer.specs.declared.outcome.Outcome.TheVariants.{Done, Refused}
@@ -42,13 +46,20 @@ ForksAreReadAgain =
 -- the law of the macros behind type files
 abbrev pub WordsAreSpared : Type 0
 WordsAreSpared =
-    (around : Around) (names paths : List (List ℕ)) (defs : List Def) (compiled : Compiled) → AreFree defs
-    → AreCompiled around names paths defs (Ok compiled) → SparesWords compiled.is_macro
+    (around : Around) (start : Work) (names paths : List (List ℕ)) (defs : List Def) (compiled : Compiled) → AreFree defs
+    → AreCompiled around start names paths defs (Ok compiled) → SparesWords compiled.is_macro
 
 of_asked : (commands : OneCommand) (words : List (List ℕ)) (asked : Asked) → IsCommand words asked → (files : Files) (moment : Moment) (wanted : Answer)
     → Answers words files moment wanted → AnswersTo asked files moment wanted
 of_asked commands words asked is files moment wanted (command others also to) = subst (λ (x : Asked). AnswersTo x files moment wanted) (commands words others asked also is) to
 of_asked commands words asked is files moment wanted (misplaced position also says) = absurd (also.none asked is)
+
+-- the answer to words that are `derez`
+pub derez_answered : (commands : OneCommand) (words : List (List ℕ)) (asked : DeRezAsked) → IsDeRez words asked → (files : Files) (moment : Moment) (wanted : Answer)
+    → Answers words files moment wanted → AnswersDeRez asked files moment wanted
+derez_answered commands words asked (items, is, same) files moment wanted answers =
+    subst (λ (a : DeRezAsked). AnswersDeRez a files moment wanted) (sym same)
+    (of_asked commands words (record { name = names.DeRez; items = items }) is files moment wanted answers)
 
 -- The answer's text.
 
@@ -66,7 +77,7 @@ same_making : (one other : Making) → ◌≡◌ {A = Result Making Failing} (Ok
 same_making one other is = cc is
 
 -- the file that holds a fork
-fork_parts : (form : Option Form) (bytes : List ℕ) (fork : Fork) → fork_in None form bytes ≡ Ok fork
+pub fork_parts : (form : Option Form) (bytes : List ℕ) (fork : Fork) → fork_in None form bytes ≡ Ok fork
     → (file : MacFile) × (file_in None form bytes [] ≡ Ok file) × (admitted file.res_fork ≡ Ok fork)
 fork_parts form bytes fork is = by (file_in None form bytes []) refl is
   where
@@ -87,8 +98,8 @@ text_in_file known asked entry bytes fork text held admits has =
     subst (λ (a : Result Fork Fault). HasForkText known asked a (Ok text)) admits (subst (λ (e : Option (List ℕ)). HasFileText known asked e (Ok text)) held has) in
     subst (λ (t : List ℕ). ShowsEach known (chosen asked.only asked.skip fork.list) t) (sym (same_text text so.0 so.2)) so.1
 
-text_of_answer : (moment : Moment) (asked : DeRezAsked) (files : Files) (bytes : List ℕ) (fork : Fork) (wanted : Answer) → AnswersDeRez asked files moment wanted → wanted.outcome ≡ Done
-    → finite.get files asked.file ≡ Some bytes → fork_in None asked.from bytes ≡ Ok fork → (compiled : Compiled) × TypesAre moment asked files (Ok compiled) × ShowsEach (known_by moment compiled) (chosen asked.only asked.skip fork.list) wanted.out
+pub text_of_answer : (moment : Moment) (asked : DeRezAsked) (files : Files) (bytes : List ℕ) (fork : Fork) (wanted : Answer) → AnswersDeRez asked files moment wanted → wanted.outcome ≡ Done
+    → finite.get files asked.file ≡ Some bytes → fork_in None asked.from bytes ≡ Ok fork → (compiled : Compiled) × TypesAre moment asked.types files (Ok compiled) × ShowsEach (known_by moment compiled) (chosen asked.only asked.skip fork.list) wanted.out
 text_of_answer moment asked files bytes fork wanted (Err failing, makes, is) done held admits =
     absurd (not_refused failing.fault (sym (ap (λ (a : Answer). a.outcome) is) ∙ done))
 text_of_answer moment asked files bytes fork wanted (Ok making, inr (failing, first, same), is) done held admits = absurd (made_or_not making failing same)
@@ -106,7 +117,7 @@ at_some P o x is holds = subst (λ (o : Option (List ℕ)). IfSome o P) is holds
 
 -- a run that is done
 module _ (commands : OneCommand) (law : ForksAreReadAgain) (spared : WordsAreSpared) (words : List (List ℕ)) (moment : Moment) (before after : World) (done : Answer) where
-  pub shows_again : (result : Outcome) → result ≡ Done → CarriesOut done before after result → (asked : DeRezAsked) → IsCommand words (DeRez asked) → AreFree asked.defs
+  pub shows_again : (result : Outcome) → result ≡ Done → CarriesOut done before after result → (asked : DeRezAsked) → IsDeRez words asked → AreFree asked.types.defs
       → IfSome before.files (λ files. Answers words files moment done)
       → IfSome before.files (λ files. IfSome (finite.get files asked.file) (λ bytes. done.outcome ≡ Done → HoldsFile asked.from bytes))
       → IfSome before.files (λ files. IfSome before.out (λ out. ShowsAgain moment asked files out after.out))
@@ -120,7 +131,7 @@ module _ (commands : OneCommand) (law : ForksAreReadAgain) (spared : WordsAreSpa
       by (Some files) None ended written answers held = tt
       by (Some files) (Some out) ended written answers held = λ bytes there fork admits short.
           let parts = fork_parts asked.from bytes fork admits in
-          let shows = text_of_answer moment asked files bytes fork done (of_asked commands words (DeRez asked) as_asked files moment done answers) ended there admits in (
+          let shows = text_of_answer moment asked files bytes fork done (derez_answered commands words asked as_asked files moment done answers) ended there admits in (
             shows.0,
             done.out,
             shows.1,
@@ -128,5 +139,5 @@ module _ (commands : OneCommand) (law : ForksAreReadAgain) (spared : WordsAreSpa
             law parts.0.res_fork
                 (at_some (λ bytes. done.outcome ≡ Done → HoldsFile asked.from bytes) (finite.get files asked.file) bytes there held ended parts.0 parts.1)
                 fork parts.2 asked.only asked.skip short (known_by moment shows.0)
-                (spared (derez_around moment asked files) asked.files asked.paths asked.defs shows.0 free shows.1) done.out shows.2,
+                (spared (types_around moment asked.types files) (begun []) asked.types.files asked.types.paths asked.types.defs shows.0 free shows.1) done.out shows.2,
           )

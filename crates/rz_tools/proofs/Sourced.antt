@@ -19,7 +19,7 @@ use Rattle.rz_pre.specs.declared.program.Program.{Program}
 use Rattle.rz_stmt.specs.Statements.{AreStatements}
 use Rattle.rz_tools_answer.specs.Answer.{Making}
 use Rattle.rz_tools_answer.specs.declared.made.Failing.{Failing}
-use Rattle.rz_tools.specs.Held.{macros_held}
+use Rattle.rz_tools_text.specs.Held.{macros_held}
 use Rattle.rz_tools_answer.specs.Made.{making_of, SaysBeside}
 use Rattle.rz_tools.specs.Sources as sources
 use Rattle.rz_tools_answer.specs.Warning.{said_beside, warning_lines, AreWarnings}
@@ -42,18 +42,18 @@ made_so A B so result is = yields_so A B so (seen making_of result) is
 
 -- The statements of a program.
 
-module _ (around : Around) (list : List Resource) (cut : List (List Token)) (program : Program) (s : State) (is : IsProgram program s)
+module _ (around : Around) (start : Work) (cut : List (List Token)) (program : Program) (s : State) (is : IsProgram program s)
     (are : AreStatements program.tokens cut) where
   there : AreStatements s.tokens cut
   there = subst (λ (ts : List Token). AreStatements ts cut) is.tokens are
 
-  pub made_of_work : (work : Work) → Means around (begun list) cut (Ok work)
-      → HasWork around list s (Ok (record { work = work; is_macro = macros_held program.macros; files = program.files }))
+  pub made_of_work : (work : Work) → Means around start cut (Ok work)
+      → HasWork around start s (Ok (record { work = work; is_macro = macros_held program.macros; files = program.files }))
   made_of_work work means =
       (cut, there, (work, means, λ i. record { work = work; is_macro = λ name. is.macros (str_to_ascii_lowercase name) i; files = is.files i }))
 
-  pub refused_so : (fault : Fault) (warnings : List Fault) → Means around (begun list) cut (Err (record { fault = fault; warnings = warnings }))
-      → (failing : Failing) → failing ≡ record { fault = fault; files = program.files; said = warning_lines program.files warnings } → HasWork around list s (Err failing)
+  pub refused_so : (fault : Fault) (warnings : List Fault) → Means around start cut (Err (record { fault = fault; warnings = warnings }))
+      → (failing : Failing) → failing ≡ record { fault = fault; files = program.files; said = warning_lines program.files warnings } → HasWork around start s (Err failing)
   refused_so fault warnings means failing refuses = (
     cut,
     there,
@@ -70,24 +70,22 @@ none_warned files list start begins = subst (λ (w : Work). AreWarnings files w.
 
 -- The same where the files are told.
 
-module _ (setting : Setting) (paths : List (List ℕ)) (list : List Resource) (cut : List (List Token)) (program : Program) (are : AreStatements program.tokens cut)
-    (start : Work) (begins : start ≡ begun list) where
+module _ (setting : Setting) (paths : List (List ℕ)) (start : Work) (cut : List (List Token)) (program : Program) (are : AreStatements program.tokens cut) where
   pub work_told : (before : Option Files) (work : Work)
       → IfSome before (λ files. (statements : List (List Token)) → AreStatements program.tokens statements → Yields (with_work work (Ok tt)) (Means (around setting paths files) start statements))
       → IfSome before (λ files. (s : State) → IsProgram program s
-      → HasWork (around setting paths files) list s (Ok (record { work = work; is_macro = macros_held program.macros; files = program.files })))
+      → HasWork (around setting paths files) start s (Ok (record { work = work; is_macro = macros_held program.macros; files = program.files })))
   work_told None work means = tt
   work_told (Some files) work means = λ s is.
-      made_of_work (around setting paths files) list cut program s is are work (subst (λ (w : Work). Means (around setting paths files) w cut (Ok work)) begins (means cut are))
+      made_of_work (around setting paths files) start cut program s is are work (means cut are)
 
   pub refusal_told : (before : Option Files) (work : Work) (fault : Fault)
       → IfSome before (λ files. (statements : List (List Token)) → AreStatements program.tokens statements → Yields (with_work work (Err (halts.Refused fault))) (Means (around setting paths files) start statements))
       → (failing : Failing) → failing ≡ record { fault = fault; files = program.files; said = warning_lines program.files work.warnings }
-      → IfSome before (λ files. (s : State) → IsProgram program s → HasWork (around setting paths files) list s (Err failing))
+      → IfSome before (λ files. (s : State) → IsProgram program s → HasWork (around setting paths files) start s (Err failing))
   refusal_told None work fault means failing refuses = tt
   refusal_told (Some files) work fault means failing refuses = λ s is.
-      refused_so (around setting paths files) list cut program s is are fault work.warnings
-      (subst (λ (w : Work). Means (around setting paths files) w cut (Err (record { fault = fault; warnings = work.warnings }))) begins (means cut are)) failing refuses
+      refused_so (around setting paths files) start cut program s is are fault work.warnings (means cut are) failing refuses
 
 -- The program.
 

@@ -20,17 +20,18 @@ use Rattle.rz_show_laws.specs.Statement.{shown_words}
 use Rattle.rz_stmt.specs.Statements.{AreStatements}
 use Rattle.rz_tools_values.specs.Contents.{most_bytes}
 use Rattle.rz_tools_output.specs.Base.{new_base}
-use Rattle.rz_tools.specs.DeRez.{known_by, TypesAre}
+use Rattle.rz_tools.specs.DeRez.{DeRezAsked}
+use Rattle.rz_tools.specs.Rez.{IsRez, RezAsked}
+use Rattle.rz_tools.specs.Types.{known_by, TypesAre}
 use Rattle.rz_tools.specs.Step.{Means}
 use Rattle.rz_tools_values.specs.Around.{Around}
 use Rattle.rz_tools_answer.specs.Answer.{or_refused, written}
 use Rattle.rz_tools.specs.Program.{Answers}
 use Rattle.rz_tools_output.specs.Output.{IsOutput}
-use Rattle.rz_tools.specs.Shown.{Known}
+use Rattle.rz_tools_text.specs.Shown.{Known}
 use Rattle.rz_tools_answer.specs.Warning.{said_beside}
 use Rattle.rz_tools.specs.Sources.{Compiled}
-use Rattle.rz_tools.specs.Chosen.{chosen}
-use Rattle.rz_tools_args.specs.Command.{DeRezAsked, IsCommand, Rez, RezAsked}
+use Rattle.rz_tools_text.specs.Chosen.{chosen}
 
 -- the words of statements and attributes are no macros, nor are `true` and `false`: they are reserved
 abbrev pub SparesWords : (List ℕ → Bool) → Type 0
@@ -68,9 +69,9 @@ AreShort list = AllByRecursion (λ r. length r.bytes ≤ most_bytes) list
 abbrev pub CompilesAlone : List ℕ → List Resource → Type 0
 CompilesAlone text list =
     (words : List (List ℕ)) (asked : RezAsked) (files : Files) (moment : Moment) (name : List ℕ) (output : Result (List ℕ) Fault)
-    → IsCommand words (Rez asked) → asked.append ≡ false → asked.files ≡ name ∷ [] → finite.get files name ≡ Some text
-    → IsOutput asked moment new_base list output
-    → Answers words files moment (or_refused (written asked.output) (said_beside (name ∷ []) [] output))
+    → IsRez words asked → asked.append ≡ false → asked.files ≡ name ∷ [] → finite.get files name ≡ Some text
+    → IsOutput asked.target moment new_base list output
+    → Answers words files moment (or_refused (written asked.target.name) (said_beside (name ∷ []) [] output))
 
 -- what bytes of a form hold has a fork of as few bytes as a file has
 abbrev pub HoldsFile : Option Form → List ℕ → Type 0
@@ -82,5 +83,5 @@ abbrev pub ShowsAgain : Moment → DeRezAsked → Files → List ℕ → Option 
 ShowsAgain moment asked files before after =
     (bytes : List ℕ) → finite.get files asked.file ≡ Some bytes → (fork : Fork) → fork_in None asked.from bytes ≡ Ok fork
     → AreShort (chosen asked.only asked.skip fork.list)
-    → (compiled : Compiled) × (text : List ℕ) × TypesAre moment asked files (Ok compiled) × (after ≡ Some (before ++ text))
+    → (compiled : Compiled) × (text : List ℕ) × TypesAre moment asked.types files (Ok compiled) × (after ≡ Some (before ++ text))
     × MeansAgain (known_by moment compiled) text (chosen asked.only asked.skip fork.list)

@@ -1,22 +1,34 @@
--- What the code holds of what sources mean, and of what is known where resources are shown.
-use Rattle.std.specs.Prelude.{ℕ, Bool, List}
-use Rattle.std.specs.Str.{str_to_ascii_lowercase}
-use Rattle.rz_core.specs.declared.resource.Word.{Word}
-use Rattle.rz_pre.specs.Reading.{is_among}
-use Rattle.rz_show.specs.Hidden.{hides}
-use Rattle.rz_tools.specs.Shown as shown
+-- What the code holds of what words ask for, and of what sources mean.
+use Rattle.std.specs.String.{string_bytes}
+use Rattle.rz_tools.specs.DeRez.{DeRezAsked}
+use Rattle.rz_tools.specs.Rez.{RezAsked}
 use Rattle.rz_tools.specs.Sources as sources
-use Rattle.rz_tools.specs.declared.shown.Known.{Known}
+use Rattle.rz_tools.specs.Types.{TypesAsked}
+use Rattle.rz_tools.specs.declared.derez.DeRezWords.{DeRezWords}
+use Rattle.rz_tools.specs.declared.rez.RezWords.{RezWords}
 use Rattle.rz_tools.specs.declared.sources.Compiled.{Compiled}
+use Rattle.rz_tools.specs.declared.types.TypesWords.{TypesWords}
+use Rattle.rz_tools_output.specs.Output.{target}
+use Rattle.rz_tools_text.specs.Held.{macros_held}
 use Rattle.rz_tools_work.specs.Held.{work_of}
-use Rattle.rz_types_table.specs.TypeTable.{table_of}
 
--- a name, in whatever case, is one of these in lower case
-abbrev pub macros_held : List Word → List ℕ → Bool
-macros_held macros name = is_among (str_to_ascii_lowercase name) macros
+abbrev pub rez : RezWords → RezAsked
+rez words = record {
+  files = words.files;
+  paths = words.paths;
+  searches = words.searches;
+  defs = words.defs;
+  redeclare = words.redeclare;
+  append = words.append;
+  over = words.over;
+  target = target words.target;
+}
+
+abbrev pub types_asked : TypesWords → TypesAsked
+types_asked words = record { files = words.files; paths = words.paths; defs = words.defs; redeclare = words.redeclare }
+
+abbrev pub derez : DeRezWords → DeRezAsked
+derez words = record { file = string_bytes words.file; from = words.from; only = words.only; skip = words.skip; types = types_asked words.types }
 
 abbrev pub compiled_of : Compiled → sources.Compiled
 compiled_of compiled = record { work = work_of compiled.work; is_macro = macros_held compiled.macros; files = compiled.files }
-
-abbrev pub known_of : Known → shown.Known
-known_of known = record { types = table_of known.types; is_macro = hides known.macros; moment = known.moment }

@@ -1,7 +1,6 @@
 pub mod Step
 pub mod Sources
-pub mod Shown
-pub mod Chosen
+pub mod Types
 pub mod Held
 pub mod Rez
 pub mod DeRez

@@ -2,20 +2,25 @@
 use Rattle.std.specs.Prelude.{◌≡◌, ℕ, List, []}
 use Rattle.rz_core.specs.declared.moment.Moment.{Moment}
 use Rattle.rz_folder.specs.Folder.{Files}
-use Rattle.rz_tools_args.specs.Command.{Asked, Rez, DeRez, Bridge, Help, Version, IsCommand, IsMisplaced}
+use Rattle.rz_tools_args.specs.Command.{places_of, Asked, IsCommand, IsMisplaced, Item}
+use Rattle.rz_tools_args.specs.declared.name.CommandName.{CommandName}
+use Rattle.rz_tools_args.specs.declared.name.CommandName.TheVariants as names
 use Rattle.rz_tools_answer.specs.Answer.{misused, shown, Answer}
-use Rattle.rz_tools_output.specs.Bridge.{AnswersBridge}
-use Rattle.rz_tools.specs.DeRez.{AnswersDeRez}
+use Rattle.rz_tools_output.specs.Bridge.{bridge_asked, AnswersBridge}
+use Rattle.rz_tools.specs.DeRez.{derez_asked, AnswersDeRez}
 use Rattle.rz_tools_answer.specs.Help.{help_text, version_text}
-use Rattle.rz_tools.specs.Rez.{AnswersRez}
+use Rattle.rz_tools.specs.Rez.{rez_asked, AnswersRez}
 
--- the answer to a command, where each name holds this, at this moment; each command is one case
+-- the answer to a command of these items, where each name holds this, at this moment; each command is one case
+abbrev pub AnswersItems : CommandName → List Item → Files → Moment → Answer → Type 0
+AnswersItems names.Rez items files moment answer = AnswersRez (rez_asked items) files moment answer
+AnswersItems names.DeRez items files moment answer = AnswersDeRez (derez_asked items) files moment answer
+AnswersItems names.Bridge items files moment answer = AnswersBridge (bridge_asked items) files answer
+AnswersItems names.Help items files moment answer = answer ≡ shown (record { bytes = help_text; said = [] })
+AnswersItems names.Version items files moment answer = answer ≡ shown (record { bytes = version_text; said = [] })
+
 abbrev pub AnswersTo : Asked → Files → Moment → Answer → Type 0
-AnswersTo (Rez asked) files moment answer = AnswersRez asked files moment answer
-AnswersTo (DeRez asked) files moment answer = AnswersDeRez asked files moment answer
-AnswersTo (Bridge asked) files moment answer = AnswersBridge asked files answer
-AnswersTo Help files moment answer = answer ≡ shown (record { bytes = help_text; said = [] })
-AnswersTo Version files moment answer = answer ≡ shown (record { bytes = version_text; said = [] })
+AnswersTo asked files moment answer = AnswersItems asked.name asked.items files moment answer
 
 -- the answer to a list of words: that to the command that they are, or Usage with the position of the first word
 -- that is misplaced

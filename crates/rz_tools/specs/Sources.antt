@@ -12,10 +12,9 @@ use Rattle.rz_stmt.specs.Statements.{AreStatements}
 use Rattle.rz_tools_answer.specs.Answer.{Making}
 use Rattle.rz_tools_answer.specs.declared.made.Failing.{Failing}
 use Rattle.rz_tools_values.specs.Around.{Around}
-use Rattle.rz_tools_work.specs.Work.{begun, Work}
+use Rattle.rz_tools_work.specs.Work.{Work}
 use Rattle.rz_tools.specs.Step.{Means, WarnedFault}
 use Rattle.rz_tools_answer.specs.Warning.{said_beside, warning_lines}
-use Rattle.rz_core.specs.declared.resource.Resource.{Resource}
 
 -- what the statements of sources made, which names, in whatever case, are macros behind them, and the files that were opened
 pub record Compiled : Type 0 where
@@ -38,18 +37,18 @@ InProgram program answers (Err failing) =
     (stopped : WarnedFault) × answers (Err stopped)
     × (failing ≡ record { fault = stopped.fault; files = program.files; said = warning_lines program.files stopped.warnings })
 
--- what the statements of a program make, behind these resources
-abbrev pub HasWork : Around → List Resource → State → Result Compiled Failing → Type 0
-HasWork around list program made =
-    (statements : List (List Token)) × AreStatements program.tokens statements × InProgram program (Means around (begun list) statements) made
+-- what the statements of a program make of the work to begin with
+abbrev pub HasWork : Around → Work → State → Result Compiled Failing → Type 0
+HasWork around start program made =
+    (statements : List (List Token)) × AreStatements program.tokens statements × InProgram program (Means around start statements) made
 
 -- the program of the sources of these names, with these paths and definitions, or its first fault
 abbrev pub IsProgramOf : Around → List (List ℕ) → List (List ℕ) → List Def → Result State Failing → Type 0
 IsProgramOf around names paths defs = Unsaid (ProgramGoes around.files around.setting.tool names paths defs)
 
--- what the sources mean: their program, and what its statements make of nothing; or the first fault of these
-abbrev pub AreCompiled : Around → List (List ℕ) → List (List ℕ) → List Def → Result Compiled Failing → Type 0
-AreCompiled around names paths defs = Then (IsProgramOf around names paths defs) (HasWork around [])
+-- what the sources mean: their program, and what its statements make of the work to begin with; or the first fault of these
+abbrev pub AreCompiled : Around → Work → List (List ℕ) → List (List ℕ) → List Def → Result Compiled Failing → Type 0
+AreCompiled around start names paths defs = Then (IsProgramOf around names paths defs) (HasWork around start)
 
 -- what is made of the work, with the lines of its warnings
 abbrev pub SaidBeside : Compiled → (Result (List ℕ) Fault → Type 0) → Result Making Failing → Type 0

@@ -1,6 +1,6 @@
 //! `derez`: the type files, the fork of the file, and the text of its resources. What it answers is in `specs/DeRez`.
 
-ghost use Rattle.std.specs.Prelude.{◌≡◌, ◌++◌, ◌∷◌, [], ◌<◌, ◌^◌, Err, ℕ, List, length, None, IfOk, IfSome, OnOk};
+ghost use Rattle.std.specs.Prelude.{◌≡◌, ◌≢◌, [], ◌<◌, ◌^◌, drop, Err, ℕ, length, None, IfOk, IfSome};
 ghost use Rattle.std.specs.FinMap as map;
 ghost use Rattle.std.specs.String.{string_bytes};
 ghost use Rattle.rz_core.specs.Stop.{seen, Meets, OnFault, OnRefusal, Yields};
@@ -11,31 +11,83 @@ ghost use Rattle.rz_bridge_files.specs.Contents.{admit_fork, fork_in};
 ghost use Rattle.rz_pre.specs.Lexed.{HaveLexedTexts};
 ghost use Rattle.rz_folder_paths.specs.Names.{missing_file};
 ghost use Rattle.rz_tools.specs.Again.{HoldsFile};
-ghost use Rattle.rz_tools.specs.Chosen.{chosen};
 ghost use Rattle.rz_core.specs.declared.moment.Moment.{Moment as MomentOf};
 ghost use Rattle.rz_tools.specs.Sources.{Compiled as CompiledOf};
-ghost use Rattle.rz_tools.specs.DeRez.{known_by, AnswersDeRez, HasForkText, HasText, Shows, ShowsEach, TypesAre};
-ghost use Rattle.rz_tools.specs.Held.{compiled_of, known_of};
+ghost use Rattle.rz_tools.specs.DeRez.{derez_asked, AnswersDeRez, HasForkText, HasText, Shows};
+ghost use Rattle.rz_tools.specs.Types.{known_by};
+ghost use Rattle.rz_tools.specs.Held.{compiled_of, derez};
+ghost use Rattle.rz_tools_text.specs.Held.{known_of};
 ghost use Rattle.rz_tools_answer.specs.Made.{making_of, IsSayable};
 ghost use Rattle.rz_tools_answer.specs.Plan.{answer_of, IsNoUsage};
 ghost use Rattle.rz_tools_answer.specs.Warning.{AreWarnings, IsWarningText};
 ghost use Rattle.rz_tools_answer.specs.WellFormed.{AreWritable, IsWellFormed};
-ghost use Rattle.rz_tools_args.specs.Item.{derez};
+ghost use Rattle.rz_tools_args.specs.Command.{places_of};
+ghost use Rattle.rz_tools_args.specs.Held.{items_of};
 
-use crate::chosen::is_chosen;
-use crate::shown::{Known, show};
-use crate::sources::{Compiled, compile_program, read_program};
+use crate::sources::Compiled;
+use crate::types::{TypesWords, compile_types};
 use rz_bridge_files::{admit_fork, file_in};
+use rz_bridge_form::Form;
 use rz_core::{Bytes, Fault, FileNames, Halt, Moment, NoMemory, Resource, Resources, Stop};
 use rz_folder::{Folder, Read};
 use rz_folder_paths::missing_file;
-use rz_pre::Tool;
 use rz_tools_answer::{Failing, Faults, Made, Outcome, Plan, say_beside};
-use rz_tools_args::DeRezWords;
-use rz_tools_values::Setting;
+use rz_tools_args::{Command, Flag, Kinds, Switch};
+use rz_tools_text::{Known, show_list};
 use rz_tools_work::Work;
 use std::alloc::Global;
 use std::convert::Infallible;
+
+/// What `derez` is asked for.
+#[derive(Drop)]
+pub struct DeRezWords {
+    /// The name of the fork.
+    pub file: String,
+    /// The form of the fork's file.
+    pub from: Option<Form>,
+    /// The types that alone are shown, where there are any.
+    pub only: Kinds,
+    /// The types that aren't shown.
+    pub skip: Kinds,
+    /// The type files.
+    pub types: TypesWords,
+}
+
+impl DeRezWords {
+    /// What these items ask for: the first file is the fork, and the others are type files.
+    pub fn of(alloc: Global, command: Command<'_>) -> Result<DeRezWords, NoMemory>
+        requires { places_of (items_of command) ≢ [] }
+        ensures { IfOk result (λ words. derez words ≡ derez_asked (items_of command.entry)) }
+    {
+        let files = command.files(alloc)?;
+        Ok(DeRezWords {
+            file: files.at(0).to_string(alloc)?,
+            from: command.form(Flag::From),
+            only: command.kinds(alloc, Flag::Only)?,
+            skip: command.kinds(alloc, Flag::Skip)?,
+            types: TypesWords {
+                files: names_behind(alloc, &files)?,
+                paths: command.names(alloc, Flag::Path)?,
+                redeclare: command.has(Switch::Redeclare),
+                defs: command.into_defs(alloc)?,
+            },
+        })
+    }
+}
+
+/// The names behind the first.
+fn names_behind(alloc: Global, names: &FileNames) -> Result<FileNames, NoMemory>
+    requires { 0 < length names.now }
+    ensures { IfOk result (λ behind. behind ≡ drop 1 names.now) }
+{
+    let mut behind = FileNames::new(alloc);
+    let mut k = 1;
+    while k < names.len() {
+        behind.push(names.at(k))?;
+        k += 1;
+    }
+    Ok(behind)
+}
 
 /// The answer to the words of `derez`: under what the type files declare, the text of the resources of the fork whose
 /// types the words choose, which is to be put out. The type files are read first, then their statements, of which
@@ -46,7 +98,7 @@ pub fn plan_derez<F: Folder>(
     words: &DeRezWords,
     moment: Moment,
 ) -> Result<Plan, Halt<Infallible>>
-    requires { HaveLexedTexts words.now.defs }
+    requires { HaveLexedTexts words.now.types.defs }
     ensures answered { IfSome (F.files folder.old) (λ files. IfOk result (λ plan. AnswersDeRez (derez words.now) files moment (answer_of plan))) }
     ensures well_formed { IfOk result (λ plan. IsWellFormed (answer_of plan)) }
     ensures writable { IfOk result (λ plan. AreWritable (answer_of plan).writes) }
@@ -62,61 +114,21 @@ pub fn plan_derez<F: Folder>(
 }
 
 /// The text of the fork, or what stopped the command.
-fn read_and_show<F: Folder>(
+pub fn read_and_show<F: Folder>(
     alloc: Global,
     folder: &mut F,
     words: &DeRezWords,
     moment: Moment,
 ) -> Result<Made, Halt<Failing>>
-    requires { HaveLexedTexts words.now.defs }
+    requires { HaveLexedTexts words.now.types.defs }
     ensures text { IfSome (F.files folder.old) (λ files. Yields (seen making_of result) (Shows moment (derez words.now) files)) }
     ensures held { IfSome (F.files folder.old) (λ files. IfSome (map.get files (string_bytes words.now.file)) (λ bytes. IfOk result (λ _. HoldsFile words.now.from bytes))) }
     ensures sayable { OnRefusal result IsSayable }
     ensures warned { IfOk result (λ made. IsWarningText made.said) }
     ensures reads { OnlyReads F.files F.read_faults F.write_faults folder.old folder.new (result ≡ Err ReadFault) }
 {
-    match compile_types(alloc, folder, words, moment) {
+    match compile_types(alloc, folder, &words.types, moment) {
         Ok(compiled) => show_under(alloc, folder, words, compiled, moment),
-        Err(stop) => Err(stop),
-    }
-}
-
-/// What the type files mean.
-fn compile_types<F: Folder>(
-    alloc: Global,
-    folder: &mut F,
-    words: &DeRezWords,
-    moment: Moment,
-) -> Result<Compiled, Halt<Failing>>
-    requires { HaveLexedTexts words.now.defs }
-    ensures compiled { IfSome (F.files folder.old) (λ files. Yields (seen compiled_of result) (TypesAre moment (derez words.now) files)) }
-    ensures warned { IfOk result (λ compiled. AreWarnings (length compiled.files) compiled.work.warnings) }
-    ensures sayable { OnRefusal result IsSayable }
-    ensures reads { OnlyReads F.files F.read_faults F.write_faults folder.old folder.new (result ≡ Err ReadFault) }
-{
-    let setting = Setting {
-        tool: Tool::DeRez,
-        redeclare: words.redeclare,
-        append: false,
-        over: false,
-        moment,
-    };
-    match read_program(
-        alloc,
-        folder,
-        Tool::DeRez,
-        &words.files,
-        &words.paths,
-        &words.defs,
-    ) {
-        Ok(program) => compile_program(
-            alloc,
-            folder,
-            &FileNames::new(alloc),
-            program,
-            Resources::new(alloc),
-            setting,
-        ),
         Err(stop) => Err(stop),
     }
 }
@@ -219,39 +231,5 @@ fn text_of_fork(
     ensures nameable { (files : ℕ) → OnFault result (IsNameable files) }
 {
     let fork = admit_fork(alloc, fork, None)?;
-    Ok(show_list(alloc, &fork.list, words, known)?)
-}
-
-/// The text of the resources of a list that the words choose, in order.
-fn show_list(
-    alloc: Global,
-    list: &Resources,
-    words: &DeRezWords,
-    known: &Known,
-) -> Result<Bytes, NoMemory>
-    ensures { IfOk result (ShowsEach (known_of known.now) (chosen words.now.only words.now.skip list.now)) }
-{
-    let mut text = Bytes::new(alloc);
-    for resource in list.as_slice() {
-        show_chosen(alloc, resource, words, known, &mut text)?;
-    }
-    Ok(text)
-}
-
-/// Appends the text of a resource, where the words choose it.
-fn show_chosen(
-    alloc: Global,
-    resource: &Resource,
-    words: &DeRezWords,
-    known: &Known,
-    into: &mut Bytes,
-) -> Result<(), NoMemory>
-    ensures { OnOk result ((text : List ℕ) × (into.new ≡ into.old ++ text)
-        × ShowsEach (known_of known.now) (chosen words.now.only words.now.skip (resource.now ∷ [])) text) }
-{
-    if is_chosen(&words.only, &words.skip, resource.kind) {
-        show(alloc, resource, known, into)
-    } else {
-        Ok(())
-    }
+    Ok(show_list(alloc, &fork.list, &words.only, &words.skip, known)?)
 }

@@ -9,11 +9,12 @@ ghost use Rattle.rz_core.specs.declared.resource.OsType.{OsType};
 ghost use Rattle.rz_bridge_files.specs.Contents.{IsFile};
 ghost use Rattle.rz_tools.specs.Again.{AreShort, CompilesAlone, MeansAgain, SparesWords};
 ghost use Rattle.rz_tools_answer.specs.Answer.{Answer};
-ghost use Rattle.rz_tools.specs.Chosen.{chosen};
-ghost use Rattle.rz_tools.specs.DeRez.{ShowsEach};
-ghost use Rattle.rz_tools.specs.Shown.{Known};
+ghost use Rattle.rz_tools_text.specs.Chosen.{chosen};
+ghost use Rattle.rz_tools_text.specs.Shown.{Known};
+ghost use Rattle.rz_tools_text.specs.Text.{ShowsEach};
 ghost use Rattle.rz_tools.specs.Sources.{AreCompiled, Compiled};
 ghost use Rattle.rz_tools_values.specs.Around.{Around};
+ghost use Rattle.rz_tools_work.specs.Work.{Work};
 ghost use Rattle.rz_pre_laws.specs.Definitions.{AreFree};
 ghost use Rattle.rz_pre.specs.declared.program.Def.{Def};
 ghost use Rattle.rz_tools.specs.Program.{Answers};
@@ -30,9 +31,8 @@ use rz_stmt::{every_statement_is_parsed, one_cutting, one_statement};
 use rz_stmt_brackets::all_tokens_are_statements;
 use rz_stmt_items::{matched_rows_are_rows, one_match};
 use rz_tools_args::{definitions_are_free, every_list_of_words_is_read, one_command};
-use rz_unlay::{
-    one_plain_row, plain_rows_are_spelled, spelled_rows_are_rows, told_rows_are_decided,
-};
+use rz_tools_text::{every_list_is_shown, one_shown_text};
+use rz_unlay::{plain_rows_are_spelled, spelled_rows_are_rows};
 
 /// A law, with nothing to run: words have one answer at most, where each name holds the same and at the same
 /// moment.
@@ -45,7 +45,7 @@ pub fn one_answer()
     one_statement();
     one_match();
     one_spelling();
-    one_plain_row();
+    one_shown_text();
     one_named_file();
     one_data_file();
     one_command();
@@ -63,8 +63,7 @@ pub fn every_answer()
     one_match();
     matched_rows_are_rows();
     one_spelling();
-    told_rows_are_decided();
-    one_plain_row();
+    every_list_is_shown();
     every_file_is_named();
     every_header_has_a_data_file();
 }
@@ -72,8 +71,8 @@ pub fn every_answer()
 /// A law, with nothing to run: no reserved word is a macro behind sources, if the definitions before them are of none: so
 /// no word of statements and attributes is.
 pub fn reserved_words_are_spared()
-    ensures { (around : Around) (names paths : List (List ℕ)) (defs : List Def) (compiled : Compiled) → AreFree defs
-        → AreCompiled around names paths defs (Ok compiled) → SparesWords compiled.is_macro }
+    ensures { (around : Around) (start : Work) (names paths : List (List ℕ)) (defs : List Def) (compiled : Compiled) → AreFree defs
+        → AreCompiled around start names paths defs (Ok compiled) → SparesWords compiled.is_macro }
 {
     live_names_are_free();
     keywords_are_spelled();

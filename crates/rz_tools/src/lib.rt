@@ -2,21 +2,20 @@
 //! these words (`specs/Program.antt`), and words have exactly one answer. What `derez` shows of a fork means again to
 //! `rez` the resources that it shows, if each has at most 16,777,212 bytes.
 //! It rests on all crates below it: of `rz_tools_answer` it has how an answer is carried out, of `rz_tools_resource` and
-//! `rz_tools_work` what single statements give and do, and of `rz_tools_output` what is written. The folder, the streams and the moment are arguments of `run`.
-//! A new command is a module beside `rez` and `derez`, or in `rz_tools_output` as `bridge` is, and a case of `answer` and of the
-//! answers in `specs`; a new statement is a case of `step`; another form of a resource's text is `shown`. docs/PROOFS.md
-//! lists the promises.
+//! `rz_tools_work` what single statements give and do, of `rz_tools_output` what is written, and of `rz_tools_text` how
+//! resources are shown. The folder, the streams and the moment are arguments of `run`.
+//! A new command is a module beside `rez` and `derez`, or in `rz_tools_output` as `bridge` is, and a case of `answer` and of
+//! the answers in `specs`; a new statement is a case of `step`. docs/PROOFS.md lists the promises.
 #![tactic(auto)]
 
 mod answer;
-mod chosen;
 mod derez;
 mod laws;
 mod program;
 mod rez;
-mod shown;
 mod sources;
 mod step;
+mod types;
 
 pub use laws::{
     every_answer, one_answer, shown_forks_are_compiled_again, shown_forks_are_read_again,

@@ -6,9 +6,10 @@ ghost use Rattle.rz_tools.specs.Again.{ShowsAgain};
 ghost use Rattle.rz_tools_answer.specs.Answer.{Answer};
 ghost use Rattle.rz_tools.specs.Program.{Answers, IsOnlyAnswer};
 ghost use Rattle.rz_tools_answer.specs.Carried.{CarriesOut, EndsWith, IsAnswered, IsUnhindered};
-ghost use Rattle.rz_tools_answer.specs.World.{world};
+ghost use Rattle.rz_tools_answer.specs.World.{world, ReadFailed, WriteFailed};
 ghost use Rattle.rz_tools_answer.specs.WellFormed.{IsWellFormed};
-ghost use Rattle.rz_tools_args.specs.Command.{DeRez, DeRezAsked, IsCommand, IsMisplaced};
+ghost use Rattle.rz_tools.specs.DeRez.{DeRezAsked, IsDeRez};
+ghost use Rattle.rz_tools_args.specs.Command.{IsMisplaced};
 
 use crate::answer::answer;
 use crate::laws::{
@@ -55,13 +56,23 @@ pub fn run<F: Folder, O: Sink, E: Sink>(
         (world F.files F.read_faults F.write_faults O.written O.faults E.written E.faults folder.old out.old err.old)
         (world F.files F.read_faults F.write_faults O.written O.faults E.written E.faults folder.new out.new err.new) result)) }
 
+    // The same by the counts of faults: where none of them rose, the run ends with its answer, or for want of memory.
+    ensures whole { IfSome (F.files folder.old) (λ files. (answer : Answer) × IsOnlyAnswer (map string_bytes words.now) files moment answer
+        × ((ReadFailed (world F.files F.read_faults F.write_faults O.written O.faults E.written E.faults folder.old out.old err.old)
+        (world F.files F.read_faults F.write_faults O.written O.faults E.written E.faults folder.new out.new err.new) → ⊥)
+        → (WriteFailed (world F.files F.read_faults F.write_faults O.written O.faults E.written E.faults folder.old out.old err.old)
+        (world F.files F.read_faults F.write_faults O.written O.faults E.written E.faults folder.new out.new err.new) → ⊥)
+        → (result ≡ Outcome.NoMemory) ⊎ EndsWith answer
+        (world F.files F.read_faults F.write_faults O.written O.faults E.written E.faults folder.old out.old err.old)
+        (world F.files F.read_faults F.write_faults O.written O.faults E.written E.faults folder.new out.new err.new) result)) }
+
     // Usage comes exactly where the words are no command.
     ensures usage { (position : ℕ) → result ≡ Outcome.Usage (record { position = position }) → IsMisplaced (map string_bytes words.now) position }
     ensures every_usage { (position : ℕ) → IsMisplaced (map string_bytes words.now) position
         → (result ≡ Outcome.Usage (record { position = position })) ⊎ (result ≡ Outcome.NoMemory) }
 
     // What is shown of a fork means the resources again that are shown, when rez reads it behind the same declarations.
-    ensures again { result ≡ Outcome.Done → (asked : DeRezAsked) → IsCommand (map string_bytes words.now) (DeRez asked)
+    ensures again { result ≡ Outcome.Done → (asked : DeRezAsked) → IsDeRez (map string_bytes words.now) asked
         → IfSome (F.files folder.old) (λ files. IfSome (O.written out.old) (λ before. ShowsAgain moment asked files before (O.written out.new))) }
 {
     one_answer();

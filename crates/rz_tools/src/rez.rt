@@ -15,23 +15,76 @@ ghost use Rattle.rz_pre.specs.Lexed.{HaveLexedTexts};
 ghost use Rattle.rz_pre.specs.Program.{State};
 ghost use Rattle.rz_pre.specs.Reading.{IsProgram};
 ghost use Rattle.rz_set.specs.ResSet.{AreNamed};
-ghost use Rattle.rz_tools_args.specs.Item.{rez};
+ghost use Rattle.rz_tools_args.specs.Held.{items_of};
 ghost use Rattle.rz_core.specs.declared.resource.Resource.{Resource};
 ghost use Rattle.rz_tools_output.specs.Base.{base_with, begun_of};
-ghost use Rattle.rz_tools.specs.Held.{compiled_of};
-ghost use Rattle.rz_tools.specs.Rez.{AnswersRez, Compiles, HasOutput, IsMadeBehind, IsMadeOf};
+ghost use Rattle.rz_tools_output.specs.Output.{target};
+ghost use Rattle.rz_tools.specs.Held.{compiled_of, rez};
+ghost use Rattle.rz_tools.specs.Rez.{rez_asked, target_asked, AnswersRez, Compiles, HasOutput, IsMadeBehind, IsMadeOf};
 
 use crate::sources::{Compiled, compile_program, read_program};
-use rz_core::{Bytes, Halt, Moment};
+use rz_core::{Bytes, FileNames, Halt, Moment, NoMemory};
 use rz_folder::Folder;
-use rz_pre::{Program, Tool};
+use rz_pre::{Defs, Program, Tool};
 use rz_tools_answer::{Failing, Made, Plan, say_beside};
-use rz_tools_args::RezWords;
-use rz_tools_output::{Base, Beginning, read_base, write_output};
+use rz_tools_args::{Command, Flag, Switch};
+use rz_tools_output::{Base, Beginning, Target, read_base, write_output};
 use rz_tools_values::Setting;
 use rz_tools_work::Work;
 use std::alloc::Global;
 use std::convert::Infallible;
+
+/// What `rez` is asked for.
+#[derive(Drop)]
+pub struct RezWords<'a> {
+    /// The names of the sources.
+    pub files: FileNames,
+    /// The paths for included files.
+    pub paths: FileNames,
+    /// The paths for the files of statements.
+    pub searches: FileNames,
+    /// The definitions.
+    pub defs: Defs,
+    /// Types may be declared again without a warning.
+    pub redeclare: bool,
+    /// The fork starts from the file that has the output's name.
+    pub append: bool,
+    /// Protected resources may be replaced, changed and removed.
+    pub over: bool,
+    /// The file to write.
+    pub target: Target<'a>,
+}
+
+impl<'a> RezWords<'a> {
+    /// What these items ask for; the file to write is `Rez.Out` where they name none.
+    pub fn of(alloc: Global, command: Command<'a>) -> Result<RezWords<'a>, NoMemory>
+        ensures { IfOk result (λ words. rez words ≡ rez_asked (items_of command.entry)) }
+    {
+        Ok(RezWords {
+            files: command.files(alloc)?,
+            paths: command.names(alloc, Flag::Path)?,
+            searches: command.names(alloc, Flag::Search)?,
+            redeclare: command.has(Switch::Redeclare),
+            append: command.has(Switch::Append),
+            over: command.has(Switch::Over),
+            target: target_of(&command),
+            defs: command.into_defs(alloc)?,
+        })
+    }
+}
+
+/// The file that the items ask to be written.
+fn target_of<'a>(command: &Command<'a>) -> Target<'a>
+    ensures { target result ≡ target_asked (items_of command.now) }
+{
+    Target {
+        name: command.name(Flag::Output).unwrap_or("Rez.Out"),
+        form: command.form(Flag::Into),
+        kind: command.kind(Flag::Kind),
+        creator: command.kind(Flag::Creator),
+        read_only: command.has(Switch::ReadOnly),
+    }
+}
 
 /// The answer to the words of `rez`: the sources that they name are compiled into a resource fork, behind what there is to begin
 /// with, and its file is to be written. The sources are read first, then the file to begin with, then the files of
@@ -50,13 +103,13 @@ pub fn plan_rez<F: Folder>(
     ensures reads { OnlyReads F.files F.read_faults F.write_faults folder.old folder.new (result ≡ Err ReadFault) }
 {
     match compile(alloc, folder, words, moment) {
-        Ok(made) => Ok(Plan::written(alloc, words.output, made)?),
+        Ok(made) => Ok(Plan::written(alloc, words.target.name, made)?),
         Err(stop) => Plan::stopped(alloc, stop),
     }
 }
 
 /// The file that the sources mean, or what stopped the command.
-fn compile<F: Folder>(
+pub fn compile<F: Folder>(
     alloc: Global,
     folder: &mut F,
     words: &RezWords<'_>,
@@ -98,7 +151,7 @@ fn compile_from_base<F: Folder>(
     ensures short { IfOk result (λ made. length made.bytes < 2 ^ 32) }
     ensures reads { OnlyReads F.files F.read_faults F.write_faults folder.old folder.new (result ≡ Err ReadFault) }
 {
-    match read_base(alloc, folder, words) {
+    match read_base(alloc, folder, words.append, words.target.name) {
         Ok(begun) => compile_behind(alloc, folder, words, program, begun, moment),
         Err(Halt::Refused(fault)) => Err(Halt::Refused(Failing {
             fault,
@@ -138,8 +191,9 @@ fn compile_behind<F: Folder>(
         moment,
     };
     let Beginning { base, list } = begun;
-    match compile_program(alloc, folder, &words.searches, program, list, setting) {
-        Ok(compiled) => write_compiled(alloc, words, base, compiled, moment),
+    let start = Work::begun(alloc, list)?;
+    match compile_program(alloc, folder, &words.searches, program, start, setting) {
+        Ok(compiled) => write_compiled(alloc, &words.target, base, compiled, moment),
         Err(stop) => Err(stop),
     }
 }
@@ -147,14 +201,14 @@ fn compile_behind<F: Folder>(
 /// The file of what the sources made.
 fn write_compiled(
     alloc: Global,
-    words: &RezWords<'_>,
+    output: &Target<'_>,
     base: Base,
     compiled: Compiled,
     moment: Moment,
 ) -> Result<Made, Halt<Failing>>
     requires warnings { AreWarnings (length compiled.files) compiled.work.warnings }
     requires room { length base.reserved ≤ 240 }
-    ensures made { (others : List Resource) → Yields (seen making_of result) (HasOutput moment (rez words.now) (base_with base others) (compiled_of compiled)) }
+    ensures made { (others : List Resource) → Yields (seen making_of result) (HasOutput moment (target output.now) (base_with base others) (compiled_of compiled)) }
     ensures sayable { OnRefusal result IsSayable }
     ensures warned { IfOk result (λ made. IsWarningText made.said) }
     ensures short { IfOk result (λ made. length made.bytes < 2 ^ 32) }
@@ -169,7 +223,7 @@ fn write_compiled(
     let list = resources.into_list(alloc)?;
     say_beside(
         alloc,
-        write_output(alloc, words, base, &list, moment),
+        write_output(alloc, output, base, &list, moment),
         &warnings,
         files,
     )

@@ -1,24 +1,23 @@
 //! Sources as both commands take them: the program, and what its statements make. What they mean is in `specs/Sources`.
 
-ghost use Rattle.std.specs.Prelude.{◌≡◌, [], length, Err, IfOk, IfSome};
+ghost use Rattle.std.specs.Prelude.{◌≡◌, length, Err, IfOk, IfSome};
 ghost use Rattle.rz_core.specs.Stop.{seen, OnRefusal, Yields};
 ghost use Rattle.rz_core.specs.declared.stop.Halt.TheVariants.{ReadFault};
 ghost use Rattle.rz_tools_answer.specs.Made.{IsSayable};
 ghost use Rattle.rz_tools_answer.specs.Warning.{AreWarnings};
-ghost use Rattle.rz_core.specs.Resources.{KeysDiffer};
 ghost use Rattle.rz_folder.specs.OnlyReads.{OnlyReads};
 ghost use Rattle.rz_lex.specs.Lexeme.{AreLexed};
 ghost use Rattle.rz_lex.specs.Within.{AreWithin};
 ghost use Rattle.rz_pre.specs.Lexed.{HaveLexedTexts};
 ghost use Rattle.rz_pre.specs.Program.{ProgramGoes, State};
 ghost use Rattle.rz_pre.specs.Reading.{IsProgram, OfProgram};
-ghost use Rattle.rz_set.specs.ResSet.{AreNamed};
+ghost use Rattle.rz_tools_work.specs.Held.{work_of};
 ghost use Rattle.rz_tools_values.specs.Around.{around};
 ghost use Rattle.rz_tools.specs.Held.{compiled_of};
 ghost use Rattle.rz_tools.specs.Sources.{HasWork, Unsaid};
 
 use crate::step::compile_statements;
-use rz_core::{Bytes, FileNames, Halt, Resources, Words};
+use rz_core::{Bytes, FileNames, Halt, Words};
 use rz_folder::Folder;
 use rz_pre::{Defs, Failure, Program, Tool, preprocess};
 use rz_stmt::all_tokens_are_statements;
@@ -69,22 +68,20 @@ pub fn read_program<F: Folder>(
     }
 }
 
-/// What the statements of a program make, behind these resources, whose pairs of type and id differ; or what stopped the
-/// command, with the lines of what was warned of before. The files of statements are looked for behind the paths. No file
-/// changes.
+/// What the statements of a program make of the work to begin with; or what stopped the command, with the lines of what was
+/// warned of before. The files of statements are looked for behind the paths. No file changes.
 pub fn compile_program<F: Folder>(
     alloc: Global,
     folder: &mut F,
     paths: &FileNames,
     program: Program,
-    list: Resources,
+    start: Work,
     setting: Setting,
 ) -> Result<Compiled, Halt<Failing>>
     requires within { AreWithin (length program.files) program.tokens }
     requires lexed { AreLexed program.tokens }
-    requires keys { KeysDiffer [] list }
-    requires named { AreNamed list }
-    ensures compiled { IfSome (F.files folder.old) (λ files. (s : State) → IsProgram program s → Yields (seen compiled_of result) (HasWork (around setting paths.now files) list s)) }
+    requires warnings { AreWarnings (length program.files) start.warnings }
+    ensures compiled { IfSome (F.files folder.old) (λ files. (s : State) → IsProgram program s → Yields (seen compiled_of result) (HasWork (around setting paths.now files) (work_of start) s)) }
     ensures warned { IfOk result (λ compiled. AreWarnings (length compiled.files) compiled.work.warnings) }
     ensures sayable { OnRefusal result IsSayable }
     ensures reads { OnlyReads F.files F.read_faults F.write_faults folder.old folder.new (result ≡ Err ReadFault) }
@@ -95,8 +92,8 @@ pub fn compile_program<F: Folder>(
         tokens,
         macros,
     } = program;
-    let mut work = Work::begun(alloc, list)?;
-    match compile_statements(alloc, folder, paths, &tokens, setting, &mut work) {
+    let mut work = start;
+    match compile_statements(alloc, folder, paths, tokens, setting, &mut work) {
         Ok(()) => Ok(Compiled {
             work,
             macros,

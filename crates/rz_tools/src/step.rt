@@ -42,18 +42,18 @@ pub fn compile_statements<F: Folder>(
     alloc: Global,
     folder: &mut F,
     paths: &FileNames,
-    tokens: &TokenStore,
+    tokens: TokenStore,
     setting: Setting,
     work: &mut Work,
 ) -> Result<(), Halt<Fault>>
-    requires lexed { AreLexed tokens.now }
-    ensures work { IfSome (F.files folder.old) (λ files. (statements : List (List Token)) → AreStatements tokens.now statements
+    requires lexed { AreLexed tokens }
+    ensures work { IfSome (F.files folder.old) (λ files. (statements : List (List Token)) → AreStatements tokens statements
         → Yields (with_work (work_of work.new) result) (Means (around setting paths.now files) (work_of work.old) statements)) }
-    ensures nameable { (files : ℕ) → AreWithin files tokens.now → OnRefusal result (IsNameable files) }
-    ensures warned { (files : ℕ) → AreWithin files tokens.now → AreWarnings files work.old.warnings → AreWarnings files work.new.warnings }
+    ensures nameable { (files : ℕ) → AreWithin files tokens → OnRefusal result (IsNameable files) }
+    ensures warned { (files : ℕ) → AreWithin files tokens → AreWarnings files work.old.warnings → AreWarnings files work.new.warnings }
     ensures reads { OnlyReads F.files F.read_faults F.write_faults folder.old folder.new (IsReadFault result) }
 {
-    let mut reader = tokens.reader();
+    let mut reader = tokens.into_reader();
     while let Some(statement) = next_statement(alloc, &mut reader)? {
         match step(alloc, folder, paths, statement, setting, work) {
             Ok(()) => {}

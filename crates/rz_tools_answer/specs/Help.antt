@@ -1,20 +1,20 @@
 -- The texts of `--help` and `--version`.
 use Rattle.std.specs.Prelude.{ℕ, List, ◌++◌, codes}
+use Rattle.std.specs.List.{flat_map}
+use Rattle.rz_tools_args.specs.Syntax.{commands, syntax_of}
+use Rattle.rz_tools_args.specs.declared.name.CommandName.{CommandName}
 
--- the forms of each command, its options, and the exit statuses
-unfoldable pub help_text : List ℕ
-help_text =
-    codes "usage: rezkit rez FILE... [-o NAME] [-a] [-ov] [-ro] [-form FORM] [-t TYPE] [-c CREATOR]\n"
-    ++ codes "                  [-i PATH]... [-s PATH]... [-d NAME[=TEXT]]... [-u NAME]... [-rd]\n"
-    ++ codes "       rezkit derez FORK [FILE]... [-from FORM] [-i PATH]... [-d NAME[=TEXT]]...\n"
-    ++ codes "                    [-u NAME]... [-rd] [-only TYPE]... [-skip TYPE]...\n"
-    ++ codes "       rezkit bridge FILE -to FORM -o NAME [-from FORM]\n"
-    ++ codes "       rezkit --help\n"
-    ++ codes "       rezkit --version\n"
-    ++ codes "\n"
-    ++ codes "rez compiles the sources into one resource fork. derez writes the resources of a fork\n"
-    ++ codes "as text to standard output; the files after the fork declare types. bridge writes a file\n"
-    ++ codes "in another form. The arguments of each command stand in any order:\n"
+-- the usage of a command, behind the program's name
+unfoldable pub usage_of : CommandName → List ℕ
+usage_of command = codes "  rezkit " ++ (syntax_of command).usage
+
+-- what the commands do, their options, and the exit statuses
+unfoldable pub explanation : List ℕ
+explanation =
+    codes "\n"
+    ++ codes "rez compiles the sources into one resource fork. derez writes the resources of a fork as\n"
+    ++ codes "text to standard output; the files after the fork declare types. bridge writes a file in\n"
+    ++ codes "another form. The arguments of each command stand in any order:\n"
     ++ codes "  -o NAME         the file that rez or bridge writes; of rez Rez.Out if none is named\n"
     ++ codes "  -a              rez starts from the file that has this name, and adds to it\n"
     ++ codes "  -ov             protected resources may be replaced, changed and deleted\n"
@@ -44,6 +44,10 @@ help_text =
     ++ codes "exit status: 0 done, 1 the arguments are no command, 2 refused, 3 a file can't be read\n"
     ++ codes "or written, 4 out of memory, 5 the host gives no arguments, or SOURCE_DATE_EPOCH is no\n"
     ++ codes "moment\n"
+
+-- the usage of each command, and the explanation
+unfoldable pub help_text : List ℕ
+help_text = codes "usage:\n" ++ flat_map usage_of commands ++ explanation
 
 -- the name and the version of the program
 unfoldable pub version_text : List ℕ

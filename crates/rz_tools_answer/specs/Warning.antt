@@ -4,13 +4,13 @@ use Rattle.std.specs.List.{flat_map, AllByRecursion}
 use Rattle.std.specs.declared.result.Result.{Result}
 use Rattle.rz_tools_answer.specs.Answer.{Making}
 use Rattle.rz_tools_answer.specs.declared.made.Failing.{Failing}
-use Rattle.rz_core.specs.Message.{fault_line, IsNameable}
+use Rattle.rz_core.specs.Message.{fault_line, IsMarked}
 use Rattle.rz_core.specs.declared.fault.Fault.{Fault}
 
--- 240 is the one warning; a message can say it, where there are so many files
+-- 240 is the one warning, and its mark is of one of so many files
 pub record IsWarning (files : ℕ) (fault : Fault) : Type 0 where
   pub number : fault.number ≡ 240
-  pub nameable : IsNameable files fault
+  pub place : IsMarked files fault.mark
 
 abbrev pub AreWarnings : ℕ → List Fault → Type 0
 AreWarnings files faults = AllByRecursion (IsWarning files) faults

@@ -8,8 +8,8 @@ use Rattle.rz_tools_answer.specs.Warning.{IsWarningText}
 use Rattle.rz_tools_answer.specs.declared.outcome.Outcome.{Outcome}
 use Rattle.rz_tools_answer.specs.declared.outcome.Outcome.TheVariants.{Done, Usage, Refused, ReadFault, WriteFault, NoMemory}
 
--- Done says warnings alone, Usage its line, and a refusal warnings and then the line of its fault, whose number is in
--- the table of faults and whose mark is of one of the files
+-- Done says warnings alone, Usage its line, and a refusal warnings and then the line of its fault, which is in the table of
+-- faults, is no warning, and has a mark of one of the files
 abbrev pub FitsOutcome : Outcome → Answer → Type 0
 FitsOutcome Done answer = IsWarningText answer.err
 FitsOutcome (Usage fault) answer = answer ≡ misused fault.position

@@ -1,24 +1,43 @@
 //! The texts of `--help` and `--version`, as `specs/Help` has them.
 
-ghost use Rattle.std.specs.Prelude.{◌≡◌};
-ghost use Rattle.rz_tools_answer.specs.Help.{help_text, version_text};
+ghost use Rattle.std.specs.Prelude.{◌≡◌, ◌++◌, IfOk, OnOk};
+ghost use Rattle.rz_tools_answer.specs.Help.{explanation, help_text, usage_of, version_text};
 
-/// The forms of each command, its options, and the exit statuses.
-#[tactic(auto, unfolding(crate::specs::Help::help_text))]
-pub fn help_text() -> &'static [u8]
-    ensures { result.now ≡ help_text }
+use rz_core::{Bytes, NoMemory};
+use rz_tools_args::{COMMANDS, CommandName, syntax_of};
+use std::alloc::Global;
+
+/// The usage of each command, and what its arguments are, and the exit statuses.
+pub fn help_text(alloc: Global) -> Result<Bytes, NoMemory>
+    ensures { IfOk result (λ text. text ≡ help_text) }
 {
-    b"usage: rezkit rez FILE... [-o NAME] [-a] [-ov] [-ro] [-form FORM] [-t TYPE] [-c CREATOR]
-                  [-i PATH]... [-s PATH]... [-d NAME[=TEXT]]... [-u NAME]... [-rd]
-       rezkit derez FORK [FILE]... [-from FORM] [-i PATH]... [-d NAME[=TEXT]]...
-                    [-u NAME]... [-rd] [-only TYPE]... [-skip TYPE]...
-       rezkit bridge FILE -to FORM -o NAME [-from FORM]
-       rezkit --help
-       rezkit --version
+    let mut text = Bytes::of(alloc, b"usage:\n")?;
+    for command in &COMMANDS {
+        append_usage(*command, &mut text)?;
+    }
+    text.append(explanation())?;
+    Ok(text)
+}
 
-rez compiles the sources into one resource fork. derez writes the resources of a fork
-as text to standard output; the files after the fork declare types. bridge writes a file
-in another form. The arguments of each command stand in any order:
+/// Appends the usage of a command, behind the program's name.
+#[tactic(auto, unfolding(crate::specs::Help::usage_of))]
+fn append_usage(command: CommandName, text: &mut Bytes) -> Result<(), NoMemory>
+    ensures { OnOk result (text.new ≡ text.old ++ usage_of command) }
+{
+    text.append(b"  rezkit ")?;
+    text.append(syntax_of(command).usage.as_bytes())?;
+    Ok(())
+}
+
+/// What the commands do, their options, and the exit statuses.
+#[tactic(auto, unfolding(crate::specs::Help::explanation))]
+fn explanation() -> &'static [u8]
+    ensures { result.now ≡ explanation }
+{
+    b"
+rez compiles the sources into one resource fork. derez writes the resources of a fork as
+text to standard output; the files after the fork declare types. bridge writes a file in
+another form. The arguments of each command stand in any order:
   -o NAME         the file that rez or bridge writes; of rez Rez.Out if none is named
   -a              rez starts from the file that has this name, and adds to it
   -ov             protected resources may be replaced, changed and deleted

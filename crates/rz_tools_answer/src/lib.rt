@@ -3,7 +3,8 @@
 //! It rests on `rz_core`, `rz_folder` and `rz_tools_args`, whose faults of usage are said here. The commands make the
 //! answers, in `rz_tools`.
 //! A new outcome changes `Outcome`, its line in `specs/Message.antt`, and `Ends` and `said_of` of `specs/Carried.antt`;
-//! a new option or command the help text; a new warning its number in `specs/Warning.antt`.
+//! a new option, and what a new command does, the explanation in the help text, whose usage is that of the table of
+//! commands; a new warning its number in `specs/Warning.antt`.
 #![tactic(auto)]
 
 mod carry;
@@ -17,7 +18,7 @@ mod warning;
 
 pub use carry::{carry_out, put_line};
 pub use help::{help_text, version_text};
-pub use laws::answers_are_carried_out;
+pub use laws::{answers_are_carried_out, no_warning_refuses};
 pub use made::{Failing, Made};
 pub use message::{NO_MEMORY, READ_FAULT, WRITE_FAULT, usage_line};
 pub use outcome::Outcome;

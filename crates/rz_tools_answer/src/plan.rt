@@ -107,6 +107,7 @@ impl Plan {
     }
 
     /// To say what was said before a fault, and then the line of the fault, where these are the files that marks count.
+    #[tactic(auto, using(crate::proofs::Warnings::refusal_line))]
     pub fn refused(
         alloc: Global,
         fault: Fault,

@@ -56,6 +56,7 @@ pub fn refusal(
 }
 
 /// The lines of warnings.
+#[tactic(auto, using(crate::proofs::Warnings::warning_line))]
 fn warning_lines(alloc: Global, warnings: &Faults, files: &FileNames) -> Result<Bytes, NoMemory>
     requires { AreWarnings (length files.now) warnings.now }
     ensures { IfOk result (λ lines. lines ≡ warning_lines files.now warnings.now) }

@@ -1,194 +1,119 @@
 -- All words are a command, or stop at a position.
-use Rattle.std.proofs.Common.{◌≡◌, ◌⊎◌, inl, inr, ℕ, zero, suc, ◌≤◌, Bool, true, false, List, [], ◌∷◌, Option, Some, None, length, ◌+◌, length-append, length-drop, drop, refl, sym, ap, subst, ◌∙◌, arith}
-use Rattle.std.specs.Prelude.{codes}
-use Rattle.std.specs.Str.{bytes_eq}
-use Rattle.std.proofs.Math.Decide.{map_dec}
-use Rattle.rz_core.proofs.EveryCut.{all_three, is_nothing, some_of}
-use Rattle.rz_core.proofs.Tests.{by_test}
+use Rattle.std.proofs.Common.{◌≡◌, ◌⊎◌, inl, inr, ℕ, zero, suc, ◌≤◌, false, List, [], ◌∷◌, ◌++◌, Option, Some, None, length, ◌+◌, length-append, length-drop, drop, refl, sym, ap, subst, ◌∙◌, arith}
 use Rattle.rz_core.specs.declared.fault.Mark.{Mark}
-use Rattle.rz_bridge_form.specs.declared.form.Form.{Form}
-use Rattle.rz_lex.specs.Cutting.{Cuts, Next}
-use Rattle.rz_lex.specs.declared.token.Shape.TheVariants as shapes
+use Rattle.rz_core.proofs.Tests.{by_test}
+use Rattle.rz_lex.specs.Cutting.{Cuts}
 use Rattle.rz_lex.specs.declared.token.Token.{Token}
 use Rattle.rz_pre_source.specs.Source.{IsTextOf}
-use Rattle.rz_tools_args.specs.Command.{and_item, derez_asked, file_item, flag_of, is_file, name_of, nothing_wanted, rez_asked, switch_item, switch_of, value_item, Asked, Bridge, BridgeAsked, DeRez, File, Help, IsBridgeAsked, IsCommand, IsMisplaced, IsValue, Item, On, Rez, Version, Wanted, Wants}
-use Rattle.rz_tools_args.specs.Definition.{nowhere}
-use Rattle.rz_tools_args.specs.Item.{is_second_file, size_of, AreRead, BeginsWith, IsStuck, MayBeFiles}
+use Rattle.rz_tools_args.specs.Command.{is_place, place_item, places_of, switch_item, value_item, AreItems, Asked, IsCommand, IsMisplaced, IsValue, Item, On, Place, Value, Valued}
+use Rattle.rz_tools_args.specs.Held.{is_whole, size_of, BeginsWith, IsStuck, MayBegin, MayFollow}
+use Rattle.rz_tools_args.specs.Syntax.{command_named, named, sort_of, syntax_of, Syntax}
 use Rattle.rz_tools_args.specs.declared.flag.Flag.{Flag}
+use Rattle.rz_tools_args.specs.declared.flag.Sort.{Sort}
 use Rattle.rz_tools_args.specs.declared.flag.Switch.{Switch}
 use Rattle.rz_tools_args.specs.declared.name.CommandName.{CommandName}
-use Rattle.rz_tools_args.specs.declared.name.CommandName.TheVariants as names
-use Rattle.rz_tools_args.proofs.Alone.{help_more, more, no_words, other_word, version_more}
-use Rattle.rz_tools_args.proofs.Found.{same_word}
+use Rattle.rz_tools_args.specs.declared.syntax.Places.{Places}
 use Rattle.rz_tools_args.proofs.Items.{stuck_missing, stuck_unknown, stuck_value}
-use Rattle.rz_tools_args.proofs.Once.{no_bridge}
-use Rattle.rz_tools_args.proofs.Words.{all_read, double, no_file, none_read, one_read, second_at, shape_of, single, stuck_at, with_file, word_missing, Reading, Shape, Words}
+use Rattle.rz_tools_args.proofs.Positions.{all_read, fails_at, may_item, missing_at, no_words, one_read, other_word, stuck_at, whole_is, Reading}
+use Rattle.rz_tools_args.proofs.Sound.{each_sound, named_back}
+use Rattle.rz_tools_args.proofs.Standing.{may_stand, no_places}
+use Rattle.rz_tools_args.proofs.Values.{IsCutBack}
+use Rattle.rz_tools_args.proofs.Words.{more, some_size, Words}
 
 -- the words are a command, or stop at a position
 abbrev pub IsRead : Words → Type 0
 IsRead words = ((asked : Asked) × IsCommand words asked) ⊎ ((position : ℕ) × IsMisplaced words position)
 
 -- an item stands at the front of the words, or this many of them begin one
-abbrev IsFront : CommandName → Words → Type 0
-IsFront command words = ((one : Item) × BeginsWith command words one) ⊎ ((fitting : ℕ) × IsStuck command words fitting)
+abbrev IsFront : Syntax → Words → Type 0
+IsFront syntax words = ((one : Item) × BeginsWith syntax words one) ⊎ ((fitting : ℕ) × IsStuck syntax words fitting)
 
--- the words behind the name of a command are items that want this, or stop at a position
-abbrev AreAllRead : CommandName → Words → Type 0
-AreAllRead command words =
-    ((wanted : Wanted) × AreRead command words wanted × MayBeFiles command wanted.files) ⊎ ((position : ℕ) × IsMisplaced (name_of command ∷ words) position)
-
--- an item is of one word at least
-is_long : (front : Words) (one : Item) → Shape front one → 1 ≤ size_of one
-is_long front one (single word is holds size) = omega (arith, size)
-is_long front one (double flag value is fails size) = omega (arith, size)
-
-some_size : (command : CommandName) (words : Words) (one : Item) → BeginsWith command words one → 1 ≤ size_of one
-some_size command words one (front, behind, eq, is) = is_long front one (shape_of command front one is)
-
--- What `bridge` is asked for.
-
-one_name : (files : Words) → Dec ((file : List ℕ) × (files ≡ file ∷ []))
-one_name [] = no (λ h. more h.0 [] (sym h.1))
-one_name (file ∷ []) = yes (file, refl)
-one_name (file ∷ other ∷ files) = no (λ h. more_than h.0 h.1)
-  where
-    more_than : (only : List ℕ) → file ∷ other ∷ files ≡ only ∷ [] → ⊥
-    more_than only is = cc is
-
-is_bridge : (wanted : Wanted) → Dec ((asked : BridgeAsked) × IsBridgeAsked wanted asked)
-is_bridge wanted = map_dec to from (all_three (one_name wanted.files) (some_of wanted.output) (some_of wanted.into))
-  where
-    to : ((file : List ℕ) × (wanted.files ≡ file ∷ [])) × ((name : List ℕ) × (wanted.output ≡ Some name)) × ((form : Form) × (wanted.into ≡ Some form))
-        → (asked : BridgeAsked) × IsBridgeAsked wanted asked
-    to ((file, one), (name, output), (form, into)) =
-        (record { file = file; output = name; to = form; from = wanted.from }, record { file = one; output = output; to = into; from = refl })
-
-    from : (asked : BridgeAsked) × IsBridgeAsked wanted asked
-        → ((file : List ℕ) × (wanted.files ≡ file ∷ [])) × ((name : List ℕ) × (wanted.output ≡ Some name)) × ((form : Form) × (wanted.into ≡ Some form))
-    from (asked, is) = ((asked.file, is.file), (asked.output, is.output), (asked.to, is.to))
+may_follow : (places : Places) (count : ℕ) (one : Item) → Dec (MayFollow places count one)
+may_follow places count (Place word) = may_stand places count word
+may_follow places count (Valued flag value) = yes tt
+may_follow places count (On switch) = yes tt
 
 module _ (one_text : (source text other : List ℕ) → IsTextOf source text → IsTextOf source other → text ≡ other)
     (one_cut : (at : Mark) (line : List ℕ) (tokens others : List Token) → Cuts at line tokens → Cuts at line others → tokens ≡ others)
-    (value : (flag : Flag) (value : List ℕ) → Dec ((one : Item) × IsValue flag value one))
-    (back : Next nowhere (codes "a") (record { shape = shapes.Word (record { bytes = codes "a" }); mark = nowhere }) []) where
+    (value : (sort : Sort) (word : List ℕ) → Dec ((value : Value) × IsValue sort word value)) (back : IsCutBack) where
   -- Items.
 
-  module _ (command : CommandName) (first : List ℕ) (behind : Words) where
+  module _ (syntax : Syntax) (first : List ℕ) (behind : Words) where
     -- an option behind which a value stands
-    module _ (not_file : is_file first ≡ false) (not_switch : switch_of command first ≡ None) (flag : Flag) (named : flag_of command first ≡ Some flag) where
-      valued : (words : Words) → IsFront command (first ∷ words)
-      valued [] = inr (1, stuck_missing command back first flag not_file not_switch named)
-      valued (word ∷ words) = by (value flag word)
+    module _ (no_place : is_place first ≡ false) (no_switch : named syntax.switches first ≡ None) (flag : Flag) (named_so : named syntax.flags first ≡ Some flag) where
+      valued : (words : Words) → IsFront syntax (first ∷ words)
+      valued [] = inr (1, stuck_missing syntax back first flag no_place no_switch named_so)
+      valued (word ∷ words) = by (value (sort_of flag) word)
         where
-          by : Dec ((one : Item) × IsValue flag word one) → IsFront command (first ∷ word ∷ words)
-          by (yes (one, is)) = inl (one, (first ∷ word ∷ [], words, refl, value_item first word flag refl named is))
-          by (no never) = inr (1, stuck_value command back first flag not_file not_switch named word words (λ one is. never (one, is)))
+          by : Dec ((value : Value) × IsValue (sort_of flag) word value) → IsFront syntax (first ∷ word ∷ words)
+          by (yes (said, is)) = inl (Valued flag said, (first ∷ word ∷ [], words, refl, value_item first word flag said refl named_so is refl))
+          by (no never) = inr (1, stuck_value syntax back first flag no_place no_switch named_so word words (λ said is. never (said, is)))
 
-    flagged : is_file first ≡ false → switch_of command first ≡ None → (found : Option Flag) → flag_of command first ≡ found → IsFront command (first ∷ behind)
-    flagged not_file not_switch None none = inr (0, stuck_unknown command first behind not_file not_switch none)
-    flagged not_file not_switch (Some flag) named = valued not_file not_switch flag named behind
+    flagged : is_place first ≡ false → named syntax.switches first ≡ None → (found : Option Flag) → named syntax.flags first ≡ found → IsFront syntax (first ∷ behind)
+    flagged no_place no_switch None none = inr (0, stuck_unknown syntax first behind no_place no_switch none)
+    flagged no_place no_switch (Some flag) named_so = valued no_place no_switch flag named_so behind
 
-    switched : is_file first ≡ false → (found : Option Switch) → switch_of command first ≡ found → IsFront command (first ∷ behind)
-    switched not_file None none = flagged not_file none (flag_of command first) refl
-    switched not_file (Some switch) named = inl (On switch, (first ∷ [], behind, refl, switch_item first switch refl named refl))
+    switched : is_place first ≡ false → (found : Option Switch) → named syntax.switches first ≡ found → IsFront syntax (first ∷ behind)
+    switched no_place None none = flagged no_place none (named syntax.flags first) refl
+    switched no_place (Some switch) named_so = inl (On switch, (first ∷ [], behind, refl, switch_item first switch refl named_so refl))
 
-    every_front : IsFront command (first ∷ behind)
+    every_front : IsFront syntax (first ∷ behind)
     every_front =
-        by_test (IsFront command (first ∷ behind)) (is_file first) (λ holds. inl (File first, (first ∷ [], behind, refl, file_item first refl holds refl)))
-        (λ not_file. switched not_file (switch_of command first) refl)
+        by_test (IsFront syntax (first ∷ behind)) (is_place first) (λ holds. inl (Place first, (first ∷ [], behind, refl, place_item first refl holds refl)))
+        (λ no_place. switched no_place (named syntax.switches first) refl)
 
   -- Items one behind the other.
 
   module _ (command : CommandName) (words : Words) where
+    abbrev syntax : Syntax
+    syntax = syntax_of command
+
+    -- the words behind the name of a command are items, or stop at a position
+    abbrev AreAllRead : Type 0
+    AreAllRead =
+        ((items : List Item) × AreItems syntax words items × MayBegin syntax.places (places_of items)) ⊎ ((position : ℕ) × IsMisplaced (syntax.name ∷ words) position)
+
     -- the item at the front, and then fewer words
-    module _ (n : ℕ) (fewer : (rest : Words) (wanted : Wanted) → length rest ≤ n → Reading command words rest wanted → AreAllRead command words)
-        (rest : Words) (wanted : Wanted) (few : length rest ≤ suc n) (filled : rest ≡ [] → ⊥) (r : Reading command words rest wanted) where
+    module _ (n : ℕ)
+        (fewer : (rest : Words) (items : List Item) → length rest ≤ n → Reading syntax words rest items → MayBegin syntax.places (places_of items) → AreAllRead)
+        (rest : Words) (items : List Item) (few : length rest ≤ suc n) (filled : rest ≡ [] → ⊥) (r : Reading syntax words rest items)
+        (may : MayBegin syntax.places (places_of items)) where
       sizes : length words ≡ length r.front + length rest
       sizes = ap (λ (ws : Words). length ws) r.are ∙ length-append r.front rest
 
-      item_read : (one : Item) → BeginsWith command rest one → (b : Bool) → is_second_file command wanted.files one ≡ b → AreAllRead command words
-      item_read one begins true second = inr (length r.front + 2, second_at command words rest wanted one (length r.front + 2) r begins second (omega (arith, sizes)))
-      item_read one begins false first =
-          fewer (drop (size_of one) rest) (and_item wanted one) (omega (arith, few, length-drop (size_of one) rest, some_size command rest one begins))
-          (one_read command words rest wanted (and_item wanted one) one r begins refl first)
+      item_read : (one : Item) → BeginsWith syntax rest one → Dec (MayFollow syntax.places (length (places_of items)) one) → AreAllRead
+      item_read one begins (no fails) =
+          inr (length r.front + 2, fails_at one_text one_cut back command words rest items r may one (length r.front + 2) begins fails (omega (arith, sizes)))
+      item_read one begins (yes follows) =
+          fewer (drop (size_of one) rest) (items ++ one ∷ [])
+          (omega (arith, few, length-drop (size_of one) rest, some_size syntax (each_sound command) begins.0 one begins.3)) (one_read command words rest items one r begins)
+          (may_item syntax items one may follows)
 
-      go_on : IsFront command rest → AreAllRead command words
-      go_on (inl (one, begins)) = item_read one begins (is_second_file command wanted.files one) refl
+      go_on : IsFront syntax rest → AreAllRead
+      go_on (inl (one, begins)) = item_read one begins (may_follow syntax.places (length (places_of items)) one)
       go_on (inr (fitting, stuck)) =
-          inr (length r.front + 2 + fitting, stuck_at command words rest wanted fitting (length r.front + 2 + fitting) r filled stuck (omega (arith, sizes)))
+          inr (length r.front + 2 + fitting, stuck_at one_text one_cut back command words rest items r may fitting filled stuck (length r.front + 2 + fitting) (omega (arith, sizes)))
 
-    short_rest : (n : ℕ) (rest : Words) (wanted : Wanted) → length rest ≤ n → Reading command words rest wanted → AreAllRead command words
-    short_rest n [] wanted few r = inl (wanted, all_read command words wanted r, r.may)
-    short_rest zero (first ∷ behind) wanted few r = absurd (omega (arith, few))
-    short_rest (suc n) (first ∷ behind) wanted few r = go_on n (short_rest n) (first ∷ behind) wanted few (more first behind) r (every_front command first behind)
+    short_rest : (n : ℕ) (rest : Words) (items : List Item) → length rest ≤ n → Reading syntax words rest items → MayBegin syntax.places (places_of items) → AreAllRead
+    short_rest n [] items few r may = inl (items, all_read syntax words items r, may)
+    short_rest zero (first ∷ behind) items few r may = absurd (omega (arith, few))
+    short_rest (suc n) (first ∷ behind) items few r may =
+        go_on n (short_rest n) (first ∷ behind) items few (more first behind) r may (every_front syntax first behind)
 
-    every_items : AreAllRead command words
-    every_items = short_rest (length words) words nothing_wanted (omega arith) (none_read command words nothing_wanted refl)
-
-    -- a file among them
-    every_wanted : ((wanted : Wanted) × Wants command (name_of command ∷ words) wanted) ⊎ ((position : ℕ) × IsMisplaced (name_of command ∷ words) position)
-    every_wanted = by every_items
+    every_items : IsRead (syntax.name ∷ words)
+    every_items = by (short_rest (length words) words [] (omega arith) (record { front = []; are = refl; read = refl }) (no_places syntax.places))
       where
-        named : (wanted : Wanted) → AreRead command words wanted → MayBeFiles command wanted.files → Dec (wanted.files ≡ [])
-            → ((wanted : Wanted) × Wants command (name_of command ∷ words) wanted) ⊎ ((position : ℕ) × IsMisplaced (name_of command ∷ words) position)
-        named wanted are may (yes none) = inr (length words + 2, no_file command words wanted are may none)
-        named wanted are may (no some) = inl (wanted, with_file command words wanted are some)
-
-        by : AreAllRead command words
-            → ((wanted : Wanted) × Wants command (name_of command ∷ words) wanted) ⊎ ((position : ℕ) × IsMisplaced (name_of command ∷ words) position)
-        by (inl (wanted, are, may)) = named wanted are may (is_nothing wanted.files)
+        by : AreAllRead → IsRead (syntax.name ∷ words)
+        by (inl (items, are, may)) =
+            by_test (IsRead (syntax.name ∷ words)) (is_whole syntax (length (places_of items)) items)
+            (λ is. inl (record { name = command; items = items }, whole_is one_text one_cut back command words items are may is))
+            (λ fails. inr (length words + 2, missing_at one_text one_cut back command words items are may fails))
         by (inr stops) = inr stops
-
-  -- Commands by their names.
-
-  every_rez : (words : Words) → IsRead (codes "rez" ∷ words)
-  every_rez words = by (every_wanted names.Rez words)
-    where
-      by : ((wanted : Wanted) × Wants names.Rez (codes "rez" ∷ words) wanted) ⊎ ((position : ℕ) × IsMisplaced (codes "rez" ∷ words) position) → IsRead (codes "rez" ∷ words)
-      by (inl (wanted, wants)) = inl (Rez (rez_asked wanted), (wanted, wants, refl))
-      by (inr stops) = inr stops
-
-  every_derez : (words : Words) → IsRead (codes "derez" ∷ words)
-  every_derez words = by (every_wanted names.DeRez words)
-    where
-      by : ((wanted : Wanted) × Wants names.DeRez (codes "derez" ∷ words) wanted) ⊎ ((position : ℕ) × IsMisplaced (codes "derez" ∷ words) position)
-          → IsRead (codes "derez" ∷ words)
-      by (inl (wanted, wants)) = inl (DeRez (derez_asked wanted), (wanted, wants, refl))
-      by (inr stops) = inr stops
-
-  every_bridge : (words : Words) → IsRead (codes "bridge" ∷ words)
-  every_bridge words = by (every_items names.Bridge words)
-    where
-      asked_for : (wanted : Wanted) → AreRead names.Bridge words wanted → MayBeFiles names.Bridge wanted.files
-          → Dec ((asked : BridgeAsked) × IsBridgeAsked wanted asked) → IsRead (codes "bridge" ∷ words)
-      asked_for wanted are may (yes (asked, is)) =
-          inl (Bridge asked, (wanted, with_file names.Bridge words wanted are (λ none. more asked.file [] (sym is.file ∙ none)), is))
-      asked_for wanted are may (no never) =
-          inr (length words + 2, word_missing names.Bridge words wanted are may (no_bridge one_text one_cut words wanted are (λ asked is. never (asked, is))))
-
-      by : AreAllRead names.Bridge words → IsRead (codes "bridge" ∷ words)
-      by (inl (wanted, are, may)) = asked_for wanted are may (is_bridge wanted)
-      by (inr stops) = inr stops
-
-  every_help : (words : Words) → IsRead (codes "--help" ∷ words)
-  every_help [] = inl (Help, refl)
-  every_help (word ∷ words) = inr (2, help_more word words)
-
-  every_version : (words : Words) → IsRead (codes "--version" ∷ words)
-  every_version [] = inl (Version, refl)
-  every_version (word ∷ words) = inr (2, version_more word words)
-
-  -- the first word is this one, or another
-  module _ (word : List ℕ) (words : Words) where
-    if_first : (spelled : List ℕ) → IsRead (spelled ∷ words) → (bytes_eq word spelled ≡ false → IsRead (word ∷ words)) → IsRead (word ∷ words)
-    if_first spelled read = by_test (IsRead (word ∷ words)) (bytes_eq word spelled) (λ is. subst (λ (w : List ℕ). IsRead (w ∷ words)) (sym (same_word word spelled is)) read)
 
   pub every_words : (words : Words) → IsRead words
   every_words [] = inr (1, no_words)
-  every_words (word ∷ words) =
-      if_first word words (codes "rez") (every_rez words)
-      (λ not_rez. if_first word words (codes "derez") (every_derez words)
-      (λ not_derez. if_first word words (codes "bridge") (every_bridge words)
-      (λ not_bridge. if_first word words (codes "--help") (every_help words)
-      (λ not_help. if_first word words (codes "--version") (every_version words)
-      (λ not_version. inr (1, other_word word words not_rez not_derez not_bridge not_help not_version))))))
+  every_words (word ∷ words) = by (command_named word) refl
+    where
+      by : (found : Option CommandName) → command_named word ≡ found → IsRead (word ∷ words)
+      by None none = inr (1, other_word word words none)
+      by (Some command) is = subst (λ (w : List ℕ). IsRead (w ∷ words)) (sym (named_back word command is)) (every_items command words)

@@ -1,4 +1,4 @@
--- Of each value of an option it is decided what it says.
+-- Of each word it is decided what it says as a value of a sort.
 use Rattle.std.proofs.Common.{◌≡◌, ◌⊎◌, inl, inr, ℕ, zero, suc, ◌==◌, List, [], ◌∷◌, ◌++◌, Some, None, refl, sym, ap, subst, ◌∙◌, arith}
 use Rattle.std.specs.Prelude.{◌&&◌}
 use Rattle.std.proofs.Math.Decide.{map_dec}
@@ -10,18 +10,18 @@ use Rattle.rz_core.specs.declared.resource.Word.{Word}
 use Rattle.rz_core.proofs.EveryCut.{both, known_with, some_of}
 use Rattle.rz_core.proofs.Tests.{by_test}
 use Rattle.rz_expr.specs.Words.{is_label, role_of}
-use Rattle.rz_bridge_form.specs.declared.form.Form.{Form}
+use Rattle.rz_bridge_form.specs.declared.form.Form as form
 use Rattle.rz_lex.specs.Cutting.{Cuts, Refuses}
 use Rattle.rz_lex.specs.declared.token.Token.{Token}
 use Rattle.rz_pre.specs.declared.program.Def.{Def}
 use Rattle.rz_pre_source.specs.Source.{mark, IsBadAt, IsTextOf}
-use Rattle.rz_tools_args.specs.Command.{form_named, Creator, Define, From, Into, IsValue, Item, Kind, Only, Output, Path, Search, Skip}
+use Rattle.rz_tools_args.specs.Command.{form_named, Define, Form, IsValue, Kind, Name, Value}
 use Rattle.rz_tools_args.specs.Definition.{nowhere, Defines, HasNoSign, IsName, IsText, Undefines}
 use Rattle.rz_tools_args.specs.Definition.Defines.{alone, with_text}
 use Rattle.rz_tools_args.specs.Kind.{kind_of, IsKind}
 use Rattle.rz_tools_args.specs.Line.{is_one_word}
-use Rattle.rz_tools_args.specs.declared.flag.Flag.{Flag}
-use Rattle.rz_tools_args.specs.declared.flag.Flag.TheVariants as flags
+use Rattle.rz_tools_args.specs.declared.flag.Sort.{Sort}
+use Rattle.rz_tools_args.specs.declared.flag.Sort.TheVariants as sorts
 use Rattle.rz_tools_args.proofs.Names.{named, not_named}
 use Rattle.rz_tools_args.proofs.Names as names
 use Rattle.rz_tools_args.proofs.Splits.{has_sign, one_split}
@@ -31,15 +31,15 @@ one_or_other : {X Y : Type 0} (P : X → Type 0) (Q : Y → Type 0) → ((x : X)
 one_or_other P Q (inl found) never = yes found
 one_or_other P Q (inr other) never = no (λ h. never h.0 other.0 h.1 other.1)
 
--- an item that is made of what a value means
-made_of : {X : Type 0} (make : X → Item) (P : X → Type 0) → Dec ((x : X) × P x) → Dec ((one : Item) × ((x : X) × (one ≡ make x) × P x))
+-- a value that is made of what a word says
+made_of : {X : Type 0} (make : X → Value) (P : X → Type 0) → Dec ((x : X) × P x) → Dec ((value : Value) × ((x : X) × (value ≡ make x) × P x))
 made_of {X} make P = map_dec to from
   where
-    to : (x : X) × P x → (one : Item) × ((x : X) × (one ≡ make x) × P x)
+    to : (x : X) × P x → (value : Value) × ((x : X) × (value ≡ make x) × P x)
     to (x, is) = (make x, (x, refl, is))
 
-    from : (one : Item) × ((x : X) × (one ≡ make x) × P x) → (x : X) × P x
-    from (one, (x, same, is)) = (x, is)
+    from : (value : Value) × ((x : X) × (value ≡ make x) × P x) → (x : X) × P x
+    from (value, (x, same, is)) = (x, is)
 
 -- The first `=` of a value.
 
@@ -147,15 +147,9 @@ module _ (one_text : (source text other : List ℕ) → IsTextOf source text →
 
   -- Values.
 
-  pub every_value : (flag : Flag) (value : List ℕ) → Dec ((one : Item) × IsValue flag value one)
-  every_value flags.Output value = yes (Output value, refl)
-  every_value flags.Path value = yes (Path value, refl)
-  every_value flags.Search value = yes (Search value, refl)
-  every_value flags.Define value = made_of (λ (def : Def). Define def) (Defines value) (is_defined value)
-  every_value flags.Undefine value = made_of (λ (def : Def). Define def) (Undefines value) (is_undefined value)
-  every_value flags.Only value = made_of (λ (kind : OsType). Only kind) (IsKind value) (is_kind value)
-  every_value flags.Skip value = made_of (λ (kind : OsType). Skip kind) (IsKind value) (is_kind value)
-  every_value flags.Kind value = made_of (λ (kind : OsType). Kind kind) (IsKind value) (is_kind value)
-  every_value flags.Creator value = made_of (λ (creator : OsType). Creator creator) (IsKind value) (is_kind value)
-  every_value flags.Into value = made_of (λ (form : Form). Into form) (λ (form : Form). form_named value ≡ Some form) (some_of (form_named value))
-  every_value flags.From value = made_of (λ (form : Form). From form) (λ (form : Form). form_named value ≡ Some form) (some_of (form_named value))
+  pub every_value : (sort : Sort) (word : List ℕ) → Dec ((value : Value) × IsValue sort word value)
+  every_value sorts.Name word = yes (Name word, refl)
+  every_value sorts.Definition word = made_of (λ (def : Def). Define def) (Defines word) (is_defined word)
+  every_value sorts.Undefinition word = made_of (λ (def : Def). Define def) (Undefines word) (is_undefined word)
+  every_value sorts.Kind word = made_of (λ (kind : OsType). Kind kind) (IsKind word) (is_kind word)
+  every_value sorts.Form word = made_of (λ (one : form.Form). Form one) (λ (one : form.Form). form_named word ≡ Some one) (some_of (form_named word))

@@ -1,5 +1,9 @@
 pub mod Definition
 pub mod Kind
 pub mod Line
+pub mod Number
+pub mod Syntax
 pub mod Command
-pub mod Item
+pub mod Items
+pub mod Held
+pub mod Told

@@ -1,50 +1,45 @@
-//! One item of a command: a file, or an option with its value, at the front of arguments. What it is is in `specs/Item`.
+//! One item of a command: a word outside options, or an option, at the front of arguments. What it is is in `specs/Command`.
 
-ghost use Rattle.std.specs.Prelude.{◌≡◌, ℕ, IfOk, ◌∷◌, map, option_map};
+ghost use Rattle.std.specs.Prelude.{◌≡◌, ◌↔◌, IfOk, IsTrue, [], ◌∷◌, length, map, option_map};
 ghost use Rattle.std.specs.String.{string_bytes};
 ghost use Rattle.rz_core.specs.Decided.{Decided};
 ghost use Rattle.rz_core.specs.Stop.{OnFault};
-ghost use Rattle.rz_tools_args.specs.Command.{is_file, IsValue};
-ghost use Rattle.rz_tools_args.specs.Item.{item, size_of, BeginsWith, IsStuck};
+ghost use Rattle.rz_tools_args.specs.Command.{is_place, places_of, IsValue};
+ghost use Rattle.rz_tools_args.specs.Held.{item, says, size_of, syntax, value, BeginsWith, IsStuck, MayFollow};
 
 use crate::definition::{define, undefine};
-use crate::flag::{Flag, Switch, flag_of, switch_of};
+use crate::flag::{Flag, Sort, Switch};
 use crate::form::form_named;
 use crate::kind::kind_in;
-use crate::name::CommandName;
+use crate::syntax::{Places, Syntax, named};
 use rz_bridge_form::Form;
 use rz_core::{NoMemory, OsType, Stop};
 use rz_lex::cut_back;
 use rz_pre::Def;
 use std::alloc::Global;
 
-/// A file, an option with its value, or an option without one.
+/// What an option says.
+#[derive(Drop)]
+pub enum Value<'a> {
+    /// A name of a file, or a path.
+    Name(&'a str),
+    /// A definition.
+    Define(Def),
+    /// A type or creator.
+    Kind(OsType),
+    /// A form.
+    Form(Form),
+}
+
+/// A word outside options, an option with its value, or an option without one.
 #[derive(Drop)]
 pub enum Item<'a> {
-    /// The name of a file.
-    File(&'a str),
-    /// `-o`: the name of the file to write.
-    Output(&'a str),
-    /// `-i`: a path for included files.
-    Path(&'a str),
-    /// `-s` of `rez`: a path for the files of statements.
-    Search(&'a str),
-    /// `-d` or `-u`: a definition.
-    Define(Def),
-    /// `-rd`, `-a`, `-ov` or `-ro`: an option without a value.
+    /// A word that stands outside options.
+    Place(&'a str),
+    /// An option, and what it says.
+    Valued(Flag, Value<'a>),
+    /// An option without a value.
     On(Switch),
-    /// `-only`: a type that alone is shown.
-    Only(OsType),
-    /// `-skip`, or `-s` of `derez`: a type that isn't shown.
-    Skip(OsType),
-    /// `-t`: the type of the file to write.
-    Kind(OsType),
-    /// `-c`: the creator of the file to write.
-    Creator(OsType),
-    /// `-form` or `-to`: the form of the file to write.
-    Into(Form),
-    /// `-from`: the form of the file that is read.
-    From(Form),
 }
 
 impl Item<'_> {
@@ -53,17 +48,38 @@ impl Item<'_> {
         ensures { result ≡ size_of (item self.now) }
     {
         match self {
-            Item::File(_) | Item::On(_) => 1,
-            Item::Output(_)
-            | Item::Path(_)
-            | Item::Search(_)
-            | Item::Define(_)
-            | Item::Only(_)
-            | Item::Skip(_)
-            | Item::Kind(_)
-            | Item::Creator(_)
-            | Item::Into(_)
-            | Item::From(_) => 2,
+            Item::Place(_) | Item::On(_) => 1,
+            Item::Valued(_, _) => 2,
+        }
+    }
+
+    /// How many words outside options it is.
+    pub fn places(&self) -> u64
+        ensures { result ≡ length (places_of (item self.now ∷ [])) }
+    {
+        match self {
+            Item::Place(_) => 1,
+            Item::Valued(_, _) | Item::On(_) => 0,
+        }
+    }
+
+    /// Whether it may stand behind so many words outside options.
+    pub fn may_follow(&self, places: Places, count: u64) -> bool
+        ensures { IsTrue result ↔ MayFollow places count (item self.now) }
+    {
+        match self {
+            Item::Place(word) => places.may_stand(count, word),
+            Item::Valued(_, _) | Item::On(_) => true,
+        }
+    }
+
+    /// Whether it is this option.
+    pub fn says(&self, flag: Flag) -> bool
+        ensures { result ≡ says flag (item self.now) }
+    {
+        match self {
+            Item::Valued(other, _) => flag == *other,
+            Item::Place(_) | Item::On(_) => false,
         }
     }
 }
@@ -79,78 +95,60 @@ pub struct Misfit {
 /// behind.
 pub fn read_item<'a>(
     alloc: Global,
-    name: CommandName,
+    takes: Syntax,
     first: &'a str,
     behind: &'a [String],
 ) -> Result<Item<'a>, Stop<Misfit>>
-    ensures item { IfOk result (λ one. BeginsWith name (first.now ∷ map string_bytes behind.now) (item one)) }
-    ensures stuck { OnFault result (λ misfit. IsStuck name (first.now ∷ map string_bytes behind.now) misfit.fitting) }
+    ensures item { IfOk result (λ one. BeginsWith (syntax takes) (first.now ∷ map string_bytes behind.now) (item one)) }
+    ensures stuck { OnFault result (λ misfit. IsStuck (syntax takes) (first.now ∷ map string_bytes behind.now) misfit.fitting) }
 {
     cut_back();
-    if is_file(first) {
-        return Ok(Item::File(first));
+    if is_place(first) {
+        return Ok(Item::Place(first));
     }
-    if let Some(switch) = switch_of(name, first) {
+    if let Some(switch) = named(takes.switches, first) {
         return Ok(Item::On(switch));
     }
-    let Some(flag) = flag_of(name, first) else {
+    let Some(flag) = named(takes.flags, first) else {
         return Err(Stop::Refused(Misfit { fitting: 0 }));
     };
     let Some((value, _)) = behind.split_first() else {
         return Err(Stop::Refused(Misfit { fitting: 1 }));
     };
-    match read_value(alloc, flag, value.as_str())? {
-        Some(one) => Ok(one),
+    match read_value(alloc, flag.sort(), value.as_str())? {
+        Some(value) => Ok(Item::Valued(flag, value)),
         None => Err(Stop::Refused(Misfit { fitting: 1 })),
     }
 }
 
-/// The item that the value of an option says.
-fn read_value<'a>(alloc: Global, flag: Flag, value: &'a str) -> Result<Option<Item<'a>>, NoMemory>
-    ensures { IfOk result (λ found. Decided (IsValue flag value.now) (option_map item found)) }
+/// What a word says as a value of a sort.
+fn read_value<'a>(alloc: Global, sort: Sort, word: &'a str) -> Result<Option<Value<'a>>, NoMemory>
+    ensures { IfOk result (λ found. Decided (IsValue sort word.now) (option_map value found)) }
 {
-    match flag {
-        Flag::Output => Ok(Some(Item::Output(value))),
-        Flag::Path => Ok(Some(Item::Path(value))),
-        Flag::Search => Ok(Some(Item::Search(value))),
-        Flag::Define => match define(alloc, value)? {
-            Some(def) => Ok(Some(Item::Define(def))),
+    match sort {
+        Sort::Name => Ok(Some(Value::Name(word))),
+        Sort::Definition => match define(alloc, word)? {
+            Some(def) => Ok(Some(Value::Define(def))),
             None => Ok(None),
         },
-        Flag::Undefine => match undefine(alloc, value)? {
-            Some(def) => Ok(Some(Item::Define(def))),
+        Sort::Undefinition => match undefine(alloc, word)? {
+            Some(def) => Ok(Some(Value::Define(def))),
             None => Ok(None),
         },
-        Flag::Only => match kind_in(alloc, value)? {
-            Some(kind) => Ok(Some(Item::Only(kind))),
+        Sort::Kind => match kind_in(alloc, word)? {
+            Some(kind) => Ok(Some(Value::Kind(kind))),
             None => Ok(None),
         },
-        Flag::Skip => match kind_in(alloc, value)? {
-            Some(kind) => Ok(Some(Item::Skip(kind))),
-            None => Ok(None),
-        },
-        Flag::Kind => match kind_in(alloc, value)? {
-            Some(kind) => Ok(Some(Item::Kind(kind))),
-            None => Ok(None),
-        },
-        Flag::Creator => match kind_in(alloc, value)? {
-            Some(kind) => Ok(Some(Item::Creator(kind))),
-            None => Ok(None),
-        },
-        Flag::Into => match form_named(value) {
-            Some(form) => Ok(Some(Item::Into(form))),
-            None => Ok(None),
-        },
-        Flag::From => match form_named(value) {
-            Some(form) => Ok(Some(Item::From(form))),
+        Sort::Form => match form_named(word) {
+            Some(form) => Ok(Some(Value::Form(form))),
             None => Ok(None),
         },
     }
 }
 
-/// Whether a word can be a file: it doesn't begin with `-`.
-fn is_file(word: &str) -> bool
-    ensures { result ≡ is_file word.now }
+/// Whether a word may stand outside options: it doesn't begin with `-`.
+fn is_place(word: &str) -> bool
+    ensures { result ≡ is_place word.now }
 {
     match word.as_bytes() {
         [first, ..] => *first != b'-',

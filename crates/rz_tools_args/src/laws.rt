@@ -3,7 +3,8 @@
 ghost use Rattle.std.specs.Prelude.{◌≡◌, ◌⊎◌, ℕ, List};
 ghost use Rattle.rz_pre.specs.Lexed.{HaveLexedTexts};
 ghost use Rattle.rz_tools_args.specs.Definition.{AreFree};
-ghost use Rattle.rz_tools_args.specs.Command.{Asked, DeRez, DeRezAsked, IsCommand, IsMisplaced, Rez, RezAsked};
+ghost use Rattle.rz_tools_args.specs.Command.{Asked, IsCommand, IsMisplaced};
+ghost use Rattle.rz_tools_args.specs.Items.{defs_of};
 
 use rz_lex::{cut_back, every_line_is_cut, one_cut, tokens_are_lexed};
 use rz_pre_source::{every_source_is_read, one_text};
@@ -33,14 +34,12 @@ pub fn every_list_of_words_is_read()
 
 /// A law, with nothing to run: what the words of a command define as texts are tokens that lines can be cut into.
 pub fn definitions_are_lexed()
-    ensures rez { (words : List (List ℕ)) (asked : RezAsked) → IsCommand words (Rez asked) → HaveLexedTexts asked.defs }
-    ensures derez { (words : List (List ℕ)) (asked : DeRezAsked) → IsCommand words (DeRez asked) → HaveLexedTexts asked.defs }
+    ensures { (words : List (List ℕ)) (asked : Asked) → IsCommand words asked → HaveLexedTexts (defs_of asked.items) }
 {
     tokens_are_lexed();
 }
 
 /// A law, with nothing to run: what the words of a command define or undefine is no reserved word.
 pub fn definitions_are_free()
-    ensures rez { (words : List (List ℕ)) (asked : RezAsked) → IsCommand words (Rez asked) → AreFree asked.defs }
-    ensures derez { (words : List (List ℕ)) (asked : DeRezAsked) → IsCommand words (DeRez asked) → AreFree asked.defs }
+    ensures { (words : List (List ℕ)) (asked : Asked) → IsCommand words asked → AreFree (defs_of asked.items) }
 {}

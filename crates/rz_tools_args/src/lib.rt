@@ -1,8 +1,8 @@
 //! The words of a command line as a command. `read_words` gives exactly the command that they are, or the
 //! position of the first word that can't stand where it stands; they are one command at most.
 //! It rests on `rz_core`, `rz_lex`, `rz_expr`, `rz_pre_source`, `rz_pre` and `rz_bridge_form`.
-//! A new option changes `flag`, `item`, `wanted` and `command`, each with its definitions, and the help text in
-//! `rz_tools_answer`.
+//! What a command takes is a line of one table, `syntax_of`, with its definition; a new option is a variant of `Flag`
+//! or `Switch`, and the commands that take it name it in their lines.
 #![tactic(auto)]
 
 mod command;
@@ -14,12 +14,18 @@ mod kind;
 mod laws;
 mod line;
 mod name;
+mod number;
 mod read;
 mod roman;
-mod wanted;
+mod syntax;
 
-pub use command::{BridgeWords, Command, DeRezWords, Kinds, RezWords};
+pub use command::{Command, Items, Kinds};
+pub use flag::{Flag, Sort, Switch};
+pub use item::{Item, Value};
 pub use laws::{
     definitions_are_free, definitions_are_lexed, every_list_of_words_is_read, one_command,
 };
+pub use name::CommandName;
+pub use number::number_told;
 pub use read::{UsageFault, read_words};
+pub use syntax::{COMMANDS, Places, Syntax, syntax_of};

@@ -1,6 +1,6 @@
-//! The names of the commands that have items.
+//! The names of the commands.
 
-/// The name of a command that has items.
+/// The name of a command.
 #[derive(Clone, Copy, Debug)]
 pub enum CommandName {
     /// `rez`.
@@ -9,4 +9,8 @@ pub enum CommandName {
     DeRez,
     /// `bridge`.
     Bridge,
+    /// `--help`.
+    Help,
+    /// `--version`.
+    Version,
 }

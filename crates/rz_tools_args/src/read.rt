@@ -1,19 +1,22 @@
 //! All arguments, read as a command or as the position of the first misplaced one. What they are is in `specs/Command`.
 
-ghost use Rattle.std.specs.Prelude.{◌≡◌, ℕ, ◌∷◌, Ok, Err, IfOk, codes, map};
+ghost use Rattle.std.specs.Prelude.{◌≡◌, ℕ, ◌∷◌, Ok, Err, IfOk, length, map};
+ghost use Rattle.std.specs.List.{list_all, list_any};
 ghost use Rattle.std.specs.String.{string_bytes};
 ghost use Rattle.rz_core.specs.Stop.{fault_seen, seen, Gives, OnFault};
 ghost use Rattle.rz_core.specs.declared.stop.Stop.TheVariants.{Refused};
-ghost use Rattle.rz_tools_args.specs.Command.{name_of, Asked, IsCommand, IsMisplaced, Wants};
-ghost use Rattle.rz_tools_args.specs.Item.{asked, position_of, wanted, AreRead, MayBeFiles};
+ghost use Rattle.rz_tools_args.specs.Command.{places_of, AreItems, Asked, IsCommand, IsMisplaced};
+ghost use Rattle.rz_tools_args.specs.Held.{asked, is_whole, item, position_of, says, syntax, MayBegin};
+ghost use Rattle.rz_tools_args.specs.Syntax.{syntax_of};
 
-use crate::command::Command;
-use crate::item::read_item;
+use crate::command::{Command, Items};
+use crate::flag::Flag;
+use crate::item::{Item, read_item};
 use crate::laws::one_command;
 use crate::name::CommandName;
-use crate::wanted::Wanted;
+use crate::syntax::{Syntax, command_named, syntax_of};
 use rz_core::Stop;
-use rz_lex::one_cut;
+use rz_lex::{cut_back, one_cut};
 use rz_pre_source::one_text;
 use std::alloc::Global;
 
@@ -25,7 +28,7 @@ pub struct UsageFault {
 }
 
 /// The command that the words behind the program's name are, or the position of the first word that can't
-/// stand where it stands:
+/// stand where it stands. `syntax_of` has the table of all that may stand where:
 /// - `rez` with sources, at least one, and in whatever order `-o name`, `-t type`, `-c creator`, `-form form`,
 ///   `-i path`, `-s path`, `-d name[=text]`, `-u name`, `-rd`, `-a`, `-ov` and `-ro`, each as often as may be; of
 ///   several of the first four the last counts, one of the last four counts once however often it stands, and the
@@ -44,81 +47,53 @@ pub fn read_words<'a>(alloc: Global, words: &'a [String]) -> Result<Command<'a>,
     ensures every_position { (position : ℕ) → IsMisplaced (map string_bytes words.now) position → Gives (Err position) (seen asked (fault_seen position_of result)) }
 {
     one_command();
-    read_command(alloc, words)
+    read_all(alloc, words)
 }
 
 /// The command, or the position.
-fn read_command<'a>(alloc: Global, words: &'a [String]) -> Result<Command<'a>, Stop<UsageFault>>
+fn read_all<'a>(alloc: Global, words: &'a [String]) -> Result<Command<'a>, Stop<UsageFault>>
     ensures command { IfOk result (λ command. IsCommand (map string_bytes words.now) (asked command)) }
     ensures misplaced { OnFault result (λ fault. IsMisplaced (map string_bytes words.now) fault.position) }
 {
-    let Some((command, behind)) = words.split_first() else {
+    let Some((first, behind)) = words.split_first() else {
         return misplaced(1);
     };
-    let command = command.as_str();
-    if command == "rez" {
-        read_rez(alloc, behind)
-    } else if command == "derez" {
-        read_derez(alloc, behind)
-    } else if command == "bridge" {
-        read_bridge(alloc, behind)
-    } else if command == "--help" {
-        read_help(behind)
-    } else if command == "--version" {
-        read_version(behind)
-    } else {
-        misplaced(1)
+    match command_named(first.as_str()) {
+        Some(name) => read_command(alloc, name, behind),
+        None => misplaced(1),
     }
 }
 
-/// The words behind `rez`.
-fn read_rez<'a>(alloc: Global, words: &'a [String]) -> Result<Command<'a>, Stop<UsageFault>>
-    ensures command { IfOk result (λ command. IsCommand (codes "rez" ∷ map string_bytes words.now) (asked command)) }
-    ensures misplaced { OnFault result (λ fault. IsMisplaced (codes "rez" ∷ map string_bytes words.now) fault.position) }
-{
-    let wanted = read_wanted(alloc, CommandName::Rez, words)?;
-    Ok(Command::Rez(wanted.into_rez()))
-}
-
-/// The words behind `derez`.
-fn read_derez<'a>(alloc: Global, words: &'a [String]) -> Result<Command<'a>, Stop<UsageFault>>
-    ensures command { IfOk result (λ command. IsCommand (codes "derez" ∷ map string_bytes words.now) (asked command)) }
-    ensures misplaced { OnFault result (λ fault. IsMisplaced (codes "derez" ∷ map string_bytes words.now) fault.position) }
-{
-    let wanted = read_wanted(alloc, CommandName::DeRez, words)?;
-    Ok(Command::DeRez(wanted.into_derez(alloc)?))
-}
-
-/// The words behind `bridge`.
-fn read_bridge<'a>(alloc: Global, words: &'a [String]) -> Result<Command<'a>, Stop<UsageFault>>
-    ensures command { IfOk result (λ command. IsCommand (codes "bridge" ∷ map string_bytes words.now) (asked command)) }
-    ensures misplaced { OnFault result (λ fault. IsMisplaced (codes "bridge" ∷ map string_bytes words.now) fault.position) }
-{
-    one_cut();
-    one_text();
-    let wanted = read_items(alloc, CommandName::Bridge, words)?;
-    match wanted.into_bridge(alloc)? {
-        Some(asked) => Ok(Command::Bridge(asked)),
-        None => misplaced(words.len() as u64 + 2),
-    }
-}
-
-/// The words behind the name of a command: items, a file among them.
-fn read_wanted<'a>(
+/// The words behind the name of a command.
+fn read_command<'a>(
     alloc: Global,
     name: CommandName,
     words: &'a [String],
-) -> Result<Wanted<'a>, Stop<UsageFault>>
-    ensures wants { IfOk result (λ items. Wants name (name_of name ∷ map string_bytes words.now) (wanted items)) }
-    ensures misplaced { OnFault result (λ fault. IsMisplaced (name_of name ∷ map string_bytes words.now) fault.position) }
+) -> Result<Command<'a>, Stop<UsageFault>>
+    ensures command { IfOk result (λ command. IsCommand ((syntax_of name).name ∷ map string_bytes words.now) (asked command)) }
+    ensures misplaced { OnFault result (λ fault. IsMisplaced ((syntax_of name).name ∷ map string_bytes words.now) fault.position) }
 {
-    let wanted = read_items(alloc, name, words)?;
-    if wanted.files.len() == 0 {
-        return Err(Stop::Refused(UsageFault {
-            position: words.len() as u64 + 2,
-        }));
+    cut_back();
+    one_cut();
+    one_text();
+    let read = read_items(alloc, name, words)?;
+    if is_whole(syntax_of(name), read.places, read.items.as_slice()) {
+        Ok(Command {
+            name,
+            items: read.items,
+        })
+    } else {
+        misplaced(words.len() as u64 + 2)
     }
-    Ok(wanted)
+}
+
+/// Items, and how many words they are outside options.
+#[derive(Drop)]
+struct ReadItems<'a> {
+    /// The items, in the order of the words.
+    items: Items<'a>,
+    /// How many words stand outside options.
+    places: u64,
 }
 
 /// The items behind the name of a command.
@@ -126,22 +101,29 @@ fn read_items<'a>(
     alloc: Global,
     name: CommandName,
     words: &'a [String],
-) -> Result<Wanted<'a>, Stop<UsageFault>>
-    ensures items { IfOk result (λ items. AreRead name (map string_bytes words.now) (wanted items)) }
-    ensures files { IfOk result (λ items. MayBeFiles name (wanted items).files) }
-    ensures misplaced { OnFault result (λ fault. IsMisplaced (name_of name ∷ map string_bytes words.now) fault.position) }
+) -> Result<ReadItems<'a>, Stop<UsageFault>>
+    ensures items { IfOk result (λ read. AreItems (syntax_of name) (map string_bytes words.now) (map item read.items)) }
+    ensures begin { IfOk result (λ read. MayBegin (syntax_of name).places (places_of (map item read.items))) }
+    ensures places { IfOk result (λ read. read.places ≡ length (places_of (map item read.items))) }
+    ensures misplaced { OnFault result (λ fault. IsMisplaced ((syntax_of name).name ∷ map string_bytes words.now) fault.position) }
 {
-    let mut wanted = Wanted::new(alloc);
+    cut_back();
+    one_cut();
+    one_text();
+    let takes = syntax_of(name);
+    let mut items = Items::new(alloc);
+    let mut places = 0;
     let mut rest = words;
     while let Some((first, behind)) = rest.split_first() {
         let read = (words.len() - rest.len()) as u64;
-        match read_item(alloc, name, first.as_str(), behind) {
+        match read_item(alloc, takes, first.as_str(), behind) {
             Ok(item) => {
-                if wanted.is_second_file(name, &item) {
+                if !item.may_follow(takes.places, places) {
                     return Err(Stop::Refused(UsageFault { position: read + 2 }));
                 }
                 let size = item.size();
-                wanted.add(item)?;
+                places += item.places();
+                items.push(item)?;
                 rest = rest.split_at(size).1;
             }
             Err(Stop::Refused(misfit)) => {
@@ -152,31 +134,38 @@ fn read_items<'a>(
             Err(Stop::NoMemory) => return Err(Stop::NoMemory),
         }
     }
-    Ok(wanted)
+    Ok(ReadItems { items, places })
 }
 
-/// The words behind `--help`.
-fn read_help<'a>(words: &'a [String]) -> Result<Command<'a>, Stop<UsageFault>>
-    ensures command { IfOk result (λ command. IsCommand (codes "--help" ∷ map string_bytes words.now) (asked command)) }
-    ensures misplaced { OnFault result (λ fault. IsMisplaced (codes "--help" ∷ map string_bytes words.now) fault.position) }
+/// Whether all that must be there is among the items, of which so many stand outside options.
+fn is_whole(takes: Syntax, places: u64, items: &[Item]) -> bool
+    ensures { result ≡ is_whole (syntax takes) places (map item items.now) }
 {
-    if words.is_empty() {
-        Ok(Command::Help)
-    } else {
-        misplaced(2)
-    }
+    takes.places.fewest() <= places && are_there(takes.needs, items)
 }
 
-/// The words behind `--version`.
-fn read_version<'a>(words: &'a [String]) -> Result<Command<'a>, Stop<UsageFault>>
-    ensures command { IfOk result (λ command. IsCommand (codes "--version" ∷ map string_bytes words.now) (asked command)) }
-    ensures misplaced { OnFault result (λ fault. IsMisplaced (codes "--version" ∷ map string_bytes words.now) fault.position) }
+/// Whether each of these options is among the items.
+fn are_there(needs: &[Flag], items: &[Item]) -> bool
+    ensures { result ≡ list_all (λ flag. list_any (says flag) (map item items.now)) needs.now }
 {
-    if words.is_empty() {
-        Ok(Command::Version)
-    } else {
-        misplaced(2)
+    for need in needs {
+        if !is_there(*need, items) {
+            return false;
+        }
     }
+    true
+}
+
+/// Whether this option is among the items.
+fn is_there(flag: Flag, items: &[Item]) -> bool
+    ensures { result ≡ list_any (says flag) (map item items.now) }
+{
+    for one in items {
+        if one.says(flag) {
+            return true;
+        }
+    }
+    false
 }
 
 /// The refusal of a word.

@@ -1,5 +1,5 @@
 -- The moment that a text tells.
-use Rattle.std.specs.Prelude.{◌≡◌, ℕ, ◌≤◌, ℤ, pos, negsuc, List, [], ◌∷◌}
+use Rattle.std.specs.Prelude.{◌≡◌, ℕ, ℤ, pos, negsuc, List}
 use Rattle.rz_core.specs.Decimal.{decimal_of}
 use Rattle.rz_core.specs.Moment.{IsInRange}
 
@@ -7,9 +7,3 @@ use Rattle.rz_core.specs.Moment.{IsInRange}
 abbrev pub Tells : List ℕ → ℤ → Type 0
 Tells text (pos seconds) = (text ≡ decimal_of seconds) × IsInRange (pos seconds)
 Tells text (negsuc seconds) = ⊥
-
--- the text is one digit, or begins with another digit than zero
-abbrev pub BeginsAsDecimal : List ℕ → Type 0
-BeginsAsDecimal [] = ⊥
-BeginsAsDecimal (c ∷ []) = (48 ≤ c) × (c ≤ 57)
-BeginsAsDecimal (c ∷ d ∷ cs) = (49 ≤ c) × (c ≤ 57)

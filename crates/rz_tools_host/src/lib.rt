@@ -1,23 +1,26 @@
 //! The edge to the host: it gets the arguments, the files, the streams and the moment of the host, runs the command
 //! and gives the status of the run. It is proved to be safe and to return, and which moment a text or a number of seconds
-//! tells; what the host gives and does is trusted.
-//! It rests on `rz_core`, `rz_folder` and `rz_tools`. The program `rezkit` is `start` alone.
+//! tells; what the host gives and does is trusted. Its tests stand in `tests`, over hosts that give what they are told.
+//! It rests on `rz_core`, `rz_folder`, `rz_tools_args` and `rz_tools`. The program `rezkit` is `start` alone.
 //! A status of its own, as 5, stands in the help text of `rz_tools_answer`, in docs/LANGUAGE.md and docs/MESSAGES.md too.
 #![tactic(auto)]
 
 ghost use Rattle.rz_tools_host.specs.Clock.{IsMomentAt};
 
 mod epoch;
+#[cfg(test)]
+mod tests;
 
 use crate::epoch::moment_told;
 use rz_core::Moment;
-use rz_folder::{RealFolder, RealSink, Sink};
+use rz_folder::{Folder, RealFolder, RealSink, Sink};
 use rz_tools::run;
 use std::env;
 use std::env::VarError;
 use std::io::ErrorKind;
 use std::process::ExitCode;
-use std::time::{Clock, SystemTime, UNIX_EPOCH};
+use std::rt::{Clock, Env};
+use std::time::{SystemTime, UNIX_EPOCH};
 
 /// Why no run begins.
 #[derive(Clone, Copy)]
@@ -52,28 +55,36 @@ impl Hindrance {
 
 /// Runs the command of the host's arguments over the host's files, streams and clock, and gives the exit status.
 pub fn start(rt: HostRuntime) -> ExitCode {
+    let mut folder = RealFolder::new(rt);
+    let mut out = RealSink::new(rt.stdout());
     let mut err = RealSink::new(rt.stderr());
-    let (args, moment) = match given(&rt) {
-        Ok(given) => given,
+    ExitCode::from(start_over(&rt, &mut folder, &mut out, &mut err))
+}
+
+/// Runs the command of a host's arguments at its moment over a folder and two streams, and gives the exit status. If no
+/// run begins, the folder and `out` get no call, and `err` gets the line that says why.
+fn start_over<R: Env + Clock + AllocGlobal, F: Folder, O: Sink, E: Sink>(
+    rt: &R,
+    folder: &mut F,
+    out: &mut O,
+    err: &mut E,
+) -> u8 {
+    match given(rt) {
+        Ok((args, moment)) => run(rt.alloc(), &args, folder, out, err, moment).status(),
         Err(hindrance) => {
             let _ = err.put(hindrance.line());
-            return ExitCode::from(hindrance.status());
+            hindrance.status()
         }
-    };
-    let mut out = RealSink::new(rt.stdout());
-    let alloc = rt.alloc();
-    let mut folder = RealFolder::new(rt);
-    let outcome = run(alloc, &args, &mut folder, &mut out, &mut err, moment);
-    ExitCode::from(outcome.status())
+    }
 }
 
 /// What the host gives to a run: its arguments, without the program's name, and its moment.
-fn given(rt: &HostRuntime) -> Result<(Vec<String>, Moment), Hindrance> {
+fn given<R: Env + Clock + AllocGlobal>(rt: &R) -> Result<(Vec<String>, Moment), Hindrance> {
     Ok((args_of(rt)?, moment_of(rt)?))
 }
 
 /// The arguments of the host, without the program's name.
-fn args_of(rt: &HostRuntime) -> Result<Vec<String>, Hindrance> {
+fn args_of<R: Env + AllocGlobal>(rt: &R) -> Result<Vec<String>, Hindrance> {
     let given = match env::args(rt) {
         Ok(given) => given,
         Err(error) if error.kind() == ErrorKind::OutOfMemory => return Err(Hindrance::NoMemory),
@@ -89,7 +100,7 @@ fn args_of(rt: &HostRuntime) -> Result<Vec<String>, Hindrance> {
 }
 
 /// The moment of the run: the one that `SOURCE_DATE_EPOCH` tells, if the environment has it, and else the clock's.
-fn moment_of(rt: &HostRuntime) -> Result<Moment, Hindrance> {
+fn moment_of<R: Env + Clock + AllocGlobal>(rt: &R) -> Result<Moment, Hindrance> {
     match env::var(rt, "SOURCE_DATE_EPOCH") {
         Ok(text) => moment_told(&text).ok_or(Hindrance::NoMoment),
         Err(VarError::NotPresent) => Ok(moment_at(unix_seconds(rt))),

@@ -1,6 +1,6 @@
 -- What `bridge` reads and writes, from what its calls gave.
 use Rattle.std.proofs.Common.{◌≡◌, ◌≢◌, inl, ℕ, List, [], ◌∷◌, ◌++◌, map, Option, Some, None, Ok, Err, refl, sym, ap, subst, ◌∙◌}
-use Rattle.std.specs.Prelude.{IfOk, IfSome, unwrap_or}
+use Rattle.std.specs.Prelude.{IfOk, IfSome}
 use Rattle.std.specs.String.{string_bytes}
 use Rattle.std.specs.declared.result.Result.{Result}
 use Rattle.rz_tools_answer.specs.Answer.{refused, Answer, Write}
@@ -19,12 +19,10 @@ use Rattle.rz_bridge_files.specs.Names.{Named}
 use Rattle.rz_bridge_files.specs.Written.{written_as}
 use Rattle.rz_folder.specs.Folder.{Files}
 use Rattle.rz_bridge_form.specs.DataFile.{IsDataFile}
-use Rattle.rz_bridge_form.specs.Forms.{form_of}
 use Rattle.rz_bridge_form.specs.declared.form.Form.{Form}
 use Rattle.rz_bridge_form.specs.declared.form.Form.TheVariants as forms
-use Rattle.rz_tools_output.specs.Bridge.{bridged, AnswersBridge, AreWrites, Bridges, HasBeside, IsHeld, IsWrittenAs}
+use Rattle.rz_tools_output.specs.Bridge.{bridged, AnswersBridge, AreWrites, BridgeAsked, Bridges, HasBeside, IsHeld, IsWrittenAs}
 use Rattle.rz_tools_output.specs.Bridge.AreWrites.{two}
-use Rattle.rz_tools_args.specs.Command.{BridgeAsked}
 
 -- what holds of the files that a folder tells
 told_so : (before : Option Files) (P Q : Files → Type 0) → ((files : Files) → P files → Q files) → IfSome before P → IfSome before Q
@@ -55,10 +53,6 @@ module _ (asked : BridgeAsked) (before : Option Files) where
       told_so before (λ files. Bridges asked files (Err fault)) (λ files. Unit {0}) (λ files so. tt) makes
 
 -- What is read.
-
-pub form_unwrapped : (from : Option Form) (bytes : List ℕ) (form : Form) → form ≡ form_of bytes → unwrap_or from form ≡ form_or from bytes
-form_unwrapped None bytes form is = is
-form_unwrapped (Some given) bytes form is = refl
 
 -- what bytes hold, beside a data file
 module _ (asked : BridgeAsked) (bytes data_file : List ℕ) (before : Option Files) (form : Form) (is : form ≡ form_or asked.from bytes)

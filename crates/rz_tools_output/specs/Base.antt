@@ -1,5 +1,5 @@
 -- What `rez` begins with: a new file, or with `-a` what the file of the output's name holds. (MPW Rez.)
-use Rattle.std.specs.Prelude.{ℕ, ◌==◌, pos, if◌then◌else◌, List, [], bit_and, bit_or, Option, Some, None, Ok, Err}
+use Rattle.std.specs.Prelude.{ℕ, ◌==◌, pos, if◌then◌else◌, Bool, List, [], bit_and, bit_or, Option, Some, None, Ok, Err}
 use Rattle.std.specs.FinMap as finite
 use Rattle.std.specs.declared.result.Result.{Result}
 use Rattle.rz_bridge.specs.declared.file.MacFile.{MacFile}
@@ -14,7 +14,6 @@ use Rattle.rz_fork.specs.Contents.{Fork}
 use Rattle.rz_bridge_form.specs.Forms.{raw_file, raw_finder}
 use Rattle.rz_bridge_form.specs.declared.form.Form.{Form}
 use Rattle.rz_bridge_form.specs.declared.form.Form.TheVariants.{Raw}
-use Rattle.rz_tools_args.specs.Command.{RezAsked}
 use Rattle.rz_tools_output.specs.declared.base.Base as code
 use Rattle.rz_tools_output.specs.declared.base.Beginning.{Beginning}
 
@@ -53,17 +52,18 @@ abbrev pub begun_with : Form → MacFile → Fork → Result Base Fault
 begun_with form file fork =
     if bit_and fork.attributes 128 == 0 then Ok (record { form = form; file = file; fork = fork }) else Err (read_only fork.attributes)
 
--- what bytes hold to begin with: the rules of their form, then those of the fork, then 220
-abbrev pub base_in : List ℕ → Result Base Fault
-base_in bytes = file_in None None bytes [] >>= λ file. admit_fork None file.res_fork >>= begun_with (form_or None bytes) file
+-- what bytes hold to begin with, in the form that is asked for or else that they have: the rules of the form, then those of
+-- the fork, then 220
+abbrev pub base_in : Option Form → List ℕ → Result Base Fault
+base_in form bytes = file_in None form bytes [] >>= λ file. admit_fork None file.res_fork >>= begun_with (form_or form bytes) file
 
--- with `-a` what the file of the output's name holds; where there is none, it counts as a file of no bytes
-abbrev pub base_of : RezAsked → Files → Result Base Fault
-base_of asked files = if asked.append then base_in (or_empty (finite.get files asked.output)) else Ok new_base
+-- a new file, or what the file of this name is to be appended to holds; where there is none, it counts as a file of no bytes
+abbrev pub base_of : Bool → List ℕ → Files → Result Base Fault
+base_of append name files = if append then base_in None (or_empty (finite.get files name)) else Ok new_base
 
--- the attributes of the map that is written: with `-ro` the bit 80 too
-abbrev pub attributes_asked : RezAsked → Base → ℕ
-attributes_asked asked base = if asked.read_only then bit_or base.fork.attributes 128 else base.fork.attributes
+-- the attributes of the map that is written: the bit 80 too where it becomes read only
+abbrev pub attributes_asked : Bool → Base → ℕ
+attributes_asked read_only base = if read_only then bit_or base.fork.attributes 128 else base.fork.attributes
 
 -- What the code holds.
 

@@ -1,6 +1,7 @@
 -- What `bridge` means: what a file holds in one form, written in another. (RFC 1740; RFC 1741.)
-use Rattle.std.specs.Prelude.{◌≡◌, ◌≢◌, ◌⊎◌, ℕ, List, [], ◌∷◌, map, Ok, Err, Option, Some, None}
+use Rattle.std.specs.Prelude.{◌≡◌, ◌≢◌, ◌⊎◌, ℕ, List, [], ◌∷◌, get_or, map, Ok, Err, Option, Some, None, unwrap_or}
 use Rattle.std.specs.FinMap as finite
+use Rattle.std.specs.String.{string_bytes}
 use Rattle.std.specs.declared.result.Result.{Result}
 use Rattle.rz_tools_answer.specs.Answer.{refused, Answer, Write}
 use Rattle.rz_tools_answer.specs.Plan.{write_of}
@@ -18,7 +19,35 @@ use Rattle.rz_bridge_form.specs.declared.form.Form.{Form}
 use Rattle.rz_bridge_form.specs.declared.form.Form.TheVariants as forms
 use Rattle.rz_folder_paths.specs.Names.{missing_file}
 use Rattle.rz_tools_output.specs.Base.{or_empty}
-use Rattle.rz_tools_args.specs.Command.{BridgeAsked}
+use Rattle.rz_tools_args.specs.Command.{places_of, IsCommand, Item}
+use Rattle.rz_tools_args.specs.Items.{forms_of, last, names_of}
+use Rattle.rz_tools_args.specs.declared.flag.Flag.TheVariants as flags
+use Rattle.rz_tools_args.specs.declared.name.CommandName.TheVariants as names
+use Rattle.rz_tools_output.specs.declared.bridge.BridgeWords.{BridgeWords}
+
+-- What it asks for.
+
+-- the file to read, the file to write, its form, and the form of the file to read if that is given
+pub record BridgeAsked : Type 0 where
+  pub file : List ℕ
+  pub output : List ℕ
+  pub to : Form
+  pub from : Option Form
+
+-- What items ask for. A command of `bridge` has one file, a file to write and a form of it, so that nothing is put in their
+-- place.
+abbrev pub bridge_asked : List Item → BridgeAsked
+bridge_asked items = record {
+  file = get_or (places_of items) 0 [];
+  output = unwrap_or (last (names_of flags.Output items)) [];
+  to = unwrap_or (last (forms_of flags.Into items)) forms.Raw;
+  from = last (forms_of flags.From items);
+}
+
+-- the words are a command of `bridge` that asks for this
+abbrev pub IsBridge : List (List ℕ) → BridgeAsked → Type 0
+IsBridge words asked =
+    (items : List Item) × IsCommand words (record { name = names.Bridge; items = items }) × (asked ≡ bridge_asked items)
 
 -- What it reads.
 
@@ -65,6 +94,11 @@ bridged (Err fault) = refused (record { fault = fault; files = []; said = [] })
 
 abbrev pub AnswersBridge : BridgeAsked → Files → Answer → Type 0
 AnswersBridge asked files answer = (made : Result (List Write) Fault) × Bridges asked files made × (answer ≡ bridged made)
+
+-- What the code holds.
+
+abbrev pub bridge : BridgeWords → BridgeAsked
+bridge words = record { file = string_bytes words.file; output = words.output.now; to = words.to; from = words.from }
 
 -- what the code is to write, or what stopped it
 abbrev pub writes_of : {E : Type 0} → Result (List code.Write) E → Result (List Write) E

@@ -1,13 +1,13 @@
-//! What `rez` begins with: a new file, or with `-a` one that is there. What is taken of it is in `specs/Base`.
+//! What `rez` begins with: a new file, or the one that it appends to. What is taken of it is in `specs/Base`.
 
-ghost use Rattle.std.specs.Prelude.{◌≡◌, ◌<◌, ◌≤◌, ◌^◌, [], ℕ, length, IfOk, IfSome};
+ghost use Rattle.std.specs.Prelude.{◌≡◌, ◌<◌, ◌≤◌, ◌^◌, [], ℕ, length, None, IfOk, IfSome};
 ghost use Rattle.rz_core.specs.Message.{IsNameable};
 ghost use Rattle.rz_core.specs.Resources.{KeysDiffer};
 ghost use Rattle.rz_core.specs.Stop.{seen, Gives, IsReadFault, OnFault, OnRefusal, Yields};
 ghost use Rattle.rz_folder.specs.OnlyReads.{OnlyReads};
 ghost use Rattle.rz_fork.specs.Code.{held_by};
+ghost use Rattle.rz_bridge_files.specs.Contents.{form_or};
 ghost use Rattle.rz_set.specs.ResSet.{AreNamed};
-ghost use Rattle.rz_tools_args.specs.Item.{rez};
 ghost use Rattle.rz_tools_output.specs.Base.{base_in, base_of, begun_of, begun_with, new_base, read_only};
 
 use rz_bridge::{Finder, MacFile};
@@ -16,7 +16,6 @@ use rz_bridge_form::{Form, form_of};
 use rz_core::{Bytes, Fault, Halt, Kept, OsType, Resources, Stop};
 use rz_folder::{Folder, Read};
 use rz_fork::ForkList;
-use rz_tools_args::RezWords;
 use std::alloc::Global;
 
 /// The attribute bit of a map that may be read only.
@@ -50,25 +49,26 @@ pub struct Beginning {
     pub list: Resources,
 }
 
-/// What these words of `rez` begin with: with `-a` what the file of the output's name holds, in the form that its bytes have,
-/// where a missing file counts as one of no bytes; else a new file. Refused with the first broken rule of the form, then of
-/// the fork, then 220 (kept: the attributes) where the fork may be read only; none has a mark. (MPW Rez.)
+/// What `rez` begins with: where it appends to the file of this name, what that holds, in the form that its bytes have, where
+/// a missing file counts as one of no bytes; else a new file. Refused with the first broken rule of the form, then of the
+/// fork, then 220 (kept: the attributes) where the fork may be read only; none has a mark. (MPW Rez.)
 pub fn read_base<F: Folder>(
     alloc: Global,
     folder: &mut F,
-    words: &RezWords<'_>,
+    append: bool,
+    name: &str,
 ) -> Result<Beginning, Halt<Fault>>
-    ensures base { IfSome (F.files folder.old) (λ files. Yields (seen begun_of result) (λ answer. base_of (rez words.now) files ≡ answer)) }
+    ensures base { IfSome (F.files folder.old) (λ files. Yields (seen begun_of result) (λ answer. base_of append name.now files ≡ answer)) }
     ensures keys { IfOk result (λ begun. KeysDiffer [] begun.list) }
     ensures named { IfOk result (λ begun. AreNamed begun.list) }
     ensures room { IfOk result (λ begun. length begun.base.reserved ≤ 240) }
     ensures nameable { (files : ℕ) → OnRefusal result (IsNameable files) }
     ensures reads { OnlyReads F.files F.read_faults F.write_faults folder.old folder.new (IsReadFault result) }
 {
-    if !words.append {
+    if !append {
         return Ok(new_file(alloc));
     }
-    match folder.read(alloc, words.output) {
+    match folder.read(alloc, name) {
         Read::Bytes(bytes) => begin_in(alloc, bytes),
         Read::Missing => begin_in(alloc, Bytes::new(alloc)),
         Read::Failed => Err(Halt::ReadFault),
@@ -111,32 +111,42 @@ fn new_file(alloc: Global) -> Beginning
 /// What bytes hold to begin with, of a call that reads files.
 fn begin_in(alloc: Global, bytes: Bytes) -> Result<Beginning, Halt<Fault>>
     requires { length bytes < 2 ^ 32 }
-    ensures base { Yields (seen begun_of result) (λ answer. base_in bytes ≡ answer) }
+    ensures base { Yields (seen begun_of result) (λ answer. base_in None bytes ≡ answer) }
     ensures keys { IfOk result (λ begun. KeysDiffer [] begun.list) }
     ensures named { IfOk result (λ begun. AreNamed begun.list) }
     ensures room { IfOk result (λ begun. length begun.base.reserved ≤ 240) }
     ensures nameable { (files : ℕ) → OnRefusal result (IsNameable files) }
     ensures unread { IsReadFault result → ⊥ }
 {
-    match base_in(alloc, bytes) {
+    match base_in(alloc, None, bytes) {
         Ok(begun) => Ok(begun),
         Err(stop) => Err(Halt::from(stop)),
     }
 }
 
-/// What bytes hold to begin with.
-fn base_in(alloc: Global, bytes: Bytes) -> Result<Beginning, Stop<Fault>>
+/// What bytes hold to begin with, in the form that is asked for or else that they have.
+fn base_in(alloc: Global, form: Option<Form>, bytes: Bytes) -> Result<Beginning, Stop<Fault>>
     requires { length bytes < 2 ^ 32 }
-    ensures base { Gives (base_in bytes) (seen begun_of result) }
+    ensures base { Gives (base_in form bytes) (seen begun_of result) }
     ensures keys { IfOk result (λ begun. KeysDiffer [] begun.list) }
     ensures named { IfOk result (λ begun. AreNamed begun.list) }
     ensures room { IfOk result (λ begun. length begun.base.reserved ≤ 240) }
     ensures nameable { (files : ℕ) → OnFault result (IsNameable files) }
 {
-    let form = form_of(bytes.as_slice());
-    let file = file_in(alloc, None, bytes, Bytes::new(alloc), None)?;
+    let had = form_or(form, bytes.as_slice());
+    let file = file_in(alloc, form, bytes, Bytes::new(alloc), None)?;
     let fork = admit_fork(alloc, file.res_fork.as_slice(), None)?;
-    begun_with(form, file, fork)
+    begun_with(had, file, fork)
+}
+
+/// The form that is asked for, or else that bytes have.
+pub fn form_or(form: Option<Form>, bytes: &[u8]) -> Form
+    ensures { result ≡ form_or form bytes.now }
+{
+    match form {
+        Some(form) => form,
+        None => form_of(bytes),
+    }
 }
 
 /// A file of a form and its fork, or 220.

@@ -1,6 +1,6 @@
 //! `bridge`: a file of one form, written in another. What it answers is in `specs/Bridge`.
 
-ghost use Rattle.std.specs.Prelude.{◌≡◌, ◌<◌, ◌≤◌, ◌^◌, ℕ, [], length, map, Err, IfOk, IfSome};
+ghost use Rattle.std.specs.Prelude.{◌≡◌, ◌<◌, ◌≤◌, ◌^◌, ℕ, [], get_or, length, map, Err, IfOk, IfSome};
 ghost use Rattle.std.specs.FinMap as finite;
 ghost use Rattle.std.specs.String.{string_bytes};
 ghost use Rattle.rz_tools_answer.specs.Plan.{answer_of, write_of, IsNoUsage};
@@ -11,19 +11,60 @@ ghost use Rattle.rz_core.specs.Stop.{Meets, OnFault, IsReadFault, OnRefusal, Yie
 ghost use Rattle.rz_core.specs.Message.{IsNameable};
 ghost use Rattle.rz_bridge_files.specs.Names.{Named};
 ghost use Rattle.rz_folder.specs.OnlyReads.{OnlyReads};
-ghost use Rattle.rz_tools_args.specs.Item.{bridge};
-ghost use Rattle.rz_tools_output.specs.Bridge.{writes_of, AnswersBridge, AreWrites, Bridges, HasBeside, IsHeld, IsRead, IsWrittenAs};
+ghost use Rattle.rz_tools_args.specs.Held.{items_of};
+ghost use Rattle.rz_tools_output.specs.Bridge.{bridge, bridge_asked, writes_of, AnswersBridge, AreWrites, Bridges, HasBeside, IsHeld, IsRead, IsWrittenAs};
 
+use crate::base::form_or;
 use rz_bridge::MacFile;
 use rz_bridge_files::{file_in, named, write_as};
-use rz_bridge_form::{Form, data_file_name, form_of};
+use rz_bridge_form::{Form, data_file_name};
 use rz_core::{Bytes, Fault, FileNames, Halt, NoMemory, Stop};
 use rz_folder::{Folder, Read};
 use rz_folder_paths::missing_file;
 use rz_tools_answer::{Failing, Plan, Write, Writes};
-use rz_tools_args::BridgeWords;
+use rz_tools_args::{Command, Flag};
 use std::alloc::Global;
 use std::convert::Infallible;
+
+/// What a command of `bridge` asks for.
+#[derive(Drop)]
+pub struct BridgeWords<'a> {
+    /// The name of the file to read.
+    pub file: String,
+    /// The name of the file to write.
+    pub output: &'a str,
+    /// The form of the file to write.
+    pub to: Form,
+    /// The form of the file to read, if that is given.
+    pub from: Option<Form>,
+}
+
+impl<'a> BridgeWords<'a> {
+    /// What a command asks for. One of `bridge` names a file, a file to write and a form; where another command names none,
+    /// their names are empty and the form is raw.
+    pub fn of(alloc: Global, command: &Command<'a>) -> Result<BridgeWords<'a>, NoMemory>
+        ensures { IfOk result (λ words. bridge words ≡ bridge_asked (items_of command.now)) }
+    {
+        let files = command.files(alloc)?;
+        Ok(BridgeWords {
+            file: first_of(alloc, &files)?,
+            output: command.name(Flag::Output).unwrap_or(""),
+            to: command.form(Flag::Into).unwrap_or(Form::Raw),
+            from: command.form(Flag::From),
+        })
+    }
+}
+
+/// The first name; that of no names is empty.
+fn first_of(alloc: Global, names: &FileNames) -> Result<String, NoMemory>
+    ensures { IfOk result (λ name. string_bytes name ≡ get_or names.now 0 []) }
+{
+    if names.len() == 0 {
+        Ok(String::new(alloc))
+    } else {
+        Ok(names.at(0).to_string(alloc)?)
+    }
+}
 
 /// The answer to the words of `bridge`: what the file holds in one form, which is to be written in another. The file is read
 /// first, and of AppleDouble then the data file beside it. Where the file has no name it takes the last name of the output. Of
@@ -108,7 +149,7 @@ fn read_held<F: Folder>(
     ensures nameable { (files : ℕ) → OnRefusal result (IsNameable files) }
     ensures reads { OnlyReads F.files F.read_faults F.write_faults folder.old folder.new (IsReadFault result) }
 {
-    let form = words.from.unwrap_or(form_of(bytes.as_slice()));
+    let form = form_or(words.from, bytes.as_slice());
     match read_beside(alloc, folder, form, words.file.as_str()) {
         Ok(data_file) => Ok(file_in(alloc, words.from, bytes, data_file, None)?),
         Err(halt) => Err(halt),

@@ -1,4 +1,4 @@
-//! The file that `rez` writes of the resources. What it holds is in `specs/Output`.
+//! The file that is written of the resources. What it holds is in `specs/Output`.
 
 ghost use Rattle.std.specs.Prelude.{◌≡◌, ◌≤◌, ◌<◌, ◌^◌, [], ℕ, List, length, IfOk};
 ghost use Rattle.rz_core.specs.Stop.{Meets, Gives, OnFault};
@@ -7,26 +7,25 @@ ghost use Rattle.rz_core.specs.Resources.{KeysDiffer};
 ghost use Rattle.rz_core.specs.declared.resource.Resource.{Resource as ResourceOf};
 ghost use Rattle.rz_bridge_files.specs.Written.{written_as};
 ghost use Rattle.rz_fork.specs.Image.{AreNamed};
-ghost use Rattle.rz_tools_args.specs.Item.{rez};
 ghost use Rattle.rz_tools_output.specs.Base.{attributes_asked, base_with};
-ghost use Rattle.rz_tools_output.specs.Output.{file_of, list_fork, mac_time, past_limit, IsFileOf, IsLimit, IsOutput};
+ghost use Rattle.rz_tools_output.specs.Output.{file_of, list_fork, mac_time, past_limit, target, IsFileOf, IsLimit, IsOutput};
 
 use crate::base::{Base, READ_ONLY};
+use crate::target::Target;
 use rz_bridge::{Finder, MacFile};
 use rz_bridge_files::{named, write_as};
 use rz_bridge_form::Form;
 use rz_core::{Bytes, Fault, Kept, Moment, Resources, Stop};
 use rz_fork::{LimitFault, write_fork};
-use rz_tools_args::RezWords;
 use std::alloc::Global;
 
-/// The file that these words of `rez` write of the resources: their fork with the attributes and the reserved bytes to begin
-/// with, with `-ro` read only, in the form that the words ask for or that of the file to begin with. Refused with the first
-/// limit that the fork passes (302, 303, 304); in another form than raw then 425 where the file has no name and takes one
-/// from the output that isn't Mac Roman, and then 425 or 428, as the form's writer refuses. (MPW Rez; RFC 1740; RFC 1741.)
+/// The file that is written of the resources: their fork with the attributes and the reserved bytes to begin with, read only
+/// where that is asked for, in the form that is asked for or that of the file to begin with. Refused with the first limit that
+/// the fork passes (302, 303, 304); in another form than raw then 425 where the file has no name and takes one from that of
+/// the file to write that isn't Mac Roman, and then 425 or 428, as the form's writer refuses. (MPW Rez; RFC 1740; RFC 1741.)
 pub fn write_output(
     alloc: Global,
-    words: &RezWords<'_>,
+    into: &Target<'_>,
     base: Base,
     list: &Resources,
     moment: Moment,
@@ -34,22 +33,22 @@ pub fn write_output(
     requires keys { KeysDiffer [] list.now }
     requires named { AreNamed list.now }
     requires room { length base.reserved ≤ 240 }
-    ensures output { (others : List ResourceOf) → Meets result (IsOutput (rez words.now) moment (base_with base others) list.now) }
+    ensures output { (others : List ResourceOf) → Meets result (IsOutput (target into.now) moment (base_with base others) list.now) }
     ensures nameable { (files : ℕ) → OnFault result (IsNameable files) }
     ensures short { IfOk result (λ bytes. length bytes < 2 ^ 32) }
 {
-    let attributes = attributes_asked(words, &base);
+    let attributes = attributes_asked(into.read_only, &base);
     match write_list(alloc, list, attributes, base.reserved.as_slice()) {
-        Ok(fork) => write_file(alloc, words, base, fork, moment),
+        Ok(fork) => write_file(alloc, into, base, fork, moment),
         Err(stop) => Err(stop),
     }
 }
 
 /// The attributes of the map that is written.
-fn attributes_asked(words: &RezWords<'_>, base: &Base) -> u16
-    ensures { (others : List ResourceOf) → result ≡ attributes_asked (rez words.now) (base_with base.now others) }
+fn attributes_asked(read_only: bool, base: &Base) -> u16
+    ensures { (others : List ResourceOf) → result ≡ attributes_asked read_only (base_with base.now others) }
 {
-    if words.read_only {
+    if read_only {
         base.attributes | READ_ONLY
     } else {
         base.attributes
@@ -59,19 +58,19 @@ fn attributes_asked(words: &RezWords<'_>, base: &Base) -> u16
 /// The file of a fork.
 fn write_file(
     alloc: Global,
-    words: &RezWords<'_>,
+    into: &Target<'_>,
     base: Base,
     fork: Bytes,
     moment: Moment,
 ) -> Result<Bytes, Stop<Fault>>
     requires { length fork < 2 ^ 32 }
-    ensures output { (others : List ResourceOf) → Meets result (IsFileOf (rez words.now) moment (base_with base others) fork) }
+    ensures output { (others : List ResourceOf) → Meets result (IsFileOf (target into.now) moment (base_with base others) fork) }
     ensures nameable { (files : ℕ) → OnFault result (IsNameable files) }
     ensures short { IfOk result (λ bytes. length bytes < 2 ^ 32) }
 {
-    let form = words.form.unwrap_or(base.form);
-    let file = file_of(words, base.file, fork, moment);
-    let named = named(alloc, form, words.output, file)?;
+    let form = into.form.unwrap_or(base.form);
+    let file = file_of(into, base.file, fork, moment);
+    let named = named(alloc, form, into.name, file)?;
     written_as(alloc, form, named)
 }
 
@@ -89,14 +88,14 @@ fn written_as(alloc: Global, form: Form, file: MacFile) -> Result<Bytes, Stop<Fa
 }
 
 /// The file of a fork, with its other fields from one to begin with.
-fn file_of(words: &RezWords<'_>, file: MacFile, fork: Bytes, moment: Moment) -> MacFile
-    ensures { result ≡ file_of (rez words.now) moment file fork }
+fn file_of(into: &Target<'_>, file: MacFile, fork: Bytes, moment: Moment) -> MacFile
+    ensures { result ≡ file_of (target into.now) moment file fork }
 {
     let now = now_of(moment);
     MacFile {
         finder: Finder {
-            kind: words.kind.unwrap_or(file.finder.kind),
-            creator: words.creator.unwrap_or(file.finder.creator),
+            kind: into.kind.unwrap_or(file.finder.kind),
+            creator: into.creator.unwrap_or(file.finder.creator),
             ..file.finder
         },
         created: if file.created == 0 { now } else { file.created },

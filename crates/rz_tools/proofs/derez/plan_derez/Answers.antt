@@ -1,4 +1,4 @@
-use Rattle.rz_tools_args.specs.Item.{derez}
+use Rattle.rz_tools.specs.Held.{derez}
 use Rattle.rz_tools_answer.specs.Answer.{shown}
 use Rattle.rz_tools.specs.DeRez.{Shows}
 use Rattle.rz_tools_answer.specs.Made.{making_of}

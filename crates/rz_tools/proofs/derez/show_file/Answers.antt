@@ -1,10 +1,10 @@
 use Rattle.std.proofs.Common.{None, subst}
 use Rattle.rz_core.specs.Stop.{Meets}
 use Rattle.rz_bridge_files.specs.Contents.{fork_in}
-use Rattle.rz_tools_args.specs.Item.{derez}
+use Rattle.rz_tools.specs.Held.{derez}
 use Rattle.rz_tools.specs.DeRez.{HasForkText}
 use Rattle.rz_tools.specs.Again.{HoldsFile}
-use Rattle.rz_tools.specs.Shown.{Known}
+use Rattle.rz_tools_text.specs.Shown.{Known}
 use Rattle.rz_tools.proofs.Showing.{bytes_held, file_shown, no_file_shown, none_held, output_held, said_so}
 use Rattle.rz_tools.proofs.derez.show_file.Goals as goal
 

@@ -1,7 +1,7 @@
 use Rattle.std.proofs.lemmas.Result.{err_from_is_err_and}
-use Rattle.rz_tools_args.specs.Item.{derez}
+use Rattle.rz_tools.specs.Held.{derez}
 use Rattle.rz_tools.specs.Again.{HoldsFile}
-use Rattle.rz_tools.specs.Held.{known_of}
+use Rattle.rz_tools_text.specs.Held.{known_of}
 use Rattle.rz_tools.proofs.Showing.{file_refused, file_text, holds_file, if_ok_so}
 use Rattle.rz_tools.proofs.derez.text_of.Goals as goal
 

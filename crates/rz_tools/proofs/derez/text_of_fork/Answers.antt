@@ -1,8 +1,8 @@
 use Rattle.std.proofs.Common.{None}
 use Rattle.std.proofs.lemmas.Result.{err_from_is_err_and}
 use Rattle.rz_bridge_files.specs.Contents.{admit_fork}
-use Rattle.rz_tools_args.specs.Item.{derez}
-use Rattle.rz_tools.specs.Held.{known_of}
+use Rattle.rz_tools.specs.Held.{derez}
+use Rattle.rz_tools_text.specs.Held.{known_of}
 use Rattle.rz_tools.proofs.Showing.{fork_refused, fork_shown}
 use Rattle.rz_tools.proofs.derez.text_of_fork.Goals as goal
 

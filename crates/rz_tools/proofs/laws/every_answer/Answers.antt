@@ -1,3 +1,4 @@
+use Rattle.rz_tools_work.specs.Work.{begun}
 use Rattle.rz_tools.proofs.EveryAnswer.{every_answer}
 use Rattle.rz_tools.proofs.EveryMeaning.{has_work}
 use Rattle.rz_tools.proofs.EveryResource.{has_list}
@@ -6,9 +7,5 @@ use Rattle.rz_tools.proofs.laws.every_answer.Goals as goal
 pub returns : goal.returns
 returns c =
     every_answer c.every_file_is_named.ensures.file c.every_program_has_an_answer.ensures
-    (has_work c.every_statement_is_parsed.ensures c.all_tokens_are_statements.ensures (has_list c.one_match.ensures.some c.matched_rows_are_rows.ensures c.one_spelling.ensures.some))
-    (record {
-      decided = c.told_rows_are_decided.ensures;
-      one = λ known body row other bytes shaped kept told also. c.one_plain_row.ensures known body row other bytes shaped kept told.0 told.1 also.1;
-    })
-    c.every_header_has_a_data_file.ensures c.every_list_of_words_is_read.ensures
+    (λ around list. has_work c.every_statement_is_parsed.ensures c.all_tokens_are_statements.ensures (has_list c.one_match.ensures.some c.matched_rows_are_rows.ensures c.one_spelling.ensures.some) around (begun list) tt)
+    c.every_list_is_shown.ensures c.every_header_has_a_data_file.ensures c.every_list_of_words_is_read.ensures

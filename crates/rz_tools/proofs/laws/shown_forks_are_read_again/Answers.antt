@@ -1,8 +1,8 @@
 use Rattle.std.proofs.Common.{[]}
 use Rattle.rz_fork.specs.Contents.{FitsFork}
-use Rattle.rz_tools.specs.Chosen.{chosen}
+use Rattle.rz_tools_text.specs.Chosen.{chosen}
 use Rattle.rz_tools.proofs.Again.{means_again}
-use Rattle.rz_tools.proofs.Lists.{all_chosen, differ_chosen}
+use Rattle.rz_tools_text.proofs.Choice.{all_chosen, differ_chosen}
 use Rattle.rz_tools.proofs.laws.shown_forks_are_read_again.Goals as goal
 
 pub returns : goal.returns

@@ -1,6 +1,6 @@
 use Rattle.rz_pre.specs.Reading.{IsProgram}
 use Rattle.rz_pre.specs.Program.{State}
-use Rattle.rz_tools_args.specs.Item.{rez}
+use Rattle.rz_tools.specs.Held.{rez}
 use Rattle.rz_core.specs.Stop.{seen, Yields}
 use Rattle.rz_tools_answer.specs.Made.{making_of}
 use Rattle.rz_tools.specs.Rez.{around_of, IsMadeOf}

@@ -1,14 +1,25 @@
-use Rattle.rz_tools_args.specs.Item.{rez}
+use Rattle.std.proofs.Common.{Ok, Err, subst}
+use Rattle.std.specs.Prelude.{IfSome}
+use Rattle.rz_core.specs.Stop.{Yields}
+use Rattle.rz_pre.specs.Program.{State}
+use Rattle.rz_pre.specs.Reading.{IsProgram}
 use Rattle.rz_tools_output.specs.Base.{begun_of}
-use Rattle.rz_tools.specs.Held.{compiled_of}
+use Rattle.rz_tools_work.specs.Work.{Work}
+use Rattle.rz_tools.specs.Held.{compiled_of, rez}
+use Rattle.rz_tools.specs.Rez.{around_of}
+use Rattle.rz_tools.specs.Sources.{Compiled, HasWork}
 use Rattle.rz_tools.proofs.Compiling.{work_stopped, work_written}
 use Rattle.rz_tools.proofs.rez.compile_behind.Goals as goal
 
 pub returns-in-Ok-clause-made : goal.returns-in-Ok-clause-made
 returns-in-Ok-clause-made g c =
-    work_written c.args.moment (rez c.args.words.now) c.args.program (begun_of c.args.begun) (g.F.Folder.files c.args.folder.now) (compiled_of c.in-Ok.compiled) c.in-Ok.ensures.compiled
+    work_written c.args.moment (rez c.args.words.now) c.args.program (begun_of c.args.begun) (g.F.Folder.files c.args.folder.now) (compiled_of c.in-Ok.compiled)
+    (subst (λ (w : Work). IfSome (g.F.Folder.files c.args.folder.now) (λ files. (s : State) → IsProgram c.args.program s
+    → HasWork (around_of c.args.moment (rez c.args.words.now) files) w s (Ok (compiled_of c.in-Ok.compiled)))) c.in_ok-start.ensures c.in-Ok.ensures.compiled)
     c.write_compiled.result (c.write_compiled.ensures.made c.args.begun.list)
 
 pub returns-in-Err-clause-made : goal.returns-in-Err-clause-made
 returns-in-Err-clause-made g c =
-    work_stopped c.args.moment (rez c.args.words.now) c.args.program (begun_of c.args.begun) (g.F.Folder.files c.args.folder.now) c.in-Err.stop c.in-Err.ensures.compiled
+    work_stopped c.args.moment (rez c.args.words.now) c.args.program (begun_of c.args.begun) (g.F.Folder.files c.args.folder.now) c.in-Err.stop
+    (subst (λ (w : Work). IfSome (g.F.Folder.files c.args.folder.now) (λ files. (s : State) → IsProgram c.args.program s
+    → Yields {X = Compiled} (Err c.in-Err.stop) (HasWork (around_of c.args.moment (rez c.args.words.now) files) w s))) c.in_ok-start.ensures c.in-Err.ensures.compiled)

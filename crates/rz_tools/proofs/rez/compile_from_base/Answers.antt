@@ -3,7 +3,7 @@ use Rattle.std.specs.Prelude.{IfSome}
 use Rattle.rz_core.specs.declared.stop.Halt.{Halt}
 use Rattle.rz_pre.specs.Program.{State}
 use Rattle.rz_pre.specs.Reading.{IsProgram}
-use Rattle.rz_tools_args.specs.Item.{rez}
+use Rattle.rz_tools.specs.Held.{rez}
 use Rattle.rz_core.specs.Stop.{seen, Yields}
 use Rattle.rz_core.specs.declared.stop.Halt.TheVariants.{Refused}
 use Rattle.rz_tools_answer.specs.Made.{making_of}
@@ -26,7 +26,7 @@ returns-in-Err-Refused-clause-made g c =
     subst (λ (fault : Fault). IfSome (g.F.Folder.files c.args.folder.now) (λ files. (s : State) → IsProgram c.args.program s
     → Yields (seen making_of (Err (Refused (record { fault = fault; files = c.args.program.files; said = c.new.result })))) (IsMadeOf c.args.moment asked files s))) (sym c.in-Err-Refused.fault-is)
     (not_begun c.args.moment asked c.args.program (g.F.Folder.files c.args.folder.now) c.in-Err-Refused.fault c.new.result c.new.ensures
-    (subst (λ (h : Halt Fault). IfSome (g.F.Folder.files c.args.folder.now) (λ files. Yields (seen begun_of (Err h)) (λ answer. base_of asked files ≡ answer))) c.in-Err-Refused.field-0-is c.in-Err-Refused.ensures.base))
+    (subst (λ (h : Halt Fault). IfSome (g.F.Folder.files c.args.folder.now) (λ files. Yields (seen begun_of (Err h)) (λ answer. base_of asked.append asked.target.name files ≡ answer))) c.in-Err-Refused.field-0-is c.in-Err-Refused.ensures.base))
 
 pub returns-in-Err-Refused-clause-sayable : goal.returns-in-Err-Refused-clause-sayable
 returns-in-Err-Refused-clause-sayable g c = record {

@@ -8,22 +8,22 @@ use Rattle.rz_stmt.specs.Statements.{AreStatements}
 use Rattle.rz_tools_values.specs.Around.{around}
 use Rattle.rz_tools_work.specs.Held.{work_of}
 use Rattle.rz_tools.specs.Step.{Means, with_work}
-use Rattle.rz_tools.proofs.Sourced.{none_warned, refusal_told, work_told}
+use Rattle.rz_tools.proofs.Sourced.{refusal_told, work_told}
 use Rattle.rz_tools.proofs.sources.compile_program.Goals as goal
 
 pub returns-in-Ok-clause-compiled : goal.returns-in-Ok-clause-compiled
 returns-in-Ok-clause-compiled g c =
     let cut = c.all_tokens_are_statements.ensures c.args.program.tokens in
-    work_told c.args.setting c.args.paths.now c.args.list cut.0 c.args.program cut.1 (work_of c.in_ok-work.work) c.in_ok-work.ensures
+    work_told c.args.setting c.args.paths.now (work_of c.args.start) cut.0 c.args.program cut.1
     (g.F.Folder.files c.args.folder.now) (work_of c.compile_statements.new.work) c.in-Ok.ensures.work
 
 pub returns-in_ok-refusal-in-Err-Refused-clause-compiled : goal.returns-in_ok-refusal-in-Err-Refused-clause-compiled
 returns-in_ok-refusal-in-Err-Refused-clause-compiled g c =
     let cut = c.all_tokens_are_statements.ensures c.args.program.tokens in
-    refusal_told c.args.setting c.args.paths.now c.args.list cut.0 c.args.program cut.1 (work_of c.in_ok-work.work) c.in_ok-work.ensures
+    refusal_told c.args.setting c.args.paths.now (work_of c.args.start) cut.0 c.args.program cut.1
     (g.F.Folder.files c.args.folder.now) (work_of c.compile_statements.new.work) c.in-Err-Refused.fault
     (subst (λ (h : Halt Fault). IfSome (g.F.Folder.files c.args.folder.now) (λ files. (statements : List (List Token)) → AreStatements c.args.program.tokens statements
-    → Yields (with_work (work_of c.compile_statements.new.work) (Err h)) (Means (around c.args.setting c.args.paths.now files) (work_of c.in_ok-work.work) statements)))
+    → Yields (with_work (work_of c.compile_statements.new.work) (Err h)) (Means (around c.args.setting c.args.paths.now files) (work_of c.args.start) statements)))
     c.in-Err-Refused.field-0-is c.in-Err-Refused.ensures.work)
     c.in_ok-refusal-in-Err-Refused.field-0 (rw c.in-Err-Refused.fault-is at c.in_ok-refusal-in-Err-Refused.ensures.failing)
 
@@ -32,10 +32,8 @@ refusal-requires-clause-fault g c = rw c.in-Err-Refused.fault-is (rw c.in-Err-Re
 
 pub refusal-requires-clause-warnings : goal.refusal-requires-clause-warnings
 refusal-requires-clause-warnings g c =
-    c.compile_statements.ensures.warned (length c.args.program.files) c.requires.within
-    (none_warned (length c.args.program.files) c.args.list (work_of c.in_ok-work.work) c.in_ok-work.ensures)
+    c.compile_statements.ensures.warned (length c.args.program.files) c.requires.within c.requires.warnings
 
 pub returns-in-Ok-clause-warned : goal.returns-in-Ok-clause-warned
 returns-in-Ok-clause-warned g c =
-    c.compile_statements.ensures.warned (length c.args.program.files) c.requires.within
-    (none_warned (length c.args.program.files) c.args.list (work_of c.in_ok-work.work) c.in_ok-work.ensures)
+    c.compile_statements.ensures.warned (length c.args.program.files) c.requires.within c.requires.warnings

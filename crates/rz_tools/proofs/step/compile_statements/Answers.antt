@@ -12,40 +12,40 @@ use Rattle.rz_tools.proofs.step.compile_statements.Goals as goal
 pub step-requires-clause-lexed : goal.step-requires-clause-lexed
 step-requires-clause-lexed g c =
     let front = rw c.in-Some.is at c.in_ok-statement.ensures.front in
-    (lexed_parts c.in-Some.statement c.next_statement.new.reader (subst AreLexed front.0 c.loop-statement.invariant.lexed)).0
+    (lexed_parts c.in-Some.statement c.next_statement.new.reader (subst AreLexed front.0 c.loop-reader.invariant.lexed)).0
 
-pub loop-statement-preserved : goal.loop-statement-preserved
-loop-statement-preserved g c =
+pub loop-reader-preserved : goal.loop-reader-preserved
+loop-reader-preserved g c =
     let front = rw c.in-Some.is at c.in_ok-statement.ensures.front in
     record {
-      leads = leads_on c.args.setting c.args.paths.now (work_of c.args.work.now) c.args.tokens.now c.loop-statement.reader c.next_statement.new.reader c.in-Some.statement (work_of c.loop-statement.work)
+      leads = leads_on c.args.setting c.args.paths.now (work_of c.args.work.now) c.args.tokens c.loop-reader.reader c.next_statement.new.reader c.in-Some.statement (work_of c.loop-reader.work)
           (λ statements are. subst (λ (o : Option (List Token)). BeginsWith o statements c.next_statement.new.reader) c.in-Some.is (c.in_ok-statement.ensures.first statements are))
-          (g.F.Folder.files c.args.folder.now) (g.F.Folder.files c.loop-statement.folder) c.loop-statement.invariant.reads.unchanged c.loop-statement.invariant.leads
+          (g.F.Folder.files c.args.folder.now) (g.F.Folder.files c.loop-reader.folder) c.loop-reader.invariant.reads.unchanged c.loop-reader.invariant.leads
           (work_of c.step.new.work) c.in-Ok.ensures.stepped;
-      reads = reads_on g.F.Folder.files g.F.Folder.read_faults g.F.Folder.write_faults _ _ _ _ _ ⊥ c.loop-statement.invariant.reads c.in-Ok.ensures.reads (λ never. absurd never);
-      lexed = (lexed_parts c.in-Some.statement c.next_statement.new.reader (subst AreLexed front.0 c.loop-statement.invariant.lexed)).1;
-      within = λ files within. (within_parts files c.in-Some.statement c.next_statement.new.reader (subst (AreWithin files) front.0 (c.loop-statement.invariant.within files within))).1;
+      reads = reads_on g.F.Folder.files g.F.Folder.read_faults g.F.Folder.write_faults _ _ _ _ _ ⊥ c.loop-reader.invariant.reads c.in-Ok.ensures.reads (λ never. absurd never);
+      lexed = (lexed_parts c.in-Some.statement c.next_statement.new.reader (subst AreLexed front.0 c.loop-reader.invariant.lexed)).1;
+      within = λ files within. (within_parts files c.in-Some.statement c.next_statement.new.reader (subst (AreWithin files) front.0 (c.loop-reader.invariant.within files within))).1;
       warned = λ files within are.
-          c.in-Ok.ensures.warned files (within_parts files c.in-Some.statement c.next_statement.new.reader (subst (AreWithin files) front.0 (c.loop-statement.invariant.within files within))).0
-          (c.loop-statement.invariant.warned files within are);
+          c.in-Ok.ensures.warned files (within_parts files c.in-Some.statement c.next_statement.new.reader (subst (AreWithin files) front.0 (c.loop-reader.invariant.within files within))).0
+          (c.loop-reader.invariant.warned files within are);
     }
 
 pub returns-in-Err-clause-work : goal.returns-in-Err-clause-work
 returns-in-Err-clause-work g c =
-    leads_to_stop c.args.setting c.args.paths.now (work_of c.args.work.now) c.args.tokens.now c.loop-statement.reader c.next_statement.new.reader c.in-Some.statement (work_of c.loop-statement.work)
+    leads_to_stop c.args.setting c.args.paths.now (work_of c.args.work.now) c.args.tokens c.loop-reader.reader c.next_statement.new.reader c.in-Some.statement (work_of c.loop-reader.work)
     (λ statements are. subst (λ (o : Option (List Token)). BeginsWith o statements c.next_statement.new.reader) c.in-Some.is (c.in_ok-statement.ensures.first statements are))
-    (g.F.Folder.files c.args.folder.now) (g.F.Folder.files c.loop-statement.folder) c.loop-statement.invariant.reads.unchanged c.loop-statement.invariant.leads
+    (g.F.Folder.files c.args.folder.now) (g.F.Folder.files c.loop-reader.folder) c.loop-reader.invariant.reads.unchanged c.loop-reader.invariant.leads
     c.in-Err.halt (work_of c.step.new.work) c.in-Err.ensures.stepped
 
 pub returns-in-Err-clause-nameable : goal.returns-in-Err-clause-nameable
 returns-in-Err-clause-nameable g c files within =
     let front = rw c.in-Some.is at c.in_ok-statement.ensures.front in
     c.in-Err.ensures.nameable files
-    (within_parts files c.in-Some.statement c.next_statement.new.reader (subst (AreWithin files) front.0 (c.loop-statement.invariant.within files within))).0
+    (within_parts files c.in-Some.statement c.next_statement.new.reader (subst (AreWithin files) front.0 (c.loop-reader.invariant.within files within))).0
 
 pub returns-in-Err-clause-warned : goal.returns-in-Err-clause-warned
 returns-in-Err-clause-warned g c files within are =
     let front = rw c.in-Some.is at c.in_ok-statement.ensures.front in
     c.in-Err.ensures.warned files
-    (within_parts files c.in-Some.statement c.next_statement.new.reader (subst (AreWithin files) front.0 (c.loop-statement.invariant.within files within))).0
-    (c.loop-statement.invariant.warned files within are)
+    (within_parts files c.in-Some.statement c.next_statement.new.reader (subst (AreWithin files) front.0 (c.loop-reader.invariant.within files within))).0
+    (c.loop-reader.invariant.warned files within are)

@@ -7,14 +7,14 @@ use Rattle.rz_tools_work.specs.Held.{work_of}
 use Rattle.rz_tools.proofs.Stepping.{LeadsIn}
 use Rattle.rz_tools.proofs.step.compile_statements.Given as goal
 
-abbrev pub invariant-loop-statement : goal.invariant-loop-statement
-invariant-loop-statement g l = record {
-  leads : LeadsIn l.setting l.paths (g.F.Folder.files l.fn.folder) (work_of l.fn.work) l.tokens l.reader (work_of l.work);
+abbrev pub invariant-loop-reader : goal.invariant-loop-reader
+invariant-loop-reader g l = record {
+  leads : LeadsIn l.setting l.paths (g.F.Folder.files l.fn.folder) (work_of l.fn.work) l.fn.tokens l.reader (work_of l.work);
   reads : OnlyReads g.F.Folder.files g.F.Folder.read_faults g.F.Folder.write_faults l.fn.folder l.folder ⊥;
   lexed : AreLexed l.reader;
-  within : (files : ℕ) → AreWithin files l.tokens → AreWithin files l.reader;
-  warned : (files : ℕ) → AreWithin files l.tokens → AreWarnings files l.fn.work.warnings → AreWarnings files l.work.warnings;
+  within : (files : ℕ) → AreWithin files l.fn.tokens → AreWithin files l.reader;
+  warned : (files : ℕ) → AreWithin files l.fn.tokens → AreWarnings files l.fn.work.warnings → AreWarnings files l.work.warnings;
 }
 
-abbrev pub decreases-loop-statement : goal.decreases-loop-statement
-decreases-loop-statement g l = length l.reader
+abbrev pub decreases-loop-reader : goal.decreases-loop-reader
+decreases-loop-reader g l = length l.reader

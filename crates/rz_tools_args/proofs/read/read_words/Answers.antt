@@ -5,8 +5,8 @@ use Rattle.rz_tools_args.proofs.read.read_words.Goals as goal
 
 pub returns-clause-every_command : goal.returns-clause-every_command
 returns-clause-every_command c =
-    every_command (map string_bytes c.args.words.now) c.read_command.result c.read_command.ensures.command c.read_command.ensures.misplaced (c.one_command.ensures.command (map string_bytes c.args.words.now))
+    every_command (map string_bytes c.args.words.now) c.read_all.result c.read_all.ensures.command c.read_all.ensures.misplaced (c.one_command.ensures.command (map string_bytes c.args.words.now))
 
 pub returns-clause-every_position : goal.returns-clause-every_position
 returns-clause-every_position c =
-    every_position (map string_bytes c.args.words.now) c.read_command.result c.read_command.ensures.command c.read_command.ensures.misplaced
+    every_position (map string_bytes c.args.words.now) c.read_all.result c.read_all.ensures.command c.read_all.ensures.misplaced

@@ -1,7 +1,7 @@
 use Rattle.std.proofs.Common.{arith, sym, subst, ap, ◌≡◌, ◌∙◌, pos, to_z, of_z, w64, FitsSigned}
 use Rattle.std.proofs.lemmas.Int.{ints, to_z-of_z}
 use Rattle.rz_core.specs.Moment.{IsInRange}
-use Rattle.rz_tools_host.proofs.Decimals.{nothing_told}
+use Rattle.rz_tools_host.proofs.NoMoment.{nothing_told}
 use Rattle.rz_tools_host.proofs.epoch.moment_told.Goals as goal
 
 -- src/epoch.rt:11:1

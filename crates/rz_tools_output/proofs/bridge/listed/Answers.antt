@@ -1,6 +1,6 @@
 use Rattle.std.proofs.Common.{◌≡◌, ◌≢◌, [], refl, rules}
 use Rattle.rz_bridge_form.specs.declared.form.Form.TheVariants as forms
-use Rattle.rz_tools_args.specs.Item.{bridge}
+use Rattle.rz_tools_output.specs.Bridge.{bridge}
 use Rattle.rz_tools_output.proofs.Bridging.{two_writes}
 use Rattle.rz_tools_output.proofs.bridge.listed.Goals as goal
 use Rattle.rz_tools_output.proofs.bridge.listed.Goals.{in-AppleDouble, in_default}

@@ -3,7 +3,7 @@ use Rattle.rz_tools_answer.proofs.Warnings.{no_lines}
 use Rattle.rz_tools_answer.specs.Plan.{answer_of, write_of}
 use Rattle.rz_tools_answer.specs.Warning.{IsWarningText}
 use Rattle.rz_tools_answer.specs.WellFormed.{IsWellFormed}
-use Rattle.rz_tools_args.specs.Item.{bridge}
+use Rattle.rz_tools_output.specs.Bridge.{bridge}
 use Rattle.rz_tools_output.proofs.Bridging.{answers_fault, answers_writes}
 use Rattle.rz_tools_output.proofs.bridge.plan_bridge.Goals as goal
 

@@ -1,21 +1,21 @@
 use Rattle.std.proofs.Common.{ap, ◌∙◌}
 use Rattle.std.proofs.lemmas.Result.{err_from_is_err_and}
-use Rattle.rz_bridge_form.specs.Forms.{form_of}
-use Rattle.rz_tools_args.specs.Item.{bridge}
-use Rattle.rz_tools_output.proofs.Bridging.{form_unwrapped, held, not_held}
+use Rattle.rz_bridge_files.specs.Contents.{form_or}
+use Rattle.rz_tools_output.specs.Bridge.{bridge}
+use Rattle.rz_tools_output.proofs.Bridging.{held, not_held}
 use Rattle.rz_tools_output.proofs.bridge.read_held.Goals as goal
 
 pub returns-in_err-file_in-in-Ok-clause-file : goal.returns-in_err-file_in-in-Ok-clause-file
 returns-in_err-file_in-in-Ok-clause-file g c =
     let asked = bridge c.args.words.now in
     let p = err_from_is_err_and c.from_residual.result c.from_residual.ensures.1 in
-    rw (p.1, p.2) (not_held asked c.args.bytes c.in-Ok.data_file (g.F.Folder.files c.args.folder.now) c.unwrap_or-form.result
-    (c.unwrap_or-form.ensures ∙ form_unwrapped asked.from c.args.bytes c.form_of.result (c.form_of.ensures ∙ ap form_of c.as_slice.ensures))
+    rw (p.1, p.2) (not_held asked c.args.bytes c.in-Ok.data_file (g.F.Folder.files c.args.folder.now) c.form_or-form.result
+    (c.form_or-form.ensures ∙ ap (form_or asked.from) c.as_slice.ensures)
     c.as_str.result.now c.as_str.ensures.value c.in-Ok.ensures.data_file c.in_err-file_in-in-Ok.field-0.0 c.in_err-file_in-in-Ok.ensures.file)
 
 pub returns-in_ok-file_in-in-Ok-clause-file : goal.returns-in_ok-file_in-in-Ok-clause-file
 returns-in_ok-file_in-in-Ok-clause-file g c =
     let asked = bridge c.args.words.now in
-    held asked c.args.bytes c.in-Ok.data_file (g.F.Folder.files c.args.folder.now) c.unwrap_or-form.result
-    (c.unwrap_or-form.ensures ∙ form_unwrapped asked.from c.args.bytes c.form_of.result (c.form_of.ensures ∙ ap form_of c.as_slice.ensures))
+    held asked c.args.bytes c.in-Ok.data_file (g.F.Folder.files c.args.folder.now) c.form_or-form.result
+    (c.form_or-form.ensures ∙ ap (form_or asked.from) c.as_slice.ensures)
     c.as_str.result.now c.as_str.ensures.value c.in-Ok.ensures.data_file _ c.in_ok-file_in-in-Ok.ensures.file

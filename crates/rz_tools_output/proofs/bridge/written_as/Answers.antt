@@ -1,6 +1,6 @@
 use Rattle.std.proofs.Common.{map}
 use Rattle.rz_tools_answer.specs.Plan.{write_of}
-use Rattle.rz_tools_args.specs.Item.{bridge}
+use Rattle.rz_tools_output.specs.Bridge.{bridge}
 use Rattle.rz_tools_output.proofs.Bridging.{named_writes}
 use Rattle.rz_tools_output.proofs.bridge.written_as.Goals as goal
 

@@ -1,6 +1,0 @@
-use Rattle.rz_types_table.specs.TypeTable.{table_of}
-use Rattle.rz_tools.proofs.Rows.{known_so}
-use Rattle.rz_tools.proofs.shown.Known.of.Goals as goal
-
-pub returns : goal.returns
-returns c = known_so (table_of c.args.types) c.in_ok-macros.macros c.args.moment c.as_slice.result.now c.args.macros.now c.as_slice.ensures c.in_ok-macros.ensures

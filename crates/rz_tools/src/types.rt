@@ -1,0 +1,70 @@
+//! Type files: the types that they declare, under which resources are shown. What they mean is in `specs/Types`.
+
+ghost use Rattle.std.specs.Prelude.{◌≡◌, [], length, Err, IfOk, IfSome};
+ghost use Rattle.rz_core.specs.Stop.{seen, OnRefusal, Yields};
+ghost use Rattle.rz_core.specs.declared.stop.Halt.TheVariants.{ReadFault};
+ghost use Rattle.rz_folder.specs.OnlyReads.{OnlyReads};
+ghost use Rattle.rz_pre.specs.Lexed.{HaveLexedTexts};
+ghost use Rattle.rz_tools.specs.Held.{compiled_of, types_asked};
+ghost use Rattle.rz_tools.specs.Types.{TypesAre};
+ghost use Rattle.rz_tools_answer.specs.Made.{IsSayable};
+ghost use Rattle.rz_tools_answer.specs.Warning.{AreWarnings};
+
+use crate::sources::{Compiled, compile_program, read_program};
+use rz_core::{FileNames, Halt, Moment, Resources};
+use rz_folder::Folder;
+use rz_pre::{Defs, Tool};
+use rz_tools_answer::Failing;
+use rz_tools_values::Setting;
+use rz_tools_work::Work;
+use std::alloc::Global;
+
+/// The type files that a command is asked for.
+#[derive(Drop)]
+pub struct TypesWords {
+    /// Their names.
+    pub files: FileNames,
+    /// The paths for included files.
+    pub paths: FileNames,
+    /// The definitions.
+    pub defs: Defs,
+    /// Types may be declared again without a warning.
+    pub redeclare: bool,
+}
+
+/// What the type files mean.
+pub fn compile_types<F: Folder>(
+    alloc: Global,
+    folder: &mut F,
+    words: &TypesWords,
+    moment: Moment,
+) -> Result<Compiled, Halt<Failing>>
+    requires { HaveLexedTexts words.now.defs }
+    ensures compiled { IfSome (F.files folder.old) (λ files. Yields (seen compiled_of result) (TypesAre moment (types_asked words.now) files)) }
+    ensures warned { IfOk result (λ compiled. AreWarnings (length compiled.files) compiled.work.warnings) }
+    ensures sayable { OnRefusal result IsSayable }
+    ensures reads { OnlyReads F.files F.read_faults F.write_faults folder.old folder.new (result ≡ Err ReadFault) }
+{
+    let setting = Setting {
+        tool: Tool::DeRez,
+        redeclare: words.redeclare,
+        append: false,
+        over: false,
+        moment,
+    };
+    match read_program(
+        alloc,
+        folder,
+        Tool::DeRez,
+        &words.files,
+        &words.paths,
+        &words.defs,
+    ) {
+        Ok(program) => {
+            let start = Work::begun(alloc, Resources::new(alloc))?;
+            let paths = FileNames::new(alloc);
+            compile_program(alloc, folder, &paths, program, start, setting)
+        }
+        Err(stop) => Err(stop),
+    }
+}

@@ -1,0 +1,4 @@
+pub mod Shown
+pub mod Chosen
+pub mod Text
+pub mod Held

@@ -1,0 +1,132 @@
+//! One resource as text: by a row of its type if there is one, else by its bytes, as `specs/Shown` says.
+
+ghost use Rattle.std.specs.Prelude.{◌≡◌, ◌++◌, ℕ, if◌then◌else◌, List, Some, None, option_map, IfOk, OnOk};
+ghost use Rattle.rz_core.specs.Decided.{Decided};
+ghost use Rattle.rz_show.specs.Hidden.{hides};
+ghost use Rattle.rz_show.specs.Shown.{row_uses};
+ghost use Rattle.rz_tools_text.specs.Held.{known_of, macros_held};
+ghost use Rattle.rz_tools_text.specs.Shown.{declared_for, Shown, TellsRow};
+ghost use Rattle.rz_types.specs.Field.{plain_body};
+ghost use Rattle.rz_types.specs.Template.{template_of};
+ghost use Rattle.rz_types_table.specs.TypeTable.{table_of};
+
+use rz_core::{Bytes, Moment, NoMemory, Resource, Words};
+use rz_show::{Hidden, show_resource, show_row, uses_hidden};
+use rz_types::{Body, Template};
+use rz_types_fields::Row;
+use rz_types_table::TypeTable;
+use rz_unlay::{facts_of, tree_under};
+use std::alloc::Global;
+
+/// What is known where resources are shown.
+#[derive(Drop)]
+pub struct Known {
+    /// The declarations of types.
+    pub types: TypeTable,
+    /// The names that are macros.
+    pub macros: Hidden,
+    /// The moment of the run.
+    pub moment: Moment,
+}
+
+impl Known {
+    /// What is known behind type files: their declarations, and their macros by their names in lower case.
+    pub fn of(
+        alloc: Global,
+        types: TypeTable,
+        macros: &Words,
+        moment: Moment,
+    ) -> Result<Known, NoMemory>
+        ensures { IfOk result (λ known. known_of known ≡ record { types = table_of types; is_macro = macros_held macros.now; moment = moment }) }
+    {
+        let macros = Hidden::of(alloc, macros.as_slice())?;
+        Ok(Known {
+            types,
+            macros,
+            moment,
+        })
+    }
+
+    /// The template that is declared for a resource.
+    fn template_for(&self, resource: &Resource) -> Option<&Template>
+        ensures { option_map (λ template. template_of template.now) result ≡ declared_for (known_of self.now) resource.now }
+    {
+        self.types.find(resource.kind, resource.id)
+    }
+}
+
+/// Appends the text of a resource: the `resource` statement with the row that its bytes tell under the type that is
+/// declared for it, unless the row chooses a case whose name is a macro; and where there is no such row its `data`
+/// statement. (MPW DeRez.)
+pub fn show(
+    alloc: Global,
+    resource: &Resource,
+    known: &Known,
+    into: &mut Bytes,
+) -> Result<(), NoMemory>
+    ensures { OnOk result ((text : List ℕ) × (into.new ≡ into.old ++ text) × Shown (known_of known.now) resource.now text) }
+{
+    match known.template_for(resource) {
+        Some(template) => show_under(alloc, resource, template, known, into),
+        None => show_resource(resource, into),
+    }
+}
+
+/// Appends the text of a resource under the template that is declared for it.
+fn show_under(
+    alloc: Global,
+    resource: &Resource,
+    template: &Template,
+    known: &Known,
+    into: &mut Bytes,
+) -> Result<(), NoMemory>
+    requires { declared_for (known_of known.now) resource.now ≡ Some (template_of template.now) }
+    ensures { OnOk result ((text : List ℕ) × (into.new ≡ into.old ++ text) × Shown (known_of known.now) resource.now text) }
+{
+    let row = row_told(alloc, resource, template, known)?;
+    let fields = template.body();
+    match row {
+        Some(row) => show_row(
+            resource,
+            fields.as_slice(),
+            row.as_slice(),
+            &known.macros,
+            into,
+        ),
+        None => show_resource(resource, into),
+    }
+}
+
+/// The row that the bytes of a resource tell under the template that is declared for it, unless it chooses a case whose
+/// name is a macro.
+fn row_told(
+    alloc: Global,
+    resource: &Resource,
+    template: &Template,
+    known: &Known,
+) -> Result<Option<Row>, NoMemory>
+    requires { declared_for (known_of known.now) resource.now ≡ Some (template_of template.now) }
+    ensures { IfOk result (Decided (TellsRow (known_of known.now) resource.now (template_of template.now))) }
+{
+    let facts = facts_of(alloc, resource, known.moment)?;
+    match tree_under(alloc, Some(template), resource.bytes.as_slice(), &facts)? {
+        Some(row) => unless_hidden(alloc, template.body(), row, known),
+        None => Ok(None),
+    }
+}
+
+/// A row of these fields, unless it chooses a case whose name is a macro.
+fn unless_hidden(
+    alloc: Global,
+    fields: &Body,
+    row: Row,
+    known: &Known,
+) -> Result<Option<Row>, NoMemory>
+    ensures { IfOk result (λ found. found ≡ (if row_uses (hides known.now.macros) (plain_body fields.now) row then None else Some row)) }
+{
+    if uses_hidden(alloc, fields.as_slice(), row.as_slice(), &known.macros)? {
+        Ok(None)
+    } else {
+        Ok(Some(row))
+    }
+}
