@@ -7,5 +7,8 @@ pub mod Expands
 pub mod Freeing
 pub mod LastOne
 pub mod Lexed
+pub mod Onward
+pub mod Tools
 pub mod Unclosed
 pub mod Unfolded
+pub mod Unnamed

@@ -1,3 +1,4 @@
 pub mod Definitions
 pub mod Groups
+pub mod Tools
 pub mod Unfolding

@@ -15,8 +15,9 @@ ghost use Rattle.rz_core.specs.Answers.{Then};
 ghost use Rattle.rz_pre.specs.Line.{is_kept, Does};
 ghost use Rattle.rz_pre.specs.declared.act.Act.{Act};
 ghost use Rattle.rz_pre.specs.declared.conditional.Open.{Open};
-ghost use Rattle.rz_pre.specs.Program.{fails, innermost, open_if, start, IncludedGoes, LinesGo, ProgramGoes, State};
+ghost use Rattle.rz_pre.specs.Program.{fails, innermost, open_if, start, IncludedGoes, LinesGo, NamesGo, ProgramGoes, State};
 ghost use Rattle.rz_pre.specs.declared.program.Failure.{Failure};
+ghost use Rattle.rz_pre_laws.specs.Tools.{AsksNoTool, EachAsksNoTool, NameNoTool, NamesNoTool};
 ghost use Rattle.rz_pre_laws.specs.Unfolding.{behind_all, outcome, EachActs, Entry, ProgramUnfolds};
 ghost use Rattle.rz_pre.specs.declared.condition.Tool.{Tool};
 ghost use Rattle.rz_pre.specs.declared.program.Def.{Def};
@@ -49,6 +50,30 @@ pub fn one_list_of_entries()
     ensures program { (files : Files) (tool : Tool) (names paths : List (List ℕ)) (defs : List Def) (entries : List Entry) (fault : Option Fault)
         → ProgramUnfolds files tool names paths defs entries fault
         → ProgramGoes files tool names paths defs (outcome entries fault (start defs)) }
+{}
+
+/// A law, with nothing to run: files that are named one behind the other are the first of them, and then the others behind
+/// what was read of the first; a fault of the first is that of all.
+pub fn programs_go_on()
+    ensures { (tool : Tool) (files : Files) (paths names others : List (List ℕ)) (s : State) (answer : Result State Failure)
+        → Then (NamesGo tool files paths names s) (λ t. NamesGo tool files paths others t) answer
+        ↔ NamesGo tool files paths (names ++ others) s answer }
+{}
+
+/// A law, with nothing to run: a program means the same to both tools if it is read to its end and no condition that it asks
+/// has one of the words `rez` and `derez` in it, once its questions are answered and its macros are replaced: the same
+/// entries, and so the same tokens, macros and files. So it is if no line that is read has such a word, and no definition
+/// of the words: then its tokens have none either.
+pub fn tools_agree()
+    ensures entries { (files : Files) (names paths : List (List ℕ)) (defs : List Def) (tool other : Tool) (entries : List Entry)
+        → EachAsksNoTool entries (start defs) → ProgramUnfolds files tool names paths defs entries None
+        → ProgramUnfolds files other names paths defs entries None }
+    ensures program { (files : Files) (names paths : List (List ℕ)) (defs : List Def) (tool other : Tool) (state : State)
+        → AsksNoTool files tool names paths defs → ProgramGoes files tool names paths defs (Ok state)
+        → ProgramGoes files other names paths defs (Ok state) }
+    ensures unnamed { (files : Files) (names paths : List (List ℕ)) (defs : List Def) (tool : Tool) → NamesNoTool files tool names paths defs
+        → AsksNoTool files tool names paths defs
+        × ((state : State) → ProgramGoes files tool names paths defs (Ok state) → NameNoTool state.tokens) }
 {}
 
 /// A law, with nothing to run: whatever macros are held, each token has an expansion.

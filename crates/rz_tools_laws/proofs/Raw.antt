@@ -16,9 +16,8 @@ use Rattle.rz_bridge_form.specs.declared.form.Form.{Form}
 use Rattle.rz_bridge_form.specs.declared.form.Form.TheVariants.{Raw}
 use Rattle.rz_fork.specs.Image.{first_limit, image}
 use Rattle.rz_fork.specs.declared.fault.LimitFault.{LimitFault}
-use Rattle.rz_tools_args.specs.Command.{RezAsked}
 use Rattle.rz_tools_output.specs.Base.{attributes_asked, Base}
-use Rattle.rz_tools_output.specs.Output.{file_of, fork_or_fault, form_asked, list_fork, past_limit, IsOutput}
+use Rattle.rz_tools_output.specs.Output.{file_of, fork_or_fault, form_asked, list_fork, past_limit, IsOutput, Target}
 
 -- a fork that passes no limit is the image
 image_of : (limit : Option LimitFault) (whole fork : List ℕ) → Ok fork ≡ fork_or_fault (unless_fault limit whole) → fork ≡ whole
@@ -40,20 +39,20 @@ raw_written : (form : Form) (file : MacFile) (bytes : List ℕ) → form ≡ Raw
 raw_written form file bytes is so =
     same_ok {F = Fault} bytes file.res_fork (subst (λ (form : Form). ◌≡◌ {A = Result (List ℕ) Fault} (Ok bytes) (written_as form file)) is so)
 
-output_image : (asked : RezAsked) (moment : Moment) (base : Base) (list : List Resource) (bytes : List ℕ) → form_asked asked base ≡ Raw → IsOutput asked moment base list (Ok bytes)
-    → bytes ≡ image list (attributes_asked asked base) base.fork.reserved
+output_image : (asked : Target) (moment : Moment) (base : Base) (list : List Resource) (bytes : List ℕ) → form_asked asked base ≡ Raw → IsOutput asked moment base list (Ok bytes)
+    → bytes ≡ image list (attributes_asked asked.read_only base) base.fork.reserved
 output_image asked moment base list bytes is (inl (fork, made, inl (file, named, so))) =
     raw_written (form_asked asked base) file bytes is so
-    ∙ ap (λ (f : MacFile). f.res_fork) (raw_named (form_asked asked base) asked.output (file_of asked moment base.file fork) file is named)
-    ∙ fork_image (attributes_asked asked base) base.fork.reserved list fork made
+    ∙ ap (λ (f : MacFile). f.res_fork) (raw_named (form_asked asked base) asked.name (file_of asked moment base.file fork) file is named)
+    ∙ fork_image (attributes_asked asked.read_only base) base.fork.reserved list fork made
 output_image asked moment base list bytes is (inl (fork, made, inr (fault, named, so))) = absurd (ok_or_err {F = Fault} bytes fault so)
 output_image asked moment base list bytes is (inr (fault, made, so)) = absurd (ok_or_err {F = Fault} bytes fault so)
 
 module _ (found : (list : List Resource) (attributes : ℕ) (reserved : List ℕ) → form_of (image list attributes reserved) ≡ Raw)
-    (asked : RezAsked) (moment : Moment) (base : Base) (list : List Resource) (bytes : List ℕ) (is : form_asked asked base ≡ Raw)
+    (asked : Target) (moment : Moment) (base : Base) (list : List Resource) (bytes : List ℕ) (is : form_asked asked base ≡ Raw)
     (output : IsOutput asked moment base list (Ok bytes)) where
   pub output_found : form_of bytes ≡ Raw
-  output_found = ap form_of (output_image asked moment base list bytes is output) ∙ found list (attributes_asked asked base) base.fork.reserved
+  output_found = ap form_of (output_image asked moment base list bytes is output) ∙ found list (attributes_asked asked.read_only base) base.fork.reserved
 
   pub output_read : file_in None None bytes [] ≡ Ok (raw_file bytes)
   output_read = ap (λ (form : Form). or_broken None (content_of form bytes [])) output_found

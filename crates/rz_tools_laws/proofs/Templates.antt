@@ -26,12 +26,15 @@ use Rattle.rz_types.specs.Field.{PlainBody}
 use Rattle.rz_tools.proofs.EveryMeaning.{steps_so, HoldsOf}
 use Rattle.rz_tools.proofs.EveryResource.{IsKept}
 use Rattle.rz_tools.proofs.Stepping.{lexed_parts}
-use Rattle.rz_tools.specs.DeRez.{derez_around, TypesAre}
-use Rattle.rz_tools.specs.Rez.{around_of}
+use Rattle.rz_tools.specs.DeRez.{derez_asked, DeRezAsked, IsDeRez}
+use Rattle.rz_tools.specs.Rez.{around_of, rez_asked, IsRez, RezAsked}
+use Rattle.rz_tools.specs.Types.{types_around, TypesAre}
 use Rattle.rz_tools.specs.Sources.{compiled, Compiled, HasWork, IsProgramOf}
 use Rattle.rz_tools.specs.Step.{Means, Steps, WarnedFault}
 use Rattle.rz_tools_answer.specs.declared.made.Failing.{Failing}
-use Rattle.rz_tools_args.specs.Command.{DeRez, DeRezAsked, IsCommand, Rez, RezAsked}
+use Rattle.rz_tools_args.specs.Command.{Asked, IsCommand}
+use Rattle.rz_tools_args.specs.Items.{defs_of}
+use Rattle.rz_tools_args.specs.declared.name.CommandName.TheVariants as names
 use Rattle.rz_tools_laws.specs.Templates.{AreTemplates, IsTemplate}
 use Rattle.rz_tools_work.proofs.Numbered.{still_lexed}
 use Rattle.rz_tools_values.specs.Around.{Around}
@@ -49,6 +52,9 @@ abbrev ProgramsAreLexed : Type 0
 ProgramsAreLexed =
     (files : Files) (tool : Tool) (names paths : List (List ℕ)) (defs : List Def) (state : State) → HaveLexedTexts defs
     → ProgramGoes files tool names paths defs (Ok state) → AreLexed state.tokens
+
+abbrev DefinitionsAreLexed : Type 0
+DefinitionsAreLexed = (words : List (List ℕ)) (asked : Asked) → IsCommand words asked → HaveLexedTexts (defs_of asked.items)
 
 -- A statement.
 
@@ -117,27 +123,29 @@ module _ (law : DeclarationsAreShaped) where
       let parts = lexed_parts one behind (subst AreLexed are lexed) in
       (parts.0, subst (λ (ss : List (List Token)). AllByRecursion AreLexed ss) (sym last) tt)
 
-  work_templates : (around : Around) (program : State) (list : List Resource) (made : Compiled) → AreLexed program.tokens → HasWork around list program (Ok made)
+  work_templates : (around : Around) (program : State) (list : List Resource) (made : Compiled) → AreLexed program.tokens → HasWork around (begun list) program (Ok made)
       → AreTemplates made.work.types
   work_templates around program list made lexed (statements, are, (work, means, is)) =
       subst (λ (c : Compiled). AreTemplates c.work.types) (sym is)
       (statements_templates around list statements work (statements_lexed program.tokens statements are lexed) means)
 
   pub sources_templates : ProgramsAreLexed → (around : Around) (names paths : List (List ℕ)) (defs : List Def) (program : State) (list : List Resource) (made : Compiled)
-      → HaveLexedTexts defs → IsProgramOf around names paths defs (Ok program) → HasWork around list program (Ok made) → AreTemplates made.work.types
+      → HaveLexedTexts defs → IsProgramOf around names paths defs (Ok program) → HasWork around (begun list) program (Ok made) → AreTemplates made.work.types
   sources_templates programs around names paths defs program list made lexed goes has =
       work_templates around program list made (programs around.files around.setting.tool names paths defs program lexed goes) has
 
-  pub rez_templates : ProgramsAreLexed → ((words : List (List ℕ)) (asked : RezAsked) → IsCommand words (Rez asked) → HaveLexedTexts asked.defs)
-      → (words : List (List ℕ)) (asked : RezAsked) (files : Files) (moment : Moment) (program : State) (list : List Resource) (made : Compiled) → IsCommand words (Rez asked)
-      → IsProgramOf (around_of moment asked files) asked.files asked.paths asked.defs (Ok program) → HasWork (around_of moment asked files) list program (Ok made)
+  pub rez_templates : ProgramsAreLexed → DefinitionsAreLexed
+      → (words : List (List ℕ)) (asked : RezAsked) (files : Files) (moment : Moment) (program : State) (list : List Resource) (made : Compiled) → IsRez words asked
+      → IsProgramOf (around_of moment asked files) asked.files asked.paths asked.defs (Ok program) → HasWork (around_of moment asked files) (begun list) program (Ok made)
       → AreTemplates made.work.types
   rez_templates programs definitions words asked files moment program list made command goes has =
-      sources_templates programs (around_of moment asked files) asked.files asked.paths asked.defs program list made (definitions words asked command) goes has
+      sources_templates programs (around_of moment asked files) asked.files asked.paths asked.defs program list made
+      (subst (λ (a : RezAsked). HaveLexedTexts a.defs) (sym command.2) (definitions words (record { name = names.Rez; items = command.0 }) command.1)) goes has
 
-  pub derez_templates : ProgramsAreLexed → ((words : List (List ℕ)) (asked : DeRezAsked) → IsCommand words (DeRez asked) → HaveLexedTexts asked.defs)
-      → (words : List (List ℕ)) (asked : DeRezAsked) (files : Files) (moment : Moment) (made : Compiled) → IsCommand words (DeRez asked)
-      → TypesAre moment asked files (Ok made) → AreTemplates made.work.types
+  pub derez_templates : ProgramsAreLexed → DefinitionsAreLexed
+      → (words : List (List ℕ)) (asked : DeRezAsked) (files : Files) (moment : Moment) (made : Compiled) → IsDeRez words asked
+      → TypesAre moment asked.types files (Ok made) → AreTemplates made.work.types
   derez_templates programs definitions words asked files moment made command (inl (program, goes, has)) =
-      sources_templates programs (derez_around moment asked files) asked.files asked.paths asked.defs program [] made (definitions words asked command) goes has
+      sources_templates programs (types_around moment asked.types files) asked.types.files asked.types.paths asked.types.defs program [] made
+      (subst (λ (a : DeRezAsked). HaveLexedTexts a.types.defs) (sym command.2) (definitions words (record { name = names.DeRez; items = command.0 }) command.1)) goes has
   derez_templates programs definitions words asked files moment made command (inr (failing, goes, is)) = absurd (not_both made failing is)

@@ -1,0 +1,8 @@
+use Rattle.rz_stmt_laws.proofs.Ends.{go_on, parsed_ends}
+use Rattle.rz_stmt_laws.proofs.laws.statements_go_on.Goals as goal
+
+pub returns-clause-ended : goal.returns-clause-ended
+returns-clause-ended c = parsed_ends
+
+pub returns-clause-behind : goal.returns-clause-behind
+returns-clause-behind c = go_on
