@@ -55,6 +55,8 @@ class Cases:
         wanted = "rezkit: %s\n" % err if err else ""
         assert line == wanted, (name, line, wanted)
         left = [(file, held) for file, held in after.files.items() if before.get(file) != held]
+        if after.fails:
+            keys = keys + ["fail folder %d" % after.fails] + ["fails never"] * (after.calls < after.fails)
         self.book.case(name, words, before.items(), keys, status, left, gone, out, warned + line)
 
     def rez(self, name, words, *items, files=None, more=None, err="", fails=None, moment=0, room="", gone=(), code=None,
@@ -65,7 +67,7 @@ class Cases:
         before = {file: coded(text_of(given), code) for file, given in every(sources).items()}
         before.update(files or {})
         after = Folder(before, fails)
-        keys = (["moment %d" % moment] * bool(moment) + ["fail folder %s" % fails] * bool(fails) + ["room folder " + room] * bool(room))
+        keys = ["moment %d" % moment] * bool(moment) + ["room folder " + room] * bool(room)
         self.add(name, words, Rez(words.split()[1:], after, sources, moment), before, after, gone, err, keys, warned)
 
     def derez(self, name, words, files, types=None, form=None, err="", fails=None):
@@ -73,8 +75,7 @@ class Cases:
         before = {file: text_of(items) for file, items in (types or {}).items()}
         before.update(files)
         after = Folder(before, fails)
-        keys = ["fail folder %s" % fails] * bool(fails)
-        self.add(name, words, DeRez(words.split()[1:], after, types or {}, form), before, after, (), err, keys)
+        self.add(name, words, DeRez(words.split()[1:], after, types or {}, form), before, after, (), err, [])
 
 
 def every(sources):

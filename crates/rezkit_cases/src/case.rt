@@ -1,5 +1,6 @@
 //! One case: what a run is given, and what it must leave.
 
+use crate::difference::What;
 use std::alloc::Global;
 
 /// One run of a command: what it is given, and what it must leave.
@@ -10,8 +11,8 @@ pub struct Case {
     pub name: String,
     /// The words after the program's name.
     pub words: Vec<String>,
-    /// The moment of the run, in seconds since the first second of 1970.
-    pub moment: i64,
+    /// The moment of the run, in seconds since the first second of 1970, which it is unless the case states another.
+    pub moment: Option<i64>,
     /// The files that are there before the run.
     pub files: Vec<Stored>,
     pub room: Room,
@@ -24,8 +25,8 @@ pub struct Case {
     pub out: Option<Vec<u8>>,
     /// What is wanted on standard error; nothing, unless the case states it.
     pub err: Option<Vec<u8>>,
-    /// In how many places the case is wrong on purpose; in none, unless the case states it.
-    pub wrong: Option<usize>,
+    /// The places in which the case is wrong on purpose; none, unless the case states them.
+    pub wrong: Vec<Place>,
 }
 
 /// A file that is there before the run.
@@ -49,6 +50,19 @@ pub struct Failures {
     pub folder: Option<u64>,
     pub out: Option<Piece>,
     pub err: Option<Piece>,
+    /// That the run makes none of these calls; else it makes each.
+    pub never: bool,
+}
+
+impl Failures {
+    /// The number of the call that is to fail there.
+    pub fn call(&self, target: Target) -> Option<u64> {
+        match target {
+            Target::Folder => self.folder,
+            Target::Out => self.out.map(|piece| piece.call),
+            Target::Err => self.err.map(|piece| piece.call),
+        }
+    }
 }
 
 /// A piece that a stream doesn't take whole.
@@ -60,25 +74,44 @@ pub struct Piece {
     pub taken: u32,
 }
 
-/// The room of the folder and of the two streams.
-#[derive(Clone, Copy, Debug, PartialEq, Eq)]
+/// What has calls and room.
+#[derive(Clone, Copy, PartialEq, Eq)]
+pub enum Target {
+    Folder,
+    Out,
+    Err,
+}
+
+impl Target {
+    pub const ALL: [Target; 3] = [Target::Folder, Target::Out, Target::Err];
+}
+
+/// The room of the folder and of the two streams, where the case states it.
+#[derive(Clone, Copy, Default)]
 pub struct Room {
+    pub folder: Option<FolderRoom>,
+    pub out: Option<u32>,
+    pub err: Option<u32>,
+}
+
+/// The room of a folder.
+#[derive(Clone, Copy)]
+pub struct FolderRoom {
     /// The number of files that can be written.
     pub writes: u32,
     /// The number of bytes for their names and contents.
     pub bytes: u32,
-    pub out: u32,
-    pub err: u32,
 }
 
-impl Room {
-    /// More than a case needs that doesn't speak of room.
-    pub const AMPLE: Room = Room {
-        writes: 100,
-        bytes: 1_000_000,
-        out: 1_000_000,
-        err: 100_000,
-    };
+/// A place in which a run and its case can differ.
+#[derive(Drop)]
+pub enum Place {
+    Status,
+    Out,
+    Err,
+    File(String),
+    /// Whether the call that is to fail there comes.
+    Call(Target),
 }
 
 impl Case {
@@ -88,15 +121,15 @@ impl Case {
             line,
             name,
             words: Vec::new(alloc),
-            moment: 0,
+            moment: None,
             files: Vec::new(alloc),
-            room: Room::AMPLE,
+            room: Room::default(),
             failures: Failures::default(),
             status: None,
             left: Vec::new(alloc),
             out: None,
             err: None,
-            wrong: None,
+            wrong: Vec::new(alloc),
         }
     }
 
@@ -116,5 +149,10 @@ impl Case {
             }
         }
         None
+    }
+
+    /// Whether the case is wrong on purpose there.
+    pub fn is_wrong_in(&self, what: What<'_>) -> bool {
+        self.wrong.iter().any(|place| What::of(place) == what)
     }
 }

@@ -1,16 +1,13 @@
 //! What a run left, compared with what its case wants.
 
-use crate::case::Case;
+use crate::case::{Case, Target};
 use crate::difference::{Difference, Found, What};
 use crate::runner::Ran;
 use crate::trouble::Trouble;
 use std::alloc::Global;
 
-/// The file that `rez` writes where none is named.
-const UNNAMED: &str = "Rez.Out";
-
-/// All that a run left otherwise than its case wants. A folder can't be listed, so the names that are
-/// looked at are those of the case's files, its words, and the name that is written where none is said.
+/// All that a run left or did otherwise than its case wants. The files that are looked at are those of the
+/// case and those that the run wrote; so no other is there.
 pub fn differences<'a>(
     alloc: Global,
     case: &'a Case,
@@ -24,30 +21,30 @@ pub fn differences<'a>(
             came: Found::Number(ran.status),
         })?;
     }
-    for name in &names_of(alloc, case)? {
+    for name in &names_of(alloc, case, ran)? {
         let wanted = found_in(case.wanted(name));
-        let came = found_in(ran.folder.bytes(name));
+        let came = found_in(ran.folder.folder.bytes(name));
         add_difference(&mut found, What::File(name), wanted, came)?;
     }
-    let out = Found::Bytes(ran.out.bytes());
+    let out = Found::Bytes(ran.out.sink.bytes());
     add_difference(&mut found, What::Out, stream_of(&case.out), out)?;
-    let err = Found::Bytes(ran.err.bytes());
+    let err = Found::Bytes(ran.err.sink.bytes());
     add_difference(&mut found, What::Err, stream_of(&case.err), err)?;
+    add_calls(&mut found, case, ran)?;
     Ok(found)
 }
 
 /// The names of the files that are looked at, each once.
-fn names_of(alloc: Global, case: &Case) -> Result<Vec<&str>, Trouble> {
+fn names_of<'a>(alloc: Global, case: &'a Case, ran: &'a Ran) -> Result<Vec<&'a str>, Trouble> {
     let mut names = Vec::new(alloc);
-    names.push(UNNAMED)?;
     for stored in &case.files {
         add_name(&mut names, stored.name.as_str())?;
     }
     for left in &case.left {
         add_name(&mut names, left.name.as_str())?;
     }
-    for word in &case.words {
-        add_name(&mut names, word.as_str())?;
+    for name in &ran.folder.written {
+        add_name(&mut names, name.as_str())?;
     }
     Ok(names)
 }
@@ -72,6 +69,24 @@ fn add_difference<'a>(
     };
     if !same {
         found.push(Difference { what, wanted, came })?;
+    }
+    Ok(())
+}
+
+/// Adds the calls that are to fail and that the run didn't make, or made where it was to make none of them.
+fn add_calls(found: &mut Vec<Difference<'_>>, case: &Case, ran: &Ran) -> Result<(), Trouble> {
+    let wanted = !case.failures.never;
+    for target in Target::ALL {
+        if let Some(call) = case.failures.call(target) {
+            let comes = call <= ran.calls(target);
+            if comes != wanted {
+                found.push(Difference {
+                    what: What::Call(target),
+                    wanted: Found::Comes(wanted),
+                    came: Found::Comes(comes),
+                })?;
+            }
+        }
     }
     Ok(())
 }

@@ -1,5 +1,6 @@
 //! A difference, as it is printed.
 
+use crate::case::{Place, Target};
 use std::fmt;
 
 /// The most bytes that are shown of what was wanted and of what came.
@@ -17,12 +18,26 @@ pub struct Difference<'a> {
 }
 
 /// What differs.
-#[derive(Clone, Copy)]
+#[derive(Clone, Copy, PartialEq, Eq)]
 pub enum What<'a> {
     Status,
     Out,
     Err,
     File(&'a str),
+    Call(Target),
+}
+
+impl<'a> What<'a> {
+    /// What differs in a place.
+    pub fn of(place: &'a Place) -> What<'a> {
+        match place {
+            Place::Status => What::Status,
+            Place::Out => What::Out,
+            Place::Err => What::Err,
+            Place::File(name) => What::File(name.as_str()),
+            Place::Call(target) => What::Call(*target),
+        }
+    }
 }
 
 /// What is wanted or came there.
@@ -31,6 +46,8 @@ pub enum Found<'a> {
     Number(u8),
     NoFile,
     Bytes(&'a [u8]),
+    /// Whether a call comes.
+    Comes(bool),
 }
 
 impl fmt::Display for Difference<'_> {
@@ -70,6 +87,9 @@ impl fmt::Display for What<'_> {
             What::Out => write!(f, "out"),
             What::Err => write!(f, "err"),
             What::File(name) => write!(f, "the file {name:?}"),
+            What::Call(Target::Folder) => write!(f, "the call of the folder that fails"),
+            What::Call(Target::Out) => write!(f, "the piece of out that fails"),
+            What::Call(Target::Err) => write!(f, "the piece of err that fails"),
         }
     }
 }
@@ -86,6 +106,8 @@ impl fmt::Display for Shown<'_> {
         match self.found {
             Found::Number(number) => write!(f, "{number}"),
             Found::NoFile => write!(f, "no file"),
+            Found::Comes(true) => write!(f, "it comes"),
+            Found::Comes(false) => write!(f, "it never comes"),
             Found::Bytes(bytes) => {
                 let count = bytes.len();
                 let from = self.from;

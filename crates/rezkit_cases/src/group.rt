@@ -2,6 +2,7 @@
 
 use crate::case::Case;
 use crate::compare::differences;
+use crate::difference::{Difference, What};
 use crate::reader::read_cases;
 use crate::runner::run_case;
 use crate::tally::Tally;
@@ -62,25 +63,50 @@ fn cases_in<R: Files + AllocGlobal>(rt: &R, name: &str) -> Result<Vec<Case>, Tro
     }
 }
 
-/// Runs a case, prints all that differs, and says whether anything does. A case that is wrong on purpose in so many
-/// places differs where not just so many do.
+/// Runs a case, and says whether it differs: in a place in which it isn't wrong on purpose, or not in one in which it is.
+/// Both are printed.
 fn print_differences<R: AllocGlobal + Print>(rt: &R, name: &str, case: &Case) -> Result<bool> {
     let ran = run_case(rt.alloc(), case)?;
     let found = differences(rt.alloc(), case, &ran)?;
-    let wrong = case.wrong.unwrap_or(0);
-    if found.len() == wrong {
-        return Ok(false);
-    }
+    let differs = print_unmeant(rt, name, case, &found)?;
+    Ok(print_missing(rt, name, case, &found)? || differs)
+}
+
+/// Prints the differences that aren't on purpose, and says whether there is one.
+fn print_unmeant<R: Print>(
+    rt: &R,
+    name: &str,
+    case: &Case,
+    found: &[Difference<'_>],
+) -> Result<bool> {
     let line = case.line;
     let title = case.name.as_str();
-    for difference in &found {
-        println!(rt; "{name}:{line}: {title}: {difference}")?;
+    let mut differs = false;
+    for difference in found {
+        if !case.is_wrong_in(difference.what) {
+            println!(rt; "{name}:{line}: {title}: {difference}")?;
+            differs = true;
+        }
     }
-    if wrong > 0 {
-        let count = found.len();
-        println!(rt;
-            "{name}:{line}: {title}: {count} places differ, and {wrong} are wrong on purpose"
-        )?;
+    Ok(differs)
+}
+
+/// Prints the places in which the case is wrong on purpose and that don't differ, and says whether there is one.
+fn print_missing<R: Print>(
+    rt: &R,
+    name: &str,
+    case: &Case,
+    found: &[Difference<'_>],
+) -> Result<bool> {
+    let line = case.line;
+    let title = case.name.as_str();
+    let mut differs = false;
+    for place in &case.wrong {
+        let what = What::of(place);
+        if !found.iter().any(|difference| difference.what == what) {
+            println!(rt; "{name}:{line}: {title}: {what} is wrong on purpose, and doesn't differ")?;
+            differs = true;
+        }
     }
-    Ok(true)
+    Ok(differs)
 }

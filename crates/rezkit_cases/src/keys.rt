@@ -1,10 +1,14 @@
 //! What each key of an entry says of its case. A new key is an arm here, and a line of the README.
 
-use crate::case::{Case, Left, Piece, Stored};
+use crate::case::{Case, FolderRoom, Left, Piece, Place, Stored, Target};
 use crate::content::{append_bytes, content_of};
+use crate::difference::What;
 use crate::entry::Entry;
 use crate::trouble::Trouble;
 use std::alloc::Global;
+
+/// What is wrong with an entry that says again what the case has said.
+const TWICE: &str = "the case states this twice";
 
 /// Adds what an entry says to its case.
 pub fn add_entry(alloc: Global, case: &mut Case, entry: &Entry<'_>) -> Result<(), Trouble> {
@@ -34,19 +38,17 @@ fn add_plain(alloc: Global, case: &mut Case, entry: &Entry<'_>) -> Result<(), Tr
         }
         "word-bytes" => add_spelled_word(alloc, case, entry),
         "moment" => {
-            case.moment = given(entry.argument.parse::<i64>().ok(), entry)?;
-            Ok(())
+            let moment = given(entry.argument.parse::<i64>().ok(), entry)?;
+            set_once(&mut case.moment, moment, entry)
         }
         "fail" => add_failure(case, entry),
+        "fails" => set_never(case, entry),
         "room" => add_room(case, entry),
         "status" => {
             let status = given(entry.argument.parse::<u8>().ok(), entry)?;
             set_once(&mut case.status, status, entry)
         }
-        "differs" => {
-            let places = given(entry.argument.parse::<usize>().ok(), entry)?;
-            set_once(&mut case.wrong, places, entry)
-        }
+        "differs" => add_wrong(alloc, case, entry),
         "gone" => push_left(alloc, case, entry.argument, None, entry),
         _ => Err(entry.flaw("there is no such key")),
     }
@@ -78,7 +80,7 @@ fn add_file(alloc: Global, case: &mut Case, entry: &Entry<'_>) -> Result<(), Tro
     let (kind, name) = kind_and_name(entry);
     for stored in &case.files {
         if stored.name.as_str() == name {
-            return Err(entry.flaw("the case states this twice"));
+            return Err(entry.flaw(TWICE));
         }
     }
     case.files.push(Stored {
@@ -105,7 +107,7 @@ fn push_left(
 ) -> Result<(), Trouble> {
     for left in &case.left {
         if left.name.as_str() == name {
-            return Err(entry.flaw("the case states this twice"));
+            return Err(entry.flaw(TWICE));
         }
     }
     let name = String::from_str(alloc, name)?;
@@ -124,39 +126,102 @@ fn kind_and_name<'a>(entry: &Entry<'a>) -> (&'a str, &'a str) {
 /// A call that is to fail: `folder CALL`, `out CALL TAKEN` or `err CALL TAKEN`.
 fn add_failure(case: &mut Case, entry: &Entry<'_>) -> Result<(), Trouble> {
     let mut parts = entry.argument.split_whitespace();
-    let place = parts.next().unwrap_or("");
-    let call = given(
-        parts.next().and_then(|text| text.parse::<u64>().ok()),
-        entry,
-    )?;
-    if place == "folder" {
+    let target = target_of(parts.next().unwrap_or(""), entry)?;
+    let call = parts.next().and_then(|text| text.parse::<u64>().ok());
+    let call = given(call.filter(|call| *call > 0), entry)?;
+    if target == Target::Folder {
         set_once(&mut case.failures.folder, call, entry)?;
         return nothing_more(parts.next(), entry);
     }
     let taken = next_number(parts.next(), entry)?;
     nothing_more(parts.next(), entry)?;
-    match place {
-        "out" => set_once(&mut case.failures.out, Piece { call, taken }, entry),
-        "err" => set_once(&mut case.failures.err, Piece { call, taken }, entry),
-        _ => Err(entry.flaw("what is to fail is none of folder, out and err")),
+    let piece = Piece { call, taken };
+    if target == Target::Out {
+        set_once(&mut case.failures.out, piece, entry)
+    } else {
+        set_once(&mut case.failures.err, piece, entry)
     }
+}
+
+/// That the calls that are to fail never come.
+fn set_never(case: &mut Case, entry: &Entry<'_>) -> Result<(), Trouble> {
+    if entry.argument != "never" {
+        return Err(entry.flaw("of calls that are to fail nothing is said but never"));
+    }
+    if case.failures.never {
+        return Err(entry.flaw(TWICE));
+    }
+    case.failures.never = true;
+    Ok(())
 }
 
 /// The room: `folder WRITES BYTES`, `out BYTES` or `err BYTES`.
 fn add_room(case: &mut Case, entry: &Entry<'_>) -> Result<(), Trouble> {
     let mut parts = entry.argument.split_whitespace();
-    let place = parts.next().unwrap_or("");
-    let room = next_number(parts.next(), entry)?;
-    match place {
-        "folder" => {
-            case.room.writes = room;
-            case.room.bytes = next_number(parts.next(), entry)?;
+    let target = target_of(parts.next().unwrap_or(""), entry)?;
+    let number = next_number(parts.next(), entry)?;
+    match target {
+        Target::Folder => {
+            let bytes = next_number(parts.next(), entry)?;
+            let room = FolderRoom {
+                writes: number,
+                bytes,
+            };
+            set_once(&mut case.room.folder, room, entry)?;
         }
-        "out" => case.room.out = room,
-        "err" => case.room.err = room,
-        _ => return Err(entry.flaw("what has room is none of folder, out and err")),
+        Target::Out => set_once(&mut case.room.out, number, entry)?,
+        Target::Err => set_once(&mut case.room.err, number, entry)?,
     }
     nothing_more(parts.next(), entry)
+}
+
+/// Places in which the case is wrong on purpose: `file NAME`, `fail PLACE`, or any of `status`, `out` and `err`.
+fn add_wrong(alloc: Global, case: &mut Case, entry: &Entry<'_>) -> Result<(), Trouble> {
+    match entry.argument.split_once(' ') {
+        Some(("file", name)) => {
+            let name = String::from_str(alloc, name)?;
+            push_wrong(case, Place::File(name), entry)
+        }
+        Some(("fail", name)) => push_wrong(case, Place::Call(target_of(name, entry)?), entry),
+        _ => add_wrong_words(case, entry),
+    }
+}
+
+fn add_wrong_words(case: &mut Case, entry: &Entry<'_>) -> Result<(), Trouble> {
+    if entry.argument.is_empty() {
+        return Err(entry.flaw("no place is named"));
+    }
+    for word in entry.argument.split_whitespace() {
+        let place = match word {
+            "status" => Place::Status,
+            "out" => Place::Out,
+            "err" => Place::Err,
+            _ => return Err(entry.flaw(
+                "a place is none of status, out, err, file NAME and fail PLACE",
+            )),
+        };
+        push_wrong(case, place, entry)?;
+    }
+    Ok(())
+}
+
+/// A place in which the case is wrong on purpose, of which it must not have spoken yet.
+fn push_wrong(case: &mut Case, place: Place, entry: &Entry<'_>) -> Result<(), Trouble> {
+    if case.is_wrong_in(What::of(&place)) {
+        return Err(entry.flaw(TWICE));
+    }
+    case.wrong.push(place)?;
+    Ok(())
+}
+
+/// What has calls and room, by its name.
+fn target_of(name: &str, entry: &Entry<'_>) -> Result<Target, Trouble> {
+    match name {
+        "folder" => Ok(Target::Folder),
+        "out" => Ok(Target::Out),
+        "err" => Ok(Target::Err),
+        _ => Err(entry.flaw("what is named is none of folder, out and err")),
+    }
 }
 
 /// The number that a part of an argument spells.
@@ -183,7 +248,7 @@ fn given<T>(number: Option<T>, entry: &Entry<'_>) -> Result<T, Trouble> {
 /// Gives a place its value, which it must not have yet.
 fn set_once<T: Drop>(place: &mut Option<T>, value: T, entry: &Entry<'_>) -> Result<(), Trouble> {
     if place.is_some() {
-        return Err(entry.flaw("the case states this twice"));
+        return Err(entry.flaw(TWICE));
     }
     *place = Some(value);
     Ok(())

@@ -17,6 +17,7 @@ mod reader;
 mod runner;
 mod tally;
 mod trouble;
+mod watched;
 
 use crate::group::{case_files, run_group};
 use crate::tally::Tally;

@@ -1,6 +1,6 @@
 //! A case file, read as its cases.
 
-use crate::case::Case;
+use crate::case::{Case, Target};
 use crate::entry::entries;
 use crate::keys::add_entry;
 use crate::trouble::Trouble;
@@ -21,12 +21,28 @@ pub fn read_cases(alloc: Global, text: &str) -> Result<Vec<Case>, Trouble> {
         }
     }
     for case in &cases {
-        if case.status.is_none() {
+        if let Some(what) = flaw_of(case) {
             return Err(Trouble::Malformed {
                 line: case.line,
-                what: "the case states no status",
+                what,
             });
         }
     }
     Ok(cases)
+}
+
+/// What a case leaves out, or says for nothing.
+fn flaw_of(case: &Case) -> Option<&'static str> {
+    let failures = &case.failures;
+    if case.status.is_none() {
+        Some("the case states no status")
+    } else if failures.never
+        && Target::ALL
+            .iter()
+            .all(|target| failures.call(*target).is_none())
+    {
+        Some("no call is named that never comes")
+    } else {
+        None
+    }
 }

@@ -1,7 +1,8 @@
 //! A case is run over a folder and streams in memory.
 
-use crate::case::Case;
+use crate::case::{Case, FolderRoom, Piece, Target};
 use crate::trouble::Trouble;
+use crate::watched::{WatchedFolder, WatchedSink};
 use rz_core::Moment;
 use rz_folder::{MemFolder, MemSink};
 use rz_tools::run;
@@ -10,35 +11,51 @@ use std::alloc::Global;
 /// The most bytes of a file.
 const MOST_BYTES: usize = 100_000_000;
 
+/// The room of a folder of which a case says nothing.
+const AMPLE_FOLDER: FolderRoom = FolderRoom {
+    writes: 100,
+    bytes: 1_000_000,
+};
+
+/// The room of the output where a case says nothing of it.
+const AMPLE_OUT: u32 = 1_000_000;
+
+/// The room of the stream of messages where a case says nothing of it.
+const AMPLE_ERR: u32 = 100_000;
+
 /// What a run left.
 #[derive(Drop)]
 pub struct Ran {
     pub status: u8,
-    pub folder: MemFolder,
-    pub out: MemSink,
-    pub err: MemSink,
+    pub folder: WatchedFolder,
+    pub out: WatchedSink,
+    pub err: WatchedSink,
+}
+
+impl Ran {
+    /// How many calls the run made there.
+    pub fn calls(&self, target: Target) -> u64 {
+        match target {
+            Target::Folder => self.folder.calls,
+            Target::Out => self.out.calls,
+            Target::Err => self.err.calls,
+        }
+    }
 }
 
 /// Runs the command of a case over a folder and two streams in memory.
 pub fn run_case(alloc: Global, case: &Case) -> Result<Ran, Trouble> {
-    let Some(moment) = Moment::of_unix(case.moment) else {
+    let Some(moment) = Moment::of_unix(case.moment.unwrap_or(0)) else {
         return Err(flaw(case, "the moment is outside 1904 to 2039"));
     };
-    let mut folder = folder_of(alloc, case)?;
-    let mut out = MemSink::new(alloc);
-    out.reserve(case.room.out)?;
-    let mut err = MemSink::new(alloc);
-    err.reserve(case.room.err)?;
-    if let Some(call) = case.failures.folder {
-        folder.fail_at(call);
-    }
-    if let Some(piece) = case.failures.out {
-        out.fail_at(piece.call, piece.taken);
-    }
-    if let Some(piece) = case.failures.err {
-        err.fail_at(piece.call, piece.taken);
-    }
+    let mut folder = WatchedFolder::over(alloc, folder_of(alloc, case)?);
+    let failures = &case.failures;
+    let mut out = sink_of(alloc, case.room.out.unwrap_or(AMPLE_OUT), failures.out)?;
+    let mut err = sink_of(alloc, case.room.err.unwrap_or(AMPLE_ERR), failures.err)?;
     let outcome = run(alloc, &case.words, &mut folder, &mut out, &mut err, moment);
+    if folder.is_short {
+        return Err(Trouble::NoMemory);
+    }
     Ok(Ran {
         status: outcome.status(),
         folder,
@@ -50,7 +67,11 @@ pub fn run_case(alloc: Global, case: &Case) -> Result<Ran, Trouble> {
 /// The folder before the run.
 fn folder_of(alloc: Global, case: &Case) -> Result<MemFolder, Trouble> {
     let mut folder = MemFolder::new(alloc);
-    folder.reserve(case.room.writes, case.room.bytes)?;
+    let room = case.room.folder.unwrap_or(AMPLE_FOLDER);
+    folder.reserve(room.writes, room.bytes)?;
+    if let Some(call) = case.failures.folder {
+        folder.fail_at(call);
+    }
     for stored in &case.files {
         if stored.bytes.len() > MOST_BYTES {
             return Err(flaw(case, "a file is too long"));
@@ -58,6 +79,16 @@ fn folder_of(alloc: Global, case: &Case) -> Result<MemFolder, Trouble> {
         folder.insert(stored.name.as_str(), stored.bytes.as_slice())?;
     }
     Ok(folder)
+}
+
+/// A stream before the run.
+fn sink_of(alloc: Global, room: u32, failing: Option<Piece>) -> Result<WatchedSink, Trouble> {
+    let mut sink = MemSink::new(alloc);
+    sink.reserve(room)?;
+    if let Some(piece) = failing {
+        sink.fail_at(piece.call, piece.taken);
+    }
+    Ok(WatchedSink::over(sink))
 }
 
 /// That the case can't be run as it is stated.

@@ -1,0 +1,98 @@
+//! A folder and a stream in memory that count their calls; the folder also keeps the names of the files that are written.
+
+ghost use Rattle.std.specs.Prelude.{Some};
+
+use rz_folder::{Folder, MemFolder, MemSink, Put, Read, Sink, Written};
+use std::alloc::Global;
+
+/// A folder in memory whose calls are counted, and of which it is known which files were written.
+#[derive(Drop)]
+pub struct WatchedFolder {
+    pub folder: MemFolder,
+    /// The number of calls so far, reads and writes together.
+    pub calls: u64,
+    /// The names of the files that were written, in turn.
+    pub written: Vec<String>,
+    /// Whether memory was refused for one of these names.
+    pub is_short: bool,
+}
+
+impl WatchedFolder {
+    /// The folder, before its first call.
+    pub fn over(alloc: Global, folder: MemFolder) -> WatchedFolder {
+        WatchedFolder {
+            folder,
+            calls: 0,
+            written: Vec::new(alloc),
+            is_short: false,
+        }
+    }
+}
+
+impl Folder for WatchedFolder {
+    ghost files = { λ watched. Some watched.folder.files };
+
+    ghost read_faults = { λ watched. watched.folder.read_faults };
+
+    ghost write_faults = { λ watched. watched.folder.write_faults };
+
+    fn read(&mut self, alloc: Global, name: &str) -> Read {
+        self.calls = self.calls.saturating_add(1);
+        self.folder.read(alloc, name)
+    }
+
+    fn write(&mut self, name: &str, bytes: &[u8]) -> Written {
+        self.calls = self.calls.saturating_add(1);
+        let written = self.folder.write(name, bytes);
+        if written == Written::Done && !is_kept(&mut self.written, name) {
+            self.is_short = true;
+        }
+        written
+    }
+
+    fn read_faults(&self) -> u64 {
+        self.folder.read_faults()
+    }
+
+    fn write_faults(&self) -> u64 {
+        self.folder.write_faults()
+    }
+}
+
+/// Keeps a name behind others, where there is memory for it.
+fn is_kept(names: &mut Vec<String>, name: &str) -> bool {
+    match String::from_str(*names.allocator(), name) {
+        Ok(name) => names.push(name).is_ok(),
+        Err(_) => false,
+    }
+}
+
+/// A stream in memory whose pieces are counted.
+#[derive(Drop)]
+pub struct WatchedSink {
+    pub sink: MemSink,
+    /// The number of pieces so far.
+    pub calls: u64,
+}
+
+impl WatchedSink {
+    /// The stream, before its first piece.
+    pub fn over(sink: MemSink) -> WatchedSink {
+        WatchedSink { sink, calls: 0 }
+    }
+}
+
+impl Sink for WatchedSink {
+    ghost written = { λ watched. Some watched.sink.written };
+
+    ghost faults = { λ watched. watched.sink.faults };
+
+    fn put(&mut self, bytes: &[u8]) -> Put {
+        self.calls = self.calls.saturating_add(1);
+        self.sink.put(bytes)
+    }
+
+    fn faults(&self) -> u64 {
+        self.sink.faults()
+    }
+}
