@@ -1,5 +1,5 @@
-//! The program `rezkit`: `start` of `rz_tools_host`, and nothing else. Its stored run shows the fork in `data` as text
-//! and compares that with the file `stdout`, which changes if the text of `derez` does.
+//! The program `rezkit`: `start` of `rz_tools_host`, and nothing else. Its stored run is `sample 2`, by the words
+//! in `args`, and compares the four numbers with the file `stdout`, which change if forks or the text of `derez` do.
 #![tactic(auto)]
 
 use rz_tools_host::start;

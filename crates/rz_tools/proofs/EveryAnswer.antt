@@ -36,6 +36,7 @@ use Rattle.rz_tools_text.specs.Shown.{Known}
 use Rattle.rz_tools_text.specs.Text.{ShowsEach}
 use Rattle.rz_tools_values.specs.Around.{Around}
 use Rattle.rz_tools_args.specs.Command.{places_of, ArePlaces, Asked, IsCommand, IsMisplaced, Item}
+use Rattle.rz_tools.proofs.Sampling.{has_sample}
 use Rattle.rz_tools_args.specs.Syntax.{syntax_of}
 use Rattle.rz_tools_args.specs.declared.name.CommandName.{CommandName}
 use Rattle.rz_tools_args.specs.declared.name.CommandName.TheVariants as names
@@ -144,6 +145,7 @@ module _ (name : (form : Form) (path : List ℕ) (file : MacFile) → Has (Named
       has_answer names.Bridge items files moment places =
           let made = has_bridged data_file (bridge_asked items) files in
           (bridged made.0, (made.0, made.1, refl))
+      has_answer names.Sample items files moment places = has_sample has_rez has_shows (places_of items) moment places
       has_answer names.Help items files moment places = (shown (record { bytes = help_text; said = [] }), refl)
       has_answer names.Version items files moment places = (shown (record { bytes = version_text; said = [] }), refl)
 

@@ -1,3 +1,6 @@
+pub mod SampleRows
+pub mod SampleSteps
+pub mod Sampling
 pub mod OneAnswer
 pub mod Sourced
 pub mod Compiling

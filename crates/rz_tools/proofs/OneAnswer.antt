@@ -15,6 +15,7 @@ use Rattle.rz_pre.specs.declared.program.Failure.{Failure}
 use Rattle.rz_pre.specs.declared.condition.Tool.{Tool}
 use Rattle.rz_pre.specs.declared.program.Def.{Def}
 use Rattle.rz_stmt.specs.Statements.{AreStatements}
+use Rattle.rz_tools.proofs.Sampling.{one_sample}
 use Rattle.rz_tools_args.specs.Command.{places_of, Asked, IsCommand, IsMisplaced, Item}
 use Rattle.rz_tools_args.specs.declared.name.CommandName.{CommandName}
 use Rattle.rz_tools_args.specs.declared.name.CommandName.TheVariants as names
@@ -244,6 +245,7 @@ module _ (cutting : OneCutting) (statement_law : OneStatement) (matching : OneMa
         is.2 ∙ ap (or_refused shown) (once_shows moment (derez_asked items) files is.0 also.0 is.1 also.1) ∙ sym also.2
     one_to names.Bridge items files moment a b is also =
         is.2 ∙ ap bridged (once_bridges named data_file (bridge_asked items) files is.0 also.0 is.1 also.1) ∙ sym also.2
+    one_to names.Sample items files moment a b is also = one_sample once_rez once_shows (places_of items) moment a b is also
     one_to names.Help items files moment a b is also = is ∙ sym also
     one_to names.Version items files moment a b is also = is ∙ sym also
 

@@ -12,6 +12,7 @@ use Rattle.rz_tools.specs.DeRez.{derez_asked, AnswersDeRez, DeRezAsked, IsDeRez}
 use Rattle.rz_tools.specs.Again.{HoldsFile}
 use Rattle.rz_tools.specs.Program.{command, misplaced, Answers, AnswersItems, AnswersTo}
 use Rattle.rz_tools.specs.Rez.{AnswersRez, RezAsked}
+use Rattle.rz_tools.specs.Sample.{AnswersSample}
 use Rattle.rz_tools_output.specs.Bridge.{AnswersBridge, BridgeAsked}
 use Rattle.rz_tools_args.specs.declared.name.CommandName.{CommandName}
 use Rattle.rz_tools_answer.specs.Answer.{misused, Answer, Answered, Making}
@@ -96,6 +97,12 @@ module _ {E : Type 0} (moment : Moment) (before : Option Files) (result : Result
   pub as_bridge : (asked other : BridgeAsked) → asked ≡ other → IfSome before (λ files. IfOk result (λ plan. AnswersBridge asked files (answer_of plan)))
       → IfSome before (λ files. IfOk result (λ plan. AnswersBridge other files (answer_of plan)))
   as_bridge asked other same answers = subst (λ (a : BridgeAsked). IfSome before (λ files. IfOk result (λ plan. AnswersBridge a files (answer_of plan)))) same answers
+
+  pub as_sample : (words others : List (List ℕ)) → others ≡ words → IfOk result (λ plan. AnswersSample words moment (answer_of plan))
+      → IfSome before (λ files. IfOk result (λ plan. AnswersSample others moment (answer_of plan)))
+  as_sample words others same answers =
+      always before (λ files. IfOk result (λ plan. AnswersSample others moment (answer_of plan)))
+      (λ files. subst (λ (ws : List (List ℕ)). IfOk result (λ plan. AnswersSample ws moment (answer_of plan))) (sym same) answers)
 
   pub as_held : (asked other : DeRezAsked) → asked ≡ other
       → IfSome before (λ files. IfSome (finite.get files asked.file) (λ bytes. IfOk result (λ plan. plan.outcome ≡ Done → HoldsFile asked.from bytes)))

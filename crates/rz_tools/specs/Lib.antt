@@ -4,5 +4,7 @@ pub mod Types
 pub mod Held
 pub mod Rez
 pub mod DeRez
+pub mod SampleSource
+pub mod Sample
 pub mod Again
 pub mod Program

@@ -19,6 +19,7 @@ ghost use Rattle.rz_tools_args.specs.declared.name.CommandName.TheVariants.{DeRe
 
 use crate::derez::{DeRezWords, plan_derez};
 use crate::rez::{RezWords, plan_rez};
+use crate::sample::plan_sample;
 use rz_core::{Halt, Moment, Stop};
 use rz_folder::Folder;
 use rz_tools_answer::{Outcome, Plan, help_text, version_text};
@@ -74,6 +75,7 @@ fn answer_command<F: Folder>(
         CommandName::Rez => plan_rez(alloc, folder, &RezWords::of(alloc, command)?, moment),
         CommandName::DeRez => plan_derez(alloc, folder, &DeRezWords::of(alloc, command)?, moment),
         CommandName::Bridge => plan_bridge(alloc, folder, &BridgeWords::of(alloc, &command)?),
+        CommandName::Sample => plan_sample(alloc, command.number(), moment),
         CommandName::Help => Ok(Plan::text(alloc, help_text(alloc)?.as_slice())?),
         CommandName::Version => Ok(Plan::text(alloc, version_text())?),
     }

@@ -13,6 +13,8 @@ mod derez;
 mod laws;
 mod program;
 mod rez;
+mod sample;
+mod sample_source;
 mod sources;
 mod step;
 mod types;

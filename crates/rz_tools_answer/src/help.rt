@@ -37,7 +37,9 @@ fn explanation() -> &'static [u8]
     b"
 rez compiles the sources into one resource fork. derez writes the resources of a fork as
 text to standard output; the files after the fork declare types. bridge writes a file in
-another form. The arguments of each command stand in any order:
+another form. sample compiles a source of its own with COUNT resources, 1 to 5000, shows
+them as text and compiles the text again; it prints COUNT and how many bytes the fork,
+the text and the second fork have. The arguments of each command stand in any order:
   -o NAME         the file that rez or bridge writes; of rez Rez.Out if none is named
   -a              rez starts from the file that has this name, and adds to it
   -ov             protected resources may be replaced, changed and deleted

@@ -9,6 +9,8 @@ pub enum CommandName {
     DeRez,
     /// `bridge`.
     Bridge,
+    /// `sample`.
+    Sample,
     /// `--help`.
     Help,
     /// `--version`.

@@ -39,6 +39,7 @@ pub struct UsageFault {
 ///   the last counts;
 /// - `bridge` with one file, and in whatever order `-to form` and `-o name`, each at least once, and `-from form`; of
 ///   several the last counts;
+/// - `sample` with a number from 1 to 5000, in decimal without a sign or a leading zero;
 /// - `--help` or `--version` alone.
 pub fn read_words<'a>(alloc: Global, words: &'a [String]) -> Result<Command<'a>, Stop<UsageFault>>
     ensures command { IfOk result (λ command. IsCommand (map string_bytes words.now) (asked command)) }

@@ -70,10 +70,11 @@ pub struct Syntax {
 }
 
 /// The commands, in the order in which help tells them.
-pub const COMMANDS: [CommandName; 5] = [
+pub const COMMANDS: [CommandName; 6] = [
     CommandName::Rez,
     CommandName::DeRez,
     CommandName::Bridge,
+    CommandName::Sample,
     CommandName::Help,
     CommandName::Version,
 ];
@@ -136,6 +137,14 @@ pub fn syntax_of(command: CommandName) -> Syntax
             places: Places::Exactly(1),
             needs: &[Flag::Into, Flag::Output],
             usage: "bridge FILE -to FORM -o NAME [-from FORM]\n",
+        },
+        CommandName::Sample => Syntax {
+            name: "sample",
+            flags: &[],
+            switches: &[],
+            places: Places::Count(5000),
+            needs: &[],
+            usage: "sample COUNT\n",
         },
         CommandName::Help => Syntax {
             name: "--help",

@@ -3,13 +3,14 @@ use Rattle.rz_pre.specs.Lexed.{HaveLexedTexts}
 use Rattle.rz_tools_answer.proofs.Warnings.{no_lines}
 use Rattle.rz_tools_answer.specs.Answer.{shown}
 use Rattle.rz_tools_answer.specs.WellFormed.{IsWellFormed}
+use Rattle.rz_tools_args.specs.Command.{places_of}
 use Rattle.rz_tools_args.specs.Held.{items_of}
 use Rattle.rz_tools_args.specs.declared.name.CommandName.TheVariants as names
 use Rattle.rz_tools.specs.DeRez.{derez_asked, DeRezAsked}
 use Rattle.rz_tools.specs.Held.{derez, rez}
 use Rattle.rz_tools.specs.Rez.{rez_asked, RezAsked}
 use Rattle.rz_tools_output.specs.Bridge.{bridge, bridge_asked}
-use Rattle.rz_tools.proofs.Planned.{as_bridge, as_derez, as_held, as_named, as_planned, as_rez}
+use Rattle.rz_tools.proofs.Planned.{as_bridge, as_derez, as_held, as_named, as_planned, as_rez, as_sample}
 use Rattle.rz_tools.proofs.answer.answer_command.Goals as goal
 
 pub plan_rez-requires : goal.plan_rez-requires
@@ -40,6 +41,11 @@ returns-in_ok-of-in-Bridge-clause-answered g c =
     as_named c.args.command.name names.Bridge (items_of c.args.command) c.args.moment c.in-Bridge.is (g.F.Folder.files c.args.folder.now) c.plan_bridge.result
     (as_bridge c.args.moment (g.F.Folder.files c.args.folder.now) c.plan_bridge.result (bridge c.in_ok-of-in-Bridge.field-0) (bridge_asked (items_of c.args.command)) c.in_ok-of-in-Bridge.ensures
     c.plan_bridge.ensures.answered)
+
+pub returns-in-Sample-clause-answered : goal.returns-in-Sample-clause-answered
+returns-in-Sample-clause-answered g c =
+    as_named c.args.command.name names.Sample (items_of c.args.command) c.args.moment c.in-Sample.is (g.F.Folder.files c.args.folder.now) c.plan_sample.result
+    (as_sample c.args.moment (g.F.Folder.files c.args.folder.now) c.plan_sample.result _ (places_of (items_of c.args.command)) c.number.ensures c.plan_sample.ensures.answered)
 
 pub returns-in_ok-text-in-Help-clause-answered : goal.returns-in_ok-text-in-Help-clause-answered
 returns-in_ok-text-in-Help-clause-answered g c =

@@ -1,0 +1,125 @@
+-- A sample, from its steps.
+use Rattle.std.proofs.Common.{◌≡◌, ◌<◌, ◌^◌, ℕ, List, [], ◌∷◌, ◌++◌, Ok, Err, inl, refl, ap, sym, subst, ◌∙◌, length}
+use Rattle.std.specs.Prelude.{codes, IfOk, IsErrAnd}
+use Rattle.std.specs.FinMap as finite
+use Rattle.std.specs.declared.result.Result.{Result}
+use Rattle.rz_core.proofs.Stops.{then_halts, then_yields}
+use Rattle.rz_core.specs.Decimal.{decimal_of}
+use Rattle.rz_core.specs.Stop.{seen, Yields}
+use Rattle.rz_core.specs.declared.moment.Moment.{Moment}
+use Rattle.rz_core.specs.declared.stop.Halt.{Halt}
+use Rattle.rz_core.specs.declared.stop.Halt.TheVariants as halts
+use Rattle.rz_folder.specs.Folder.{Files}
+use Rattle.rz_tools_answer.specs.Answer.{shown, Answer, Making}
+use Rattle.rz_tools_answer.specs.Made.{making_of}
+use Rattle.rz_tools_answer.specs.Plan.{answer_of, EndsIn}
+use Rattle.rz_tools_answer.specs.declared.made.Failing.{Failing}
+use Rattle.rz_tools_answer.specs.declared.made.Made.{Made}
+use Rattle.rz_tools_answer.specs.declared.plan.Plan.{Plan}
+use Rattle.rz_tools.specs.DeRez.{DeRezAsked, Shows}
+use Rattle.rz_tools.specs.Rez.{Compiles, RezAsked}
+use Rattle.rz_tools.specs.Sample.{in_memory, number_line, sample_lines, AnswersSample, CompilesAgain, CompilesSample, IsSampled, IsSampledBehind, IsSampledWith, ShowsSample}
+
+-- Files in memory, and names.
+
+pub one_file : (none shelf : Files) (name piece bytes : List ℕ) → none ≡ finite.empty → piece ≡ bytes → shelf ≡ finite.insert none name piece
+    → shelf ≡ in_memory ((name, bytes) ∷ [])
+one_file none shelf name piece bytes empty is held =
+    held ∙ ap (λ (files : Files). finite.insert files name piece) empty ∙ ap (λ (b : List ℕ). finite.insert finite.empty name b) is
+
+pub two_files : (none first shelf : Files) (name piece bytes other more others : List ℕ) → none ≡ finite.empty → piece ≡ bytes → first ≡ finite.insert none name piece
+    → more ≡ others → shelf ≡ finite.insert first other more → shelf ≡ in_memory ((name, bytes) ∷ (other, others) ∷ [])
+two_files none first shelf name piece bytes other more others empty is held also holds =
+    holds ∙ ap (λ (files : Files). finite.insert files other more) (one_file none first name piece bytes empty is held)
+    ∙ ap (λ (b : List ℕ). finite.insert (in_memory ((name, bytes) ∷ [])) other b) also
+
+pub one_name : (none names : List (List ℕ)) (name : List ℕ) → none ≡ [] → names ≡ none ++ name ∷ [] → names ≡ name ∷ []
+one_name none names name empty is = is ∙ ap (λ (l : List (List ℕ)). l ++ name ∷ []) empty
+
+pub two_names : (none first names : List (List ℕ)) (name other : List ℕ) → none ≡ [] → first ≡ none ++ name ∷ [] → names ≡ first ++ other ∷ [] → names ≡ name ∷ other ∷ []
+two_names none first names name other empty is also = also ∙ ap (λ (l : List (List ℕ)). l ++ other ∷ []) (one_name none first name empty is)
+
+-- what is asked for, and the files, in other words
+pub compiles_so : (moment : Moment) (asked other : RezAsked) (files others : Files) → asked ≡ other → files ≡ others → (result : Result Made (Halt Failing))
+    → Yields (seen making_of result) (Compiles moment asked files) → Yields (seen making_of result) (Compiles moment other others)
+compiles_so moment asked other files others same are result yields =
+    subst (λ (held : Files). Yields (seen making_of result) (Compiles moment other held)) are
+    (subst (λ (one : RezAsked). Yields (seen making_of result) (Compiles moment one files)) same yields)
+
+pub shows_so : (moment : Moment) (asked other : DeRezAsked) (files others : Files) → asked ≡ other → files ≡ others → (result : Result Made (Halt Failing))
+    → Yields (seen making_of result) (Shows moment asked files) → Yields (seen making_of result) (Shows moment other others)
+shows_so moment asked other files others same are result yields =
+    subst (λ (held : Files). Yields (seen making_of result) (Shows moment other held)) are
+    (subst (λ (one : DeRezAsked). Yields (seen making_of result) (Shows moment one files)) same yields)
+
+-- The steps.
+
+-- a call that ends all
+ended : (answers : Result Making Failing → Type 0) (stop : Halt Failing) → Yields {X = Making} (Err stop) answers
+    → (result : Result Made (Halt Failing)) → IsErrAnd result (λ end. end ≡ stop) → Yields (seen making_of result) answers
+ended answers stop stopped (Ok made) is = absurd is
+ended answers stop stopped (Err end) is = subst (λ (one : Halt Failing). Yields {X = Making} (Err one) answers) (sym is) stopped
+
+module _ (count : ℕ) (moment : Moment) (fork : Making) (compiled : CompilesSample count moment (Ok fork)) where
+  behind_fork : (stop : Halt Failing) → Yields {X = Making} (Err stop) (IsSampledBehind count moment fork.bytes) → Yields {X = Making} (Err stop) (IsSampled count moment)
+  behind_fork stop yields =
+      then_yields (CompilesSample count moment) (λ (made : Making). IsSampledBehind count moment made.bytes) fork compiled (Err stop) yields
+
+  -- the fork isn't shown
+  pub text_stopped : (stop : Halt Failing) → Yields {X = Making} (Err stop) (ShowsSample moment fork.bytes)
+      → (result : Result Made (Halt Failing)) → IsErrAnd result (λ end. end ≡ stop) → Yields (seen making_of result) (IsSampled count moment)
+  text_stopped stop stopped =
+      ended (IsSampled count moment) stop
+      (behind_fork stop (then_halts (ShowsSample moment fork.bytes) (λ (page : Making). IsSampledWith count moment fork.bytes page.bytes) stop stopped))
+
+module _ (count : ℕ) (moment : Moment) (fork text : Making) (compiled : CompilesSample count moment (Ok fork)) (showed : ShowsSample moment fork.bytes (Ok text)) where
+  -- the text isn't compiled
+  pub again_stopped : (stop : Halt Failing) → Yields {X = Making} (Err stop) (CompilesAgain moment text.bytes)
+      → (result : Result Made (Halt Failing)) → IsErrAnd result (λ end. end ≡ stop) → Yields (seen making_of result) (IsSampled count moment)
+  again_stopped stop stopped =
+      ended (IsSampled count moment) stop
+      (behind_fork count moment fork compiled stop
+      (then_yields (ShowsSample moment fork.bytes) (λ (page : Making). IsSampledWith count moment fork.bytes page.bytes) text showed (Err stop)
+      (then_halts (CompilesAgain moment text.bytes) (λ again answer. answer ≡ Ok (record { bytes = sample_lines count fork.bytes text.bytes again.bytes; said = [] })) stop stopped)))
+
+  pub again_made : (again : Making) (lines said : List ℕ) → CompilesAgain moment text.bytes (Ok again) → lines ≡ sample_lines count fork.bytes text.bytes again.bytes → said ≡ []
+      → IsSampled count moment (Ok (record { bytes = lines; said = said }))
+  again_made again lines said made are silent =
+      inl (
+        fork,
+        compiled,
+        inl (
+          text,
+          showed,
+          inl (
+            again,
+            made,
+            ap (λ (bytes : List ℕ). Ok (record { bytes = bytes; said = said })) are ∙ ap (λ (none : List ℕ). Ok (record { bytes = sample_lines count fork.bytes text.bytes again.bytes; said = none })) silent,
+          ),
+        ),
+      )
+
+-- the four lines, one behind the other
+pub lines_written : (count counted : ℕ) (fork text again none first second third all : List ℕ) → none ≡ [] → counted ≡ count
+    → first ≡ none ++ number_line (codes "resources ") counted → second ≡ first ++ number_line (codes "fork ") (length fork)
+    → third ≡ second ++ number_line (codes "text ") (length text) → all ≡ third ++ number_line (codes "again ") (length again)
+    → all ≡ sample_lines count fork text again
+unfolding sample_lines
+lines_written count counted fork text again none first second third all empty same one two three four =
+    four ∙ ap (λ l. l ++ number_line (codes "again ") (length again))
+    (three ∙ ap (λ l. l ++ number_line (codes "text ") (length text))
+    (two ∙ ap (λ l. l ++ number_line (codes "fork ") (length fork))
+    (one ∙ ap (λ l. l ++ number_line (codes "resources ") counted) empty ∙ ap (λ (n : ℕ). number_line (codes "resources ") n) same)))
+
+-- The answer.
+
+pub sample_made : (count : ℕ) (moment : Moment) → count < 2 ^ 32 → (making : Making) → IsSampled count moment (Ok making) → (answer : Answer) → answer ≡ shown making
+    → AnswersSample (decimal_of count ∷ []) moment answer
+sample_made count moment few making sampled answer is = (count, (refl, few), (Ok making, sampled, is))
+
+pub sample_stopped : {E : Type 0} (count : ℕ) (moment : Moment) → count < 2 ^ 32 → (stop : Halt Failing) → Yields {X = Making} (Err stop) (IsSampled count moment)
+    → (result : Result Plan E) → IfOk result (λ plan. EndsIn stop (answer_of plan)) → IfOk result (λ plan. AnswersSample (decimal_of count ∷ []) moment (answer_of plan))
+sample_stopped count moment few stop sampled (Err unanswered) ends = tt
+sample_stopped count moment few (halts.Refused failing) sampled (Ok plan) ends = (count, (refl, few), (Err failing, sampled, ends))
+sample_stopped count moment few halts.ReadFault sampled (Ok plan) ends = absurd ends
+sample_stopped count moment few halts.NoMemory sampled (Ok plan) ends = absurd ends

@@ -1,0 +1,181 @@
+//! `sample`: a source of its own is compiled, its fork shown, and the text compiled again. What it answers is in
+//! `specs/Sample`.
+
+ghost use Rattle.std.specs.Prelude.{◌≡◌, ◌∷◌, ◌++◌, ◌<◌, ◌^◌, [], codes, length, IfOk, OnOk, Err};
+ghost use Rattle.std.specs.FinMap as finite;
+ghost use Rattle.rz_core.specs.Decimal.{decimal_of};
+ghost use Rattle.rz_core.specs.Stop.{seen, OnRefusal, Yields};
+ghost use Rattle.rz_core.specs.declared.stop.Halt.TheVariants.{ReadFault};
+ghost use Rattle.rz_tools.specs.Held.{derez, rez};
+ghost use Rattle.rz_tools.specs.Sample.{derez_of, number_line, rez_of, sample_lines, AnswersSample, CompilesAgain, CompilesSample, IsSampled, ShowsSample};
+ghost use Rattle.rz_tools_answer.specs.Made.{making_of, IsSayable};
+ghost use Rattle.rz_tools_answer.specs.Plan.{answer_of, IsNoUsage};
+ghost use Rattle.rz_tools_answer.specs.Warning.{IsWarningText};
+ghost use Rattle.rz_tools_answer.specs.WellFormed.{AreWritable, IsWellFormed};
+
+use crate::derez::{DeRezWords, read_and_show};
+use crate::rez::{RezWords, compile};
+use crate::sample_source;
+use crate::types::TypesWords;
+use rz_core::{Bytes, FileNames, Halt, Listing, Moment, NoMemory, write_decimal};
+use rz_folder::Shelf;
+use rz_pre::Defs;
+use rz_tools_answer::{Failing, Made, Plan};
+use rz_tools_output::Target;
+use std::alloc::Global;
+use std::convert::Infallible;
+
+/// The answer to `sample` of so many resources: four lines, with the number of resources, and with the number of bytes of
+/// their fork, of its text, and of the fork of that text.
+pub fn plan_sample(alloc: Global, count: u32, moment: Moment) -> Result<Plan, Halt<Infallible>>
+    ensures answered { IfOk result (λ plan. AnswersSample (decimal_of count ∷ []) moment (answer_of plan)) }
+    ensures well_formed { IfOk result (λ plan. IsWellFormed (answer_of plan)) }
+    ensures writable { IfOk result (λ plan. AreWritable (answer_of plan).writes) }
+    ensures no_usage { IfOk result (λ plan. IsNoUsage plan.outcome) }
+    ensures quiet { result ≡ Err ReadFault → ⊥ }
+{
+    match sampled(alloc, count, moment) {
+        Ok(lines) => Ok(Plan::shown(alloc, lines)),
+        Err(stop) => Plan::stopped(alloc, stop),
+    }
+}
+
+/// The lines of a sample, or what stopped it.
+fn sampled(alloc: Global, count: u32, moment: Moment) -> Result<Made, Halt<Failing>>
+    ensures lines { Yields (seen making_of result) (IsSampled count moment) }
+    ensures sayable { OnRefusal result IsSayable }
+    ensures warned { IfOk result (λ made. IsWarningText made.said) }
+    ensures quiet { result ≡ Err ReadFault → ⊥ }
+{
+    let fork = compile_source(alloc, count, moment)?;
+    let text = show_fork(alloc, &fork.bytes, moment)?;
+    let again = compile_text(alloc, &text.bytes, moment)?;
+    let bytes = lines(alloc, count, &fork.bytes, &text.bytes, &again.bytes)?;
+    Ok(Made {
+        bytes,
+        said: Bytes::new(alloc),
+    })
+}
+
+/// The fork of the source.
+fn compile_source(alloc: Global, count: u32, moment: Moment) -> Result<Made, Halt<Failing>>
+    ensures made { Yields (seen making_of result) (CompilesSample count moment) }
+    ensures sayable { OnRefusal result IsSayable }
+    ensures quiet { result ≡ Err ReadFault → ⊥ }
+{
+    let source = sample_source::source(alloc, count)?;
+    let mut shelf = Shelf::new(alloc);
+    hold(&mut shelf, "source", source.as_slice())?;
+    let mut files = FileNames::new(alloc);
+    files.push("source")?;
+    compile(alloc, &mut shelf, &rez_words(alloc, files), moment)
+}
+
+/// The text of a fork, under the type of the source.
+fn show_fork(alloc: Global, fork: &Bytes, moment: Moment) -> Result<Made, Halt<Failing>>
+    ensures made { Yields (seen making_of result) (ShowsSample moment fork.now) }
+    ensures sayable { OnRefusal result IsSayable }
+    ensures quiet { result ≡ Err ReadFault → ⊥ }
+{
+    let mut shelf = Shelf::new(alloc);
+    hold(&mut shelf, "fork", fork.as_slice())?;
+    hold(&mut shelf, "types", sample_source::types())?;
+    read_and_show(alloc, &mut shelf, &derez_words(alloc)?, moment)
+}
+
+/// The fork of a text, behind the type of the source.
+fn compile_text(alloc: Global, text: &Bytes, moment: Moment) -> Result<Made, Halt<Failing>>
+    ensures made { Yields (seen making_of result) (CompilesAgain moment text.now) }
+    ensures sayable { OnRefusal result IsSayable }
+    ensures quiet { result ≡ Err ReadFault → ⊥ }
+{
+    let mut shelf = Shelf::new(alloc);
+    hold(&mut shelf, "types", sample_source::types())?;
+    hold(&mut shelf, "text", text.as_slice())?;
+    let mut files = FileNames::new(alloc);
+    files.push("types")?;
+    files.push("text")?;
+    compile(alloc, &mut shelf, &rez_words(alloc, files), moment)
+}
+
+/// Puts a file on a shelf, which takes fewer than 2^32 bytes, as each folder.
+fn hold(shelf: &mut Shelf, name: &str, bytes: &[u8]) -> Result<(), NoMemory>
+    ensures { OnOk result (shelf.new ≡ finite.insert shelf.old name.now bytes.now) }
+{
+    if bytes.len() > u32::MAX as usize {
+        return Err(NoMemory);
+    }
+    shelf.insert(name, bytes)
+}
+
+/// What `rez` is asked for by the names of its sources alone.
+fn rez_words(alloc: Global, files: FileNames) -> RezWords<'static>
+    ensures asked { rez result ≡ rez_of files }
+    ensures defs { result.defs ≡ [] }
+{
+    RezWords {
+        files,
+        paths: FileNames::new(alloc),
+        searches: FileNames::new(alloc),
+        defs: Defs::new(alloc),
+        redeclare: false,
+        append: false,
+        over: false,
+        target: Target {
+            name: "fork",
+            form: None,
+            kind: None,
+            creator: None,
+            read_only: false,
+        },
+    }
+}
+
+/// What `derez` is asked for by the names of the fork and of the file of its type.
+fn derez_words(alloc: Global) -> Result<DeRezWords, NoMemory>
+    ensures asked { IfOk result (λ words. derez words ≡ derez_of (codes "fork") (codes "types")) }
+    ensures defs { IfOk result (λ words. words.types.defs ≡ []) }
+{
+    let mut files = FileNames::new(alloc);
+    files.push("types")?;
+    Ok(DeRezWords {
+        file: "fork".to_string(alloc)?,
+        from: None,
+        only: Listing::new(alloc),
+        skip: Listing::new(alloc),
+        types: TypesWords {
+            files,
+            paths: FileNames::new(alloc),
+            defs: Defs::new(alloc),
+            redeclare: false,
+        },
+    })
+}
+
+/// How many resources there are, and how many bytes the fork, its text and the second fork have.
+fn lines(
+    alloc: Global,
+    count: u32,
+    fork: &Bytes,
+    text: &Bytes,
+    again: &Bytes,
+) -> Result<Bytes, NoMemory>
+    ensures { IfOk result (λ lines. lines ≡ sample_lines count fork.now text.now again.now) }
+{
+    let mut lines = Bytes::new(alloc);
+    write_line(b"resources ", u64::from(count), &mut lines)?;
+    write_line(b"fork ", fork.len(), &mut lines)?;
+    write_line(b"text ", text.len(), &mut lines)?;
+    write_line(b"again ", again.len(), &mut lines)?;
+    Ok(lines)
+}
+
+/// A line: a word and a number.
+fn write_line(word: &[u8], number: u64, into: &mut Bytes) -> Result<(), NoMemory>
+    ensures { OnOk result (into.new ≡ into.old ++ number_line word.now number) }
+{
+    into.append(word)?;
+    write_decimal(number, into)?;
+    into.append(b"\n")?;
+    Ok(())
+}
