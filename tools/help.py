@@ -1,5 +1,6 @@
 #!/usr/bin/env python3
-"""Writes the man page and the completions of rezkit from its help text, the one in crates/rz_tools_answer/src/help.rt.
+"""Writes the man page and the completions of rezkit from its help text: the usage of each command in the table of
+crates/rz_tools_args/src/syntax.rt, and the rest in crates/rz_tools_answer/src/help.rt.
 
     python3 tools/help.py man [TYPES]    the man page rezkit(1); TYPES is the folder in which the type files are installed
     python3 tools/help.py bash           completions for bash
@@ -9,13 +10,16 @@
 
 They go to standard output. The script tools/install makes them when it installs the program, so none is kept in the
 repository, where it could be older than the help text. The status is 1 if the help text isn't as this script reads it:
-each option of the forms of the commands has a row that describes it, and each row is of such an option.
+each option of the forms of the commands has a row that describes it, and each row is of such an option; and the forms
+have the options of the table.
 """
 import os
 import re
 import sys
 
-SOURCE = os.path.join(os.path.dirname(os.path.abspath(__file__)), "..", "crates", "rz_tools_answer", "src", "help.rt")
+CRATES = os.path.join(os.path.dirname(os.path.abspath(__file__)), "..", "crates")
+HELP = os.path.join(CRATES, "rz_tools_answer", "src", "help.rt")
+SYNTAX = os.path.join(CRATES, "rz_tools_args", "src", "syntax.rt")
 OPTION = re.compile(r"(-[a-z]+)(?: ([A-Z]+))?")
 ALONE = {"--help": "writes this help", "--version": "writes the version"}
 
@@ -23,20 +27,24 @@ ALONE = {"--help": "writes this help", "--version": "writes the version"}
 class Help:
     """The parts of the help text.
 
-    forms: of each command what follows it in its form; commands: what each does, in a line; about: what they do, in a
-    paragraph; rows: what stands first in each row of the table, and what the row says; kinds: the forms of a file; files:
-    what is said of them; moment and statuses: what the last two paragraphs say.
+    forms: of each command what follows it in its form; table: of each its options in the table of commands, and whether a
+    value follows; commands: what each does, in a line; about: what they do, in a paragraph; rows: what stands first in
+    each row that describes options, and what the row says; kinds: the forms of a file; files: what is said of them; moment
+    and statuses: what the last two paragraphs say.
     """
 
     def __init__(self):
-        with open(SOURCE, encoding="utf-8") as file:
-            texts = re.findall(r'b"(.*?)"\n}', file.read(), re.S)
-        self.version = texts[1].replace("\\n", "").strip()
-        usage, about, files, moment, statuses = (part.strip("\n") for part in texts[0].split("\n\n"))
-        self.forms = {}
-        for form in re.split(r"(?m)^ *(?:usage: )?rezkit ", usage)[1:]:
-            command, *rest = form.split(None, 1)
-            self.forms[command] = " ".join(" ".join(rest).split())
+        with open(HELP, encoding="utf-8") as file:
+            text, version = re.findall(r'^    b"(.*?)"\n}', file.read(), re.S | re.M)
+        with open(SYNTAX, encoding="utf-8") as file:
+            commands = re.findall(r'name: "(.*?)",(.*?)usage: "(.*?)",\n', file.read(), re.S)
+        self.version = version.replace("\\n", "").strip()
+        about, files, moment, statuses = (part.strip("\n") for part in text.split("\n\n"))
+        self.forms, self.table = {}, {}
+        for command, options, usage in commands:
+            name, *rest = usage.replace("\\n", "").split()
+            self.forms[name] = " ".join(rest)
+            self.table[command] = {(name, sort == "Flag") for name, sort in re.findall(r'\("(-[a-z]+)", (Flag|Switch)::', options)}
         about, rows = about.split("  -", 1)
         about, self.order = " ".join(about.split()).rsplit(". ", 1)
         self.about = about + "."
@@ -58,14 +66,22 @@ class Help:
             found.append((name, takes, self.described[name, takes], bool(again)))
         return found
 
+    def takes_files(self, command):
+        """Whether files stand outside the options of a command."""
+        return re.search(r"\b(FILE|FORK)\b", self.forms[command])
+
     def check(self):
         """Ends the program if an option has no row, or a row no option."""
         given = set()
         for command in self.commands:
             try:
-                given |= {(name, takes) for name, takes, _, _ in self.options(command)}
+                found = {(name, takes) for name, takes, _, _ in self.options(command)}
             except KeyError as missing:
                 sys.exit("help: no row describes %s of %s" % (" ".join(missing.args[0]), command))
+            other = self.table[command] ^ {(name, bool(takes)) for name, takes in found}
+            if other - {("-s", True)} or ("-s", True) in other and command != "derez":
+                sys.exit("help: the form of %s hasn't the options of the table: %s" % (command, other))
+            given |= found
         # The short name of an option of derez stands in a row alone.
         more = set(self.described) - given - {("-s", "TYPE")}
         if more or set(self.forms) != {*self.commands, *ALONE} or len(self.statuses) != 6 or len(self.kinds) != 4:
@@ -127,7 +143,8 @@ def bash(it):
         lines += ["            COMPREPLY=(%s)" % values, "            return ;;"]
     lines += ["    esac", "    case $command in"]
     for command in it.commands:
-        lines += ["        %s) options='%s' ;;" % (command, " ".join(name for name, _, _, _ in it.options(command)))]
+        if it.takes_files(command):
+            lines += ["        %s) options='%s' ;;" % (command, " ".join(name for name, _, _, _ in it.options(command)))]
     lines += ["        *) return ;;", "    esac", "    if [[ $word == -* ]]; then",
               "        COMPREPLY=($(compgen -W \"$options\" -- \"$word\"))", "    else", "        local IFS=$'\\n'",
               "        compopt -o filenames 2>/dev/null", "        COMPREPLY=($(compgen -f -- \"$word\"))", "    fi", "}",
@@ -150,7 +167,7 @@ def zsh(it):
         for name, takes, text, again in it.options(command):
             value = ":%s:%s" % (takes, action[values_of(name, takes)]) if takes else ""
             lines += ["                '%s%s[%s]%s' \\" % ("*" * again, name, plain(text), value)]
-        lines += ["                '*:file:_files' ;;"]
+        lines += ["                '%s' ;;" % ("*:file:_files" if it.takes_files(command) else "1:%s: " % it.forms[command])]
     return lines + ["    esac", "}", "_rezkit \"$@\""]
 
 
@@ -164,6 +181,8 @@ def fish(it):
     for command, text in {**it.commands, **ALONE}.items():
         lines += ["complete -c rezkit -f -n __fish_use_subcommand -a %s -d %s" % (quoted(command), quoted(text))]
     for command in it.commands:
+        if not it.takes_files(command):
+            lines += ["complete -c rezkit -f -n '__fish_seen_subcommand_from %s'" % command]
         for name, takes, text, _ in it.options(command):
             lines += ["complete -c rezkit -n '__fish_seen_subcommand_from %s' -o %s%s -d %s" % (
                 command, name[1:], action[values_of(name, takes)], quoted(text))]
