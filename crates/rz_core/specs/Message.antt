@@ -31,7 +31,7 @@ source_fault number =
     else if number == 115 then Some (codes "WordTooLong")
     else None
 
--- faults of statements, 201 to 222
+-- faults of statements, 201 to 223
 abbrev pub statement_fault : ℕ → Option (List ℕ)
 statement_fault number =
     if number == 201 then Some (codes "Syntax")
@@ -56,6 +56,7 @@ statement_fault number =
     else if number == 220 then Some (codes "ReadOnlyMap")
     else if number == 221 then Some (codes "TooDeep")
     else if number == 222 then Some (codes "BadFormat")
+    else if number == 223 then Some (codes "BadIndex")
     else None
 
 -- faults of type declarations, 230 to 239, and the warning 240
@@ -128,7 +129,7 @@ is_between first last number = nat_le first number && nat_le number last
 
 abbrev pub is_fault : ℕ → Bool
 is_fault number =
-    is_between 101 115 number || is_between 201 222 number || is_between 230 239 number || is_between 301 304 number
+    is_between 101 115 number || is_between 201 223 number || is_between 230 239 number || is_between 301 304 number
     || is_between 401 410 number || is_between 421 428 number || is_between 441 447 number
 
 -- the numbers that have a name: those of faults that refuse, and that of the one warning

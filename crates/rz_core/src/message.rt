@@ -167,6 +167,7 @@ fn statement_fault(number: u16) -> Option<&'static [u8]>
         220 => Some(b"ReadOnlyMap"),
         221 => Some(b"TooDeep"),
         222 => Some(b"BadFormat"),
+        223 => Some(b"BadIndex"),
         _ => None,
     }
 }

@@ -46,6 +46,7 @@ pub const NAMES: &str = r"
 220 => [rezkit: error 220 ReadOnlyMap␊]
 221 => [rezkit: error 221 TooDeep␊]
 222 => [rezkit: error 222 BadFormat␊]
+223 => [rezkit: error 223 BadIndex␊]
 230 => [rezkit: error 230 LabelTwice␊]
 231 => [rezkit: error 231 ArrayTwice␊]
 232 => [rezkit: error 232 CaseTwice␊]
@@ -112,7 +113,7 @@ pub const KEPT: &str = r#"
 fn is_in_table(number: u16) -> bool
     ensures { IsTrue result → is_named number ≡ true }
 {
-    matches!(number, 101..=115 | 201..=222 | 230..=240 | 301..=304 | 401..=410 | 421..=428 | 441..=447)
+    matches!(number, 101..=115 | 201..=223 | 230..=240 | 301..=304 | 401..=410 | 421..=428 | 441..=447)
 }
 
 /// Shows the message line of a fault, with two files.
