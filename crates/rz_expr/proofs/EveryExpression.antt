@@ -8,9 +8,9 @@ use Rattle.rz_core.specs.declared.resource.Word.{Word}
 use Rattle.rz_lex.specs.declared.token.Token.{Token}
 use Rattle.rz_expr.specs.declared.expr.BinaryOp.{BinaryOp}
 use Rattle.rz_expr.specs.declared.words.Function.{Function}
-use Rattle.rz_expr.specs.declared.words.Function.TheVariants.{CountOf, BitField, Data}
-use Rattle.rz_expr.specs.Term.{Term, Constant, RowsOf, BitsAt, OfOne, OfTwo}
-use Rattle.rz_expr.specs.Grammar.{Start, Operand, Prefix, Bracket, Calls, NoStart, After, Operates, Closes, Separates, start_of, after_of, level_of, loosest, argument, Derives, operand, prefixed, grouped, counted, data_at, bits_at, tighter, binary, IsExpression, LongestExpression, NoExpression}
+use Rattle.rz_expr.specs.declared.words.Function.TheVariants.{CountOf, ArrayIndex, BitField, Data}
+use Rattle.rz_expr.specs.Term.{Term, Constant, Named, Indexed, RowsOf, RowNumber, BitsAt, OfOne, OfTwo}
+use Rattle.rz_expr.specs.Grammar.{Start, Operand, Label, Prefix, Bracket, Calls, NoStart, After, Operates, Closes, Separates, Indexes, EndsIndex, start_of, after_of, level_of, loosest, argument, Derives, operand, labelled, indexed, prefixed, grouped, counted, numbered, data_at, bits_at, tighter, binary, IsExpression, LongestExpression, NoExpression}
 use Rattle.rz_core.proofs.EveryCut.{all_three, both, head, tail, one_of, is_nothing, answer_of, one_answer, LongestCut, NoCut, Split, longest_cut, some_of, some_split, parts_few}
 use Rattle.rz_expr.proofs.OneExpression.{one_expression}
 use Rattle.rz_expr.proofs.Scanning.{complete}
@@ -52,6 +52,14 @@ is_comma : (after : After) → Dec (after ≡ Separates)
 is_comma Separates = yes refl
 is_comma other = no (λ is. cc is)
 
+is_index_begin : (after : After) → Dec (after ≡ Indexes)
+is_index_begin Indexes = yes refl
+is_index_begin other = no (λ is. cc is)
+
+is_index_end : (after : After) → Dec (after ≡ EndsIndex)
+is_index_end EndsIndex = yes refl
+is_index_end other = no (λ is. cc is)
+
 -- the name of a function's brackets
 abbrev HasName : Function → Token → Token → Token → Type 0
 HasName function a b c = (word : Word) × (argument function (a ∷ b ∷ c ∷ []) ≡ Some word)
@@ -62,15 +70,16 @@ has_name function a b c = some_of (argument function (a ∷ b ∷ c ∷ []))
 -- What stands behind the first token of an operand.
 
 -- an expression, and the bracket that closes it as the last token
-abbrev Closed : List Token → Token → List Token → Type 0
-Closed front close back = (back ≡ []) × Derived loosest front × (after_of close.shape ≡ Closes)
+abbrev Closed : After → List Token → Token → List Token → Type 0
+Closed end front close back = (back ≡ []) × Derived loosest front × (after_of close.shape ≡ end)
 
 -- an expression, a comma, and then such
 abbrev Started : List Token → Token → List Token → Type 0
-Started front comma back = (after_of comma.shape ≡ Separates) × Derived loosest front × Split Closed back
+Started front comma back = (after_of comma.shape ≡ Separates) × Derived loosest front × Split (Closed Closes) back
 
 abbrev AreArguments : Function → List Token → Type 0
 AreArguments CountOf ts = ts ≡ []
+AreArguments ArrayIndex ts = ts ≡ []
 AreArguments (Data width) ts = ts ≡ []
 AreArguments BitField ts = Split Started ts
 
@@ -80,10 +89,16 @@ AreCalled function (a ∷ []) = ⊥
 AreCalled function (a ∷ b ∷ []) = ⊥
 AreCalled function (a ∷ b ∷ c ∷ ts) = HasName function a b c × AreArguments function ts
 
+-- nothing, or an index
+abbrev AreIndexed : List Token → Type 0
+AreIndexed [] = Unit {0}
+AreIndexed (b ∷ ts) = (after_of b.shape ≡ Indexes) × Split (Closed EndsIndex) ts
+
 abbrev AreBehind : Start → List Token → Type 0
 AreBehind (Operand e) ts = ts ≡ []
+AreBehind (Label name) ts = AreIndexed ts
 AreBehind (Prefix op) ts = Derived 0 ts
-AreBehind Bracket ts = Split Closed ts
+AreBehind Bracket ts = Split (Closed Closes) ts
 AreBehind (Calls function) ts = AreCalled function ts
 AreBehind NoStart ts = ⊥
 
@@ -96,6 +111,9 @@ called_of t (a ∷ b ∷ []) function is never = absurd never
 called_of t (a ∷ b ∷ c ∷ ts) CountOf is (name, none) =
     let term = RowsOf name.0.bytes in
     derived term (subst (λ (us : List Token). Derives 0 (t ∷ a ∷ b ∷ c ∷ us) term) (sym none) (counted is name.1))
+called_of t (a ∷ b ∷ c ∷ ts) ArrayIndex is (name, none) =
+    let term = RowNumber name.0.bytes in
+    derived term (subst (λ (us : List Token). Derives 0 (t ∷ a ∷ b ∷ c ∷ us) term) (sym none) (numbered is name.1))
 called_of t (a ∷ b ∷ c ∷ ts) (Data width) is (name, none) =
     let term = BitsAt name.0.bytes (Constant (pos 0)) (Constant (pos width)) in
     derived term (subst (λ (us : List Token). Derives 0 (t ∷ a ∷ b ∷ c ∷ us) term) (sym none) (data_at is name.1))
@@ -107,8 +125,16 @@ called_of t (a ∷ b ∷ c ∷ ts) BitField is (name, s) =
     derived term (subst (λ (us : List Token). Derives 0 (t ∷ a ∷ b ∷ c ∷ us) term) (sym are)
     (bits_at s.item back.item is name.1 s.is.1.is s.is.0 back.is.1.is back.is.2))
 
+label_of : (t : Token) (ts : List Token) (name : List ℕ) → start_of t.shape ≡ Label name → AreIndexed ts → Derived 0 (t ∷ ts)
+label_of t [] name is none = derived (Named name) (labelled is)
+label_of t (b ∷ ts) name is (begins, s) =
+    let term = Indexed name s.is.1.term in
+    let are : ts ≡ s.front ++ s.item ∷ [] = s.are ∙ ap (λ (us : List Token). s.front ++ s.item ∷ us) s.is.0 in
+    derived term (subst (λ (us : List Token). Derives 0 (t ∷ b ∷ us) term) (sym are) (indexed b s.item is begins s.is.1.is s.is.2))
+
 operand_of : (t : Token) (ts : List Token) (start : Start) → start_of t.shape ≡ start → AreBehind start ts → Derived 0 (t ∷ ts)
 operand_of t ts (Operand e) is none = derived e (subst (λ (us : List Token). Derives 0 (t ∷ us) e) (sym none) (operand is))
+operand_of t ts (Label name) is are = label_of t ts name is are
 operand_of t ts (Prefix op) is d = derived (OfOne op d.term) (prefixed is d.is)
 operand_of t ts Bracket is s =
     let are : ts ≡ s.front ++ s.item ∷ [] = s.are ∙ ap (λ (us : List Token). s.front ++ s.item ∷ us) s.is.0 in
@@ -127,18 +153,21 @@ record Begun (ts : List Token) : Type 0 where
 begun_by : (t : Token) (ts : List Token) (start : Start) → start_of t.shape ≡ start → AreBehind start ts → Begun (t ∷ ts)
 begun_by t ts start is behind = record { first = t; rest = ts; are = refl; behind = subst (λ (s : Start). AreBehind s ts) (sym is) behind }
 
-closed : (front : List Token) (close : Token) (term : Term) → Derives loosest front term → after_of close.shape ≡ Closes → Split Closed (front ++ close ∷ [])
-closed front close term is closes = record { front = front; item = close; back = []; are = refl; is = (refl, derived term is, closes) }
+closed : (end : After) (front : List Token) (close : Token) (term : Term) → Derives loosest front term → after_of close.shape ≡ end → Split (Closed end) (front ++ close ∷ [])
+closed end front close term is closes = record { front = front; item = close; back = []; are = refl; is = (refl, derived term is, closes) }
 
 begun : {ts : List Token} {term : Term} → Derives 0 ts term → Begun ts
 begun (operand {t} {e} is) = begun_by t [] (Operand e) is refl
+begun (labelled {t} {name} is) = begun_by t [] (Label name) is tt
+begun (indexed {t} {name} {ts} {e} bracket close is begins more closes) = begun_by t (bracket ∷ (ts ++ close ∷ [])) (Label name) is (begins, closed EndsIndex ts close e more closes)
 begun (prefixed {t} {ts} {op} {e} is more) = begun_by t ts (Prefix op) is (derived e more)
-begun (grouped {t} {ts} {e} close is more closes) = begun_by t (ts ++ close ∷ []) Bracket is (closed ts close e more closes)
+begun (grouped {t} {ts} {e} close is more closes) = begun_by t (ts ++ close ∷ []) Bracket is (closed Closes ts close e more closes)
 begun (counted {t} {a} {b} {c} {word} is name) = begun_by t (a ∷ b ∷ c ∷ []) (Calls CountOf) is ((word, name), refl)
+begun (numbered {t} {a} {b} {c} {word} is name) = begun_by t (a ∷ b ∷ c ∷ []) (Calls ArrayIndex) is ((word, name), refl)
 begun (data_at {t} {a} {b} {c} {word} {width} is name) = begun_by t (a ∷ b ∷ c ∷ []) (Calls (Data width)) is ((word, name), refl)
 begun (bits_at {t} {a} {b} {c} {word} {xs} {ys} {start} {width} comma close is name left separates right closes) =
     begun_by t (a ∷ b ∷ c ∷ (xs ++ comma ∷ (ys ++ close ∷ []))) (Calls BitField) is
-    ((word, name), record { front = xs; item = comma; back = ys ++ close ∷ []; are = refl; is = (separates, derived start left, closed ys close width right closes) })
+    ((word, name), record { front = xs; item = comma; back = ys ++ close ∷ []; are = refl; is = (separates, derived start left, closed Closes ys close width right closes) })
 
 behind_of : (t : Token) (ts : List Token) → Derived 0 (t ∷ ts) → AreBehind (start_of t.shape) ts
 behind_of t ts d = by (begun d.is)
@@ -176,13 +205,13 @@ parts_of level ts d = outermost d.is
 -- Fewer tokens first, and of as many the tighter levels.
 
 module _ (n : ℕ) (fewer : (ts : List Token) → length ts ≤ n → (level : ℕ) → Dec (Derived level ts)) where
-  is_closed : (ts : List Token) → length ts ≤ n → Dec (Split Closed ts)
-  is_closed ts few = some_split Closed ts at
+  is_closed : (end : After) → ((after : After) → Dec (after ≡ end)) → (ts : List Token) → length ts ≤ n → Dec (Split (Closed end) ts)
+  is_closed end is_end ts few = some_split (Closed end) ts at
     where
-      at : (front : List Token) (close : Token) (back : List Token) → ts ≡ front ++ close ∷ back → Dec (Closed front close back)
+      at : (front : List Token) (close : Token) (back : List Token) → ts ≡ front ++ close ∷ back → Dec (Closed end front close back)
       at front close back are =
           let short = parts_few n ts front close back are (omega (arith, few)) in
-          all_three (is_nothing back) (fewer front short.0 loosest) (is_close (after_of close.shape))
+          all_three (is_nothing back) (fewer front short.0 loosest) (is_end (after_of close.shape))
 
   is_started : (ts : List Token) → length ts ≤ n → Dec (Split Started ts)
   is_started ts few = some_split Started ts at
@@ -190,10 +219,11 @@ module _ (n : ℕ) (fewer : (ts : List Token) → length ts ≤ n → (level : �
       at : (front : List Token) (comma : Token) (back : List Token) → ts ≡ front ++ comma ∷ back → Dec (Started front comma back)
       at front comma back are =
           let short = parts_few n ts front comma back are (omega (arith, few)) in
-          all_three (is_comma (after_of comma.shape)) (fewer front short.0 loosest) (is_closed back short.1)
+          all_three (is_comma (after_of comma.shape)) (fewer front short.0 loosest) (is_closed Closes is_close back short.1)
 
   are_arguments : (function : Function) (ts : List Token) → length ts ≤ n → Dec (AreArguments function ts)
   are_arguments CountOf ts few = is_nothing ts
+  are_arguments ArrayIndex ts few = is_nothing ts
   are_arguments (Data width) ts few = is_nothing ts
   are_arguments BitField ts few = is_started ts few
 
@@ -203,10 +233,15 @@ module _ (n : ℕ) (fewer : (ts : List Token) → length ts ≤ n → (level : �
   are_called function (a ∷ b ∷ []) few = no (λ never. never)
   are_called function (a ∷ b ∷ c ∷ ts) few = both (has_name function a b c) (are_arguments function ts (omega (arith, few)))
 
+  are_indexed : (ts : List Token) → length ts ≤ n → Dec (AreIndexed ts)
+  are_indexed [] few = yes tt
+  are_indexed (b ∷ ts) few = both (is_index_begin (after_of b.shape)) (is_closed EndsIndex is_index_end ts (omega (arith, few)))
+
   are_behind : (start : Start) (ts : List Token) → length ts ≤ n → Dec (AreBehind start ts)
   are_behind (Operand e) ts few = is_nothing ts
+  are_behind (Label name) ts few = are_indexed ts few
   are_behind (Prefix op) ts few = fewer ts few 0
-  are_behind Bracket ts few = is_closed ts few
+  are_behind Bracket ts few = is_closed Closes is_close ts few
   are_behind (Calls function) ts few = are_called function ts few
   are_behind NoStart ts few = no (λ never. never)
 

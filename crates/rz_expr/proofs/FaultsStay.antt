@@ -3,11 +3,11 @@ use Rattle.std.proofs.Common.{◌≡◌, ℕ, ℤ, pos, Bool, true, false, ◌||
 use Rattle.std.specs.Prelude.{◌+ℤ◌, if◌then◌else◌, int_lt}
 use Rattle.std.proofs.lemmas.Bool.{false≢true}
 use Rattle.rz_core.specs.Stop.{◌>>=◌}
-use Rattle.rz_expr.specs.Environment.{Sight, IsSeenIn, place_key, count_key}
-use Rattle.rz_expr.specs.Term.{Term, Constant, Named, RowsOf, BitsAt, FactOf, OfOne, OfTwo}
-use Rattle.rz_expr.specs.Value.{known_value, known_bits, stays, value_of}
+use Rattle.rz_expr.specs.Environment.{Sight, IsSeenIn, place_key, count_key, rows_key, place_in_key, row_key}
+use Rattle.rz_expr.specs.Term.{Term, Constant, Named, Indexed, RowsOf, RowNumber, BitsAt, FactOf, OfOne, OfTwo}
+use Rattle.rz_expr.specs.Value.{known_value, known_bits, place_in_row, stays, value_of}
 use Rattle.rz_expr.specs.declared.value.EvalFault.{EvalFault}
-use Rattle.rz_expr.specs.declared.value.EvalFault.TheVariants.{UnknownName, LaterData, DataWidth}
+use Rattle.rz_expr.specs.declared.value.EvalFault.TheVariants.{UnknownName, BadIndex, LaterData, DataWidth}
 use Rattle.rz_expr.proofs.Grows.{name_grows, value_grows}
 
 -- a chain of which the first link has a fault that stays, or the rest has it for a value that stays
@@ -37,14 +37,27 @@ bits_fail : (first width : ℤ) (known finished : Option ℤ) (fault : EvalFault
 bits_fail first width (Some x) finished fault stay is = absurd cc
 bits_fail first width None finished fault stay is = absurd (later_never first (first +ℤ width) fault stay (same_fault (LaterData first (first +ℤ width)) fault is))
 
-within : (test : Bool) (width : ℤ) (some other : Result ℤ EvalFault) (fault : EvalFault) → (some ≡ Err fault → other ≡ Err fault)
-    → (if test then Err (DataWidth width) else some) ≡ Err fault → (if test then Err (DataWidth width) else other) ≡ Err fault
-within true width some other fault more is = is
-within false width some other fault more is = more is
+within : (test : Bool) (own : EvalFault) (some other : Result ℤ EvalFault) (fault : EvalFault) → (some ≡ Err fault → other ≡ Err fault)
+    → (if test then Err own else some) ≡ Err fault → (if test then Err own else other) ≡ Err fault
+within true own some other fault more is = is
+within false own some other fault more is = more is
+
+-- a label whose rows aren't known has no such fault
+row_fails : (name : List ℕ) (known finished : Sight) → IsSeenIn known finished → (number : ℤ) (rows other : Option ℤ) → ((count : ℤ) → rows ≡ Some count → other ≡ Some count)
+    → (fault : EvalFault) → stays fault ≡ true → place_in_row name known.names number rows ≡ Err fault → place_in_row name finished.names number other ≡ Err fault
+row_fails name known finished seen number (Some rows) other more fault stay is =
+    ap (place_in_row name finished.names number) (more rows refl)
+    ∙ within (int_lt number (pos 1) || int_lt rows number) (BadIndex number) _ _ fault
+    (name_fails name (known.names.give (place_in_key name number)) (finished.names.give (place_in_key name number)) fault stay) is
+row_fails name known finished seen number None other more fault stay is = absurd (unknown_never name fault stay (same_fault (UnknownName (record { bytes = name })) fault is))
 
 fails_so : (term : Term) (known finished : Sight) → IsSeenIn known finished → (fault : EvalFault) → stays fault ≡ true → value_of term known ≡ Err fault → value_of term finished ≡ Err fault
 fails_so (Constant number) known finished seen fault stay is = absurd cc
 fails_so (Named name) known finished seen fault stay is = name_fails name (known.names.give (place_key name)) (finished.names.give (place_key name)) fault stay is
+fails_so (Indexed name index) known finished seen fault stay is =
+    failing (value_of index known) (value_of index finished) _ _ fault (value_grows known finished seen index) (fails_so index known finished seen fault stay)
+    (λ number. row_fails name known finished seen number (known.names.give (rows_key name)) (finished.names.give (rows_key name)) (seen.names.give (rows_key name)) fault stay) is
+fails_so (RowNumber name) known finished seen fault stay is = name_fails name (known.names.give (row_key name)) (finished.names.give (row_key name)) fault stay is
 fails_so (RowsOf name) known finished seen fault stay is = name_fails name (known.names.give (count_key name)) (finished.names.give (count_key name)) fault stay is
 fails_so (BitsAt name start width) known finished seen fault stay is =
     failing (known_value name (known.names.give (place_key name))) (known_value name (finished.names.give (place_key name))) _ _ fault
@@ -52,7 +65,7 @@ fails_so (BitsAt name start width) known finished seen fault stay is =
     (name_fails name (known.names.give (place_key name)) (finished.names.give (place_key name)) fault stay)
     (λ place. failing (value_of start known) (value_of start finished) _ _ fault (value_grows known finished seen start) (fails_so start known finished seen fault stay)
     (λ behind. failing (value_of width known) (value_of width finished) _ _ fault (value_grows known finished seen width) (fails_so width known finished seen fault stay)
-    (λ size. within (int_lt size (pos 1) || int_lt (pos 32) size) size _ _ fault
+    (λ size. within (int_lt size (pos 1) || int_lt (pos 32) size) (DataWidth size) _ _ fault
     (bits_fail (place +ℤ behind) size (known.bits (place +ℤ behind) size) (finished.bits (place +ℤ behind) size) fault stay)))) is
 fails_so (FactOf which) known finished seen fault stay is = absurd cc
 fails_so (OfOne op operand) known finished seen fault stay is =

@@ -1,5 +1,5 @@
 -- An expression without names never lacks the value of a name.
-use Rattle.std.proofs.Common.{◌≡◌, ℕ, ℤ, pos, negsuc, Bool, true, false, ◌||◌, Result, Ok, Err, refl, sym, subst}
+use Rattle.std.proofs.Common.{◌≡◌, ℕ, ℤ, pos, negsuc, Bool, true, false, Result, Ok, Err, sym, subst}
 use Rattle.std.specs.Prelude.{◌*ℤ◌, ◌^◌, if◌then◌else◌, int_div, int_rem, nat_lt}
 use Rattle.std.specs.Int.{int_shr}
 use Rattle.std.proofs.lemmas.Bool.{or_parts}
@@ -8,7 +8,7 @@ use Rattle.rz_core.specs.declared.stop.Stop.{Stop}
 use Rattle.rz_core.specs.declared.stop.Stop.TheVariants.{NoMemory}
 use Rattle.rz_expr.specs.Unvalued.{IsCopyOf}
 use Rattle.rz_expr.specs.Environment.{Sight}
-use Rattle.rz_expr.specs.Term.{Term, Constant, Named, RowsOf, BitsAt, FactOf, OfOne, OfTwo, has_names}
+use Rattle.rz_expr.specs.Term.{Term, Constant, Named, Indexed, RowsOf, RowNumber, BitsAt, FactOf, OfOne, OfTwo, has_names}
 use Rattle.rz_expr.specs.Value.{divided, is_zero, operate, operate_one, reduced, shifted, value_of, IsUnknown}
 use Rattle.rz_expr.specs.declared.expr.BinaryOp.{BinaryOp}
 use Rattle.rz_expr.specs.declared.expr.BinaryOp.TheVariants as two
@@ -57,7 +57,9 @@ operate_known two.Or left right is = is
 pub nameless : (term : Term) (sight : Sight) → has_names term ≡ false → IsUnknown (value_of term sight) → ⊥
 nameless (Constant number) sight is known = known
 nameless (Named name) sight is known = cc
+nameless (Indexed name index) sight is known = cc
 nameless (RowsOf name) sight is known = cc
+nameless (RowNumber name) sight is known = cc
 nameless (BitsAt name start width) sight is known = cc
 nameless (FactOf which) sight is known = known
 nameless (OfOne op operand) sight is known = chained (value_of operand sight) (λ value. Ok (operate_one op value)) (nameless operand sight is) (λ x later. later) known

@@ -1,5 +1,6 @@
 -- Tokens are one expression at most.
-use Rattle.std.proofs.Common.{◌≡◌, ◌≢◌, ℕ, suc, ◌<◌, ◌≤◌, List, [], ◌∷◌, ◌++◌, drop, Option, Some, None, Result, Ok, Err, inl, inr, refl, sym, ap, ◌∙◌, subst, arith, append_assoc, pos}
+use Rattle.std.proofs.Common.{◌≡◌, ◌≢◌, ℕ, suc, ◌<◌, ◌≤◌, false, List, [], ◌∷◌, ◌++◌, drop, Option, Some, None, Result, Ok, Err, inl, inr, refl, sym, ap, ◌∙◌, subst, arith, append_assoc, pos}
+use Rattle.std.proofs.lemmas.Bool.{false≢true}
 use Rattle.std.proofs.lemmas.Bool.Decides.{nat_tests}
 use Rattle.std.proofs.lemmas.List.{append-nil}
 use Rattle.std.specs.Prelude.{IfOk, MatchOption}
@@ -8,11 +9,11 @@ use Rattle.rz_core.specs.declared.stop.NoMemory.{NoMemory}
 use Rattle.rz_lex.specs.declared.token.Token.{Token}
 use Rattle.rz_expr.specs.declared.expr.UnaryOp.{UnaryOp}
 use Rattle.rz_expr.specs.declared.expr.BinaryOp.{BinaryOp}
-use Rattle.rz_expr.specs.declared.words.Function.TheVariants.{CountOf, BitField, Data}
+use Rattle.rz_expr.specs.declared.words.Function.TheVariants.{CountOf, ArrayIndex, BitField, Data}
 use Rattle.rz_expr.specs.declared.read.ReadExpr.{ReadExpr}
-use Rattle.rz_expr.specs.Term.{Term, Constant, RowsOf, BitsAt, OfOne, OfTwo, term_of}
-use Rattle.rz_expr.specs.Grammar.{Start, Operand, Prefix, Bracket, Calls, After, Operates, Closes, Separates, start_of, after_of, level_of, loosest, argument, Derives, operand, prefixed, grouped, counted, data_at, bits_at, tighter, binary, IsExpression, LongestExpression, NoExpression}
-use Rattle.rz_expr.specs.Reading.{operator_of, at_level, operator_at}
+use Rattle.rz_expr.specs.Term.{Term, Constant, Named, Indexed, RowsOf, RowNumber, BitsAt, OfOne, OfTwo, term_of}
+use Rattle.rz_expr.specs.Grammar.{Start, Operand, Label, Prefix, Bracket, Calls, After, Operates, Closes, Separates, Indexes, EndsIndex, start_of, after_of, level_of, loosest, argument, Derives, operand, labelled, indexed, prefixed, grouped, counted, numbered, data_at, bits_at, tighter, binary, IsExpression, LongestExpression, NoExpression}
+use Rattle.rz_expr.specs.Reading.{operator_of, at_level, operator_at, index_at, is_index}
 use Rattle.rz_expr.proofs.Scanning.{fronts, GoesOn}
 
 -- Reading from the left, as far as a level goes.
@@ -23,9 +24,13 @@ mutual
 
   data Rest : Start → List Token → Term → List Token → Type 0 where
     alone : {e : Term} {ts : List Token} → Rest (Operand e) ts e ts
+    plain : {name : List ℕ} {ts : List Token} → index_at ts ≡ false → Rest (Label name) ts (Named name) ts
+    row : {name : List ℕ} {b c : Token} {ts rest : List Token} {e : Term} → after_of b.shape ≡ Indexes → Big loosest ts e (c ∷ rest) → Rest (Label name) (b ∷ ts) (Indexed name e) rest
     under : {op : UnaryOp} {ts rest : List Token} {e : Term} → Big 0 ts e rest → Rest (Prefix op) ts (OfOne op e) rest
     group : {c : Token} {ts rest : List Token} {e : Term} → Big loosest ts e (c ∷ rest) → Rest Bracket ts e rest
     count : {a b c : Token} {ts : List Token} {word : Word} → argument CountOf (a ∷ b ∷ c ∷ []) ≡ Some word → Rest (Calls CountOf) (a ∷ b ∷ c ∷ ts) (RowsOf word.bytes) ts
+    number : {a b c : Token} {ts : List Token} {word : Word} → argument ArrayIndex (a ∷ b ∷ c ∷ []) ≡ Some word
+        → Rest (Calls ArrayIndex) (a ∷ b ∷ c ∷ ts) (RowNumber word.bytes) ts
     bits : {width : ℕ} {a b c : Token} {ts : List Token} {word : Word} → argument (Data width) (a ∷ b ∷ c ∷ []) ≡ Some word
         → Rest (Calls (Data width)) (a ∷ b ∷ c ∷ ts) (BitsAt word.bytes (Constant (pos 0)) (Constant (pos width))) ts
     field : {a b c m d : Token} {ts mid rest : List Token} {word : Word} {start width : Term} → argument BitField (a ∷ b ∷ c ∷ []) ≡ Some word
@@ -36,9 +41,9 @@ mutual
     more : {k : ℕ} {t : Token} {op : BinaryOp} {e r a : Term} {ts mid rest : List Token} → after_of t.shape ≡ Operates op → level_of op ≡ suc k
         → Big k ts r mid → Loop k (OfTwo op e r) mid a rest → Loop k e (t ∷ ts) a rest
 
--- the next token is no operator of at most this level
+-- the next token is no operator of at most this level, and begins no index
 Quiet : ℕ → List Token → Type 0
-Quiet k ts = (j : ℕ) → j ≤ k → operator_at j ts ≡ None
+Quiet k ts = ((j : ℕ) → j ≤ k → operator_at j ts ≡ None) × (index_at ts ≡ false)
 
 found : (k : ℕ) (t : Token) (op : BinaryOp) (ts : List Token) → after_of t.shape ≡ Operates op → level_of op ≡ k → operator_at k (t ∷ ts) ≡ Some op
 found k t op ts is at = ap (λ a. at_level k (operator_of a)) is ∙ here at
@@ -48,39 +53,51 @@ found k t op ts is at = ap (λ a. at_level k (operator_of a)) is ∙ here at
 
 looser_quiet : (k : ℕ) (t : Token) (op : BinaryOp) (ts : List Token) → after_of t.shape ≡ Operates op → level_of op ≡ suc k → Quiet k (t ∷ ts)
 unfolding Quiet
-looser_quiet k t op ts is at j below = ap (λ a. at_level j (operator_of a)) is ∙ missed (omega (arith, at, below))
+looser_quiet k t op ts is at = ((λ j below. ap (λ a. at_level j (operator_of a)) is ∙ missed j (omega (arith, at, below))), ap is_index is)
   where
-    missed : j < level_of op → at_level j (Some op) ≡ None
-    missed h = grind (arith, nat_tests)
+    missed : (j : ℕ) → j < level_of op → at_level j (Some op) ≡ None
+    missed j h = grind (arith, nat_tests)
 
 close_quiet : (k : ℕ) (t : Token) (ts : List Token) → after_of t.shape ≡ Closes → Quiet k (t ∷ ts)
 unfolding Quiet
-close_quiet k t ts is j below = ap (λ a. at_level j (operator_of a)) is
+close_quiet k t ts is = ((λ j below. ap (λ a. at_level j (operator_of a)) is), ap is_index is)
 
 comma_quiet : (k : ℕ) (t : Token) (ts : List Token) → after_of t.shape ≡ Separates → Quiet k (t ∷ ts)
 unfolding Quiet
-comma_quiet k t ts is j below = ap (λ a. at_level j (operator_of a)) is
+comma_quiet k t ts is = ((λ j below. ap (λ a. at_level j (operator_of a)) is), ap is_index is)
+
+index_quiet : (k : ℕ) (t : Token) (ts : List Token) → after_of t.shape ≡ EndsIndex → Quiet k (t ∷ ts)
+unfolding Quiet
+index_quiet k t ts is = ((λ j below. ap (λ a. at_level j (operator_of a)) is), ap is_index is)
 
 nil_quiet : (k : ℕ) → Quiet k []
 unfolding Quiet
-nil_quiet k j below = refl
+nil_quiet k = ((λ j below. refl), refl)
 
 quiet_below : (k : ℕ) (ts : List Token) → Quiet (suc k) ts → Quiet k ts
 unfolding Quiet
-quiet_below k ts q j below = q j (omega (arith, below))
+quiet_below k ts q = ((λ j below. q.0 j (omega (arith, below))), q.1)
 
 quiet_at : (k : ℕ) (ts : List Token) → Quiet k ts → operator_at k ts ≡ None
 unfolding Quiet
-quiet_at k ts q = q k (omega arith)
+quiet_at k ts q = q.0 k (omega arith)
+
+quiet_index : (k : ℕ) (ts : List Token) → Quiet k ts → index_at ts ≡ false
+unfolding Quiet
+quiet_index k ts q = q.1
 
 -- what derives is read so
 mutual
   read : {k : ℕ} {xs : List Token} {e : Term} → Derives k xs e → (rest : List Token) → Quiet k rest → Big k (xs ++ rest) e rest
   read (operand is) rest q = begin is alone
+  read (labelled is) rest q = begin is (plain (quiet_index 0 rest q))
+  read (indexed {t} {name} {ts} {e} bracket close is begins r end) rest q =
+      begin is (row begins (subst (λ xs. Big loosest xs e (close ∷ rest)) (sym (append_assoc ts (close ∷ []) rest)) (read r (close ∷ rest) (index_quiet loosest close rest end))))
   read (prefixed is r) rest q = begin is (under (read r rest q))
   read (grouped {t} {ts} {e} close is r end) rest q =
       begin is (group (subst (λ xs. Big loosest xs e (close ∷ rest)) (sym (append_assoc ts (close ∷ []) rest)) (read r (close ∷ rest) (close_quiet loosest close rest end))))
   read (counted is name) rest q = begin is (count name)
+  read (numbered is name) rest q = begin is (number name)
   read (data_at is name) rest q = begin is (bits name)
   read (bits_at {t} {a} {b} {c} {word} {xs} {ys} {start} {width} comma close is name left separate right end) rest q =
       let back = (ys ++ close ∷ []) ++ rest in
@@ -122,9 +139,14 @@ mutual
 
   one_rest : {s : Start} {ts r r' : List Token} {e e' : Term} → Rest s ts e r → Rest s ts e' r' → (e ≡ e') × (r ≡ r')
   one_rest alone alone = (refl, refl)
+  one_rest (plain none) (plain also) = (refl, refl)
+  one_rest (plain none) (row begins c) = absurd (false≢true (sym none ∙ ap is_index begins))
+  one_rest (row begins b) (plain none) = absurd (false≢true (sym none ∙ ap is_index begins))
+  one_rest (row {name} {c = c1} {rest = r1} begins b) (row {c = c2} {rest = r2} also c) = let h = one_reading b c in (ap (Indexed name) h.0, tail c1 c2 r1 r2 h.1)
   one_rest (under {op} b) (under c) = let h = one_reading b c in (ap (OfOne op) h.0, h.1)
   one_rest (group {c = c1} {rest = r1} b) (group {c = c2} {rest = r2} c) = let h = one_reading b c in (h.0, tail c1 c2 r1 r2 h.1)
   one_rest (count {word = w1} n) (count {word = w2} m) = (ap (λ (w : Word). RowsOf w.bytes) (one_word _ w1 w2 n m), refl)
+  one_rest (number {word = w1} n) (number {word = w2} m) = (ap (λ (w : Word). RowNumber w.bytes) (one_word _ w1 w2 n m), refl)
   one_rest (bits {width} {word = w1} n) (bits {word = w2} m) = (ap (λ (w : Word). BitsAt w.bytes (Constant (pos 0)) (Constant (pos width))) (one_word _ w1 w2 n m), refl)
   one_rest (field {m = x1} {d = y1} {mid = m1} {rest = r1} {word = w1} {start = s1} {width = d1} n b c) (field {m = x2} {d = y2} {mid = m2} {rest = r2} {word = w2} {start = s2} {width = d2} n2 b2 c2) =
       let h = one_reading b b2 in

@@ -1,5 +1,5 @@
 -- Which fronts complete an expression.
-use Rattle.std.proofs.Common.{◌≡◌, ℕ, ◌≤◌, Bool, true, ◌⊎◌, inl, inr, List, [], ◌∷◌, ◌++◌, Option, Some, None, refl, sym, ap, subst, ◌∙◌, arith, append_assoc}
+use Rattle.std.proofs.Common.{◌≡◌, ℕ, ◌≤◌, ◌&&◌, Bool, true, false, ◌⊎◌, inl, inr, List, [], ◌∷◌, ◌++◌, Option, Some, None, refl, sym, ap, subst, ◌∙◌, arith, append_assoc}
 use Rattle.std.proofs.lemmas.Bool.{false≢true}
 use Rattle.std.proofs.lemmas.List.{append-nil}
 use Rattle.rz_core.specs.declared.resource.Word.{Word}
@@ -7,34 +7,43 @@ use Rattle.rz_lex.specs.declared.token.Token.{Token}
 use Rattle.rz_expr.specs.declared.expr.BinaryOp.{BinaryOp}
 use Rattle.rz_expr.specs.declared.expr.BinaryOp.TheVariants as two
 use Rattle.rz_expr.specs.declared.operators.Frame.{Frame}
-use Rattle.rz_expr.specs.declared.operators.Frame.TheVariants.{Group, InStart, InWidth}
+use Rattle.rz_expr.specs.declared.operators.Frame.TheVariants.{Group, InIndex, InStart, InWidth}
 use Rattle.rz_expr.specs.declared.words.Function.{Function}
-use Rattle.rz_expr.specs.declared.words.Function.TheVariants.{CountOf, BitField, Data}
+use Rattle.rz_expr.specs.declared.words.Function.TheVariants.{CountOf, ArrayIndex, BitField, Data}
 use Rattle.rz_expr.specs.Term.{Term}
-use Rattle.rz_expr.specs.Grammar.{Start, Operand, Prefix, Bracket, Calls, NoStart, After, Operates, Closes, Separates, NoAfter, start_of, after_of, level_of, loosest, argument, Derives, operand, prefixed, grouped, counted, data_at, bits_at, tighter, binary}
-use Rattle.rz_expr.specs.Fronts.{started, named, went_on, wants, haves, calls, ends, NoneBegins, Stops}
+use Rattle.rz_expr.specs.Grammar.{Start, Operand, Label, Prefix, Bracket, Calls, NoStart, After, Operates, Closes, Separates, Indexes, EndsIndex, NoAfter, start_of, after_of, level_of, loosest, argument, Derives, operand, labelled, indexed, prefixed, grouped, counted, numbered, data_at, bits_at, tighter, binary}
+use Rattle.rz_expr.specs.Fronts.{started, named, went_on, wants, haves, calls, ends, ends_labelled, NoneBegins, Stops}
 
 -- what is answered by a token of a kind
 abbrev pub begun : Start → List Token → List Frame → Bool
-begun start ts frames = started start (haves ts frames) (wants ts frames) (wants ts (Group ∷ frames)) (λ function. calls function ts frames)
+begun start ts frames = started start (λ label. haves label ts frames) (wants ts frames) (wants ts (Group ∷ frames)) (λ function. calls function ts frames)
 
-abbrev pub gone : After → List Token → List Frame → Bool
-gone after ts frames = went_on after frames (wants ts frames) (λ below. haves ts below) (λ below. wants ts (InWidth ∷ below))
+abbrev pub gone : After → Bool → List Token → List Frame → Bool
+gone after label ts frames = went_on after frames (wants ts frames) (λ below. haves false ts below) (λ below. wants ts (InWidth ∷ below)) (label && wants ts (InIndex ∷ frames))
 
 abbrev pub behind_name : Function → Option Word → List Token → List Frame → Bool
-behind_name function word ts frames = named function word (haves ts frames) (wants ts (InStart ∷ frames))
+behind_name function word ts frames = named function word (haves false ts frames) (wants ts (InStart ∷ frames))
 
 -- What follows an expression is read as behind an operand.
-pub flat : {level : ℕ} {xs : List Token} {e : Term} → Derives level xs e → (ys : List Token) (frames : List Frame) → wants (xs ++ ys) frames ≡ haves ys frames
+pub flat : {level : ℕ} {xs : List Token} {e : Term} (d : Derives level xs e) (ys : List Token) (frames : List Frame) → wants (xs ++ ys) frames ≡ haves (ends_labelled d) ys frames
 flat (operand {t} is) ys frames = ap (λ s. begun s ys frames) is
+flat (labelled {t} is) ys frames = ap (λ s. begun s ys frames) is
+flat (indexed {t} {ts} bracket close is begins r end) ys frames =
+    ap (λ s. begun s (bracket ∷ ((ts ++ close ∷ []) ++ ys)) frames) is
+    ∙ ap (λ a. gone a true ((ts ++ close ∷ []) ++ ys) frames) begins
+    ∙ ap (λ zs. wants zs (InIndex ∷ frames)) (append_assoc ts (close ∷ []) ys)
+    ∙ flat r (close ∷ ys) (InIndex ∷ frames)
+    ∙ ap (λ a. gone a (ends_labelled r) ys (InIndex ∷ frames)) end
 flat (prefixed {t} {ts} is r) ys frames = ap (λ s. begun s (ts ++ ys) frames) is ∙ flat r ys frames
 flat (grouped {t} {ts} close is r end) ys frames =
     ap (λ s. begun s ((ts ++ close ∷ []) ++ ys) frames) is
     ∙ ap (λ zs. wants zs (Group ∷ frames)) (append_assoc ts (close ∷ []) ys)
     ∙ flat r (close ∷ ys) (Group ∷ frames)
-    ∙ ap (λ a. gone a ys (Group ∷ frames)) end
+    ∙ ap (λ a. gone a (ends_labelled r) ys (Group ∷ frames)) end
 flat (counted {t} {a} {b} {c} {word} is name) ys frames =
     ap (λ s. begun s (a ∷ b ∷ c ∷ ys) frames) is ∙ ap (λ o. behind_name CountOf o ys frames) name
+flat (numbered {t} {a} {b} {c} {word} is name) ys frames =
+    ap (λ s. begun s (a ∷ b ∷ c ∷ ys) frames) is ∙ ap (λ o. behind_name ArrayIndex o ys frames) name
 flat (data_at {t} {a} {b} {c} {word} {width} is name) ys frames =
     ap (λ s. begun s (a ∷ b ∷ c ∷ ys) frames) is ∙ ap (λ o. behind_name (Data width) o ys frames) name
 flat (bits_at {t} {a} {b} {c} {word} {xs} {ys = zs} comma close is name left separate right end) ys frames =
@@ -42,15 +51,15 @@ flat (bits_at {t} {a} {b} {c} {word} {xs} {ys = zs} comma close is name left sep
     ∙ ap (λ o. behind_name BitField o ((xs ++ comma ∷ (zs ++ close ∷ [])) ++ ys) frames) name
     ∙ ap (λ l. wants l (InStart ∷ frames)) (append_assoc xs (comma ∷ (zs ++ close ∷ [])) ys)
     ∙ flat left (comma ∷ ((zs ++ close ∷ []) ++ ys)) (InStart ∷ frames)
-    ∙ ap (λ x. gone x ((zs ++ close ∷ []) ++ ys) (InStart ∷ frames)) separate
+    ∙ ap (λ x. gone x (ends_labelled left) ((zs ++ close ∷ []) ++ ys) (InStart ∷ frames)) separate
     ∙ ap (λ l. wants l (InWidth ∷ frames)) (append_assoc zs (close ∷ []) ys)
     ∙ flat right (close ∷ ys) (InWidth ∷ frames)
-    ∙ ap (λ x. gone x ys (InWidth ∷ frames)) end
+    ∙ ap (λ x. gone x (ends_labelled right) ys (InWidth ∷ frames)) end
 flat (tighter r) ys frames = flat r ys frames
 flat (binary {level} {op} xs zs t is at left right) ys frames =
     ap (λ ts. wants ts frames) (append_assoc xs (t ∷ zs) ys)
     ∙ flat left (t ∷ (zs ++ ys)) frames
-    ∙ ap (λ a. gone a (zs ++ ys) frames) is
+    ∙ ap (λ a. gone a (ends_labelled left) (zs ++ ys) frames) is
     ∙ flat right ys frames
 
 pub complete : {level : ℕ} {xs : List Token} {e : Term} → Derives level xs e → wants xs [] ≡ true
@@ -58,10 +67,11 @@ complete {level} {xs} r = ap (λ ts. wants ts []) (sym (append-nil xs)) ∙ flat
 
 -- Answers, case by case.
 
-started_so : (s : Start) (have want bracket : Bool) (call : Function → Bool) (have2 want2 bracket2 : Bool) (call2 : Function → Bool) (answer : Bool)
-    → (have ≡ true → have2 ≡ answer) → (want ≡ true → want2 ≡ answer) → (bracket ≡ true → bracket2 ≡ answer) → ((f : Function) → call f ≡ true → call2 f ≡ answer)
+started_so : (s : Start) (have : Bool → Bool) (want bracket : Bool) (call : Function → Bool) (have2 : Bool → Bool) (want2 bracket2 : Bool) (call2 : Function → Bool) (answer : Bool)
+    → ((label : Bool) → have label ≡ true → have2 label ≡ answer) → (want ≡ true → want2 ≡ answer) → (bracket ≡ true → bracket2 ≡ answer) → ((f : Function) → call f ≡ true → call2 f ≡ answer)
     → started s have want bracket call ≡ true → started s have2 want2 bracket2 call2 ≡ answer
-started_so (Operand e) have want bracket call have2 want2 bracket2 call2 answer h w b c is = h is
+started_so (Operand e) have want bracket call have2 want2 bracket2 call2 answer h w b c is = h false is
+started_so (Label name) have want bracket call have2 want2 bracket2 call2 answer h w b c is = h true is
 started_so (Prefix op) have want bracket call have2 want2 bracket2 call2 answer h w b c is = w is
 started_so Bracket have want bracket call have2 want2 bracket2 call2 answer h w b c is = b is
 started_so (Calls f) have want bracket call have2 want2 bracket2 call2 answer h w b c is = c f is
@@ -71,48 +81,68 @@ named_so : (f : Function) (o : Option Word) (have want have2 want2 answer : Bool
     → named f o have want ≡ true → named f o have2 want2 ≡ answer
 named_so f None have want have2 want2 answer h w is = absurd (false≢true is)
 named_so CountOf (Some word) have want have2 want2 answer h w is = h is
+named_so ArrayIndex (Some word) have want have2 want2 answer h w is = h is
 named_so (Data width) (Some word) have want have2 want2 answer h w is = h is
 named_so BitField (Some word) have want have2 want2 answer h w is = w is
 
-went_so : (a : After) (frames : List Frame) (want : Bool) (close separate : List Frame → Bool) (want2 : Bool) (close2 separate2 : List Frame → Bool) (answer : Bool)
+went_so : (a : After) (frames : List Frame) (want : Bool) (close separate : List Frame → Bool) (index want2 : Bool) (close2 separate2 : List Frame → Bool) (index2 answer : Bool)
     → (want ≡ true → want2 ≡ answer) → ((below : List Frame) → close below ≡ true → close2 below ≡ answer) → ((below : List Frame) → separate below ≡ true → separate2 below ≡ answer)
-    → went_on a frames want close separate ≡ true → went_on a frames want2 close2 separate2 ≡ answer
-went_so (Operates op) frames want close separate want2 close2 separate2 answer w c s is = w is
-went_so Closes [] want close separate want2 close2 separate2 answer w c s is = absurd (false≢true is)
-went_so Closes (Group ∷ below) want close separate want2 close2 separate2 answer w c s is = c below is
-went_so Closes (InWidth ∷ below) want close separate want2 close2 separate2 answer w c s is = c below is
-went_so Closes (InStart ∷ below) want close separate want2 close2 separate2 answer w c s is = absurd (false≢true is)
-went_so Separates [] want close separate want2 close2 separate2 answer w c s is = absurd (false≢true is)
-went_so Separates (Group ∷ below) want close separate want2 close2 separate2 answer w c s is = absurd (false≢true is)
-went_so Separates (InWidth ∷ below) want close separate want2 close2 separate2 answer w c s is = absurd (false≢true is)
-went_so Separates (InStart ∷ below) want close separate want2 close2 separate2 answer w c s is = s below is
-went_so NoAfter frames want close separate want2 close2 separate2 answer w c s is = absurd (false≢true is)
+    → (index ≡ true → index2 ≡ answer) → went_on a frames want close separate index ≡ true → went_on a frames want2 close2 separate2 index2 ≡ answer
+went_so (Operates op) frames want close separate index want2 close2 separate2 index2 answer w c s i is = w is
+went_so Closes [] want close separate index want2 close2 separate2 index2 answer w c s i is = absurd (false≢true is)
+went_so Closes (Group ∷ below) want close separate index want2 close2 separate2 index2 answer w c s i is = c below is
+went_so Closes (InWidth ∷ below) want close separate index want2 close2 separate2 index2 answer w c s i is = c below is
+went_so Closes (InStart ∷ below) want close separate index want2 close2 separate2 index2 answer w c s i is = absurd (false≢true is)
+went_so Closes (InIndex ∷ below) want close separate index want2 close2 separate2 index2 answer w c s i is = absurd (false≢true is)
+went_so Separates [] want close separate index want2 close2 separate2 index2 answer w c s i is = absurd (false≢true is)
+went_so Separates (Group ∷ below) want close separate index want2 close2 separate2 index2 answer w c s i is = absurd (false≢true is)
+went_so Separates (InWidth ∷ below) want close separate index want2 close2 separate2 index2 answer w c s i is = absurd (false≢true is)
+went_so Separates (InStart ∷ below) want close separate index want2 close2 separate2 index2 answer w c s i is = s below is
+went_so Separates (InIndex ∷ below) want close separate index want2 close2 separate2 index2 answer w c s i is = absurd (false≢true is)
+went_so EndsIndex [] want close separate index want2 close2 separate2 index2 answer w c s i is = absurd (false≢true is)
+went_so EndsIndex (Group ∷ below) want close separate index want2 close2 separate2 index2 answer w c s i is = absurd (false≢true is)
+went_so EndsIndex (InWidth ∷ below) want close separate index want2 close2 separate2 index2 answer w c s i is = absurd (false≢true is)
+went_so EndsIndex (InStart ∷ below) want close separate index want2 close2 separate2 index2 answer w c s i is = absurd (false≢true is)
+went_so EndsIndex (InIndex ∷ below) want close separate index want2 close2 separate2 index2 answer w c s i is = c below is
+went_so Indexes frames want close separate index want2 close2 separate2 index2 answer w c s i is = i is
+went_so NoAfter frames want close separate index want2 close2 separate2 index2 answer w c s i is = absurd (false≢true is)
 
--- Behind tokens that complete an expression the rest is read as behind an operand.
-mutual
-  pub accepted : (xs ys : List Token) (frames : List Frame) → wants xs frames ≡ true → wants (xs ++ ys) frames ≡ haves ys []
-  accepted [] ys frames h = absurd (false≢true h)
-  accepted (t ∷ ts) ys frames h =
-      started_so (start_of t.shape) _ _ _ _ _ _ _ _ (haves ys []) (accepted_behind ts ys frames) (accepted ts ys frames) (accepted ts ys (Group ∷ frames)) (λ f. accepted_call f ts ys frames) h
+index_so : (label want want2 answer : Bool) → (want ≡ true → want2 ≡ answer) → (label && want) ≡ true → (label && want2) ≡ answer
+index_so true want want2 answer w is = w is
+index_so false want want2 answer w is = absurd (false≢true is)
 
-  accepted_behind : (xs ys : List Token) (frames : List Frame) → haves xs frames ≡ true → haves (xs ++ ys) frames ≡ haves ys []
-  accepted_behind [] ys [] h = refl
-  accepted_behind [] ys (frame ∷ frames) h = absurd (false≢true h)
-  accepted_behind (t ∷ ts) ys frames h =
-      went_so (after_of t.shape) frames _ _ _ _ _ _ (haves ys []) (accepted ts ys frames) (λ below. accepted_behind ts ys below) (λ below. accepted ts ys (InWidth ∷ below)) h
+-- Behind tokens that complete an expression the rest, which begins no index, is read as behind an operand.
+module _ (ys : List Token) (plain : haves true ys [] ≡ haves false ys []) where
+  plain_at : (label : Bool) → haves label ys [] ≡ haves false ys []
+  plain_at true = plain
+  plain_at false = refl
 
-  accepted_call : (f : Function) (xs ys : List Token) (frames : List Frame) → calls f xs frames ≡ true → calls f (xs ++ ys) frames ≡ haves ys []
-  accepted_call f [] ys frames h = absurd (false≢true h)
-  accepted_call f (a ∷ []) ys frames h = absurd (false≢true h)
-  accepted_call f (a ∷ b ∷ []) ys frames h = absurd (false≢true h)
-  accepted_call f (a ∷ b ∷ c ∷ ts) ys frames h =
-      named_so f (argument f (a ∷ b ∷ c ∷ [])) _ _ _ _ (haves ys []) (accepted_behind ts ys frames) (accepted ts ys (InStart ∷ frames)) h
+  mutual
+    pub accepted : (xs : List Token) (frames : List Frame) → wants xs frames ≡ true → wants (xs ++ ys) frames ≡ haves false ys []
+    accepted [] frames h = absurd (false≢true h)
+    accepted (t ∷ ts) frames h =
+        started_so (start_of t.shape) _ _ _ _ _ _ _ _ (haves false ys []) (λ label. accepted_behind label ts frames) (accepted ts frames) (accepted ts (Group ∷ frames)) (λ f. accepted_call f ts frames) h
+
+    accepted_behind : (label : Bool) (xs : List Token) (frames : List Frame) → haves label xs frames ≡ true → haves label (xs ++ ys) frames ≡ haves false ys []
+    accepted_behind label [] [] h = plain_at label
+    accepted_behind label [] (frame ∷ frames) h = absurd (false≢true h)
+    accepted_behind label (t ∷ ts) frames h =
+        went_so (after_of t.shape) frames _ _ _ _ _ _ _ _ (haves false ys []) (accepted ts frames) (λ below. accepted_behind false ts below) (λ below. accepted ts (InWidth ∷ below))
+        (index_so label _ _ (haves false ys []) (accepted ts (InIndex ∷ frames))) h
+
+    accepted_call : (f : Function) (xs : List Token) (frames : List Frame) → calls f xs frames ≡ true → calls f (xs ++ ys) frames ≡ haves false ys []
+    accepted_call f [] frames h = absurd (false≢true h)
+    accepted_call f (a ∷ []) frames h = absurd (false≢true h)
+    accepted_call f (a ∷ b ∷ []) frames h = absurd (false≢true h)
+    accepted_call f (a ∷ b ∷ c ∷ ts) frames h =
+        named_so f (argument f (a ∷ b ∷ c ∷ [])) _ _ _ _ (haves false ys []) (accepted_behind false ts frames) (accepted ts (InStart ∷ frames)) h
 
 -- What completes a frame has the frame's end, complete before it and read on behind it.
 
 abbrev passed : Frame → List Token → List Frame → Bool
-passed Group ts below = haves ts below
-passed InWidth ts below = haves ts below
+passed Group ts below = haves false ts below
+passed InWidth ts below = haves false ts below
+passed InIndex ts below = haves false ts below
 passed InStart ts below = wants ts (InWidth ∷ below)
 
 pub record Cut (frame : Frame) (ts : List Token) (below : List Frame) (read : List Token → Bool) : Type 0 where
@@ -140,66 +170,106 @@ module _ (frame : Frame) (below : List Frame) where
   here t ts read empty at on = record { front = []; end = t; back = ts; whole = refl; complete = empty; ends_it = at; goes_on = on }
 
   cut_start : (s : Start) (t : Token) (ts : List Token) (above : List Frame) → start_of t.shape ≡ s
-      → (haves ts (above ++ frame ∷ below) ≡ true → Cut frame ts below (λ xs. haves xs above))
+      → ((label : Bool) → haves label ts (above ++ frame ∷ below) ≡ true → Cut frame ts below (λ xs. haves label xs above))
       → (wants ts (above ++ frame ∷ below) ≡ true → Cut frame ts below (λ xs. wants xs above))
       → (wants ts (Group ∷ (above ++ frame ∷ below)) ≡ true → Cut frame ts below (λ xs. wants xs (Group ∷ above)))
       → ((f : Function) → calls f ts (above ++ frame ∷ below) ≡ true → Cut frame ts below (λ xs. calls f xs above))
       → begun s ts (above ++ frame ∷ below) ≡ true → Cut frame (t ∷ ts) below (λ xs. wants xs above)
-  cut_start (Operand e) t ts above is h w b c on = one_more t ts (λ xs. haves xs above) (λ xs. wants xs above) (λ xs r. ap (λ s. begun s xs above) is ∙ r) (h on)
+  cut_start (Operand e) t ts above is h w b c on = one_more t ts (λ xs. haves false xs above) (λ xs. wants xs above) (λ xs r. ap (λ s. begun s xs above) is ∙ r) (h false on)
+  cut_start (Label name) t ts above is h w b c on = one_more t ts (λ xs. haves true xs above) (λ xs. wants xs above) (λ xs r. ap (λ s. begun s xs above) is ∙ r) (h true on)
   cut_start (Prefix op) t ts above is h w b c on = one_more t ts (λ xs. wants xs above) (λ xs. wants xs above) (λ xs r. ap (λ s. begun s xs above) is ∙ r) (w on)
   cut_start Bracket t ts above is h w b c on = one_more t ts (λ xs. wants xs (Group ∷ above)) (λ xs. wants xs above) (λ xs r. ap (λ s. begun s xs above) is ∙ r) (b on)
   cut_start (Calls f) t ts above is h w b c on = one_more t ts (λ xs. calls f xs above) (λ xs. wants xs above) (λ xs r. ap (λ s. begun s xs above) is ∙ r) (c f on)
   cut_start NoStart t ts above is h w b c on = absurd (false≢true on)
 
-  cut_after : (x : After) (t : Token) (ts : List Token) (above : List Frame) → after_of t.shape ≡ x
+  cut_after : (x : After) (label : Bool) (t : Token) (ts : List Token) (above : List Frame) → after_of t.shape ≡ x
       → (wants ts (above ++ frame ∷ below) ≡ true → Cut frame ts below (λ xs. wants xs above))
-      → ((fs : List Frame) → haves ts (fs ++ frame ∷ below) ≡ true → Cut frame ts below (λ xs. haves xs fs))
+      → ((fs : List Frame) → haves false ts (fs ++ frame ∷ below) ≡ true → Cut frame ts below (λ xs. haves false xs fs))
       → ((fs : List Frame) → wants ts (InWidth ∷ (fs ++ frame ∷ below)) ≡ true → Cut frame ts below (λ xs. wants xs (InWidth ∷ fs)))
-      → gone x ts (above ++ frame ∷ below) ≡ true → Cut frame (t ∷ ts) below (λ xs. haves xs above)
-  cut_after (Operates op) t ts above is w c s on = one_more t ts (λ xs. wants xs above) (λ xs. haves xs above) (λ xs r. ap (λ a. gone a xs above) is ∙ r) (w on)
-  cut_after Closes t ts [] is w c s on = here t ts (λ xs. haves xs []) refl (ap (ends frame) is ∙ at_end frame on) (behind frame on)
+      → (wants ts (InIndex ∷ (above ++ frame ∷ below)) ≡ true → Cut frame ts below (λ xs. wants xs (InIndex ∷ above)))
+      → gone x label ts (above ++ frame ∷ below) ≡ true → Cut frame (t ∷ ts) below (λ xs. haves label xs above)
+  cut_after (Operates op) label t ts above is w c s i on =
+      one_more t ts (λ xs. wants xs above) (λ xs. haves label xs above) (λ xs r. ap (λ a. gone a label xs above) is ∙ r) (w on)
+  cut_after Closes label t ts [] is w c s i on = here t ts (λ xs. haves label xs []) refl (ap (ends frame) is ∙ at_end frame on) (behind frame on)
     where
-      at_end : (f : Frame) → gone Closes ts (f ∷ below) ≡ true → ends f Closes ≡ true
+      at_end : (f : Frame) → gone Closes label ts (f ∷ below) ≡ true → ends f Closes ≡ true
       at_end Group on = refl
       at_end InWidth on = refl
       at_end InStart on = on
+      at_end InIndex on = on
 
-      behind : (f : Frame) → gone Closes ts (f ∷ below) ≡ true → passed f ts below ≡ true
+      behind : (f : Frame) → gone Closes label ts (f ∷ below) ≡ true → passed f ts below ≡ true
       behind Group on = on
       behind InWidth on = on
       behind InStart on = absurd (false≢true on)
-  cut_after Closes t ts (Group ∷ above) is w c s on = one_more t ts (λ xs. haves xs above) (λ xs. haves xs (Group ∷ above)) (λ xs r. ap (λ a. gone a xs (Group ∷ above)) is ∙ r) (c above on)
-  cut_after Closes t ts (InWidth ∷ above) is w c s on = one_more t ts (λ xs. haves xs above) (λ xs. haves xs (InWidth ∷ above)) (λ xs r. ap (λ a. gone a xs (InWidth ∷ above)) is ∙ r) (c above on)
-  cut_after Closes t ts (InStart ∷ above) is w c s on = absurd (false≢true on)
-  cut_after Separates t ts [] is w c s on = here t ts (λ xs. haves xs []) refl (ap (ends frame) is ∙ at_end frame on) (behind frame on)
+      behind InIndex on = absurd (false≢true on)
+  cut_after Closes label t ts (Group ∷ above) is w c s i on =
+      one_more t ts (λ xs. haves false xs above) (λ xs. haves label xs (Group ∷ above)) (λ xs r. ap (λ a. gone a label xs (Group ∷ above)) is ∙ r) (c above on)
+  cut_after Closes label t ts (InWidth ∷ above) is w c s i on =
+      one_more t ts (λ xs. haves false xs above) (λ xs. haves label xs (InWidth ∷ above)) (λ xs r. ap (λ a. gone a label xs (InWidth ∷ above)) is ∙ r) (c above on)
+  cut_after Closes label t ts (InStart ∷ above) is w c s i on = absurd (false≢true on)
+  cut_after Closes label t ts (InIndex ∷ above) is w c s i on = absurd (false≢true on)
+  cut_after Separates label t ts [] is w c s i on = here t ts (λ xs. haves label xs []) refl (ap (ends frame) is ∙ at_end frame on) (behind frame on)
     where
-      at_end : (f : Frame) → gone Separates ts (f ∷ below) ≡ true → ends f Separates ≡ true
+      at_end : (f : Frame) → gone Separates label ts (f ∷ below) ≡ true → ends f Separates ≡ true
       at_end Group on = on
       at_end InWidth on = on
       at_end InStart on = refl
+      at_end InIndex on = on
 
-      behind : (f : Frame) → gone Separates ts (f ∷ below) ≡ true → passed f ts below ≡ true
+      behind : (f : Frame) → gone Separates label ts (f ∷ below) ≡ true → passed f ts below ≡ true
       behind Group on = absurd (false≢true on)
       behind InWidth on = absurd (false≢true on)
       behind InStart on = on
-  cut_after Separates t ts (Group ∷ above) is w c s on = absurd (false≢true on)
-  cut_after Separates t ts (InWidth ∷ above) is w c s on = absurd (false≢true on)
-  cut_after Separates t ts (InStart ∷ above) is w c s on = one_more t ts (λ xs. wants xs (InWidth ∷ above)) (λ xs. haves xs (InStart ∷ above)) (λ xs r. ap (λ a. gone a xs (InStart ∷ above)) is ∙ r) (s above on)
-  cut_after NoAfter t ts above is w c s on = absurd (false≢true on)
+      behind InIndex on = absurd (false≢true on)
+  cut_after Separates label t ts (Group ∷ above) is w c s i on = absurd (false≢true on)
+  cut_after Separates label t ts (InWidth ∷ above) is w c s i on = absurd (false≢true on)
+  cut_after Separates label t ts (InStart ∷ above) is w c s i on =
+      one_more t ts (λ xs. wants xs (InWidth ∷ above)) (λ xs. haves label xs (InStart ∷ above)) (λ xs r. ap (λ a. gone a label xs (InStart ∷ above)) is ∙ r) (s above on)
+  cut_after Separates label t ts (InIndex ∷ above) is w c s i on = absurd (false≢true on)
+  cut_after EndsIndex label t ts [] is w c s i on = here t ts (λ xs. haves label xs []) refl (ap (ends frame) is ∙ at_end frame on) (behind frame on)
+    where
+      at_end : (f : Frame) → gone EndsIndex label ts (f ∷ below) ≡ true → ends f EndsIndex ≡ true
+      at_end Group on = on
+      at_end InWidth on = on
+      at_end InStart on = on
+      at_end InIndex on = refl
+
+      behind : (f : Frame) → gone EndsIndex label ts (f ∷ below) ≡ true → passed f ts below ≡ true
+      behind Group on = absurd (false≢true on)
+      behind InWidth on = absurd (false≢true on)
+      behind InStart on = absurd (false≢true on)
+      behind InIndex on = on
+  cut_after EndsIndex label t ts (Group ∷ above) is w c s i on = absurd (false≢true on)
+  cut_after EndsIndex label t ts (InWidth ∷ above) is w c s i on = absurd (false≢true on)
+  cut_after EndsIndex label t ts (InStart ∷ above) is w c s i on = absurd (false≢true on)
+  cut_after EndsIndex label t ts (InIndex ∷ above) is w c s i on =
+      one_more t ts (λ xs. haves false xs above) (λ xs. haves label xs (InIndex ∷ above)) (λ xs r. ap (λ a. gone a label xs (InIndex ∷ above)) is ∙ r) (c above on)
+  cut_after Indexes true t ts above is w c s i on =
+      one_more t ts (λ xs. wants xs (InIndex ∷ above)) (λ xs. haves true xs above) (λ xs r. ap (λ a. gone a true xs above) is ∙ r) (i on)
+  cut_after Indexes false t ts above is w c s i on = absurd (false≢true on)
+  cut_after NoAfter label t ts above is w c s i on = absurd (false≢true on)
 
   cut_name : (f : Function) (o : Option Word) (a b c : Token) (ts : List Token) (above : List Frame) → argument f (a ∷ b ∷ c ∷ []) ≡ o
-      → (haves ts (above ++ frame ∷ below) ≡ true → Cut frame ts below (λ xs. haves xs above))
+      → (haves false ts (above ++ frame ∷ below) ≡ true → Cut frame ts below (λ xs. haves false xs above))
       → (wants ts (InStart ∷ (above ++ frame ∷ below)) ≡ true → Cut frame ts below (λ xs. wants xs (InStart ∷ above)))
       → behind_name f o ts (above ++ frame ∷ below) ≡ true → Cut frame (a ∷ b ∷ c ∷ ts) below (λ xs. calls f xs above)
   cut_name f None a b c ts above is h w on = absurd (false≢true on)
-  cut_name CountOf (Some word) a b c ts above is h w on = three_more (λ xs. haves xs above) (λ xs r. ap (λ o. behind_name CountOf o xs above) is ∙ r) (h on)
+  cut_name CountOf (Some word) a b c ts above is h w on = three_more (λ xs. haves false xs above) (λ xs r. ap (λ o. behind_name CountOf o xs above) is ∙ r) (h on)
     where
       three_more : (read : List Token → Bool) → ((xs : List Token) → read xs ≡ true → calls CountOf (a ∷ b ∷ c ∷ xs) above ≡ true) → Cut frame ts below read → Cut frame (a ∷ b ∷ c ∷ ts) below (λ xs. calls CountOf xs above)
       three_more read so cut =
           one_more a (b ∷ c ∷ ts) (λ xs. calls CountOf (a ∷ xs) above) (λ xs. calls CountOf xs above) (λ xs r. r)
           (one_more b (c ∷ ts) (λ xs. calls CountOf (a ∷ b ∷ xs) above) (λ xs. calls CountOf (a ∷ xs) above) (λ xs r. r)
           (one_more c ts read (λ xs. calls CountOf (a ∷ b ∷ xs) above) so cut))
-  cut_name (Data width) (Some word) a b c ts above is h w on = three_more (λ xs. haves xs above) (λ xs r. ap (λ o. behind_name (Data width) o xs above) is ∙ r) (h on)
+  cut_name ArrayIndex (Some word) a b c ts above is h w on = three_more (λ xs. haves false xs above) (λ xs r. ap (λ o. behind_name ArrayIndex o xs above) is ∙ r) (h on)
+    where
+      three_more : (read : List Token → Bool) → ((xs : List Token) → read xs ≡ true → calls ArrayIndex (a ∷ b ∷ c ∷ xs) above ≡ true) → Cut frame ts below read → Cut frame (a ∷ b ∷ c ∷ ts) below (λ xs. calls ArrayIndex xs above)
+      three_more read so cut =
+          one_more a (b ∷ c ∷ ts) (λ xs. calls ArrayIndex (a ∷ xs) above) (λ xs. calls ArrayIndex xs above) (λ xs r. r)
+          (one_more b (c ∷ ts) (λ xs. calls ArrayIndex (a ∷ b ∷ xs) above) (λ xs. calls ArrayIndex (a ∷ xs) above) (λ xs r. r)
+          (one_more c ts read (λ xs. calls ArrayIndex (a ∷ b ∷ xs) above) so cut))
+  cut_name (Data width) (Some word) a b c ts above is h w on = three_more (λ xs. haves false xs above) (λ xs r. ap (λ o. behind_name (Data width) o xs above) is ∙ r) (h on)
     where
       three_more : (read : List Token → Bool) → ((xs : List Token) → read xs ≡ true → calls (Data width) (a ∷ b ∷ c ∷ xs) above ≡ true) → Cut frame ts below read → Cut frame (a ∷ b ∷ c ∷ ts) below (λ xs. calls (Data width) xs above)
       three_more read so cut =
@@ -217,18 +287,19 @@ module _ (frame : Frame) (below : List Frame) where
   mutual
     pub cut : (ts : List Token) (above : List Frame) → wants ts (above ++ frame ∷ below) ≡ true → Cut frame ts below (λ xs. wants xs above)
     cut [] above h = absurd (false≢true h)
-    cut (t ∷ ts) above h = cut_start (start_of t.shape) t ts above refl (cut_behind ts above) (cut ts above) (cut ts (Group ∷ above)) (λ f. cut_call f ts above) h
+    cut (t ∷ ts) above h = cut_start (start_of t.shape) t ts above refl (λ label. cut_behind label ts above) (cut ts above) (cut ts (Group ∷ above)) (λ f. cut_call f ts above) h
 
-    cut_behind : (ts : List Token) (above : List Frame) → haves ts (above ++ frame ∷ below) ≡ true → Cut frame ts below (λ xs. haves xs above)
-    cut_behind [] [] h = absurd (false≢true h)
-    cut_behind [] (f ∷ above) h = absurd (false≢true h)
-    cut_behind (t ∷ ts) above h = cut_after (after_of t.shape) t ts above refl (cut ts above) (λ fs. cut_behind ts fs) (λ fs. cut ts (InWidth ∷ fs)) h
+    cut_behind : (label : Bool) (ts : List Token) (above : List Frame) → haves label ts (above ++ frame ∷ below) ≡ true → Cut frame ts below (λ xs. haves label xs above)
+    cut_behind label [] [] h = absurd (false≢true h)
+    cut_behind label [] (f ∷ above) h = absurd (false≢true h)
+    cut_behind label (t ∷ ts) above h =
+        cut_after (after_of t.shape) label t ts above refl (cut ts above) (λ fs. cut_behind false ts fs) (λ fs. cut ts (InWidth ∷ fs)) (cut ts (InIndex ∷ above)) h
 
     cut_call : (f : Function) (ts : List Token) (above : List Frame) → calls f ts (above ++ frame ∷ below) ≡ true → Cut frame ts below (λ xs. calls f xs above)
     cut_call f [] above h = absurd (false≢true h)
     cut_call f (a ∷ []) above h = absurd (false≢true h)
     cut_call f (a ∷ b ∷ []) above h = absurd (false≢true h)
-    cut_call f (a ∷ b ∷ c ∷ ts) above h = cut_name f (argument f (a ∷ b ∷ c ∷ [])) a b c ts above refl (cut_behind ts above) (cut ts (InStart ∷ above)) h
+    cut_call f (a ∷ b ∷ c ∷ ts) above h = cut_name f (argument f (a ∷ b ∷ c ∷ [])) a b c ts above refl (cut_behind false ts above) (cut ts (InStart ∷ above)) h
 
   -- where no operand begins, no front completes the frame
   pub none_ends : (ts : List Token) → NoneBegins ts → (front left : List Token) → ts ≡ front ++ left → wants front (frame ∷ below) ≡ true → ⊥
@@ -255,42 +326,70 @@ at_most : (op : BinaryOp) → level_of op ≤ loosest
 at_most two.Times = omega arith
 at_most _ = omega arith
 
--- tokens behind an operand that complete an expression begin with an operator, and complete one behind it
-operates : (a : After) (t : Token) (ts : List Token) → after_of t.shape ≡ a → gone a ts [] ≡ true → (op : BinaryOp) × (after_of t.shape ≡ Operates op) × (wants ts [] ≡ true)
-operates (Operates op) t ts is h = (op, is, h)
-operates Closes t ts is h = absurd (false≢true h)
-operates Separates t ts is h = absurd (false≢true h)
-operates NoAfter t ts is h = absurd (false≢true h)
+-- tokens behind an operand that complete an expression begin with an operator, and complete one behind it, or else behind a
+-- label with an index
+operates : (a : After) (label : Bool) (t : Token) (ts : List Token) → after_of t.shape ≡ a → gone a label ts [] ≡ true
+    → ((op : BinaryOp) × (after_of t.shape ≡ Operates op) × (wants ts [] ≡ true)) ⊎ ((label ≡ true) × (after_of t.shape ≡ Indexes) × (wants ts (InIndex ∷ []) ≡ true))
+operates (Operates op) label t ts is h = inl (op, is, h)
+operates Indexes true t ts is h = inr (refl, is, h)
+operates Indexes false t ts is h = absurd (false≢true h)
+operates Closes label t ts is h = absurd (false≢true h)
+operates Separates label t ts is h = absurd (false≢true h)
+operates EndsIndex label t ts is h = absurd (false≢true h)
+operates NoAfter label t ts is h = absurd (false≢true h)
 
 -- behind an expression that stops, no longer front completes one
-pub no_longer : {xs : List Token} {e : Term} → Derives loosest xs e → (rest : List Token) → Stops loosest rest → (more left : List Token) → rest ≡ more ++ left → wants (xs ++ more) [] ≡ true → more ≡ []
+pub no_longer : {xs : List Token} {e : Term} (d : Derives loosest xs e) (rest : List Token) → Stops loosest (ends_labelled d) rest → (more left : List Token) → rest ≡ more ++ left
+    → wants (xs ++ more) [] ≡ true → more ≡ []
 no_longer d rest stops [] left is h = refl
-no_longer d rest stops (t ∷ ts) left is h =
-    let on = operates (after_of t.shape) t ts refl (sym (flat d (t ∷ ts) []) ∙ h) in
-    absurd (stops t (ts ++ left) on.0 is on.1 (at_most on.0) ts left refl on.2)
+no_longer d rest stops (t ∷ ts) left is h = elim (operates (after_of t.shape) (ends_labelled d) t ts refl (sym (flat d (t ∷ ts) []) ∙ h)) [
+  | inl on ↦ absurd (stops.operator t (ts ++ left) on.0 is on.1 (at_most on.0) ts left refl on.2)
+  | inr on ↦ absurd (stops.index t (ts ++ left) on.0 is on.1 ts left [] refl on.2)
+]
 
--- a token that ends a frame is no operator
-no_operator : (frame : Frame) (a : After) (ts : List Token) → ends frame a ≡ true → gone a ts [] ≡ true → ⊥
-no_operator Group (Operates op) ts at h = false≢true at
-no_operator InWidth (Operates op) ts at h = false≢true at
-no_operator InStart (Operates op) ts at h = false≢true at
-no_operator frame Closes ts at h = false≢true h
-no_operator frame Separates ts at h = false≢true h
-no_operator frame NoAfter ts at h = false≢true h
-
+-- a token that ends a frame is no operator, and begins no index
 no_end : (frame : Frame) (op : BinaryOp) → ends frame (Operates op) ≡ true → ⊥
 no_end Group op h = false≢true h
+no_end InIndex op h = false≢true h
 no_end InWidth op h = false≢true h
 no_end InStart op h = false≢true h
 
+no_index : (frame : Frame) → ends frame Indexes ≡ true → ⊥
+no_index Group h = false≢true h
+no_index InIndex h = false≢true h
+no_index InWidth h = false≢true h
+no_index InStart h = false≢true h
+
+no_operator : (frame : Frame) (a : After) (ts : List Token) → ends frame a ≡ true → gone a false ts [] ≡ true → ⊥
+no_operator frame (Operates op) ts at h = no_end frame op at
+no_operator frame Closes ts at h = false≢true h
+no_operator frame Separates ts at h = false≢true h
+no_operator frame Indexes ts at h = false≢true h
+no_operator frame EndsIndex ts at h = false≢true h
+no_operator frame NoAfter ts at h = false≢true h
+
+plain_end : (frame : Frame) (a : After) (ts : List Token) → ends frame a ≡ true → gone a true ts [] ≡ gone a false ts []
+plain_end frame (Operates op) ts at = refl
+plain_end frame Closes ts at = refl
+plain_end frame Separates ts at = refl
+plain_end frame Indexes ts at = absurd (no_index frame at)
+plain_end frame EndsIndex ts at = refl
+plain_end frame NoAfter ts at = refl
+
 -- an end stops what goes before it
-pub stops_at_end : (frame : Frame) (t : Token) (ts : List Token) → ends frame (after_of t.shape) ≡ true → Stops loosest (t ∷ ts)
-stops_at_end frame t ts at other rest op is operates low =
-    let same : t ≡ other = cc in
-    absurd (no_end frame op (ap (λ (a : After). ends frame a) (sym operates ∙ ap (λ (x : Token). after_of x.shape) (sym same)) ∙ at))
+pub stops_at_end : (frame : Frame) (label : Bool) (t : Token) (ts : List Token) → ends frame (after_of t.shape) ≡ true → Stops loosest label (t ∷ ts)
+stops_at_end frame label t ts at = record {
+  operator = λ other rest op is operates low. absurd (no_end frame op (ends_so other rest is (Operates op) operates));
+  index = λ other rest named is begins. absurd (no_index frame (ends_so other rest is Indexes begins));
+}
+  where
+    ends_so : (other : Token) (rest : List Token) → t ∷ ts ≡ other ∷ rest → (a : After) → after_of other.shape ≡ a → ends frame a ≡ true
+    ends_so other rest is a so =
+        let same : t ≡ other = cc in
+        ap (λ (x : After). ends frame x) (sym so ∙ ap (λ (x : Token). after_of x.shape) (sym same)) ∙ at
 
 -- the expression before an end is the one that was read
-pub one_end : {xs : List Token} {e : Term} → Derives loosest xs e → (rest : List Token) → Stops loosest rest → (frame : Frame) (ys : List Token) (t : Token) (left : List Token)
+pub one_end : {xs : List Token} {e : Term} (d : Derives loosest xs e) (rest : List Token) → Stops loosest (ends_labelled d) rest → (frame : Frame) (ys : List Token) (t : Token) (left : List Token)
     → wants ys [] ≡ true → ends frame (after_of t.shape) ≡ true → xs ++ rest ≡ ys ++ t ∷ left → (ys ≡ xs) × (rest ≡ t ∷ left)
 one_end {xs} {e} d rest stops frame ys t left whole at is = elim (fronts xs ys rest (t ∷ left) is) [
   | inl on ↦ (let none = no_longer d rest stops on.0 (t ∷ left) on.2 (subst (λ zs. wants zs [] ≡ true) on.1 whole) in
@@ -302,5 +401,6 @@ one_end {xs} {e} d rest stops frame ys t left whole at is = elim (fronts xs ys r
     shorter [] same behind = (sym (append-nil ys) ∙ sym same, sym behind)
     shorter (m ∷ more) same behind =
         let first : t ≡ m = cc in
-        let h : haves (m ∷ more) [] ≡ true = sym (accepted ys (m ∷ more) [] whole) ∙ ap (λ zs. wants zs []) (sym same) ∙ complete d in
-        absurd (no_operator frame (after_of m.shape) more (ap (λ (x : Token). ends frame (after_of x.shape)) (sym first) ∙ at) h)
+        let here : ends frame (after_of m.shape) ≡ true = ap (λ (x : Token). ends frame (after_of x.shape)) (sym first) ∙ at in
+        let h : haves false (m ∷ more) [] ≡ true = sym (accepted (m ∷ more) (plain_end frame (after_of m.shape) more here) ys [] whole) ∙ ap (λ zs. wants zs []) (sym same) ∙ complete d in
+        absurd (no_operator frame (after_of m.shape) more here h)

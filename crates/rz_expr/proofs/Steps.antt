@@ -1,5 +1,5 @@
 -- What each step of the reader answers.
-use Rattle.std.proofs.Common.{◌≡◌, ℕ, pos, zero, suc, ◌+◌, ◌-◌, ◌<◌, ◌≤◌, Bool, true, false, List, [], ◌∷◌, ◌++◌, length, take, drop, get_or, Option, Some, None, refl, sym, ap, subst, ◌∙◌, arith, append_assoc, length-append, inl, inr, ◌⊎◌}
+use Rattle.std.proofs.Common.{◌≡◌, ℕ, pos, zero, suc, ◌+◌, ◌-◌, ◌<◌, ◌≤◌, Bool, true, false, List, [], ◌∷◌, ◌++◌, length, take, drop, get_or, Option, Some, None, refl, sym, ap, subst, ◌∙◌, arith, append_assoc, length-append, inl, inr}
 use Rattle.std.specs.Prelude.{if◌then◌else◌}
 use Rattle.std.specs.Option.{is_some}
 use Rattle.std.proofs.lemmas.Bool.{false≢true, cases_eq}
@@ -16,15 +16,14 @@ use Rattle.rz_expr.specs.declared.expr.UnaryOp.{UnaryOp}
 use Rattle.rz_expr.specs.declared.expr.BinaryOp.{BinaryOp}
 use Rattle.rz_expr.specs.declared.expr.BinaryOp.TheVariants as two
 use Rattle.rz_expr.specs.declared.operators.Frame.{Frame}
-use Rattle.rz_expr.specs.declared.operators.Frame.TheVariants.{Group, InStart, InWidth}
+use Rattle.rz_expr.specs.declared.operators.Frame.TheVariants.{Group, InIndex, InStart, InWidth}
 use Rattle.rz_expr.specs.declared.words.Function.{Function}
-use Rattle.rz_expr.specs.declared.words.Function.TheVariants.{CountOf, BitField, Data}
+use Rattle.rz_expr.specs.declared.words.Function.TheVariants.{CountOf, ArrayIndex, BitField, Data}
 use Rattle.rz_expr.specs.declared.words.Role.{Role}
-use Rattle.rz_expr.specs.declared.words.Role.TheVariants as roles
-use Rattle.rz_expr.specs.Term.{Term, Constant, Named as NamedTerm, RowsOf, BitsAt, OfOne, OfTwo}
-use Rattle.rz_expr.specs.Grammar.{Start, Operand, Prefix, Bracket, Calls, NoStart, After, Operates, Closes, Separates, NoAfter, start_of, after_of, sign_start, word_start, level_of, loosest, argument, is_bracket, Derives, operand, prefixed, grouped, counted, data_at, bits_at, tighter, binary, LongestExpression, NoExpression}
-use Rattle.rz_expr.specs.Fronts.{wants, calls, ends, NoneBegins, Stops}
-use Rattle.rz_expr.specs.Reading.{prefix_at, prefix_of, prefix_count, prefixed_term, operator_of, at_level, operator_at, ends_at, Begins, IsFront, Ended, IsEnded, NoneEnds}
+use Rattle.rz_expr.specs.Term.{Term, Constant, Named as NamedTerm, Indexed, RowsOf, RowNumber, BitsAt, OfOne, OfTwo}
+use Rattle.rz_expr.specs.Grammar.{Start, Operand, Label, Prefix, Bracket, Calls, NoStart, After, Operates, Closes, Separates, Indexes, EndsIndex, NoAfter, start_of, after_of, sign_start, word_start, level_of, loosest, argument, is_bracket, Derives, operand, labelled, indexed, prefixed, grouped, counted, numbered, data_at, bits_at, tighter, binary, LongestExpression, NoExpression}
+use Rattle.rz_expr.specs.Fronts.{wants, calls, ends, ends_labelled, NoneBegins, NoneEnds, Stops}
+use Rattle.rz_expr.specs.Reading.{prefix_at, prefix_of, prefix_count, prefixed_term, operator_of, at_level, operator_at, ends_at, index_at, is_index, Begins, IsFront, Ended, IsEnded}
 use Rattle.rz_expr.proofs.Scanning.{begun, behind_name, complete, cut, none_ends, no_longer, one_end, stops_at_end}
 
 -- Fronts by their length.
@@ -33,20 +32,23 @@ one_level : (op : BinaryOp) → level_of op ≤ 0 → ⊥
 one_level two.Times low = omega (arith, low)
 one_level _ low = omega (arith, low)
 
--- no operator is as tight as an operand
-pub stops_zero : (ts : List Token) → Stops 0 ts
-stops_zero ts t rest op is operates low = absurd (one_level op low)
+-- no operator is as tight as an operand, and no index stands behind one that is no label
+pub stops_zero : (ts : List Token) → Stops 0 false ts
+stops_zero ts = record {
+  operator = λ t rest op is operates low. absurd (one_level op low);
+  index = λ t rest named is begins. absurd (false≢true named);
+}
 
 drop_front : (ts front rest : List Token) (n : ℕ) → ts ≡ front ++ rest → length front ≡ n → drop n ts ≡ rest
 drop_front ts front rest n whole long = ap (λ k. drop k ts) (sym long) ∙ ap (drop (length front)) whole ∙ drop-append_seam front rest
 
-pub is_front : (level : ℕ) (ts front rest : List Token) (n : ℕ) (e : Term) → ts ≡ front ++ rest → length front ≡ n → 0 < n → Derives level front e → Stops level rest → IsFront level ts n e
+pub is_front : (level : ℕ) (ts front rest : List Token) (n : ℕ) (e : Term) → ts ≡ front ++ rest → length front ≡ n → 0 < n → (d : Derives level front e) → Stops level (ends_labelled d) rest → IsFront level ts n e
 is_front level ts front rest n e whole long some derives stops =
     let behind = drop_front ts front rest n whole long in
     record {
       some = some;
       within = omega (arith, long, ap length whole, length-append front rest);
-      reads = record { front = front; whole = whole ∙ ap (λ xs. front ++ xs) (sym behind); derives = derives; stops = subst (Stops level) (sym behind) stops };
+      reads = record { front = front; whole = whole ∙ ap (λ xs. front ++ xs) (sym behind); derives = derives; stops = subst (Stops level (ends_labelled derives)) (sym behind) stops };
     }
 
 pub is_ended : (frame : Frame) (ts front : List Token) (end : Token) (rest : List Token) (n : ℕ) (e : Term) → ts ≡ front ++ end ∷ rest → length front + 1 ≡ n → Derives loosest front e
@@ -124,6 +126,9 @@ named_tokens f word (t ∷ a ∷ b ∷ c ∷ ts) is name = record { t = t; a = a
 pub counted_front : (word : Word) (ts : List Token) → Named CountOf word ts → IsFront 0 ts 4 (RowsOf word.bytes)
 counted_front word ts n = is_front 0 ts (n.t ∷ n.a ∷ n.b ∷ n.c ∷ []) n.rest 4 (RowsOf word.bytes) n.whole refl (omega arith) (counted n.start n.name) (stops_zero n.rest)
 
+pub numbered_front : (word : Word) (ts : List Token) → Named ArrayIndex word ts → IsFront 0 ts 4 (RowNumber word.bytes)
+numbered_front word ts n = is_front 0 ts (n.t ∷ n.a ∷ n.b ∷ n.c ∷ []) n.rest 4 (RowNumber word.bytes) n.whole refl (omega arith) (numbered n.start n.name) (stops_zero n.rest)
+
 pub data_front : (width : ℕ) (word : Word) (ts : List Token) → Named (Data width) word ts → IsFront 0 ts 4 (BitsAt word.bytes (Constant (pos 0)) (Constant (pos width)))
 data_front width word ts n = is_front 0 ts (n.t ∷ n.a ∷ n.b ∷ n.c ∷ []) n.rest 4 _ n.whole refl (omega arith) (data_at n.start n.name) (stops_zero n.rest)
 
@@ -152,7 +157,7 @@ none_wide word ts n rest e start none = field_front word ts n behind
     behind : (front left : List Token) → n.rest ≡ front ++ left → wants front (InStart ∷ []) ≡ true → ⊥
     behind front left whole h =
         let c = cut InStart [] front [] h in
-        let same = one_end start.derives (start.end ∷ rest) (stops_at_end InStart start.end rest start.ends) InStart c.front c.end (c.back ++ left) c.complete c.ends_it
+        let same = one_end start.derives (start.end ∷ rest) (stops_at_end InStart (ends_labelled start.derives) start.end rest start.ends) InStart c.front c.end (c.back ++ left) c.complete c.ends_it
         (sym start.whole ∙ whole ∙ ap (λ xs. xs ++ left) c.whole ∙ append_assoc c.front (c.end ∷ c.back) left) in
         none c.back left [] (tail start.end c.end rest (c.back ++ left) same.1) c.goes_on
 
@@ -160,19 +165,33 @@ separates_at : (a : After) → ends InStart a ≡ true → a ≡ Separates
 separates_at Separates at = refl
 separates_at Closes at = absurd (false≢true at)
 separates_at (Operates op) at = absurd (false≢true at)
+separates_at Indexes at = absurd (false≢true at)
+separates_at EndsIndex at = absurd (false≢true at)
 separates_at NoAfter at = absurd (false≢true at)
 
 closes_group : (a : After) → ends Group a ≡ true → a ≡ Closes
 closes_group Closes at = refl
 closes_group Separates at = absurd (false≢true at)
 closes_group (Operates op) at = absurd (false≢true at)
+closes_group Indexes at = absurd (false≢true at)
+closes_group EndsIndex at = absurd (false≢true at)
 closes_group NoAfter at = absurd (false≢true at)
 
 closes_width : (a : After) → ends InWidth a ≡ true → a ≡ Closes
 closes_width Closes at = refl
 closes_width Separates at = absurd (false≢true at)
 closes_width (Operates op) at = absurd (false≢true at)
+closes_width Indexes at = absurd (false≢true at)
+closes_width EndsIndex at = absurd (false≢true at)
 closes_width NoAfter at = absurd (false≢true at)
+
+closes_index : (a : After) → ends InIndex a ≡ true → a ≡ EndsIndex
+closes_index EndsIndex at = refl
+closes_index Closes at = absurd (false≢true at)
+closes_index Separates at = absurd (false≢true at)
+closes_index (Operates op) at = absurd (false≢true at)
+closes_index Indexes at = absurd (false≢true at)
+closes_index NoAfter at = absurd (false≢true at)
 
 pub field_read : (word : Word) (ts : List Token) (n : Named BitField word ts) (i j : ℕ) (start width : Term) → IsEnded InStart n.rest i start → IsEnded InWidth (drop i n.rest) j width
     → IsFront 0 ts (4 + i + j) (BitsAt word.bytes start width)
@@ -204,6 +223,50 @@ group_read (t ∷ ts) n e is f =
 pub alone_read : (ts : List Token) (e : Term) → Begins (Operand e) ts → IsFront 0 ts 1 e
 alone_read [] e is = absurd is
 alone_read (t ∷ ts) e is = is_front 0 (t ∷ ts) (t ∷ []) ts 1 e refl refl (omega arith) (operand is) (stops_zero ts)
+
+-- Labels.
+
+begins_index : (a : After) → is_index a ≡ true → a ≡ Indexes
+begins_index Indexes at = refl
+begins_index Closes at = absurd (false≢true at)
+begins_index Separates at = absurd (false≢true at)
+begins_index (Operates op) at = absurd (false≢true at)
+begins_index EndsIndex at = absurd (false≢true at)
+begins_index NoAfter at = absurd (false≢true at)
+
+-- a label behind which no index goes on
+label_read : (name : List ℕ) (t : Token) (ts : List Token) → start_of t.shape ≡ Label name
+    → ((x : Token) (rest : List Token) → ts ≡ x ∷ rest → after_of x.shape ≡ Indexes → NoneEnds InIndex rest) → IsFront 0 (t ∷ ts) 1 (NamedTerm name)
+label_read name t ts is none = is_front 0 (t ∷ ts) (t ∷ []) ts 1 (NamedTerm name) refl refl (omega arith) (labelled is) stops
+  where
+    stops : Stops 0 true ts
+    stops = record { operator = λ x rest op is operates low. absurd (one_level op low); index = λ x rest named. none x rest }
+
+pub label_alone : (ts : List Token) (name : List ℕ) → Begins (Label name) ts → index_at (drop 1 ts) ≡ false → IsFront 0 ts 1 (NamedTerm name)
+label_alone [] name is none = absurd is
+label_alone (t ∷ ts) name is none = label_read name t ts is (λ x rest at begins. absurd (false≢true (sym none ∙ ap index_at at ∙ ap is_index begins)))
+
+pub label_open : (ts : List Token) (name : List ℕ) → Begins (Label name) ts → NoneEnds InIndex (drop 2 ts) → IsFront 0 ts 1 (NamedTerm name)
+label_open [] name is none = absurd is
+label_open (t ∷ ts) name is none = label_read name t ts is (λ x rest at begins. subst (NoneEnds InIndex) (ap (drop 1) at) none)
+
+pub index_size : (ts : List Token) → index_at (drop 1 ts) ≡ true → 2 ≤ length ts
+index_size [] at = absurd (false≢true at)
+index_size (t ∷ []) at = absurd (false≢true at)
+index_size (t ∷ x ∷ ts) at = omega arith
+
+pub index_read : (ts : List Token) (name : List ℕ) (n : ℕ) (e : Term) → Begins (Label name) ts → index_at (drop 1 ts) ≡ true → IsEnded InIndex (drop 2 ts) n e
+    → IsFront 0 ts (2 + n) (Indexed name e)
+index_read [] name n e is at f = absurd is
+index_read (t ∷ []) name n e is at f = absurd (false≢true at)
+index_read (t ∷ x ∷ ts) name n e is at f =
+    let xs = f.ended.front in
+    is_front 0 (t ∷ x ∷ ts) (t ∷ x ∷ (xs ++ f.ended.end ∷ [])) (drop n ts) (2 + n) (Indexed name e)
+    (ap (λ zs. t ∷ x ∷ zs) (f.ended.whole ∙ sym (append_assoc xs (f.ended.end ∷ []) (drop n ts))))
+    (omega (arith, length-append xs (f.ended.end ∷ []), ended_length InIndex ts n e f))
+    (omega arith)
+    (indexed x f.ended.end is (begins_index _ at) f.ended.derives (closes_index _ f.ended.ends))
+    (stops_zero (drop n ts))
 
 -- The same of the tokens behind the first four.
 
@@ -240,9 +303,8 @@ alone_front ts e n other is one same = subst (λ k. IsFront 0 ts k other) (sym o
 pub begins_role : (role : Role) (bytes : List ℕ) (given : Role) (ts : List Token) → Begins (word_start given bytes) ts → given ≡ role → Begins (word_start role bytes) ts
 begins_role role bytes given ts is same = subst (λ r. Begins (word_start r bytes) ts) same is
 
-pub begins_name : (bytes : List ℕ) (given role : Role) (ts : List Token) → Begins (word_start given bytes) ts → given ≡ role → (role ≡ roles.Label) ⊎ (role ≡ roles.OtherName) → Begins (Operand (NamedTerm bytes)) ts
-begins_name bytes given role ts is same (inl label) = begins_role roles.Label bytes given ts is (same ∙ label)
-begins_name bytes given role ts is same (inr name) = begins_role roles.OtherName bytes given ts is (same ∙ name)
+pub label_front : (ts : List Token) (name : List ℕ) (n : ℕ) (e : Term) → IsFront 0 ts 1 (NamedTerm name) → n ≡ 1 → e ≡ NamedTerm name → IsFront 0 ts n e
+label_front ts name n e is one same = subst (λ k. IsFront 0 ts k e) (sym one) (subst (IsFront 0 ts 1) (sym same) is)
 
 -- An expression up to the end of a frame.
 
@@ -333,7 +395,7 @@ prefixes_read (t ∷ ts) n e f = by (prefix_at t.shape) refl (prefixes_read ts n
         let size : length (t ∷ inner.reads.front) ≡ suc (prefix_count ts) + n = omega (arith, front_length 0 ts (prefix_count ts + n) _ inner) in
         let front = is_front 0 (t ∷ ts) (t ∷ inner.reads.front) rest (suc (prefix_count ts) + n) (OfOne op (prefixed_term (take (prefix_count ts) ts) e))
         (ap (λ xs. t ∷ xs) inner.reads.whole) size (omega arith)
-        (prefixed (prefix_is t op is) inner.reads.derives) (stops_zero rest) in
+        (prefixed (prefix_is t op is) inner.reads.derives) inner.reads.stops in
         rw is front
 
 -- Operators between operands.
@@ -364,6 +426,8 @@ of_level level (Operates other) op is = elim (cases_eq (level_of other) level) [
     nothing p is = cc
 of_level level Closes op is = absurd cc
 of_level level Separates op is = absurd cc
+of_level level Indexes op is = absurd cc
+of_level level EndsIndex op is = absurd cc
 of_level level NoAfter op is = absurd cc
 
 pub operation : (level : ℕ) (ts : List Token) (op : BinaryOp) → operator_at level ts ≡ Some op → Operation level ts op
@@ -383,46 +447,47 @@ pub record SoFar (level : ℕ) (ts : List Token) (n : ℕ) (e : Term) : Type 0 w
   pub front : List Token
   pub whole : ts ≡ front ++ drop n ts
   pub derives : Derives level front e
-  pub stops : Stops (level - 1) (drop n ts)
+  pub stops : Stops (level - 1) (ends_labelled derives) (drop n ts)
 
 pub first_operand : (level : ℕ) (ts : List Token) (n : ℕ) (e : Term) → 0 < level → IsFront (level - 1) ts n e → SoFar level ts n e
 first_operand zero ts n e some f = absurd (omega (arith, some))
 first_operand (suc level) ts n e some f =
     let same : suc level - 1 ≡ level = omega arith in
+    let it = subst (λ k. IsFront k ts n e) same f in
     record {
-      some = f.some;
-      within = f.within;
-      front = f.reads.front;
-      whole = f.reads.whole;
-      derives = tighter (subst (λ k. Derives k f.reads.front e) same f.reads.derives);
-      stops = f.reads.stops;
+      some = it.some;
+      within = it.within;
+      front = it.reads.front;
+      whole = it.reads.whole;
+      derives = tighter it.reads.derives;
+      stops = subst (λ k. Stops k (ends_labelled it.reads.derives) (drop n ts)) (sym same) it.reads.stops;
     }
 
 pub no_operator : (level : ℕ) (ts : List Token) (n : ℕ) (e : Term) → 0 < level → SoFar level ts n e → operator_at level (drop n ts) ≡ None → IsFront level ts n e
 no_operator level ts n e some so none = record {
   some = so.some;
   within = so.within;
-  reads = record { front = so.front; whole = so.whole; derives = so.derives; stops = stops };
+  reads = record { front = so.front; whole = so.whole; derives = so.derives; stops = record { operator = operator; index = so.stops.index } };
 }
   where
     nothing : (p : BinaryOp) → ◌≡◌ {A = Option BinaryOp} None (Some p) → ⊥
     nothing p is = cc
 
-    stops : Stops level (drop n ts)
-    stops t rest op is operates low = elim (cases_eq (level_of op) level) [
+    operator : (t : Token) (rest : List Token) (op : BinaryOp) → drop n ts ≡ t ∷ rest → after_of t.shape ≡ Operates op → level_of op ≤ level → NoneBegins rest
+    operator t rest op is operates low = elim (cases_eq (level_of op) level) [
       | inl same ↦ absurd (nothing op (sym none ∙ ap (operator_at level) is ∙ operator_found level t rest op operates same))
-      | inr differ ↦ so.stops t rest op is operates (omega (arith, low, differ, some))
+      | inr differ ↦ so.stops.operator t rest op is operates (omega (arith, low, differ, some))
     ]
 
 pub no_operand : (level : ℕ) (ts : List Token) (n : ℕ) (e : Term) (op : BinaryOp) → SoFar level ts n e → operator_at level (drop n ts) ≡ Some op → NoneBegins (drop 1 (drop n ts)) → IsFront level ts n e
 no_operand level ts n e op so found none = record {
   some = so.some;
   within = so.within;
-  reads = record { front = so.front; whole = so.whole; derives = so.derives; stops = stops };
+  reads = record { front = so.front; whole = so.whole; derives = so.derives; stops = record { operator = operator; index = so.stops.index } };
 }
   where
-    stops : Stops level (drop n ts)
-    stops t rest other is operates low = subst NoneBegins (ap (drop 1) is) none
+    operator : (t : Token) (rest : List Token) (other : BinaryOp) → drop n ts ≡ t ∷ rest → after_of t.shape ≡ Operates other → level_of other ≤ level → NoneBegins rest
+    operator t rest other is operates low = subst NoneBegins (ap (drop 1) is) none
 
 pub one_operand_more : (level : ℕ) (ts : List Token) (n m : ℕ) (l r : Term) (op : BinaryOp) → 0 < level → SoFar level ts n l → operator_at level (drop n ts) ≡ Some op
     → IsFront (level - 1) (drop 1 (drop n ts)) m r → SoFar level ts (n + 1 + m) (OfTwo op l r)
@@ -432,16 +497,17 @@ one_operand_more (suc level) ts n m l r op some so found right =
     let o = operation (suc level) (drop n ts) op found in
     let tail : drop 1 (drop n ts) ≡ o.rest = ap (drop 1) o.whole in
     let left_over : drop m (drop 1 (drop n ts)) ≡ drop (n + 1 + m) ts = ap (drop m) (drop-drop 1 n ts) ∙ drop-drop m (n + 1) ts in
-    let ys = right.reads.front in
+    let it = subst (λ k. IsFront k (drop 1 (drop n ts)) m r) same right in
+    let ys = it.reads.front in
     let size : length (drop n ts) ≡ suc (length o.rest) = ap length o.whole in
     record {
       some = omega arith;
-      within = omega (arith, so.within, right.within, size, ap length tail, length-drop n ts);
+      within = omega (arith, so.within, it.within, size, ap length tail, length-drop n ts);
       front = so.front ++ o.t ∷ ys;
-      whole = so.whole ∙ ap (λ xs. so.front ++ xs) (o.whole ∙ ap (λ xs. o.t ∷ xs) (sym tail ∙ right.reads.whole ∙ ap (λ xs. ys ++ xs) left_over))
+      whole = so.whole ∙ ap (λ xs. so.front ++ xs) (o.whole ∙ ap (λ xs. o.t ∷ xs) (sym tail ∙ it.reads.whole ∙ ap (λ xs. ys ++ xs) left_over))
           ∙ sym (append_assoc so.front (o.t ∷ ys) (drop (n + 1 + m) ts));
-      derives = binary so.front ys o.t o.is o.at so.derives (subst (λ k. Derives k ys r) same right.reads.derives);
-      stops = subst (Stops (suc level - 1)) left_over right.reads.stops;
+      derives = binary so.front ys o.t o.is o.at so.derives it.reads.derives;
+      stops = subst (λ k. Stops k (ends_labelled it.reads.derives) (drop (n + 1 + m) ts)) (sym same) (subst (Stops level (ends_labelled it.reads.derives)) left_over it.reads.stops);
     }
 
 -- The whole reader.

@@ -4,7 +4,7 @@ use Rattle.std.specs.Option.{is_some}
 use Rattle.std.specs.Result.{result_ok}
 use Rattle.rz_expr.specs.Environment.{place_of, predefined, Key, Sight}
 use Rattle.rz_expr.specs.Grammar.{IsExpression}
-use Rattle.rz_expr.specs.Term.{BitsAt, Constant, FactOf, Named, OfOne, OfTwo, RowsOf, Term}
+use Rattle.rz_expr.specs.Term.{BitsAt, Constant, FactOf, Indexed, Named, OfOne, OfTwo, RowNumber, RowsOf, Term}
 use Rattle.rz_expr.specs.Value.{value_of}
 use Rattle.rz_lex.specs.declared.token.Token.{Token}
 
@@ -12,7 +12,9 @@ use Rattle.rz_lex.specs.declared.token.Token.{Token}
 abbrev pub is_constant : Term → Bool
 is_constant (Constant number) = true
 is_constant (Named name) = is_some (predefined name)
+is_constant (Indexed name index) = false
 is_constant (RowsOf name) = false
+is_constant (RowNumber name) = false
 is_constant (BitsAt name start width) = false
 is_constant (FactOf which) = false
 is_constant (OfOne op operand) = is_constant operand

@@ -3,11 +3,15 @@ use Rattle.std.specs.Prelude.{◌≡◌, ℕ, ℤ, pos, codes, if◌then◌else�
 use Rattle.std.specs.Str.{str_eq_ignore_ascii_case, str_to_ascii_lowercase}
 use Rattle.rz_expr.specs.declared.words.FactWord.{FactWord}
 
--- what can have a value: a name by itself, as a label, and an array by the number of its rows; names are the same in
--- whatever case
+-- What can have a value: a name by itself, as a label, and an array by the number of its rows; a label in the rows of an array
+-- by the number of these rows, and by its place in one of them, which are counted from 1; and an array by the number of the
+-- row around. Names are the same in whatever case.
 pub data Key : Type 0 where
   place_of : List ℕ → Key
   count_of : List ℕ → Key
+  rows_of : List ℕ → Key
+  place_in : List ℕ → ℤ → Key
+  row_in : List ℕ → Key
 
 -- the key of a name in any case
 abbrev pub place_key : List ℕ → Key
@@ -15,6 +19,15 @@ place_key name = place_of (str_to_ascii_lowercase name)
 
 abbrev pub count_key : List ℕ → Key
 count_key name = count_of (str_to_ascii_lowercase name)
+
+abbrev pub rows_key : List ℕ → Key
+rows_key name = rows_of (str_to_ascii_lowercase name)
+
+abbrev pub place_in_key : List ℕ → ℤ → Key
+place_in_key name number = place_in (str_to_ascii_lowercase name) number
+
+abbrev pub row_key : List ℕ → Key
+row_key name = row_in (str_to_ascii_lowercase name)
 
 -- the values of the words that are names in every expression
 abbrev pub predefined : List ℕ → Option ℤ

@@ -11,10 +11,10 @@ use Rattle.rz_expr.specs.declared.expr.UnaryOp.TheVariants as one
 use Rattle.rz_expr.specs.declared.expr.BinaryOp.{BinaryOp}
 use Rattle.rz_expr.specs.declared.expr.BinaryOp.TheVariants as two
 use Rattle.rz_expr.specs.declared.words.Function.{Function}
-use Rattle.rz_expr.specs.declared.words.Function.TheVariants.{CountOf, BitField, Data}
+use Rattle.rz_expr.specs.declared.words.Function.TheVariants.{CountOf, ArrayIndex, BitField, Data}
 use Rattle.rz_expr.specs.declared.words.Role.{Role}
 use Rattle.rz_expr.specs.declared.words.Role.TheVariants as roles
-use Rattle.rz_expr.specs.Term.{Term, Constant, Named, RowsOf, BitsAt, FactOf, OfOne, OfTwo}
+use Rattle.rz_expr.specs.Term.{Term, Constant, Named, Indexed, RowsOf, RowNumber, BitsAt, FactOf, OfOne, OfTwo}
 use Rattle.rz_expr.specs.Value.{reduced}
 use Rattle.rz_expr.specs.Words.{is_label, is_name, role_of}
 
@@ -22,6 +22,7 @@ use Rattle.rz_expr.specs.Words.{is_label, is_name, role_of}
 
 pub data Start : Type 0 where
   Operand : Term → Start  -- an operand by itself
+  Label : List ℕ → Start  -- a label, behind which an index may follow
   Prefix : UnaryOp → Start  -- an operator before an operand
   Bracket : Start  -- `(`
   Calls : Function → Start  -- a function, whose name in brackets follows
@@ -34,7 +35,7 @@ bytes_number number (b ∷ bs) = bytes_number (256 * number + b) bs
 
 -- a word
 abbrev pub word_start : Role → List ℕ → Start
-word_start roles.Label name = Operand (Named name)
+word_start roles.Label name = Label name
 word_start roles.OtherName name = Operand (Named name)
 word_start (roles.Fact which) name = Operand (FactOf which)
 word_start (roles.Call function) name = Calls function
@@ -62,11 +63,15 @@ pub data After : Type 0 where
   Operates : BinaryOp → After  -- an operator between operands
   Closes : After  -- `)`
   Separates : After  -- `,`
+  Indexes : After  -- `[`
+  EndsIndex : After  -- `]`
   NoAfter : After
 
 abbrev pub sign_after : Sign → After
 sign_after signs.CloseParen = Closes
 sign_after signs.Comma = Separates
+sign_after signs.OpenBracket = Indexes
+sign_after signs.CloseBracket = EndsIndex
 sign_after signs.Star = Operates two.Times
 sign_after signs.Slash = Operates two.Divide
 sign_after signs.Percent = Operates two.Remainder
@@ -117,9 +122,10 @@ loosest = 10
 
 -- The name of a function's brackets.
 
--- a function counts what any name may name, and reads bits at a label
+-- a function counts the rows of what any name may name, or tells which of them it stands in, and reads bits at a label
 abbrev pub may_name : Function → Role → Bool
 may_name CountOf role = is_name role
+may_name ArrayIndex role = is_name role
 may_name BitField role = is_label role
 may_name (Data width) role = is_label role
 
@@ -134,6 +140,7 @@ separates other = false
 -- behind the name the brackets of a bit field go on, and all others end
 abbrev pub ends_name : Function → After → Bool
 ends_name CountOf after = closes after
+ends_name ArrayIndex after = closes after
 ends_name (Data width) after = closes after
 ends_name BitField after = separates after
 
@@ -157,11 +164,16 @@ argument function (a ∷ b ∷ c ∷ ts) =
 -- expression of that level on its left, and a tighter one on its right: all of one level go from left to right.
 pub data Derives : ℕ → List Token → Term → Type 0 where
   operand : {t : Token} {e : Term} → start_of t.shape ≡ Operand e → Derives 0 (t ∷ []) e
+  labelled : {t : Token} {name : List ℕ} → start_of t.shape ≡ Label name → Derives 0 (t ∷ []) (Named name)
+  indexed : {t : Token} {name : List ℕ} {ts : List Token} {e : Term} (bracket close : Token) → start_of t.shape ≡ Label name → after_of bracket.shape ≡ Indexes
+      → Derives loosest ts e → after_of close.shape ≡ EndsIndex → Derives 0 (t ∷ bracket ∷ (ts ++ close ∷ [])) (Indexed name e)
   prefixed : {t : Token} {ts : List Token} {op : UnaryOp} {e : Term} → start_of t.shape ≡ Prefix op → Derives 0 ts e → Derives 0 (t ∷ ts) (OfOne op e)
   grouped : {t : Token} {ts : List Token} {e : Term} (close : Token) → start_of t.shape ≡ Bracket → Derives loosest ts e → after_of close.shape ≡ Closes
       → Derives 0 (t ∷ (ts ++ close ∷ [])) e
   counted : {t a b c : Token} {word : Word} → start_of t.shape ≡ Calls CountOf → argument CountOf (a ∷ b ∷ c ∷ []) ≡ Some word
       → Derives 0 (t ∷ a ∷ b ∷ c ∷ []) (RowsOf word.bytes)
+  numbered : {t a b c : Token} {word : Word} → start_of t.shape ≡ Calls ArrayIndex → argument ArrayIndex (a ∷ b ∷ c ∷ []) ≡ Some word
+      → Derives 0 (t ∷ a ∷ b ∷ c ∷ []) (RowNumber word.bytes)
   data_at : {t a b c : Token} {word : Word} {width : ℕ} → start_of t.shape ≡ Calls (Data width) → argument (Data width) (a ∷ b ∷ c ∷ []) ≡ Some word
       → Derives 0 (t ∷ a ∷ b ∷ c ∷ []) (BitsAt word.bytes (Constant (pos 0)) (Constant (pos width)))
   bits_at : {t a b c : Token} {word : Word} {xs ys : List Token} {start width : Term} (comma close : Token)

@@ -10,8 +10,8 @@ use Rattle.rz_expr.specs.declared.expr.UnaryOp.{UnaryOp}
 use Rattle.rz_expr.specs.declared.expr.UnaryOp.TheVariants as one
 use Rattle.rz_expr.specs.declared.expr.BinaryOp.{BinaryOp}
 use Rattle.rz_expr.specs.declared.operators.Frame.{Frame}
-use Rattle.rz_expr.specs.Fronts.{wants, ends, Reads}
-use Rattle.rz_expr.specs.Grammar.{Start, After, Operates, start_of, after_of, level_of, loosest, Derives}
+use Rattle.rz_expr.specs.Fronts.{ends, Reads}
+use Rattle.rz_expr.specs.Grammar.{Start, After, Operates, Indexes, start_of, after_of, level_of, loosest, Derives}
 use Rattle.rz_expr.specs.Term.{Term, OfOne}
 
 -- the operator before an operand that a sign is
@@ -53,6 +53,15 @@ abbrev pub operator_at : ℕ → List Token → Option BinaryOp
 operator_at level [] = None
 operator_at level (t ∷ ts) = at_level level (operator_of (after_of t.shape))
 
+-- an index begins here
+abbrev pub is_index : After → Bool
+is_index Indexes = true
+is_index other = false
+
+abbrev pub index_at : List Token → Bool
+index_at [] = false
+index_at (t ∷ ts) = is_index (after_of t.shape)
+
 -- what is open ends here
 abbrev pub ends_at : Frame → List Token → Bool
 ends_at frame [] = false
@@ -81,7 +90,3 @@ pub record IsEnded (frame : Frame) (ts : List Token) (n : ℕ) (e : Term) : Type
   pub some : 0 < n
   pub within : n ≤ length ts
   pub ended : Ended frame ts (drop n ts) e
-
--- no front completes what is open
-abbrev pub NoneEnds : Frame → List Token → Type 0
-NoneEnds frame ts = (front left : List Token) (below : List Frame) → ts ≡ front ++ left → wants front (frame ∷ below) ≡ true → ⊥

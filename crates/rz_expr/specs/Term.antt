@@ -3,13 +3,15 @@ use Rattle.std.specs.Prelude.{ℕ, ℤ, Bool, true, false, ◌||◌, List}
 use Rattle.rz_expr.specs.declared.expr.UnaryOp.{UnaryOp}
 use Rattle.rz_expr.specs.declared.expr.BinaryOp.{BinaryOp}
 use Rattle.rz_expr.specs.declared.expr.Expr.{Expr}
-use Rattle.rz_expr.specs.declared.expr.Expr.TheVariants.{Number, Name, Count, Bits', Fact, Unary', Binary'}
+use Rattle.rz_expr.specs.declared.expr.Expr.TheVariants.{Number, Name, Indexed', Count, ArrayIndex, Bits', Fact, Unary', Binary'}
 use Rattle.rz_expr.specs.declared.words.FactWord.{FactWord}
 
 pub data Term : Type 0 where
   Constant : ℤ → Term
   Named : List ℕ → Term
+  Indexed : List ℕ → Term → Term
   RowsOf : List ℕ → Term
+  RowNumber : List ℕ → Term
   BitsAt : List ℕ → Term → Term → Term
   FactOf : FactWord → Term
   OfOne : UnaryOp → Term → Term
@@ -19,7 +21,9 @@ pub data Term : Type 0 where
 abbrev pub term_of : Expr → Term
 term_of (Number n) = Constant n
 term_of (Name word) = Named word.bytes
+term_of (Indexed' word p index) = Indexed word.bytes (term_of index)
 term_of (Count word) = RowsOf word.bytes
+term_of (ArrayIndex word) = RowNumber word.bytes
 term_of (Bits' word p start q width) = BitsAt word.bytes (term_of start) (term_of width)
 term_of (Fact which) = FactOf which
 term_of (Unary' op p operand) = OfOne op (term_of operand)
@@ -29,7 +33,9 @@ term_of (Binary' op p left q right) = OfTwo op (term_of left) (term_of right)
 abbrev pub has_names : Term → Bool
 has_names (Constant n) = false
 has_names (Named name) = true
+has_names (Indexed name index) = true
 has_names (RowsOf name) = true
+has_names (RowNumber name) = true
 has_names (BitsAt name start width) = true
 has_names (FactOf which) = false
 has_names (OfOne op operand) = has_names operand

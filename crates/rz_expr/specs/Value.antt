@@ -8,9 +8,9 @@ use Rattle.rz_expr.specs.declared.expr.UnaryOp.TheVariants as one
 use Rattle.rz_expr.specs.declared.expr.BinaryOp.{BinaryOp}
 use Rattle.rz_expr.specs.declared.expr.BinaryOp.TheVariants as two
 use Rattle.rz_expr.specs.declared.value.EvalFault.{EvalFault}
-use Rattle.rz_expr.specs.declared.value.EvalFault.TheVariants.{ZeroDivisor, UnknownName, LaterData, DataWidth, BadShift}
-use Rattle.rz_expr.specs.Term.{Term, Constant, Named, RowsOf, BitsAt, FactOf, OfOne, OfTwo}
-use Rattle.rz_expr.specs.Environment.{Sight, place_key, count_key}
+use Rattle.rz_expr.specs.declared.value.EvalFault.TheVariants.{ZeroDivisor, UnknownName, BadIndex, LaterData, DataWidth, BadShift}
+use Rattle.rz_expr.specs.Term.{Term, Constant, Named, Indexed, RowsOf, RowNumber, BitsAt, FactOf, OfOne, OfTwo}
+use Rattle.rz_expr.specs.Environment.{Environment, Sight, place_key, count_key, rows_key, place_in_key, row_key}
 
 -- reduced to 32 bits with a sign
 abbrev pub reduced : ℤ → ℤ
@@ -70,6 +70,12 @@ abbrev pub known_value : List ℕ → Option ℤ → Result ℤ EvalFault
 known_value name (Some value) = Ok (reduced value)
 known_value name None = Err (UnknownName (record { bytes = name }))
 
+-- the place of a label in the row of this number, where its array has so many rows
+abbrev pub place_in_row : List ℕ → Environment → ℤ → Option ℤ → Result ℤ EvalFault
+place_in_row name names number None = Err (UnknownName (record { bytes = name }))
+place_in_row name names number (Some rows) =
+    if int_lt number (pos 1) || int_lt rows number then Err (BadIndex number) else known_value name (names.give (place_in_key name number))
+
 -- the number in so many bits, 1 to 32, from a bit on, where they are there
 abbrev pub known_bits : ℤ → ℤ → Option ℤ → Result ℤ EvalFault
 known_bits first width (Some number) = Ok (reduced number)
@@ -83,6 +89,7 @@ number_at sight first width =
 abbrev pub stays : EvalFault → Bool
 stays ZeroDivisor = true
 stays (UnknownName name) = false
+stays (BadIndex number) = true
 stays (LaterData first end) = false
 stays (DataWidth width) = true
 stays (BadShift count) = true
@@ -93,11 +100,14 @@ IsUnknown (Err (UnknownName name)) = Unit {0}
 IsUnknown other = ⊥
 
 -- the value, or the first fault: the left operand's, else the right operand's, else the operator's; of bits the name's,
--- else the start's, else the width's, else that of bits that aren't there
+-- else the start's, else the width's, else that of bits that aren't there; of an indexed label the index's, else that of a
+-- label whose rows aren't known, else that of an index that is none of them
 abbrev pub value_of : Term → Sight → Result ℤ EvalFault
 value_of (Constant number) sight = Ok number
 value_of (Named name) sight = known_value name (sight.names.give (place_key name))
+value_of (Indexed name index) sight = value_of index sight >>= λ number. place_in_row name sight.names number (sight.names.give (rows_key name))
 value_of (RowsOf name) sight = known_value name (sight.names.give (count_key name))
+value_of (RowNumber name) sight = known_value name (sight.names.give (row_key name))
 value_of (BitsAt name start width) sight =
     known_value name (sight.names.give (place_key name))
     >>= λ place. value_of start sight

@@ -6,7 +6,7 @@ use Rattle.rz_expr.specs.Attribute.{attribute_word}
 use Rattle.rz_expr.specs.Keyword.{keyword_of}
 use Rattle.rz_expr.specs.declared.keyword.Keyword.{Keyword}
 use Rattle.rz_expr.specs.declared.words.FactWord.TheVariants as facts
-use Rattle.rz_expr.specs.declared.words.Function.TheVariants.{CountOf, BitField, Data}
+use Rattle.rz_expr.specs.declared.words.Function.TheVariants.{CountOf, ArrayIndex, BitField, Data}
 use Rattle.rz_expr.specs.declared.words.Role.{Role}
 use Rattle.rz_expr.specs.declared.words.Role.TheVariants.{Label, OtherName, Fact, Call, Text, Reserved, OtherFunction}
 use Rattle.rz_expr.specs.declared.words.TextWord.TheVariants as texts
@@ -50,6 +50,7 @@ fact_role name =
 abbrev pub function_role : List ℕ → Role
 function_role name =
     if is (codes "CountOf") name then Call CountOf
+    else if is (codes "ArrayIndex") name then Call ArrayIndex
     else if is (codes "BitField") name then Call BitField
     else if is (codes "Byte") name then Call (Data 8)
     else if is (codes "Word") name then Call (Data 16)

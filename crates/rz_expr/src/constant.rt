@@ -27,6 +27,18 @@ impl Env for ConstantEnv {
         None
     }
 
+    fn rows(&self, _label: &Word) -> Option<u64> {
+        None
+    }
+
+    fn place_at(&self, _label: &Word, _row: i32) -> Option<i32> {
+        None
+    }
+
+    fn row(&self, _array: &Word) -> Option<i32> {
+        None
+    }
+
     fn bits(&self, _name: &Word, _start: i32, _width: i32) -> Option<u32> {
         None
     }
@@ -46,7 +58,8 @@ pub fn is_constant(expr: &Expr) -> bool
     match expr {
         Expr::Number(_) => true,
         Expr::Name(name) => predefined(name).is_some(),
-        Expr::Count(_) | Expr::Bits(..) | Expr::Fact(_) => false,
+        Expr::Indexed(..) | Expr::Count(_) | Expr::ArrayIndex(_) | Expr::Bits(..) | Expr::Fact(_) =>
+            false,
         Expr::Unary(_, operand) => is_constant(operand),
         Expr::Binary(_, left, right) => is_constant(left) && is_constant(right),
     }

@@ -14,7 +14,13 @@ pub fn copy(alloc: Global, expr: &Expr) -> Result<Expr, NoMemory>
     match expr {
         Expr::Number(number) => Ok(Expr::Number(*number)),
         Expr::Name(name) => Ok(Expr::Name(name.copy(alloc)?)),
+        Expr::Indexed(name, index) => {
+            let name = name.copy(alloc)?;
+            let index = copy(alloc, index)?;
+            Ok(Expr::Indexed(name, Box::new(alloc, index)?))
+        }
         Expr::Count(name) => Ok(Expr::Count(name.copy(alloc)?)),
+        Expr::ArrayIndex(name) => Ok(Expr::ArrayIndex(name.copy(alloc)?)),
         Expr::Bits(name, start, width) => {
             let name = name.copy(alloc)?;
             let start = copy(alloc, start)?;

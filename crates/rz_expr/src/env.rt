@@ -1,7 +1,7 @@
 //! What an expression sees: names, bits and facts. What an environment must give is in `specs/Environment`.
 
 ghost use Rattle.std.specs.Prelude.{◌≡◌, ◌≤◌, ◌+ℤ◌, pos, ℤ, ◌≤ℤ◌, IfSome, option_map};
-ghost use Rattle.rz_expr.specs.Environment.{Sight, IsSeenIn, count_key, place_key, predefined};
+ghost use Rattle.rz_expr.specs.Environment.{Sight, IsSeenIn, count_key, place_in_key, place_key, predefined, row_key, rows_key};
 ghost use Rattle.rz_expr.specs.Value.{reduced};
 
 use crate::FactWord;
@@ -38,6 +38,20 @@ pub trait Env {
     /// The number of rows of an array, wrapped to 32 bits with a sign.
     fn count(&self, name: &Word) -> Option<i32>
         ensures { result ≡ option_map reduced ((view self.now).names.give (count_key name.now.bytes)) };
+
+    /// The number of rows of the array whose rows have a label; `None` where its rows aren't known.
+    fn rows(&self, label: &Word) -> Option<u64>
+        ensures { option_map (λ rows. pos rows) result ≡ (view self.now).names.give (rows_key label.now.bytes) };
+
+    /// The place of a label in the row of this number, from 1, in bits from the start of the resource; `None` where there
+    /// is no such row, or its place isn't known.
+    fn place_at(&self, label: &Word, row: i32) -> Option<i32>
+        ensures { result ≡ (view self.now).names.give (place_in_key label.now.bytes row) };
+
+    /// The number of the row of an array around, from 1, wrapped to 32 bits with a sign; `None` where no array of that name
+    /// is around.
+    fn row(&self, array: &Word) -> Option<i32>
+        ensures { result ≡ option_map reduced ((view self.now).names.give (row_key array.now.bytes)) };
 
     /// The unsigned number in the bits, as many as `width` says, from 1 to 32, that begin `start` bits behind
     /// a label; `None` where they aren't there.

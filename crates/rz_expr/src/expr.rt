@@ -63,8 +63,12 @@ pub enum Expr {
     Number(i32),
     /// The value of a name: of a label its place in bits from the start of the resource.
     Name(Word),
+    /// The place of a label in a row of its array, whose number is the operand, from 1.
+    Indexed(Word, Box<Expr>),
     /// The number of rows of an array.
     Count(Word),
+    /// The number of the row of an array in which it stands, from 1.
+    ArrayIndex(Word),
     /// The bits that begin so many bits behind a label, as many as the last operand says.
     Bits(Word, Box<Expr>, Box<Expr>),
     /// A fact of the resource or the moment.

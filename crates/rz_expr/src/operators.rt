@@ -2,19 +2,21 @@
 
 ghost use Rattle.std.specs.Prelude.{◌≡◌, ◌≤◌, length};
 ghost use Rattle.std.specs.Option.{option_copied};
-ghost use Rattle.rz_expr.specs.Fronts.{ends};
+ghost use Rattle.rz_expr.specs.Fronts.{ends, ends_index};
 ghost use Rattle.rz_expr.specs.Grammar.{after_of, argument, closes, ends_name, is_bracket, level_of, may_name, named_by, separates, sign_after, start_of};
-ghost use Rattle.rz_expr.specs.Reading.{at_level, ends_at, operator_at, operator_of, prefix_at, prefix_count, prefix_of};
+ghost use Rattle.rz_expr.specs.Reading.{at_level, ends_at, index_at, is_index, operator_at, operator_of, prefix_at, prefix_count, prefix_of};
 
 use crate::{BinaryOp, Function, Role, UnaryOp, role_of};
 use rz_core::Word;
 use rz_lex::{Shape, Sign, Token};
 
-/// What is open in an expression: brackets, or a bit field before its start or its width.
+/// What is open in an expression: brackets, the index of a label, or a bit field before its start or its width.
 #[derive(Clone, Copy, Debug, PartialEq, Eq)]
 pub enum Frame {
     /// `(`
     Group,
+    /// `label[`
+    InIndex,
     /// `$$BitField(label,`
     InStart,
     /// `$$BitField(label, start,`
@@ -150,6 +152,7 @@ fn ends(frame: Frame, token: &Token) -> bool
         Shape::Sign(sign) => match frame {
             Frame::Group | Frame::InWidth => is_close(*sign),
             Frame::InStart => is_comma(*sign),
+            Frame::InIndex => is_index_end(*sign),
         },
         _ => false,
     }
@@ -165,6 +168,28 @@ fn is_comma(sign: Sign) -> bool
     ensures { result ≡ separates (sign_after sign) }
 {
     matches!(sign, Sign::Comma)
+}
+
+fn is_index_end(sign: Sign) -> bool
+    ensures { result ≡ ends_index (sign_after sign) }
+{
+    matches!(sign, Sign::CloseBracket)
+}
+
+/// Whether an index begins at the front.
+pub fn index_at(tokens: &[Token]) -> bool
+    ensures { result ≡ index_at tokens.now }
+{
+    match tokens {
+        [first, ..] => is_index(first),
+        [] => false,
+    }
+}
+
+fn is_index(token: &Token) -> bool
+    ensures { result ≡ is_index (after_of token.now.shape) }
+{
+    matches!(&token.shape, Shape::Sign(Sign::OpenBracket))
 }
 
 /// The name behind a function's word: a bracket, the name, and what goes on or ends behind it.
@@ -193,7 +218,7 @@ fn ends_name(function: Function, token: &Token) -> bool
     ensures { result ≡ ends_name function (after_of token.now.shape) }
 {
     match function {
-        Function::CountOf | Function::Data(_) => ends(Frame::Group, token),
+        Function::CountOf | Function::ArrayIndex | Function::Data(_) => ends(Frame::Group, token),
         Function::BitField => ends(Frame::InStart, token),
     }
 }
@@ -211,7 +236,7 @@ fn may_name(function: Function, role: Role) -> bool
     ensures { result ≡ may_name function role }
 {
     match function {
-        Function::CountOf => role.is_name(),
+        Function::CountOf | Function::ArrayIndex => role.is_name(),
         Function::BitField | Function::Data(_) => role.is_label(),
     }
 }

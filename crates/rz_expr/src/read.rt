@@ -1,16 +1,16 @@
 //! The reader of expressions, from loose operators down to operands. The grammar is in `specs/Grammar`.
 
 ghost use Rattle.std.specs.Prelude.{◌≡◌, ◌+◌, ◌*◌, ◌%◌, ◌^◌, ◌<◌, ◌≤◌, true, None, pos, length, drop, List, IfOk, IfSome, MatchOption};
-ghost use Rattle.rz_expr.specs.Fronts.{NoneBegins};
-ghost use Rattle.rz_expr.specs.Grammar.{bytes_number, is_bracket, loosest, sign_start, word_start, Bracket, Calls, IsExpression, LongestExpression, NoExpression};
-ghost use Rattle.rz_expr.specs.Reading.{prefix_count, prefix_of, prefixed_term, Begins, IsEnded, IsFront, NoneEnds};
-ghost use Rattle.rz_expr.specs.Term.{term_of, BitsAt, Constant, Term};
+ghost use Rattle.rz_expr.specs.Fronts.{NoneBegins, NoneEnds};
+ghost use Rattle.rz_expr.specs.Grammar.{bytes_number, is_bracket, loosest, sign_start, word_start, Bracket, Calls, IsExpression, Label, LongestExpression, NoExpression};
+ghost use Rattle.rz_expr.specs.Reading.{prefix_count, prefix_of, prefixed_term, Begins, IsEnded, IsFront};
+ghost use Rattle.rz_expr.specs.Term.{term_of, BitsAt, Constant, Indexed, Term};
 ghost use Rattle.rz_expr.specs.Value.{reduced};
 ghost use Rattle.rz_expr.specs.Words.{role_of};
 ghost use Rattle.rz_expr.specs.declared.words.Function.TheVariants as function;
 ghost use Rattle.rz_lex.specs.declared.token.Token.{Token};
 
-use crate::operators::{Frame, argument, ends_at, operator_at, prefix_at, prefix_count};
+use crate::operators::{Frame, argument, ends_at, index_at, operator_at, prefix_at, prefix_count};
 use crate::value::signed;
 use crate::{Expr, Function, Role, role_of};
 use rz_core::{Bytes, NoMemory, Word};
@@ -239,13 +239,42 @@ fn read_word(alloc: Global, tokens: &[Token], word: &Word) -> Result<Option<Fron
         (λ front. IsFront 0 tokens.now front.length (term_of front.expr))) }
 {
     match role_of(word) {
-        Role::Label | Role::OtherName => Ok(Some(alone(Expr::Name(word.copy(alloc)?)))),
+        Role::Label => read_label(alloc, tokens, word),
+        Role::OtherName => Ok(Some(alone(Expr::Name(word.copy(alloc)?)))),
         Role::Fact(which) => Ok(Some(alone(Expr::Fact(which)))),
         Role::Call(Function::CountOf) => read_count(alloc, tokens),
+        Role::Call(Function::ArrayIndex) => read_row_number(alloc, tokens),
         Role::Call(Function::Data(width)) => read_data(alloc, tokens, width),
         Role::Call(Function::BitField) => read_bit_field(alloc, tokens),
         Role::Text(_) | Role::Reserved(_) | Role::OtherFunction => Ok(None),
     }
+}
+
+/// A label, with the index behind it where one is there: where what begins as one goes on otherwise, the label
+/// alone is read.
+#[cycle(read)]
+fn read_label(alloc: Global, tokens: &[Token], label: &Word) -> Result<Option<Front>, NoMemory>
+    requires { Begins (Label label.now.bytes) tokens.now }
+    ensures { IfOk result (λ found. MatchOption found (NoneBegins tokens.now)
+        (λ front. IsFront 0 tokens.now front.length (term_of front.expr))) }
+{
+    if !index_at(behind(tokens, 1)) {
+        return Ok(Some(alone(Expr::Name(label.copy(alloc)?))));
+    }
+    match read_until(alloc, behind(tokens, 2), Frame::InIndex)? {
+        Some(index) => Ok(Some(Front {
+            expr: indexed(alloc, label, index.expr)?,
+            length: 2 + index.length,
+        })),
+        None => Ok(Some(alone(Expr::Name(label.copy(alloc)?)))),
+    }
+}
+
+/// A label in the row whose number is the index.
+fn indexed(alloc: Global, label: &Word, index: Expr) -> Result<Expr, NoMemory>
+    ensures { IfOk result (λ expr. term_of expr ≡ Indexed label.now.bytes (term_of index)) }
+{
+    Ok(Expr::Indexed(label.copy(alloc)?, Box::new(alloc, index)?))
 }
 
 /// The number of rows of an array.
@@ -257,6 +286,21 @@ fn read_count(alloc: Global, tokens: &[Token]) -> Result<Option<Front>, NoMemory
     match argument(Function::CountOf, behind(tokens, 1)) {
         Some(name) => Ok(Some(Front {
             expr: Expr::Count(name.copy(alloc)?),
+            length: 4,
+        })),
+        None => Ok(None),
+    }
+}
+
+/// The number of a row of an array.
+fn read_row_number(alloc: Global, tokens: &[Token]) -> Result<Option<Front>, NoMemory>
+    requires { Begins (Calls function.ArrayIndex) tokens.now }
+    ensures { IfOk result (λ found. MatchOption found (NoneBegins tokens.now)
+        (λ front. IsFront 0 tokens.now front.length (term_of front.expr))) }
+{
+    match argument(Function::ArrayIndex, behind(tokens, 1)) {
+        Some(name) => Ok(Some(Front {
+            expr: Expr::ArrayIndex(name.copy(alloc)?),
             length: 4,
         })),
         None => Ok(None),

@@ -4,11 +4,11 @@ ghost use Rattle.std.specs.Prelude.{◌≡◌, ◌≢◌, ◌^◌, ◌+ℤ◌, �
 ghost use Rattle.std.specs.Int.{int_shr};
 ghost use Rattle.rz_core.specs.Stop.{Gives};
 ghost use Rattle.rz_core.specs.declared.stop.Stop.TheVariants as stop;
-ghost use Rattle.rz_expr.specs.Environment.{Sight, place_key};
+ghost use Rattle.rz_expr.specs.Environment.{Sight, place_key, rows_key};
 ghost use Rattle.rz_expr.specs.Term.{has_names, term_of};
 ghost use Rattle.rz_expr.specs.Unvalued.{fault_of, held, IsCopyOf};
 ghost use Rattle.rz_expr.specs.declared.value.EvalFault.TheVariants as fault;
-ghost use Rattle.rz_expr.specs.Value.{divided, known_value, IsUnknown, number_at, operate, operate_one, reduced, shifted, truth, value_of};
+ghost use Rattle.rz_expr.specs.Value.{divided, known_value, IsUnknown, number_at, operate, operate_one, place_in_row, reduced, shifted, truth, value_of};
 
 use crate::{BinaryOp, Env, Expr, UnaryOp};
 use rz_core::{NoMemory, Stop, Word};
@@ -21,6 +21,8 @@ pub enum EvalFault {
     ZeroDivisor,
     /// A name or an array has no value.
     UnknownName(Word),
+    /// The index of a label isn't the number of a row.
+    BadIndex(i32),
     /// Bits that are not there: the first of them, and the one behind the last.
     LaterData(i64, i64),
     /// Bits are asked for, but not 1 to 32 of them.
@@ -36,6 +38,8 @@ pub enum Unvalued<'a> {
     ZeroDivisor,
     /// A name or an array has no value.
     UnknownName(&'a Word),
+    /// The index of a label isn't the number of a row.
+    BadIndex(i32),
     /// Bits that are not there: the first of them, and the one behind the last.
     LaterData(i64, i64),
     /// Bits are asked for, but not 1 to 32 of them.
@@ -46,9 +50,10 @@ pub enum Unvalued<'a> {
 
 /// The value of an expression, or its first fault: the left operand's, else the right operand's, else the
 /// operator's; of bits the name's, else the start's, else the width's, else that of bits that aren't
-/// there. Both sides of `&&` and `||` are always computed. Numbers have 32 bits and a sign; sums,
-/// differences, products and left shifts wrap. Memory is taken for the name of `UnknownName` alone,
-/// and so none for an expression without names. (MPW Rez.)
+/// there; of an indexed label the index's, else that of a label whose rows aren't known, else that of an
+/// index that is the number of none of them, from 1. Both sides of `&&` and `||` are always computed.
+/// Numbers have 32 bits and a sign; sums, differences, products and left shifts wrap. Memory is taken for
+/// the name of `UnknownName` alone, and so none for an expression without names. (MPW Rez.)
 pub fn eval<E: Env>(alloc: Global, expr: &Expr, env: &E) -> Result<i32, Stop<EvalFault>>
     ensures value { Gives (value_of (term_of expr.now) (E.view env.now)) result }
     ensures nameless { has_names (term_of expr.now) ≡ false → result ≢ Err stop.NoMemory }
@@ -72,6 +77,7 @@ fn copy_fault(alloc: Global, fault: Unvalued<'_>) -> Stop<EvalFault>
             Ok(name) => Stop::Refused(EvalFault::UnknownName(name)),
             Err(NoMemory) => Stop::NoMemory,
         },
+        Unvalued::BadIndex(number) => Stop::Refused(EvalFault::BadIndex(number)),
         Unvalued::LaterData(first, end) => Stop::Refused(EvalFault::LaterData(first, end)),
         Unvalued::DataWidth(width) => Stop::Refused(EvalFault::DataWidth(width)),
         Unvalued::BadShift(count) => Stop::Refused(EvalFault::BadShift(count)),
@@ -85,7 +91,12 @@ pub fn value_in<'a, E: Env>(expr: &'a Expr, env: &E) -> Result<i32, Unvalued<'a>
     match expr {
         Expr::Number(number) => Ok(*number),
         Expr::Name(name) => known(name, env.place(name)),
+        Expr::Indexed(name, index) => {
+            let number = value_in(index, env)?;
+            place_in_row(env, name, number)
+        }
         Expr::Count(name) => known(name, env.count(name)),
+        Expr::ArrayIndex(name) => known(name, env.row(name)),
         Expr::Bits(name, start, width) => {
             let place = known(name, env.place(name))?;
             let start = value_in(start, env)?;
@@ -112,6 +123,22 @@ fn known<'a>(name: &'a Word, value: Option<i32>) -> Result<i32, Unvalued<'a>>
     match value {
         Some(value) => Ok(value),
         None => Err(Unvalued::UnknownName(name)),
+    }
+}
+
+/// The place of a label in the row of this number, where its array has so many rows.
+fn place_in_row<'a, E: Env>(env: &E, label: &'a Word, number: i32) -> Result<i32, Unvalued<'a>>
+    ensures { held result ≡ place_in_row label.now.bytes (E.view env.now).names number ((E.view env.now).names.give (rows_key label.now.bytes)) }
+{
+    match env.rows(label) {
+        Some(rows) => {
+            if number < 1 || number as u64 > rows {
+                Err(Unvalued::BadIndex(number))
+            } else {
+                known(label, env.place_at(label, number))
+            }
+        }
+        None => Err(Unvalued::UnknownName(label)),
     }
 }
 

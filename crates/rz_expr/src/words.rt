@@ -37,6 +37,8 @@ pub enum FactWord {
 pub enum Function {
     /// `$$CountOf`: how many rows an array has.
     CountOf,
+    /// `$$ArrayIndex`: in which row of an array it stands, from 1.
+    ArrayIndex,
     /// `$$BitField`: so many bits, a start and a width behind a label.
     BitField,
     /// `$$Byte`, `$$Word`, `$$Long`: 8, 16 or 32 bits at a label.
@@ -134,6 +136,8 @@ fn function_role(name: &[u8]) -> Role
 {
     if is(b"CountOf", name) {
         Role::Call(Function::CountOf)
+    } else if is(b"ArrayIndex", name) {
+        Role::Call(Function::ArrayIndex)
     } else if is(b"BitField", name) {
         Role::Call(Function::BitField)
     } else if is(b"Byte", name) {

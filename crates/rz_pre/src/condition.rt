@@ -52,6 +52,18 @@ impl Env for NoNames {
         None
     }
 
+    fn rows(&self, _label: &Word) -> Option<u64> {
+        None
+    }
+
+    fn place_at(&self, _label: &Word, _row: i32) -> Option<i32> {
+        None
+    }
+
+    fn row(&self, _array: &Word) -> Option<i32> {
+        None
+    }
+
     fn bits(&self, _name: &Word, _start: i32, _width: i32) -> Option<u32> {
         None
     }

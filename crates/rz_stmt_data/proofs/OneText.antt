@@ -7,10 +7,10 @@ use Rattle.rz_stmt_brackets.specs.declared.bracket.Bracket.TheVariants.{Round}
 use Rattle.rz_stmt_brackets.specs.declared.pieces.Divider.TheVariants.{Comma}
 use Rattle.rz_core.proofs.Tests.{none_some, same_some, true_false}
 use Rattle.rz_expr.proofs.OneTerm.{OneExpression}
-use Rattle.rz_expr.specs.Grammar.{binary, bits_at, counted, data_at, grouped, operand, prefixed, start_of, tighter, word_start, Bracket, Calls, Derives, IsExpression, NoStart, Operand, Prefix, Start}
+use Rattle.rz_expr.specs.Grammar.{binary, bits_at, counted, data_at, grouped, indexed, labelled, numbered, operand, prefixed, start_of, tighter, word_start, Bracket, Calls, Derives, IsExpression, Label, NoStart, Operand, Prefix, Start}
 use Rattle.rz_expr.specs.Term.{Term}
 use Rattle.rz_expr.specs.Words.{role_of}
-use Rattle.rz_expr.specs.declared.words.Function.TheVariants.{BitField, CountOf, Data}
+use Rattle.rz_expr.specs.declared.words.Function.TheVariants.{ArrayIndex, BitField, CountOf, Data}
 use Rattle.rz_expr.specs.declared.words.Role.{Role}
 use Rattle.rz_expr.specs.declared.words.Role.TheVariants as roles
 use Rattle.rz_expr.specs.declared.words.TextWord.TheVariants as words
@@ -97,9 +97,12 @@ begun_by token rest start is starts = record { first = token; rest = rest; are =
 
 begun : {level : ℕ} (tokens : List Token) (term : Term) → Derives level tokens term → AreBegun tokens
 begun tokens term (operand {t} {e} is) = begun_by t [] (Operand e) is refl
+begun tokens term (labelled {t} {name} is) = begun_by t [] (Label name) is refl
+begun tokens term (indexed {t} {name} {ts} bracket close is begins more closes) = begun_by t (bracket ∷ (ts ++ close ∷ [])) (Label name) is refl
 begun tokens term (prefixed {t} {ts} {op} is more) = begun_by t ts (Prefix op) is refl
 begun tokens term (grouped {t} {ts} close is more closes) = begun_by t (ts ++ close ∷ []) Bracket is refl
 begun tokens term (counted {t} {a} {b} {c} is named) = begun_by t (a ∷ b ∷ c ∷ []) (Calls CountOf) is refl
+begun tokens term (numbered {t} {a} {b} {c} is named) = begun_by t (a ∷ b ∷ c ∷ []) (Calls ArrayIndex) is refl
 begun tokens term (data_at {t} {a} {b} {c} {word} {width} is named) = begun_by t (a ∷ b ∷ c ∷ []) (Calls (Data width)) is refl
 begun tokens term (bits_at {t} {a} {b} {c} {word} {xs} {ys} comma close is named start separates width closes) =
     begun_by t (a ∷ b ∷ c ∷ (xs ++ comma ∷ (ys ++ close ∷ []))) (Calls BitField) is refl

@@ -1,9 +1,10 @@
 -- What expressions see in tests.
-use Rattle.std.specs.Prelude.{ℕ, ◌+◌, ◌-◌, ◌/◌, ◌%◌, ◌^◌, nat_lt, ℤ, pos, negsuc, unsigned_abs, int_lt, if◌then◌else◌, List, Option, Some, None, codes}
+use Rattle.std.specs.Prelude.{ℕ, ◌+◌, ◌-◌, ◌/◌, ◌%◌, ◌^◌, nat_lt, ℤ, pos, negsuc, ◌*ℤ◌, ◌-ℤ◌, unsigned_abs, int_lt, ◌||◌, if◌then◌else◌, List, Option, Some, None, codes}
 use Rattle.std.specs.Str.{bytes_eq}
 use Rattle.rz_expr.specs.declared.words.FactWord.{FactWord}
 use Rattle.rz_expr.specs.declared.words.FactWord.TheVariants.{Id, Kind, Attributes, Year, Month, Day, Hour, Minute, Second, Weekday}
-use Rattle.rz_expr.specs.Environment.{Key, count_of, place_of, Sight}
+use Rattle.rz_expr.specs.Environment as keys
+use Rattle.rz_expr.specs.Environment.{Key, count_of, place_of, row_in, Sight}
 
 -- the values of names in lower case
 abbrev pub place_of_name : List ℕ → Option ℤ
@@ -24,9 +25,31 @@ rows_of_name name =
     else if bytes_eq name (codes "true") then Some (pos 7)
     else None
 
+-- the numbers of rows of labels in lower case
+abbrev pub rows_of_label : List ℕ → Option ℤ
+rows_of_label name =
+    if bytes_eq name (codes "cell") then Some (pos 3)
+    else if bytes_eq name (codes "late") then Some (pos 2)
+    else if bytes_eq name (codes "empty") then Some (pos 0)
+    else None
+
+-- the place of one of them in a row
+abbrev pub place_in : ℤ → Option ℤ
+place_in number = if int_lt number (pos 1) || int_lt (pos 3) number then None else Some (pos 16 *ℤ number -ℤ pos 8)
+
+-- the numbers of the rows around, of arrays in lower case
+abbrev pub number_of_name : List ℕ → Option ℤ
+number_of_name name =
+    if bytes_eq name (codes "rows") then Some (pos 2)
+    else if bytes_eq name (codes "true") then Some (pos 9)
+    else None
+
 abbrev pub given : Key → Option ℤ
 given (place_of name) = place_of_name name
 given (count_of name) = rows_of_name name
+given (keys.rows_of name) = rows_of_label name
+given (keys.place_in name number) = if bytes_eq name (codes "cell") then place_in number else None
+given (row_in name) = number_of_name name
 
 -- so many of the bytes' 32 bits from a bit on, the first of them highest
 abbrev pub bits_of : ℕ → ℕ → ℕ

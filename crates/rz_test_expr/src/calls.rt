@@ -73,6 +73,10 @@ fn show_fault(fault: &EvalFault, came: &mut Text) {
             came.put(b"UnknownName ");
             came.put(name.bytes.as_slice());
         }
+        EvalFault::BadIndex(number) => {
+            came.put(b"BadIndex ");
+            came.signed(i64::from(*number));
+        }
         EvalFault::LaterData(first, end) => {
             came.put(b"LaterData ");
             came.signed(i64::from(*first));

@@ -14,4 +14,7 @@ $$ID => false None
 ~$$Hour => false None
 $$CountOf(a) => false None
 $$BitField(a, 1, 2) => false None
+a[1] => false None
+true + a[1] => false None
+$$ArrayIndex(a) => false None
 ";

@@ -97,6 +97,48 @@ pub const STARTS: &str = r"
 1: $$CountOf ( rows ) => UnknownName rows
 ";
 
+/// Labels with an index.
+pub const INDEXES: &str = r#"
+// an index goes on with a label
+cell [ 1 ] => 8
+CELL [ 1 + 1 ] ; => 24 to 6
+cell [ 3 ] - cell [ 1 ] => 32
+- cell [ 2 ] + 1 => -23
+2 * cell [ 1 ] 3 => 16 to 6
+cell [ cell [ 1 ] / 8 ] => 8
+cell [ ( 2 ) ] => 24
+cell [ $$ArrayIndex ( rows ) ] => 24
+( cell [ 1 ] ) => 8
+$$BitField ( start , cell [ 1 ] , cell [ 1 ] ) => 127
+cell [ 1 ] [ 2 ] => 8 to 4
+// where none ends, the label stands alone
+here [ => 8 to 1
+here [ ] => 8 to 1
+here [ 1 => 8 to 1
+here [ 1 ; => 8 to 1
+here [ 1 ) => 8 to 1
+here [ 1 , 2 ] => 8 to 1
+here [ "a" ] => 8 to 1
+here [ here [ 1 ] => 8 to 1
+1 + here [ 1 2 ] => 9 to 3
+( here [ 1 ) => none
+cell [ here [ ] => UnknownName cell to 1
+// nothing else has one
+( here ) [ 1 ] => 8 to 3
+- ( here ) [ 1 ] => -8 to 4
+1 [ 1 ] => 1 to 1
+'a' [ 1 ] => 97 to 1
+true [ 1 ] => 1 to 1
+locked [ 1 ] => 16 to 1
+$$ID [ 1 ] => 1 to 1
+$$Byte ( start ) [ 1 ] => 165 to 4
+$$CountOf ( rows ) [ 1 ] => 5 to 4
+$$CountOf ( cell [ 1 ] ) => none
+$$ArrayIndex ( cell [ 1 ] ) => none
+$$Byte ( cell [ 1 ] ) => none
+type [ 1 ] => none
+"#;
+
 /// Functions with names in brackets.
 pub const FUNCTIONS: &str = r#"
 // numbers of rows
@@ -104,6 +146,17 @@ $$CountOf ( rows ) => 5
 $$countof ( ROWS ) ; => 5 to 4
 - $$CountOf ( rows ) + 1 => -4
 $$CountOf ( true ) ; => 7 to 4
+$$ArrayIndex ( rows ) => 2
+$$arrayindex ( ROWS ) ; => 2 to 4
+- $$ArrayIndex ( rows ) + 1 => -1
+$$ArrayIndex ( true ) => 9
+$$ArrayIndex => none
+$$ArrayIndex rows => none
+$$ArrayIndex ( ) => none
+$$ArrayIndex ( rows => none
+$$ArrayIndex ( rows , 1 ) => none
+$$ArrayIndex ( 1 ) => none
+$$ArrayIndex ( type ) => none
 $$CountOf => none
 $$CountOf rows => none
 $$CountOf ( ) => none

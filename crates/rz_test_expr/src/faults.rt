@@ -53,6 +53,26 @@ $$BitField(here, 0, -1) => DataWidth -1
 $$BitField(here, 9999, 33) => DataWidth 33
 $$BitField(low, -1, 2147483648) => DataWidth -2147483648
 $$BitField(here, 0, 33) + 1 / 0 => DataWidth 33
+// of an indexed label the index, then its rows, then the index in them, then its place
+cell[0] => BadIndex 0
+cell[4] => BadIndex 4
+cell[-1] => BadIndex -1
+CELL[1 << 31] => BadIndex -2147483648
+empty[0] => BadIndex 0
+empty[1] => BadIndex 1
+late[3] => BadIndex 3
+Late[2] => UnknownName Late
+here[1] => UnknownName here
+nobody[0] => UnknownName nobody
+cell[1 / 0] => ZeroDivisor
+nobody[1 / 0] => ZeroDivisor
+nobody[Somebody] => UnknownName Somebody
+cell[cell[0]] => BadIndex 0
+cell[9] + 1 / 0 => BadIndex 9
+1 / 0 + cell[9] => ZeroDivisor
+$$BitField(here, cell[4], 1 / 0) => BadIndex 4
+$$ArrayIndex(nobody) => UnknownName nobody
+$$ArrayIndex(Here) + 1 / 0 => UnknownName Here
 // bits that aren't there
 $$Long(here) => LaterData 8 40
 $$Long(here) + 1 / 0 => LaterData 8 40

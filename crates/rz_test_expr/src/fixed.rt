@@ -3,7 +3,7 @@
 ghost use Rattle.std.specs.Prelude.{◌≡◌, ◌+◌, ◌^◌, ◌<◌, ◌≤◌, pos, ◌+ℤ◌, option_map};
 ghost use Rattle.std.specs.Str.{str_eq_ignore_ascii_case};
 ghost use Rattle.std.proofs.Common.{rules};
-ghost use Rattle.rz_test_expr.specs.Fixed.{bits_of, fixed_bits, fixed_sight, natural_bits};
+ghost use Rattle.rz_test_expr.specs.Fixed.{bits_of, fixed_bits, fixed_sight, natural_bits, place_in};
 
 use rz_core::Word;
 use rz_expr::{Env, FactWord};
@@ -11,8 +11,8 @@ use rz_expr::{Env, FactWord};
 /// The bits that are there, the first of them highest: the bytes A5, 7F, 80 and 3C.
 const BITS: u64 = 0xA57F_803C;
 
-/// What expressions see in tests: some names and arrays, 32 bits, and each fact by its position among the
-/// facts.
+/// What expressions see in tests: some names and arrays, the rows of some labels, 32 bits, and each fact by its
+/// position among the facts.
 pub struct Fixed;
 
 impl Env for Fixed {
@@ -52,6 +52,38 @@ impl Env for Fixed {
         }
     }
 
+    fn rows(&self, label: &Word) -> Option<u64> {
+        let label = label.bytes.as_slice();
+        if is(b"cell", label) {
+            Some(3)
+        } else if is(b"late", label) {
+            Some(2)
+        } else if is(b"empty", label) {
+            Some(0)
+        } else {
+            None
+        }
+    }
+
+    fn place_at(&self, label: &Word, row: i32) -> Option<i32> {
+        if is(b"cell", label.bytes.as_slice()) {
+            place_in(row)
+        } else {
+            None
+        }
+    }
+
+    fn row(&self, array: &Word) -> Option<i32> {
+        let array = array.bytes.as_slice();
+        if is(b"rows", array) {
+            Some(2)
+        } else if is(b"true", array) {
+            Some(9)
+        } else {
+            None
+        }
+    }
+
     fn bits(&self, name: &Word, start: i32, width: i32) -> Option<u32> {
         match self.place(name) {
             Some(place) => bits_at(first_bit(place, start), width),
@@ -75,6 +107,16 @@ impl Env for Fixed {
     }
 
     ghost law = { Prim.search rules };
+}
+
+/// The place of `cell` in the row of this number: rows have 16 bits, and it stands behind the first 8.
+fn place_in(row: i32) -> Option<i32>
+    ensures { result ≡ place_in row }
+{
+    if row < 1 || row > 3 {
+        return None;
+    }
+    Some(16 * row - 8)
 }
 
 /// The first bit, so far after a place.

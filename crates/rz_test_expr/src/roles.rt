@@ -91,6 +91,8 @@ $$WeekDay => Fact(Weekday)
 // functions with a name in brackets
 $$CountOf => Call(CountOf)
 $$countof => Call(CountOf)
+$$ArrayIndex => Call(ArrayIndex)
+$$arrayINDEX => Call(ArrayIndex)
 $$BITFIELD => Call(BitField)
 $$Byte => Call(Data(8))
 $$word => Call(Data(16))

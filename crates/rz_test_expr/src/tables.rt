@@ -6,7 +6,7 @@ use rz_test_tables::{Case, Text, add_if_wrong, cases_of};
 use std::process::Abort;
 
 /// All tables, and what the cases of each call.
-fn tables() -> [(Call, &'static str); 11] {
+fn tables() -> [(Call, &'static str); 12] {
     [
         (Call::Role, roles::ROLES),
         (Call::Constant, constants::CONSTANTS),
@@ -17,6 +17,7 @@ fn tables() -> [(Call, &'static str); 11] {
         (Call::Value, expressions::OPERANDS),
         (Call::ValueAt, expressions::STARTS),
         (Call::Value, expressions::FUNCTIONS),
+        (Call::Value, expressions::INDEXES),
         (Call::Value, expressions::LONG),
         (Call::Value, faults::FAULTS),
     ]

@@ -5,12 +5,12 @@ use Rattle.std.proofs.lemmas.Int.{to_z-of_z}
 use mir.Val.{SFits}
 use Rattle.rz_core.specs.declared.resource.Word.{Word}
 use Rattle.rz_expr.specs.Grammar.{argument, start_of}
-use Rattle.rz_expr.specs.Reading.{prefix_count, prefixed_term, Begins, IsFront}
+use Rattle.rz_expr.specs.Reading.{index_at, prefix_count, prefixed_term, Begins, IsFront}
 use Rattle.rz_expr.specs.Term.{term_of, Constant, FactOf, Named}
 use Rattle.rz_expr.specs.Words.{role_of}
-use Rattle.rz_expr.specs.declared.words.Role.TheVariants.{Fact}
+use Rattle.rz_expr.specs.declared.words.Role.TheVariants.{Fact, OtherName}
 use Rattle.rz_expr.specs.declared.words.Function.TheVariants.{BitField}
-use Rattle.rz_expr.proofs.Steps.{alone_front, begins_first, begins_name, begins_role, field_is, field_not_started, field_not_wide, field_size, first_operand, group_read, named_tokens, no_operator, no_prefixes, none_of_no_start, one_operand_more, plain_sign, prefix_rest, prefixes_read, until_none, until_open, until_read}
+use Rattle.rz_expr.proofs.Steps.{alone_front, begins_first, begins_role, field_is, field_not_started, field_not_wide, field_size, first_operand, group_read, named_tokens, index_read, label_alone, label_front, label_open, no_operator, no_prefixes, none_of_no_start, one_operand_more, plain_sign, prefix_rest, prefixes_read, until_none, until_open, until_read}
 use Rattle.rz_expr.proofs.read.+read.Goals as goal
 
 pub read_bit_field-returns-in_default-2 : goal.read_bit_field-returns-in_default-2
@@ -119,14 +119,35 @@ read_until-returns-in-None t c =
     let none = rw c.in-None.is at c.in_ok-front.ensures in
     until_none c.args.frame c.args.tokens.now none
 
-pub read_word-returns-in_ok-copy-in-Label : goal.read_word-returns-in_ok-copy-in-Label
-read_word-returns-in_ok-copy-in-Label t c =
-    alone_front c.args.tokens.now (Named c.args.word.now.bytes) c.alone.result.length (term_of c.alone.result.expr)
-    (begins_name c.args.word.now.bytes (role_of c.args.word.now.bytes) c.role_of.result c.args.tokens.now c.requires (sym c.role_of.ensures) c.in-Label.is)
-    c.alone.ensures.1 (ap term_of c.alone.ensures.0 ∙ ap (λ (word : Word). Named word.bytes) c.in_ok-copy-in-Label.ensures)
-
 pub read_word-returns-in-Fact : goal.read_word-returns-in-Fact
 read_word-returns-in-Fact t c =
     alone_front c.args.tokens.now (FactOf c.in-Fact.which) c.alone-in-Fact.result.length (term_of c.alone-in-Fact.result.expr)
     (begins_role (Fact c.in-Fact.which) c.args.word.now.bytes (role_of c.args.word.now.bytes) c.args.tokens.now c.requires (sym c.role_of.ensures ∙ c.in-Fact.is))
     c.alone-in-Fact.ensures.1 (ap term_of c.alone-in-Fact.ensures.0)
+
+pub read_word-returns-in_ok-copy-in-OtherName : goal.read_word-returns-in_ok-copy-in-OtherName
+read_word-returns-in_ok-copy-in-OtherName t c =
+    alone_front c.args.tokens.now (Named c.args.word.now.bytes) c.alone.result.length (term_of c.alone.result.expr)
+    (begins_role OtherName c.args.word.now.bytes (role_of c.args.word.now.bytes) c.args.tokens.now c.requires (sym c.role_of.ensures ∙ c.in-OtherName.is))
+    c.alone.ensures.1 (ap term_of c.alone.ensures.0 ∙ ap (λ (word : Word). Named word.bytes) c.in_ok-copy-in-OtherName.ensures)
+
+pub read_label-returns-then-not-index_at : goal.read_label-returns-then-not-index_at
+read_label-returns-then-not-index_at t c =
+    let none = ap index_at (sym c.behind.ensures) ∙ sym c.index_at.ensures ∙ c.if-not-index_at.true in
+    label_front c.args.tokens.now c.args.label.now.bytes c.alone.result.length (term_of c.alone.result.expr)
+    (label_alone c.args.tokens.now c.args.label.now.bytes c.requires none)
+    c.alone.ensures.1 (ap term_of c.alone.ensures.0 ∙ ap (λ (word : Word). Named word.bytes) c.in_ok-copy.ensures)
+
+pub read_label-returns-in_ok-indexed-in-Some : goal.read_label-returns-in_ok-indexed-in-Some
+read_label-returns-in_ok-indexed-in-Some t c =
+    let some = ap index_at (sym c.behind.ensures) ∙ sym c.index_at.ensures ∙ c.if-not-index_at.false in
+    let index = rw (c.in-Some.is, c.behind-2.ensures) at c.in_ok-index.ensures in
+    subst (IsFront 0 c.args.tokens.now (2 + c.in-Some.index.length)) (sym c.in_ok-indexed-in-Some.ensures)
+    (index_read c.args.tokens.now c.args.label.now.bytes c.in-Some.index.length (term_of c.in-Some.index.expr) c.requires some index)
+
+pub read_label-returns-in_ok-copy-in-None : goal.read_label-returns-in_ok-copy-in-None
+read_label-returns-in_ok-copy-in-None t c =
+    let none = rw (c.in-None.is, c.behind-2.ensures) at c.in_ok-index.ensures in
+    label_front c.args.tokens.now c.args.label.now.bytes c.alone-in-None.result.length (term_of c.alone-in-None.result.expr)
+    (label_open c.args.tokens.now c.args.label.now.bytes c.requires none)
+    c.alone-in-None.ensures.1 (ap term_of c.alone-in-None.ensures.0 ∙ ap (λ (word : Word). Named word.bytes) c.in_ok-copy-in-None.ensures)

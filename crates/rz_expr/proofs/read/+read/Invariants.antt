@@ -33,3 +33,6 @@ decreases-read_group l = 32 * length l.tokens.now + 2
 
 abbrev pub decreases-read_bit_field : goal.decreases-read_bit_field
 decreases-read_bit_field l = 32 * length l.tokens.now + 2
+
+abbrev pub decreases-read_label : goal.decreases-read_label
+decreases-read_label l = 32 * length l.tokens.now + 2
