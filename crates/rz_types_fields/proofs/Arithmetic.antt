@@ -12,7 +12,7 @@ use Rattle.rz_core.specs.declared.stop.Stop.{Stop}
 use Rattle.rz_core.specs.declared.stop.Stop.TheVariants.{NoMemory, Refused}
 use Rattle.rz_expr.specs.Constant.{constant_sight, is_constant}
 use Rattle.rz_expr.specs.Environment.{place_key, predefined, Environment, Sight}
-use Rattle.rz_expr.specs.Term.{BitsAt, Constant, FactOf, Named, OfOne, OfTwo, RowsOf, Term}
+use Rattle.rz_expr.specs.Term.{BitsAt, Constant, FactOf, Indexed, Named, OfOne, OfTwo, RowNumber, RowsOf, Term}
 use Rattle.rz_expr.specs.Value.{divided, is_zero, known_value, operate, operate_one, reduced, shifted, value_of}
 use Rattle.rz_expr.specs.declared.expr.BinaryOp.{BinaryOp}
 use Rattle.rz_expr.specs.declared.expr.BinaryOp.TheVariants as two
@@ -78,7 +78,9 @@ sound sight gives (Named name) is =
     let own = something (predefined name) is in
     let given = gives name own.0 own.1 in
     given_sound name (sight.names.give (place_key name)) given.0 given.1
+sound sight gives (Indexed name index) is = absurd cc
 sound sight gives (RowsOf name) is = absurd cc
+sound sight gives (RowNumber name) is = absurd cc
 sound sight gives (BitsAt name start width) is = absurd cc
 sound sight gives (FactOf which) is = tt
 sound sight gives (OfOne op operand) is = chained (value_of operand sight) (λ value. Ok (operate_one op value)) (sound sight gives operand is) (λ x. tt)
@@ -96,7 +98,9 @@ constants_see = λ name value is. (value, sym (same_value name) ∙ is)
 pub constant_stands : (term : Term) → is_constant term ≡ true → is_field_expression term ≡ true
 constant_stands (Constant number) is = refl
 constant_stands (Named name) is = is
+constant_stands (Indexed name index) is = absurd cc
 constant_stands (RowsOf name) is = absurd cc
+constant_stands (RowNumber name) is = absurd cc
 constant_stands (BitsAt name start width) is = absurd cc
 constant_stands (FactOf which) is = absurd cc
 constant_stands (OfOne op operand) is = constant_stands operand is

@@ -1,5 +1,7 @@
 pub mod SameNames
 pub mod Symbols
+pub mod RowKeys
+pub mod RowPlaces
 pub mod Noting
 pub mod Arithmetic
 pub mod Appending

@@ -1,21 +1,21 @@
 -- What is known of names behind one note more.
-use Rattle.std.proofs.Common.{◌≡◌, ℕ, suc, ◌+◌, ◌-◌, ◌%◌, ◌<◌, Bool, false, ℤ, pos, negsuc, List, [], ◌∷◌, ◌++◌, length, get_or, take, Option, Some, None, refl, sym, ap, ◌∙◌, append_assoc, arith, w32, w64}
+use Rattle.std.proofs.Common.{◌≡◌, ℕ, suc, ◌+◌, ◌-◌, ◌%◌, ◌<◌, Bool, true, false, ◌||◌, ◌&&◌, ℤ, pos, negsuc, List, [], ◌∷◌, ◌++◌, length, get_or, take, Option, Some, None, refl, sym, ap, ◌∙◌, append_assoc, arith, w32, w64}
 use Rattle.std.specs.Option.{is_some}
-use Rattle.std.specs.Prelude.{if◌then◌else◌}
+use Rattle.std.specs.Prelude.{if◌then◌else◌, not, option_map}
 use Rattle.std.specs.Int.{cast_signed, cast_unsigned, int_wrap}
 use Rattle.std.specs.Int.RustNames.{FitsSigned}
 use Rattle.std.proofs.Math.Nat.{mod-eq_of_lt, mod-lt}
 use Rattle.std.proofs.Math.Seq.{take-append_seam}
 use Rattle.std.proofs.lemmas.List.{take_more}
-use Rattle.rz_core.specs.Lists.{or_else}
-use Rattle.rz_core.specs.declared.resource.Word.{Word}
-use Rattle.rz_expr.specs.Environment.{place_key, place_of, predefined, Key}
+use Rattle.rz_expr.specs.Environment.{place_key, predefined, rows_of, Key}
 use Rattle.rz_expr.specs.Value.{reduced}
 use Rattle.rz_expr.proofs.Cases.{same_value}
-use Rattle.rz_types_fields.specs.Field.{field_and, no_fields, Align, Array, Fill, Label, Number, PlainBody, Points, Switch, Text}
-use Rattle.rz_types_fields.specs.Passed.{declares, gives_count, outside}
-use Rattle.rz_types_fields.specs.Known.{known, meeting, met, met_noted, noted, noting, stated_in, stated_value, Grew}
+use Rattle.rz_types_fields.specs.Field.{plain_body}
+use Rattle.rz_types_fields.specs.Passed.{declares, has_label, outside}
+use Rattle.rz_types_fields.specs.Known.{known, meeting, met, met_noted, noted, noting, which_of, Grew}
 use Rattle.rz_types_fields.specs.declared.names.Note.{Note}
+use Rattle.rz_types_fields.specs.declared.names.Note.TheVariants.{Counted, Entered, Placed, PlaceTold, Rows, Told}
+use Rattle.rz_types_fields.proofs.RowKeys.{entered_rows}
 
 -- Numbers of 64 bits.
 
@@ -26,6 +26,10 @@ reduced_again (negsuc n) fits =
     let small : n < 9223372036854775808 = fits.sfits in
     let e : ((18446744073709551616 - suc n) % 4294967296) % 4294967296 ≡ 4294967296 - 1 - n % 4294967296 = omega arith in
     ap (cast_signed w32) e
+
+pub count_again : (count : ℕ) → reduced (pos (count % 4294967296)) ≡ reduced (pos count)
+unfolding int_wrap
+count_again count = ap (cast_signed w32) (mod-eq_of_lt (mod-lt count (omega arith)))
 
 -- One more.
 
@@ -85,33 +89,42 @@ cut_back old new note count long grew =
 pub grew_more : {A : Type 0} (old mid new : List A) → Grew old mid → Grew mid new → Grew old new
 grew_more old mid new one other = (one.0 ++ other.0, other.1 ∙ ap (λ (front : List _). front ++ other.0) one.1 ∙ append_assoc old one.0 other.0)
 
--- No number of rows that is stated is that of a label.
-
-counts_none : (name : Option Word) (place : List ℕ) → gives_count name (place_of place) ≡ false
-counts_none None place = refl
-counts_none (Some name) place = refl
-
-stated_none : (name : Option Word) (count : Option ℤ) (place : List ℕ) → stated_value name count (place_of place) ≡ None
-stated_none name None place = refl
-stated_none name (Some rows) place = ap (λ (test : Bool). if test then Some rows else None) (counts_none name place)
-
-pub no_stated : (body : PlainBody) (place : List ℕ) → stated_in body (place_of place) ≡ None
-no_stated no_fields place = refl
-no_stated (field_and (Number number) fields) place = no_stated fields place
-no_stated (field_and (Text text) fields) place = no_stated fields place
-no_stated (field_and (Points points) fields) place = no_stated fields place
-no_stated (field_and (Fill unit count) fields) place = no_stated fields place
-no_stated (field_and (Align unit) fields) place = no_stated fields place
-no_stated (field_and (Label name) fields) place = no_stated fields place
-no_stated (field_and (Array name count row) fields) place =
-    ap (λ (stated : Option ℤ). or_else stated (stated_in fields (place_of place))) (stated_none name count place) ∙ no_stated fields place
-no_stated (field_and (Switch cases) fields) place = no_stated fields place
-
--- so a body that was entered gives a label no place, or hides none
-pub entered_place : (body : PlainBody) (place : List ℕ) (before : Option ℤ)
-    → (if declares body (place_of place) then stated_in body (place_of place) else before) ≡ (if declares body (place_of place) then None else before)
-entered_place body place before = ap (λ (stated : Option ℤ). if declares body (place_of place) then stated else before) (no_stated body place)
-
 -- the value of `true` and `false`
 pub place_outside : (name : List ℕ) → predefined name ≡ outside.give (place_key name)
 place_outside name = same_value name
+
+-- Labels in rows.
+
+so_some : {A B : Type 0} (give : A → B) (o : Option A) → is_some (option_map give o) ≡ is_some o
+so_some give None = refl
+so_some give (Some x) = refl
+
+rows_met : (test before : Bool) (rows : ℤ) (given : Option ℤ) → is_some given ≡ before → is_some (if test then Some rows else given) ≡ (test || before)
+rows_met true before rows given is = refl
+rows_met false before rows given is = is
+
+hidden_met : (test before : Bool) (given : Option ℤ) → is_some given ≡ before → is_some {T = ℤ} (if test then None else given) ≡ (not test && before)
+hidden_met true before given is = refl
+hidden_met false before given is = is
+
+one_met : (note : Note) (label : List ℕ) (given : Option ℤ) (before : Bool) → is_some given ≡ before
+    → is_some (noting note (rows_of label) given) ≡ meeting note (rows_of label) before
+one_met (Told name rows) label given before is = is
+one_met (Counted name rows) label given before is = is
+one_met (PlaceTold name at) label given before is = is
+one_met (Placed name at) label given before is = is
+one_met (Rows row count places) label given before is = rows_met (has_label (plain_body row.now) label) before (pos count) given is
+one_met (Entered fields which) label given before is =
+    ap is_some (entered_rows (which_of which) (plain_body fields.now) label given) ∙ hidden_met (declares (plain_body fields.now) (rows_of label)) before given is
+
+all_met : (notes : List Note) (label : List ℕ) (given : Option ℤ) (before : Bool) → is_some given ≡ before
+    → is_some (noted given notes (rows_of label)) ≡ met_noted before notes (rows_of label)
+all_met [] label given before is = is
+all_met (note ∷ notes) label given before is =
+    all_met notes label (noting note (rows_of label) given) (meeting note (rows_of label) before) (one_met note label given before is)
+
+-- a label in rows is met where their number is known
+pub rows_are_met : (notes : List Note) (label : List ℕ) (rows : Option ℕ) → option_map (λ count. pos count) rows ≡ (known notes).give (rows_of label)
+    → is_some rows ≡ met notes (rows_of label)
+rows_are_met notes label rows is =
+    sym (so_some (λ count. pos count) rows) ∙ ap is_some is ∙ all_met notes label None false refl

@@ -1,13 +1,15 @@
 -- Names of expressions, compared in whatever case or in lower case.
-use Rattle.std.proofs.Common.{◌≡◌, ℕ, ◌==◌, ◌&&◌, ◌||◌, Bool, true, false, List, [], ◌∷◌, refl, sym, ap, ◌∙◌}
+use Rattle.std.proofs.Common.{◌≡◌, ℕ, ◌==◌, ◌&&◌, ◌||◌, ℤ, Bool, true, false, List, [], ◌∷◌, refl, sym, ap, ◌∙◌}
 use Rattle.std.specs.Option.{is_some}
 use Rattle.std.specs.Char.{eq_ignore_ascii_case, to_ascii_lowercase}
+use Rattle.std.specs.Ordering.{int_eq}
 use Rattle.std.specs.Str.{str_eq_ignore_ascii_case, str_to_ascii_lowercase}
 use Rattle.std.proofs.lemmas.Bool.{and_parts, eqb-true, eq-eqb}
+use Rattle.std.proofs.lemmas.Bool.Decides.{Decides-int_eq}
 use Rattle.std.proofs.lemmas.Str.Ascii.{lowercase-lowercase}
 use Rattle.rz_core.proofs.Tests.{and_so}
 use Rattle.rz_expr.proofs.Cases.{same_value}
-use Rattle.rz_expr.specs.Environment.{count_of, place_key, place_of, predefined, Key}
+use Rattle.rz_expr.specs.Environment.{count_of, place_in, place_key, place_of, predefined, row_in, rows_of, Key}
 use Rattle.rz_types_fields.specs.Solve.{is_same_key, is_same_name}
 use Rattle.rz_types_fields.specs.Passed.{is_known, nothing_passed}
 
@@ -45,12 +47,41 @@ name_is (n ∷ one) (o ∷ other) is =
     let parts = and_parts (n == o) (is_same_name one other) is in
     λ i. eqb-true n o parts.0 i ∷ name_is one other parts.1 i
 
+number_is : (one other : ℤ) → int_eq one other ≡ true → one ≡ other
+number_is one other is = (Decides-int_eq one other).0 is
+
+number_itself : (number : ℤ) → int_eq number number ≡ true
+number_itself number = (Decides-int_eq number number).1 refl
+
 -- keys that are found the same are one
 pub key_is : (one other : Key) → is_same_key one other ≡ true → one ≡ other
-key_is (place_of name) (place_of other) is = ap place_of (name_is name other is)
-key_is (place_of name) (count_of other) is = absurd cc
-key_is (count_of name) (place_of other) is = absurd cc
-key_is (count_of name) (count_of other) is = ap count_of (name_is name other is)
+key_is (place_of one) (place_of other) is = ap place_of (name_is one other is)
+key_is (place_of one) (count_of other) is = absurd cc
+key_is (place_of one) (rows_of other) is = absurd cc
+key_is (place_of one) (place_in other number) is = absurd cc
+key_is (place_of one) (row_in other) is = absurd cc
+key_is (count_of one) (place_of other) is = absurd cc
+key_is (count_of one) (count_of other) is = ap count_of (name_is one other is)
+key_is (count_of one) (rows_of other) is = absurd cc
+key_is (count_of one) (place_in other number) is = absurd cc
+key_is (count_of one) (row_in other) is = absurd cc
+key_is (rows_of one) (place_of other) is = absurd cc
+key_is (rows_of one) (count_of other) is = absurd cc
+key_is (rows_of one) (rows_of other) is = ap rows_of (name_is one other is)
+key_is (rows_of one) (place_in other number) is = absurd cc
+key_is (rows_of one) (row_in other) is = absurd cc
+key_is (place_in one row) (place_of other) is = absurd cc
+key_is (place_in one row) (count_of other) is = absurd cc
+key_is (place_in one row) (rows_of other) is = absurd cc
+key_is (place_in one row) (place_in other number) is =
+    let parts = and_parts (is_same_name one other) (int_eq row number) is in
+    λ i. place_in (name_is one other parts.0 i) (number_is row number parts.1 i)
+key_is (place_in one row) (row_in other) is = absurd cc
+key_is (row_in one) (place_of other) is = absurd cc
+key_is (row_in one) (count_of other) is = absurd cc
+key_is (row_in one) (rows_of other) is = absurd cc
+key_is (row_in one) (place_in other number) is = absurd cc
+key_is (row_in one) (row_in other) is = ap row_in (name_is one other is)
 
 name_itself : (name : List ℕ) → is_same_name name name ≡ true
 name_itself [] = refl
@@ -59,3 +90,6 @@ name_itself (n ∷ name) = and_so (n == n) (is_same_name name name) (eq-eqb n n 
 pub key_itself : (key : Key) → is_same_key key key ≡ true
 key_itself (place_of name) = name_itself name
 key_itself (count_of name) = name_itself name
+key_itself (rows_of label) = name_itself label
+key_itself (place_in label number) = and_so (is_same_name label label) (int_eq number number) (name_itself label) (number_itself number)
+key_itself (row_in array) = name_itself array

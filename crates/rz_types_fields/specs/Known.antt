@@ -1,14 +1,16 @@
--- The numbers of rows and the places that names have, as the code notes them.
-use Rattle.std.specs.Prelude.{◌≡◌, ℤ, Bool, ◌&&◌, ◌||◌, not, if◌then◌else◌, List, [], ◌∷◌, ◌++◌, Option, Some, None}
+-- The numbers of rows, the places and the numbers of rows around that names have, as the code notes them.
+use Rattle.std.specs.Prelude.{◌≡◌, ℕ, ℤ, Bool, ◌&&◌, ◌||◌, not, if◌then◌else◌, List, [], ◌∷◌, ◌++◌, Option, Some, None, option_map}
 use Rattle.std.specs.Option.{is_some}
 use Rattle.rz_core.specs.Lists.{or_else}
 use Rattle.rz_core.specs.declared.resource.Word.{Word}
 use Rattle.rz_expr.specs.Environment.{count_key, Environment, Key}
 use Rattle.rz_types_fields.specs.Field.{field_and, no_fields, plain_body, Array, PlainBody, PlainField}
 use Rattle.rz_types_fields.specs.Solve.{is_same_key}
-use Rattle.rz_types_fields.specs.Passed.{counts_rows, declares, outside, stands_at, states_count, Names}
+use Rattle.rz_types_fields.specs.Passed.{counts_rows, declares, gives_rows, outside, stands_at, states_count, Names}
+use Rattle.rz_types_fields.specs.RowLabels.{is_row, row_number, row_value, RowOf}
+use Rattle.rz_types_fields.specs.declared.names.InRow.{InRow}
 use Rattle.rz_types_fields.specs.declared.names.Note.{Note}
-use Rattle.rz_types_fields.specs.declared.names.Note.TheVariants.{Counted, Entered, Placed, PlaceTold, Told}
+use Rattle.rz_types_fields.specs.declared.names.Note.TheVariants.{Counted, Entered, Placed, PlaceTold, Rows, Told}
 
 -- At the front of a body.
 
@@ -21,8 +23,12 @@ stated_in no_fields key = None
 stated_in (field_and (Array name count row) fields) key = or_else (stated_value name count key) (stated_in fields key)
 stated_in (field_and field fields) key = stated_in fields key
 
-abbrev pub names_inside : PlainBody → Environment → Environment
-names_inside body names = record { give = λ key. if declares body key then stated_in body key else names.give key }
+-- at the front of a row of an array the name of the array has its number, too
+abbrev pub value_inside : Option RowOf → PlainBody → Key → Option ℤ → Option ℤ
+value_inside which body key other = if is_row which key then row_number which else if declares body key then stated_in body key else other
+
+abbrev pub names_inside : Option RowOf → PlainBody → Environment → Environment
+names_inside which body names = record { give = λ key. value_inside which body key (names.give key) }
 
 -- the number of rows that is stated of an array
 abbrev pub stated_by : PlainField → Key → Option ℤ
@@ -31,14 +37,20 @@ stated_by field key = None
 
 -- Notes.
 
+-- which row of an array a body is, as the code has it
+abbrev pub which_of : Option InRow → Option RowOf
+which_of which = option_map (λ row. record { name = row.array.now; number = row.number }) which
+
 -- the value of a key behind one note more, where it has another before it: a number told it, rows of an array were read or are
--- laid, a label was read or laid, or a body was entered, whose own names hide those outside
+-- laid, a label was read or laid, all rows of an array were, which have labels, or a body was entered, whose own names hide those
+-- outside
 abbrev pub noting : Note → Key → Option ℤ → Option ℤ
 noting (Told name rows) key other = if is_same_key (count_key name.now.bytes) key then Some rows else other
 noting (Counted name rows) key other = if counts_rows name.now.bytes key then Some rows else other
 noting (Placed name at) key other = if stands_at name.now.bytes key then Some at else other
 noting (PlaceTold name at) key other = if stands_at name.now.bytes key then Some at else other
-noting (Entered fields) key other = if declares (plain_body fields.now) key then stated_in (plain_body fields.now) key else other
+noting (Rows row count places) key other = if gives_rows (plain_body row.now) key then row_value (plain_body row.now) count places.items key else other
+noting (Entered fields which) key other = value_inside (which_of which) (plain_body fields.now) key other
 
 -- behind all notes, the oldest first
 abbrev pub noted : Option ℤ → List Note → Key → Option ℤ
@@ -54,7 +66,8 @@ meeting (Told name rows) key before = before
 meeting (PlaceTold name at) key before = before
 meeting (Counted name rows) key before = counts_rows name.now.bytes key || before
 meeting (Placed name at) key before = stands_at name.now.bytes key || before
-meeting (Entered fields) key before = not (declares (plain_body fields.now) key) && before
+meeting (Rows row count places) key before = gives_rows (plain_body row.now) key || before
+meeting (Entered fields which) key before = not (declares (plain_body fields.now) key) && before
 
 abbrev pub met_noted : Bool → List Note → Key → Bool
 met_noted before [] key = before
@@ -63,6 +76,13 @@ met_noted before (note ∷ notes) key = met_noted (meeting note key before) note
 -- what is met behind all notes
 abbrev pub met : List Note → Names
 met notes key = met_noted (is_some (outside.give key)) notes key
+
+-- notes were added at the end by which the labels directly in so many rows have these places, and all of them are met
+pub record AreRowsNoted (row : PlainBody) (count : ℕ) (places : List ℤ) (old new : List Note) : Type 0 where
+  pub more : List Note
+  pub grew : new ≡ old ++ more
+  pub values : (key : Key) (before : Option ℤ) → noted before more key ≡ (if gives_rows row key then row_value row count places key else before)
+  pub all_met : (key : Key) (before : Bool) → met_noted before more key ≡ (gives_rows row key || before)
 
 -- some were only added at the end
 abbrev pub Grew : {A : Type 0} → List A → List A → Type 0

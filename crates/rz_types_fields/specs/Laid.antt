@@ -1,5 +1,5 @@
 -- The bytes that a row gives, field by field and then the late numbers, or the first refusal. (MPW Rez.)
-use Rattle.std.specs.Prelude.{◌≡◌, ℕ, ◌+◌, ◌/◌, min, ℤ, pos, nat_abs, nat_le, nat_lt, not, Bool, true, false, if◌then◌else◌, List, [], ◌∷◌, ◌++◌, length, map, take, drop, replicate, Option, Some, None, option_map, Ok, Err}
+use Rattle.std.specs.Prelude.{◌≡◌, ℕ, ◌+◌, ◌/◌, min, ℤ, pos, nat_abs, nat_le, nat_lt, not, Bool, true, false, ◌||◌, if◌then◌else◌, List, [], ◌∷◌, ◌++◌, length, map, take, drop, replicate, Option, Some, None, option_map, Ok, Err}
 use Rattle.std.specs.List.{list_any}
 use Rattle.std.specs.Option.{is_none, is_some}
 use Rattle.std.specs.declared.result.Result.{Result}
@@ -14,11 +14,12 @@ use Rattle.rz_expr.specs.Environment.{Environment, Sight}
 use Rattle.rz_expr.specs.Term.{Term}
 use Rattle.rz_expr.specs.Value.{value_of}
 use Rattle.rz_expr.specs.declared.value.EvalFault.{EvalFault}
-use Rattle.rz_expr.specs.declared.value.EvalFault.TheVariants.{BadShift, DataWidth, LaterData, UnknownName, ZeroDivisor}
+use Rattle.rz_expr.specs.declared.value.EvalFault.TheVariants.{BadIndex, BadShift, DataWidth, LaterData, UnknownName, ZeroDivisor}
 use Rattle.rz_bits.specs.Bits.{bits_of, bytes_of, number_bits}
 use Rattle.rz_bits.specs.BitBuf.{filled, missing, zeros}
 use Rattle.rz_types_fields.specs.Field.{case_and, field_and, no_cases, no_fields, takes_value, Align, Array, Fill, Label, Number, PlainBody, PlainCases, PlainField, PlainText, Points, Switch, Text}
 use Rattle.rz_types_fields.specs.Known.{names_inside}
+use Rattle.rz_types_fields.specs.RowLabels.{also_rows, is_row, row_of, RowOf}
 use Rattle.rz_types_fields.specs.Range.{fits_number, may_be_size}
 use Rattle.rz_types_fields.specs.Passed.{declares, gives_count, outside, stands_at, Names}
 use Rattle.rz_types_fields.specs.Piece.{pieces_of, terms_of_text, Filler, OneNumber, OneText, Piece, Place, Zeros}
@@ -59,16 +60,18 @@ pub record LateNumber : Type 0 where
   pub names : Environment → Environment
 
 -- What is laid so far: the number of pieces, their bits, which are zero where they are late, a mark for each bit that says
--- whether it is late, the values that names have there, and the late numbers.
+-- whether it is late, the values that names have there, the late numbers, and the places of the labels that stand directly in
+-- the body that is laid, and, where it is a row, in those before it.
 pub record Draft : Type 0 where
   pub piece : ℕ
   pub bits : List Bool
   pub late : Late
   pub known : Environment
   pub numbers : List LateNumber
+  pub places : List ℤ
 
 abbrev pub nothing_laid : Draft
-nothing_laid = record { piece = 0; bits = []; late = []; known = outside; numbers = [] }
+nothing_laid = record { piece = 0; bits = []; late = []; known = outside; numbers = []; places = [] }
 
 -- what an expression sees behind what is laid so far: all bits but those of late numbers
 abbrev pub draft_sight : Facts → Draft → Sight
@@ -80,10 +83,11 @@ met_in names key = is_some (names.give key)
 
 -- Values and their refusals.
 
--- why an expression of a field has no value: 211, 213 and 215; a field's expression names nothing that has no value
+-- why an expression of a field has no value: 211, 213, 215 and 223; a field's expression names nothing that has no value
 abbrev pub value_refusal : ℕ → EvalFault → Refusal
 value_refusal piece ZeroDivisor = refusal 211 piece (pos 0)
 value_refusal piece (UnknownName word) = refusal 203 piece (pos 0)
+value_refusal piece (BadIndex number) = refusal 223 piece number
 value_refusal piece (LaterData first end) = refusal 213 piece end
 value_refusal piece (DataWidth width) = refusal 213 piece width
 value_refusal piece (BadShift count) = refusal 215 piece count
@@ -258,6 +262,11 @@ abbrev pub placed : Piece → ℕ → Environment → Environment
 placed (Place name) at names = record { give = λ key. if stands_at name.bytes key then Some (pos at) else names.give key }
 placed piece at names = names
 
+-- behind a label its place stands behind the others
+abbrev pub and_place : Piece → ℕ → List ℤ → List ℤ
+and_place (Place name) at places = places ++ pos at ∷ []
+and_place piece at places = places
+
 -- a piece with these bits more
 abbrev pub grown : Piece → Draft → List Bool → Bool → List LateNumber → Draft
 grown piece draft bits is_late numbers = record {
@@ -266,6 +275,7 @@ grown piece draft bits is_late numbers = record {
   late = draft.late ++ replicate (length bits) is_late;
   known = placed piece (length draft.bits) draft.known;
   numbers = draft.numbers ++ numbers;
+  places = and_place piece (length draft.bits) draft.places;
 }
 
 abbrev pub late_at : Draft → NumForm → ℤ → Term → LateNumber
@@ -320,44 +330,82 @@ counted no_fields values outer = outer
 counted (field_and field fields) values outer =
     counted fields (other_values (takes_value field) values) (with_field field (first_value (takes_value field) values) outer)
 
--- what names have at the front of a body: its arrays the numbers of their rows, its labels nothing, and else what they have outside
-abbrev pub entered : PlainBody → List Tree → Environment → Environment
-entered body values outer = counted body values (names_inside body outer)
+-- what names have at the front of a body: its arrays the numbers of their rows, its labels nothing, the array of which it is a
+-- row the number of the row, and else what they have outside
+abbrev pub entered : Option RowOf → PlainBody → List Tree → Environment → Environment
+entered which body values outer = counted body values (names_inside which body outer)
 
 -- the names of a body in the end, by those of the body around it: its own have what they had at its end
-abbrev pub outside_of : PlainBody → Environment → Environment → Environment
-outside_of body own outer = record { give = λ key. if declares body key then own.give key else outer.give key }
+abbrev pub outside_of : Option RowOf → PlainBody → Environment → Environment → Environment
+outside_of which body own outer = record { give = λ key. if is_row which key || declares body key then own.give key else outer.give key }
 
-abbrev pub closing : PlainBody → Environment → LateNumber → LateNumber
-closing body own one = record {
+abbrev pub closing : Option RowOf → PlainBody → Environment → LateNumber → LateNumber
+closing which body own one = record {
   piece = one.piece;
   at = one.at;
   form = one.form;
   width = one.width;
   term = one.term;
-  names = λ outer. one.names (outside_of body own outer);
+  names = λ outer. one.names (outside_of which body own outer);
 }
 
 -- a body within is laid with names of its own, which end with it; its late numbers keep them
-abbrev pub enter : PlainBody → List Tree → Draft → Draft
-enter body values draft = record { piece = draft.piece; bits = draft.bits; late = draft.late; known = entered body values draft.known; numbers = [] }
+abbrev pub enter : Option RowOf → PlainBody → List Tree → Draft → Draft
+enter which body values draft = record {
+  piece = draft.piece;
+  bits = draft.bits;
+  late = draft.late;
+  known = entered which body values draft.known;
+  numbers = [];
+  places = draft.places;
+}
 
-abbrev pub leave : PlainBody → Draft → Draft → Draft
-leave body draft next = record {
+abbrev pub leave : Option RowOf → PlainBody → Draft → Draft → Draft
+leave which body draft next = record {
   piece = next.piece;
   bits = next.bits;
   late = next.late;
   known = draft.known;
-  numbers = draft.numbers ++ map (closing body next.known) next.numbers;
+  numbers = draft.numbers ++ map (closing which body next.known) next.numbers;
+  places = next.places;
 }
 
-abbrev pub inside_laid : PlainBody → (Draft → List Tree → Result Draft Refusal) → Draft → List Tree → Result Draft Refusal
-inside_laid body lay_fields draft values = lay_fields (enter body values draft) values >>= λ next. Ok (leave body draft next)
+abbrev pub inside_laid : Option RowOf → PlainBody → (Draft → List Tree → Result Draft Refusal) → Draft → List Tree → Result Draft Refusal
+inside_laid which body lay_fields draft values = lay_fields (enter which body values draft) values >>= λ next. Ok (leave which body draft next)
 
--- rows one behind the other
-abbrev pub rows_laid : (Draft → List Tree → Result Draft Refusal) → Draft → List (List Tree) → Result Draft Refusal
-rows_laid row draft [] = Ok draft
-rows_laid row draft (line ∷ lines) = row draft line >>= λ next. rows_laid row next lines
+-- with these places of labels
+abbrev pub with_places : List ℤ → Draft → Draft
+with_places places draft = record {
+  piece = draft.piece;
+  bits = draft.bits;
+  late = draft.late;
+  known = draft.known;
+  numbers = draft.numbers;
+  places = places;
+}
+
+-- what is laid with places of its own, which end with it
+abbrev pub apart : (Draft → Result Draft Refusal) → Draft → Result Draft Refusal
+apart lay draft = lay (with_places [] draft) >>= λ next. Ok (with_places draft.places next)
+
+-- rows one behind the other, of which the first has this number
+abbrev pub rows_laid : (ℕ → Draft → List Tree → Result Draft Refusal) → ℕ → Draft → List (List Tree) → Result Draft Refusal
+rows_laid row number draft [] = Ok draft
+rows_laid row number draft (line ∷ lines) = row number draft line >>= λ next. rows_laid row (number + 1) next lines
+
+-- behind all rows of an array the labels in them have their places
+abbrev pub behind_rows : PlainBody → ℕ → Draft → Draft
+behind_rows row count draft = record {
+  piece = draft.piece;
+  bits = draft.bits;
+  late = draft.late;
+  known = also_rows row count draft.places draft.known;
+  numbers = draft.numbers;
+  places = draft.places;
+}
+
+abbrev pub array_laid : (ℕ → Draft → List Tree → Result Draft Refusal) → PlainBody → List (List Tree) → Draft → Result Draft Refusal
+array_laid lay row lines draft = rows_laid lay 1 draft lines >>= λ next. Ok (behind_rows row (length lines) next)
 
 abbrev mutual
   pub field_laid : Facts → Draft → PlainField → Option Tree → Result Draft Refusal
@@ -368,14 +416,14 @@ abbrev mutual
   field_laid known draft (Align unit) value = pieces_laid known draft (Align unit) value
   field_laid known draft (Label name) value = pieces_laid known draft (Label name) value
   field_laid known draft (Array name count row) value =
-      rows_laid (inside_laid row (λ inner line. body_laid known inner row line)) draft (rows_in value)
+      apart (array_laid (λ number. inside_laid (row_of name number) row (λ inner line. body_laid known inner row line)) row (rows_in value)) draft
   field_laid known draft (Switch cases) value = case_laid known draft cases value
 
   -- the fields of the case that is chosen
   pub case_laid : Facts → Draft → PlainCases → Option Tree → Result Draft Refusal
   case_laid known draft no_cases value = Ok draft
   case_laid known draft (case_and name row others) value =
-      if is_case name value then inside_laid row (λ inner line. body_laid known inner row line) draft (line_in value)
+      if is_case name value then apart (λ inner. inside_laid None row (λ inner line. body_laid known inner row line) inner (line_in value)) draft
       else case_laid known draft others value
 
   -- the fields of a body, seen with its own names
@@ -385,8 +433,12 @@ abbrev mutual
       then_laid (takes_value field) (field_laid known draft field) (λ next values. body_laid known next fields values) values
 
 -- a body inside what is laid so far
-abbrev pub row_laid : Facts → PlainBody → Draft → List Tree → Result Draft Refusal
-row_laid known row draft line = inside_laid row (λ inner line. body_laid known inner row line) draft line
+abbrev pub row_laid : Facts → Option RowOf → PlainBody → Draft → List Tree → Result Draft Refusal
+row_laid known which row draft line = inside_laid which row (λ inner line. body_laid known inner row line) draft line
+
+-- the rows of an array
+abbrev pub rows_apart : Facts → Option Word → PlainBody → List (List Tree) → Draft → Result Draft Refusal
+rows_apart known name row lines draft = apart (array_laid (λ number. row_laid known (row_of name number) row) row lines) draft
 
 -- The second pass.
 
@@ -407,7 +459,7 @@ fill known names (one ∷ others) bits = late_bits known names one bits >>= λ o
 -- the bytes: first all pieces in order, then the late numbers, and then zero bits to a whole byte
 abbrev pub laid : Facts → PlainBody → List Tree → Result (List ℕ) Refusal
 laid known body row =
-    row_laid known body nothing_laid row
+    row_laid known None body nothing_laid row
     >>= λ draft. fill known outside draft.numbers draft.bits
     >>= λ bits. Ok (bytes_of (filled 8 bits))
 

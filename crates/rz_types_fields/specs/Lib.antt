@@ -10,6 +10,7 @@ pub mod Width
 pub mod Solve
 pub mod Piece
 pub mod Passed
+pub mod RowLabels
 pub mod Row
 pub mod Sees
 pub mod Spells

@@ -2,7 +2,7 @@
 use Rattle.std.specs.Prelude.{ℕ, ℤ, Bool, true, false, ◌&&◌, ◌||◌, not, if◌then◌else◌, List, [], ◌∷◌, Option, Some, None}
 use Rattle.std.specs.Option.{is_some}
 use Rattle.rz_core.specs.declared.resource.Word.{Word}
-use Rattle.rz_expr.specs.Environment.{count_key, place_key, Environment, Key}
+use Rattle.rz_expr.specs.Environment.{count_key, place_in, place_key, place_of, rows_of, Environment, Key}
 use Rattle.rz_expr.specs.Term.{Term}
 use Rattle.rz_types_fields.specs.Field.{field_and, no_fields, Align, Array, Label, PlainBody, PlainField}
 use Rattle.rz_types_fields.specs.Piece.{pieces_of, OneNumber, Piece}
@@ -30,9 +30,26 @@ gives_count (Some name) key = counts_rows name.bytes key
 abbrev pub stands_at : List ℕ → Key → Bool
 stands_at name key = is_same_key (place_key name) key
 
--- the field gives this key a value: an array by the number of its rows, a label by its place
+-- the field is a label of this name
+abbrev pub is_label : PlainField → Key → Bool
+is_label (Label name) key = stands_at name.bytes key
+is_label field key = false
+
+-- a label of this name, in lower case, stands directly in a body: not in its cases, and not in the rows of its arrays
+abbrev pub has_label : PlainBody → List ℕ → Bool
+has_label no_fields label = false
+has_label (field_and field fields) label = is_label field (place_of label) || has_label fields label
+
+-- the key is that of a label directly in these rows: by their number, or by its place in one of them
+abbrev pub gives_rows : PlainBody → Key → Bool
+gives_rows row (rows_of label) = has_label row label
+gives_rows row (place_in label number) = has_label row label
+gives_rows row key = false
+
+-- the field gives this key a value: an array by the number of its rows and by the places of the labels in them, a label by its
+-- place
 abbrev pub gives_key : PlainField → Key → Bool
-gives_key (Array name count row) key = gives_count name key
+gives_key (Array name count row) key = gives_count name key || gives_rows row key
 gives_key (Label name) key = stands_at name.bytes key
 gives_key field key = false
 
@@ -41,9 +58,9 @@ abbrev pub declares : PlainBody → Key → Bool
 declares no_fields key = false
 declares (field_and field fields) key = gives_key field key || declares fields key
 
--- What the fields before one tell of names: which stand before it, labels and arrays by the numbers of their rows, and which
--- are told, by a stated count or by a number before it. At a field those are near, too, that stand behind it at a known
--- distance.
+-- What the fields before one tell of names: which stand before it, labels, arrays by the numbers of their rows, and the labels
+-- in these by all their rows, and which are told, by a stated count or by a number before it. At a field those are near, too,
+-- that stand behind it at a known distance.
 pub record Passed : Type 0 where
   pub met : Names
   pub told : Names
@@ -82,7 +99,7 @@ states (field_and field fields) key = states_key field key || states fields key
 abbrev pub met_inside : PlainBody → Names → Names
 met_inside body met key = not (declares body key) && met key
 
--- behind a field its own name is met
+-- behind a field what it gives a value is met
 abbrev pub met_behind : PlainField → Names → Names
 met_behind field met key = gives_key field key || met key
 
@@ -93,11 +110,6 @@ at_front body passed = record {
   told = λ key. if declares body key then states body key else passed.told key;
   near = λ key. false;
 }
-
--- the field is a label of this name
-abbrev pub is_label : PlainField → Key → Bool
-is_label (Label name) key = stands_at name.bytes key
-is_label field key = false
 
 -- what stands behind the field is at a known distance
 abbrev pub is_measured : PlainField → Bool

@@ -1,9 +1,10 @@
 -- Which value a name has where the value of an expression is known: the operators undone, from the outside in. (MPW Rez.)
 use Rattle.std.specs.Prelude.{◌≡◌, ℕ, ◌==◌, ◌%◌, ◌^◌, ℤ, pos, negsuc, ◌+ℤ◌, ◌-ℤ◌, ◌*ℤ◌, neg_ℤ, int_div, int_rem, int_le, nat_lt, Bool, true, false, ◌&&◌, ◌||◌, not, if◌then◌else◌, List, [], ◌∷◌, Option, Some, None, option_and_then, option_map}
 use Rattle.std.specs.Int.{cast_unsigned, w64}
+use Rattle.std.specs.Ordering.{int_eq}
 use Rattle.std.specs.Result.{result_ok}
-use Rattle.rz_expr.specs.Environment.{count_key, count_of, place_key, place_of, Environment, Key, Sight}
-use Rattle.rz_expr.specs.Term.{BitsAt, Constant, FactOf, Named, OfOne, OfTwo, RowsOf, Term}
+use Rattle.rz_expr.specs.Environment.{count_key, count_of, place_in, place_key, place_of, row_in, rows_of, Environment, Key, Sight}
+use Rattle.rz_expr.specs.Term.{BitsAt, Constant, FactOf, Indexed, Named, OfOne, OfTwo, RowNumber, RowsOf, Term}
 use Rattle.rz_expr.specs.Value.{is_zero, value_of}
 use Rattle.rz_expr.specs.declared.expr.UnaryOp.{UnaryOp}
 use Rattle.rz_expr.specs.declared.expr.UnaryOp.TheVariants as one
@@ -21,13 +22,18 @@ is_same_name bytes others = false
 abbrev pub is_same_key : Key → Key → Bool
 is_same_key (place_of name) (place_of other) = is_same_name name other
 is_same_key (count_of name) (count_of other) = is_same_name name other
+is_same_key (rows_of name) (rows_of other) = is_same_name name other
+is_same_key (place_in name row) (place_in other number) = is_same_name name other && int_eq row number
+is_same_key (row_in name) (row_in other) = is_same_name name other
 is_same_key key other = false
 
--- the expression has this name in it
+-- the expression has this name in it; the rows of an indexed label and the row around are no names that can be told
 abbrev pub has_key : Key → Term → Bool
 has_key key (Constant number) = false
 has_key key (Named name) = is_same_key key (place_key name)
+has_key key (Indexed name index) = has_key key index
 has_key key (RowsOf name) = is_same_key key (count_key name)
+has_key key (RowNumber name) = false
 has_key key (BitsAt name start width) = is_same_key key (place_key name) || has_key key start || has_key key width
 has_key key (FactOf which) = false
 has_key key (OfOne op operand) = has_key key operand
@@ -82,7 +88,9 @@ found_if holds number = if holds then Some number else None
 abbrev pub solve : Key → Sight → Term → ℤ → Option ℤ
 solve key sight (Constant other) number = None
 solve key sight (Named name) number = found_if (is_same_key key (place_key name)) number
+solve key sight (Indexed name index) number = None
 solve key sight (RowsOf name) number = found_if (is_same_key key (count_key name)) number
+solve key sight (RowNumber name) number = None
 solve key sight (BitsAt name start width) number = None
 solve key sight (FactOf which) number = None
 solve key sight (OfOne op operand) number = option_and_then (solve key sight operand) (option_and_then in_64_bits (undo_one op number))
@@ -98,7 +106,7 @@ solved_count width key sight term stored = option_map (λ count. pos (cast_unsig
 -- the value of a name where an expression is stored so: a number of rows, or a place
 abbrev pub solved_value : ℕ → Key → Sight → Term → ℕ → Option ℤ
 solved_value width (place_of name) sight term stored = solve (place_of name) sight term (pos stored)
-solved_value width (count_of name) sight term stored = solved_count width (count_of name) sight term stored
+solved_value width key sight term stored = solved_count width key sight term stored
 
 -- Which names can be solved.
 
@@ -125,7 +133,9 @@ undoes_right op = false
 abbrev pub can_solve : Key → Term → Bool
 can_solve key (Constant number) = false
 can_solve key (Named name) = is_same_key key (place_key name)
+can_solve key (Indexed name index) = false
 can_solve key (RowsOf name) = is_same_key key (count_key name)
+can_solve key (RowNumber name) = false
 can_solve key (BitsAt name start width) = false
 can_solve key (FactOf which) = false
 can_solve key (OfOne op operand) = undoes_one op && can_solve key operand
@@ -143,6 +153,8 @@ IsSolvedTo false solved value = solved ≡ value
 abbrev pub AreSolved : (known : Key → Bool) → (solved : Key → Option ℤ) → Environment → Term → Type 0
 AreSolved known solved names (Constant number) = Unit {0}
 AreSolved known solved names (Named name) = IsSolvedTo (known (place_key name)) (solved (place_key name)) (names.give (place_key name))
+AreSolved known solved names (Indexed name index) = AreSolved known solved names index
+AreSolved known solved names (RowNumber name) = Unit {0}
 AreSolved known solved names (RowsOf name) = IsSolvedTo (known (count_key name)) (solved (count_key name)) (names.give (count_key name))
 AreSolved known solved names (BitsAt name start width) =
     IsSolvedTo (known (place_key name)) (solved (place_key name)) (names.give (place_key name)) × AreSolved known solved names start × AreSolved known solved names width

@@ -7,13 +7,14 @@ use Rattle.std.specs.Str.{str_eq_ignore_ascii_case}
 use Rattle.rz_core.specs.declared.resource.Word.{Word}
 use Rattle.rz_core.specs.declared.facts.Facts.{Facts}
 use Rattle.rz_core.specs.declared.fault.Mark.{Mark}
-use Rattle.rz_expr.specs.Environment.{count_key, place_key, Environment, Key, Sight}
+use Rattle.rz_expr.specs.Environment.{count_key, place_in, place_key, place_of, rows_of, Environment, Key, Sight}
 use Rattle.rz_expr.specs.Term.{Term}
 use Rattle.rz_expr.specs.Value.{value_of}
 use Rattle.rz_bits.specs.Bits.{bits_of, number_bits}
 use Rattle.rz_bits.specs.BitBuf.{filled, missing, zeros}
 use Rattle.rz_types_fields.specs.Field.{case_and, field_and, no_cases, no_fields, Align, Array, Fill, Label, Number, PlainBody, PlainCases, PlainField, PlainText, Points, Switch, Text}
-use Rattle.rz_types_fields.specs.Passed.{at_field, at_front, behind, behind_piece, declares, is_known, nothing_passed, outside, Names, Passed}
+use Rattle.rz_types_fields.specs.Passed.{at_field, at_front, behind, behind_piece, declares, has_label, is_known, nothing_passed, outside, Names, Passed}
+use Rattle.rz_types_fields.specs.RowLabels.{is_row, row_number, row_of, RowOf}
 use Rattle.rz_types_fields.specs.Piece.{pieces_of, terms_of_text, Filler, OneNumber, OneText, Piece, Place, Zeros}
 use Rattle.rz_types_fields.specs.Range.{fits_number, may_be_size}
 use Rattle.rz_types_fields.specs.Sees.{is_late, sees, Late}
@@ -55,23 +56,26 @@ IsGroupedFor field value = Unit {0}
 
 -- Bodies.
 
--- the row of an array: the name of the array, where it has one, and the number of the row, from 1
-pub record RowOf : Type 0 where
-  pub name : Option Word
-  pub number : ℕ
+-- outside of a row a label that stands directly in it has the place, by the number of the row, that it has in it
+abbrev pub HasPlace : Option RowOf → List ℕ → (outer own : Environment) → Type 0
+HasPlace None label outer own = Unit {0}
+HasPlace (Some row) label outer own = outer.give (place_in label (pos row.number)) ≡ own.give (place_of label)
 
-abbrev pub row_of : Option Word → ℕ → Option RowOf
-row_of name number = Some (record { name = name; number = number })
-
--- In a body names have other values than outside only where its fields give them. Which row of an array it is, if it is one, is
--- for names that tell rows apart; so far no name does.
+-- In a body names have other values than outside only where its fields give them, and where it is the row of an array, whose
+-- name has the number of the row.
 pub record Within (body : PlainBody) (which : Option RowOf) (outer own : Environment) : Type 0 where
-  pub give : (key : Key) → declares body key ≡ false → own.give key ≡ outer.give key
+  pub give : (key : Key) → declares body key ≡ false → is_row which key ≡ false → own.give key ≡ outer.give key
+  pub number : (key : Key) → is_row which key ≡ true → own.give key ≡ row_number which
+  pub places : (label : List ℕ) → has_label body label ≡ true → HasPlace which label outer own
 
 -- so many rows are counted by the name of their array
 abbrev pub IsCounted : Option Word → ℕ → Environment → Type 0
 IsCounted None rows names = Unit {0}
 IsCounted (Some name) rows names = names.give (count_key name.bytes) ≡ Some (pos rows)
+
+-- so many rows are counted by each label that stands directly in them
+pub record AreRows (row : PlainBody) (rows : ℕ) (names : Environment) : Type 0 where
+  pub give : (label : List ℕ) → has_label row label ≡ true → names.give (rows_of label) ≡ Some (pos rows)
 
 -- Values.
 
@@ -244,7 +248,7 @@ module _ (plain : Bool) (known : Facts) (all : List Bool) where
     FieldSpells (Align unit) names passed value = PiecesSpell (Align unit) names passed value
     FieldSpells (Label name) names passed value = PiecesSpell (Label name) names passed value
     FieldSpells (Array name count row) names passed value = λ at late after late_after.
-        (rows : List (List Tree)) × (value ≡ Some (trees.Rows rows)) × IsStated count (length rows) × IsCounted name (length rows) names
+        (rows : List (List Tree)) × (value ≡ Some (trees.Rows rows)) × IsStated count (length rows) × IsCounted name (length rows) names × AreRows row (length rows) names
         × RowsSpell (λ number line. Inside row (row_of name number) names (λ own. BodySpells row own (at_front row passed) line)) 1 rows at late after late_after
     FieldSpells (Switch cases) names passed value = CaseSpells cases names passed value
 

@@ -10,10 +10,10 @@ use Rattle.rz_core.specs.declared.fault.Kept.TheVariants as kept
 use Rattle.rz_core.specs.declared.fault.Mark.{Mark}
 use Rattle.rz_expr.specs.Constant.{constant_sight}
 use Rattle.rz_expr.specs.Environment.{place_of, predefined, Environment, Key, Sight}
-use Rattle.rz_expr.specs.Term.{BitsAt, Constant, FactOf, Named, OfOne, OfTwo, RowsOf, Term}
+use Rattle.rz_expr.specs.Term.{BitsAt, Constant, FactOf, Indexed, Named, OfOne, OfTwo, RowNumber, RowsOf, Term}
 use Rattle.rz_expr.specs.Value.{value_of}
 use Rattle.rz_expr.specs.declared.value.EvalFault.{EvalFault}
-use Rattle.rz_expr.specs.declared.value.EvalFault.TheVariants.{BadShift, DataWidth, LaterData, UnknownName, ZeroDivisor}
+use Rattle.rz_expr.specs.declared.value.EvalFault.TheVariants.{BadIndex, BadShift, DataWidth, LaterData, UnknownName, ZeroDivisor}
 use Rattle.rz_expr.specs.declared.words.FactWord.{FactWord}
 use Rattle.rz_expr.specs.declared.words.FactWord.TheVariants as facts
 use Rattle.rz_types_fields.specs.declared.field.Symbol.{Symbol}
@@ -45,7 +45,9 @@ is_date_fact other = true
 abbrev pub is_head_expression : Term → Bool
 is_head_expression (Constant number) = true
 is_head_expression (Named name) = is_some (predefined name)
+is_head_expression (Indexed name index) = false
 is_head_expression (RowsOf name) = false
+is_head_expression (RowNumber name) = false
 is_head_expression (BitsAt name start width) = false
 is_head_expression (FactOf which) = is_date_fact which
 is_head_expression (OfOne op operand) = is_head_expression operand
@@ -56,7 +58,9 @@ is_head_expression (OfTwo op left right) = is_head_expression left && is_head_ex
 abbrev pub is_field_expression : Term → Bool
 is_field_expression (Constant number) = true
 is_field_expression (Named name) = is_some (predefined name)
+is_field_expression (Indexed name index) = false
 is_field_expression (RowsOf name) = false
+is_field_expression (RowNumber name) = false
 is_field_expression (BitsAt name start width) = false
 is_field_expression (FactOf which) = true
 is_field_expression (OfOne op operand) = is_field_expression operand
@@ -64,11 +68,13 @@ is_field_expression (OfTwo op left right) = is_field_expression left && is_field
 
 -- Expressions of fields.
 
--- an expression of a size: it may name labels, by themselves and with the bits behind them
+-- an expression of a size: it may name labels, by themselves, in a row and with the bits behind them, and the row around
 abbrev pub is_size_expression : Term → Bool
 is_size_expression (Constant number) = true
 is_size_expression (Named name) = true
+is_size_expression (Indexed name index) = is_size_expression index
 is_size_expression (RowsOf name) = false
+is_size_expression (RowNumber name) = true
 is_size_expression (BitsAt name start width) = is_size_expression start && is_size_expression width
 is_size_expression (FactOf which) = true
 is_size_expression (OfOne op operand) = is_size_expression operand
@@ -78,7 +84,9 @@ is_size_expression (OfTwo op left right) = is_size_expression left && is_size_ex
 abbrev pub is_fixed_expression : Term → Bool
 is_fixed_expression (Constant number) = true
 is_fixed_expression (Named name) = true
+is_fixed_expression (Indexed name index) = is_fixed_expression index
 is_fixed_expression (RowsOf name) = true
+is_fixed_expression (RowNumber name) = true
 is_fixed_expression (BitsAt name start width) = is_fixed_expression start && is_fixed_expression width
 is_fixed_expression (FactOf which) = true
 is_fixed_expression (OfOne op operand) = is_fixed_expression operand
@@ -88,7 +96,9 @@ is_fixed_expression (OfTwo op left right) = is_fixed_expression left && is_fixed
 abbrev pub is_item_expression : Term → Bool
 is_item_expression (Constant number) = true
 is_item_expression (Named name) = true
+is_item_expression (Indexed name index) = false
 is_item_expression (RowsOf name) = false
+is_item_expression (RowNumber name) = false
 is_item_expression (BitsAt name start width) = false
 is_item_expression (FactOf which) = true
 is_item_expression (OfOne op operand) = is_item_expression operand
@@ -124,6 +134,7 @@ no_bits first width = None
 abbrev pub value_fault : Mark → EvalFault → Fault
 value_fault mark ZeroDivisor = record { number = 211; mark = Some mark; kept = kept.Nothing }
 value_fault mark (UnknownName word) = record { number = 203; mark = Some mark; kept = kept.Name word.bytes }
+value_fault mark (BadIndex number) = record { number = 223; mark = Some mark; kept = kept.Number number }
 value_fault mark (LaterData first behind) = record { number = 213; mark = Some mark; kept = kept.Number behind }
 value_fault mark (DataWidth width) = record { number = 213; mark = Some mark; kept = kept.Number width }
 value_fault mark (BadShift count) = record { number = 215; mark = Some mark; kept = kept.Number count }

@@ -35,10 +35,13 @@ pub use field::{
 };
 pub use keys::{CaseKey, case_keys, fixed_width, fixed_widths, key_bits, sized_bytes, text_width};
 pub use name_key::{
-    KeyRef, Standing, counts_rows, declares, is_predefined, is_same_key, standing_of, stands_at,
-    states,
+    KeyRef, Standing, counts_rows, declares, gives_key, has_label, is_label, is_predefined,
+    is_same_key, standing_of, stands_at, states,
 };
-pub use names::{NamesEnv, Note, is_met, place_of, rows_of};
+pub use names::{
+    InRow, NamesEnv, Note, is_met, labelled_rows, note_rows, place_in, place_of, row_around,
+    rows_of,
+};
 pub use place::{TextPlace, may_say, may_stand};
 pub use range::{fits_number, may_be_size, own_width};
 pub use stored::{is_too_long, stored_number};

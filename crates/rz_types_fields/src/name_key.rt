@@ -1,10 +1,11 @@
 //! Names in expressions, and the fields that give or tell them. See `specs/Passed` and `specs/Solve`.
 
 ghost use Rattle.std.specs.Prelude.{◌≡◌, ◌||◌, ◌&&◌, not, if◌then◌else◌};
+ghost use Rattle.std.specs.Str.{str_to_ascii_lowercase};
 ghost use Rattle.rz_expr.specs.Term.{term_of};
 ghost use Rattle.rz_types_fields.specs.Field.{plain_body, plain_field};
 ghost use Rattle.rz_types_fields.specs.Solve.{can_solve, has_key, is_same_key, undoes_left, undoes_one, undoes_right};
-ghost use Rattle.rz_types_fields.specs.Passed.{counts_rows, declares, gives_count, gives_key, is_known, nothing_passed, stands_at, states, states_key};
+ghost use Rattle.rz_types_fields.specs.Passed.{counts_rows, declares, gives_count, gives_key, gives_rows, has_label, is_known, is_label, nothing_passed, stands_at, states, states_key};
 ghost use Rattle.rz_types_fields.specs.NameKey.{key_of};
 
 use crate::Field;
@@ -18,6 +19,8 @@ pub enum KeyRef<'a> {
     Place(&'a Word),
     /// An array by the number of its rows.
     Count(&'a Word),
+    /// A label in the rows of an array, by the number of these rows.
+    Rows(&'a Word),
 }
 
 /// Whether a name has a value outside of all fields.
@@ -27,7 +30,7 @@ pub fn is_predefined(key: KeyRef<'_>) -> bool
 {
     match key {
         KeyRef::Place(name) => predefined(name).is_some(),
-        KeyRef::Count(_) => false,
+        KeyRef::Count(_) | KeyRef::Rows(_) => false,
     }
 }
 
@@ -39,6 +42,7 @@ pub fn is_same_key(one: KeyRef<'_>, other: KeyRef<'_>) -> bool
     match (one, other) {
         (KeyRef::Place(one), KeyRef::Place(other)) => one.is(other.bytes.as_slice()),
         (KeyRef::Count(one), KeyRef::Count(other)) => one.is(other.bytes.as_slice()),
+        (KeyRef::Rows(one), KeyRef::Rows(other)) => one.is(other.bytes.as_slice()),
         _ => false,
     }
 }
@@ -67,12 +71,46 @@ pub fn stands_at(name: &Word, key: KeyRef<'_>) -> bool
     is_same_key(KeyRef::Place(name), key)
 }
 
+/// Whether a field is a label of this name.
+pub fn is_label(field: &Field, key: KeyRef<'_>) -> bool
+    ensures { result ≡ is_label (plain_field field.now) (key_of key.entry) }
+{
+    match field {
+        Field::Label(name) => stands_at(name, key),
+        _ => false,
+    }
+}
+
+/// Whether a label of this name stands directly in a body.
+pub fn has_label(row: &[Field], label: &Word) -> bool
+    ensures { result ≡ has_label (plain_body row.now) (str_to_ascii_lowercase label.now.bytes) }
+{
+    for field in row {
+        if is_label(field, KeyRef::Place(label)) {
+            return true;
+        }
+    }
+    false
+}
+
+/// Whether a name is the number of these rows, by a label directly in them.
+fn gives_rows(row: &[Field], key: KeyRef<'_>) -> bool
+    ensures { result ≡ gives_rows (plain_body row.now) (key_of key.entry) }
+{
+    match key {
+        KeyRef::Rows(label) => has_label(row, label),
+        KeyRef::Place(_) | KeyRef::Count(_) => false,
+    }
+}
+
 /// Whether a field gives a name a value.
-fn gives_key(field: &Field, key: KeyRef<'_>) -> bool
+pub fn gives_key(field: &Field, key: KeyRef<'_>) -> bool
     ensures { result ≡ gives_key (plain_field field.now) (key_of key.entry) }
 {
     match field {
-        Field::Array(array) => gives_count(&array.name, key),
+        Field::Array(array) => {
+            gives_count(&array.name, key) || gives_rows(array.row.as_slice(), key)
+        }
         Field::Label(name) => stands_at(name, key),
         _ => false,
     }
@@ -127,9 +165,13 @@ pub fn standing_of(key: KeyRef<'_>, expr: &Expr) -> Standing
     ensures solved { result.solved ≡ can_solve (key_of key.entry) (term_of expr.now) }
 {
     match expr {
-        Expr::Number(_) | Expr::Fact(_) => alone(false),
+        Expr::Number(_) | Expr::Fact(_) | Expr::ArrayIndex(_) => alone(false),
         Expr::Name(name) => alone(is_same_key(key, KeyRef::Place(name))),
         Expr::Count(name) => alone(is_same_key(key, KeyRef::Count(name))),
+        Expr::Indexed(_, index) => Standing {
+            stands: standing_of(key, index).stands,
+            solved: false,
+        },
         Expr::Unary(op, operand) => {
             let inner = standing_of(key, operand);
             Standing {

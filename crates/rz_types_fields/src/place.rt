@@ -22,7 +22,7 @@ pub enum TextPlace {
     Data,
     /// An item: there are the facts of the resource, files, and names.
     Item,
-    /// A fixed text of a type: there are the facts of a resource, and the numbers of rows.
+    /// A fixed text of a type: there are the facts of a resource, labels, bits, and the numbers of rows.
     Fixed,
 }
 

@@ -109,7 +109,7 @@ pub fn text_of(
     )
 }
 
-/// The same, where the expressions of formats see so much.
+/// The same, where the expressions of formats see so much; the first fault may then be 213 or 223, too.
 #[cycle(texts)]
 pub fn text_seen<E: Env>(
     alloc: Global,

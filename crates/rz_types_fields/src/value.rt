@@ -41,6 +41,18 @@ impl Env for FieldEnv<'_> {
         None
     }
 
+    fn rows(&self, _label: &Word) -> Option<u64> {
+        None
+    }
+
+    fn place_at(&self, _label: &Word, _row: i32) -> Option<i32> {
+        None
+    }
+
+    fn row(&self, _array: &Word) -> Option<i32> {
+        None
+    }
+
     fn bits(&self, _name: &Word, _start: i32, _width: i32) -> Option<u32> {
         None
     }
@@ -60,7 +72,7 @@ pub fn is_head_expression(expr: &Expr) -> bool
     match expr {
         Expr::Number(_) => true,
         Expr::Name(name) => predefined(name).is_some(),
-        Expr::Count(_) | Expr::Bits(..) => false,
+        Expr::Indexed(..) | Expr::Count(_) | Expr::ArrayIndex(_) | Expr::Bits(..) => false,
         Expr::Fact(which) => is_date_fact(*which),
         Expr::Unary(_, operand) => is_head_expression(operand),
         Expr::Binary(_, left, right) => is_head_expression(left) && is_head_expression(right),
@@ -75,7 +87,7 @@ pub fn is_field_expression(expr: &Expr) -> bool
     match expr {
         Expr::Number(_) | Expr::Fact(_) => true,
         Expr::Name(name) => predefined(name).is_some(),
-        Expr::Count(_) | Expr::Bits(..) => false,
+        Expr::Indexed(..) | Expr::Count(_) | Expr::ArrayIndex(_) | Expr::Bits(..) => false,
         Expr::Unary(_, operand) => is_field_expression(operand),
         Expr::Binary(_, left, right) => is_field_expression(left) && is_field_expression(right),
     }
@@ -87,7 +99,8 @@ pub fn is_size_expression(expr: &Expr) -> bool
     ensures { result ≡ is_size_expression (term_of expr.now) }
 {
     match expr {
-        Expr::Number(_) | Expr::Fact(_) | Expr::Name(_) => true,
+        Expr::Number(_) | Expr::Fact(_) | Expr::Name(_) | Expr::ArrayIndex(_) => true,
+        Expr::Indexed(_, index) => is_size_expression(index),
         Expr::Count(_) => false,
         Expr::Bits(_, start, width) => is_size_expression(start) && is_size_expression(width),
         Expr::Unary(_, operand) => is_size_expression(operand),
@@ -101,20 +114,23 @@ pub fn is_fixed_expression(expr: &Expr) -> bool
     ensures { result ≡ is_fixed_expression (term_of expr.now) }
 {
     match expr {
-        Expr::Number(_) | Expr::Name(_) | Expr::Count(_) | Expr::Fact(_) => true,
+        Expr::Number(_) | Expr::Name(_) | Expr::Count(_) | Expr::ArrayIndex(_) | Expr::Fact(_) =>
+            true,
+        Expr::Indexed(_, index) => is_fixed_expression(index),
         Expr::Bits(_, start, width) => is_fixed_expression(start) && is_fixed_expression(width),
         Expr::Unary(_, operand) => is_fixed_expression(operand),
         Expr::Binary(_, left, right) => is_fixed_expression(left) && is_fixed_expression(right),
     }
 }
 
-/// Whether an expression may stand in an item: it has no `$$CountOf` and no data functions. (MPW Rez.)
+/// Whether an expression may stand in an item: it has no indexed labels, no `$$CountOf`, no `$$ArrayIndex` and no data
+/// functions. (MPW Rez.)
 pub fn is_item_expression(expr: &Expr) -> bool
     ensures { result ≡ is_item_expression (term_of expr.now) }
 {
     match expr {
         Expr::Number(_) | Expr::Name(_) | Expr::Fact(_) => true,
-        Expr::Count(_) | Expr::Bits(..) => false,
+        Expr::Indexed(..) | Expr::Count(_) | Expr::ArrayIndex(_) | Expr::Bits(..) => false,
         Expr::Unary(_, operand) => is_item_expression(operand),
         Expr::Binary(_, left, right) => is_item_expression(left) && is_item_expression(right),
     }
@@ -209,6 +225,7 @@ fn value_fault(mark: Mark, fault: EvalFault) -> Fault
     let (number, kept) = match fault {
         EvalFault::ZeroDivisor => (211, Kept::Nothing),
         EvalFault::UnknownName(name) => (203, Kept::Name(name.bytes)),
+        EvalFault::BadIndex(number) => (223, Kept::Number(i64::from(number))),
         EvalFault::LaterData(_, behind) => (213, Kept::Number(behind)),
         EvalFault::DataWidth(width) => (213, Kept::Number(i64::from(width))),
         EvalFault::BadShift(count) => (215, Kept::Number(i64::from(count))),
