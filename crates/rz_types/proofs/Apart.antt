@@ -11,7 +11,7 @@ use Rattle.rz_types_fields.specs.Width.{case_keys}
 use Rattle.rz_types_fields.specs.declared.keys.CaseKey.{CaseKey}
 use Rattle.rz_types.specs.Kept.{AreCasesApart, AreKeysApart, AreKeysApartIn, IsApartFrom, StandApart}
 use Rattle.rz_types.specs.Rules.{broken, broken_at, differ, found_if, has_other_place, has_other_width, has_same_bits, key_rule, keeps_rules, name_fault, KeepAll}
-use Rattle.rz_types.specs.Walk.{all_fields, and_names, behind_case, case_steps, names_in, names_of, no_names, own_names, steps, steps_within, within, Own}
+use Rattle.rz_types.specs.Walk.{all_fields, and_names, around_names, behind_case, case_steps, names_in, names_of, no_names, own_names, steps, steps_within, within, Own}
 use Rattle.rz_types.proofs.Broken.{broken_none}
 use Rattle.rz_types.proofs.Differing.{found_none, kept_append, map_none}
 
@@ -103,7 +103,7 @@ mutual
   within_apart position before scope (Fill unit count) keeps = tt
   within_apart position before scope (Align unit) keeps = tt
   within_apart position before scope (Label name) keeps = tt
-  within_apart position before scope (Array name count row) keeps = are_apart (position + 1) (and_names before (own_names (Array name count row))) (and_names scope (names_of row)) row keeps
+  within_apart position before scope (Array name count row) keeps = are_apart (position + 1) (and_names before (own_names (Array name count row))) (and_names (and_names scope (around_names name)) (names_of row)) row keeps
   within_apart position before scope (Switch cases) keeps = (cases_apart position (position + 1) before scope [] cases keeps).0
 
   are_apart : (position : ℕ) (before scope : Own) (body : PlainBody) → KeepAll broken_at (steps position before scope body) → AreKeysApart body

@@ -1,5 +1,5 @@
 -- Names that differ, where no rule is broken.
-use Rattle.std.proofs.Common.{◌≡◌, ℕ, ◌+◌, Bool, true, false, List, [], ◌∷◌, ◌++◌, length, Option, Some, None, refl, sym, ap, subst, ◌∙◌}
+use Rattle.std.proofs.Common.{◌≡◌, ℕ, ◌+◌, Bool, true, false, List, [], ◌∷◌, ◌++◌, length, Option, Some, None, refl, sym, ap, subst, ◌∙◌, append_assoc}
 use Rattle.std.specs.Prelude.{option_map}
 use Rattle.std.specs.List.{AllByRecursion}
 use Rattle.std.specs.Str.{str_eq_ignore_ascii_case}
@@ -11,7 +11,7 @@ use Rattle.rz_core.specs.declared.resource.Word.{Word}
 use Rattle.rz_types_fields.specs.Field.{field_and, no_fields, Align, Array, Fill, Label, Number, PlainBody, PlainCases, PlainField, Points, Switch, Text}
 use Rattle.rz_types.specs.Kept.{AreOwn, Differ}
 use Rattle.rz_types.specs.Rules.{array_twice, bad_place, bad_width, broken_at, case_names, case_twice, found_if, name_fault, no_values, repeated, repeats, width_fault, KeepAll}
-use Rattle.rz_types.specs.Walk.{and_names, is_among, names_in, names_of, no_names, own_names, steps, steps_within, within, Own, Step}
+use Rattle.rz_types.specs.Walk.{all_fields, and_names, around_names, is_among, label_name, labels_in, names_in, names_of, no_names, own_names, steps, steps_within, within, Own, Step}
 use Rattle.rz_types.specs.declared.rules.TypeFault.{TypeFault}
 
 -- None at all.
@@ -163,8 +163,138 @@ module _ (part : Own → List Word) (none : part no_names ≡ []) (joins : (own 
       (λ name is. differ_from name here names scope fields
       (subst (Stands name) (sym (whole ∙ ap (λ (l : List Word). part before ++ (l ++ part more)) is)) (stands_own name (part before) (part more))) behind.1))
 
+-- Labels that stand directly in the rows of arrays.
+
+labels_differ : (position : ℕ) (before scope : Own) (body : PlainBody) → KeepAll broken_at (steps position before scope body) → Differ (names_of body).labels
+labels_differ = all_names_differ (λ own. own.labels) refl (λ own other. refl) label_alone label_stands
+
+label_differs : (one : Word) (position : ℕ) (before scope : Own) (body : PlainBody) → Stands one before.labels → KeepAll broken_at (steps position before scope body)
+    → DiffersFrom one (names_of body).labels
+label_differs = differ_from (λ own. own.labels) refl (λ own other. refl) label_alone label_stands
+
+-- those of a row are its own
+own_label : (field : PlainField) → (own_names field).labels ≡ label_name field
+own_label (Number number) = refl
+own_label (Text text) = refl
+own_label (Points points) = refl
+own_label (Fill unit count) = refl
+own_label (Align unit) = refl
+own_label (Label name) = refl
+own_label (Array name count row) = refl
+own_label (Switch cases) = refl
+
+own_labels : (row : PlainBody) → (names_of row).labels ≡ labels_in row
+own_labels no_fields = refl
+own_labels (field_and field fields) = λ i. own_label field i ++ own_labels fields i
+
+labels_append : (front back : List PlainField) → (names_in (front ++ back)).labels ≡ (names_in front).labels ++ (names_in back).labels
+labels_append [] back = refl
+labels_append (field ∷ front) back =
+    ap (λ (names : List Word). (own_names field).labels ++ names) (labels_append front back)
+    ∙ sym (append_assoc (own_names field).labels (names_in front).labels (names_in back).labels)
+
+stands_behind : (one : Word) (front names : List Word) → Stands one names → Stands one (front ++ names)
+stands_behind one front names stands name none =
+    stands name ((or_false _ _ (sym (list_any-append (λ (one : Word). str_eq_ignore_ascii_case one.bytes name) front names) ∙ none)).1)
+
+all_so : (P Q : Word → Type 0) → ((name : Word) → P name → Q name) → (names : List Word) → AllByRecursion P names → AllByRecursion Q names
+all_so P Q so [] all = tt
+all_so P Q so (name ∷ names) all = (so name all.0, all_so P Q so names all.1)
+
+-- they stand among all labels within
+label_within : (field : PlainField) (more : List Word) → AllByRecursion (λ name. Stands name ((own_names field).labels ++ more)) (label_name field)
+label_within (Number number) more = tt
+label_within (Text text) more = tt
+label_within (Points points) more = tt
+label_within (Fill unit count) more = tt
+label_within (Align unit) more = tt
+label_within (Label name) more = (stands_own name [] more, tt)
+label_within (Array name count row) more = tt
+label_within (Switch cases) more = tt
+
+labels_within : (row : PlainBody) → AllByRecursion (λ name. Stands name (names_in (all_fields row)).labels) (labels_in row)
+labels_within no_fields = tt
+labels_within (field_and field fields) =
+    let own = (own_names field).labels in
+    let all = (names_in (all_fields fields)).labels in
+    all_append (λ name. Stands name (own ++ (names_in (within field ++ all_fields fields)).labels)) (label_name field) (labels_in fields)
+    (label_within field (names_in (within field ++ all_fields fields)).labels)
+    (all_so (λ name. Stands name all) (λ name. Stands name (own ++ (names_in (within field ++ all_fields fields)).labels))
+    (λ name stands. subst (λ (names : List Word). Stands name (own ++ names)) (sym (labels_append (within field) (all_fields fields)))
+    (stands_behind name own ((names_in (within field)).labels ++ all) (stands_behind name (names_in (within field)).labels all stands)))
+    (labels_in fields) (labels_within fields))
+
+-- and so before what is behind the array
+indexed_within : (before : Own) (field : PlainField) → AllByRecursion (λ name. Stands name (before.labels ++ (names_in (field ∷ within field)).labels)) (own_names field).indexed
+indexed_within before (Number number) = tt
+indexed_within before (Text text) = tt
+indexed_within before (Points points) = tt
+indexed_within before (Fill unit count) = tt
+indexed_within before (Align unit) = tt
+indexed_within before (Label name) = tt
+indexed_within before (Array name count row) =
+    all_so (λ name. Stands name (names_in (all_fields row)).labels) (λ name. Stands name (before.labels ++ (names_in (all_fields row)).labels))
+    (λ name. stands_behind name before.labels (names_in (all_fields row)).labels) (labels_in row) (labels_within row)
+indexed_within before (Switch cases) = tt
+
+-- those of one field differ
+indexed_own : (position : ℕ) (before scope : Own) (field : PlainField) → KeepAll broken_at (steps_within position before scope field) → Differ (own_names field).indexed
+indexed_own position before scope (Number number) kept = tt
+indexed_own position before scope (Text text) kept = tt
+indexed_own position before scope (Points points) kept = tt
+indexed_own position before scope (Fill unit count) kept = tt
+indexed_own position before scope (Align unit) kept = tt
+indexed_own position before scope (Label name) kept = tt
+indexed_own position before scope (Array name count row) kept =
+    subst Differ (own_labels row) (labels_differ (position + 1) (and_names before (own_names (Array name count row))) (and_names (and_names scope (around_names name)) (names_of row)) row kept)
+indexed_own position before scope (Switch cases) kept = tt
+
+-- and those behind what stands before
+indexed_behind : (one : Word) (position : ℕ) (before scope : Own) (field : PlainField) → Stands one before.labels → KeepAll broken_at (steps_within position before scope field)
+    → DiffersFrom one (own_names field).indexed
+indexed_behind one position before scope (Number number) stands kept = tt
+indexed_behind one position before scope (Text text) stands kept = tt
+indexed_behind one position before scope (Points points) stands kept = tt
+indexed_behind one position before scope (Fill unit count) stands kept = tt
+indexed_behind one position before scope (Align unit) stands kept = tt
+indexed_behind one position before scope (Label name) stands kept = tt
+indexed_behind one position before scope (Array name count row) stands kept =
+    subst (DiffersFrom one) (own_labels row)
+    (label_differs one (position + 1) (and_names before (own_names (Array name count row))) (and_names (and_names scope (around_names name)) (names_of row)) row
+    (stands_more one before.labels [] stands) kept)
+indexed_behind one position before scope (Switch cases) stands kept = tt
+
+indexed_from : (one : Word) (position : ℕ) (before scope : Own) (body : PlainBody) → Stands one before.labels → KeepAll broken_at (steps position before scope body)
+    → DiffersFrom one (names_of body).indexed
+indexed_from one position before scope no_fields stands kept = tt
+indexed_from one position before scope (field_and field fields) stands kept =
+    let more = names_in (field ∷ within field) in
+    let names = and_names before more in
+    let here = position + 1 + length (within field) in
+    let parts = kept_append broken_at (steps_within position before scope field) (steps here names scope fields) kept.1 in
+    all_append (λ later. str_eq_ignore_ascii_case one.bytes later.bytes ≡ false) (own_names field).indexed (names_of fields).indexed
+    (indexed_behind one position before scope field stands parts.0)
+    (indexed_from one here names scope fields (stands_more one before.labels more.labels stands) parts.1)
+
+each_before : (own names : List Word) → Differ own → Differ names → AllByRecursion (λ name. DiffersFrom name names) own → Differ (own ++ names)
+each_before [] names one other each = other
+each_before (name ∷ own) names one other each =
+    (all_append (λ later. str_eq_ignore_ascii_case name.bytes later.bytes ≡ false) own names one.0 each.0, each_before own names one.1 other each.1)
+
+indexed_differ : (position : ℕ) (before scope : Own) (body : PlainBody) → KeepAll broken_at (steps position before scope body) → Differ (names_of body).indexed
+indexed_differ position before scope no_fields kept = tt
+indexed_differ position before scope (field_and field fields) kept =
+    let more = names_in (field ∷ within field) in
+    let names = and_names before more in
+    let here = position + 1 + length (within field) in
+    let parts = kept_append broken_at (steps_within position before scope field) (steps here names scope fields) kept.1 in
+    each_before (own_names field).indexed (names_of fields).indexed (indexed_own position before scope field parts.0) (indexed_differ here names scope fields parts.1)
+    (all_so (λ name. Stands name names.labels) (λ name. DiffersFrom name (names_of fields).indexed)
+    (λ name stands. indexed_from name here names scope fields stands parts.1) (own_names field).indexed (indexed_within before field))
+
 pub own_differ : (position : ℕ) (before scope : Own) (body : PlainBody) → KeepAll broken_at (steps position before scope body) → AreOwn (names_of body)
 own_differ position before scope body kept = (
-  all_names_differ (λ own. own.labels) refl (λ own other. refl) label_alone label_stands position before scope body kept,
+  labels_differ position before scope body kept,
   all_names_differ (λ own. own.arrays) refl (λ own other. refl) array_alone array_stands position before scope body kept,
+  indexed_differ position before scope body kept,
 )

@@ -3,9 +3,9 @@ use Rattle.std.proofs.Common.{◌≡◌, refl, ℕ, pos, List, [], ◌∷◌, Op
 use Rattle.std.specs.Prelude.{codes}
 use Rattle.rz_expr.specs.Environment.{count_key}
 use Rattle.rz_expr.specs.Constant.{constant_sight}
-use Rattle.rz_expr.specs.Term.{BitsAt, Constant, Named, OfTwo, RowsOf, Term}
+use Rattle.rz_expr.specs.Term.{BitsAt, Constant, Indexed, Named, OfTwo, RowNumber, RowsOf, Term}
 use Rattle.rz_expr.specs.declared.expr.BinaryOp.TheVariants as two
-use Rattle.rz_types_fields.specs.Field.{field_and, no_fields, Align, Array, Label, Number, PlainField, Text}
+use Rattle.rz_types_fields.specs.Field.{case_and, field_and, no_cases, no_fields, Align, Array, Label, Number, PlainBody, PlainField, Switch, Text}
 use Rattle.rz_types_fields.specs.Solve.{solved_count}
 use Rattle.rz_types_fields.specs.Text as parts
 use Rattle.rz_types_fields.specs.declared.field.NumForm.TheVariants as forms
@@ -140,3 +140,88 @@ bits_missing = refl
 
 predefined_named : broken (field_and (number (Some (Named (codes "TRUE")))) no_fields) ≡ None
 predefined_named = refl
+
+-- Labels in rows.
+
+abbrev rows : List ℕ → PlainBody → PlainField
+rows name row = Array (Some (record { bytes = name })) None row
+
+abbrev some_rows : ℕ → PlainBody → PlainField
+some_rows count row = Array None (Some (pos count)) row
+
+-- the label with a number behind it
+abbrev marked : List ℕ → PlainBody
+marked name = field_and (label name) (field_and (number None) no_fields)
+
+abbrev bytes_at : Term → PlainField
+bytes_at place = number (Some (OfTwo two.Divide place (Constant (pos 8))))
+
+abbrev first_row : List ℕ → Term
+first_row name = Indexed name (Constant (pos 1))
+
+abbrev count : List ℕ → PlainField
+count name = number (Some (RowsOf name))
+
+-- of an array that has ended, in a row too
+indexed_behind : is_readable (field_and (count (codes "a"))
+    (field_and (rows (codes "a") (field_and (count (codes "c")) (field_and (rows (codes "c") (marked (codes "w"))) (field_and (bytes_at (first_row (codes "W"))) no_fields)))) no_fields)) ≡ true
+indexed_behind = refl
+
+-- not before it
+indexed_before : is_readable (field_and (bytes_at (first_row (codes "p"))) (field_and (count (codes "rows")) (field_and (rows (codes "rows") (field_and (label (codes "p")) (field_and pstring no_fields))) no_fields))) ≡ false
+indexed_before = refl
+
+-- and not within
+indexed_inside : is_readable (field_and (count (codes "a")) (field_and (rows (codes "a") (field_and (label (codes "b")) (field_and (bytes_at (first_row (codes "b"))) (field_and (number None) no_fields)))) no_fields)) ≡ false
+indexed_inside = refl
+
+-- of no rows
+indexed_none : is_readable (field_and (some_rows 0 (marked (codes "w"))) (field_and (number (Some (first_row (codes "w")))) no_fields)) ≡ true
+indexed_none = refl
+
+-- an index isn't solved
+index_twice : is_readable (field_and (some_rows 2 (marked (codes "g"))) (field_and (number (Some (OfTwo two.Plus (Indexed (codes "g") (Named (codes "e"))) (Named (codes "e"))))) (field_and open_text (field_and (label (codes "e")) no_fields)))) ≡ false
+index_twice = refl
+
+index_near : is_readable (field_and (some_rows 2 (marked (codes "g"))) (field_and (number (Some (Indexed (codes "g") (Named (codes "e"))))) (field_and (label (codes "e")) (field_and (number None) no_fields)))) ≡ true
+index_near = refl
+
+beside_indexed : is_readable (field_and (some_rows 2 (marked (codes "g"))) (field_and (bytes_at (OfTwo two.Minus (Named (codes "e")) (Indexed (codes "g") (Constant (pos 2))))) (field_and open_text (marked (codes "e"))))) ≡ true
+beside_indexed = refl
+
+-- the number of the row around is known
+abbrev row_number : List ℕ → PlainField
+row_number name = number (Some (RowNumber name))
+
+numbered_rows : is_readable (field_and (count (codes "a")) (field_and (rows (codes "a") (field_and (row_number (codes "a")) (field_and pstring no_fields))) no_fields)) ≡ true
+numbered_rows = refl
+
+number_around : broken (field_and (rows (codes "rows") (field_and (some_rows 1 (field_and (row_number (codes "Rows")) (field_and pstring no_fields))) no_fields)) no_fields) ≡ None
+number_around = refl
+
+number_outside : broken (field_and (row_number (codes "rows")) (field_and (named (codes "rows") pstring) no_fields)) ≡ Some (unknown_fault 0 (codes "rows"))
+number_outside = refl
+
+-- a label directly in the rows of an array, not in a case of the row, and not in a row's row
+indexed_named : broken (field_and (number (Some (first_row (codes "P")))) (field_and (some_rows 1 (marked (codes "p"))) no_fields)) ≡ None
+indexed_named = refl
+
+abbrev key : PlainField
+key = Number (record { form = forms.Integer; width = pos 16; unsigned = false; radix = radixes.Plain; symbols = []; fixed = Some (Constant (pos 1)); key = true })
+
+in_a_case : broken (field_and (some_rows 1 (field_and (Switch (case_and (record { bytes = codes "Only" }) (field_and key (marked (codes "p"))) no_cases)) no_fields)) (field_and (number (Some (first_row (codes "p")))) no_fields))
+    ≡ Some (unknown_fault 5 (codes "p"))
+in_a_case = refl
+
+rows_in_rows : broken (field_and (some_rows 1 (field_and (some_rows 1 (marked (codes "p"))) no_fields)) (field_and (number (Some (first_row (codes "p")))) no_fields)) ≡ Some (unknown_fault 4 (codes "p"))
+rows_in_rows = refl
+
+indexed_alone : broken (field_and (some_rows 1 (marked (codes "p"))) (field_and (place (codes "p")) no_fields)) ≡ Some (unknown_fault 3 (codes "p"))
+indexed_alone = refl
+
+-- the label before its index
+label_first : broken (field_and (number (Some (Indexed (codes "p") (Named (codes "q"))))) no_fields) ≡ Some (unknown_fault 0 (codes "p"))
+label_first = refl
+
+index_then : broken (field_and (number (Some (Indexed (codes "p") (Named (codes "q"))))) (field_and (some_rows 1 (marked (codes "p"))) no_fields)) ≡ Some (unknown_fault 0 (codes "q"))
+index_then = refl

@@ -9,7 +9,7 @@ use Rattle.rz_types_fields.specs.Width.{case_keys}
 use Rattle.rz_types_fields.specs.declared.keys.CaseKey.{CaseKey}
 use Rattle.rz_types.specs.Kept.{AreCasesKept, AreKept, IsKept, IsKeptWithin}
 use Rattle.rz_types.specs.Rules.{array_twice, bad_place, bad_width, broken, broken_at, has_values, keeps_rules, no_values, unknown_at, unknown_fault, unknown_in, width_fault, KeepAll}
-use Rattle.rz_types.specs.Walk.{all_fields, and_names, behind_case, case_steps, names_in, names_of, no_names, own_names, steps, steps_within, walk, within, Own, Step}
+use Rattle.rz_types.specs.Walk.{all_fields, and_names, around_names, behind_case, case_steps, names_in, names_of, no_names, own_names, steps, steps_within, walk, within, Own, Step}
 use Rattle.rz_types.proofs.Broken.{broken_none}
 use Rattle.rz_types.proofs.Differing.{own_differ, cases_differ, found_none, kept_append, map_none}
 
@@ -43,8 +43,8 @@ mutual
   within_kept position before scope (Label name) none keeps = tt
   within_kept position before scope (Array name count row) none keeps = (
     have_values position before name count row none,
-    own_differ (position + 1) (and_names before (own_names (Array name count row))) (and_names scope (names_of row)) row keeps.0,
-    are_kept (position + 1) (and_names before (own_names (Array name count row))) (and_names scope (names_of row)) row keeps,
+    own_differ (position + 1) (and_names before (own_names (Array name count row))) (and_names (and_names scope (around_names name)) (names_of row)) row keeps.0,
+    are_kept (position + 1) (and_names before (own_names (Array name count row))) (and_names (and_names scope (around_names name)) (names_of row)) row keeps,
   )
   within_kept position before scope (Switch cases) none keeps =
       (cases_differ position cases none, cases_kept position (position + 1) before scope [] cases keeps)

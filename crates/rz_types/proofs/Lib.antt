@@ -10,3 +10,4 @@ pub mod LeastWidths
 mod Examples
 pub mod Apart
 pub mod Texts
+pub mod OwnNames

@@ -12,7 +12,7 @@ use Rattle.rz_expr.specs.Environment.{Sight}
 use Rattle.rz_expr.specs.Term.{Term}
 use Rattle.rz_expr.specs.Value.{value_of}
 use Rattle.rz_expr.specs.declared.value.EvalFault.{EvalFault}
-use Rattle.rz_expr.specs.declared.value.EvalFault.TheVariants.{BadShift, DataWidth, LaterData, UnknownName, ZeroDivisor}
+use Rattle.rz_expr.specs.declared.value.EvalFault.TheVariants.{BadIndex, BadShift, DataWidth, LaterData, UnknownName, ZeroDivisor}
 use Rattle.rz_types_format.specs.Format.{formatted}
 use Rattle.rz_types_format.specs.declared.format.Argument.{Argument}
 use Rattle.rz_types_format.specs.declared.format.Argument.TheVariants as values
@@ -190,6 +190,7 @@ module _ (IsOne : ℕ → Type 0) (zero_divisor : IsOne 211) (bad_shift : IsOne 
   valued_one (Err ZeroDivisor) is = zero_divisor
   valued_one (Err (BadShift count)) is = bad_shift
   valued_one (Err (UnknownName word)) is = absurd is
+  valued_one (Err (BadIndex number)) is = absurd is
   valued_one (Err (LaterData first end)) is = absurd is
   valued_one (Err (DataWidth width)) is = absurd is
 

@@ -2,13 +2,14 @@
 use Rattle.std.proofs.Common.{◌≡◌, ◌⊎◌, inl, inr, ℕ, List, Bool, true, false, ◌&&◌, ◌||◌, Option, Some, None, refl, sym, ap, subst, ◌∙◌}
 use Rattle.std.specs.Prelude.{not, if◌then◌else◌, option_map}
 use Rattle.std.specs.Option.{is_none, is_some}
+use Rattle.std.specs.Str.{str_to_ascii_lowercase}
 use Rattle.std.proofs.lemmas.Bool.{and_parts}
 use Rattle.rz_core.specs.Lists.{or_else}
-use Rattle.rz_expr.specs.Environment.{count_key, place_key, Key}
+use Rattle.rz_expr.specs.Environment.{count_key, count_of, place_in, place_key, place_of, row_in, rows_key, rows_of, Key}
 use Rattle.rz_expr.specs.declared.expr.BinaryOp.{BinaryOp}
-use Rattle.rz_expr.specs.Term.{BitsAt, Constant, FactOf, Named, OfOne, OfTwo, RowsOf, Term}
+use Rattle.rz_expr.specs.Term.{BitsAt, Constant, FactOf, Indexed, Named, OfOne, OfTwo, RowNumber, RowsOf, Term}
 use Rattle.rz_types_fields.specs.Field.{PlainBody}
-use Rattle.rz_types_fields.specs.Solve.{can_solve, has_key, is_same_key}
+use Rattle.rz_types_fields.specs.Solve.{can_solve, has_key, is_same_key, undoes_left, undoes_one, undoes_right}
 use Rattle.rz_types_fields.specs.Passed.{declares, is_known, told_by, Names, Passed}
 use Rattle.rz_types.specs.Notes.{also_told, first_unknown, if_unknown}
 use Rattle.rz_types.specs.Readable.{all_known, is_number_read, tells, tells_one}
@@ -56,7 +57,11 @@ and_assoc false b c = refl
 none_unknown : (met known : Names) (term : Term) → is_none (first_unknown met known term) ≡ all_known met known term
 none_unknown met known (Constant number) = refl
 none_unknown met known (Named name) = if_none known (place_key name)
+none_unknown met known (Indexed name index) =
+    or_none (if_unknown known (rows_key name)) (first_unknown met known index) (known (rows_key name)) (all_known met known index) (if_none known (rows_key name))
+    (none_unknown met known index)
 none_unknown met known (RowsOf name) = if_none known (count_key name)
+none_unknown met known (RowNumber name) = refl
 none_unknown met known (BitsAt name start width) =
     or_none (if_unknown met (place_key name)) (or_else (first_unknown met known start) (first_unknown met known width)) (met (place_key name)) (all_known met known start && all_known met known width)
     (if_none met (place_key name))
@@ -80,13 +85,21 @@ pub all_are : {A : Type 0} (f : A → Key) (o : Option A) (none : Bool) (met kno
     → none ≡ all_known met known term
 all_are f o none met known term flipped is = flip none (is_some o) flipped ∙ none_of f o ∙ ap is_none is ∙ none_unknown met known term
 
--- Whatever more was known, not all would be: bits are asked for at a label that isn't met.
-abbrev NeverKnown : Names → Term → Type 0
-NeverKnown met term = (known : Names) → all_known met known term ≡ false
+-- Whatever more a number told, not all would be known: bits are asked for at a label that isn't met, or an array with an indexed
+-- label hasn't ended.
+abbrev with_key : Names → Key → Names
+with_key known key other = is_same_key key other || known other
 
--- it stands there, and isn't known, or bits are asked for at it
+-- not the number of the rows of a label: what a number can tell never is
+abbrev IsTold : Key → Type 0
+IsTold key = (label : List ℕ) → is_same_key key (rows_of label) ≡ false
+
+abbrev NeverKnown : (met known : Names) → Term → Type 0
+NeverKnown met known term = (key : Key) → IsTold key → all_known met (with_key known key) term ≡ false
+
+-- it stands there and isn't known, or not all would be known whatever was told
 abbrev Missing : (met known : Names) → Term → Key → Type 0
-Missing met known term key = (has_key key term ≡ true) × ((known key ≡ false) ⊎ NeverKnown met term)
+Missing met known term key = ((has_key key term ≡ true) × (known key ≡ false)) ⊎ NeverKnown met known term
 
 if_missing : (known : Names) (key other : Key) → if_unknown known key ≡ Some other → (is_same_key other key ≡ true) × (known other ≡ false)
 if_missing known key other is =
@@ -110,20 +123,36 @@ no_and : (a b : Bool) → a ≡ false → (a && b) ≡ false
 no_and true b is = absurd cc
 no_and false b is = refl
 
+neither : (a b : Bool) → a ≡ false → b ≡ false → (a || b) ≡ false
+neither true b one other = absurd cc
+neither false b one other = other
+
 -- a part of an expression
 part_missing : (met known : Names) (part whole : Term) (key : Key) → (has_key key part ≡ true → has_key key whole ≡ true)
     → (((more : Names) → all_known met more part ≡ false → all_known met more whole ≡ false)) → Missing met known part key → Missing met known whole key
-part_missing met known part whole key stands never (has, inl gone) = (stands has, inl gone)
-part_missing met known part whole key stands never (has, inr none) = (stands has, inr (λ more. never more (none more)))
+part_missing met known part whole key stands never (inl (has, gone)) = inl (stands has, gone)
+part_missing met known part whole key stands never (inr none) = inr (λ other told. never (with_key known other) (none other told))
 
 module _ (met known : Names) where
   unmet : (name : List ℕ) (start width : Term) (key : Key) → if_unknown met (place_key name) ≡ Some key → Missing met known (BitsAt name start width) key
   unmet name start width key is =
       let here = if_missing met (place_key name) key is in
-      let gone : met (place_key name) ≡ false = ap met (sym (key_is key (place_key name) here.0)) ∙ here.1 in (
-        or_left (is_same_key key (place_key name) || has_key key start) (has_key key width) (or_left (is_same_key key (place_key name)) (has_key key start) here.0),
-        inr (λ more. no_and (met (place_key name) && all_known met more start) (all_known met more width) (no_and (met (place_key name)) (all_known met more start) gone)),
-      )
+      let gone : met (place_key name) ≡ false = ap met (sym (key_is key (place_key name) here.0)) ∙ here.1 in
+      inr (λ other told.
+      no_and (met (place_key name) && all_known met (with_key known other) start) (all_known met (with_key known other) width)
+      (no_and (met (place_key name)) (all_known met (with_key known other) start) gone))
+
+  rows_missing : (name : List ℕ) (index : Term) (key : Key) → if_unknown known (rows_key name) ≡ Some key → Missing met known (Indexed name index) key
+  rows_missing name index key is =
+      let here = if_missing known (rows_key name) key is in
+      let gone : known (rows_key name) ≡ false = ap known (sym (key_is key (rows_key name) here.0)) ∙ here.1 in
+      inr (λ other told.
+      no_and (is_same_key other (rows_key name) || known (rows_key name)) (all_known met (with_key known other) index)
+      (neither (is_same_key other (rows_key name)) (known (rows_key name)) (told (str_to_ascii_lowercase name)) gone))
+
+  index_missing : (name : List ℕ) (index : Term) (key : Key) → Missing met known index key → Missing met known (Indexed name index) key
+  index_missing name index key missing =
+      part_missing met known index (Indexed name index) key (λ has. has) (λ more none. and_no (more (rows_key name)) (all_known met more index) none) missing
 
   start_missing : (name : List ℕ) (start width : Term) (key : Key) → Missing met known start key → Missing met known (BitsAt name start width) key
   start_missing name start width key missing =
@@ -151,8 +180,14 @@ module _ (met known : Names) where
 
   is_missing : (term : Term) (key : Key) → first_unknown met known term ≡ Some key → Missing met known term key
   is_missing (Constant number) key is = absurd cc
-  is_missing (Named name) key is = let here = if_missing known (place_key name) key is in (here.0, inl here.1)
-  is_missing (RowsOf name) key is = let here = if_missing known (count_key name) key is in (here.0, inl here.1)
+  is_missing (Named name) key is = let here = if_missing known (place_key name) key is in inl (here.0, here.1)
+  is_missing (Indexed name index) key is =
+      elim (or_some (if_unknown known (rows_key name)) (first_unknown met known index) key is) [
+        | inl one ↦ rows_missing name index key one
+        | inr other ↦ index_missing name index key (is_missing index key other)
+      ]
+  is_missing (RowsOf name) key is = let here = if_missing known (count_key name) key is in inl (here.0, here.1)
+  is_missing (RowNumber name) key is = absurd cc
   is_missing (BitsAt name start width) key is =
       elim (or_some (if_unknown met (place_key name)) (or_else (first_unknown met known start) (first_unknown met known width)) key is) [
         | inl one ↦ unmet name start width key one
@@ -162,7 +197,7 @@ module _ (met known : Names) where
         ]
       ]
   is_missing (FactOf which) key is = absurd cc
-  is_missing (OfOne op operand) key is = let here = is_missing operand key is in here
+  is_missing (OfOne op operand) key is = part_missing met known operand (OfOne op operand) key (λ has. has) (λ more none. none) (is_missing operand key is)
   is_missing (OfTwo op left right) key is =
       elim (or_some (first_unknown met known left) (first_unknown met known right) key is) [
         | inl one ↦ left_missing op left right key (is_missing left key one)
@@ -181,6 +216,8 @@ known_same known key other is same = ap known (key_is key other same) ∙ is
 pub has_known : (met known : Names) → AreWithin met known → (term : Term) (key : Key) → all_known met known term ≡ true → has_key key term ≡ true → known key ≡ true
 has_known met known within (Constant number) key all has = absurd cc
 has_known met known within (Named name) key all has = known_same known key (place_key name) all has
+has_known met known within (Indexed name index) key all has = has_known met known within index key (and_parts (known (rows_key name)) (all_known met known index) all).1 has
+has_known met known within (RowNumber name) key all has = absurd cc
 has_known met known within (RowsOf name) key all has = known_same known key (count_key name) all has
 has_known met known within (BitsAt name start width) key all has =
     let ends = and_parts (met (place_key name) && all_known met known start) (all_known met known width) all in
@@ -203,24 +240,46 @@ has_known met known within (OfTwo op left right) key all has =
 
 -- The name that isn't known is the one that is told.
 
-abbrev with_key : Names → Key → Names
-with_key known key other = is_same_key key other || known other
-
 within_more : (met known : Names) (key : Key) → AreWithin met known → AreWithin met (with_key known key)
 within_more met known key within other is = or_right (is_same_key key other) (known other) (within other is)
 
--- none is told where bits are asked for at a label that isn't met
-module _ (rest : PlainBody) (met known : Names) (whole : Term) (never : NeverKnown met whole) where
-  untold : (key : Key) → tells rest met known whole key ≡ false
-  untold key = and_no (declares rest key && can_solve key whole) (all_known met (with_key known key) whole) (never (with_key known key))
+-- the number of the rows of a label can't be solved
+unsolved : (label : List ℕ) (term : Term) → can_solve (rows_of label) term ≡ false
+unsolved label (Constant number) = refl
+unsolved label (Named name) = refl
+unsolved label (Indexed name index) = refl
+unsolved label (RowsOf name) = refl
+unsolved label (RowNumber name) = refl
+unsolved label (BitsAt name start width) = refl
+unsolved label (FactOf which) = refl
+unsolved label (OfOne op operand) = and_no (undoes_one op) (can_solve (rows_of label) operand) (unsolved label operand)
+unsolved label (OfTwo op left right) =
+    no_side (has_key (rows_of label) left) (undoes_left op && not (has_key (rows_of label) right)) (can_solve (rows_of label) left) (undoes_right op) (can_solve (rows_of label) right)
+    (unsolved label left) (unsolved label right)
+  where
+    no_side : (has one two three four : Bool) → two ≡ false → four ≡ false → (if has then one && two else three && four) ≡ false
+    no_side true one two three four none other = and_no one two none
+    no_side false one two three four none other = and_no three four other
 
-  neither : (a b : Bool) → a ≡ false → b ≡ false → (a || b) ≡ false
-  neither true b one other = absurd cc
-  neither false b one other = other
+-- none is told where not all would be known
+module _ (rest : PlainBody) (met known : Names) (whole : Term) (never : NeverKnown met known whole) where
+  never_told : (key : Key) → IsTold key → tells rest met known whole key ≡ false
+  never_told key told = and_no (declares rest key && can_solve key whole) (all_known met (with_key known key) whole) (never key told)
+
+  untold : (key : Key) → tells rest met known whole key ≡ false
+  untold (place_of name) = never_told (place_of name) (λ label. refl)
+  untold (count_of name) = never_told (count_of name) (λ label. refl)
+  untold (rows_of label) =
+      no_and (declares rest (rows_of label) && can_solve (rows_of label) whole) (all_known met (with_key known (rows_of label)) whole)
+      (and_no (declares rest (rows_of label)) (can_solve (rows_of label) whole) (unsolved label whole))
+  untold (place_in name number) = never_told (place_in name number) (λ label. refl)
+  untold (row_in name) = never_told (row_in name) (λ label. refl)
 
   tells_none : (term : Term) → tells_one rest met known whole term ≡ false
   tells_none (Constant number) = refl
   tells_none (Named name) = untold (place_key name)
+  tells_none (Indexed name index) = tells_none index
+  tells_none (RowNumber name) = refl
   tells_none (RowsOf name) = untold (count_key name)
   tells_none (BitsAt name start width) =
       neither (tells rest met known whole (place_key name) || tells_one rest met known whole start) (tells_one rest met known whole width)
@@ -246,6 +305,8 @@ module _ (rest : PlainBody) (met known : Names) (within : AreWithin met known) (
   one_tells : (term : Term) → tells_one rest met known whole term ≡ true → tells rest met known whole missing ≡ true
   one_tells (Constant number) told = absurd cc
   one_tells (Named name) told = told_missing (place_key name) told
+  one_tells (Indexed name index) told = one_tells index told
+  one_tells (RowNumber name) told = absurd cc
   one_tells (RowsOf name) told = told_missing (count_key name) told
   one_tells (BitsAt name start width) told =
       elim (or_parts (tells rest met known whole (place_key name) || tells_one rest met known whole start) (tells_one rest met known whole width) told) [
@@ -263,6 +324,8 @@ module _ (rest : PlainBody) (met known : Names) (within : AreWithin met known) (
   tells_it : (term : Term) → has_key missing term ≡ true → tells rest met known whole missing ≡ true → tells_one rest met known whole term ≡ true
   tells_it (Constant number) has told = absurd cc
   tells_it (Named name) has told = missing_told (place_key name) has told
+  tells_it (Indexed name index) has told = tells_it index has told
+  tells_it (RowNumber name) has told = absurd cc
   tells_it (RowsOf name) has told = missing_told (count_key name) has told
   tells_it (BitsAt name start width) has told =
       let front = tells rest met known whole (place_key name) || tells_one rest met known whole start in
@@ -287,8 +350,8 @@ module _ (rest : PlainBody) (met known : Names) (within : AreWithin met known) (
 
 told_is : (rest : PlainBody) (met known : Names) → AreWithin met known → (whole : Term) (missing : Key) → Missing met known whole missing
     → tells_one rest met known whole whole ≡ tells rest met known whole missing
-told_is rest met known within whole missing (stands, inl gone) = told_there rest met known within whole missing stands gone
-told_is rest met known within whole missing (stands, inr never) = tells_none rest met known whole never whole ∙ sym (untold rest met known whole never missing)
+told_is rest met known within whole missing (inl (stands, gone)) = told_there rest met known within whole missing stands gone
+told_is rest met known within whole missing (inr never) = tells_none rest met known whole never whole ∙ sym (untold rest met known whole never missing)
 
 -- what is met is known at a field
 pub met_known : (passed : Passed) → AreWithin passed.met (is_known passed)
@@ -327,10 +390,11 @@ one_new true has known to from gone = sym (λ i. from refl i && not (gone refl i
 one_new false true known to from gone = sym (ap not (to refl))
 one_new false false known to from gone = refl
 
--- what is told was neither known nor asked for at its bits
-gone_if : (met known : Names) (term : Term) (key : Key) → (known key ≡ false) ⊎ NeverKnown met term → all_known met (with_key known key) term ≡ true → known key ≡ false
-gone_if met known term key (inl gone) all = gone
-gone_if met known term key (inr never) all = let no = never (with_key known key) in absurd cc
+-- what is told stands there and wasn't known
+gone_if : (rest : PlainBody) (met known : Names) (term : Term) (key : Key) → Missing met known term key → tells rest met known term key ≡ true
+    → (has_key key term ≡ true) × (known key ≡ false)
+gone_if rest met known term key (inl found) told = found
+gone_if rest met known term key (inr never) told = let no = untold rest met known term never key in absurd cc
 
 -- and else the name that wasn't
 pub told_then : (rest : PlainBody) (passed : Passed) (term : Term) (missing : Key) → first_unknown passed.met (is_known passed) term ≡ Some missing
@@ -340,14 +404,11 @@ told_then rest passed term missing is told = λ i. record { met = passed.met; to
     all : all_known passed.met (with_key (is_known passed) missing) term ≡ true
     all = (and_parts (declares rest missing && can_solve missing term) (all_known passed.met (with_key (is_known passed) missing) term) told).1
 
-    found : Missing passed.met (is_known passed) term missing
-    found = is_missing passed.met (is_known passed) term missing is
-
-    gone : is_known passed missing ≡ false
-    gone = gone_if passed.met (is_known passed) term missing found.1 all
+    found : (has_key missing term ≡ true) × (is_known passed missing ≡ false)
+    found = gone_if rest passed.met (is_known passed) term missing (is_missing passed.met (is_known passed) term missing is) told
 
     new : (key : Key) → is_same_key missing key ≡ (has_key key term && not (is_known passed key))
     new key = one_new (is_same_key missing key) (has_key key term) (is_known passed key)
         (has_known passed.met (with_key (is_known passed) missing) (within_more passed.met (is_known passed) missing (met_known passed)) term key all)
         (λ same. ap (λ (k : Key). has_key k term) (sym (key_is missing key same)) ∙ found.0)
-        (λ same. ap (is_known passed) (sym (key_is missing key same)) ∙ gone)
+        (λ same. ap (is_known passed) (sym (key_is missing key same)) ∙ found.1)

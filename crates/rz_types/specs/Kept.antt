@@ -8,19 +8,20 @@ use Rattle.rz_types_fields.specs.Field.{case_and, field_and, no_cases, no_fields
 use Rattle.rz_types_fields.specs.Width.{case_keys}
 use Rattle.rz_types_fields.specs.declared.keys.CaseKey.{CaseKey}
 use Rattle.rz_types.specs.Rules.{bad_width, case_names, has_values, unknown_in}
-use Rattle.rz_types.specs.Walk.{and_names, names_of, Own}
+use Rattle.rz_types.specs.Walk.{and_names, around_names, names_of, Own}
 
 -- no two are the same name, in whatever case
 abbrev pub Differ : List Word → Type 0
 Differ [] = Unit {0}
 Differ (name ∷ names) = AllByRecursion (λ later. str_eq_ignore_ascii_case name.bytes later.bytes ≡ false) names × Differ names
 
--- labels have different names, and so have arrays
+-- labels have different names, and so have arrays, and the labels that stand directly in the rows of these
 abbrev pub AreOwn : Own → Type 0
-AreOwn names = Differ names.labels × Differ names.arrays
+AreOwn names = Differ names.labels × Differ names.arrays × Differ names.indexed
 
 abbrev mutual
-  -- within a field: the rows of an array take a value, the cases of a switch have different names, and so on within them
+  -- within a field: the rows of an array, in which its name is that of an array around, take a value, the cases of a switch have
+  -- different names, and so on within them
   pub IsKeptWithin : (scope : Own) → PlainField → Type 0
   IsKeptWithin scope (Number number) = Unit {0}
   IsKeptWithin scope (Text text) = Unit {0}
@@ -28,7 +29,7 @@ abbrev mutual
   IsKeptWithin scope (Fill unit count) = Unit {0}
   IsKeptWithin scope (Align unit) = Unit {0}
   IsKeptWithin scope (Label name) = Unit {0}
-  IsKeptWithin scope (Array name count row) = (has_values row ≡ true) × AreOwn (names_of row) × AreKept (and_names scope (names_of row)) row
+  IsKeptWithin scope (Array name count row) = (has_values row ≡ true) × AreOwn (names_of row) × AreKept (and_names (and_names scope (around_names name)) (names_of row)) row
   IsKeptWithin scope (Switch cases) = Differ (case_names cases) × AreCasesKept scope cases
 
   -- fields that may name these labels and arrays: each has a width that may be, and names none but these

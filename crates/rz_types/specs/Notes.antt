@@ -1,12 +1,11 @@
 -- What the notes of a walk over a declaration tell: which names are known. (MPW Rez.)
 use Rattle.std.specs.Prelude.{Bool, ◌&&◌, ◌||◌, not, if◌then◌else◌, List, [], ◌∷◌, Option, Some, None}
 use Rattle.rz_core.specs.Lists.{or_else}
-use Rattle.rz_core.specs.declared.resource.Word.{Word}
-use Rattle.rz_expr.specs.Environment.{count_key, place_key, Key}
-use Rattle.rz_expr.specs.Term.{BitsAt, Constant, FactOf, Named, OfOne, OfTwo, RowsOf, Term}
-use Rattle.rz_types_fields.specs.Field.{plain_body, PlainBody}
+use Rattle.rz_expr.specs.Environment.{count_key, place_key, rows_key, Key}
+use Rattle.rz_expr.specs.Term.{BitsAt, Constant, FactOf, Indexed, Named, OfOne, OfTwo, RowNumber, RowsOf, Term}
+use Rattle.rz_types_fields.specs.Field.{plain_body, plain_field, PlainBody, PlainField}
 use Rattle.rz_types_fields.specs.Solve.{is_same_key}
-use Rattle.rz_types_fields.specs.Passed.{at_field, at_front, between, declares, is_known, nothing_passed, states, Names, Passed}
+use Rattle.rz_types_fields.specs.Passed.{at_field, at_front, between, declares, gives_key, is_known, met_behind, nothing_passed, states, Names, Passed}
 use Rattle.rz_types_fields.specs.NameKey.{key_of}
 use Rattle.rz_types.specs.declared.passed.Note.{Note}
 use Rattle.rz_types.specs.declared.passed.Note.TheVariants.{Front, Met, Told}
@@ -15,18 +14,13 @@ use Rattle.rz_types.specs.declared.passed.Note.TheVariants.{Front, Met, Told}
 abbrev pub also_told : Key → Passed → Passed
 also_told key passed = record { met = passed.met; told = λ other. is_same_key key other || passed.told other; near = passed.near }
 
--- with this name met too
-abbrev pub also_met : Key → Passed → Passed
-also_met key passed = record { met = λ other. is_same_key key other || passed.met other; told = passed.told; near = passed.near }
+-- with what a field gives met too
+abbrev pub also_met : PlainField → Passed → Passed
+also_met field passed = record { met = met_behind field passed.met; told = passed.told; near = passed.near }
 
--- with the number of rows of an array of this name met too, where it has one
-abbrev pub also_counted : Option Word → Passed → Passed
-also_counted None passed = passed
-also_counted (Some name) passed = also_met (count_key name.bytes) passed
-
--- what is passed behind a note: a name that stands before, one that was told, or the front of a body
+-- what is passed behind a note: a field that stands before, a name that was told, or the front of a body
 abbrev pub noted : Note → Passed → Passed
-noted (Met one) passed = also_met (key_of one) passed
+noted (Met field) passed = also_met (plain_field field.now) passed
 noted (Told one) passed = also_told (key_of one) passed
 noted (Front row) passed = at_front (plain_body row.now) passed
 
@@ -48,13 +42,13 @@ known fields notes = is_known (passed_at fields notes)
 
 -- whether a name is met behind a note, where it was before it or wasn't
 abbrev pub meeting : Note → Key → Bool → Bool
-meeting (Met one) key before = is_same_key (key_of one) key || before
+meeting (Met field) key before = gives_key (plain_field field.now) key || before
 meeting (Told one) key before = before
 meeting (Front row) key before = not (declares (plain_body row.now) key) && before
 
 -- whether it is told behind a note, where it was before it or wasn't
 abbrev pub telling : Note → Key → Bool → Bool
-telling (Met one) key before = before
+telling (Met field) key before = before
 telling (Told one) key before = is_same_key (key_of one) key || before
 telling (Front row) key before = if declares (plain_body row.now) key then states (plain_body row.now) key else before
 
@@ -66,7 +60,9 @@ if_unknown known key = if known key then None else Some key
 abbrev pub first_unknown : (met known : Names) → Term → Option Key
 first_unknown met known (Constant number) = None
 first_unknown met known (Named name) = if_unknown known (place_key name)
+first_unknown met known (Indexed name index) = or_else (if_unknown known (rows_key name)) (first_unknown met known index)
 first_unknown met known (RowsOf name) = if_unknown known (count_key name)
+first_unknown met known (RowNumber name) = None
 first_unknown met known (BitsAt name start width) =
     or_else (if_unknown met (place_key name)) (or_else (first_unknown met known start) (first_unknown met known width))
 first_unknown met known (FactOf which) = None

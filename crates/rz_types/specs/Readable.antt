@@ -4,8 +4,8 @@ use Rattle.std.specs.Prelude.{ℕ, ◌+◌, ◌*◌, min, ℤ, nat_abs, nat_le, 
 use Rattle.std.specs.List.{list_all}
 use Rattle.std.specs.Option.{is_some, unwrap_or}
 use Rattle.rz_core.specs.declared.resource.Word.{Word}
-use Rattle.rz_expr.specs.Environment.{count_key, place_key, Key}
-use Rattle.rz_expr.specs.Term.{BitsAt, Constant, FactOf, Named, OfOne, OfTwo, RowsOf, Term}
+use Rattle.rz_expr.specs.Environment.{count_key, place_key, rows_key, Key}
+use Rattle.rz_expr.specs.Term.{BitsAt, Constant, FactOf, Indexed, Named, OfOne, OfTwo, RowNumber, RowsOf, Term}
 use Rattle.rz_types_fields.specs.Field.{case_and, field_and, no_cases, no_fields, Align, Array, Fill, Label, Number, PlainBody, PlainCases, PlainField, PlainText, Points, Switch, Text}
 use Rattle.rz_types_fields.specs.Shape.{numbers_of}
 use Rattle.rz_types_fields.specs.Solve.{can_solve, is_same_key}
@@ -56,11 +56,13 @@ abbrev mutual
 
 -- Names that an expression has.
 
--- all of them are known, and bits are asked for only at labels that are met
+-- all of them are known, and bits are asked for only at labels that are met; the number of a row around always is
 abbrev pub all_known : (met known : Names) → Term → Bool
 all_known met known (Constant number) = true
 all_known met known (Named name) = known (place_key name)
+all_known met known (Indexed name index) = known (rows_key name) && all_known met known index
 all_known met known (RowsOf name) = known (count_key name)
+all_known met known (RowNumber name) = true
 all_known met known (BitsAt name start width) = met (place_key name) && all_known met known start && all_known met known width
 all_known met known (FactOf which) = true
 all_known met known (OfOne op operand) = all_known met known operand
@@ -74,6 +76,8 @@ tells rest met known term key = declares rest key && can_solve key term && all_k
 abbrev pub tells_one : PlainBody → (met known : Names) → Term → Term → Bool
 tells_one rest met known whole (Constant number) = false
 tells_one rest met known whole (Named name) = tells rest met known whole (place_key name)
+tells_one rest met known whole (Indexed name index) = tells_one rest met known whole index
+tells_one rest met known whole (RowNumber name) = false
 tells_one rest met known whole (RowsOf name) = tells rest met known whole (count_key name)
 tells_one rest met known whole (BitsAt name start width) =
     tells rest met known whole (place_key name) || tells_one rest met known whole start || tells_one rest met known whole width

@@ -9,7 +9,7 @@ use Rattle.rz_core.specs.declared.fault.Kept.TheVariants as kept
 use Rattle.rz_core.specs.declared.resource.Word.{Word}
 use Rattle.rz_expr.specs.Constant.{constant_of}
 use Rattle.rz_expr.specs.Environment.{predefined}
-use Rattle.rz_expr.specs.Term.{BitsAt, Constant, FactOf, Named, OfOne, OfTwo, RowsOf, Term}
+use Rattle.rz_expr.specs.Term.{BitsAt, Constant, FactOf, Indexed, Named, OfOne, OfTwo, RowNumber, RowsOf, Term}
 use Rattle.rz_types_fields.specs.Field.{case_and, field_and, no_cases, no_fields, takes_value, Align, Array, Fill, Label, Number, PlainBody, PlainCases, PlainField, Points, Switch, Text}
 use Rattle.rz_types_fields.specs.Range.{is_between, may_be_size}
 use Rattle.rz_types_fields.specs.Piece.{expressions_of}
@@ -163,11 +163,14 @@ bad_case position name keys before = option_map (λ number. name_fault number po
 abbrev pub not_among : List Word → List ℕ → Option (List ℕ)
 not_among names name = if is_among name names then None else Some name
 
--- the first label or array that an expression names and that isn't one of these; `true` and `false` are none
+-- the first label, label in rows, array or array around that an expression names and that isn't one of these; `true` and
+-- `false` are none
 abbrev pub unknown_name : Own → Term → Option (List ℕ)
 unknown_name scope (Constant number) = None
 unknown_name scope (Named name) = if is_some (predefined name) then None else not_among scope.labels name
+unknown_name scope (Indexed name index) = or_else (not_among scope.indexed name) (unknown_name scope index)
 unknown_name scope (RowsOf name) = not_among scope.arrays name
+unknown_name scope (RowNumber name) = not_among scope.around name
 unknown_name scope (BitsAt name start width) = or_else (not_among scope.labels name) (or_else (unknown_name scope start) (unknown_name scope width))
 unknown_name scope (FactOf which) = None
 unknown_name scope (OfOne op operand) = unknown_name scope operand

@@ -1,5 +1,5 @@
 -- The walk over the fields of a declaration, depth first, and what stands where. (MPW Rez.)
-use Rattle.std.specs.Prelude.{ℕ, ◌+◌, Bool, List, [], ◌∷◌, ◌++◌, length}
+use Rattle.std.specs.Prelude.{ℕ, ◌+◌, Bool, List, [], ◌∷◌, ◌++◌, length, Option}
 use Rattle.std.specs.List.{list_any}
 use Rattle.std.specs.Option.{option_to_list}
 use Rattle.std.specs.Str.{str_eq_ignore_ascii_case}
@@ -14,25 +14,45 @@ use Rattle.rz_types_fields.specs.declared.keys.CaseKey.{CaseKey}
 abbrev pub is_among : List ℕ → List Word → Bool
 is_among name names = list_any (λ one. str_eq_ignore_ascii_case one.bytes name) names
 
--- names of labels and names of arrays
+-- names of labels and of arrays, of the labels that stand directly in rows of arrays, and of the arrays around
 pub record Own : Type 0 where
   pub labels : List Word
   pub arrays : List Word
+  pub indexed : List Word
+  pub around : List Word
 
 abbrev pub no_names : Own
-no_names = record { labels = []; arrays = [] }
+no_names = record { labels = []; arrays = []; indexed = []; around = [] }
 
 -- some and others behind them
 abbrev pub and_names : Own → Own → Own
-and_names own other = record { labels = own.labels ++ other.labels; arrays = own.arrays ++ other.arrays }
+and_names own other = record {
+  labels = own.labels ++ other.labels;
+  arrays = own.arrays ++ other.arrays;
+  indexed = own.indexed ++ other.indexed;
+  around = own.around ++ other.around;
+}
 
--- the name of a label, or of an array
+-- the labels that stand directly in a body
+abbrev pub label_name : PlainField → List Word
+label_name (Label name) = name ∷ []
+label_name field = []
+
+abbrev pub labels_in : PlainBody → List Word
+labels_in no_fields = []
+labels_in (field_and field fields) = label_name field ++ labels_in fields
+
+-- the name of a label, or of an array with the labels that stand directly in its rows
 abbrev pub own_names : PlainField → Own
-own_names (Label name) = record { labels = name ∷ []; arrays = [] }
-own_names (Array name count row) = record { labels = []; arrays = option_to_list name }
+own_names (Label name) = record { labels = name ∷ []; arrays = []; indexed = []; around = [] }
+own_names (Array name count row) = record { labels = []; arrays = option_to_list name; indexed = labels_in row; around = [] }
 own_names field = no_names
 
--- the names of the labels and arrays of a body, without those within its fields
+-- the name of the array in whose rows one stands
+abbrev pub around_names : Option Word → Own
+around_names name = record { labels = []; arrays = []; indexed = []; around = option_to_list name }
+
+-- the names of the labels and arrays of a body, without those within its fields, but for labels directly in rows
 abbrev pub names_of : PlainBody → Own
 names_of no_fields = no_names
 names_of (field_and field fields) = and_names (own_names field) (names_of fields)
@@ -84,7 +104,7 @@ abbrev mutual
   steps_within position before scope (Align unit) = []
   steps_within position before scope (Label name) = []
   steps_within position before scope (Array name count row) =
-      steps (position + 1) (and_names before (own_names (Array name count row))) (and_names scope (names_of row)) row
+      steps (position + 1) (and_names before (own_names (Array name count row))) (and_names (and_names scope (around_names name)) (names_of row)) row
   steps_within position before scope (Switch cases) = case_steps position (position + 1) before scope [] cases
 
   -- those of fields, the first of which has this position

@@ -8,7 +8,7 @@ ghost use Rattle.rz_types_fields.specs.Field.{PlainBody};
 ghost use Rattle.rz_types_fields.specs.Laid.{met_in};
 ghost use Rattle.rz_types_fields.specs.Sees.{names_later};
 ghost use Rattle.rz_types.specs.Kept.{AreKeysApart, IsKept};
-ghost use Rattle.rz_types.specs.Names.{GivesCounts, GivesOwn, NamesNothing};
+ghost use Rattle.rz_types.specs.Names.{FillsRows, GivesCounts, GivesNumbers, GivesOwn, NamesNothing};
 ghost use Rattle.rz_types.specs.Readable.{all_known};
 ghost use Rattle.rz_types.specs.Rules.{broken, keeps_rules, unknown_name, BreaksNone, IsFirstBroken};
 ghost use Rattle.rz_types.specs.Walk.{Own};
@@ -23,8 +23,9 @@ pub fn first_broken_rule()
 {}
 
 /// A law, with nothing to run: what keeps the rules keeps them within: widths may be, labels of one body have different
-/// names, so have its arrays and the cases of a switch, the rows of an array take a value, and each label and array that
-/// an expression names is one of its own body or of those around.
+/// names, so have its arrays, the labels that stand directly in the rows of these, and the cases of a switch, the rows of an
+/// array take a value, and each label and array that an expression names is one of its own body or of those around, or stands
+/// directly in the rows of an array of one of these, or is an array around.
 pub fn rules_hold_within()
     ensures { (body : PlainBody) → keeps_rules body ≡ true → IsKept body }
 {}
@@ -35,11 +36,12 @@ pub fn keys_stand_apart()
     ensures { (body : PlainBody) → keeps_rules body ≡ true → AreKeysApart body }
 {}
 
-/// A law, with nothing to run: an expression names nothing that has no value where each of its names has one, and each has
-/// one where it names only labels and arrays that have: in the end all of its body and of those around, and before that
-/// all arrays, if it names no label that stands later.
+/// A law, with nothing to run: an expression names nothing that has no value where each of its names has one, arrays around have
+/// numbers and labels in rows places in all of them; and each has one where it names only labels and arrays that have: in the
+/// end all of its body and of those around, and before that all arrays, if it names no label that stands later.
 pub fn named_values_are_there()
-    ensures values { (sight : Sight) (term : Term) → all_known (met_in sight.names) (met_in sight.names) term ≡ true → NamesNothing (value_of term sight) }
+    ensures values { (scope : Own) (sight : Sight) (term : Term) → GivesNumbers scope.around sight.names → FillsRows sight.names → unknown_name scope term ≡ None
+        → all_known (met_in sight.names) (met_in sight.names) term ≡ true → NamesNothing (value_of term sight) }
     ensures names { (scope : Own) (names : Environment) (term : Term) → GivesOwn scope names → unknown_name scope term ≡ None
         → all_known (met_in names) (met_in names) term ≡ true }
     ensures early { (scope : Own) (names : Environment) (term : Term) → GivesCounts scope.arrays names → unknown_name scope term ≡ None

@@ -1,11 +1,12 @@
 //! Type declarations: templates, which keep the rules, and which of them can be read. A body is a template exactly where
-//! it breaks no rule, as `check` of `rz_types_check` finds out; a template can be read exactly where its bytes say where each
-//! field ends. `values` takes the values of a row one after another. What it rests on of fields is handed on. In which
-//! declaration a type is found stands in `rz_types_table`.
+//! it breaks no rule, as `check` of `rz_types_check` finds out; a template can be read exactly where its bytes say where
+//! each field ends, and then a label with an index is one of an array that has ended. `values` takes the values of a row
+//! one after another. What it rests on of fields is handed on. In which declaration a type is found stands in
+//! `rz_types_table`.
 //! It rests on `rz_core`, `rz_types_format`, `rz_expr` and `rz_types_fields`.
 //! A new rule changes the definitions of the rules and the walk, `specs/Kept`, and the code in `rz_types_check`; a new kind of
 //! field, `least`, `readable` and each rule that speaks of it, beside what `rz_types_fields` says; a new kind of name,
-//! `Note` and what it means.
+//! `Note` and what it means, and `specs/Names`.
 #![tactic(auto)]
 
 mod laws;

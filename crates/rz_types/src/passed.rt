@@ -5,7 +5,7 @@ ghost use Rattle.std.specs.List.{list_all};
 ghost use Rattle.std.specs.Option.{unwrap_or};
 ghost use Rattle.rz_expr.specs.Term.{term_of};
 ghost use Rattle.rz_types_fields.specs.Field.{plain_body, plain_field, plain_text};
-ghost use Rattle.rz_types_fields.specs.Passed.{is_label, is_measured, is_near};
+ghost use Rattle.rz_types_fields.specs.Passed.{is_measured, is_near};
 ghost use Rattle.rz_types_fields.specs.Piece.{terms_of_text};
 ghost use Rattle.rz_types_fields.specs.NameKey.{key_of};
 ghost use Rattle.rz_types.specs.Notes.{first_unknown, known, meeting, passed, telling};
@@ -14,16 +14,16 @@ ghost use Rattle.rz_types.specs.Readable.{all_known};
 use rz_core::NoMemory;
 use rz_expr::Expr;
 use rz_types_fields::{
-    Field, KeyRef, TextField, declares, fixed_width, is_predefined, is_same_key, stands_at, states,
-    text_expressions,
+    Field, KeyRef, TextField, declares, fixed_width, gives_key, is_label, is_predefined,
+    is_same_key, states, text_expressions,
 };
 use std::alloc::Global;
 
 /// What the fields before one tell of names.
 #[derive(Clone, Copy)]
 pub enum Note<'a> {
-    /// This name is met: an array of it, or its label, stands before.
-    Met(KeyRef<'a>),
+    /// This field stands before: what it gives is met, a label, or an array and the labels in its rows.
+    Met(&'a Field),
     /// A number before tells this name.
     Told(KeyRef<'a>),
     /// A body of these fields begins: none of the names that it declares is met, and those with a stated count are told.
@@ -48,7 +48,7 @@ fn meets(note: &Note<'_>, key: KeyRef<'_>) -> Option<bool>
     ensures { (before : Bool) → meeting note.now (key_of key.entry) before ≡ unwrap_or result before }
 {
     match *note {
-        Note::Met(one) => if_so(is_same_key(one, key)),
+        Note::Met(field) => if_so(gives_key(field, key)),
         Note::Told(_) => None,
         Note::Front(row) => {
             if declares(row, key) {
@@ -112,16 +112,6 @@ fn is_near(fields: &[Field], key: KeyRef<'_>) -> bool
     false
 }
 
-/// Whether a field is a label of this name.
-fn is_label(field: &Field, key: KeyRef<'_>) -> bool
-    ensures { result ≡ is_label (plain_field field.now) (key_of key.entry) }
-{
-    match field {
-        Field::Label(name) => stands_at(name, key),
-        _ => false,
-    }
-}
-
 /// Whether what stands behind a field is at a known distance.
 fn is_measured(field: &Field) -> bool
     ensures { result ≡ is_measured (plain_field field.now) }
@@ -152,7 +142,7 @@ pub fn first_unknown<'a>(fields: &[Field], notes: &[Note<'_>], expr: &'a Expr) -
     ensures { option_map key_of result ≡ first_unknown (passed notes.now).met (known (plain_body fields.now) notes.now) (term_of expr.now) }
 {
     match expr {
-        Expr::Number(_) | Expr::Fact(_) => None,
+        Expr::Number(_) | Expr::Fact(_) | Expr::ArrayIndex(_) => None,
         Expr::Name(name) => {
             let key = KeyRef::Place(name);
             unless(is_known(fields, notes, key), key)
@@ -160,6 +150,13 @@ pub fn first_unknown<'a>(fields: &[Field], notes: &[Note<'_>], expr: &'a Expr) -
         Expr::Count(name) => {
             let key = KeyRef::Count(name);
             unless(is_known(fields, notes, key), key)
+        }
+        Expr::Indexed(name, index) => {
+            let key = KeyRef::Rows(name);
+            match unless(is_known(fields, notes, key), key) {
+                Some(key) => Some(key),
+                None => first_unknown(fields, notes, index),
+            }
         }
         Expr::Unary(_, operand) => first_unknown(fields, notes, operand),
         Expr::Binary(_, left, right) => match first_unknown(fields, notes, left) {

@@ -7,7 +7,7 @@ ghost use Rattle.rz_types_fields.specs.Solve.{is_same_key};
 ghost use Rattle.rz_types_fields.specs.Passed.{at_front, behind, behind_pieces, between, told_by};
 ghost use Rattle.rz_types_fields.specs.Piece.{fixed_integer};
 ghost use Rattle.rz_types_fields.specs.NameKey.{key_of};
-ghost use Rattle.rz_types.specs.Notes.{also_counted, also_met, also_told, known, passed, passed_at};
+ghost use Rattle.rz_types.specs.Notes.{also_met, also_told, known, passed, passed_at};
 ghost use Rattle.rz_types_fields.specs.Known.{Grew};
 ghost use Rattle.rz_types.specs.Readable.{are_cases_read, are_pieces_read, are_read, ends_at_end, ends_at_label, is_count_known, is_number_read, is_read, is_readable, is_text_read, is_told_label, rows_end, tells, text_ends};
 ghost use Rattle.rz_types.specs.Template.{template_of};
@@ -24,14 +24,15 @@ use rz_types_fields::{
 use std::alloc::Global;
 
 /// Whether a resource of this declaration can be read: exactly where its bytes say where each field ends, and how many
-/// rows each array has. A number with a fixed value has no name that isn't known before it, or one that a field behind it
-/// in its body gives, an array by the number of its rows or a label by its place, and that the value tells; then it is
-/// known from there on. A size and a format have known names only. Known are also the places of labels behind a field in
-/// its body, where what stands between has a fixed width or is an `align`; but bits are asked for only at labels that
-/// stand before. A `string` without a size, and an array whose number of rows isn't known, end at a label behind them whose
-/// place is told, with only fields of fixed width between; or they stand outside of all rows and cases, with only fields
-/// of fixed width behind them, and end with the resource. Rows of an array without a stated count have one bit at least,
-/// and 8 where they end with the resource. (MPW Rez.)
+/// rows each array has. A number with a fixed value has no name that isn't known before it, or one that a field behind
+/// it in its body gives, an array by the number of its rows or a label by its place, and that the value tells; then it
+/// is known from there on. A size and a format have known names only. Known are also the places of labels behind a
+/// field in its body, where what stands between has a fixed width or is an `align`; but bits are asked for only at
+/// labels that stand before. A label in the rows of an array is known by an index where the array has ended, and the
+/// number of the row around always is. A `string` without a size, and an array whose number of rows isn't known, end at
+/// a label behind them whose place is told, with only fields of fixed width between; or they stand outside of all rows
+/// and cases, with only fields of fixed width behind them, and end with the resource. Rows of an array without a stated
+/// count have one bit at least, and 8 where they end with the resource. (MPW Rez.)
 pub fn is_readable(template: &Template) -> bool
     ensures { result ≡ is_readable (template_of template.now) }
 {
@@ -121,11 +122,18 @@ fn is_read<'a>(
         }
         Field::Points(points) => are_points_read(fields, points, notes),
         Field::Fill(..) | Field::Align(_) => Ok(true),
-        Field::Label(name) => {
-            push_met(KeyRef::Place(name), notes)?;
+        Field::Label(_) => {
+            push_met(field, notes)?;
             Ok(true)
         }
-        Field::Array(array) => is_array_read(outermost, array, fields, notes),
+        Field::Array(array) => {
+            if is_array_read(outermost, array, fields, notes)? {
+                push_met(field, notes)?;
+                Ok(true)
+            } else {
+                Ok(false)
+            }
+        }
         Field::Switch(cases) => are_cases_read(cases.as_slice(), notes),
     }
 }
@@ -139,8 +147,7 @@ fn is_array_read<'a>(
     notes: &mut Vec<Note<'a>>,
 ) -> Result<bool, NoMemory>
     ensures read { IfOk result (λ read. read ≡ is_read outermost (plain_body (drop 1 fields.now)) (passed_at (plain_body fields.now) notes.old.items) (plain_array array.now)) }
-    ensures passed { IfOk result (λ read. read ≡ true → passed notes.new.items ≡ behind (plain_array array.now) (passed_at (plain_body fields.now) notes.old.items)) }
-    ensures grew { OnOk result (Grew notes.old.items notes.new.items) }
+    ensures notes { OnOk result (notes.new.items ≡ notes.old.items) }
 {
     let row = array.row.as_slice();
     if !rows_end(
@@ -153,11 +160,7 @@ fn is_array_read<'a>(
     ) {
         return Ok(false);
     }
-    if !is_row_read(false, row, notes)? {
-        return Ok(false);
-    }
-    push_name(&array.name, notes)?;
-    Ok(true)
+    is_row_read(false, row, notes)
 }
 
 /// Whether each case of a switch can be read.
@@ -174,24 +177,13 @@ fn are_cases_read<'a>(cases: &'a [Case], notes: &mut Vec<Note<'a>>) -> Result<bo
     Ok(true)
 }
 
-/// Notes that a name is met.
-fn push_met<'a>(key: KeyRef<'a>, notes: &mut Vec<Note<'a>>) -> Result<(), NoMemory>
-    ensures passed { OnOk result (passed notes.new.items ≡ also_met (key_of key.entry) (passed notes.old.items)) }
+/// Notes that a field stands before.
+fn push_met<'a>(field: &'a Field, notes: &mut Vec<Note<'a>>) -> Result<(), NoMemory>
+    ensures passed { OnOk result (passed notes.new.items ≡ also_met (plain_field field.now) (passed notes.old.items)) }
     ensures grew { OnOk result (Grew notes.old.items notes.new.items) }
 {
-    notes.push(Note::Met(key))?;
+    notes.push(Note::Met(field))?;
     Ok(())
-}
-
-/// Notes that an array of this name stands before.
-fn push_name<'a>(name: &'a Option<Word>, notes: &mut Vec<Note<'a>>) -> Result<(), NoMemory>
-    ensures passed { OnOk result (passed notes.new.items ≡ also_counted name.now (passed notes.old.items)) }
-    ensures grew { OnOk result (Grew notes.old.items notes.new.items) }
-{
-    match name {
-        Some(name) => push_met(KeyRef::Count(name), notes),
-        None => Ok(()),
-    }
 }
 
 /// Whether it is told where the rows of an array end.

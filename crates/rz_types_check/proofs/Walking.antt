@@ -7,7 +7,7 @@ use Rattle.rz_types_fields.specs.Field.{case_and, field_and, no_cases, no_fields
 use Rattle.rz_types_fields.specs.Width.{case_keys}
 use Rattle.rz_types_fields.specs.declared.keys.CaseKey.{CaseKey}
 use Rattle.rz_types.specs.Rules.{broken, broken_at, kept_position, unknown_at}
-use Rattle.rz_types.specs.Walk.{all_fields, all_in_cases, and_names, at_field, behind_case, case_steps, names_in, names_of, no_names, own_names, steps, steps_within, walk, within, Own}
+use Rattle.rz_types.specs.Walk.{all_fields, all_in_cases, and_names, around_names, at_field, behind_case, case_steps, names_in, names_of, no_names, own_names, steps, steps_within, walk, within, Own}
 use Rattle.rz_types.specs.declared.rules.TypeFault.{TypeFault}
 use Rattle.rz_types.proofs.Firsts.{or_none}
 use Rattle.rz_types_check.specs.Walked.{body_met, case_met, cases_met, nothing_met, within_met, Met}
@@ -94,8 +94,8 @@ mutual
   within_is position before scope (Align unit) unknown = nothing_within (position + 1) (and_names before no_names) unknown
   within_is position before scope (Label name) unknown = nothing_within (position + 1) (and_names before (own_names (Label name))) unknown
   within_is position before scope (Array name count row) unknown =
-      body_is (position + 1) (and_names before (own_names (Array name count row))) (and_names scope (names_of row)) row unknown
-      ∙ ap (λ (names : Own). met_behind (steps (position + 1) (and_names before (own_names (Array name count row))) (and_names scope (names_of row)) row) (position + 1 + length (all_fields row)) names unknown)
+      body_is (position + 1) (and_names before (own_names (Array name count row))) (and_names (and_names scope (around_names name)) (names_of row)) row unknown
+      ∙ ap (λ (names : Own). met_behind (steps (position + 1) (and_names before (own_names (Array name count row))) (and_names (and_names scope (around_names name)) (names_of row)) row) (position + 1 + length (all_fields row)) names unknown)
       (and_assoc before (own_names (Array name count row)) (names_in (all_fields row)))
   within_is position before scope (Switch cases) unknown =
       ap (λ (names : Own). cases_met scope (kept_position position) [] (met_at (position + 1) names unknown) cases) (and_none before)

@@ -1,5 +1,5 @@
 -- A walk over the fields of a body, one more at a time.
-use Rattle.std.proofs.Common.{◌≡◌, ℕ, ◌+◌, ◌<◌, List, [], ◌++◌, length, get_or, drop, map, take, Bor, None, Ok, Err, refl, sym, ap, ◌∙◌}
+use Rattle.std.proofs.Common.{◌≡◌, ℕ, ◌+◌, ◌<◌, List, ◌++◌, length, get_or, drop, map, take, Bor, None, Ok, Err, refl, sym, ap, ◌∙◌}
 use Rattle.std.specs.declared.result.Result.{Result}
 use Rattle.std.proofs.lemmas.List.{length-map, take-map}
 use Rattle.std.proofs.Math.Seq.{take-append_seam}
@@ -14,7 +14,9 @@ use Rattle.rz_types_fields.proofs.Bodies.{body_next}
 use Rattle.rz_types.specs.Rules.{broken}
 use Rattle.rz_types.specs.Walk.{and_names, names_of, no_names, Own}
 use Rattle.rz_types.specs.declared.rules.TypeFault.{TypeFault}
-use Rattle.rz_types_check.specs.Walked.{all_met, body_met, field_met, met_of, own_of, scope_of, within_met, Met, Walks}
+use Rattle.rz_types_check.specs.Walked.{all_met, body_met, counts_in, field_met, first_names, met_of, own_of, scope_of, within_met, Met, Walks}
+use Rattle.rz_types_check.specs.declared.names.Counts.{Counts}
+use Rattle.rz_types_check.specs.declared.names.Names.{Names}
 use Rattle.rz_types_check.specs.declared.walk.Walk.{Walk}
 use Rattle.rz_types_check.proofs.Walking.{all_checked}
 
@@ -26,13 +28,24 @@ abbrev now_of : Bor Word → Word
 now_of name = name.now
 
 -- names that were appended are cut off again
-pub cut_back : (names more : List (Bor Word)) (own : List Word) (count : ℕ) → map (λ name. name.now) more ≡ map (λ name. name.now) names ++ own → count ≡ length names
-    → map (λ name. name.now) (take count more) ≡ map (λ name. name.now) names
-cut_back names more own count is long =
-    sym (take-map now_of count more)
-    ∙ (λ i. take (long i) (is i))
-    ∙ ap (λ n. take n (map now_of names ++ own)) (sym (length-map names now_of))
-    ∙ take-append_seam (map now_of names) own
+cut_back : (names : List (Bor Word)) (own : List Word) → take (length names) (map now_of names ++ own) ≡ map now_of names
+cut_back names own = ap (λ n. take n (map now_of names ++ own)) (sym (length-map names now_of)) ∙ take-append_seam (map now_of names) own
+
+all_cut : (names : Names) (own : Own) → first_names (counts_in names) (and_names (own_of names) own) ≡ own_of names
+all_cut names own = λ i. record {
+  labels = cut_back names.labels.items own.labels i;
+  arrays = cut_back names.arrays.items own.arrays i;
+  indexed = cut_back names.indexed.items own.indexed i;
+  around = cut_back names.around.items own.around i;
+}
+
+pub cut_again : (names : Names) (own more new : Own) (counts : Counts) → counts ≡ counts_in names → more ≡ and_names (own_of names) own → new ≡ first_names counts more
+    → new ≡ own_of names
+cut_again names own more new counts many is cut = cut ∙ (λ i. first_names (many i) (is i)) ∙ all_cut names own
+
+-- the first so many of each kind
+pub cut_one : (names new : List (Bor Word)) (count : ℕ) → new ≡ take count names → map (λ name. name.now) new ≡ take count (map (λ name. name.now) names)
+cut_one names new count is = ap (map now_of) is ∙ sym (take-map now_of count names)
 
 module _ (fields : List Field) (i : ℕ) (field : Field) (less : i < length fields) (item : field ≡ get_or fields i field) (scope : Own) (met : Met) (whole : Result Met TypeFault)
     (so : body_met scope met (plain_body (drop i fields)) ≡ whole) where

@@ -1,5 +1,5 @@
 -- The walk as one step after the other: what is met so far, or the first rule that is broken.
-use Rattle.std.specs.Prelude.{◌≡◌, ℕ, ◌+◌, List, [], ◌++◌, map, Option, None, Ok, Err}
+use Rattle.std.specs.Prelude.{◌≡◌, ℕ, ◌+◌, List, [], ◌++◌, length, map, take, Option, None, Ok, Err}
 use Rattle.std.specs.declared.result.Result.{Result}
 use Rattle.rz_core.specs.Lists.{or_else, unless_fault}
 use Rattle.rz_core.specs.Stop.{◌>>=◌}
@@ -10,8 +10,9 @@ use Rattle.rz_types_fields.specs.Field.{case_and, field_and, no_cases, no_fields
 use Rattle.rz_types_fields.specs.Width.{case_keys}
 use Rattle.rz_types_fields.specs.declared.keys.CaseKey.{CaseKey}
 use Rattle.rz_types.specs.Rules.{bad_case, broken_at, kept_position, unknown_at}
-use Rattle.rz_types.specs.Walk.{and_names, at_field, names_of, no_names, own_names, Own}
+use Rattle.rz_types.specs.Walk.{and_names, around_names, at_field, names_of, no_names, own_names, Own}
 use Rattle.rz_types.specs.declared.rules.TypeFault.{TypeFault}
+use Rattle.rz_types_check.specs.declared.names.Counts.{Counts}
 use Rattle.rz_types_check.specs.declared.names.Names.{Names}
 use Rattle.rz_types_check.specs.declared.walk.Walk.{Walk}
 
@@ -48,7 +49,7 @@ abbrev mutual
   within_met scope switch met (Fill unit count) = Ok met
   within_met scope switch met (Align unit) = Ok met
   within_met scope switch met (Label name) = Ok met
-  within_met scope switch met (Array name count row) = body_met (and_names scope (names_of row)) met row
+  within_met scope switch met (Array name count row) = body_met (and_names (and_names scope (around_names name)) (names_of row)) met row
   within_met scope switch met (Switch cases) = cases_met scope switch [] met cases
 
   pub body_met : Own → Met → PlainBody → Result Met TypeFault
@@ -63,6 +64,10 @@ abbrev mutual
       >>= λ next. case_met switch name (case_keys row) keys next
       >>= λ next. cases_met scope switch (keys ++ case_keys row) next others
 
+-- the rows of an array of this name
+abbrev pub rows_met : Own → Option Word → PlainBody → Met → Result Met TypeFault
+rows_met scope name row met = body_met (and_names (and_names scope (around_names name)) (names_of row)) met row
+
 -- a field, and the fields within it
 abbrev pub all_met : Own → Met → PlainField → Result Met TypeFault
 all_met scope met field = field_met scope met field >>= λ next. within_met scope met.position next field
@@ -70,7 +75,29 @@ all_met scope met field = field_met scope met field >>= λ next. within_met scop
 -- What the code has met.
 
 abbrev pub own_of : Names → Own
-own_of names = record { labels = map (λ name. name.now) names.labels.items; arrays = map (λ name. name.now) names.arrays.items }
+own_of names = record {
+  labels = map (λ name. name.now) names.labels.items;
+  arrays = map (λ name. name.now) names.arrays.items;
+  indexed = map (λ name. name.now) names.indexed.items;
+  around = map (λ name. name.now) names.around.items;
+}
+
+-- how many names of each kind there are, and the first so many of each
+abbrev pub counts_in : Names → Counts
+counts_in names = record {
+  labels = length names.labels.items;
+  arrays = length names.arrays.items;
+  indexed = length names.indexed.items;
+  around = length names.around.items;
+}
+
+abbrev pub first_names : Counts → Own → Own
+first_names counts own = record {
+  labels = take counts.labels own.labels;
+  arrays = take counts.arrays own.arrays;
+  indexed = take counts.indexed own.indexed;
+  around = take counts.around own.around;
+}
 
 abbrev pub met_of : Walk → Met
 met_of walk = record { position = walk.position; names = own_of walk.names; unknown = walk.unknown }

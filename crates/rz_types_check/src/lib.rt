@@ -3,8 +3,8 @@
 //! in `rz_types`.
 //! It rests on `rz_core`, `rz_expr`, `rz_types_fields` and `rz_types`.
 //! A new rule changes the definitions of `rz_types`, and here `rules`, where a field or a case is met, or `named`, which
-//! finds the labels and arrays that expressions name; a new kind of name changes `names`, another order of the walk `walk`,
-//! and both `specs/Walked`.
+//! finds the labels and arrays that expressions name, by themselves, by an index and by the number of a row; a new kind of
+//! name changes `names`, another order of the walk `walk`, and both `specs/Walked`.
 #![tactic(auto)]
 
 mod named;

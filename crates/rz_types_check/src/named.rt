@@ -14,7 +14,7 @@ use rz_expr::{Expr, predefined};
 use rz_types_fields::{Field, expressions_of};
 use std::alloc::Global;
 
-/// The first label or array that a field names and that isn't one of these.
+/// The first label, label in rows, array or array around that a field names and that isn't one of these.
 pub fn unknown_in<'a>(
     alloc: Global,
     scope: &Names<'_>,
@@ -52,7 +52,12 @@ fn unknown_name<'a>(scope: &Names<'_>, expr: &'a Expr) -> Option<&'a Word>
                 not_among(&scope.labels, name)
             }
         }
+        Expr::Indexed(name, index) => match not_among(&scope.indexed, name) {
+            Some(name) => Some(name),
+            None => unknown_name(scope, index),
+        },
         Expr::Count(name) => not_among(&scope.arrays, name),
+        Expr::ArrayIndex(name) => not_among(&scope.around, name),
         Expr::Unary(_, operand) => unknown_name(scope, operand),
         Expr::Binary(_, one, other) => match unknown_name(scope, one) {
             Some(name) => Some(name),

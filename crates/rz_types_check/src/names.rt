@@ -1,22 +1,63 @@
-//! Names of labels and names of arrays, as the walk gathers them.
+//! Names of labels and of arrays, as the walk gathers them.
 
 ghost use Rattle.std.specs.Prelude.{IfOk, OnOk, ◌≡◌, ◌++◌, map, option_map};
 ghost use Rattle.std.specs.Option.{option_to_list};
 ghost use Rattle.rz_types_fields.specs.Field.{plain_body, plain_field};
-ghost use Rattle.rz_types.specs.Walk.{and_names, names_of, no_names, own_names};
-ghost use Rattle.rz_types_check.specs.Walked.{own_of};
+ghost use Rattle.rz_types.specs.Walk.{and_names, around_names, label_name, labels_in, names_of, no_names, own_names};
+ghost use Rattle.rz_types_check.specs.Walked.{counts_in, first_names, own_of};
 
 use rz_core::{NoMemory, Word};
 use rz_types_fields::Field;
 use std::alloc::Global;
 
-/// Names of labels and names of arrays.
+/// Names of labels and of arrays.
 #[derive(Drop)]
 pub struct Names<'a> {
     /// Those of labels.
     pub labels: Vec<&'a Word>,
     /// Those of arrays.
     pub arrays: Vec<&'a Word>,
+    /// Those of labels that stand directly in the rows of arrays.
+    pub indexed: Vec<&'a Word>,
+    /// Those of arrays around.
+    pub around: Vec<&'a Word>,
+}
+
+/// How many names of each kind there are.
+#[derive(Clone, Copy)]
+pub struct Counts {
+    /// Those of labels.
+    pub labels: usize,
+    /// Those of arrays.
+    pub arrays: usize,
+    /// Those of labels in rows.
+    pub indexed: usize,
+    /// Those of arrays around.
+    pub around: usize,
+}
+
+/// How many names of each kind there are.
+pub fn counts_of(names: &Names<'_>) -> Counts
+    ensures { result ≡ counts_in names.now }
+{
+    Counts {
+        labels: names.labels.len(),
+        arrays: names.arrays.len(),
+        indexed: names.indexed.len(),
+        around: names.around.len(),
+    }
+}
+
+impl Names<'_> {
+    /// Keeps so many of each kind.
+    pub fn cut(&mut self, counts: Counts)
+        ensures { own_of self.new ≡ first_names counts (own_of self.old) }
+    {
+        self.labels.truncate(counts.labels);
+        self.arrays.truncate(counts.arrays);
+        self.indexed.truncate(counts.indexed);
+        self.around.truncate(counts.around);
+    }
 }
 
 /// No names.
@@ -26,6 +67,8 @@ pub fn no_names<'a>(alloc: Global) -> Names<'a>
     Names {
         labels: Vec::new(alloc),
         arrays: Vec::new(alloc),
+        indexed: Vec::new(alloc),
+        around: Vec::new(alloc),
     }
 }
 
@@ -39,12 +82,39 @@ pub fn push_names<'a>(names: &mut Names<'a>, row: &'a [Field]) -> Result<(), NoM
     Ok(())
 }
 
-/// Appends the name of a label or of an array.
+/// Appends the name of an array around, where it has one.
+pub fn push_around<'a>(names: &mut Names<'a>, name: &'a Option<Word>) -> Result<(), NoMemory>
+    ensures { OnOk result (own_of names.new ≡ and_names (own_of names.old) (around_names name.now)) }
+{
+    push_if(&mut names.around, name.as_ref())
+}
+
+/// Appends the name of a label, or of an array with those of the labels directly in its rows.
 pub fn push_name<'a>(names: &mut Names<'a>, field: &'a Field) -> Result<(), NoMemory>
     ensures { OnOk result (own_of names.new ≡ and_names (own_of names.old) (own_names (plain_field field.now))) }
 {
     push_if(&mut names.labels, label_of(field))?;
     push_if(&mut names.arrays, array_of(field))?;
+    push_indexed(&mut names.indexed, field)
+}
+
+/// Appends the names of the labels that stand directly in the rows of an array.
+fn push_indexed<'a>(names: &mut Vec<&'a Word>, field: &'a Field) -> Result<(), NoMemory>
+    ensures { OnOk result (map (λ name. name.now) names.new.items ≡ map (λ name. name.now) names.old.items ++ (own_names (plain_field field.now)).indexed) }
+{
+    match field {
+        Field::Array(array) => push_labels(names, array.row.as_slice()),
+        _ => Ok(()),
+    }
+}
+
+/// Appends the names of the labels that stand directly in a body.
+fn push_labels<'a>(names: &mut Vec<&'a Word>, row: &'a [Field]) -> Result<(), NoMemory>
+    ensures { OnOk result (map (λ name. name.now) names.new.items ≡ map (λ name. name.now) names.old.items ++ labels_in (plain_body row.now)) }
+{
+    for field in row {
+        push_if(names, label_of(field))?;
+    }
     Ok(())
 }
 
@@ -60,7 +130,7 @@ fn push_if<'a>(names: &mut Vec<&'a Word>, name: Option<&'a Word>) -> Result<(), 
 
 /// The name of a label.
 fn label_of(field: &Field) -> Option<&Word>
-    ensures { option_to_list (option_map (λ name. name.now) result) ≡ (own_names (plain_field field.now)).labels }
+    ensures { option_to_list (option_map (λ name. name.now) result) ≡ label_name (plain_field field.now) }
 {
     match field {
         Field::Label(name) => Some(name),

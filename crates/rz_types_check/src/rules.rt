@@ -30,20 +30,22 @@ const MOST_ROWS: i32 = 1_048_576;
 
 /// The template of a body, or the first rule that it breaks. A walk goes over the fields depth first; a field's own
 /// rules come before those of the fields within it, those of a case behind its fields. 230: a label has the name of one
-/// before it; 231: so has an array (kept of each: the name). 232: two cases of a switch have one name (kept: the later's).
-/// 233: a case hasn't exactly one key; 234: the keys of a switch have different widths; 235: the fields before a key
-/// haven't all a fixed width, or the keys stand at different distances; 236: two keys have the same bits (kept of each: the
-/// name of the case; the field is the switch). 237: the rows of an array take no value (kept: the position of the field).
-/// 238: the width of a `bitstring` outside 1 to 32, the count of an array outside 0 to 1,048,576, the count of a `fill`
-/// outside 0 to 16,777,212, or a constant size of a text that its type can't have (kept: the value): a `string` has a size
-/// from 0 on, a `pstring` from 0 to 255, a `wstring` from 0 to 65,535, a `cstring` from 1 on; a size that is no constant, or
-/// a constant without a value, breaks no rule. Behind the walk 212: the first label or array that an expression names and
-/// that is none of its own body and of those around (kept: the name); `true` and `false` are no labels, and the size of a
-/// text comes before the formats in it. Names are the same in whatever case. The body has the shape of a declaration: the
-/// width of a type that has its own, two or four fixed numbers of points, units that there are, arrays and switches at most
-/// 60 deep in one another, and so on. The walk goes as deep as these stand in one another. Each label and each array is
-/// looked for among those before it, and each name in an expression among those that it may name; so is each key among
-/// those of the cases before it. (MPW Rez.)
+/// before it; 231: so has an array (kept of each: the name). 232: two cases of a switch have one name (kept: the
+/// later's). 233: a case hasn't exactly one key; 234: the keys of a switch have different widths; 235: the fields
+/// before a key haven't all a fixed width, or the keys stand at different distances; 236: two keys have the same bits
+/// (kept of each: the name of the case; the field is the switch). 237: the rows of an array take no value (kept: the
+/// position of the field). 238: the width of a `bitstring` outside 1 to 32, the count of an array outside 0 to
+/// 1,048,576, the count of a `fill` outside 0 to 16,777,212, or a constant size of a text that its type can't have
+/// (kept: the value): a `string` has a size from 0 on, a `pstring` from 0 to 255, a `wstring` from 0 to 65,535, a
+/// `cstring` from 1 on; a size that is no constant, or a constant without a value, breaks no rule. Behind the walk 212:
+/// the first label or array that an expression names and that is none of its own body and of those around, the first
+/// label with an index that stands directly in the rows of no array of these, or the first array of whose row the
+/// number is asked and that isn't around (kept: the name); `true` and `false` are no labels, a label comes before its
+/// index, and the size of a text comes before the formats in it. Names are the same in whatever case. The body has the
+/// shape of a declaration: the width of a type that has its own, two or four fixed numbers of points, units that there
+/// are, arrays and switches at most 60 deep in one another, and so on. The walk goes as deep as these stand in one
+/// another. Each label and each array is looked for among those before it, and each name in an expression among those
+/// that it may name; so is each key among those of the cases before it. (MPW Rez.)
 pub fn check(alloc: Global, body: Body) -> Result<Template, Stop<TypeFault>>
     requires { is_well_shaped (plain_body body) ≡ true }
     ensures { Gives (checked (plain_body body)) (seen template_of result) }

@@ -6,14 +6,14 @@ ghost use Rattle.rz_core.specs.Lists.{unless_fault};
 ghost use Rattle.rz_types_fields.specs.Field.{plain_body, plain_cases, plain_field};
 ghost use Rattle.rz_types.specs.Rules.{broken, kept_position, unknown_fault, unknown_in};
 ghost use Rattle.rz_types.specs.Walk.{and_names, names_of};
-ghost use Rattle.rz_types_check.specs.Walked.{all_met, body_met, cases_met, field_met, met_of, own_of, scope_of, Walks};
+ghost use Rattle.rz_types_check.specs.Walked.{all_met, body_met, cases_met, field_met, met_of, own_of, rows_met, scope_of, Walks};
 
 use crate::named::unknown_in;
-use crate::names::{Names, no_names, push_name, push_names};
+use crate::names::{Names, counts_of, no_names, push_around, push_name, push_names};
 use crate::rules::{MOST_KEPT, broken_behind, broken_field, unknown_fault};
 use rz_core::{NoMemory, Stop};
 use rz_types::TypeFault;
-use rz_types_fields::{Case, CaseKey, Field, case_keys};
+use rz_types_fields::{ArrayField, Case, CaseKey, Field, case_keys};
 use std::alloc::Global;
 
 /// A walk over the fields of a declaration, depth first.
@@ -64,15 +64,32 @@ fn walk_body<'a>(
 ) -> Result<(), Stop<TypeFault>>
     ensures { Walks (body_met (and_names (scope_of walk.old) (names_of (plain_body row.now))) (met_of walk.old) (plain_body row.now)) walk.old result walk.new }
 {
-    let labels = walk.scope.labels.len();
-    let arrays = walk.scope.arrays.len();
+    let counts = counts_of(&walk.scope);
     push_names(&mut walk.scope, row)?;
     match walk_fields(alloc, row, walk) {
         Ok(()) => {}
         Err(stop) => return Err(stop),
     }
-    walk.scope.labels.truncate(labels);
-    walk.scope.arrays.truncate(arrays);
+    walk.scope.cut(counts);
+    Ok(())
+}
+
+/// Walks over the rows of an array: its fields may ask for the number of their row by the array's name too.
+#[cycle(walk)]
+fn walk_array<'a>(
+    alloc: Global,
+    array: &'a ArrayField,
+    walk: &mut Walk<'a>,
+) -> Result<(), Stop<TypeFault>>
+    ensures { Walks (rows_met (scope_of walk.old) array.now.name (plain_body array.now.row) (met_of walk.old)) walk.old result walk.new }
+{
+    let counts = counts_of(&walk.scope);
+    push_around(&mut walk.scope, &array.name)?;
+    match walk_body(alloc, array.row.as_slice(), walk) {
+        Ok(()) => {}
+        Err(stop) => return Err(stop),
+    }
+    walk.scope.cut(counts);
     Ok(())
 }
 
@@ -109,7 +126,7 @@ fn walk_field<'a>(
         Err(stop) => return Err(stop),
     }
     match field {
-        Field::Array(array) => walk_body(alloc, array.row.as_slice(), walk),
+        Field::Array(array) => walk_array(alloc, array, walk),
         Field::Switch(cases) => walk_cases(alloc, position, cases.as_slice(), walk),
         _ => Ok(()),
     }

@@ -1,25 +1,27 @@
-use Rattle.std.proofs.Common.{◌≡◌, List, map, Bor, Err, Ok, ap, subst, ◌∙◌}
-use Rattle.rz_core.specs.declared.resource.Word.{Word}
+use Rattle.std.proofs.Common.{◌≡◌, List, Err, Ok, subst, ◌∙◌}
 use Rattle.rz_types_fields.specs.Field.{plain_body, plain_field}
-use Rattle.rz_types.specs.Walk.{names_of, Own}
-use Rattle.rz_types_check.specs.Walked.{all_met, body_met, met_of, scope_of, Walks}
-use Rattle.rz_types_check.proofs.Walks.{cut_back, walk_refused, walked_more}
+use Rattle.rz_types_fields.specs.declared.field.Field.{Field}
+use Rattle.rz_types.specs.Walk.{and_names, around_names, names_of, Own}
+use Rattle.rz_types_check.specs.Walked.{all_met, body_met, met_of, own_of, scope_of, Walks}
+use Rattle.rz_types_check.proofs.Walks.{cut_again, walk_refused, walked_more}
 use Rattle.rz_types_check.proofs.walk.+walk.Goals as goal
 
 pub walk_body-returns : goal.walk_body-returns
-walk_body-returns t c =
-    let own = names_of (plain_body c.args.row.now) in
-    let more = c.in-Ok.ensures.1 ∙ c.in_ok-push_names.ensures in (
-      subst (λ (scope : Own). body_met scope (met_of c.args.walk.now) (plain_body c.args.row.now) ≡ Ok (met_of c.walk_fields.new.walk)) c.in_ok-push_names.ensures c.in-Ok.ensures.0,
-      λ i. record {
-        labels = (ap (λ (names : List (Bor Word)). map (λ name. name.now) names) c.truncate.ensures.items
-            ∙ cut_back c.args.walk.now.scope.labels.items c.walk_fields.new.walk.scope.labels.items own.labels c.len-labels.result (ap (λ (names : Own). names.labels) more)
-            (c.len-labels.ensures ∙ c.args.walk.now.scope.labels.ok.0)) i;
-        arrays = (ap (λ (names : List (Bor Word)). map (λ name. name.now) names) c.truncate-2.ensures.items
-            ∙ cut_back c.args.walk.now.scope.arrays.items c.walk_fields.new.walk.scope.arrays.items own.arrays c.len-arrays.result (ap (λ (names : Own). names.arrays) more)
-            (c.len-arrays.ensures ∙ c.args.walk.now.scope.arrays.ok.0)) i;
-      },
-    )
+walk_body-returns t c = (
+  subst (λ (scope : Own). body_met scope (met_of c.args.walk.now) (plain_body c.args.row.now) ≡ Ok (met_of c.walk_fields.new.walk)) c.in_ok-push_names.ensures c.in-Ok.ensures.0,
+  cut_again c.args.walk.now.scope (names_of (plain_body c.args.row.now)) (own_of c.walk_fields.new.walk.scope) _ c.counts_of-counts.result c.counts_of-counts.ensures
+      (c.in-Ok.ensures.1 ∙ c.in_ok-push_names.ensures) c.cut.ensures,
+)
+
+pub walk_array-returns : goal.walk_array-returns
+walk_array-returns t c = (
+  subst (λ (scope : Own). body_met (and_names scope (names_of (plain_body c.args.array.now.row))) (met_of c.args.walk.now) (plain_body c.args.array.now.row) ≡ Ok (met_of c.walk_body.new.walk))
+      c.in_ok-push_around.ensures
+      (subst (λ (row : List Field). body_met (and_names (own_of c.push_around.new.names) (names_of (plain_body row))) (met_of c.args.walk.now) (plain_body row) ≡ Ok (met_of c.walk_body.new.walk))
+      c.as_slice.ensures c.in-Ok.ensures.0),
+  cut_again c.args.walk.now.scope (around_names c.args.array.now.name) (own_of c.walk_body.new.walk.scope) _ c.counts_of-counts.result c.counts_of-counts.ensures
+      (c.in-Ok.ensures.1 ∙ c.in_ok-push_around.ensures) c.cut.ensures,
+)
 
 pub walk_fields-returns-in-Err : goal.walk_fields-returns-in-Err
 walk_fields-returns-in-Err t c =
