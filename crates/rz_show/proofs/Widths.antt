@@ -12,7 +12,7 @@ use Rattle.rz_types.specs.Kept.{AreCasesKept, AreKept, IsKept, IsKeptWithin}
 use Rattle.rz_types.specs.Range.{is_between}
 use Rattle.rz_types.specs.Rules.{bad_width, may_be_width, unless}
 use Rattle.rz_types.specs.Shape.{are_cases_shaped, are_shaped, body_depth, deepest_body, is_fixed_number, is_key_shaped, is_none_or, is_number_shaped, is_own_name, is_own_width, is_shaped, is_symbol_of, is_well_shaped}
-use Rattle.rz_types.specs.Walk.{and_names, names_of, Own}
+use Rattle.rz_types.specs.Walk.{and_names, around_names, names_of, Own}
 use Rattle.rz_show.specs.Printable.{HasWidth, HasWidths, HaveWidths, IsWidth}
 
 same_width : (width own : ℤ) → int_eq width own ≡ true → IsWidth own → IsWidth width
@@ -45,7 +45,7 @@ mutual
   field_width scope in_case (Fill unit count) is wide kept = tt
   field_width scope in_case (Align unit) is wide kept = tt
   field_width scope in_case (Label name) is wide kept = tt
-  field_width scope in_case (Array name count row) is wide kept = body_widths (and_names scope (names_of row)) false row (both (is_none_or is_own_name name) (are_shaped false row) is).1 kept.2
+  field_width scope in_case (Array name count row) is wide kept = body_widths (and_names (and_names scope (around_names name)) (names_of row)) false row (both (is_none_or is_own_name name) (are_shaped false row) is).1 kept.2
   field_width scope in_case (Switch cases) is wide kept = cases_widths scope cases is kept.1
 
   cases_widths : (scope : Own) (cases : PlainCases) → are_cases_shaped cases ≡ true → AreCasesKept scope cases → HaveWidths cases

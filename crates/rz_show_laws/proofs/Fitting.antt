@@ -25,7 +25,7 @@ use Rattle.rz_types.specs.Kept.{AreCasesKept, AreKept, Differ, IsKept, IsKeptWit
 use Rattle.rz_types.specs.Rules.{bad_width, case_names, has_values}
 use Rattle.rz_types.specs.Shape.{are_cases_shaped, are_shaped, is_none_or, is_own_name, is_shaped, is_well_shaped, numbers_of}
 use Rattle.rz_types.specs.Piece.{integer}
-use Rattle.rz_types.specs.Walk.{and_names, names_of, Own}
+use Rattle.rz_types.specs.Walk.{and_names, around_names, names_of, Own}
 use Rattle.rz_show_laws.proofs.Items.{ArePrintedItems, IsPrintedItem, IsSingleItem}
 use Rattle.rz_show.specs.Number.{number_shown, signed_number}
 use Rattle.rz_show.specs.Print.{in_group, named_block, no_prints, Print, Prints}
@@ -235,7 +235,7 @@ module _ (known : Facts) where
           with_list (λ items. (rows : List (List Tree)) × RowsFit (Fits known row) items rows × IsStated count (length rows) × (v ≡ trees.Rows rows)) items mark one braced (
             rows,
             rows_fit (row_prints hidden row) (Fits known row) (IsSpelled row)
-                (λ line more items spelled are. row_fits (and_names scope (names_of row)) false row (both (is_none_or is_own_name name) (are_shaped false row) shaped).1 kept.2 line more items spelled are)
+                (λ line more items spelled are. row_fits (and_names (and_names scope (around_names name)) (names_of row)) false row (both (is_none_or is_own_name name) (are_shaped false row) shaped).1 kept.2 line more items spelled are)
                 (λ front line fits. uses_item row front line kept.0 fits)
                 rows items (all_spelled row rows all (subst (AllByRecursion (AreShortTexts row)) here short)) (subst (λ (rs : List (List Tree)). ArePrintedItems (rows_prints (row_prints hidden row) rs) items) here printed),
             stated,

@@ -27,7 +27,7 @@ use Rattle.rz_types.specs.Kept.{AreCasesKept, AreKept, Differ, IsKept, IsKeptWit
 use Rattle.rz_types.specs.Rules.{bad_width, case_names}
 use Rattle.rz_types.specs.Shape.{are_cases_shaped, are_shaped, is_none_or, is_own_name, is_shaped, is_well_shaped}
 use Rattle.rz_types.specs.Value.{symbol_value}
-use Rattle.rz_types.specs.Walk.{and_names, names_of, Own}
+use Rattle.rz_types.specs.Walk.{and_names, around_names, names_of, Own}
 use Rattle.rz_show.specs.Number.{by_decimal, by_form, by_hex, by_literal, by_radix, by_truth, by_value, is_literal_width, is_stored, named_or, number_shown, signed_number, symbol_for, truth}
 use Rattle.rz_show.specs.Print.{group_rest, group_written, no_prints, signed_written, single_written, Print, Prints}
 use Rattle.rz_show.specs.Printable.{AreGood, AreOfBytes, IsCaseOfBytes, IsGood, IsName, IsOfBytes, IsWidth, SparesTruth}
@@ -225,7 +225,7 @@ module _ (hidden : List ℕ → Bool) (spares : SparesTruth hidden) where
     field_good scope in_case (Array name count row) shaped wide kept names value has bytes uses takes =
         let rows_is : rows_in value ≡ has.1.0 = ap rows_in (has.2 ∙ ap (λ (t : Tree). Some t) has.1.1) ∙ rows_are has.1.0 in
         rows_good hidden (row_prints hidden row) (IsShowable hidden row)
-        (λ line more showable good. body_good (and_names scope (names_of row)) false row (both (is_none_or is_own_name name) (are_shaped false row) shaped).1 kept.2 names line more showable good)
+        (λ line more showable good. body_good (and_names (and_names scope (around_names name)) (names_of row)) false row (both (is_none_or is_own_name name) (are_shaped false row) shaped).1 kept.2 names line more showable good)
         (rows_in value) (all_showable hidden row (rows_in value) (subst (AllByRecursion (IsRow row)) (sym rows_is) has.1.3) bytes uses)
     field_good scope in_case (Switch cases) shaped wide kept names value has bytes uses takes =
         subst (λ (o : Option Tree). IsGood hidden (case_print hidden cases o)) (sym has.2)

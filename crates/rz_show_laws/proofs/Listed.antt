@@ -7,7 +7,7 @@ use Rattle.rz_stmt_brackets.specs.Pieces.{has_divider, last, more, AreCut, Parte
 use Rattle.rz_stmt_brackets.specs.Statements.{open_behind_all}
 use Rattle.rz_stmt_brackets.specs.declared.bracket.Bracket.TheVariants.{Curly}
 use Rattle.rz_stmt_brackets.specs.declared.pieces.Divider.TheVariants.{CloseBrace, Separator}
-use Rattle.rz_expr.specs.Grammar.{bytes_number, operand, prefixed, start_of, tighter, word_start, Derives, IsExpression, Operand}
+use Rattle.rz_expr.specs.Grammar.{bytes_number, labelled, operand, prefixed, start_of, tighter, word_start, Derives, IsExpression}
 use Rattle.rz_expr.specs.Term.{Constant, Named, Term}
 use Rattle.rz_expr.specs.Value.{reduced}
 use Rattle.rz_expr.specs.Words.{is_name, role_of}
@@ -190,7 +190,7 @@ record IsTermHere (term : Term) (tokens : List Token) : Type 0 where
 
 -- a shape that is an operand, and no brace
 record IsAlone (shape : Shape) (term : Term) : Type 0 where
-  starts : start_of shape ≡ Operand term
+  derives : (token : Token) → token.shape ≡ shape → Derives 0 (token ∷ []) term
   opens_not : opens Curly shape ≡ false
   may : is_item_expression term ≡ true
 
@@ -209,7 +209,7 @@ token_here shape term so tokens is =
       found = item.Number term one.one.mark;
       is = subst (λ (ts : List Token). IsItem ts (item.Number term one.one.mark)) (sym alone_is)
           (simple_of one.one [] term (ap (opens Curly) one.one_is ∙ so.opens_not) refl
-          (tighter_than (operand (ap start_of one.one_is ∙ so.starts))) so.may);
+          (tighter_than (so.derives one.one one.one_is)) so.may);
       meant = (one.one.mark, refl);
     }
 
@@ -229,18 +229,18 @@ minus_here number tokens is =
     }
 
 number_alone : (number : ℕ) → IsAlone (shapes.Number number) (Constant (reduced (pos number)))
-number_alone number = record { starts = refl; opens_not = refl; may = refl }
+number_alone number = record { derives = λ token is. operand (ap start_of is); opens_not = refl; may = refl }
 
 literal_alone : (bytes : List ℕ) → IsAlone (shapes.Literal bytes) (Constant (reduced (pos (bytes_number 0 bytes))))
-literal_alone bytes = record { starts = refl; opens_not = refl; may = refl }
+literal_alone bytes = record { derives = λ token is. operand (ap start_of is); opens_not = refl; may = refl }
 
-name_starts : (role : Role) (name : List ℕ) → is_name role ≡ true → word_start role name ≡ Operand (Named name)
-name_starts roles.Label name is = refl
-name_starts roles.OtherName name is = refl
-name_starts role name is = absurd cc
+name_derives : (role : Role) (name : List ℕ) (token : Token) → is_name role ≡ true → start_of token.shape ≡ word_start role name → Derives 0 (token ∷ []) (Named name)
+name_derives roles.Label name token is starts = labelled starts
+name_derives roles.OtherName name token is starts = operand starts
+name_derives role name token is starts = absurd cc
 
 name_alone : (name : List ℕ) → IsNaming name → IsAlone (word_of name) (Named name)
-name_alone name naming = record { starts = name_starts (role_of name) name naming; opens_not = refl; may = refl }
+name_alone name naming = record { derives = λ token is. name_derives (role_of name) name token naming (ap start_of is); opens_not = refl; may = refl }
 
 number_here : (number : ℤ) (tokens : List Token) → shapes_in tokens ≡ print_shapes (single (in_decimal number)) → IsTermHere (signed_term number) tokens
 number_here (pos number) tokens is = token_here (shapes.Number number) (signed_term (pos number)) (number_alone number) tokens is

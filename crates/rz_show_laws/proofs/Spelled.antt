@@ -15,8 +15,9 @@ use Rattle.rz_lex.specs.Printed as printed
 use Rattle.rz_stmt_items.specs.Fits.{exceeds}
 use Rattle.rz_types_fields.specs.Laid.{first_value, line_in, other_values, rows_in, text_in}
 use Rattle.rz_types_fields.specs.Row.{By}
+use Rattle.rz_types_fields.specs.RowLabels.{row_of}
 use Rattle.rz_types_fields.specs.Sees.{sees, Late}
-use Rattle.rz_types_fields.specs.Spells.{is_case, put, row_of, AreBytes, BodySpells, CaseSpells, FieldSpells, Inside, IsGrouped, IsNumber, IsPlainText, IsSize, IsText, RowsSpell, Spells, When}
+use Rattle.rz_types_fields.specs.Spells.{is_case, put, AreBytes, BodySpells, CaseSpells, FieldSpells, Inside, IsGrouped, IsNumber, IsPlainText, IsSize, IsText, RowsSpell, Spells, When}
 use Rattle.rz_types.specs.Field.{case_and, field_and, no_cases, no_fields, takes_value, Align, Array, Fill, Label, Number, PlainBody, PlainCases, PlainField, PlainText, Points, Switch, Text}
 use Rattle.rz_types.specs.Passed.{at_field, at_front, behind, nothing_passed, Passed}
 use Rattle.rz_types.specs.Stored.{is_too_long}
@@ -176,7 +177,7 @@ module _ (plain : Bool) where
       field_fine (Fill unit count) names passed value at late after late_after spells = record { short = tt; bytes = λ so. tt }
       field_fine (Align unit) names passed value at late after late_after spells = record { short = tt; bytes = λ so. tt }
       field_fine (Label name) names passed value at late after late_after spells = record { short = tt; bytes = λ so. tt }
-      field_fine (Array name count row) names passed value at late after late_after (rows, is, stated, counted, spells) =
+      field_fine (Array name count row) names passed value at late after late_after (rows, is, stated, counted, are_rows, spells) =
           rows_fine name count row rows value (ap rows_in is ∙ rows_are rows)
           (rows_short (RowFine row) (λ number line. Inside row (row_of name number) names (λ own. BodySpells plain known all row own (at_front row passed) line))
           (λ number line from late_from to late_to one. body_fine row one.0 (at_front row passed) line from late_from to late_to one.2) 1 rows at late after late_after spells)

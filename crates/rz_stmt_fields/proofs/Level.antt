@@ -3,14 +3,14 @@ use Rattle.std.proofs.Common.{◌≡◌, ℕ, ◌+◌, ◌-◌, ◌&&◌, Bool, 
 use Rattle.std.specs.List.{AllByRecursion}
 use Rattle.rz_core.proofs.Tests.{both}
 use Rattle.rz_core.specs.declared.resource.Word.{Word}
-use Rattle.rz_expr.specs.Grammar.{after_of, argument, closes, ends_name, is_bracket, named_by, separates, start_of, word_start, Calls, Derives, Operand, Operates, Prefix}
-use Rattle.rz_expr.specs.Grammar.{binary, bits_at, counted, data_at, grouped, operand, prefixed, tighter}
+use Rattle.rz_expr.specs.Grammar.{after_of, argument, closes, ends_name, is_bracket, named_by, separates, start_of, word_start, Calls, Derives, EndsIndex, Indexes, Label, Operand, Operates, Prefix}
+use Rattle.rz_expr.specs.Grammar.{binary, bits_at, counted, data_at, grouped, indexed, labelled, numbered, operand, prefixed, tighter}
 use Rattle.rz_expr.specs.Term.{Term}
 use Rattle.rz_expr.specs.Words.{role_of}
 use Rattle.rz_expr.specs.declared.expr.BinaryOp.{BinaryOp}
 use Rattle.rz_expr.specs.declared.expr.UnaryOp.{UnaryOp}
 use Rattle.rz_expr.specs.declared.words.Function.{Function}
-use Rattle.rz_expr.specs.declared.words.Function.TheVariants.{BitField, CountOf, Data}
+use Rattle.rz_expr.specs.declared.words.Function.TheVariants.{ArrayIndex, BitField, CountOf, Data}
 use Rattle.rz_expr.specs.declared.words.Role.{Role}
 use Rattle.rz_expr.specs.declared.words.Role.TheVariants as roles
 use Rattle.rz_lex.specs.declared.sign.Sign.TheVariants as signs
@@ -129,8 +129,19 @@ group_closes : (shape : Shape) → closes (after_of shape) ≡ true → ClosesOn
 group_closes (shapes.Sign signs.CloseParen) is = λ n. refl
 group_closes shape is = absurd cc
 
+index_opens : (shape : Shape) → after_of shape ≡ Indexes → Opens shape
+index_opens (shapes.Sign signs.OpenBracket) is = λ n. refl
+index_opens shape is = absurd cc
+
+index_closes : (shape : Shape) → after_of shape ≡ EndsIndex → ClosesOne shape
+index_closes (shapes.Sign signs.CloseBracket) is = λ n. refl
+index_closes shape is = absurd cc
+
 operand_plain : (shape : Shape) (e : Term) → start_of shape ≡ Operand e → IsPlain shape
 operand_plain shape e = plain_by (λ s. start_of s ≡ Operand e) ((λ h. cc), (λ h. cc), (λ h. cc), (λ h. cc), (λ h. cc), (λ h. cc)) shape
+
+label_plain : (shape : Shape) (name : List ℕ) → start_of shape ≡ Label name → IsPlain shape
+label_plain shape name = plain_by (λ s. start_of s ≡ Label name) ((λ h. cc), (λ h. cc), (λ h. cc), (λ h. cc), (λ h. cc), (λ h. cc)) shape
 
 prefix_plain : (shape : Shape) (op : UnaryOp) → start_of shape ≡ Prefix op → IsPlain shape
 prefix_plain shape op = plain_by (λ s. start_of s ≡ Prefix op) ((λ h. cc), (λ h. cc), (λ h. cc), (λ h. cc), (λ h. cc), (λ h. cc)) shape
@@ -169,12 +180,19 @@ named_level t a b c plain opens name closes =
 
 pub level_derives : {level : ℕ} {ts : List Token} {e : Term} → Derives level ts e → IsLevel ts
 level_derives (operand {t} {e} is) = level_more t [] (operand_plain t.shape e is) level_nil
+level_derives (labelled {t} {name} is) = level_more t [] (label_plain t.shape name is) level_nil
+level_derives (indexed {t} {name} {ts} {e} bracket close is begins one end) =
+    level_more t (bracket ∷ (ts ++ close ∷ [])) (label_plain t.shape name is)
+    (level_within bracket close ts [] (index_opens bracket.shape begins) (level_derives one) (index_closes close.shape end) level_nil)
 level_derives (prefixed {t} {ts} {op} {e} is one) = level_more t ts (prefix_plain t.shape op is) (level_derives one)
 level_derives (grouped {t} {ts} {e} close is one end) =
     level_within t close ts [] (group_opens t.shape (ap is_bracket is)) (level_derives one) (group_closes close.shape (ap closes end)) level_nil
 level_derives (counted {t} {a} {b} {c} {word} is name) =
     let named = argument_is CountOf a b c word name in
     named_level t a b c (call_plain t.shape CountOf is) named.opens named.name (group_closes c.shape named.ends)
+level_derives (numbered {t} {a} {b} {c} {word} is name) =
+    let named = argument_is ArrayIndex a b c word name in
+    named_level t a b c (call_plain t.shape ArrayIndex is) named.opens named.name (group_closes c.shape named.ends)
 level_derives (data_at {t} {a} {b} {c} {word} {width} is name) =
     let named = argument_is (Data width) a b c word name in
     named_level t a b c (call_plain t.shape (Data width) is) named.opens named.name (group_closes c.shape named.ends)

@@ -16,7 +16,7 @@ use Rattle.rz_expr.specs.Environment.{Sight}
 use Rattle.rz_expr.specs.Term.{Term}
 use Rattle.rz_expr.specs.Value.{value_of}
 use Rattle.rz_expr.specs.declared.value.EvalFault.{EvalFault}
-use Rattle.rz_expr.specs.declared.value.EvalFault.TheVariants.{BadShift, DataWidth, LaterData, UnknownName, ZeroDivisor}
+use Rattle.rz_expr.specs.declared.value.EvalFault.TheVariants.{BadIndex, BadShift, DataWidth, LaterData, UnknownName, ZeroDivisor}
 use Rattle.rz_stmt_items.specs.Item.{more, none, Braced, Named, Number, PlainItem, PlainItems, Text}
 use Rattle.rz_stmt_items.specs.Places.{AreInside, IsItemWithin}
 use Rattle.rz_stmt_items.specs.Fits.{is_char, list_of, Fits, IsItemOf, IsNumberOf}
@@ -42,6 +42,7 @@ module _ (files : ℕ) where
   value_named : (mark : Mark) → mark.file < files → (cause : EvalFault) → IsNameable files (value_fault mark cause)
   value_named mark within ZeroDivisor = record { number = refl; place = within }
   value_named mark within (UnknownName word) = record { number = refl; place = within }
+  value_named mark within (BadIndex number) = record { number = refl; place = within }
   value_named mark within (LaterData first behind) = record { number = refl; place = within }
   value_named mark within (DataWidth width) = record { number = refl; place = within }
   value_named mark within (BadShift count) = record { number = refl; place = within }

@@ -25,7 +25,7 @@ use Rattle.rz_types.specs.Field as fields
 use Rattle.rz_types.specs.Field.{takes_value, PlainBody, PlainCases, PlainField}
 use Rattle.rz_types.specs.Kept.{AreCasesKept, AreKept, IsKeptWithin}
 use Rattle.rz_types.specs.Rules.{has_values}
-use Rattle.rz_types.specs.Walk.{and_names, names_of, Own}
+use Rattle.rz_types.specs.Walk.{and_names, around_names, names_of, Own}
 
 -- Numbers of rows.
 
@@ -187,7 +187,7 @@ module _ (known : Facts) where
     item_sounds scope (fields.Fill unit count) kept = none_sounds
     item_sounds scope (fields.Align unit) kept = none_sounds
     item_sounds scope (fields.Label name) kept = none_sounds
-    item_sounds scope (fields.Array name count row) kept = array_sounds name count row kept.0 (λ place all. row_sounds (and_names scope (names_of row)) row place all kept.2)
+    item_sounds scope (fields.Array name count row) kept = array_sounds name count row kept.0 (λ place all. row_sounds (and_names (and_names scope (around_names name)) (names_of row)) row place all kept.2)
     item_sounds scope (fields.Switch cases) kept = switch_sounds cases (cases_sound scope cases kept.1)
 
     cases_sound : (scope : Own) (cases : PlainCases) → AreCasesKept scope cases → CasesSound cases

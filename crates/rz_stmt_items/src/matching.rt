@@ -37,8 +37,9 @@ use std::alloc::Global;
 /// to 31 (kept: the count), 216, a text of more than one byte for a `char`, or one too long for a `pstring` or `wstring`
 /// without a size (kept: how many bytes it has), 217, another number of rows than is stated (kept: both), and 222, a
 /// format that its arguments don't fit. Names of cases are the same in whatever case. Items as statements have them hold
-/// no `$$CountOf` and no data functions; of these the first would be 203, and the others 203 or 213. Matching goes as
-/// deep as arrays and switches stand in one another. (MPW Rez.)
+/// no indexed labels, no `$$CountOf`, no `$$ArrayIndex` and no data functions; of these a data function would be 203 or
+/// 213, a label with an index the fault of its index or else 203, and the others 203. Matching goes as deep as arrays and
+/// switches stand in one another. (MPW Rez.)
 pub fn match_items(
     alloc: Global,
     template: &Template,

@@ -13,7 +13,7 @@ use Rattle.rz_expr.specs.Term.{Term}
 use Rattle.rz_expr.specs.Value.{reduced, value_of}
 use Rattle.rz_expr.specs.Constant.{constant_sight}
 use Rattle.rz_expr.specs.declared.value.EvalFault.{EvalFault}
-use Rattle.rz_expr.specs.declared.value.EvalFault.TheVariants.{BadShift, DataWidth, LaterData, UnknownName, ZeroDivisor}
+use Rattle.rz_expr.specs.declared.value.EvalFault.TheVariants.{BadIndex, BadShift, DataWidth, LaterData, UnknownName, ZeroDivisor}
 use Rattle.rz_stmt_type.specs.Constants.{body_value, cases_value, count_value, declare_of, declared, field_value, given_value, key_value, made_value, number_of_width, number_value, scope_value, width_value}
 use Rattle.rz_stmt_fields.specs.Form.{BodyForm, CasesForm, DeclareForm, FieldForm, MadeForm, NamedTerm, NumberForm, Own, ScopeForm, WidthForm, Written}
 use Rattle.rz_stmt_fields.specs.Form as form
@@ -36,6 +36,7 @@ module _ (files : ℕ) (mark : Mark) (within : mark.file < files) where
   say_value : (fault : EvalFault) → IsNameable files (value_fault mark fault)
   say_value ZeroDivisor = record { number = refl; place = within }
   say_value (UnknownName word) = record { number = refl; place = within }
+  say_value (BadIndex number) = record { number = refl; place = within }
   say_value (LaterData first behind) = record { number = refl; place = within }
   say_value (DataWidth width) = record { number = refl; place = within }
   say_value (BadShift count) = record { number = refl; place = within }

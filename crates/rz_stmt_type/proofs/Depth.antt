@@ -186,9 +186,9 @@ colon_plain = plain_by (λ s. is_colon s ≡ true) ((λ h. cc), (λ h. cc), (λ 
 label_plain : (name : Word) (shape : Shape) → label_in shape ≡ Some name → IsPlain shape
 label_plain name = plain_by (λ s. label_in s ≡ Some name) ((λ h. cc), (λ h. cc), (λ h. cc), (λ h. cc), (λ h. cc), (λ h. cc))
 
-label_passed : (labels : Bool) (tokens : List Token) (front : LabelFront) → label_front labels tokens ≡ Some front → IsPassed tokens front.behind
-label_passed labels tokens front has =
-    let it = labelled_so labels tokens front has in record {
+label_passed : (tokens : List Token) (front : LabelFront) → label_front tokens ≡ Some front → IsPassed tokens front.behind
+label_passed tokens front has =
+    let it = labelled_so tokens front has in record {
       front = it.first ∷ it.second ∷ [];
       are = it.are;
       level = level_more it.first (it.second ∷ []) (label_plain front.name it.first.shape it.named) (level_more it.second [] (colon_plain it.second.shape it.colon) level_nil);
@@ -244,30 +244,30 @@ switch_opened : (tokens behind inside : List Token) → start_of tokens ≡ Swit
 switch_opened tokens behind inside start is = opened_behind tokens behind inside (is_start tokens (Switch behind) start) (braced behind inside is)
 
 mutual
-  field_level : (labels in_case : Bool) (tokens : List Token) (field : FieldForm) → IsField labels in_case tokens field → IsLevel tokens
-  field_level labels in_case tokens field (flat same same_case all one is) = flat_level tokens field is
-  field_level labels in_case tokens field (key same all behind one start is) = passed_level tokens behind (is_start tokens (Key behind) start) (key_level behind field is)
-  field_level labels in_case tokens field (array same same_case all behind front row start is rows) = (array_opened tokens behind front start is).level (body_level false false front.row row rows)
-  field_level labels in_case tokens field (switch same same_case all behind inside cases start is within) = (switch_opened tokens behind inside start is).level (cases_level labels inside cases within)
+  field_level : (in_case : Bool) (tokens : List Token) (field : FieldForm) → IsField in_case tokens field → IsLevel tokens
+  field_level in_case tokens field (flat same_case all one is) = flat_level tokens field is
+  field_level in_case tokens field (key all behind one start is) = passed_level tokens behind (is_start tokens (Key behind) start) (key_level behind field is)
+  field_level in_case tokens field (array same_case all behind front row start is rows) = (array_opened tokens behind front start is).level (body_level false front.row row rows)
+  field_level in_case tokens field (switch same_case all behind inside cases start is within) = (switch_opened tokens behind inside start is).level (cases_level inside cases within)
 
-  body_level : (labels in_case : Bool) (tokens : List Token) (body : BodyForm) → IsBody labels in_case tokens body → IsLevel tokens
-  body_level labels in_case tokens body (cut same same_case all own_pieces own is fields) = level_cut Semicolon no_semicolon tokens own_pieces is (fields_level labels in_case own_pieces body fields)
+  body_level : (in_case : Bool) (tokens : List Token) (body : BodyForm) → IsBody in_case tokens body → IsLevel tokens
+  body_level in_case tokens body (cut same_case all own_pieces own is fields) = level_cut Semicolon no_semicolon tokens own_pieces is (fields_level in_case own_pieces body fields)
 
-  fields_level : (labels in_case : Bool) (all : List (List Token)) (body : BodyForm) → AreFields labels in_case all body → AllByRecursion IsLevel all
-  fields_level labels in_case all body (none same same_case) = tt
-  fields_level labels in_case all body (empty same same_case rest own fields) = (level_nil, fields_level labels in_case rest body fields)
-  fields_level labels in_case all body (labelled same same_case piece rest front others has fields) =
-      let further = fields_level labels in_case (front.behind ∷ rest) others fields in
-      (passed_level piece front.behind (label_passed labels piece front has) further.0, further.1)
-  fields_level labels in_case all body (more same same_case token tokens rest field others is fields) = (field_level labels in_case (token ∷ tokens) field is, fields_level labels in_case rest others fields)
+  fields_level : (in_case : Bool) (all : List (List Token)) (body : BodyForm) → AreFields in_case all body → AllByRecursion IsLevel all
+  fields_level in_case all body (none same_case) = tt
+  fields_level in_case all body (empty same_case rest own fields) = (level_nil, fields_level in_case rest body fields)
+  fields_level in_case all body (labelled same_case piece rest front others has fields) =
+      let further = fields_level in_case (front.behind ∷ rest) others fields in
+      (passed_level piece front.behind (label_passed piece front has) further.0, further.1)
+  fields_level in_case all body (more same_case token tokens rest field others is fields) = (field_level in_case (token ∷ tokens) field is, fields_level in_case rest others fields)
 
-  cases_level : (labels : Bool) (tokens : List Token) (cases : CasesForm) → AreCases labels tokens cases → IsLevel tokens
-  cases_level labels tokens cases (cut_cases same_labels all own_pieces own is each) = level_cut Case no_case_word tokens ([] ∷ own_pieces) is (level_nil, each_level labels own_pieces cases each)
+  cases_level : (tokens : List Token) (cases : CasesForm) → AreCases tokens cases → IsLevel tokens
+  cases_level tokens cases (cut_cases all own_pieces own is each) = level_cut Case no_case_word tokens ([] ∷ own_pieces) is (level_nil, each_level own_pieces cases each)
 
-  each_level : (labels : Bool) (all : List (List Token)) (cases : CasesForm) → AreEachCase labels all cases → AllByRecursion IsLevel all
-  each_level labels all cases (no_case same_labels) = tt
-  each_level labels all cases (case_more same_labels piece rest front row others begins is each) =
-      (passed_level piece front.row (case_passed piece front begins) (body_level labels true front.row row is), each_level labels rest others each)
+  each_level : (all : List (List Token)) (cases : CasesForm) → AreEachCase all cases → AllByRecursion IsLevel all
+  each_level all cases no_case = tt
+  each_level all cases (case_more piece rest front row others begins is each) =
+      (passed_level piece front.row (case_passed piece front begins) (body_level true front.row row is), each_level rest others each)
 
 -- A field with no fields of its own is as deep as none.
 
@@ -327,57 +327,57 @@ deepest_of a b count most first others = omega arith
 
 module _ (mark : Mark) (most : ℕ) where
   mutual
-    field_fits : (count : ℕ) (labels in_case : Bool) (tokens : List Token) (own : FieldForm) → IsField labels in_case tokens own → count ≤ most → HasRoom most count tokens
+    field_fits : (count : ℕ) (in_case : Bool) (tokens : List Token) (own : FieldForm) → IsField in_case tokens own → count ≤ most → HasRoom most count tokens
         → (field : PlainField) → field_value mark own ≡ Ok field → field_depth field + count ≤ most
-    field_fits count labels in_case tokens own (flat same same_case all one is) low room field value = flat_fits mark most count own (flat_by (text_form is.0.word) is.0 own is.2) low field value
-    field_fits count labels in_case tokens own (key same all behind one start is) low room field value = flat_fits mark most count own (key_of is.0.word is.0 own is.2) low field value
-    field_fits count labels in_case tokens own (array same same_case all behind front row start is rows) low room field value =
+    field_fits count in_case tokens own (flat same_case all one is) low room field value = flat_fits mark most count own (flat_by (text_form is.0.word) is.0 own is.2) low field value
+    field_fits count in_case tokens own (key all behind one start is) low room field value = flat_fits mark most count own (key_of is.0.word is.0 own is.2) low field value
+    field_fits count in_case tokens own (array same_case all behind front row start is rows) low room field value =
         let opened = array_opened tokens behind front start is in
         let counts = then_ok (given_value mark front.count) _ field value in
         let fields = then_ok (body_value mark row) _ field counts.2 in
-        let inner = body_fits (count + 1) false false front.row row rows (opened.fits most count room) (opened.room most count room) fields.0 fields.1 in
+        let inner = body_fits (count + 1) false front.row row rows (opened.fits most count room) (opened.room most count room) fields.0 fields.1 in
         subst (λ (f : PlainField). field_depth f + count ≤ most) (same_ok (made.Array front.name counts.0 fields.0) field fields.2) (deeper (body_depth fields.0) count most inner)
-    field_fits count labels in_case tokens own (switch same same_case all behind inside cases start is within) low room field value =
+    field_fits count in_case tokens own (switch same_case all behind inside cases start is within) low room field value =
         let opened = switch_opened tokens behind inside start is in
         let all_cases = then_ok (cases_value mark cases) _ field value in
-        let inner = cases_fit (count + 1) labels inside cases within (opened.fits most count room) (opened.room most count room) all_cases.0 all_cases.1 in
+        let inner = cases_fit (count + 1) inside cases within (opened.fits most count room) (opened.room most count room) all_cases.0 all_cases.1 in
         subst (λ (f : PlainField). field_depth f + count ≤ most) (same_ok (made.Switch all_cases.0) field all_cases.2) (deeper (cases_depth all_cases.0) count most inner)
 
-    body_fits : (count : ℕ) (labels in_case : Bool) (tokens : List Token) (own : BodyForm) → IsBody labels in_case tokens own → count ≤ most → HasRoom most count tokens
+    body_fits : (count : ℕ) (in_case : Bool) (tokens : List Token) (own : BodyForm) → IsBody in_case tokens own → count ≤ most → HasRoom most count tokens
         → (body : PlainBody) → body_value mark own ≡ Ok body → body_depth body + count ≤ most
-    body_fits count labels in_case tokens own (cut same same_case all own_pieces this is fields) low room body value =
-        fields_fit count labels in_case own_pieces own fields low (cut_room most count Semicolon no_semicolon tokens own_pieces is (fields_level labels in_case own_pieces own fields) room) body value
+    body_fits count in_case tokens own (cut same_case all own_pieces this is fields) low room body value =
+        fields_fit count in_case own_pieces own fields low (cut_room most count Semicolon no_semicolon tokens own_pieces is (fields_level in_case own_pieces own fields) room) body value
 
-    fields_fit : (count : ℕ) (labels in_case : Bool) (all : List (List Token)) (own : BodyForm) → AreFields labels in_case all own → count ≤ most → HaveRoom most count all
+    fields_fit : (count : ℕ) (in_case : Bool) (all : List (List Token)) (own : BodyForm) → AreFields in_case all own → count ≤ most → HaveRoom most count all
         → (body : PlainBody) → body_value mark own ≡ Ok body → body_depth body + count ≤ most
-    fields_fit count labels in_case all own (none same same_case) low room body value = subst (λ (b : PlainBody). body_depth b + count ≤ most) (same_ok made.no_fields body value) (omega arith)
-    fields_fit count labels in_case all own (empty same same_case rest this fields) low room body value = fields_fit count labels in_case rest own fields low room.1 body value
-    fields_fit count labels in_case all own (labelled same same_case piece rest front others has fields) low room body value =
+    fields_fit count in_case all own (none same_case) low room body value = subst (λ (b : PlainBody). body_depth b + count ≤ most) (same_ok made.no_fields body value) (omega arith)
+    fields_fit count in_case all own (empty same_case rest this fields) low room body value = fields_fit count in_case rest own fields low room.1 body value
+    fields_fit count in_case all own (labelled same_case piece rest front others has fields) low room body value =
         let behind = then_ok (body_value mark others) _ body value in
-        let further = fields_fit count labels in_case (front.behind ∷ rest) others fields low (passed_room most count piece front.behind (label_passed labels piece front has) room.0, room.1) behind.0 behind.1 in
+        let further = fields_fit count in_case (front.behind ∷ rest) others fields low (passed_room most count piece front.behind (label_passed piece front has) room.0, room.1) behind.0 behind.1 in
         subst (λ (b : PlainBody). body_depth b + count ≤ most) (same_ok (made.field_and (made.Label front.name) behind.0) body behind.2)
         (deepest_of 0 (body_depth behind.0) count most (omega (arith, low)) further)
-    fields_fit count labels in_case all own (more same same_case token tokens rest field others is fields) low room body value =
+    fields_fit count in_case all own (more same_case token tokens rest field others is fields) low room body value =
         let one = then_ok (field_value mark field) _ body value in
         let behind = then_ok (body_value mark others) _ body one.2 in
-        let first = field_fits count labels in_case (token ∷ tokens) field is low room.0 one.0 one.1 in
-        let further = fields_fit count labels in_case rest others fields low room.1 behind.0 behind.1 in
+        let first = field_fits count in_case (token ∷ tokens) field is low room.0 one.0 one.1 in
+        let further = fields_fit count in_case rest others fields low room.1 behind.0 behind.1 in
         subst (λ (b : PlainBody). body_depth b + count ≤ most) (same_ok (made.field_and one.0 behind.0) body behind.2)
         (deepest_of (field_depth one.0) (body_depth behind.0) count most first further)
 
-    cases_fit : (count : ℕ) (labels : Bool) (tokens : List Token) (own : CasesForm) → AreCases labels tokens own → count ≤ most → HasRoom most count tokens
+    cases_fit : (count : ℕ) (tokens : List Token) (own : CasesForm) → AreCases tokens own → count ≤ most → HasRoom most count tokens
         → (cases : PlainCases) → cases_value mark own ≡ Ok cases → cases_depth cases + count ≤ most
-    cases_fit count labels tokens own (cut_cases same_labels all own_pieces this is each) low room cases value =
-        each_fits count labels own_pieces own each low (cut_room most count Case no_case_word tokens ([] ∷ own_pieces) is (level_nil, each_level labels own_pieces own each) room).1 cases value
+    cases_fit count tokens own (cut_cases all own_pieces this is each) low room cases value =
+        each_fits count own_pieces own each low (cut_room most count Case no_case_word tokens ([] ∷ own_pieces) is (level_nil, each_level own_pieces own each) room).1 cases value
 
-    each_fits : (count : ℕ) (labels : Bool) (all : List (List Token)) (own : CasesForm) → AreEachCase labels all own → count ≤ most → HaveRoom most count all
+    each_fits : (count : ℕ) (all : List (List Token)) (own : CasesForm) → AreEachCase all own → count ≤ most → HaveRoom most count all
         → (cases : PlainCases) → cases_value mark own ≡ Ok cases → cases_depth cases + count ≤ most
-    each_fits count labels all own (no_case same_labels) low room cases value = subst (λ (c : PlainCases). cases_depth c + count ≤ most) (same_ok made.no_cases cases value) (omega arith)
-    each_fits count labels all own (case_more same_labels piece rest front row others begins is each) low room cases value =
+    each_fits count all own no_case low room cases value = subst (λ (c : PlainCases). cases_depth c + count ≤ most) (same_ok made.no_cases cases value) (omega arith)
+    each_fits count all own (case_more piece rest front row others begins is each) low room cases value =
         let fields = then_ok (body_value mark row) _ cases value in
         let behind = then_ok (cases_value mark others) _ cases fields.2 in
-        let first = body_fits count labels true front.row row is low (passed_room most count piece front.row (case_passed piece front begins) room.0) fields.0 fields.1 in
-        let further = each_fits count labels rest others each low room.1 behind.0 behind.1 in
+        let first = body_fits count true front.row row is low (passed_room most count piece front.row (case_passed piece front begins) room.0) fields.0 fields.1 in
+        let further = each_fits count rest others each low room.1 behind.0 behind.1 in
         subst (λ (c : PlainCases). cases_depth c + count ≤ most) (same_ok (made.case_and front.name fields.0 behind.0) cases behind.2)
         (deepest_of (body_depth fields.0) (cases_depth behind.0) count most first further)
 
@@ -397,7 +397,7 @@ module _ (mark : Mark) (most : ℕ) (value : PlainMade) where
   made_fits count tokens own (in_braces parted body is ends fields so) room has =
       let found = then_ok (body_value mark body) _ value (subst (λ (o : MadeForm). made_value mark o ≡ Ok value) so has) in
       let opened = (bracket_opened most count Curly tokens parted is room).0 in
-      let inner = body_fits mark most (count + 1) true false parted.front body fields opened (bracket_room most count Curly tokens parted is room) found.0 found.1 in
+      let inner = body_fits mark most (count + 1) false parted.front body fields opened (bracket_room most count Curly tokens parted is room) found.0 found.1 in
       subst (IsMadeWithin most) (same_ok (values.Fields found.0) value found.2) (lower (body_depth found.0) inner)
     where
       lower : (n : ℕ) → n + (count + 1) ≤ most → n ≤ most

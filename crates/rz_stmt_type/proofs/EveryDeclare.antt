@@ -60,7 +60,7 @@ abbrev IdAndEnd : Parted → Type 0
 IdAndEnd parted = (is_empty parted.behind ≡ true) × HasTerm IsConstant parted.front
 
 abbrev FieldsAndEnd : Parted → Type 0
-FieldsAndEnd parted = (is_empty parted.behind ≡ true) × HasBody true false parted.front
+FieldsAndEnd parted = (is_empty parted.behind ≡ true) × HasBody false parted.front
 
 module _ (one : OneExpression) (expression : EveryExpression) (within : EveryWithin) where
   -- Ids.
@@ -127,7 +127,7 @@ module _ (one : OneExpression) (expression : EveryExpression) (within : EveryWit
         by : (curly : Bool) → begins Curly tokens ≡ curly → Dec (HasMade tokens)
         by true begin =
             map_dec to from (of_brackets within Curly tokens FieldsAndEnd
-            (λ parted brackets. both (is_true (is_empty parted.behind)) (has_body one expression within text front field keys size true false parted.front)))
+            (λ parted brackets. both (is_true (is_empty parted.behind)) (has_body one expression within text front field keys size false parted.front)))
           where
             to : (parted : Parted) × IsBracketed Curly tokens parted × FieldsAndEnd parted → HasMade tokens
             to (parted, brackets, (ends, body)) = (Fields body.0, fields_forth tokens (Fields body.0) (parted, body.0, brackets, ends, body.1, refl))

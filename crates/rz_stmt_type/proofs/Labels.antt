@@ -2,7 +2,7 @@
 use Rattle.std.proofs.Common.{◌≡◌, ℕ, ◌==◌, ◌≤◌, ◌&&◌, Bool, true, false, if◌then◌else◌, List, [], ◌∷◌, length, Option, Some, None, refl, sym, ap, subst, ◌∙◌, arith}
 use Rattle.std.proofs.lemmas.Bool.{eqb-true, false≢true}
 use Rattle.std.specs.Prelude.{option_and_then, option_map}
-use Rattle.rz_core.proofs.Tests.{both, none_some}
+use Rattle.rz_core.proofs.Tests.{none_some}
 use Rattle.rz_core.specs.declared.resource.Word.{Word}
 use Rattle.rz_expr.specs.Keyword.{keyword_in, keyword_of}
 use Rattle.rz_expr.specs.Words.{dollar_role, is_label, is_other_name, keyword_role, plain_role, role_of}
@@ -24,28 +24,26 @@ use Rattle.rz_types_fields.specs.Shape.{is_label_name}
 -- The first two tokens.
 
 -- the tokens are this label, and what stands behind it
-pub record IsLabelled (labels : Bool) (tokens : List Token) (front : LabelFront) : Type 0 where
+pub record IsLabelled (tokens : List Token) (front : LabelFront) : Type 0 where
   pub first : Token
   pub second : Token
   pub are : tokens ≡ first ∷ second ∷ front.behind
-  pub may : labels ≡ true
   pub colon : is_colon second.shape ≡ true
   pub named : label_in first.shape ≡ Some front.name
 
-pub labelled_so : (labels : Bool) (tokens : List Token) (front : LabelFront) → label_front labels tokens ≡ Some front → IsLabelled labels tokens front
-labelled_so labels [] front is = absurd (none_some front is)
-labelled_so labels (first ∷ []) front is = absurd (none_some front is)
-labelled_so labels (first ∷ second ∷ behind) front is = by (labels && is_colon second.shape) refl (label_in first.shape) refl is
+pub labelled_so : (tokens : List Token) (front : LabelFront) → label_front tokens ≡ Some front → IsLabelled tokens front
+labelled_so [] front is = absurd (none_some front is)
+labelled_so (first ∷ []) front is = absurd (none_some front is)
+labelled_so (first ∷ second ∷ behind) front is = by (is_colon second.shape) refl (label_in first.shape) refl is
   where
-    by : (begins : Bool) → (labels && is_colon second.shape) ≡ begins → (name : Option Word) → label_in first.shape ≡ name
-        → (if begins then option_map (λ n. record { name = n; behind = behind }) name else None) ≡ Some front → IsLabelled labels (first ∷ second ∷ behind) front
+    by : (begins : Bool) → is_colon second.shape ≡ begins → (name : Option Word) → label_in first.shape ≡ name
+        → (if begins then option_map (λ n. record { name = n; behind = behind }) name else None) ≡ Some front → IsLabelled (first ∷ second ∷ behind) front
     by true begins (Some name) has so =
-        subst (IsLabelled labels (first ∷ second ∷ behind)) (same so) (record {
+        subst (IsLabelled (first ∷ second ∷ behind)) (same so) (record {
           first = first;
           second = second;
           are = refl;
-          may = (both labels (is_colon second.shape) begins).0;
-          colon = (both labels (is_colon second.shape) begins).1;
+          colon = begins;
           named = has;
         })
       where
@@ -56,15 +54,15 @@ labelled_so labels (first ∷ second ∷ behind) front is = by (labels && is_col
 
 -- Labels at the front.
 
-pub none_behind : (labels : Bool) (tokens : List Token) (names : List Word) (behind : List Token) → AreLabels labels tokens names behind → label_front labels behind ≡ None
-none_behind labels tokens names behind (no_label same none) = none
-none_behind labels tokens names behind (label_more all front others rest is are) = none_behind labels front.behind others behind are
+pub none_behind : (tokens : List Token) (names : List Word) (behind : List Token) → AreLabels tokens names behind → label_front behind ≡ None
+none_behind tokens names behind (no_label same none) = none
+none_behind tokens names behind (label_more all front others rest is are) = none_behind front.behind others behind are
 
-pub labels_short : (labels : Bool) (tokens : List Token) (names : List Word) (behind : List Token) → AreLabels labels tokens names behind → length behind ≤ length tokens
-labels_short labels tokens names behind (no_label same none) = omega arith
-labels_short labels tokens names behind (label_more all front others rest is are) =
-    let further = labels_short labels front.behind others behind are in
-    let two = ap (λ (ts : List Token). length ts) (labelled_so labels tokens front is).are in
+pub labels_short : (tokens : List Token) (names : List Word) (behind : List Token) → AreLabels tokens names behind → length behind ≤ length tokens
+labels_short tokens names behind (no_label same none) = omega arith
+labels_short tokens names behind (label_more all front others rest is are) =
+    let further = labels_short front.behind others behind are in
+    let two = ap (λ (ts : List Token). length ts) (labelled_so tokens front is).are in
     omega (arith, further, two)
 
 -- No field begins with the name of a label.
@@ -116,18 +114,18 @@ module _ (token : Token) (tokens : List Token) (none : keyword_in token.shape �
       none_some front (sym (ap (λ (word : Option Keyword). by_modifier (option_and_then modifier_word word) false None (λ signs shown. front_in signs shown tokens)
       (option_map (λ w. record { unsigned = false; radix = None; word = w; tail = tokens }) (option_and_then field_word word))) none) ∙ is)
 
-  no_field_here : (labels in_case : Bool) (field : FieldForm) → IsField labels in_case (token ∷ tokens) field → ⊥
-  no_field_here labels in_case field (flat same same_case all one is) = no_front is.0 ((fronts (token ∷ tokens) is.0).1 is.1)
-  no_field_here labels in_case field (key same all behind one start is) = absurd (cc (sym start ∙ no_start))
-  no_field_here labels in_case field (array same same_case all behind front row start is rows) = absurd (cc (sym start ∙ no_start))
-  no_field_here labels in_case field (switch same same_case all behind inside cases start is are) = absurd (cc (sym start ∙ no_start))
+  no_field_here : (in_case : Bool) (field : FieldForm) → IsField in_case (token ∷ tokens) field → ⊥
+  no_field_here in_case field (flat same_case all one is) = no_front is.0 ((fronts (token ∷ tokens) is.0).1 is.1)
+  no_field_here in_case field (key all behind one start is) = absurd (cc (sym start ∙ no_start))
+  no_field_here in_case field (array same_case all behind front row start is rows) = absurd (cc (sym start ∙ no_start))
+  no_field_here in_case field (switch same_case all behind inside cases start is are) = absurd (cc (sym start ∙ no_start))
 
-pub no_field : (labels may in_case : Bool) (tokens : List Token) (front : LabelFront) (field : FieldForm) → label_front labels tokens ≡ Some front
-    → IsField may in_case tokens field → ⊥
-no_field labels may in_case tokens front field has is =
-    let it = labelled_so labels tokens front has in
-    no_field_here it.first (it.second ∷ front.behind) (no_keyword it.first.shape front.name it.named) may in_case field
-    (subst (λ (ts : List Token). IsField may in_case ts field) it.are is)
+pub no_field : (in_case : Bool) (tokens : List Token) (front : LabelFront) (field : FieldForm) → label_front tokens ≡ Some front
+    → IsField in_case tokens field → ⊥
+no_field in_case tokens front field has is =
+    let it = labelled_so tokens front has in
+    no_field_here it.first (it.second ∷ front.behind) (no_keyword it.first.shape front.name it.named) in_case field
+    (subst (λ (ts : List Token). IsField in_case ts field) it.are is)
 
 -- Its name is formed as it should be.
 
@@ -145,9 +143,9 @@ name_formed (shapes.Literal bytes) name lexed is = absurd (none_some name is)
 name_formed (shapes.Text bytes) name lexed is = absurd (none_some name is)
 name_formed (shapes.Sign sign) name lexed is = absurd (none_some name is)
 
-pub label_formed : (labels : Bool) (tokens : List Token) (front : LabelFront) → label_front labels tokens ≡ Some front → AreLexed tokens
+pub label_formed : (tokens : List Token) (front : LabelFront) → label_front tokens ≡ Some front → AreLexed tokens
     → (is_label_name front.name ≡ true) × AreLexed front.behind
-label_formed labels tokens front has are =
-    let it = labelled_so labels tokens front has in
+label_formed tokens front has are =
+    let it = labelled_so tokens front has in
     let lexed = subst AreLexed it.are are in
     (name_formed it.first.shape front.name lexed.0 it.named, lexed.1.1)

@@ -39,7 +39,7 @@ module _ (one : OneExpression) (cut : OneCut) (within : OneWithin) where
   fields_made : (tokens : List Token) (a b : MadeForm) → AreFieldsMade tokens a → AreFieldsMade tokens b → a ≡ b
   fields_made tokens a b is also =
       let parted = within Curly tokens is.0 also.0 is.2 also.2 in
-      let body = one_body one cut within true false also.0.front is.1 also.1 (subst (λ (p : Parted). IsBody true false p.front is.1) parted is.4) also.4 in
+      let body = one_body one cut within false also.0.front is.1 also.1 (subst (λ (p : Parted). IsBody false p.front is.1) parted is.4) also.4 in
       is.5 ∙ ap (λ (fields : BodyForm). Fields fields) body ∙ sym also.5
 
   given_id : (tokens : List Token) (a b : Option Term) → IsGivenId tokens a → IsGivenId tokens b → a ≡ b

@@ -27,7 +27,7 @@ IsMadeFormed (form.CopyOf kind id) = Unit {0}
 
 made_formed : (tokens : List Token) (made : MadeForm) → IsMade tokens made → AreLexed tokens → IsMadeFormed made
 made_formed tokens made (in_braces parted body is none fields so) are =
-    subst IsMadeFormed (sym so) (body_formed true false parted.front body fields (within_lexed Curly tokens parted is are))
+    subst IsMadeFormed (sym so) (body_formed false parted.front body fields (within_lexed Curly tokens parted is are))
 made_formed tokens made (copied behind code typed none so) are = subst IsMadeFormed (sym so) tt
 made_formed tokens made (copied_of behind code parted id typed is none constant so) are = subst IsMadeFormed (sym so) tt
 

@@ -90,35 +90,35 @@ case_formed (first ∷ second ∷ row) front is are = by (is_colon second.shape)
 -- As they are written.
 
 mutual
-  field_formed : (labels in_case : Bool) (tokens : List Token) (field : FieldForm) → IsField labels in_case tokens field → AreLexed tokens → IsFieldFormed in_case field
-  field_formed labels in_case tokens field (flat same same_case all one is) are = flat_formed in_case tokens field is are
-  field_formed labels in_case tokens field (key same all behind one start is) are = a_key_formed behind field is (subst IsLexedBehind start (start_lexed tokens are))
-  field_formed labels in_case tokens field (array same same_case all behind front row start is rows) are =
+  field_formed : (in_case : Bool) (tokens : List Token) (field : FieldForm) → IsField in_case tokens field → AreLexed tokens → IsFieldFormed in_case field
+  field_formed in_case tokens field (flat same_case all one is) are = flat_formed in_case tokens field is are
+  field_formed in_case tokens field (key all behind one start is) are = a_key_formed behind field is (subst IsLexedBehind start (start_lexed tokens are))
+  field_formed in_case tokens field (array same_case all behind front row start is rows) are =
       let formed = front_formed behind front is (subst IsLexedBehind start (start_lexed tokens are)) in
-      (formed.0, body_formed false false front.row row rows formed.1)
-  field_formed labels in_case tokens field (switch same same_case all behind inside cases start is within) are =
-      cases_formed labels inside cases within (braced_lexed behind inside is (subst IsLexedBehind start (start_lexed tokens are)))
+      (formed.0, body_formed false front.row row rows formed.1)
+  field_formed in_case tokens field (switch same_case all behind inside cases start is within) are =
+      cases_formed inside cases within (braced_lexed behind inside is (subst IsLexedBehind start (start_lexed tokens are)))
 
-  pub body_formed : (labels in_case : Bool) (tokens : List Token) (body : BodyForm) → IsBody labels in_case tokens body → AreLexed tokens → IsBodyFormed in_case body
-  body_formed labels in_case tokens body (cut same same_case all pieces own is fields) are = fields_formed labels in_case pieces body fields (cut_lexed Semicolon tokens pieces is are)
+  pub body_formed : (in_case : Bool) (tokens : List Token) (body : BodyForm) → IsBody in_case tokens body → AreLexed tokens → IsBodyFormed in_case body
+  body_formed in_case tokens body (cut same_case all pieces own is fields) are = fields_formed in_case pieces body fields (cut_lexed Semicolon tokens pieces is are)
 
-  fields_formed : (labels in_case : Bool) (pieces : List (List Token)) (body : BodyForm) → AreFields labels in_case pieces body → AreAllLexed pieces → IsBodyFormed in_case body
-  fields_formed labels in_case pieces body (none same same_case) are = tt
-  fields_formed labels in_case pieces body (empty same same_case rest own fields) are = fields_formed labels in_case rest body fields are.1
-  fields_formed labels in_case pieces body (labelled same same_case piece rest front others has fields) are =
-      let formed = label_formed labels piece front has are.0 in
-      (formed.0, fields_formed labels in_case (front.behind ∷ rest) others fields (formed.1, are.1))
-  fields_formed labels in_case pieces body (more same same_case token tokens rest field others is fields) are =
-      (field_formed labels in_case (token ∷ tokens) field is are.0, fields_formed labels in_case rest others fields are.1)
+  fields_formed : (in_case : Bool) (pieces : List (List Token)) (body : BodyForm) → AreFields in_case pieces body → AreAllLexed pieces → IsBodyFormed in_case body
+  fields_formed in_case pieces body (none same_case) are = tt
+  fields_formed in_case pieces body (empty same_case rest own fields) are = fields_formed in_case rest body fields are.1
+  fields_formed in_case pieces body (labelled same_case piece rest front others has fields) are =
+      let formed = label_formed piece front has are.0 in
+      (formed.0, fields_formed in_case (front.behind ∷ rest) others fields (formed.1, are.1))
+  fields_formed in_case pieces body (more same_case token tokens rest field others is fields) are =
+      (field_formed in_case (token ∷ tokens) field is are.0, fields_formed in_case rest others fields are.1)
 
-  cases_formed : (labels : Bool) (tokens : List Token) (cases : CasesForm) → AreCases labels tokens cases → AreLexed tokens → AreCasesFormed cases
-  cases_formed labels tokens cases (cut_cases same_labels all pieces own is each) are = each_formed labels pieces cases each (cut_lexed Case tokens ([] ∷ pieces) is are).1
+  cases_formed : (tokens : List Token) (cases : CasesForm) → AreCases tokens cases → AreLexed tokens → AreCasesFormed cases
+  cases_formed tokens cases (cut_cases all pieces own is each) are = each_formed pieces cases each (cut_lexed Case tokens ([] ∷ pieces) is are).1
 
-  each_formed : (labels : Bool) (pieces : List (List Token)) (cases : CasesForm) → AreEachCase labels pieces cases → AreAllLexed pieces → AreCasesFormed cases
-  each_formed labels pieces cases (no_case same_labels) are = tt
-  each_formed labels pieces cases (case_more same_labels piece rest front row others begins is each) are =
+  each_formed : (pieces : List (List Token)) (cases : CasesForm) → AreEachCase pieces cases → AreAllLexed pieces → AreCasesFormed cases
+  each_formed pieces cases no_case are = tt
+  each_formed pieces cases (case_more piece rest front row others begins is each) are =
       let formed = case_formed piece front begins are.0 in
-      (formed.0, body_formed labels true front.row row is formed.1, each_formed labels rest others each are.1)
+      (formed.0, body_formed true front.row row is formed.1, each_formed rest others each are.1)
 
 -- With their values.
 

@@ -40,35 +40,35 @@ same_switch : (a b : List Token) → Switch a ≡ Switch b → a ≡ b
 same_switch a b is = cc is
 
 module _ (tokens : List Token) where
-  pub flat_back : (labels in_case : Bool) (field : FieldForm) → start_of tokens ≡ Flat → IsField labels in_case tokens field → IsFlat tokens field
-  flat_back labels in_case field starts (flat same same_case all one is) = is
-  flat_back labels in_case field starts (key same all behind one start is) = absurd (cc (sym start ∙ starts))
-  flat_back labels in_case field starts (array same same_case all behind front row start is rows) = absurd (cc (sym start ∙ starts))
-  flat_back labels in_case field starts (switch same same_case all behind inside cases start is are) = absurd (cc (sym start ∙ starts))
+  pub flat_back : (in_case : Bool) (field : FieldForm) → start_of tokens ≡ Flat → IsField in_case tokens field → IsFlat tokens field
+  flat_back in_case field starts (flat same_case all one is) = is
+  flat_back in_case field starts (key all behind one start is) = absurd (cc (sym start ∙ starts))
+  flat_back in_case field starts (array same_case all behind front row start is rows) = absurd (cc (sym start ∙ starts))
+  flat_back in_case field starts (switch same_case all behind inside cases start is are) = absurd (cc (sym start ∙ starts))
 
   module _ (behind : List Token) where
-    pub key_back : (labels in_case : Bool) (field : FieldForm) → start_of tokens ≡ Key behind → IsField labels in_case tokens field → (in_case ≡ true) × IsKey behind field
-    key_back labels in_case field starts (flat same same_case all one is) = absurd (cc (sym (starts_flat tokens field is) ∙ starts))
-    key_back labels in_case field starts (key same all other one start is) = (refl, subst (λ (ts : List Token). IsKey ts field) (same_key other behind (sym start ∙ starts)) is)
-    key_back labels in_case field starts (array same same_case all other front row start is rows) = absurd (cc (sym start ∙ starts))
-    key_back labels in_case field starts (switch same same_case all other inside cases start is are) = absurd (cc (sym start ∙ starts))
+    pub key_back : (in_case : Bool) (field : FieldForm) → start_of tokens ≡ Key behind → IsField in_case tokens field → (in_case ≡ true) × IsKey behind field
+    key_back in_case field starts (flat same_case all one is) = absurd (cc (sym (starts_flat tokens field is) ∙ starts))
+    key_back in_case field starts (key all other one start is) = (refl, subst (λ (ts : List Token). IsKey ts field) (same_key other behind (sym start ∙ starts)) is)
+    key_back in_case field starts (array same_case all other front row start is rows) = absurd (cc (sym start ∙ starts))
+    key_back in_case field starts (switch same_case all other inside cases start is are) = absurd (cc (sym start ∙ starts))
 
-    pub array_back : (labels in_case : Bool) (field : FieldForm) → start_of tokens ≡ Array behind → IsField labels in_case tokens field → IsArray behind field
-    array_back labels in_case field starts (flat same same_case all one is) = absurd (cc (sym (starts_flat tokens field is) ∙ starts))
-    array_back labels in_case field starts (key same all other one start is) = absurd (cc (sym start ∙ starts))
-    array_back labels in_case field starts (array same same_case all other front row start is rows) =
+    pub array_back : (in_case : Bool) (field : FieldForm) → start_of tokens ≡ Array behind → IsField in_case tokens field → IsArray behind field
+    array_back in_case field starts (flat same_case all one is) = absurd (cc (sym (starts_flat tokens field is) ∙ starts))
+    array_back in_case field starts (key all other one start is) = absurd (cc (sym start ∙ starts))
+    array_back in_case field starts (array same_case all other front row start is rows) =
         subst (λ (ts : List Token). IsArray ts field) (same_array other behind (sym start ∙ starts)) (front, row, is, rows, refl)
-    array_back labels in_case field starts (switch same same_case all other inside cases start is are) = absurd (cc (sym start ∙ starts))
+    array_back in_case field starts (switch same_case all other inside cases start is are) = absurd (cc (sym start ∙ starts))
 
-    pub array_forth : (labels in_case : Bool) (field : FieldForm) → start_of tokens ≡ Array behind → IsArray behind field → IsField labels in_case tokens field
-    array_forth labels in_case field starts is = subst (IsField labels in_case tokens) (sym is.4) (array labels in_case tokens behind is.0 is.1 starts is.2 is.3)
+    pub array_forth : (in_case : Bool) (field : FieldForm) → start_of tokens ≡ Array behind → IsArray behind field → IsField in_case tokens field
+    array_forth in_case field starts is = subst (IsField in_case tokens) (sym is.4) (array in_case tokens behind is.0 is.1 starts is.2 is.3)
 
-    pub switch_back : (labels in_case : Bool) (field : FieldForm) → start_of tokens ≡ Switch behind → IsField labels in_case tokens field → IsSwitch labels behind field
-    switch_back labels in_case field starts (flat same same_case all one is) = absurd (cc (sym (starts_flat tokens field is) ∙ starts))
-    switch_back labels in_case field starts (key same all other one start is) = absurd (cc (sym start ∙ starts))
-    switch_back labels in_case field starts (array same same_case all other front row start is rows) = absurd (cc (sym start ∙ starts))
-    switch_back labels in_case field starts (switch same same_case all other inside cases start is are) =
-        subst (λ (ts : List Token). IsSwitch labels ts field) (same_switch other behind (sym start ∙ starts)) (inside, cases, is, are, refl)
+    pub switch_back : (in_case : Bool) (field : FieldForm) → start_of tokens ≡ Switch behind → IsField in_case tokens field → IsSwitch behind field
+    switch_back in_case field starts (flat same_case all one is) = absurd (cc (sym (starts_flat tokens field is) ∙ starts))
+    switch_back in_case field starts (key all other one start is) = absurd (cc (sym start ∙ starts))
+    switch_back in_case field starts (array same_case all other front row start is rows) = absurd (cc (sym start ∙ starts))
+    switch_back in_case field starts (switch same_case all other inside cases start is are) =
+        subst (λ (ts : List Token). IsSwitch ts field) (same_switch other behind (sym start ∙ starts)) (inside, cases, is, are, refl)
 
-    pub switch_forth : (labels in_case : Bool) (field : FieldForm) → start_of tokens ≡ Switch behind → IsSwitch labels behind field → IsField labels in_case tokens field
-    switch_forth labels in_case field starts is = subst (IsField labels in_case tokens) (sym is.4) (switch labels in_case tokens behind is.0 is.1 starts is.2 is.3)
+    pub switch_forth : (in_case : Bool) (field : FieldForm) → start_of tokens ≡ Switch behind → IsSwitch behind field → IsField in_case tokens field
+    switch_forth in_case field starts is = subst (IsField in_case tokens) (sym is.4) (switch in_case tokens behind is.0 is.1 starts is.2 is.3)

@@ -27,7 +27,7 @@ IsScope tokens scope = (pieces : List (List Token)) × AreCut Colon tokens piece
 -- what the type is, and the `;` that ends the statement
 pub data IsMade (tokens : List Token) (made : MadeForm) : Type 0 where
   -- fields in braces
-  in_braces : (parted : Parted) (body : BodyForm) → IsBracketed Curly tokens parted → is_empty parted.behind ≡ true → IsBody true false parted.front body
+  in_braces : (parted : Parted) (body : BodyForm) → IsBracketed Curly tokens parted → is_empty parted.behind ≡ true → IsBody false parted.front body
       → made ≡ Fields body → IsMade tokens made
   -- `as` and another type
   copied : (behind : List Token) (code : ℕ) → IsTyped keywords.As tokens (record { kind = code; behind = behind }) → is_empty behind ≡ true

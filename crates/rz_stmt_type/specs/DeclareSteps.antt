@@ -22,7 +22,7 @@ AreTwoIds first last scope = (from to : Term) × IsConstant first from × IsCons
 
 abbrev pub AreFieldsMade : List Token → MadeForm → Type 0
 AreFieldsMade tokens made =
-    (parted : Parted) × (body : BodyForm) × IsBracketed Curly tokens parted × (is_empty parted.behind ≡ true) × IsBody true false parted.front body × (made ≡ Fields body)
+    (parted : Parted) × (body : BodyForm) × IsBracketed Curly tokens parted × (is_empty parted.behind ≡ true) × IsBody false parted.front body × (made ≡ Fields body)
 
 abbrev pub IsGivenId : List Token → Option Term → Type 0
 IsGivenId tokens id = (parted : Parted) × (term : Term) × IsBracketed Round tokens parted × (is_empty parted.behind ≡ true) × IsConstant parted.front term × (id ≡ Some term)

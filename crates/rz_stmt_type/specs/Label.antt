@@ -1,5 +1,5 @@
 -- Labels in front of fields. (MPW Rez.)
-use Rattle.std.specs.Prelude.{◌≡◌, Bool, ◌&&◌, if◌then◌else◌, List, [], ◌∷◌, Option, Some, None, option_map}
+use Rattle.std.specs.Prelude.{◌≡◌, if◌then◌else◌, List, [], ◌∷◌, Option, Some, None, option_map}
 use Rattle.rz_core.specs.declared.resource.Word.{Word}
 use Rattle.rz_expr.specs.Words.{is_label, role_of}
 use Rattle.rz_lex.specs.declared.token.Shape.{Shape}
@@ -17,15 +17,15 @@ pub record LabelFront : Type 0 where
   pub name : Word
   pub behind : List Token
 
--- the label that stands at the front, where labels may stand
-abbrev pub label_front : (labels : Bool) → List Token → Option LabelFront
-label_front labels [] = None
-label_front labels (first ∷ []) = None
-label_front labels (first ∷ second ∷ behind) =
-    if labels && is_colon second.shape then option_map (λ name. record { name = name; behind = behind }) (label_in first.shape) else None
+-- the label that stands at the front
+abbrev pub label_front : List Token → Option LabelFront
+label_front [] = None
+label_front (first ∷ []) = None
+label_front (first ∷ second ∷ behind) =
+    if is_colon second.shape then option_map (λ name. record { name = name; behind = behind }) (label_in first.shape) else None
 
 -- the labels at the front, and what stands behind them all
-pub data AreLabels (labels : Bool) : List Token → List Word → List Token → Type 0 where
-  no_label : (tokens : List Token) → label_front labels tokens ≡ None → AreLabels labels tokens [] tokens
+pub data AreLabels : List Token → List Word → List Token → Type 0 where
+  no_label : (tokens : List Token) → label_front tokens ≡ None → AreLabels tokens [] tokens
   label_more : (tokens : List Token) (front : LabelFront) (names : List Word) (behind : List Token)
-      → label_front labels tokens ≡ Some front → AreLabels labels front.behind names behind → AreLabels labels tokens (front.name ∷ names) behind
+      → label_front tokens ≡ Some front → AreLabels front.behind names behind → AreLabels tokens (front.name ∷ names) behind

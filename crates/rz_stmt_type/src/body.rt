@@ -16,24 +16,23 @@ use rz_stmt_brackets::{Divider, pieces_are_cut, pieces_by};
 use rz_stmt_fields::{ArrayExpr, CaseExpr, CaseExprs, FieldExpr, FieldExprs, read_key};
 use std::alloc::Global;
 
-/// The fields that the tokens are, in the body of a case or in another, with labels where these may stand.
+/// The fields that the tokens are, in the body of a case or in another.
 #[cycle(body)]
 pub fn read_body(
     alloc: Global,
-    labels: bool,
     in_case: bool,
     tokens: &[Token],
 ) -> Result<Option<FieldExprs>, NoMemory>
-    ensures { IfOk result (λ body. Decided (IsBody labels in_case tokens.now) (option_map body_form body)) }
+    ensures { IfOk result (λ body. Decided (IsBody in_case tokens.now) (option_map body_form body)) }
 {
     let pieces = pieces_by(alloc, tokens, Divider::Semicolon)?;
     let mut body = FieldExprs::new(alloc);
     for piece in &pieces {
-        let rest = read_labels(alloc, labels, piece, &mut body)?;
+        let rest = read_labels(alloc, piece, &mut body)?;
         if rest.is_empty() {
             continue;
         }
-        let Some(field) = read_field(alloc, labels, in_case, rest)? else {
+        let Some(field) = read_field(alloc, in_case, rest)? else {
             return Ok(None);
         };
         body.push(field)?;
@@ -43,13 +42,8 @@ pub fn read_body(
 
 /// The field that the tokens are, directly in a case or not.
 #[cycle(body)]
-fn read_field(
-    alloc: Global,
-    labels: bool,
-    in_case: bool,
-    tokens: &[Token],
-) -> Result<Option<FieldExpr>, NoMemory>
-    ensures { IfOk result (λ field. Decided (IsField labels in_case tokens.now) (option_map field_form field)) }
+fn read_field(alloc: Global, in_case: bool, tokens: &[Token]) -> Result<Option<FieldExpr>, NoMemory>
+    ensures { IfOk result (λ field. Decided (IsField in_case tokens.now) (option_map field_form field)) }
 {
     match start_of(tokens) {
         Start::Key(behind) => {
@@ -60,12 +54,12 @@ fn read_field(
             }
         }
         Start::Array(behind) => read_array(alloc, behind),
-        Start::Switch(behind) => read_switch(alloc, labels, behind),
+        Start::Switch(behind) => read_switch(alloc, behind),
         Start::Flat => read_flat(alloc, tokens),
     }
 }
 
-/// The array that the tokens behind `array` are. No key may stand directly in it, and no label anywhere in it.
+/// The array that the tokens behind `array` are. No key may stand directly in it.
 #[cycle(body)]
 fn read_array(alloc: Global, tokens: &[Token]) -> Result<Option<FieldExpr>, NoMemory>
     ensures { IfOk result (λ field. Decided (IsArray tokens.now) (option_map field_form field)) }
@@ -75,7 +69,7 @@ fn read_array(alloc: Global, tokens: &[Token]) -> Result<Option<FieldExpr>, NoMe
     let Some(front) = read_array_front(alloc, tokens)? else {
         return Ok(None);
     };
-    match read_body(alloc, false, false, front.row)? {
+    match read_body(alloc, false, front.row)? {
         Some(row) => {
             let array = ArrayExpr {
                 name: front.name,
@@ -90,13 +84,13 @@ fn read_array(alloc: Global, tokens: &[Token]) -> Result<Option<FieldExpr>, NoMe
 
 /// The switch that the tokens behind `switch` are.
 #[cycle(body)]
-fn read_switch(alloc: Global, labels: bool, tokens: &[Token]) -> Result<Option<FieldExpr>, NoMemory>
-    ensures { IfOk result (λ field. Decided (IsSwitch labels tokens.now) (option_map field_form field)) }
+fn read_switch(alloc: Global, tokens: &[Token]) -> Result<Option<FieldExpr>, NoMemory>
+    ensures { IfOk result (λ field. Decided (IsSwitch tokens.now) (option_map field_form field)) }
 {
     let Some(inside) = braced(tokens) else {
         return Ok(None);
     };
-    match read_cases(alloc, labels, inside)? {
+    match read_cases(alloc, inside)? {
         Some(cases) => Ok(Some(FieldExpr::Switch(cases))),
         None => Ok(None),
     }
@@ -104,8 +98,8 @@ fn read_switch(alloc: Global, labels: bool, tokens: &[Token]) -> Result<Option<F
 
 /// The cases that the tokens are.
 #[cycle(body)]
-fn read_cases(alloc: Global, labels: bool, tokens: &[Token]) -> Result<Option<CaseExprs>, NoMemory>
-    ensures { IfOk result (λ cases. Decided (AreCases labels tokens.now) (option_map cases_form cases)) }
+fn read_cases(alloc: Global, tokens: &[Token]) -> Result<Option<CaseExprs>, NoMemory>
+    ensures { IfOk result (λ cases. Decided (AreCases tokens.now) (option_map cases_form cases)) }
 {
     let pieces = pieces_by(alloc, tokens, Divider::Case)?;
     let Some(behind) = behind_empty(&pieces) else {
@@ -113,7 +107,7 @@ fn read_cases(alloc: Global, labels: bool, tokens: &[Token]) -> Result<Option<Ca
     };
     let mut cases = CaseExprs::new(alloc);
     for piece in behind {
-        let Some(case) = read_case(alloc, labels, piece)? else {
+        let Some(case) = read_case(alloc, piece)? else {
             return Ok(None);
         };
         cases.push(case)?;
@@ -123,13 +117,13 @@ fn read_cases(alloc: Global, labels: bool, tokens: &[Token]) -> Result<Option<Ca
 
 /// The case that the tokens behind `case` are.
 #[cycle(body)]
-fn read_case(alloc: Global, labels: bool, tokens: &[Token]) -> Result<Option<CaseExpr>, NoMemory>
-    ensures { IfOk result (λ case. Decided (IsCase labels tokens.now) (option_map case_form case)) }
+fn read_case(alloc: Global, tokens: &[Token]) -> Result<Option<CaseExpr>, NoMemory>
+    ensures { IfOk result (λ case. Decided (IsCase tokens.now) (option_map case_form case)) }
 {
     let Some(front) = case_front(tokens) else {
         return Ok(None);
     };
-    let Some(row) = read_body(alloc, labels, true, front.row)? else {
+    let Some(row) = read_body(alloc, true, front.row)? else {
         return Ok(None);
     };
     Ok(Some(CaseExpr {

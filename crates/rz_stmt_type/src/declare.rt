@@ -139,7 +139,7 @@ fn read_fields(alloc: Global, tokens: &[Token]) -> Result<Option<MadeExpr>, NoMe
     if !is_empty_statement(split.behind) {
         return Ok(None);
     }
-    match read_body(alloc, true, false, split.front)? {
+    match read_body(alloc, false, split.front)? {
         Some(body) => Ok(Some(MadeExpr::Fields(body))),
         None => Ok(None),
     }

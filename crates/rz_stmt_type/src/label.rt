@@ -23,32 +23,30 @@ pub struct LabelFront<'a> {
     pub behind: &'a [Token],
 }
 
-/// Pushes the labels that stand at the front, and gives what stands behind them. Where no labels may stand, that is
-/// all.
+/// Pushes the labels that stand at the front, and gives what stands behind them.
 pub fn read_labels<'a>(
     alloc: Global,
-    labels: bool,
     tokens: &'a [Token],
     body: &mut FieldExprs,
 ) -> Result<&'a [Token], NoMemory>
-    ensures { IfOk result (λ behind. (names : List Word) × AreLabels labels tokens.now names behind.now × (map field_form body.new ≡ map field_form body.old ++ map Label names)) }
+    ensures { IfOk result (λ behind. (names : List Word) × AreLabels tokens.now names behind.now × (map field_form body.new ≡ map field_form body.old ++ map Label names)) }
 {
     let mut rest = tokens;
-    while let Some(front) = label_front(labels, rest) {
+    while let Some(front) = label_front(rest) {
         body.push(FieldExpr::Label(front.name.copy(alloc)?))?;
         rest = front.behind;
     }
     Ok(rest)
 }
 
-/// The label at the front, where labels may stand.
-fn label_front(labels: bool, tokens: &[Token]) -> Option<LabelFront<'_>>
-    ensures { option_map held_label result ≡ label_front labels tokens.now }
+/// The label at the front.
+fn label_front(tokens: &[Token]) -> Option<LabelFront<'_>>
+    ensures { option_map held_label result ≡ label_front tokens.now }
 {
     let [first, second, behind @ ..] = tokens else {
         return None;
     };
-    if !(labels && is_colon(second)) {
+    if !is_colon(second) {
         return None;
     }
     match label_in(first) {

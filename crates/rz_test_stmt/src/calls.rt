@@ -2,7 +2,7 @@
 
 use crate::shown::{show_compile, show_declare, show_list, show_raw};
 use crate::values::{Seen, show_fault};
-use rz_core::{Attr, Bytes, Facts, Moment, OsType};
+use rz_core::{Attr, Bytes, Facts, Mark, Moment, OsType};
 use rz_lex::Tokens;
 use rz_stmt::{Span, Stmt, parse, statements};
 use rz_test_tables::{Text, expanded, tokens_of};
@@ -73,11 +73,21 @@ fn show_statement(seen: Seen<'_>, tokens: &Tokens, came: &mut Text) {
     }
     let mark = tokens.at(0).mark;
     match parse(seen.alloc, tokens, Span { start: 0, end }) {
-        Ok(Stmt::Empty) => came.put(b"empty"),
-        Ok(Stmt::Raw(stmt)) => show_raw(seen, &stmt, mark, came),
-        Ok(Stmt::List(stmt)) => show_list(seen, &stmt, mark, came),
-        Ok(Stmt::Compile(stmt)) => show_compile(seen, &stmt, mark, came),
-        Ok(Stmt::Declare(stmt)) => show_declare(seen, &stmt, mark, came),
+        Ok(stmt) => {
+            show_stmt(seen, &stmt, mark, came);
+            drop(stmt);
+        }
         Err(stop) => show_fault(stop, came),
+    }
+}
+
+/// Shows what a statement is.
+fn show_stmt(seen: Seen<'_>, stmt: &Stmt, mark: Mark, came: &mut Text) {
+    match stmt {
+        Stmt::Empty => came.put(b"empty"),
+        Stmt::Raw(stmt) => show_raw(seen, stmt, mark, came),
+        Stmt::List(stmt) => show_list(seen, stmt, mark, came),
+        Stmt::Compile(stmt) => show_compile(seen, stmt, mark, came),
+        Stmt::Declare(stmt) => show_declare(seen, stmt, mark, came),
     }
 }

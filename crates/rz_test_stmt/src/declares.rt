@@ -142,9 +142,9 @@ type 'Byte' { string[x]; }; => 'Byte' any {string [203 on 1]; }.
 type 'Byte' { integer = $$Word(a); }; => 'Byte' any {integer =203 on 1; }.
 type 'Byte' { string[$$BitField(a, b, 3)]; }; => 'Byte' any {string [203 on 1]; }.
 type 'Byte' { string[$$BitField(a, $$CountOf(b), 3)]; }; => 201 on 1
-type 'Byte' { array { x: byte; }; }; => 201 on 1
-type 'Byte' { array { byte; x: }; }; => 201 on 1
-type 'Byte' { array { switch { case a: x: byte; }; }; }; => 201 on 1
+type 'Byte' { array { x: byte; }; }; => 'Byte' any {array {label x; byte; }; }.
+type 'Byte' { array { byte; x: }; }; => 'Byte' any {array {byte; label x; }; }.
+type 'Byte' { array { switch { case a: x: byte; }; }; }; => 'Byte' any {array {switch a {label x; byte; }; }; }.
 type 'Byte' { switch { x: case a: }; }; => 201 on 1
 type 'Byte' { true: byte; }; => 201 on 1
 type 'Byte' { locked: byte; }; => 201 on 1
@@ -154,6 +154,22 @@ type 'Byte' { : byte; }; => 201 on 1
 type 'Byte' { x: : byte; }; => 201 on 1
 type 'Byte' { x; byte; }; => 201 on 1
 type 'Byte' { byte x: ; }; => 201 on 1
+// labels in rows by their numbers, and the number of the row around, here without a value
+type 'Byte' { byte = x[1]; array { x: byte; }; }; => 'Byte' any {byte =203 on 1; array {label x; byte; }; }.
+type 'Byte' { string[x[1 / 0]]; }; => 'Byte' any {string [211 on 1]; }.
+type 'Byte' { byte = x[x[1] + 1]; }; => 'Byte' any {byte =203 on 1; }.
+type 'Byte' { byte = x[$$CountOf(a)]; }; => 'Byte' any {byte =203 on 1; }.
+type 'Byte' { array a { byte = $$ArrayIndex(a); string[$$ArrayIndex(a)]; }; }; => 'Byte' any {array a {byte =203 on 1; string [203 on 1]; }; }.
+type 'Byte' { string[x[$$CountOf(a)]]; }; => 201 on 1
+type 'Byte' { bitstring[x[1]]; }; => 201 on 1
+type 'Byte' { fill byte[x[1]]; }; => 201 on 1
+type 'Byte' { array [$$ArrayIndex(a)] { byte; }; }; => 201 on 1
+type 'Byte' { switch { case a: key byte = x[1]; }; }; => 201 on 1
+type 'Byte' { byte = x[]; }; => 201 on 1
+type 'Byte' { byte = x[1; }; => 201 on 1
+type 'Byte' { byte = x[1][1]; }; => 201 on 1
+type 'Byte' { byte = locked[1]; }; => 201 on 1
+type 'Byte' { byte = $$Word(x[1]); }; => 201 on 1
 // constants without a value, the first from left to right, after the form
 type 'Byte' (1 / 0) { byte; }; => 211 on 1
 type 'Byte' (1 << 32 : 1 / 0) { byte; }; => 215 on 1 32

@@ -28,6 +28,8 @@ resource 'Test' (1) { $$ID + 1, $$Type, $$Attributes }; => 'Test' 1: 1 0 0
 resource 'Test' (1) { $$Year }; => 'Test' 1: 1970
 resource 'Test' (1) { 1 + $$CountOf(a) }; => 201 on 1
 resource 'Test' (1) { $$Word(a) }; => 201 on 1
+resource 'Test' (1) { a[1] }; => 201 on 1
+resource 'Test' (1) { $$ArrayIndex(a) }; => 201 on 1
 resource 'Test' (1) { 1 2 }; => 201 on 1
 // items in braces, with a name or without
 resource 'Test' (1) { { } }; => 'Test' 1: {}

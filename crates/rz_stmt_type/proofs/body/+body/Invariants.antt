@@ -26,12 +26,12 @@ decreases-read_case l = 4 * length l.tokens.now + 1
 
 abbrev pub invariant-read_body-loop-piece : goal.invariant-read_body-loop-piece
 invariant-read_body-loop-piece l = record {
-  leads : FieldLeads l.labels l.in_case (map (λ piece. piece.now) l.piece-items) (map (λ piece. piece.now) (drop l.piece-index l.piece-items)) (map field_form l.body);
+  leads : FieldLeads l.in_case (map (λ piece. piece.now) l.piece-items) (map (λ piece. piece.now) (drop l.piece-index l.piece-items)) (map field_form l.body);
   short : AreShort (length l.tokens) (map (λ piece. piece.now) (drop l.piece-index l.piece-items));
 }
 
 abbrev pub invariant-read_cases-loop-piece : goal.invariant-read_cases-loop-piece
 invariant-read_cases-loop-piece l = record {
-  leads : CaseLeads l.labels (map (λ piece. piece.now) l.behind) (map (λ piece. piece.now) (drop l.piece-index l.behind)) (map case_form l.cases);
+  leads : CaseLeads (map (λ piece. piece.now) l.behind) (map (λ piece. piece.now) (drop l.piece-index l.behind)) (map case_form l.cases);
   short : AreShort (length l.tokens) (map (λ piece. piece.now) (drop l.piece-index l.behind));
 }

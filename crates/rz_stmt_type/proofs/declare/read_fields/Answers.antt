@@ -1,4 +1,4 @@
-use Rattle.std.proofs.Common.{true, false, sym, ap, subst, ◌∙◌}
+use Rattle.std.proofs.Common.{false, sym, ap, subst, ◌∙◌}
 use Rattle.rz_core.proofs.Tests.{true_false}
 use Rattle.rz_stmt_brackets.specs.Held.{held_split}
 use Rattle.rz_stmt_brackets.specs.Pieces.{Parted}
@@ -20,4 +20,4 @@ pub returns-in-None : goal.returns-in-None
 returns-in-None c made is =
     let same = same_within Curly c.args.tokens.now (held_split c.in-Some.split) c.in-Some.ensures.every is.0 is.2 in
     let never = rw c.in-None.is at c.in_ok-body.ensures in
-    never is.1 (subst (λ (p : Parted). IsBody true false p.front is.1) (sym same) is.4)
+    never is.1 (subst (λ (p : Parted). IsBody false p.front is.1) (sym same) is.4)
