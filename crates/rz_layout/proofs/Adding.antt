@@ -1,5 +1,5 @@
 -- What a step of the first pass adds to a draft.
-use Rattle.std.proofs.Common.{◌≡◌, ℕ, ◌+◌, ◌≤◌, ℤ, Bool, true, false, ◌||◌, List, [], ◌∷◌, ◌++◌, length, take, drop, replicate, Option, Ok, Err, refl, sym, ap, subst, ◌∙◌, arith}
+use Rattle.std.proofs.Common.{◌≡◌, ℕ, ◌+◌, ◌≤◌, ℤ, Bool, true, false, ◌||◌, not, List, [], ◌∷◌, ◌++◌, length, take, drop, replicate, Option, Ok, Err, refl, sym, ap, subst, ◌∙◌, arith}
 use Rattle.std.specs.Prelude.{if◌then◌else◌, nat_abs, nat_lt}
 use Rattle.std.specs.Option.{is_some}
 use Rattle.std.proofs.lemmas.Bool.{ltb-false}
@@ -7,7 +7,7 @@ use Rattle.std.proofs.lemmas.List.{append_assoc, append-nil, drop_at, length-app
 use Rattle.rz_core.proofs.Tests.{or_false, true_false}
 use Rattle.rz_core.specs.declared.facts.Facts.{Facts}
 use Rattle.rz_bits.specs.BitBuf.{zeros}
-use Rattle.rz_expr.specs.Environment.{place_of, Environment, Key}
+use Rattle.rz_expr.specs.Environment.{place_in, rows_of, Environment, Key}
 use Rattle.rz_expr.specs.Term.{Term}
 use Rattle.rz_types_fields.specs.declared.field.NumForm.{NumForm}
 use Rattle.rz_types_fields.specs.Laid.{grown, late_at, later, now, too_long, with_form, with_room, Draft, LateNumber}
@@ -19,7 +19,8 @@ use Rattle.rz_types_fields.specs.declared.tree.Tree.{Tree}
 use Rattle.rz_layout.proofs.Filled.{each_both, same_ok, Each}
 use Rattle.rz_layout.proofs.Fitting.{fits_met, piece_is, placed_is, placed_none, Fits, SamePlaces}
 use Rattle.rz_layout.proofs.Masks.{length-marks, length-masked, masked, masked-append, masked_all, masked_none, take-plus}
-use Rattle.rz_layout.proofs.Labels.{met_more, MetKnown}
+use Rattle.rz_layout.proofs.Labels.{label_key, met_more, MetKnown}
+use Rattle.rz_layout.proofs.Sees.{not_false, Alike}
 use Rattle.rz_layout.proofs.Tracks.{tracks-append, Holds, Tracks}
 
 abbrev pub IsAny : LateNumber → Type 0
@@ -37,7 +38,7 @@ pub record Adds (labels : Key → Bool) (draft next : Draft) : Type 0 where
   pub tracks : Tracks IsAny (length draft.bits) numbers marks
   pub short : length next.bits ≤ most_bits
   pub names_are : (key : Key) → labels key ≡ false → next.known.give key ≡ draft.known.give key
-  pub given : (name : List ℕ) → labels (place_of name) ≡ true → is_some (next.known.give (place_of name)) ≡ true
+  pub given : (in_rows : Bool) (name : List ℕ) → labels (label_key in_rows name) ≡ true → is_some (next.known.give (label_key in_rows name)) ≡ true
 
 abbrev pub adds_none : (draft : Draft) → length draft.bits ≤ most_bits → Adds (λ key. false) draft draft
 adds_none draft short = record {
@@ -52,16 +53,17 @@ adds_none draft short = record {
   tracks = refl;
   short = short;
   names_are = λ key none. refl;
-  given = λ name is. absurd (true_false (sym is));
+  given = λ in_rows name is. absurd (true_false (sym is));
 }
 
-both_given : (one two : Key → Bool) (draft mid next : Draft) → Adds one draft mid → Adds two mid next → (name : List ℕ) → (one (place_of name) || two (place_of name)) ≡ true → is_some (next.known.give (place_of name)) ≡ true
-both_given one two draft mid next a b name is = by (two (place_of name)) (one (place_of name)) refl refl is
+both_given : (one two : Key → Bool) (draft mid next : Draft) → Adds one draft mid → Adds two mid next → (in_rows : Bool) (name : List ℕ) → (one (label_key in_rows name) || two (label_key in_rows name)) ≡ true
+    → is_some (next.known.give (label_key in_rows name)) ≡ true
+both_given one two draft mid next a b in_rows name is = by (two (label_key in_rows name)) (one (label_key in_rows name)) refl refl is
   where
-    by : (x y : Bool) → two (place_of name) ≡ x → one (place_of name) ≡ y → (one (place_of name) || two (place_of name)) ≡ true → is_some (next.known.give (place_of name)) ≡ true
-    by true y is also so = b.given name is
-    by false true is also so = ap is_some (b.names_are (place_of name) is) ∙ a.given name also
-    by false false is also so = absurd (true_false (sym so ∙ ap (λ (c : Bool). c || two (place_of name)) also ∙ is))
+    by : (x y : Bool) → two (label_key in_rows name) ≡ x → one (label_key in_rows name) ≡ y → (one (label_key in_rows name) || two (label_key in_rows name)) ≡ true → is_some (next.known.give (label_key in_rows name)) ≡ true
+    by true y is also so = b.given in_rows name is
+    by false true is also so = ap is_some (b.names_are (label_key in_rows name) is) ∙ a.given in_rows name also
+    by false false is also so = absurd (true_false (sym so ∙ ap (λ (c : Bool). c || two (label_key in_rows name)) also ∙ is))
 
 abbrev adds_both : (one two : Key → Bool) (draft mid next : Draft) → Adds one draft mid → Adds two mid next → Adds (λ key. one key || two key) draft next
 adds_both one two draft mid next a b = record {
@@ -98,7 +100,7 @@ adds_labels one two draft next same a = record {
   tracks = a.tracks;
   short = a.short;
   names_are = λ key none. a.names_are key (same key ∙ none);
-  given = λ name is. a.given name (same (place_of name) ∙ is);
+  given = λ in_rows name is. a.given in_rows name (same (label_key in_rows name) ∙ is);
 }
 
 -- A piece.
@@ -131,7 +133,7 @@ adds_now piece bits draft short = record {
   tracks = ap (λ (n : ℕ). replicate n false) (sym (length-marks (length bits) false));
   short = (let n = length-append draft.bits bits in omega (arith, n, short));
   names_are = placed_none piece (length draft.bits) draft.known;
-  given = λ name is. ap is_some (placed_is piece (length draft.bits) draft.known (place_of name) is);
+  given = λ in_rows name is. ap is_some (placed_is piece (length draft.bits) draft.known (label_key in_rows name) is);
 }
 
 abbrev pub adds_later : (piece : Piece) (form : NumForm) (width : ℤ) (term : Term) (draft : Draft) → length draft.bits + nat_abs width ≤ most_bits
@@ -151,7 +153,7 @@ adds_later piece form width term draft short =
       tracks = (0, [], omega arith, sym (append-nil (replicate w true)), tt, refl);
       short = (let m = length-append draft.bits (zeros w) in omega (arith, m, short, n));
       names_are = placed_none piece (length draft.bits) draft.known;
-      given = λ name is. ap is_some (placed_is piece (length draft.bits) draft.known (place_of name) is);
+      given = λ in_rows name is. ap is_some (placed_is piece (length draft.bits) draft.known (label_key in_rows name) is);
     }
 
 -- Where the draft behind a step fits, the one before it does.
@@ -187,6 +189,17 @@ module _ (known : Facts) where
   abbrev pub Still : Names → (Key → Bool) → Names → Type 0
   Still met labels after = (key : Key) → is_later met key ≡ false → (labels key ≡ false) × (is_later after key ≡ false)
 
+  -- names that are alike behind a step were so before it
+  pub alike_back : (labels : Key → Bool) (met after : Names) (draft next names : Environment) → ((key : Key) → labels key ≡ false → next.give key ≡ draft.give key) → Still met labels after → Alike after next names
+      → Alike met draft names
+  alike_back labels met after draft next names same still alike = record {
+    names = λ key single early. let each = still key early in sym (same key each.0) ∙ alike.names key single each.1;
+    places = λ label rows number was is inside.
+        let key : Key = place_in label number in
+        let each = still key (ap not was) in
+        sym (same key each.0) ∙ alike.places label rows number (not_false (after (rows_of label)) each.1) is inside;
+  }
+
   pub back : (all : List Bool) (names : Environment) (met after : Names) (labels : Key → Bool) (draft next : Draft) → Adds labels draft next → length draft.late ≡ length draft.bits → FitsAll all names after next
       → Still met labels after → FitsAll all names met draft
   back all names met after labels draft next a marks fits still =
@@ -197,7 +210,7 @@ module _ (known : Facts) where
         late_is = refl;
         marks = marks;
         within = w.within;
-        names_are = λ key early. let each = still key early in sym (a.names_are key each.0) ∙ fits.names_are key each.1;
+        names_are = alike_back labels met after draft.known next.known names a.names_are still fits.names_are;
       }
 
   -- where all bits fit the draft behind it, hold its late numbers, and its arrays are counted, they spell it
@@ -210,7 +223,7 @@ module _ (known : Facts) where
       → Came labels one Counted draft next Is → Came labels two Counted draft next Is
   came_met labels one two Counted draft next Is same came = record {
     adds = came.adds;
-    spells = λ all names fits holds counted. came.spells all names (fits_met known all names two one (λ name. sym (same name)) (length next.bits) next.late next fits) holds counted;
+    spells = λ all names fits holds counted. came.spells all names (fits_met known all names two one (λ in_rows name. sym (same in_rows name)) (length next.bits) next.late next fits) holds counted;
   }
 
   pub came_labels : (one two : Key → Bool) (met : Names) (Counted : Environment → Type 0) (draft next : Draft) (Is : List Bool → Environment → RowSpells) → ((key : Key) → one key ≡ two key)
@@ -233,17 +246,17 @@ module _ (known : Facts) where
   pub known_behind : (labels : Key → Bool) (met : Names) (draft next : Draft) → Adds labels draft next → MetKnown met draft.known → MetKnown (λ key. labels key || met key) next.known
   known_behind labels met draft next a met_known = met_more labels met draft.known next.known met_known a.names_are a.given
 
-  pub both_came : (one two : Key → Bool) (met after : Names) (draft mid next : Draft) (One Others Both : List Bool → Environment → RowSpells) → length draft.late ≡ length draft.bits
+  pub both_came : (one two : Key → Bool) (met after : Names) (CountedOne CountedTwo : Environment → Type 0) (draft mid next : Draft) (One Others Both : List Bool → Environment → RowSpells) → length draft.late ≡ length draft.bits
       → ((all : List Bool) (names : Environment) → One all names (length draft.bits) draft.late (length mid.bits) mid.late → Others all names (length mid.bits) mid.late (length next.bits) next.late
       → Both all names (length draft.bits) draft.late (length next.bits) next.late)
-      → Came one met (λ names. Unit {0}) draft mid One → Came two after (λ names. Unit {0}) mid next Others → Still met two after
-      → Came (λ key. one key || two key) after (λ names. Unit {0}) draft next Both
-  both_came one two met after draft mid next One Others Both marks joined a b still = record {
+      → Came one met CountedOne draft mid One → Came two after CountedTwo mid next Others → Still met two after
+      → Came (λ key. one key || two key) after (λ names. CountedOne names × CountedTwo names) draft next Both
+  both_came one two met after CountedOne CountedTwo draft mid next One Others Both marks joined a b still = record {
     adds = adds_both one two draft mid next a.adds b.adds;
     spells = λ all names fits holds counted.
         let each = each_both (Holds known all names) a.adds.numbers b.adds.numbers holds in
         let front = back all names met after two mid next b.adds (adds_marks one draft mid a.adds marks) fits still in
-        joined all names (a.spells all names front each.0 tt) (b.spells all names fits each.1 tt);
+        joined all names (a.spells all names front each.0 counted.0) (b.spells all names fits each.1 counted.1);
   }
 
   -- other words for what is counted, and for what is spelled

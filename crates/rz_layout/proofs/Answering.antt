@@ -18,7 +18,7 @@ use Rattle.rz_types.specs.Kept.{IsKept}
 use Rattle.rz_layout.proofs.Apart.{kept_apart}
 use Rattle.rz_layout.proofs.Complete.{complete}
 use Rattle.rz_layout.proofs.Sound.{sound}
-use Rattle.rz_layout.proofs.Numbers.{Known}
+use Rattle.rz_layout.proofs.Faults.{Known}
 
 module _ (read : (bytes : List ℕ) → ((k : ℕ) → slice_index bytes k < 256) → bytes_of (bits_of bytes) ≡ bytes)
     (written : (bits : List Bool) → length bits % 8 ≡ 0 → bits_of (bytes_of bits) ≡ bits) (multiple : (unit : ℕ) (bits : List Bool) → 0 < unit → length (filled unit bits) % unit ≡ 0)

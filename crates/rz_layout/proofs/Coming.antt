@@ -9,7 +9,7 @@ use Rattle.rz_core.specs.Stop.{◌>>=◌}
 use Rattle.rz_core.specs.declared.facts.Facts.{Facts}
 use Rattle.rz_bits.specs.Bits.{number_bits}
 use Rattle.rz_bits.specs.BitBuf.{zeros}
-use Rattle.rz_expr.specs.Environment.{count_of, place_key, place_of, Environment, Key, Sight}
+use Rattle.rz_expr.specs.Environment.{count_of, place_in, place_key, place_of, row_in, rows_of, Environment, Key, Sight}
 use Rattle.rz_expr.specs.Term.{Term}
 use Rattle.rz_expr.specs.Value.{value_of}
 use Rattle.rz_expr.specs.declared.value.EvalFault.{EvalFault}
@@ -26,7 +26,7 @@ use Rattle.rz_types_fields.specs.Spells.{is_late_piece, is_late_size, is_late_va
 use Rattle.rz_layout.proofs.Adding.{adds_later, adds_now, back, front_of, later_is, now_is, Came, FitsAll, Still}
 use Rattle.rz_layout.proofs.Fed.{NumberValue, PieceValue}
 use Rattle.rz_layout.proofs.Filled.{chained, late_value, ranged_is, same_ok}
-use Rattle.rz_layout.proofs.Fitting.{first_seen, hidden_seen, later_piece, met_piece, piece_is}
+use Rattle.rz_layout.proofs.Fitting.{first_seen, hidden_seen, later_piece, met_piece, piece_alone, piece_is}
 use Rattle.rz_layout.proofs.Masks.{length-marks, masked_none, masked}
 use Rattle.rz_layout.proofs.Labels.{label_given, names_known, MetKnown}
 use Rattle.rz_layout.proofs.Trees.{number_is}
@@ -163,7 +163,7 @@ module _ (known : Facts) (all : List Bool) (names : Environment) (passed : Passe
       record {
         stored = (
           has,
-          sym (after.names_are key (ap (λ (test : Bool). not (test || passed.met key)) itself)) ∙ label_given name (length draft.bits) draft.known key itself,
+          sym (after.names_are.names key refl (ap (λ (test : Bool). not (test || passed.met key)) itself)) ∙ label_given name (length draft.bits) draft.known key itself,
           sym (now_bits [] own made),
         );
         early = refl;
@@ -261,14 +261,10 @@ still_piece piece met known fresh key early = by key early (piece_is piece key) 
   where
     unmet : (key : Key) → is_later met key ≡ false → piece_is piece key ≡ true → met key ≡ false → ⊥
     unmet (place_of name) early is none = true_false (sym (ap not none) ∙ early)
-    unmet (count_of name) early is none = no_count piece name is
-      where
-        no_count : (piece : Piece) (name : List ℕ) → piece_is piece (count_of name) ≡ true → ⊥
-        no_count (OneNumber number) name is = true_false (sym is)
-        no_count (OneText text) name is = true_false (sym is)
-        no_count (Zeros count) name is = true_false (sym is)
-        no_count (Filler unit) name is = true_false (sym is)
-        no_count (Place own) name is = true_false (sym is)
+    unmet (count_of name) early is none = true_false (sym is ∙ piece_alone piece (count_of name) refl)
+    unmet (rows_of name) early is none = true_false (sym is ∙ piece_alone piece (rows_of name) refl)
+    unmet (place_in name number) early is none = true_false (sym is ∙ piece_alone piece (place_in name number) refl)
+    unmet (row_in name) early is none = true_false (sym is ∙ piece_alone piece (row_in name) refl)
 
     by : (key : Key) → is_later met key ≡ false → (test : Bool) → piece_is piece key ≡ test → (piece_is piece key ≡ false) × (is_later (met_piece piece met) key ≡ false)
     by key early true is = absurd (unmet key early is (fresh key is))

@@ -10,7 +10,7 @@ use Rattle.rz_types_fields.proofs.SameNames.{key_is, key_itself}
 use Rattle.rz_types_fields.specs.declared.tree.Tree.{Tree}
 use Rattle.rz_types_fields.specs.Field.{case_and, field_and, no_cases, no_fields, takes_value, Align, Array, Fill, Label, Number, PlainBody, PlainCases, PlainField, Points, Switch, Text}
 use Rattle.rz_types_fields.specs.Laid.{counted, first_value, other_values, rows_in, with_count, with_field}
-use Rattle.rz_types_fields.specs.Passed.{declares, gives_count, gives_key}
+use Rattle.rz_types_fields.specs.Passed.{declares, gives_count, gives_key, gives_rows}
 use Rattle.rz_types_fields.specs.Spells.{IsCounted}
 use Rattle.rz_types.specs.Rules.{case_names}
 use Rattle.rz_layout.proofs.Labels.{counted_none, or_first, or_true}
@@ -34,6 +34,10 @@ array_own (Some name) rows own outer key counted gives =
     sym (ap own.give (key_is (count_key name.bytes) key gives)) ∙ counted
     ∙ sym (ap (λ (test : Bool). if test then Some (pos rows) else outer.give key) gives)
 
+pub or_only : (a b : Bool) → (a || b) ≡ true → b ≡ false → a ≡ true
+or_only true b is none = refl
+or_only false b is none = sym none ∙ is
+
 field_own : (field : PlainField) (value : Option Tree) (own outer : Environment) (name : List ℕ) → FieldCounted field value own → gives_key field (count_of name) ≡ true
     → own.give (count_of name) ≡ (with_field field value outer).give (count_of name)
 field_own (Number number) value own outer key counted gives = absurd (true_false (sym gives))
@@ -42,12 +46,9 @@ field_own (Points points) value own outer key counted gives = absurd (true_false
 field_own (Fill unit count) value own outer key counted gives = absurd (true_false (sym gives))
 field_own (Align unit) value own outer key counted gives = absurd (true_false (sym gives))
 field_own (Label name) value own outer key counted gives = absurd (true_false (sym gives))
-field_own (Array name count row) value own outer key counted gives = array_own name (length (rows_in value)) own outer (count_of key) counted gives
+field_own (Array name count row) value own outer key counted gives =
+    array_own name (length (rows_in value)) own outer (count_of key) counted (or_only (gives_count name (count_of key)) false gives refl)
 field_own (Switch cases) value own outer key counted gives = absurd (true_false (sym gives))
-
-or_only : (a b : Bool) → (a || b) ≡ true → b ≡ false → a ≡ true
-or_only true b is none = refl
-or_only false b is none = sym none ∙ is
 
 pub own_is : (body : PlainBody) (values : List Tree) (own outer : Environment) (name : List ℕ) → AreCounted body values own → declares body (count_of name) ≡ true
     → own.give (count_of name) ≡ (counted body values outer).give (count_of name)
@@ -103,7 +104,7 @@ counted_are (field_and (Align unit) fields) values outer apart = (tt, counted_ar
 counted_are (field_and (Label name) fields) values outer apart = (tt, counted_are fields values outer apart.2)
 counted_are (field_and (Array name count row) fields) values outer apart =
     let rows = length (rows_in (first_value true values)) in
-    (array_counted name rows fields (other_values true values) outer apart.0, counted_are fields (other_values true values) (with_count name rows outer) apart.2)
+    (array_counted name rows fields (other_values true values) outer (λ key own. apart.0 key (or_first (gives_count name key) (gives_rows row key) own)), counted_are fields (other_values true values) (with_count name rows outer) apart.2)
 counted_are (field_and (Switch cases) fields) values outer apart = (tt, counted_are fields (other_values true values) outer apart.2)
 
 -- Names that have the same numbers of rows.
@@ -122,7 +123,8 @@ field_moves (Points points) value one other same is = tt
 field_moves (Fill unit count) value one other same is = tt
 field_moves (Align unit) value one other same is = tt
 field_moves (Label name) value one other same is = tt
-field_moves (Array name count row) value one other same is = array_moves name (length (rows_in value)) one other same is
+field_moves (Array name count row) value one other same is =
+    array_moves name (length (rows_in value)) one other (λ key own. same key (or_first (gives_count name (count_of key)) false own)) is
 field_moves (Switch cases) value one other same is = tt
 
 pub counted_moves : (body : PlainBody) (values : List Tree) (one other : Environment) → SameCounts (declares body) one other → AreCounted body values one → AreCounted body values other

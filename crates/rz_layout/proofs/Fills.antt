@@ -1,7 +1,8 @@
 -- Late numbers, written one after the other.
-use Rattle.std.proofs.Common.{◌≡◌, ℕ, ◌+◌, ◌-◌, ◌<◌, ◌≤◌, Bool, ℤ, List, [], ◌∷◌, ◌++◌, length, get_or, take, drop, map, Result, Ok, Err, refl, sym, ap, ◌∙◌, arith}
+use Rattle.std.proofs.Common.{◌≡◌, ℕ, ◌+◌, ◌≤◌, Bool, ℤ, List, [], ◌∷◌, ◌++◌, length, take, drop, map, Result, Ok, Err, refl, sym, ap, ◌∙◌, arith}
+use Rattle.std.specs.Prelude.{max}
 use Rattle.std.specs.List.{AllByRecursion}
-use Rattle.std.proofs.lemmas.List.{append_assoc, append-nil, drop_more, length-append, length-drop, length-take-le, take_all}
+use Rattle.std.proofs.lemmas.List.{append_assoc, append-nil, length-append, length-drop, length-take-le}
 use Rattle.rz_core.specs.Stop.{◌>>=◌, Gives, fault_seen, left}
 use Rattle.rz_core.specs.declared.facts.Facts.{Facts}
 use Rattle.rz_core.specs.declared.stop.Stop.{Stop}
@@ -12,7 +13,9 @@ use Rattle.rz_layout.specs.Laid.{IsWithin}
 use Rattle.rz_layout.specs.Late.{behind_notes, closed_by, late_step, number_held, numbers_in, numbers_of}
 use Rattle.rz_layout.specs.declared.fault.LayFault.{LayFault}
 use Rattle.rz_layout.specs.declared.late.Late.{Late}
+use denote.Param.Weighed.{most, most-append}
 use Rattle.rz_layout.specs.declared.late.Late.TheFolds.{fold-roll-Late}
+use Rattle.rz_layout.specs.declared.late.Late.TheViews.{size-Late}
 use Rattle.rz_layout.specs.declared.late.Late.TheOpen.{Late-F}
 use Rattle.rz_layout.specs.declared.late.Late.TheVariants as lates
 use Rattle.rz_layout.specs.declared.late.Late.TheVariants.{rolls-Inside, rolls-Number}
@@ -47,10 +50,6 @@ numbers_append [] others = refl
 numbers_append (first ∷ late) others =
     ap (λ (behind : List LateNumber). numbers_of first ++ behind) (numbers_append late others) ∙ sym (append_assoc (numbers_of first) (numbers_in late) (numbers_in others))
 
-pub numbers_next : (late : List Late) (i : ℕ) (one : Late) → i < length late → one ≡ get_or late i one → numbers_in (drop i late) ≡ numbers_of one ++ numbers_in (drop (i + 1) late)
-numbers_next late i one less item =
-    ap numbers_in (drop_more late i one less) ∙ ap (λ (o : Late). numbers_of o ++ numbers_in (drop (i + 1) late)) (sym item)
-
 -- Names.
 
 pub known_behind : (old own : List Note) → behind_notes own (known old) ≡ known (old ++ own)
@@ -81,13 +80,12 @@ fill_closed facts names notes (number ∷ numbers) bits =
     by (Err fault) rest = refl
 
 -- those of a body within
-pub fill_inside : (facts : Facts) (one : Late) (notes : Vec Note Global) (inner slice : List Late) (old own after : List Note) (bits : List Bool) → one ≡ lates.Inside notes inner → slice ≡ inner
-    → own ≡ notes.items → after ≡ old ++ own → fill facts (known old) (numbers_of one) bits ≡ fill facts (known after) (numbers_in slice) bits
-fill_inside facts one notes inner slice old own after bits is same same_own behind =
+pub fill_inside : (facts : Facts) (one : Late) (notes : Vec Note Global) (inner : List Late) (old after : List Note) (bits : List Bool) → one ≡ lates.Inside notes inner
+    → after ≡ old ++ notes.items → fill facts (known old) (numbers_of one) bits ≡ fill facts (known after) (numbers_in inner) bits
+fill_inside facts one notes inner old after bits is behind =
     ap (λ (numbers : List LateNumber). fill facts (known old) numbers bits) (inside_is one notes inner is)
     ∙ fill_closed facts (known old) notes.items (numbers_in inner) bits
-    ∙ ap (λ (names : Environment). fill facts names (numbers_in inner) bits) (known_behind old notes.items ∙ ap (λ (o : List Note). known (old ++ o)) (sym same_own) ∙ ap known (sym behind))
-    ∙ ap (λ (late : List Late). fill facts (known after) (numbers_in late) bits) (sym same)
+    ∙ ap (λ (names : Environment). fill facts names (numbers_in inner) bits) (known_behind old notes.items ∙ ap known (sym behind))
 
 -- the value of a late number
 pub late_value : (facts : Facts) (names : Environment) (one : LateNumber) (bits : List Bool) (value : Result ℤ EvalFault) → value_of one.term (sees facts bits (one.names names) one.at) ≡ value
@@ -95,16 +93,13 @@ pub late_value : (facts : Facts) (names : Environment) (one : LateNumber) (bits 
 late_value facts names one bits value is = ap (λ (r : Result ℤ EvalFault). valued one.piece r >>= λ number. ranged one.piece one.form one.width number) is
 
 -- one more
-module _ (facts : Facts) (late : List Late) (i : ℕ) (one : Late) (less : i < length late) (item : one ≡ get_or late i one) (names : Environment) (bits : List Bool)
-    (all : Result (List Bool) Refusal) (so : fill facts names (numbers_in (drop i late)) bits ≡ all) where
+module _ (facts : Facts) (one : Late) (others : List Late) (names : Environment) (bits : List Bool) (all : Result (List Bool) Refusal)
+    (so : fill facts names (numbers_in (one ∷ others)) bits ≡ all) where
   abbrev pub fill_behind : List Bool → Result (List Bool) Refusal
-  fill_behind next = fill facts names (numbers_in (drop (i + 1) late)) next
+  fill_behind next = fill facts names (numbers_in others) next
 
   all_is : (fill facts names (numbers_of one) bits >>= fill_behind) ≡ all
-  all_is =
-      sym (fill_append facts names (numbers_of one) (numbers_in (drop (i + 1) late)) bits)
-      ∙ ap (λ (numbers : List LateNumber). fill facts names numbers bits) (sym (numbers_next late i one less item))
-      ∙ so
+  all_is = sym (fill_append facts names (numbers_of one) (numbers_in others) bits) ∙ so
 
   pub fill_refused : (stop : Stop LayFault) (after : List Bool) → Gives (fill facts names (numbers_of one) bits) (fault_seen refusal_of (left after (Err stop)))
       → (other : List Bool) → Gives all (fault_seen refusal_of (left other (Err stop)))
@@ -143,5 +138,9 @@ patched_is at width w number bits after same is =
     ∙ ap (λ (n : ℕ). take at bits ++ (number_bits n number ++ drop (at + n) bits)) (sym same)
     ∙ sym is
 
-pub rest_taken : (around : ℕ) (notes : List Note) → take (length notes - around) (drop around notes) ≡ drop around notes
-rest_taken around notes = take_all (length notes - around) (drop around notes) (let long = length-drop around notes in omega (arith, long))
+-- How deep they lie.
+
+pub one_within : (before rest all : List Late) (one : Late) → all ≡ before ++ one ∷ rest → size-Late one ≤ most size-Late all
+one_within before rest all one is =
+    let parts : most size-Late all ≡ max (most size-Late before) (max (size-Late one) (most size-Late rest)) = ap (most size-Late) is ∙ most-append size-Late before (one ∷ rest) in
+    omega (arith, parts)

@@ -10,9 +10,10 @@ use Rattle.rz_core.proofs.Tests.{or_false, true_false}
 use Rattle.rz_core.specs.Lists.{unless_fault}
 use Rattle.rz_core.specs.Stop.{◌>>=◌}
 use Rattle.rz_core.specs.declared.facts.Facts.{Facts}
+use Rattle.rz_core.specs.declared.resource.Word.{Word}
 use Rattle.rz_bits.specs.Bits.{number_bits}
 use Rattle.rz_bits.specs.BitBuf.{missing, zeros}
-use Rattle.rz_expr.specs.Environment.{count_of, place_key, place_of, Environment, Key, Sight}
+use Rattle.rz_expr.specs.Environment.{count_of, place_in, place_key, place_of, row_in, rows_of, Environment, Key, Sight}
 use Rattle.rz_expr.specs.Term.{Term}
 use Rattle.rz_expr.specs.Value.{value_of}
 use Rattle.rz_expr.specs.declared.value.EvalFault.{EvalFault}
@@ -20,18 +21,21 @@ use Rattle.rz_types.proofs.Texts.{Keeps}
 use Rattle.rz_types_fields.proofs.SameNames.{key_is}
 use Rattle.rz_types_fields.specs.declared.field.NumForm.{NumForm}
 use Rattle.rz_types_fields.specs.declared.tree.Tree.{Tree}
-use Rattle.rz_types_fields.specs.Laid.{draft_sight, fixed_form, grown, late_at, late_bits, later, lay, met_in, now, number_form, number_in, piece_form, placed, ranged, reads_late, refusal, too_long, unless, valued, value_refusal, with_form, with_room, Draft, Form, LateNumber, Refusal}
-use Rattle.rz_types_fields.specs.Passed.{stands_at, Names, Passed}
+use Rattle.rz_types_fields.specs.Laid.{and_place, apart, behind_rows, draft_sight, fixed_form, grown, late_at, late_bits, later, lay, met_in, now, number_form, number_in, piece_form, placed, ranged, reads_late, refusal, too_long, unless, valued, value_refusal, with_form, with_places, with_room, Draft, Form, LateNumber, Refusal}
+use Rattle.rz_types_fields.specs.Passed.{gives_rows, stands_at, Names, Passed}
 use Rattle.rz_types_fields.specs.Piece.{terms_of_text, Filler, OneNumber, OneText, Piece, Place, Zeros}
 use Rattle.rz_types_fields.specs.Range.{fits_number}
 use Rattle.rz_types_fields.specs.Sees.{beside, bits_before, hit, is_late, is_later, names_later, sees, Late}
-use Rattle.rz_types_fields.specs.Spells.{is_late_piece, is_late_size, is_late_value, is_one_late, most_bits, IsNumber, IsStored, PieceSpells}
+use Rattle.rz_types_fields.specs.Spells.{is_late_piece, is_late_size, is_late_value, is_one_late, most_bits, AreRows, IsNumber, IsStored, PieceSpells}
 use Rattle.rz_types_fields.specs.Stored.{stored_number}
 use Rattle.rz_layout.proofs.Filled.{length_number}
 use Rattle.rz_layout.proofs.Masks.{hidden_bits, length-marks, masked, masked-append, masked_all, masked_none, take-plus}
-use Rattle.rz_layout.proofs.Labels.{label_given, label_none, met_more, names_known, MetKnown}
+use Rattle.rz_layout.proofs.Labels.{label_given, label_key, label_none, met_more, met_rows, names_known, MetKnown}
+use Rattle.rz_layout.proofs.Placing.{alike_rows}
+use Rattle.rz_types_fields.proofs.RowPlaces.{RowsHave}
+use Rattle.rz_types_fields.specs.Field.{PlainBody}
 use Rattle.rz_layout.proofs.Trees.{number_is}
-use Rattle.rz_layout.proofs.Sees.{hidden, value_same, Hides}
+use Rattle.rz_layout.proofs.Sees.{every, hidden, is_in_row, nothing_later, value_same, Alike, Hides}
 use Rattle.rz_layout.proofs.Texts.{text_spelled}
 use Rattle.rz_layout.proofs.Tracks.{tracks-append, Holds, Tracks}
 
@@ -61,21 +65,67 @@ placed_none (Place name) at names key is = label_none name at names key is
 abbrev pub met_piece : Piece → Names → Names
 met_piece piece met key = piece_is piece key || met key
 
+-- it is that of a label by itself
+abbrev pub is_alone : Key → Bool
+is_alone (place_of name) = true
+is_alone (count_of name) = false
+is_alone (rows_of name) = false
+is_alone (place_in name number) = false
+is_alone (row_in name) = false
+
+label_alone : (own : Word) (key : Key) → is_alone key ≡ false → stands_at own.bytes key ≡ false
+label_alone own (place_of name) other = absurd (true_false other)
+label_alone own (count_of name) other = refl
+label_alone own (rows_of name) other = refl
+label_alone own (place_in name number) other = refl
+label_alone own (row_in name) other = refl
+
+pub piece_alone : (piece : Piece) (key : Key) → is_alone key ≡ false → piece_is piece key ≡ false
+piece_alone (OneNumber number) key other = refl
+piece_alone (OneText text) key other = refl
+piece_alone (Zeros count) key other = refl
+piece_alone (Filler unit) key other = refl
+piece_alone (Place own) key other = label_alone own key other
+
+-- the place that it adds to those of labels
+abbrev pub piece_places : Piece → ℕ → List ℤ
+piece_places (Place name) at = pos at ∷ []
+piece_places piece at = []
+
+pub and_place_is : (piece : Piece) (at : ℕ) (places : List ℤ) → and_place piece at places ≡ places ++ piece_places piece at
+and_place_is (OneNumber number) at places = sym (append-nil places)
+and_place_is (OneText text) at places = sym (append-nil places)
+and_place_is (Zeros count) at places = sym (append-nil places)
+and_place_is (Filler unit) at places = sym (append-nil places)
+and_place_is (Place name) at places = refl
+
 pub later_piece : (piece : Piece) (met : Names) (key : Key) → piece_is piece key ≡ false → is_later (met_piece piece met) key ≡ is_later met key
 later_piece piece met (place_of name) none = ap (λ (test : Bool). not (test || met (place_of name))) none
 later_piece piece met (count_of name) none = refl
+later_piece piece met (rows_of name) none = ap (λ (test : Bool). not (test || met (rows_of name))) none
+later_piece piece met (place_in name number) none = ap (λ (test : Bool). not (test || met (rows_of name))) (piece_alone piece (rows_of name) refl)
+later_piece piece met (row_in name) none = refl
 
 pub known_piece : (piece : Piece) (met : Names) (at : ℕ) (known : Environment) → MetKnown met known → MetKnown (met_piece piece met) (placed piece at known)
-known_piece piece met at known is = met_more (piece_is piece) met known (placed piece at known) is (placed_none piece at known) (λ name own. ap is_some (placed_is piece at known (place_of name) own))
+known_piece piece met at known is = met_more (piece_is piece) met known (placed piece at known) is (placed_none piece at known) (λ in_rows name own. ap is_some (placed_is piece at known (label_key in_rows name) own))
 
 -- The same labels.
 
 abbrev pub SamePlaces : Names → Names → Type 0
-SamePlaces one other = (name : List ℕ) → one (place_of name) ≡ other (place_of name)
+SamePlaces one other = (in_rows : Bool) (name : List ℕ) → one (label_key in_rows name) ≡ other (label_key in_rows name)
 
 later_same : (one other : Names) → SamePlaces one other → (key : Key) → is_later one key ≡ is_later other key
-later_same one other same (place_of name) = ap not (same name)
+later_same one other same (place_of name) = ap not (same false name)
 later_same one other same (count_of name) = refl
+later_same one other same (rows_of name) = ap not (same true name)
+later_same one other same (place_in name number) = ap not (same true name)
+later_same one other same (row_in name) = refl
+
+alike_same : (one other : Names) → SamePlaces one other → (known names : Environment) → Alike one known names → Alike other known names
+alike_same one other same known names alike = record {
+  names = λ key own early. alike.names key own (later_same one other same key ∙ early);
+  places = λ label rows number was. alike.places label rows number (same true label ∙ was);
+}
 
 -- Room.
 
@@ -111,10 +161,14 @@ module _ (known : Facts) (all : List Bool) where
     pub late_is : draft.late ≡ late
     pub marks : length late ≡ at
     pub within : at ≤ length all
-    pub names_are : (key : Key) → is_later met key ≡ false → draft.known.give key ≡ names.give key
+    pub names_are : Alike met draft.known names
 
-  -- a step of the first pass to a draft that fits again
-  pub record Goes (names : Environment) (met : Names) (at : ℕ) (late : Late) (after : ℕ) (late_after : Late) (draft : Draft) (result : Result Draft Refusal) : Type 0 where
+  -- a late number holds, with all names that are alike
+  abbrev pub HoldsIn : Environment → LateNumber → Type 0
+  HoldsIn names one = (own : Environment) → Alike every own names → Holds known all own one
+
+  -- a step of the first pass to a draft that fits again, behind which the labels of the body have these places more
+  pub record Goes (names : Environment) (met : Names) (at : ℕ) (late : Late) (after : ℕ) (late_after : Late) (draft : Draft) (places : List ℤ) (result : Result Draft Refusal) : Type 0 where
     pub next : Draft
     pub is : result ≡ Ok next
     pub fits : Fits names met after late_after next
@@ -123,7 +177,8 @@ module _ (known : Facts) (all : List Bool) where
     pub more_is : late_after ≡ late ++ more
     pub numbers : List LateNumber
     pub numbers_are : next.numbers ≡ draft.numbers ++ numbers
-    pub tracks : Tracks (Holds known all names) at numbers more
+    pub places_are : next.places ≡ draft.places ++ places
+    pub tracks : Tracks (HoldsIn names) at numbers more
 
   pub fits_met : (names : Environment) (one other : Names) → SamePlaces one other → (at : ℕ) (late : Late) (draft : Draft) → Fits names one at late draft → Fits names other at late draft
   fits_met names one other same at late draft fits = record {
@@ -132,20 +187,21 @@ module _ (known : Facts) (all : List Bool) where
     late_is = fits.late_is;
     marks = fits.marks;
     within = fits.within;
-    names_are = λ key early. fits.names_are key (later_same one other same key ∙ early);
+    names_are = alike_same one other same draft.known names fits.names_are;
   }
 
-  pub goes_met : (names : Environment) (one other : Names) → SamePlaces one other → (at : ℕ) (late : Late) (after : ℕ) (late_after : Late) (draft : Draft) (result : Result Draft Refusal)
-      → Goes names one at late after late_after draft result → Goes names other at late after late_after draft result
-  goes_met names one other same at late after late_after draft result it = record {
+  pub goes_met : (names : Environment) (one other : Names) → SamePlaces one other → (at : ℕ) (late : Late) (after : ℕ) (late_after : Late) (draft : Draft) (places : List ℤ) (result : Result Draft Refusal)
+      → Goes names one at late after late_after draft places result → Goes names other at late after late_after draft places result
+  goes_met names one other same at late after late_after draft places result it = record {
     next = it.next;
     is = it.is;
     fits = fits_met names one other same after late_after it.next it.fits;
-    met_known = λ name. sym (same name) ∙ it.met_known name;
+    met_known = λ in_rows name. sym (same in_rows name) ∙ it.met_known in_rows name;
     more = it.more;
     more_is = it.more_is;
     numbers = it.numbers;
     numbers_are = it.numbers_are;
+    places_are = it.places_are;
     tracks = it.tracks;
   }
 
@@ -179,12 +235,17 @@ module _ (known : Facts) (all : List Bool) where
         late_is = (λ i. fits.late_is i ++ replicate (size i) is_late);
         marks = length-append late (replicate (length own) is_late) ∙ (let a = fits.marks in let b = length-marks (length own) is_late in omega (arith, a, b));
         within = there_within all own at there fits.within;
-        names_are = λ key early. by key early (piece_is piece key) refl;
+        names_are = record {
+          names = λ key own early. by key own early (piece_is piece key) refl;
+          places = λ label rows number was is inside.
+              placed_none piece (length draft.bits) draft.known (place_in label number) (piece_alone piece (place_in label number) refl)
+              ∙ fits.names_are.places label rows number (sym (ap (λ (test : Bool). test || met (rows_of label)) (piece_alone piece (rows_of label) refl)) ∙ was) is inside;
+        };
       }
     where
-      by : (key : Key) → is_later (met_piece piece met) key ≡ false → (test : Bool) → piece_is piece key ≡ test → (placed piece (length draft.bits) draft.known).give key ≡ names.give key
-      by key early true is = placed_is piece (length draft.bits) draft.known key is ∙ ap (λ (n : ℕ). Some (pos n)) fits.len ∙ sym (labels key is)
-      by key early false is = placed_none piece (length draft.bits) draft.known key is ∙ fits.names_are key (sym (later_piece piece met key is) ∙ early)
+      by : (key : Key) → is_in_row key ≡ false → is_later (met_piece piece met) key ≡ false → (test : Bool) → piece_is piece key ≡ test → (placed piece (length draft.bits) draft.known).give key ≡ names.give key
+      by key own early true is = placed_is piece (length draft.bits) draft.known key is ∙ ap (λ (n : ℕ). Some (pos n)) fits.len ∙ sym (labels key is)
+      by key own early false is = placed_none piece (length draft.bits) draft.known key is ∙ fits.names_are.names key own (sym (later_piece piece met key is) ∙ early)
 
   -- What the first pass makes of a piece that is spelled.
 
@@ -194,7 +255,7 @@ module _ (known : Facts) (all : List Bool) where
     term : Term
     is : found ≡ Ok (later form width term)
     size : length own ≡ nat_abs width
-    value : late_bits known names (late_at draft form width term) all ≡ Ok own
+    value : (others : Environment) → Alike every others names → late_bits known others (late_at draft form width term) all ≡ Ok own
 
   abbrev Formed : Environment → Draft → Result Form Refusal → Bool → List Bool → Type 0
   Formed names draft found is_late own = ((is_late ≡ false) × (found ≡ Ok (now own))) ⊎ ((is_late ≡ true) × LateForm names draft found own)
@@ -206,11 +267,12 @@ module _ (known : Facts) (all : List Bool) where
     abbrev sight : Sight
     sight = sees known all names at
 
-    late_value : (form : NumForm) (width : ℤ) (term : Term) (v : ℤ) → value_of term sight ≡ Ok v → fits_number form width v ≡ true
-        → late_bits known names (late_at draft form width term) all ≡ Ok (number_bits (nat_abs width) (stored_number (nat_abs width) v))
-    late_value form width term v is range =
-        ap (λ (n : ℕ). valued draft.piece (value_of term (sees known all names n)) >>= λ value. ranged draft.piece form width value) fits.len
-        ∙ ap (λ (r : Result ℤ EvalFault). valued draft.piece r >>= λ value. ranged draft.piece form width value) is
+    late_value : (form : NumForm) (width : ℤ) (term : Term) (v : ℤ) → value_of term sight ≡ Ok v → fits_number form width v ≡ true → (others : Environment) → Alike every others names
+        → late_bits known others (late_at draft form width term) all ≡ Ok (number_bits (nat_abs width) (stored_number (nat_abs width) v))
+    late_value form width term v is range others alike =
+        ap (λ (n : ℕ). valued draft.piece (value_of term (sees known all others n)) >>= λ value. ranged draft.piece form width value) fits.len
+        ∙ ap (λ (r : Result ℤ EvalFault). valued draft.piece r >>= λ value. ranged draft.piece form width value)
+        (value_same every (sees known all others at) sight alike (λ first width. refl) (λ which. refl) term (nothing_later term) ∙ is)
         ∙ ranged_ok draft.piece form width v range
 
     abbrev by_later : NumForm → ℤ → Term → Bool → Result Form Refusal
@@ -300,11 +362,14 @@ module _ (known : Facts) (all : List Bool) where
     labels (Place name) value own it key is = sym (ap names.give (key_is (place_key name.bytes) key is)) ∙ it.1
 
     pub piece_goes : (piece : Piece) (value : Option Tree) (after : ℕ) (late_after : Late) → PieceSpells false known all names passed piece value at late after late_after
-        → Goes names (met_piece piece passed.met) at late after late_after draft (lay known draft piece value)
+        → Goes names (met_piece piece passed.met) at late after late_after draft (piece_places piece at) (lay known draft piece value)
     piece_goes piece value after late_after it = by (is_late_piece passed.met late piece sight) refl (formed piece value it.bits it.stored it.early)
       where
         own : List Bool
         own = it.bits
+
+        places_are : and_place piece (length draft.bits) draft.places ≡ draft.places ++ piece_places piece at
+        places_are = and_place_is piece (length draft.bits) draft.places ∙ ap (λ (n : ℕ). draft.places ++ piece_places piece n) fits.len
 
         room : length draft.bits + length own ≤ most_bits
         room = let a = fits.len in let b = it.ends in let c = it.short in omega (arith, a, b, c)
@@ -317,7 +382,7 @@ module _ (known : Facts) (all : List Bool) where
             (grown_fits names passed.met at late draft fits piece own test numbers it.there (labels piece value own it.stored)))
 
         by : (test : Bool) → is_late_piece passed.met late piece sight ≡ test → Formed names draft (piece_form known draft piece value) test own
-            → Goes names (met_piece piece passed.met) at late after late_after draft (lay known draft piece value)
+            → Goes names (met_piece piece passed.met) at late after late_after draft (piece_places piece at) (lay known draft piece value)
         by test is (inl so) = record {
           next = grown piece draft own false [];
           is = ap (λ (r : Result Form Refusal). r >>= with_form draft piece) so.1 ∙ room_ok draft (length own) (grown piece draft own false []) room;
@@ -327,6 +392,7 @@ module _ (known : Facts) (all : List Bool) where
           more_is = it.marked ∙ ap (λ (c : Bool). late ++ replicate (length own) c) (is ∙ so.0);
           numbers = [];
           numbers_are = refl;
+          places_are = places_are;
           tracks = ap (λ (n : ℕ). replicate n false) (sym (length-marks (length own) false));
         }
         by test is (inr so) =
@@ -343,17 +409,18 @@ module _ (known : Facts) (all : List Bool) where
               more_is = it.marked ∙ ap (λ (c : Bool). late ++ replicate (length own) c) (is ∙ so.0) ∙ ap (λ (n : ℕ). late ++ replicate n true) form.size;
               numbers = one ∷ [];
               numbers_are = refl;
+              places_are = places_are;
               tracks = (
                 0,
                 [],
                 fits.len ∙ omega arith,
                 sym (append-nil (replicate (nat_abs form.width) true)),
-                record {
+                (λ others alike. record {
                   bits = own;
-                  value = form.value;
+                  value = form.value others alike;
                   there = ap (λ (n : ℕ). take (length own) (drop n all)) fits.len ∙ it.there;
                   width = form.size;
-                },
+                }),
                 refl,
               );
             }
@@ -361,7 +428,7 @@ module _ (known : Facts) (all : List Bool) where
   -- One after the other.
 
   pub goes_done : (names : Environment) (met : Names) (at : ℕ) (late : Late) (after : ℕ) (late_after : Late) (draft : Draft) → after ≡ at → late_after ≡ late → Fits names met at late draft → MetKnown met draft.known
-      → Goes names met at late after late_after draft (Ok draft)
+      → Goes names met at late after late_after draft [] (Ok draft)
   goes_done names met at late after late_after draft same also fits met_known = record {
     next = draft;
     is = refl;
@@ -371,13 +438,14 @@ module _ (known : Facts) (all : List Bool) where
     more_is = also ∙ sym (append-nil late);
     numbers = [];
     numbers_are = sym (append-nil draft.numbers);
+    places_are = sym (append-nil draft.places);
     tracks = refl;
   }
 
-  pub goes_both : (names : Environment) (one two : Names) (at : ℕ) (late : Late) (mid : ℕ) (late_mid : Late) (after : ℕ) (late_after : Late) (draft : Draft) (result : Result Draft Refusal)
-      → (others : Draft → Result Draft Refusal) → length late ≡ at → (first : Goes names one at late mid late_mid draft result) → Goes names two mid late_mid after late_after first.next (others first.next)
-      → Goes names two at late after late_after draft (result >>= others)
-  goes_both names one two at late mid late_mid after late_after draft result others marks first more = record {
+  pub goes_both : (names : Environment) (one two : Names) (at : ℕ) (late : Late) (mid : ℕ) (late_mid : Late) (after : ℕ) (late_after : Late) (draft : Draft) (places behind : List ℤ) (result : Result Draft Refusal)
+      → (others : Draft → Result Draft Refusal) → length late ≡ at → (first : Goes names one at late mid late_mid draft places result) → Goes names two mid late_mid after late_after first.next behind (others first.next)
+      → Goes names two at late after late_after draft (places ++ behind) (result >>= others)
+  goes_both names one two at late mid late_mid after late_after draft places behind result others marks first more = record {
     next = more.next;
     is = ap (λ (r : Result Draft Refusal). r >>= others) first.is ∙ more.is;
     fits = more.fits;
@@ -386,7 +454,53 @@ module _ (known : Facts) (all : List Bool) where
     more_is = more.more_is ∙ ap (λ (m : Late). m ++ more.more) first.more_is ∙ append_assoc late first.more more.more;
     numbers = first.numbers ++ more.numbers;
     numbers_are = more.numbers_are ∙ ap (λ (n : List LateNumber). n ++ more.numbers) first.numbers_are ∙ append_assoc draft.numbers first.numbers more.numbers;
-    tracks = tracks-append (Holds known all names) at first.numbers more.numbers first.more more.more first.tracks
-        (subst (λ (k : ℕ). Tracks (Holds known all names) k more.numbers more.more)
+    places_are = more.places_are ∙ ap (λ (p : List ℤ). p ++ behind) first.places_are ∙ append_assoc draft.places places behind;
+    tracks = tracks-append (HoldsIn names) at first.numbers more.numbers first.more more.more first.tracks
+        (subst (λ (k : ℕ). Tracks (HoldsIn names) k more.numbers more.more)
         (let a = first.fits.marks in let b = ap length first.more_is in let c = length-append late first.more in omega (arith, a, b, c, marks)) more.tracks);
   }
+
+  -- With places of its own, and behind all rows of an array.
+
+  pub fits_places : (names : Environment) (met : Names) (at : ℕ) (late : Late) (places : List ℤ) (draft : Draft) → Fits names met at late draft → Fits names met at late (with_places places draft)
+  fits_places names met at late places draft fits = record { bits = fits.bits; len = fits.len; late_is = fits.late_is; marks = fits.marks; within = fits.within; names_are = fits.names_are }
+
+  pub goes_apart : (names : Environment) (met : Names) (at : ℕ) (late : Late) (after : ℕ) (late_after : Late) (draft : Draft) (places : List ℤ) (lay : Draft → Result Draft Refusal)
+      → Goes names met at late after late_after (with_places [] draft) places (lay (with_places [] draft)) → Goes names met at late after late_after draft [] (apart lay draft)
+  goes_apart names met at late after late_after draft places lay it = record {
+    next = with_places draft.places it.next;
+    is = ap (λ (r : Result Draft Refusal). r >>= λ next. Ok (with_places draft.places next)) it.is;
+    fits = fits_places names met after late_after draft.places it.next it.fits;
+    met_known = it.met_known;
+    more = it.more;
+    more_is = it.more_is;
+    numbers = it.numbers;
+    numbers_are = it.numbers_are;
+    places_are = sym (append-nil draft.places);
+    tracks = it.tracks;
+  }
+
+  pub goes_behind : (names : Environment) (met : Names) (at : ℕ) (late : Late) (after : ℕ) (late_after : Late) (draft : Draft) (places : List ℤ) (row : PlainBody) (count : ℕ) (result : Result Draft Refusal)
+      → AreRows row count names → draft.places ≡ [] → RowsHave row names 1 count places → Goes names met at late after late_after draft places result
+      → Goes names (λ key. gives_rows row key || met key) at late after late_after draft places (result >>= λ next. Ok (behind_rows row count next))
+  goes_behind names met at late after late_after draft places row count result are none have it =
+      let same : places ≡ it.next.places = ap (λ (p : List ℤ). p ++ places) (sym none) ∙ sym it.places_are in
+      record {
+        next = behind_rows row count it.next;
+        is = ap (λ (r : Result Draft Refusal). r >>= λ next. Ok (behind_rows row count next)) it.is;
+        fits = record {
+          bits = it.fits.bits;
+          len = it.fits.len;
+          late_is = it.fits.late_is;
+          marks = it.fits.marks;
+          within = it.fits.within;
+          names_are = alike_rows row count it.next.places met it.next.known names are (subst (RowsHave row names 1 count) same have) it.fits.names_are;
+        };
+        met_known = met_rows row count it.next.places met it.next.known it.met_known;
+        more = it.more;
+        more_is = it.more_is;
+        numbers = it.numbers;
+        numbers_are = it.numbers_are;
+        places_are = it.places_are;
+        tracks = it.tracks;
+      }

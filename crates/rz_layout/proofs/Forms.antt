@@ -76,7 +76,7 @@ text_field facts draft text value = by text.form text.hex text.size text.fixed v
     by form hex size (Some parts) (Some own) = again (lay facts draft (OneText (record { form = form; hex = hex; size = size; fixed = Some parts })) (Some own))
 
 -- a row that is laid, with its late numbers in their places
-module _ (facts : Facts) (body : PlainBody) (row : List Tree) (draft : Draft) (is : row_laid facts body nothing_laid row ≡ Ok draft) where
+module _ (facts : Facts) (body : PlainBody) (row : List Tree) (draft : Draft) (is : row_laid facts None body nothing_laid row ≡ Ok draft) where
   abbrev bytes_made : List Bool → Result (List ℕ) Refusal
   bytes_made bits = Ok (bytes_of (filled 8 bits))
 

@@ -3,6 +3,7 @@ pub mod Groups
 pub mod Rows
 pub mod Room
 pub mod Noted
+pub mod Arrays
 pub mod Fills
 pub mod Forms
 pub mod Stands
@@ -15,6 +16,7 @@ pub mod Masks
 pub mod Tracks
 pub mod Filled
 pub mod Labels
+pub mod Placing
 pub mod Counts
 pub mod Texts
 pub mod Fitting
@@ -22,9 +24,13 @@ pub mod Complete
 pub mod Fed
 pub mod Adding
 pub mod Coming
+pub mod OwnPlaces
+pub mod Unmet
+pub mod Inward
 pub mod Sound
 pub mod Apart
 pub mod Giving
+pub mod Faults
 pub mod Numbers
 pub mod Steps
 pub mod Small

@@ -1,6 +1,8 @@
 -- Notes of names: which names they give, and what the body that is left with them keeps.
-use Rattle.std.proofs.Common.{◌≡◌, ℕ, zero, suc, ◌+◌, ◌<◌, ◌≤◌, ◌||◌, Bor, Bool, true, false, ℤ, pos, List, [], ◌∷◌, ◌++◌, length, get_or, take, drop, map, Option, Some, None, Result, Ok, Err, refl, sym, ap, subst, ◌∙◌}
-use Rattle.std.specs.Prelude.{if◌then◌else◌}
+use Rattle.std.proofs.Common.{◌≡◌, ℕ, zero, suc, ◌+◌, ◌<◌, ◌≤◌, ◌||◌, Bor, Bool, true, false, ℤ, pos, List, [], ◌∷◌, ◌++◌, length, get_or, take, drop, map, Option, Some, None, Result, Ok, Err, refl, sym, ap, subst, ◌∙◌, arith}
+use Rattle.std.specs.Prelude.{if◌then◌else◌, nat_lt, IfOk}
+use Rattle.std.specs.Option.{is_some}
+use Rattle.std.proofs.lemmas.Bool.{ltb-false}
 use Rattle.std.proofs.Math.Seq.{drop-append_seam, take-append_seam}
 use Rattle.std.proofs.lemmas.List.{append_assoc, append-nil}
 use Rattle.rz_core.specs.Stop.{◌>>=◌, Gives, fault_seen, left}
@@ -14,13 +16,16 @@ use Rattle.rz_types_fields.specs.Spells.{most_bits}
 use Rattle.rz_types_fields.specs.declared.tree.Tree.{Tree}
 use Rattle.rz_expr.specs.Environment.{Environment, Key}
 use Rattle.rz_types_fields.specs.Sees.{marked}
-use Rattle.rz_layout.specs.Laid.{draft_of, has_name, has_names, kept_late, IsEntered, IsLeft, IsNotedBy, IsShort}
+use Rattle.rz_layout.specs.Laid.{draft_of, has_name, has_names, is_in_named, kept_late, IsEntered, IsLeft, IsNotedBy, IsShort}
 use Rattle.rz_layout.specs.Late.{behind_notes, closed_by, numbers_in}
 use Rattle.rz_layout.specs.declared.laid.Laid.{Laid}
 use Rattle.rz_layout.specs.declared.late.Late.{Late as HeldLate}
 use Rattle.rz_types_fields.proofs.Bodies.{body_next}
+use Rattle.rz_types_fields.proofs.RowKeys.{no_labels}
 use Rattle.rz_types_fields.specs.Field.{field_and, no_fields, plain_body, plain_field, takes_value, Align, Array, Fill, Label, Number, Points, Switch, Text, PlainBody, PlainField}
-use Rattle.rz_types_fields.specs.Known.{known, noted, noting, stated_in}
+use Rattle.rz_types_fields.specs.Known.{known, noted, noting, stated_in, which_of}
+use Rattle.rz_types_fields.specs.RowLabels.{is_row, labels_count, numbers_row, row_number, RowOf}
+use Rattle.rz_types_fields.specs.declared.names.InRow.{InRow}
 use Rattle.rz_types_fields.specs.Laid.{body_laid, closing, counted, enter, entered, field_laid, first_value, leave, most_kept, other_values, outside_of, placed, row_laid, with_field, Draft, LateNumber, Refusal}
 use Rattle.rz_types_fields.specs.Passed.{declares, gives_key, outside, stands_at, Names}
 use Rattle.rz_core.specs.declared.resource.Word.{Word}
@@ -39,6 +44,10 @@ noted_none gives notes = record { more = []; grew = sym (append-nil notes); othe
 
 pub noted_same : (gives : Names) (old new : List Note) → new ≡ old → IsNotedBy gives old new
 noted_same gives old new is = record { more = []; grew = is ∙ sym (append-nil old); others = λ key before not_given. refl }
+
+pub noted_if : (gives : Names) (old new : List Note) (result : Result (Unit {0}) (Stop LayFault)) → IfOk result (λ nothing. new ≡ old) → IfOk result (λ nothing. IsNotedBy gives old new)
+noted_if gives old new (Ok nothing) is = noted_same gives old new is
+noted_if gives old new (Err stop) is = tt
 
 pub noted_one : (gives : Names) (old new : List Note) (note : Note) → new ≡ old ++ note ∷ [] → ((key : Key) (before : Option ℤ) → gives key ≡ false → noting note key before ≡ before)
     → IsNotedBy gives old new
@@ -61,10 +70,11 @@ noted_both gives old mid new one other = record {
 pub noted_back : (gives : Names) (old mid new : List Note) → mid ≡ old → IsNotedBy gives mid new → IsNotedBy gives old new
 noted_back gives old mid new is it = record { more = it.more; grew = it.grew ∙ ap (λ (front : List Note). front ++ it.more) is; others = it.others }
 
-pub entered_more : (fields : Bor (List Field)) (old mid new : List Note) → mid ≡ old ++ Entered fields ∷ [] → IsNotedBy (declares (plain_body fields.now)) mid new → IsEntered fields old new
-entered_more fields old mid new is it = record {
+pub entered_more : (fields : Bor (List Field)) (which : Option InRow) (old mid new : List Note) → mid ≡ old ++ Entered fields which ∷ []
+    → IsNotedBy (declares (plain_body fields.now)) mid new → IsEntered fields which old new
+entered_more fields which old mid new is it = record {
   more = it.more;
-  grew = it.grew ∙ ap (λ (front : List Note). front ++ it.more) is ∙ append_assoc old (Entered fields ∷ []) it.more;
+  grew = it.grew ∙ ap (λ (front : List Note). front ++ it.more) is ∙ append_assoc old (Entered fields which ∷ []) it.more;
   others = it.others;
 }
 
@@ -72,6 +82,9 @@ pub note_placed : (name : Bor Word) (old new : List Note) (place : ℤ) (at : �
 note_placed name old new place at is same =
     ap known is ∙ known_more old (Placed name place)
     ∙ (λ i. record { give = λ key. if stands_at name.now.bytes key then Some (same i) else (known old).give key })
+
+pub place_pushed : (old new : List ℤ) (place : ℤ) (at : ℕ) → new ≡ old ++ place ∷ [] → place ≡ pos at → new ≡ old ++ pos at ∷ []
+place_pushed old new place at is same = is ∙ ap (λ (z : ℤ). old ++ z ∷ []) same
 
 -- What the fields of a body give, its first ones and each of them.
 
@@ -125,7 +138,10 @@ sound_next fields i field less item values others takes same rest sound =
     subst (λ (body : PlainBody). AreSound body values) (body_next fields i field less item) sound in
     subst (AreSound (plain_body (drop (i + 1) fields))) (sym (rest ∙ ap (λ (t : Bool). other_values t values) same)) all.1
 
--- A body without names.
+-- A body without names, which is no row of an array that has one.
+
+not_more : (count : ℕ) → nat_lt 0 count ≡ false → count ≡ 0
+not_more count none = let most = ltb-false 0 count none in omega (arith, most)
 
 nameless_field : (field : PlainField) → has_name field ≡ false → (key : Key) → gives_key field key ≡ false
 nameless_field (Number number) none key = refl
@@ -134,7 +150,7 @@ nameless_field (Points points) none key = refl
 nameless_field (Fill unit count) none key = refl
 nameless_field (Align unit) none key = refl
 nameless_field (Label name) none key = absurd cc
-nameless_field (Array None count row) none key = refl
+nameless_field (Array None count row) none key = no_labels row (not_more (labels_count row) none) key
 nameless_field (Array (Some name) count row) none key = absurd cc
 nameless_field (Switch cases) none key = refl
 
@@ -143,11 +159,27 @@ nameless no_fields none key = refl
 nameless (field_and field fields) none key =
     (λ i. nameless_field field (or_left (has_name field) (has_names fields) none) key i || nameless fields (or_right (has_name field) (has_names fields) none) key i)
 
-module _ (body : PlainBody) (none : has_names body ≡ false) (own : Environment) where
-  nothing_outside : (outer : Environment) → outside_of body own outer ≡ outer
-  nothing_outside outer = λ i. record { give = λ key. (if nameless body none key i then own.give key else outer.give key) }
+unnumbered : (name : Option Word) → is_some name ≡ false → (key : Key) → numbers_row name key ≡ false
+unnumbered None none key = refl
+unnumbered (Some name) none key = absurd cc
 
-  nothing_closed : (one : LateNumber) → closing body own one ≡ one
+no_row : (which : Option RowOf) → is_in_named which ≡ false → (key : Key) → is_row which key ≡ false
+no_row None none key = refl
+no_row (Some row) none key = unnumbered row.name none key
+
+-- the key is a name of a body: one of its own, or the number of the row that it is
+abbrev is_own : Option RowOf → PlainBody → Key → Bool
+is_own which body key = is_row which key || declares body key
+
+module _ (which : Option RowOf) (body : PlainBody) (none : (is_in_named which || has_names body) ≡ false) (own : Environment) where
+  nothing_own : (key : Key) → is_own which body key ≡ false
+  nothing_own key =
+      (λ i. no_row which (or_left (is_in_named which) (has_names body) none) key i || nameless body (or_right (is_in_named which) (has_names body) none) key i)
+
+  nothing_outside : (outer : Environment) → outside_of which body own outer ≡ outer
+  nothing_outside outer = λ i. record { give = λ key. (if nothing_own key i then own.give key else outer.give key) }
+
+  nothing_closed : (one : LateNumber) → closing which body own one ≡ one
   nothing_closed one = λ i. record {
     piece = one.piece;
     at = one.at;
@@ -157,36 +189,55 @@ module _ (body : PlainBody) (none : has_names body ≡ false) (own : Environment
     names = λ outer. one.names (nothing_outside outer i);
   }
 
-  none_closed : (numbers : List LateNumber) → map (closing body own) numbers ≡ numbers
+  none_closed : (numbers : List LateNumber) → map (closing which body own) numbers ≡ numbers
   none_closed [] = refl
   none_closed (one ∷ numbers) = λ i. nothing_closed one i ∷ none_closed numbers i
 
 -- A body that is left.
 
-module _ (fields : Bor (List Field)) (old more : List Note) (others : (key : Key) (before : Option ℤ) → declares (plain_body fields.now) key ≡ false → noted before more key ≡ before) where
+by_own : (row own : Bool) (number stated one other : Option ℤ) → (row || own) ≡ true
+    → (if row then number else if own then stated else one) ≡ (if row then number else if own then stated else other)
+by_own true own number stated one other is = refl
+by_own false true number stated one other is = refl
+by_own false false number stated one other is = absurd cc
+
+by_outer : (row own : Bool) (number stated one : Option ℤ) → (row || own) ≡ false → (if row then number else if own then stated else one) ≡ one
+by_outer true own number stated one is = absurd cc
+by_outer false true number stated one is = absurd cc
+by_outer false false number stated one is = refl
+
+module _ (fields : Bor (List Field)) (which : Option InRow) (old more : List Note)
+    (others : (key : Key) (before : Option ℤ) → declares (plain_body fields.now) key ≡ false → noted before more key ≡ before) where
   abbrev body : PlainBody
   body = plain_body fields.now
 
+  abbrev place : Option RowOf
+  place = which_of which
+
   abbrev own : List Note
-  own = Entered fields ∷ more
+  own = Entered fields which ∷ more
 
-  value_is : (outer : Environment) (key : Key) → (if declares body key then (known (old ++ own)).give key else outer.give key) ≡ noted (outer.give key) own key
-  value_is outer key = by (declares body key) refl
+  abbrev chosen : Environment → Key → Bool → Option ℤ
+  chosen outer key test = if test then (known (old ++ own)).give key else outer.give key
+
+  value_is : (outer : Environment) (key : Key) → chosen outer key (is_own place body key) ≡ noted (outer.give key) own key
+  value_is outer key = by (is_own place body key) refl
     where
-      by : (test : Bool) → declares body key ≡ test → (if declares body key then (known (old ++ own)).give key else outer.give key) ≡ noted (outer.give key) own key
+      by : (test : Bool) → is_own place body key ≡ test → chosen outer key (is_own place body key) ≡ noted (outer.give key) own key
       by true is =
-          ap (λ (t : Bool). if t then (known (old ++ own)).give key else outer.give key) is
+          ap (chosen outer key) is
           ∙ noted_append (outside.give key) old own key
-          ∙ ap (λ (t : Bool). noted (if t then stated_in body key else noted (outside.give key) old key) more key) is
-          ∙ sym (ap (λ (t : Bool). noted (if t then stated_in body key else outer.give key) more key) is)
+          ∙ ap (λ (v : Option ℤ). noted v more key)
+          (by_own (is_row place key) (declares body key) (row_number place) (stated_in body key) (noted (outside.give key) old key) (outer.give key) is)
       by false is =
-          ap (λ (t : Bool). if t then (known (old ++ own)).give key else outer.give key) is
-          ∙ sym (ap (λ (t : Bool). noted (if t then stated_in body key else outer.give key) more key) is ∙ others key (outer.give key) is)
+          ap (chosen outer key) is
+          ∙ sym (ap (λ (v : Option ℤ). noted v more key) (by_outer (is_row place key) (declares body key) (row_number place) (stated_in body key) (outer.give key) is)
+          ∙ others key (outer.give key) (or_right (is_row place key) (declares body key) is))
 
-  names_are : (outer : Environment) → outside_of body (known (old ++ own)) outer ≡ behind_notes own outer
+  names_are : (outer : Environment) → outside_of place body (known (old ++ own)) outer ≡ behind_notes own outer
   names_are outer = λ i. record { give = λ key. value_is outer key i }
 
-  pub closing_is : (one : LateNumber) → closing body (known (old ++ own)) one ≡ closed_by own one
+  pub closing_is : (one : LateNumber) → closing place body (known (old ++ own)) one ≡ closed_by own one
   closing_is one = λ i. record {
     piece = one.piece;
     at = one.at;
@@ -196,84 +247,92 @@ module _ (fields : Bor (List Field)) (old more : List Note) (others : (key : Key
     names = λ outer. one.names (names_are outer i);
   }
 
-  all_closed : (numbers : List LateNumber) → map (closing body (known (old ++ own))) numbers ≡ map (closed_by own) numbers
+  all_closed : (numbers : List LateNumber) → map (closing place body (known (old ++ own))) numbers ≡ map (closed_by own) numbers
   all_closed [] = refl
   all_closed (one ∷ numbers) = λ i. closing_is one i ∷ all_closed numbers i
 
-  pub all_kept : (has : Bool) → has_names body ≡ has → (numbers : List LateNumber) → map (closing body (known (old ++ own))) numbers ≡ kept_late has own numbers
+  pub all_kept : (has : Bool) → (is_in_named place || has_names body) ≡ has → (numbers : List LateNumber)
+      → map (closing place body (known (old ++ own))) numbers ≡ kept_late has own numbers
   all_kept true is numbers = all_closed numbers
-  all_kept false is numbers = none_closed body is (known (old ++ own)) numbers
+  all_kept false is numbers = none_closed place body is (known (old ++ own)) numbers
 
 abbrev given : Draft → Result Draft Refusal
 given draft = Ok draft
 
 -- what was laid before a body, at its front, behind its fields, and behind its end
-module _ (facts : Facts) (fields : Bor (List Field)) (row : List Tree) (before start after new : Laid) (same_piece : start.piece ≡ before.piece) (same_bits : start.bits ≡ before.bits)
-    (same_marks : start.marks ≡ before.marks) (known_is : known start.notes.items ≡ entered (plain_body fields.now) row (known before.notes.items)) (none : start.late ≡ []) where
-  enter_is : enter (plain_body fields.now) row (draft_of before) ≡ draft_of start
+module _ (facts : Facts) (fields : Bor (List Field)) (which : Option InRow) (row : List Tree) (before start after new : Laid) (same_piece : start.piece ≡ before.piece)
+    (same_bits : start.bits ≡ before.bits) (same_marks : start.marks ≡ before.marks) (same_places : start.places.items ≡ before.places.items)
+    (known_is : known start.notes.items ≡ entered (which_of which) (plain_body fields.now) row (known before.notes.items)) (none : start.late ≡ []) where
+  enter_is : enter (which_of which) (plain_body fields.now) row (draft_of before) ≡ draft_of start
   enter_is = λ i. record {
     piece = sym same_piece i;
     bits = sym same_bits i;
     late = marked (length (sym same_bits i)) (sym same_marks i);
     known = sym known_is i;
     numbers = sym (ap numbers_in none) i;
+    places = sym same_places i;
   }
 
   abbrev ended : Draft → Result Draft Refusal
-  ended next = Ok (leave (plain_body fields.now) (draft_of before) next)
+  ended next = Ok (leave (which_of which) (plain_body fields.now) (draft_of before) next)
 
   abbrev whole : Draft → Result Draft Refusal
   whole draft = body_laid facts draft (plain_body fields.now) row >>= ended
 
   pub body_refused : (stop : Stop LayFault) (other : Draft) → Gives (body_laid facts (draft_of start) (plain_body fields.now) row) (fault_seen refusal_of (left (draft_of after) (Err stop)))
-      → Gives (row_laid facts (plain_body fields.now) (draft_of before) row) (fault_seen refusal_of (left other (Err stop)))
+      → Gives (row_laid facts (which_of which) (plain_body fields.now) (draft_of before) row) (fault_seen refusal_of (left other (Err stop)))
   body_refused NoMemory other laid = tt
   body_refused (Refused fault) other laid = ap whole enter_is ∙ ap (λ (r : Result Draft Refusal). r >>= ended) laid
 
-  module _ (outer : List HeldLate) (within : IsEntered fields before.notes.items start.notes.items)
+  module _ (outer : List HeldLate) (within : IsEntered fields which before.notes.items start.notes.items)
       (grew : IsNotedBy (declares (plain_body fields.now)) start.notes.items after.notes.items) (is_outer : outer ≡ before.late)
-      (around : ℕ) (count : around ≡ length before.notes.items) (is : IsLeft (plain_body fields.now) outer around after new) where
+      (around : ℕ) (count : around ≡ length before.notes.items) (is : IsLeft (which_of which) (plain_body fields.now) outer around after new) where
     abbrev old : List Note
     old = before.notes.items
 
     abbrev more : List Note
     more = within.more ++ grew.more
 
-    grown : after.notes.items ≡ old ++ Entered fields ∷ more
-    grown = grew.grew ∙ ap (λ (front : List Note). front ++ grew.more) within.grew ∙ append_assoc old (Entered fields ∷ within.more) grew.more
+    abbrev has : Bool
+    has = is_in_named (which_of which) || has_names (plain_body fields.now)
+
+    grown : after.notes.items ≡ old ++ Entered fields which ∷ more
+    grown = grew.grew ∙ ap (λ (front : List Note). front ++ grew.more) within.grew ∙ append_assoc old (Entered fields which ∷ within.more) grew.more
 
     others : (key : Key) (value : Option ℤ) → declares (plain_body fields.now) key ≡ false → noted value more key ≡ value
     others key value not_given =
         noted_append value within.more grew.more key ∙ grew.others key (noted value within.more key) not_given ∙ within.others key value not_given
 
     pub notes_back : new.notes.items ≡ old
-    notes_back = is.notes ∙ ap (λ (n : ℕ). take n after.notes.items) count ∙ ap (take (length old)) grown ∙ take-append_seam old (Entered fields ∷ more)
+    notes_back = is.notes ∙ ap (λ (n : ℕ). take n after.notes.items) count ∙ ap (take (length old)) grown ∙ take-append_seam old (Entered fields which ∷ more)
 
-    own_back : drop around after.notes.items ≡ Entered fields ∷ more
-    own_back = ap (λ (n : ℕ). drop n after.notes.items) count ∙ ap (drop (length old)) grown ∙ drop-append_seam old (Entered fields ∷ more)
+    own_back : drop around after.notes.items ≡ Entered fields which ∷ more
+    own_back = ap (λ (n : ℕ). drop n after.notes.items) count ∙ ap (drop (length old)) grown ∙ drop-append_seam old (Entered fields which ∷ more)
 
-    numbers_left : numbers_in before.late ++ map (closing (plain_body fields.now) (known after.notes.items)) (numbers_in after.late) ≡ numbers_in new.late
+    numbers_left : numbers_in before.late ++ map (closing (which_of which) (plain_body fields.now) (known after.notes.items)) (numbers_in after.late) ≡ numbers_in new.late
     numbers_left =
-        ap (λ (notes : List Note). numbers_in before.late ++ map (closing (plain_body fields.now) (known notes)) (numbers_in after.late)) grown
-        ∙ ap (λ (kept : List LateNumber). numbers_in before.late ++ kept) (all_kept fields old more others (has_names (plain_body fields.now)) refl (numbers_in after.late))
-        ∙ ap (λ (notes : List Note). numbers_in before.late ++ kept_late (has_names (plain_body fields.now)) notes (numbers_in after.late)) (sym own_back)
-        ∙ ap (λ (lates : List HeldLate). numbers_in lates ++ kept_late (has_names (plain_body fields.now)) (drop around after.notes.items) (numbers_in after.late)) (sym is_outer)
+        ap (λ (notes : List Note). numbers_in before.late ++ map (closing (which_of which) (plain_body fields.now) (known notes)) (numbers_in after.late)) grown
+        ∙ ap (λ (kept : List LateNumber). numbers_in before.late ++ kept) (all_kept fields which old more others has refl (numbers_in after.late))
+        ∙ ap (λ (notes : List Note). numbers_in before.late ++ kept_late has notes (numbers_in after.late)) (sym own_back)
+        ∙ ap (λ (lates : List HeldLate). numbers_in lates ++ kept_late has (drop around after.notes.items) (numbers_in after.late)) (sym is_outer)
         ∙ sym is.late
 
-    left_is : leave (plain_body fields.now) (draft_of before) (draft_of after) ≡ draft_of new
+    left_is : leave (which_of which) (plain_body fields.now) (draft_of before) (draft_of after) ≡ draft_of new
     left_is = λ i. record {
       piece = sym is.piece i;
       bits = sym is.bits i;
       late = marked (length (sym is.bits i)) (sym is.marks i);
       known = known (sym notes_back i);
       numbers = numbers_left i;
+      places = sym is.places i;
     }
 
-    pub body_is : body_laid facts (draft_of start) (plain_body fields.now) row ≡ Ok (draft_of after) → row_laid facts (plain_body fields.now) (draft_of before) row ≡ Ok (draft_of new)
+    pub body_is : body_laid facts (draft_of start) (plain_body fields.now) row ≡ Ok (draft_of after)
+        → row_laid facts (which_of which) (plain_body fields.now) (draft_of before) row ≡ Ok (draft_of new)
     body_is laid = ap whole enter_is ∙ ap (λ (r : Result Draft Refusal). r >>= ended) laid ∙ ap given left_is
 
-pub short_left : (row : PlainBody) (outer : List HeldLate) (around : ℕ) (after new : Laid) → IsLeft row outer around after new → IsShort after → IsShort new
-short_left row outer around after new is short = record {
+pub short_left : (which : Option RowOf) (row : PlainBody) (outer : List HeldLate) (around : ℕ) (after new : Laid) → IsLeft which row outer around after new → IsShort after → IsShort new
+short_left which row outer around after new is short = record {
   few = subst (λ (bits : List Bool). length bits ≤ most_bits) (sym is.bits) short.few;
   marks = subst (λ (bits : List Bool). length new.marks ≤ length bits) (sym is.bits) (subst (λ (marks : List Bool). length marks ≤ length after.bits) (sym is.marks) short.marks);
   pieces = subst (λ (n : ℕ). n ≤ most_kept) (sym is.piece) short.pieces;

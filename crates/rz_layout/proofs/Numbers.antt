@@ -1,211 +1,114 @@
 -- The faults of rows.
-use Rattle.std.proofs.Common.{◌≡◌, ℕ, zero, suc, ◌+◌, ℤ, pos, Bool, true, false, ◌||◌, List, [], ◌∷◌, length, map, Option, Some, None, Result, Ok, Err, refl, sym, ap, ◌∙◌}
-use Rattle.std.specs.Prelude.{if◌then◌else◌, not, nat_lt, nat_abs, replicate}
+use Rattle.std.proofs.Common.{◌≡◌, ℕ, zero, suc, ◌+◌, ◌-◌, ◌*◌, ◌<◌, ◌≤◌, ℤ, pos, negsuc, Bool, true, false, ◌&&◌, ◌||◌, List, [], ◌∷◌, get_or, length, Option, Some, None, Result, Ok, Err, refl, sym, ap, subst, ◌∙◌, arith}
+use Rattle.std.specs.Prelude.{if◌then◌else◌, int_le, nat_lt, nat_abs, slice_get}
+use Rattle.std.proofs.lemmas.Bool.Decides.{nat_tests}
+use Rattle.std.proofs.lemmas.List.{length-append}
+use Rattle.std.proofs.lemmas.Option.{slice_get-get_or}
+use Rattle.std.proofs.Math.Nat.{mul-le-mul_right}
 use Rattle.std.specs.List.{list_any, AllByRecursion}
 use Rattle.std.specs.Option.{is_some, option_to_list}
 use Rattle.rz_core.proofs.Tests.{by_test, or_false, true_false}
-use Rattle.rz_core.specs.Lists.{first_of, or_else, unless_fault}
 use Rattle.rz_core.specs.Stop.{◌>>=◌}
 use Rattle.rz_core.specs.declared.facts.Facts.{Facts}
-use Rattle.rz_core.specs.declared.fault.Fault.{Fault}
 use Rattle.rz_bits.specs.Bits.{bytes_of}
 use Rattle.rz_bits.specs.BitBuf.{filled, zeros}
-use Rattle.rz_expr.specs.Environment.{count_key, count_of, place_of, Environment, Key, Sight}
+use Rattle.rz_expr.specs.Environment.{count_key, count_of, place_in, place_of, row_in, row_key, rows_of, Environment, Key, Sight}
+use Rattle.rz_core.specs.declared.resource.Word.{Word}
 use Rattle.rz_expr.specs.Term.{Term}
 use Rattle.rz_expr.specs.Value.{value_of}
 use Rattle.rz_expr.specs.declared.value.EvalFault.{EvalFault}
-use Rattle.rz_expr.specs.declared.value.EvalFault.TheVariants.{BadShift, DataWidth, LaterData, UnknownName, ZeroDivisor}
+use Rattle.rz_types_fields.proofs.RowKeys.{undeclared as around_undeclared}
 use Rattle.rz_types_fields.specs.declared.field.NumForm.{NumForm}
-use Rattle.rz_types_fields.specs.declared.field.TextForm.{TextForm}
 use Rattle.rz_types_fields.specs.declared.tree.Tree.{Tree}
-use Rattle.rz_types_fields.specs.Field.{case_and, field_and, no_cases, no_fields, takes_value, Align, Array, Fill, Label, Number, PlainBody, PlainCases, PlainField, PlainText, Points, Switch, Text}
-use Rattle.rz_types_fields.specs.Laid.{bad_length, bad_size, behind_refusal, body_laid, bytes_given, bytes_laid, case_laid, closing, draft_sight, early, early_value, enter, field_laid, fill, first_value, fixed_form, grown, in_order, joined, laid, late_at, late_bits, later, later_size, lay, leave, line_in, met_in, nothing_laid, now, number_form, other_values, patched, piece_form, pieces_laid, placed, ranged, reads_late, refusal, refusal_in, row_laid, rows_in, rows_laid, size_in, takes_one, text_laid, text_refusal, too_long, unless, unvalued, value_refusal, valued, with_form, with_room, Draft, Form, LateNumber, Refusal}
-use Rattle.rz_types_fields.specs.Passed.{declares, is_label, outside}
-use Rattle.rz_types_fields.specs.Piece.{fixed_integer, fixed_terms, free_integer, integers, pieces_of, points_terms, terms_of_text, Filler, OneNumber, OneText, Piece, Place, Zeros}
-use Rattle.rz_types_fields.specs.Range.{fits_number, may_be_size}
+use Rattle.rz_types_fields.specs.Field.{case_and, field_and, no_cases, no_fields, takes_value, Align, Array, Fill, Label, Number, PlainBody, PlainCases, PlainField, Points, Switch, Text}
+use Rattle.rz_types_fields.specs.Laid.{apart, behind_rows, body_laid, case_laid, closing, draft_sight, early, enter, field_laid, fill, first_value, fixed_form, grown, in_order, laid, late_at, late_bits, later, lay, leave, line_in, met_in, nothing_laid, now, number_form, other_values, patched, piece_form, pieces_laid, placed, ranged, reads_late, row_laid, rows_in, rows_laid, takes_one, text_laid, too_long, value_refusal, valued, with_form, with_places, with_room, Draft, Form, LateNumber, Refusal}
+use Rattle.rz_types_fields.specs.Passed.{declares, gives_rows, has_label, outside}
+use Rattle.rz_types_fields.specs.RowLabels.{also_rows, is_row, label_index, labels_count, row_number, row_of, row_value, RowOf}
+use Rattle.rz_types_fields.proofs.RowPlaces.{index_short, places_length}
+use Rattle.rz_types_fields.specs.Piece.{integers, pieces_of, points_terms, terms_of_text, Filler, OneNumber, OneText, Piece, Place, Zeros}
 use Rattle.rz_types_fields.specs.Sees.{names_later, sees}
-use Rattle.rz_types_fields.specs.Shape.{numbers_of}
-use Rattle.rz_types_fields.specs.Spells.{is_case, most_bits, nowhere, values_for}
-use Rattle.rz_types_fields.specs.Text.{bytes_seen, text_terms, PlainPart}
-use Rattle.rz_types_fields.specs.Value.{IsArithmetic}
-use Rattle.rz_types.proofs.Texts.{each_append as each_part, text_one, OnlyOne}
+use Rattle.rz_types_fields.specs.Spells.{is_case, most_bits, values_for}
 use Rattle.rz_types.specs.Kept.{AreCasesKept, AreKept, IsKept, IsKeptWithin}
-use Rattle.rz_types.specs.Names.{GivesCounts, GivesOwn, NamesNothing}
+use Rattle.rz_types.specs.Names.{FillsRows, GivesCounts, GivesNumbers, GivesOwn, NamesNothing}
 use Rattle.rz_types.specs.Readable.{all_known}
 use Rattle.rz_types.specs.Rules.{unknown_in, unknown_name}
-use Rattle.rz_types.specs.Walk.{and_names, names_of, no_names, Own}
-use Rattle.rz_layout.proofs.Filled.{Each}
-use Rattle.rz_layout.proofs.Fitting.{piece_is, placed_is, placed_none}
-use Rattle.rz_layout.proofs.Giving.{closing_given, each_append, each_mapped, entered_counts, entered_some, is_valued, or_left, outside_own, some_value, IsGiven}
-use Rattle.rz_layout.proofs.Labels.{has_label, places_labels}
+use Rattle.rz_types.specs.Walk.{and_names, around_names, names_of, no_names, Own}
+use Rattle.rz_layout.proofs.Apart.{body_apart}
+use Rattle.rz_layout.proofs.Counts.{AreApart}
+use Rattle.rz_layout.proofs.OwnPlaces.{body_behind}
+use Rattle.rz_layout.proofs.Sees.{is_in_row}
+use Rattle.rz_layout.proofs.Unmet.{rows_given}
+use Rattle.rz_layout.proofs.Texts.{good}
+use Rattle.rz_layout.proofs.Filled.{chained, same_ok, Each}
+use Rattle.rz_layout.proofs.Fitting.{piece_alone, piece_is, placed_is, placed_none}
+use Rattle.rz_layout.proofs.Giving.{case_scope, closing_given, each_append, each_mapped, entered_counts, entered_fills, entered_numbers, entered_some, is_valued, or_left, outside_fills, outside_numbers, outside_own, row_scope, some_value, IsEnded, IsGiven, IsScope}
+use Rattle.rz_layout.proofs.Labels.{entered_row, gives_place, gives_places, is_around, label_key, places_labels, row_is_around}
 use Rattle.rz_layout.specs.Compiled.{is_compile_fault}
+use Rattle.rz_layout.proofs.Faults.{each_named, point_pieces, ranged_known, text_known, then_known, value_known, valued_known, HasNames, HasTerms, IsNamed, Known}
 
--- The expressions of a piece, of which each names only names of a scope.
+-- Places in rows.
 
-abbrev pub IsNamed : Own → Term → Type 0
-IsNamed scope term = unknown_name scope term ≡ None
+placed_more : (front own labels rows inner outer next : ℕ) → inner ≡ outer → inner ≡ front + own → own ≡ labels → next ≡ outer + rows * labels → next ≡ front + suc rows * labels
+placed_more front own labels rows inner outer next a b c d = grind (arith, a, b, c, d)
 
-abbrev pub HasTerms : Own → Piece → Type 0
-HasTerms scope (OneNumber number) = AllByRecursion (IsNamed scope) (option_to_list number.fixed)
-HasTerms scope (OneText text) = AllByRecursion (IsNamed scope) (terms_of_text text)
-HasTerms scope (Zeros count) = Unit {0}
-HasTerms scope (Filler unit) = Unit {0}
-HasTerms scope (Place name) = Unit {0}
+some_same : (one other : ℤ) → ◌≡◌ {A = Option ℤ} (Some one) (Some other) → one ≡ other
+some_same one other is = cc is
 
-no_first : {A : Type 0} (one other : Option A) → or_else one other ≡ None → (one ≡ None) × (other ≡ None)
-no_first None other is = (refl, is)
-no_first (Some x) other is = absurd cc
+index_within : (j count labels index : ℕ) → j < count → index < labels → j * labels + index < count * labels
+index_within j count labels index row label =
+    let more : suc j * labels ≤ count * labels = mul-le-mul_right labels row in
+    let one : suc j * labels ≡ j * labels + labels = grind (arith) in
+    omega (arith, more, one, label)
 
-each_named : (scope : Own) (terms : List Term) → first_of (map (unknown_name scope) terms) ≡ None → AllByRecursion (IsNamed scope) terms
-each_named scope [] none = tt
-each_named scope (term ∷ terms) none =
-    let each = no_first (unknown_name scope term) (first_of (map (unknown_name scope) terms)) none in (each.0, each_named scope terms each.1)
+-- a label in rows has a place in each of them
+place_given : (row : PlainBody) (count : ℕ) (places : List ℤ) (label : List ℕ) (number : ℤ) → length places ≡ count * labels_count row → has_label row label ≡ true → int_le (pos 1) number ≡ true → int_le number (pos count) ≡ true
+    → (place : ℤ) × (row_value row count places (place_in label number) ≡ Some place)
+place_given row count places label (negsuc n) long own low high = absurd (true_false (sym low))
+place_given row count places label (pos zero) long own low high = absurd (true_false (sym low))
+place_given row count places label (pos (suc j)) long own low high =
+    let k = labels_count row in
+    let i = label_index row label in
+    let less : j < count = grind (arith, nat_tests, high) in
+    let within : j * k + i < length places = subst (λ (n : ℕ). j * k + i < n) (sym long) (index_within j count k i less (index_short row label own)) in
+    let index : suc j - 1 ≡ j = omega (arith) in (
+      get_or places (j * k + i) (pos 0),
+      (λ n. if low n && high n then slice_get places ((suc j - 1) * k + i) else None) ∙ ap (λ (n : ℕ). slice_get places (n * k + i)) index ∙ slice_get-get_or places (j * k + i) (pos 0) within,
+    )
 
-free_terms : (scope : Own) (count : ℕ) → AllByRecursion (HasTerms scope) (replicate count free_integer)
-free_terms scope zero = tt
-free_terms scope (suc count) = (tt, free_terms scope count)
+around_single : (key : Key) → is_around key ≡ true → is_in_row key ≡ false
+around_single (place_of name) is = refl
+around_single (count_of name) is = refl
+around_single (rows_of name) is = refl
+around_single (place_in name number) is = absurd (true_false (sym is))
+around_single (row_in name) is = refl
 
-fixed_pieces : (scope : Own) (terms : List Term) → AllByRecursion (IsNamed scope) terms → AllByRecursion (HasTerms scope) (map fixed_integer terms)
-fixed_pieces scope [] each = tt
-fixed_pieces scope (term ∷ terms) each = ((each.0, tt), fixed_pieces scope terms each.1)
+label_single : (in_rows : Bool) (name : List ℕ) → is_in_row (label_key in_rows name) ≡ false
+label_single false name = refl
+label_single true name = refl
 
-point_pieces : (scope : Own) (rect : Bool) (fixed : Option (List Term)) → AllByRecursion (IsNamed scope) (points_terms fixed) → AllByRecursion (HasTerms scope) (integers rect fixed)
-point_pieces scope rect None each = free_terms scope (numbers_of rect)
-point_pieces scope rect (Some terms) each = fixed_pieces scope terms each
-
--- A refusal, where there is one, is such a fault.
-
-abbrev pub Known : {X : Type 0} → Result X Refusal → Type 0
-Known (Ok x) = Unit {0}
-Known (Err fault) = is_compile_fault fault.number ≡ true
-
-then_known : {X Y : Type 0} (first : Result X Refusal) (next : X → Result Y Refusal) → Known first → ((x : X) → Known (next x)) → Known (first >>= next)
-then_known (Ok x) next one more = more x
-then_known (Err fault) next one more = one
-
-abbrev KnownFault : Option Refusal → Type 0
-KnownFault None = Unit {0}
-KnownFault (Some fault) = is_compile_fault fault.number ≡ true
-
-unless_known : {X : Type 0} (found : Option Refusal) (x : X) → KnownFault found → Known (unless_fault found x)
-unless_known None x is = tt
-unless_known (Some fault) x is = is
-
-test_known : (test : Bool) (fault : Refusal) → is_compile_fault fault.number ≡ true → KnownFault (unless test fault)
-test_known true fault is = tt
-test_known false fault is = is
-
-or_known : (one other : Option Refusal) → KnownFault one → KnownFault other → KnownFault (or_else one other)
-or_known None other is also = also
-or_known (Some fault) other is also = is
-
-value_known : (piece : ℕ) (fault : EvalFault) → NamesNothing (Err fault) → is_compile_fault (value_refusal piece fault).number ≡ true
-value_known piece ZeroDivisor is = refl
-value_known piece (BadShift count) is = refl
-value_known piece (UnknownName word) is = absurd is
-value_known piece (LaterData first end) is = refl
-value_known piece (DataWidth width) is = refl
-
-valued_known : (piece : ℕ) (found : Result ℤ EvalFault) → NamesNothing found → Known (valued piece found)
-valued_known piece (Ok value) is = tt
-valued_known piece (Err fault) is = value_known piece fault is
-
-ranged_known : (piece : ℕ) (form : NumForm) (width value : ℤ) → Known (ranged piece form width value)
-ranged_known piece form width value = unless_known (unless (fits_number form width value) (refusal 207 piece value)) _ (test_known (fits_number form width value) (refusal 207 piece value) refl)
-
--- Bytes.
-
-bad_size_known : (piece : ℕ) (form : TextForm) (size : Option ℤ) → KnownFault (bad_size piece form size)
-bad_size_known piece form None = tt
-bad_size_known piece form (Some size) = test_known (may_be_size form size) (refusal 207 piece size) refl
-
-laid_known : (piece : ℕ) (form : TextForm) (size : Option ℤ) (bytes : List ℕ) → Known (bytes_laid piece form size bytes)
-laid_known piece form size bytes =
-    unless_known (text_refusal piece form size (length bytes)) _
-    (or_known (bad_size piece form size) (or_else (bad_length piece form size (length bytes)) None) (bad_size_known piece form size)
-    (or_known (bad_length piece form size (length bytes)) None (test_known _ (refusal 216 piece (pos (length bytes))) refl) tt))
-
-joined_known : (piece : ℕ) (found : Result (List ℕ) Fault) → OnlyOne (λ number. is_compile_fault number ≡ true) found → Known (joined piece found)
-joined_known piece (Ok bytes) is = tt
-joined_known piece (Err fault) is = is
-
-behind_known : {X : Type 0} (found : Option Refusal) (given : Result X Refusal) → KnownFault found → (found ≡ None → Known given) → Known (behind_refusal found given)
-behind_known None given is also = also refl
-behind_known (Some fault) given is also = is
-
-refusal_known : (found : Result ℤ Refusal) → Known found → KnownFault (refusal_in found)
-refusal_known (Ok value) is = tt
-refusal_known (Err fault) is = is
-
-module _ (known : Facts) (draft : Draft) where
-  -- the value of an expression that names nothing without a value
-  abbrev HasNames : Term → Type 0
-  HasNames term = NamesNothing (value_of term (draft_sight known draft))
-
-  early_known : (found : Result ℤ EvalFault) → NamesNothing found → Known (early_value draft found)
-  early_known (Ok value) is = tt
-  early_known (Err fault) is = by (reads_late (length draft.bits) fault)
-    where
-      by : (test : Bool) → is_compile_fault (if test then refusal 214 draft.piece (pos draft.piece) else value_refusal draft.piece fault).number ≡ true
-      by true = refl
-      by false = value_known draft.piece fault is
-
-  size_known : (size : Option Term) → AllByRecursion HasNames (option_to_list size) → Known (size_in known draft size)
-  size_known None each = tt
-  size_known (Some term) each = then_known (early known draft term) (λ size. Ok (Some size)) (early_known (value_of term (draft_sight known draft)) each.0) (λ v. tt)
-
-  terms_known : (terms : List Term) → AllByRecursion HasNames terms → KnownFault (first_of (map (unvalued known draft) terms))
-  terms_known [] each = tt
-  terms_known (term ∷ terms) each =
-      or_known (unvalued known draft term) (first_of (map (unvalued known draft) terms))
-      (refusal_known (early known draft term) (early_known (value_of term (draft_sight known draft)) each.0)) (terms_known terms each.1)
-
-  found_value : (found : Result ℤ EvalFault) → refusal_in (early_value draft found) ≡ None → IsArithmetic found
-  found_value (Ok value) is = tt
-  found_value (Err fault) is = absurd cc
-
-  all_found : (terms : List Term) → first_of (map (unvalued known draft) terms) ≡ None → AllByRecursion (λ term. IsArithmetic (value_of term (draft_sight known draft))) terms
-  all_found [] none = tt
-  all_found (term ∷ terms) none =
-      let each = no_first (unvalued known draft term) (first_of (map (unvalued known draft) terms)) none in
-      (found_value (value_of term (draft_sight known draft)) each.0, all_found terms each.1)
-
-  bytes_known : (fixed : Option (List PlainPart)) → AllByRecursion HasNames (fixed_terms fixed) → (value : Option Tree) → Known (bytes_given known draft fixed value)
-  bytes_known None each value = tt
-  bytes_known (Some parts) each value =
-      behind_known (first_of (map (unvalued known draft) (text_terms parts))) (joined draft.piece (bytes_seen nowhere known (draft_sight known draft) parts))
-      (terms_known (text_terms parts) each)
-      (λ none. joined_known draft.piece (bytes_seen nowhere known (draft_sight known draft) parts)
-      (text_one (λ number. is_compile_fault number ≡ true) refl refl refl nowhere known (draft_sight known draft) parts (all_found (text_terms parts) none)))
-
-  later_none : (test : Bool) → unless (not test) (refusal 214 draft.piece (pos draft.piece)) ≡ None → test ≡ false
-  later_none true is = absurd cc
-  later_none false is = refl
-
-  text_known : (text : PlainText) (value : Option Tree) → (list_any (names_later (met_in draft.known)) (terms_of_text text) ≡ false → AllByRecursion HasNames (terms_of_text text)) → Known (text_laid known draft text value)
-  text_known text value names =
-      behind_known (later_size draft (terms_of_text text)) (size_in known draft text.size >>= λ size. bytes_given known draft text.fixed value >>= λ bytes. bytes_laid draft.piece text.form size bytes)
-      (test_known (not (list_any (names_later (met_in draft.known)) (terms_of_text text))) (refusal 214 draft.piece (pos draft.piece)) refl)
-      (λ none.
-      let each = each_part HasNames (option_to_list text.size) (fixed_terms text.fixed) (names (later_none (list_any (names_later (met_in draft.known)) (terms_of_text text)) none)) in
-      then_known (size_in known draft text.size) _ (size_known text.size each.0)
-      (λ size. then_known (bytes_given known draft text.fixed value) _ (bytes_known text.fixed each.1 value) (λ bytes. laid_known draft.piece text.form size bytes)))
+has_number : (which : Option RowOf) (key : Key) → is_row which key ≡ true → is_some (row_number which) ≡ true
+has_number None key at_row = absurd (true_false (sym at_row))
+has_number (Some row) key at_row = refl
 
 -- With the values of expressions.
-module _ (values : (sight : Sight) (term : Term) → all_known (met_in sight.names) (met_in sight.names) term ≡ true → NamesNothing (value_of term sight))
+module _ (values : (scope : Own) (sight : Sight) (term : Term) → GivesNumbers scope.around sight.names → FillsRows sight.names → unknown_name scope term ≡ None
+    → all_known (met_in sight.names) (met_in sight.names) term ≡ true → NamesNothing (value_of term sight))
     (names_end : (scope : Own) (names : Environment) (term : Term) → GivesOwn scope names → unknown_name scope term ≡ None → all_known (met_in names) (met_in names) term ≡ true)
     (names_early : (scope : Own) (names : Environment) (term : Term) → GivesCounts scope.arrays names → unknown_name scope term ≡ None → names_later (met_in names) term ≡ false → all_known (met_in names) (met_in names) term ≡ true)
     (known : Facts) where
-  -- what stands in a draft: numbers of rows, and names for late numbers
+  -- what stands in a draft: numbers of rows and of the rows around, places in all rows, and names for late numbers
   record Ready (scope : Own) (draft : Draft) : Type 0 where
     counts : GivesCounts scope.arrays draft.known
-    numbers : Each (IsGiven scope) draft.numbers
+    around : GivesNumbers scope.around draft.known
+    fills : FillsRows draft.known
+    numbers : Each (IsGiven known scope) draft.numbers
 
   -- behind a step nothing that had a value has none, and these labels have one
   record Next (scope : Own) (labels : Key → Bool) (draft next : Draft) : Type 0 where
-    grows : (key : Key) → is_some (draft.known.give key) ≡ true → is_some (next.known.give key) ≡ true
-    given : (key : Key) → labels key ≡ true → is_some (next.known.give key) ≡ true
-    numbers : Each (IsGiven scope) next.numbers
+    grows : (key : Key) → is_in_row key ≡ false → is_some (draft.known.give key) ≡ true → is_some (next.known.give key) ≡ true
+    given : (in_rows : Bool) (name : List ℕ) → labels (label_key in_rows name) ≡ true → is_some (next.known.give (label_key in_rows name)) ≡ true
+    fills : FillsRows next.known
+    numbers : Each (IsGiven known scope) next.numbers
 
   abbrev Tells : Own → (Key → Bool) → Draft → Result Draft Refusal → Type 0
   Tells scope labels draft (Ok next) = Next scope labels draft next
@@ -213,14 +116,18 @@ module _ (values : (sight : Sight) (term : Term) → all_known (met_in sight.nam
 
   ready_next : (scope : Own) (labels : Key → Bool) (draft next : Draft) → Ready scope draft → Next scope labels draft next → Ready scope next
   ready_next scope labels draft next ready it = record {
-    counts = record { give = λ name among. let given = ready.counts.give name among in some_value (next.known.give (count_key name)) (it.grows (count_key name) (is_valued (draft.known.give (count_key name)) given.0 given.1)) };
+    counts = record { give = λ name among. let given = ready.counts.give name among in some_value (next.known.give (count_key name)) (it.grows (count_key name) refl (is_valued (draft.known.give (count_key name)) given.0 given.1)) };
+    around = record { give = λ name among. let given = ready.around.give name among in some_value (next.known.give (row_key name)) (it.grows (row_key name) refl (is_valued (draft.known.give (row_key name)) given.0 given.1)) };
+    fills = it.fills;
     numbers = it.numbers;
   }
 
   both_tell : (scope : Own) (one two : Key → Bool) (draft next : Draft) → Next scope one draft next → (result : Result Draft Refusal) → Tells scope two next result → Tells scope (λ key. one key || two key) draft result
   both_tell scope one two draft next it (Ok after) more = record {
-    grows = λ key is. more.grows key (it.grows key is);
-    given = λ key is. by_test (is_some (after.known.give key) ≡ true) (two key) (λ own. more.given key own) (λ none. more.grows key (it.given key (or_left (one key) (two key) is none)));
+    grows = λ key single is. more.grows key single (it.grows key single is);
+    given = λ in_rows name is. by_test (is_some (after.known.give (label_key in_rows name)) ≡ true) (two (label_key in_rows name)) (λ own. more.given in_rows name own)
+        (λ none. more.grows (label_key in_rows name) (label_single in_rows name) (it.given in_rows name (or_left (one (label_key in_rows name)) (two (label_key in_rows name)) is none)));
+    fills = more.fills;
     numbers = more.numbers;
   }
   both_tell scope one two draft next it (Err fault) more = more
@@ -231,10 +138,10 @@ module _ (values : (sight : Sight) (term : Term) → all_known (met_in sight.nam
   then_tells scope one two draft (Err fault) others ready it more = it
 
   done_tells : (scope : Own) (draft : Draft) → Ready scope draft → Tells scope (λ key. false) draft (Ok draft)
-  done_tells scope draft ready = record { grows = λ key is. is; given = λ key is. absurd (true_false (sym is)); numbers = ready.numbers }
+  done_tells scope draft ready = record { grows = λ key single is. is; given = λ in_rows name is. absurd (true_false (sym is)); fills = ready.fills; numbers = ready.numbers }
 
   fewer_tell : (scope : Own) (one two : Key → Bool) (draft : Draft) (result : Result Draft Refusal) → ((key : Key) → two key ≡ true → one key ≡ true) → Tells scope one draft result → Tells scope two draft result
-  fewer_tell scope one two draft (Ok next) fewer it = record { grows = it.grows; given = λ key is. it.given key (fewer key is); numbers = it.numbers }
+  fewer_tell scope one two draft (Ok next) fewer it = record { grows = it.grows; given = λ in_rows name is. it.given in_rows name (fewer (label_key in_rows name) is); fills = it.fills; numbers = it.numbers }
   fewer_tell scope one two draft (Err fault) fewer it = it
 
   -- Pieces.
@@ -250,7 +157,7 @@ module _ (values : (sight : Sight) (term : Term) → all_known (met_in sight.nam
 
   module _ (scope : Own) (draft : Draft) (ready : Ready scope draft) where
     seen_names : (term : Term) → IsNamed scope term → names_later (met_in draft.known) term ≡ false → HasNames known draft term
-    seen_names term named early = values (draft_sight known draft) term (names_early scope draft.known term ready.counts named early)
+    seen_names term named early = values scope (draft_sight known draft) term ready.around ready.fills named (names_early scope draft.known term ready.counts named early)
 
     fixed_tells : (form : NumForm) (width : ℤ) (term : Term) → IsNamed scope term → (found : Result ℤ EvalFault) → NamesNothing found → FormTells scope (fixed_form draft form width term found)
     fixed_tells form width term named (Ok value) is = bits_tell scope (ranged draft.piece form width value) (ranged_known draft.piece form width value)
@@ -282,11 +189,16 @@ module _ (values : (sight : Sight) (term : Term) → all_known (met_in sight.nam
     form_tells (Filler unit) named value = tt
     form_tells (Place name) named value = tt
 
-    grown_tells : (piece : Piece) (bits : List Bool) (is_late : Bool) (numbers : List LateNumber) → Each (IsGiven scope) numbers → Next scope (piece_is piece) draft (grown piece draft bits is_late numbers)
+    grown_tells : (piece : Piece) (bits : List Bool) (is_late : Bool) (numbers : List LateNumber) → Each (IsGiven known scope) numbers → Next scope (piece_is piece) draft (grown piece draft bits is_late numbers)
     grown_tells piece bits is_late numbers each = record {
-      grows = λ key is. by key is (piece_is piece key) refl;
-      given = λ key is. ap is_some (placed_is piece (length draft.bits) draft.known key is);
-      numbers = each_append (IsGiven scope) draft.numbers numbers ready.numbers each;
+      grows = λ key single is. by key is (piece_is piece key) refl;
+      given = λ in_rows name is. ap is_some (placed_is piece (length draft.bits) draft.known (label_key in_rows name) is);
+      fills = record {
+        give = λ label rows number has low high.
+            let there = ready.fills.give label rows number (sym (placed_none piece (length draft.bits) draft.known (rows_of label) (piece_alone piece (rows_of label) refl)) ∙ has) low high in
+            (there.0, placed_none piece (length draft.bits) draft.known (place_in label number) (piece_alone piece (place_in label number) refl) ∙ there.1);
+      };
+      numbers = each_append (IsGiven known scope) draft.numbers numbers ready.numbers each;
     }
       where
         by : (key : Key) → is_some (draft.known.give key) ≡ true → (test : Bool) → piece_is piece key ≡ test → is_some ((placed piece (length draft.bits) draft.known).give key) ≡ true
@@ -305,7 +217,7 @@ module _ (values : (sight : Sight) (term : Term) → all_known (met_in sight.nam
     laid_tells piece (Ok (later form width term)) is =
         let one = late_at draft form width term in
         room_tells piece (nat_abs width) (grown piece draft (zeros (nat_abs width)) true (one ∷ []))
-        (grown_tells piece (zeros (nat_abs width)) true (one ∷ []) ((λ names gives. names_end scope names term gives is), tt))
+        (grown_tells piece (zeros (nat_abs width)) true (one ∷ []) ((λ names gives numbers fills bits. values scope (sees known bits names (length draft.bits)) term numbers fills is (names_end scope names term gives is)), tt))
     laid_tells piece (Err fault) is = is
 
     lay_tells : (piece : Piece) → HasTerms scope piece → (value : Option Tree) → Tells scope (piece_is piece) draft (lay known draft piece value)
@@ -329,38 +241,114 @@ module _ (values : (sight : Sight) (term : Term) → all_known (met_in sight.nam
   -- Rows.
 
   abbrev BodyTells : Own → PlainBody → Type 0
-  BodyTells scope body = (draft : Draft) → Ready scope draft → (vs : List Tree) → Tells scope (has_label body) draft (body_laid known draft body vs)
+  BodyTells scope body = (draft : Draft) → Ready scope draft → (vs : List Tree) → Tells scope (gives_places body) draft (body_laid known draft body vs)
 
   abbrev FieldTells : Own → PlainField → Type 0
-  FieldTells scope field = (draft : Draft) → Ready scope draft → (value : Option Tree) → Tells scope (is_label field) draft (field_laid known draft field value)
+  FieldTells scope field = (draft : Draft) → Ready scope draft → (value : Option Tree) → Tells scope (gives_place field) draft (field_laid known draft field value)
 
   abbrev CasesTell : Own → PlainCases → Type 0
   CasesTell scope cases = (draft : Draft) → Ready scope draft → (value : Option Tree) → Tells scope (λ key. false) draft (case_laid known draft cases value)
 
-  leave_tells : (scope : Own) (row : PlainBody) (line : List Tree) (draft : Draft) → Ready scope draft → (result : Result Draft Refusal) → Tells (and_names scope (names_of row)) (has_label row) (enter row line draft) result
-      → Tells scope (λ key. false) draft (result >>= λ next. Ok (leave row draft next))
-  leave_tells scope row line draft ready (Ok next) it = record {
-    grows = λ key is. is;
-    given = λ key is. absurd (true_false (sym is));
-    numbers = each_append (IsGiven scope) draft.numbers _ ready.numbers
-        (each_mapped (IsGiven (and_names scope (names_of row))) (IsGiven scope) (closing row next.known) (closing_given scope row next.known declared) next.numbers it.numbers);
-  }
+  ended : (scope inner : Own) (which : Option RowOf) (row : PlainBody) (line : List Tree) (draft next : Draft) → Next inner (gives_places row) (enter which row line draft) next → IsEnded which row next.known
+  ended scope inner which row line draft next it = record { gives = declared; number = numbered; fills = it.fills }
     where
-      declared : (key : Key) → declares row key ≡ true → is_some (next.known.give key) ≡ true
-      declared (place_of name) is = it.given (place_of name) (sym (places_labels row name) ∙ is)
-      declared (count_of name) is = it.grows (count_of name) (entered_some row line draft.known name is)
-  leave_tells scope row line draft ready (Err fault) it = it
+      declared : (key : Key) → is_in_row key ≡ false → declares row key ≡ true → is_some (next.known.give key) ≡ true
+      declared (place_of name) single is = it.given false name (sym (places_labels row false name) ∙ is)
+      declared (count_of name) single is = it.grows (count_of name) refl (entered_some which row line draft.known name is)
+      declared (rows_of name) single is = it.given true name (sym (places_labels row true name) ∙ is)
+      declared (place_in name number) single is = absurd (true_false single)
+      declared (row_in name) single is = absurd (true_false (sym is ∙ around_undeclared row name))
 
-  inside_tells : (scope : Own) (row : PlainBody) → BodyTells (and_names scope (names_of row)) row → (draft : Draft) → Ready scope draft → (line : List Tree) → Tells scope (λ key. false) draft (row_laid known row draft line)
-  inside_tells scope row is draft ready line =
-      leave_tells scope row line draft ready (body_laid known (enter row line draft) row line)
-      (is (enter row line draft) (record { counts = entered_counts scope row line draft.known ready.counts; numbers = tt }) line)
+      numbered : (key : Key) → is_row which key ≡ true → is_some (next.known.give key) ≡ true
+      numbered key at_row = it.grows key (around_single key (row_is_around which key at_row)) (ap is_some (entered_row which row line draft.known key at_row) ∙ has_number which key at_row)
 
-  rows_tell : (scope : Own) (row : PlainBody) → BodyTells (and_names scope (names_of row)) row → (draft : Draft) → Ready scope draft → (rows : List (List Tree)) → Tells scope (λ key. false) draft (rows_laid (row_laid known row) draft rows)
-  rows_tell scope row is draft ready [] = done_tells scope draft ready
-  rows_tell scope row is draft ready (line ∷ rows) =
-      then_tells scope (λ key. false) (λ key. false) draft (row_laid known row draft line) (λ next. rows_laid (row_laid known row) next rows) ready
-      (inside_tells scope row is draft ready line) (λ next more. rows_tell scope row is next more rows)
+  leave_tells : (scope inner : Own) (which : Option RowOf) (row : PlainBody) → IsScope scope inner which row → (line : List Tree) (draft : Draft) → Ready scope draft → (result : Result Draft Refusal)
+      → Tells inner (gives_places row) (enter which row line draft) result → Tells scope (λ key. false) draft (result >>= λ next. Ok (leave which row draft next))
+  leave_tells scope inner which row is line draft ready (Ok next) it = record {
+    grows = λ key single has. has;
+    given = λ in_rows name is. absurd (true_false (sym is));
+    fills = ready.fills;
+    numbers = each_append (IsGiven known scope) draft.numbers _ ready.numbers
+        (each_mapped (IsGiven known inner) (IsGiven known scope) (closing which row next.known)
+        (closing_given known scope inner which row is next.known (ended scope inner which row line draft next it)) next.numbers it.numbers);
+  }
+  leave_tells scope inner which row is line draft ready (Err fault) it = it
+
+  inside_tells : (scope inner : Own) (which : Option RowOf) (row : PlainBody) → IsScope scope inner which row → BodyTells inner row → (draft : Draft) → Ready scope draft → (line : List Tree)
+      → Tells scope (λ key. false) draft (row_laid known which row draft line)
+  inside_tells scope inner which row is tells draft ready line =
+      leave_tells scope inner which row is line draft ready (body_laid known (enter which row line draft) row line)
+      (tells (enter which row line draft) (record {
+        counts = entered_counts scope inner which row is line draft.known ready.counts;
+        around = entered_numbers scope inner which row is line draft.known ready.around;
+        fills = entered_fills which row line draft.known ready.fills;
+        numbers = tt;
+      }) line)
+
+  rows_tell : (scope inner : Own) (name : Option Word) (row : PlainBody) → ((number : ℕ) → IsScope scope inner (row_of name number) row) → BodyTells inner row → (number : ℕ) (draft : Draft) → Ready scope draft → (rows : List (List Tree))
+      → Tells scope (λ key. false) draft (rows_laid (λ number. row_laid known (row_of name number) row) number draft rows)
+  rows_tell scope inner name row is tells number draft ready [] = done_tells scope draft ready
+  rows_tell scope inner name row is tells number draft ready (line ∷ rows) =
+      then_tells scope (λ key. false) (λ key. false) draft (row_laid known (row_of name number) row draft line) (λ next. rows_laid (λ number. row_laid known (row_of name number) row) (number + 1) next rows) ready
+      (inside_tells scope inner (row_of name number) row (is number) tells draft ready line) (λ next more. rows_tell scope inner name row is tells (number + 1) next more rows)
+
+  -- so many rows have so many places of labels
+  rows_placed : (name : Option Word) (row : PlainBody) → AreApart row → (number : ℕ) (rows : List (List Tree)) (draft next : Draft) → rows_laid (λ number. row_laid known (row_of name number) row) number draft rows ≡ Ok next
+      → length next.places ≡ length draft.places + length rows * labels_count row
+  rows_placed name row apart number [] draft next is = ap (λ (d : Draft). length d.places) (sym (same_ok draft next is)) ∙ grind (arith)
+  rows_placed name row apart number (line ∷ rows) draft next is =
+      let which = row_of name number in
+      let outer = chained (row_laid known which row draft line) (λ mid. rows_laid (λ number. row_laid known (row_of name number) row) (number + 1) mid rows) next is in
+      let inner = chained (body_laid known (enter which row line draft) row line) (λ mid. good (leave which row draft mid)) outer.value outer.is in
+      let found = body_behind known row apart line (enter which row line draft) inner.value inner.is in
+      let a : length inner.value.places ≡ length outer.value.places = ap (λ (d : Draft). length d.places) (same_ok (leave which row draft inner.value) outer.value inner.leads) in
+      let b = ap length found.places_are ∙ length-append draft.places found.places in
+      let c = places_length inner.value.known row found.places found.are in
+      let d = rows_placed name row apart (number + 1) rows outer.value next outer.leads in
+      placed_more (length draft.places) (length found.places) (labels_count row) (length rows) (length inner.value.places) (length outer.value.places) (length next.places) a b c d
+
+  -- behind an array the labels in its rows have places in each of them
+  behind_fills : (row : PlainBody) (count : ℕ) (places : List ℤ) (names : Environment) → length places ≡ count * labels_count row → FillsRows names → FillsRows (also_rows row count places names)
+  behind_fills row count places names long fills = record { give = λ label rows number has low high. by label rows number has low high (has_label row label) refl }
+    where
+      by : (label : List ℕ) (rows number : ℤ) → (if has_label row label then Some (pos count) else names.give (rows_of label)) ≡ Some rows → int_le (pos 1) number ≡ true → int_le number rows ≡ true
+          → (test : Bool) → has_label row label ≡ test → (place : ℤ) × ((if has_label row label then row_value row count places (place_in label number) else names.give (place_in label number)) ≡ Some place)
+      by label rows number has low high true own =
+          let same : pos count ≡ rows = some_same (pos count) rows (sym (ap (λ (test : Bool). if test then Some (pos count) else names.give (rows_of label)) own) ∙ has) in
+          let there = place_given row count places label number long own low (subst (λ (r : ℤ). int_le number r ≡ true) (sym same) high) in
+          (there.0, ap (λ (test : Bool). if test then row_value row count places (place_in label number) else names.give (place_in label number)) own ∙ there.1)
+      by label rows number has low high false own =
+          let there = fills.give label rows number (sym (ap (λ (test : Bool). if test then Some (pos count) else names.give (rows_of label)) own) ∙ has) low high in
+          (there.0, ap (λ (test : Bool). if test then row_value row count places (place_in label number) else names.give (place_in label number)) own ∙ there.1)
+
+  behind_grows : (row : PlainBody) (count : ℕ) (places : List ℤ) (names : Environment) (key : Key) → is_in_row key ≡ false → is_some (names.give key) ≡ true → is_some ((also_rows row count places names).give key) ≡ true
+  behind_grows row count places names (place_of name) single has = has
+  behind_grows row count places names (count_of name) single has = has
+  behind_grows row count places names (rows_of name) single has = by (has_label row name)
+    where
+      by : (test : Bool) → is_some (if test then Some (pos count) else names.give (rows_of name)) ≡ true
+      by true = refl
+      by false = has
+  behind_grows row count places names (place_in name number) single has = absurd (true_false single)
+  behind_grows row count places names (row_in name) single has = has
+
+  array_tells : (scope : Own) (row : PlainBody) (count : ℕ) (draft : Draft) (result : Result Draft Refusal) → ((next : Draft) → result ≡ Ok next → length next.places ≡ count * labels_count row)
+      → Tells scope (λ key. false) (with_places [] draft) result
+      → Tells scope (gives_rows row) draft ((result >>= λ next. Ok (behind_rows row count next)) >>= λ next. Ok (with_places draft.places next))
+  array_tells scope row count draft (Ok next) long it = record {
+    grows = λ key single has. behind_grows row count next.places next.known key single (it.grows key single has);
+    given = rows_given row count next.places next.known;
+    fills = behind_fills row count next.places next.known (long next refl) it.fills;
+    numbers = it.numbers;
+  }
+  array_tells scope row count draft (Err fault) long it = it
+
+  case_tells : (scope : Own) (draft : Draft) (result : Result Draft Refusal) → Tells scope (λ key. false) (with_places [] draft) result → Tells scope (λ key. false) draft (result >>= λ next. Ok (with_places draft.places next))
+  case_tells scope draft (Ok next) it = record { grows = it.grows; given = it.given; fills = it.fills; numbers = it.numbers }
+  case_tells scope draft (Err fault) it = it
+
+  apart_ready : (scope : Own) (draft : Draft) → Ready scope draft → Ready scope (with_places [] draft)
+  apart_ready scope draft ready = record { counts = ready.counts; around = ready.around; fills = ready.fills; numbers = ready.numbers }
 
   either_tells : (scope : Own) (draft : Draft) (test : Bool) (this other : Result Draft Refusal) → Tells scope (λ key. false) draft this → Tells scope (λ key. false) draft other → Tells scope (λ key. false) draft (if test then this else other)
   either_tells scope draft true this other one more = one
@@ -375,44 +363,54 @@ module _ (values : (sight : Sight) (term : Term) → all_known (met_in sight.nam
     field_tells scope (Fill unit count) none kept draft ready value = none_tell scope (pieces_of (Fill unit count)) (tt, tt) draft ready (option_to_list value)
     field_tells scope (Align unit) none kept draft ready value = none_tell scope (pieces_of (Align unit)) (tt, tt) draft ready (option_to_list value)
     field_tells scope (Label name) none kept draft ready value =
-        fewer_tell scope (pieces_are (Place name ∷ [])) (is_label (Label name)) draft (pieces_laid known draft (Label name) value) (λ key is. ap (λ (test : Bool). test || false) is)
+        fewer_tell scope (pieces_are (Place name ∷ [])) (gives_place (Label name)) draft (pieces_laid known draft (Label name) value) (λ key is. ap (λ (test : Bool). test || false) is)
         (pieces_tell scope (Place name ∷ []) (tt, tt) draft ready (option_to_list value))
     field_tells scope (Array name count row) none kept draft ready value =
-        rows_tell scope row (body_tells (and_names scope (names_of row)) row kept.2) draft ready (rows_in value)
+        let inner = and_names (and_names scope (around_names name)) (names_of row) in
+        let front = with_places [] draft in
+        let lay = λ (number : ℕ). row_laid known (row_of name number) row in
+        array_tells scope row (length (rows_in value)) draft (rows_laid lay 1 front (rows_in value))
+        (λ next is. rows_placed name row (body_apart inner row kept.1 kept.2) 1 (rows_in value) front next is ∙ grind (arith))
+        (rows_tell scope inner name row (λ number. row_scope scope name number row) (body_tells inner row kept.2) 1 front (apart_ready scope draft ready) (rows_in value))
     field_tells scope (Switch cases) none kept draft ready value = cases_tell scope cases kept.1 draft ready value
 
     cases_tell : (scope : Own) (cases : PlainCases) → AreCasesKept scope cases → CasesTell scope cases
     cases_tell scope no_cases kept draft ready value = done_tells scope draft ready
     cases_tell scope (case_and name row others) kept draft ready value =
-        either_tells scope draft (is_case name value) (row_laid known row draft (line_in value)) (case_laid known draft others value)
-        (inside_tells scope row (body_tells (and_names scope (names_of row)) row kept.1) draft ready (line_in value))
+        let inner = and_names scope (names_of row) in
+        let front = with_places [] draft in
+        either_tells scope draft (is_case name value) (apart (λ inner. row_laid known None row inner (line_in value)) draft) (case_laid known draft others value)
+        (case_tells scope draft (row_laid known None row front (line_in value))
+        (inside_tells scope inner None row (case_scope scope row) (body_tells inner row kept.1) front (apart_ready scope draft ready) (line_in value)))
         (cases_tell scope others kept.2 draft ready value)
 
     body_tells : (scope : Own) (body : PlainBody) → AreKept scope body → BodyTells scope body
     body_tells scope no_fields kept draft ready vs = done_tells scope draft ready
     body_tells scope (field_and field fields) kept draft ready vs =
         let value = first_value (takes_value field) vs in
-        then_tells scope (is_label field) (has_label fields) draft (field_laid known draft field value) (λ next. body_laid known next fields (other_values (takes_value field) vs)) ready
+        then_tells scope (gives_place field) (gives_places fields) draft (field_laid known draft field value) (λ next. body_laid known next fields (other_values (takes_value field) vs)) ready
         (field_tells scope field kept.1 kept.2 draft ready value) (λ next more. body_tells scope fields kept.3 next more (other_values (takes_value field) vs))
 
   -- The second pass.
 
-  fill_known : (scope : Own) (names : Environment) → GivesOwn scope names → (numbers : List LateNumber) → Each (IsGiven scope) numbers → (bits : List Bool) → Known (fill known names numbers bits)
-  fill_known scope names gives [] each bits = tt
-  fill_known scope names gives (one ∷ others) each bits =
+  fill_known : (scope : Own) (names : Environment) → GivesOwn scope names → GivesNumbers scope.around names → FillsRows names → (numbers : List LateNumber) → Each (IsGiven known scope) numbers → (bits : List Bool)
+      → Known (fill known names numbers bits)
+  fill_known scope names gives around fills [] each bits = tt
+  fill_known scope names gives around fills (one ∷ others) each bits =
       let sight = sees known bits (one.names names) one.at in
       then_known (late_bits known names one bits) (λ own. fill known names others (patched one.at own bits))
       (then_known (valued one.piece (value_of one.term sight)) (λ value. ranged one.piece one.form one.width value)
-      (valued_known one.piece (value_of one.term sight) (values sight one.term (each.0 names gives))) (λ value. ranged_known one.piece one.form one.width value))
-      (λ own. fill_known scope names gives others each.1 (patched one.at own bits))
+      (valued_known one.piece (value_of one.term sight) (each.0 names gives around fills bits)) (λ value. ranged_known one.piece one.form one.width value))
+      (λ own. fill_known scope names gives around fills others each.1 (patched one.at own bits))
 
   filled_known : (draft : Draft) (result : Result Draft Refusal) → Tells no_names (λ key. false) draft result
       → Known (result >>= λ next. fill known outside next.numbers next.bits >>= λ bits. Ok (bytes_of (filled 8 bits)))
   filled_known draft (Ok next) it =
-      then_known (fill known outside next.numbers next.bits) (λ bits. Ok (bytes_of (filled 8 bits))) (fill_known no_names outside outside_own next.numbers it.numbers next.bits) (λ bits. tt)
+      then_known (fill known outside next.numbers next.bits) (λ bits. Ok (bytes_of (filled 8 bits))) (fill_known no_names outside outside_own outside_numbers outside_fills next.numbers it.numbers next.bits) (λ bits. tt)
   filled_known draft (Err fault) it = it
 
   pub row_known : (body : PlainBody) (row : List Tree) → IsKept body → Known (laid known body row)
   row_known body row kept =
-      filled_known nothing_laid (row_laid known body nothing_laid row)
-      (inside_tells no_names body (body_tells (names_of body) body kept.1) nothing_laid (record { counts = outside_own.counts; numbers = tt }) row)
+      filled_known nothing_laid (row_laid known None body nothing_laid row)
+      (inside_tells no_names (names_of body) None body (case_scope no_names body) (body_tells (names_of body) body kept.1) nothing_laid
+      (record { counts = outside_own.counts; around = outside_numbers; fills = outside_fills; numbers = tt }) row)

@@ -1,23 +1,52 @@
 -- What expressions see beside the bits of late numbers.
-use Rattle.std.proofs.Common.{◌≡◌, ℕ, ◌+◌, ℤ, pos, negsuc, ◌+ℤ◌, Bool, true, false, ◌||◌, List, length, take, drop, Option, Some, None, Result, Ok, Err, ◌⊎◌, inl, inr, refl, sym, ap, ◌∙◌, subst}
+use Rattle.std.proofs.Common.{◌≡◌, ℕ, ◌+◌, ℤ, pos, negsuc, ◌+ℤ◌, Bool, true, false, ◌||◌, not, List, length, take, drop, Option, Some, None, Result, Ok, Err, ◌⊎◌, inl, inr, refl, sym, ap, ◌∙◌, subst}
 use Rattle.std.specs.Prelude.{if◌then◌else◌, nat_le, option_map, int_lt}
-use Rattle.rz_core.proofs.Tests.{or_false}
+use Rattle.rz_core.proofs.Tests.{or_false, true_false}
 use Rattle.rz_core.specs.Stop.{◌>>=◌}
 use Rattle.rz_core.specs.declared.facts.Facts.{Facts}
 use Rattle.rz_bits.specs.Bits.{number_of}
-use Rattle.rz_expr.specs.Environment.{place_key, count_key, Environment, Key, Sight}
-use Rattle.rz_expr.specs.Term.{BitsAt, Constant, FactOf, Named, OfOne, OfTwo, RowsOf, Term}
-use Rattle.rz_expr.specs.Value.{known_bits, known_value, number_at, operate, operate_one, reduced, value_of}
+use Rattle.std.specs.Str.{str_to_ascii_lowercase}
+use Rattle.rz_expr.specs.Environment.{count_key, count_of, place_in, place_in_key, place_key, place_of, row_in, row_key, rows_key, rows_of, Environment, Key, Sight}
+use Rattle.rz_expr.specs.Term.{BitsAt, Constant, FactOf, Indexed, Named, OfOne, OfTwo, RowNumber, RowsOf, Term}
+use Rattle.rz_expr.specs.Value.{known_bits, known_value, number_at, operate, operate_one, place_in_row, reduced, value_of}
 use Rattle.rz_expr.specs.declared.value.EvalFault.{EvalFault}
-use Rattle.rz_expr.specs.declared.value.EvalFault.TheVariants.{DataWidth, LaterData}
+use Rattle.rz_expr.specs.declared.value.EvalFault.TheVariants.{BadIndex, DataWidth, LaterData}
 use Rattle.rz_expr.specs.declared.words.FactWord.{FactWord}
 use Rattle.rz_types_fields.specs.Laid.{reads_late}
 use Rattle.rz_types_fields.specs.Passed.{Names}
 use Rattle.rz_types_fields.specs.Sees.{beside, bits_before, hit, is_later, names_later, sees, Late}
 
--- The same names but for those that stand later, the same bits and facts: the same value.
+-- Environments that are alike.
 
-module _ (met : Names) (one other : Sight) (names : (key : Key) → is_later met key ≡ false → one.names.give key ≡ other.names.give key)
+-- the place of a label in a row
+abbrev pub is_in_row : Key → Bool
+is_in_row (place_of name) = false
+is_in_row (count_of name) = false
+is_in_row (rows_of name) = false
+is_in_row (place_in name number) = true
+is_in_row (row_in name) = false
+
+-- the number is that of one of so many rows
+abbrev pub IsRowIn : (rows number : ℤ) → Type 0
+IsRowIn rows number = (int_lt number (pos 1) || int_lt rows number) ≡ false
+
+-- what doesn't stand later has the same values in both: names by themselves, and labels in rows in each of these
+pub record Alike (met : Names) (one other : Environment) : Type 0 where
+  pub names : (key : Key) → is_in_row key ≡ false → is_later met key ≡ false → one.give key ≡ other.give key
+  pub places : (label : List ℕ) (rows number : ℤ) → met (rows_of label) ≡ true → other.give (rows_of label) ≡ Some rows → IsRowIn rows number
+      → one.give (place_in label number) ≡ other.give (place_in label number)
+
+pub not_false : (b : Bool) → not b ≡ false → b ≡ true
+not_false true is = refl
+not_false false is = absurd (true_false is)
+
+pub not_true : (b : Bool) → not b ≡ true → b ≡ false
+not_true true is = absurd (true_false (sym is))
+not_true false is = refl
+
+-- Names that are alike, the same bits and facts: the same value.
+
+module _ (met : Names) (one other : Sight) (names : Alike met one.names other.names)
     (bits : (first width : ℤ) → one.bits first width ≡ other.bits first width) (facts : (which : FactWord) → one.fact which ≡ other.fact which) where
   data_same : (place start width : Result ℤ EvalFault)
       → (place >>= λ p. start >>= λ s. width >>= λ w. number_at one (p +ℤ s) w) ≡ (place >>= λ p. start >>= λ s. width >>= λ w. number_at other (p +ℤ s) w)
@@ -27,14 +56,35 @@ module _ (met : Names) (one other : Sight) (names : (key : Key) → is_later met
   data_same (Ok place) (Ok start) (Ok width) =
       ap (λ (found : Option ℤ). if int_lt width (pos 1) || int_lt (pos 32) width then Err (DataWidth width) else known_bits (place +ℤ start) width found) (bits (place +ℤ start) width)
 
+  index_same : (name : List ℕ) (rows : Option ℤ) → met (rows_key name) ≡ true → other.names.give (rows_key name) ≡ rows → (number : ℤ)
+      → place_in_row name one.names number rows ≡ place_in_row name other.names number rows
+  index_same name None was is number = refl
+  index_same name (Some rows) was is number = by (int_lt number (pos 1) || int_lt rows number) refl
+    where
+      by : (test : Bool) → (int_lt number (pos 1) || int_lt rows number) ≡ test
+          → (if test then Err (BadIndex number) else known_value name (one.names.give (place_in_key name number))) ≡ (if test then Err (BadIndex number) else known_value name (other.names.give (place_in_key name number)))
+      by true out = refl
+      by false within = ap (known_value name) (names.places (str_to_ascii_lowercase name) rows number was is within)
+
+  row_same : (name : List ℕ) → met (rows_key name) ≡ true → (index : Result ℤ EvalFault)
+      → (index >>= λ number. place_in_row name one.names number (other.names.give (rows_key name))) ≡ (index >>= λ number. place_in_row name other.names number (other.names.give (rows_key name)))
+  row_same name was (Ok number) = index_same name (other.names.give (rows_key name)) was refl number
+  row_same name was (Err fault) = refl
+
   pub value_same : (term : Term) → names_later met term ≡ false → value_of term one ≡ value_of term other
   value_same (Constant number) none = refl
-  value_same (Named name) none = ap (known_value name) (names (place_key name) none)
-  value_same (RowsOf name) none = ap (known_value name) (names (count_key name) refl)
+  value_same (Named name) none = ap (known_value name) (names.names (place_key name) refl none)
+  value_same (Indexed name index) none =
+      let each = or_false (is_later met (rows_key name)) (names_later met index) none in
+      ap (λ (r : Result ℤ EvalFault). r >>= λ number. place_in_row name one.names number (one.names.give (rows_key name))) (value_same index each.1)
+      ∙ ap (λ (o : Option ℤ). value_of index other >>= λ number. place_in_row name one.names number o) (names.names (rows_key name) refl each.0)
+      ∙ row_same name (not_false (met (rows_key name)) each.0) (value_of index other)
+  value_same (RowsOf name) none = ap (known_value name) (names.names (count_key name) refl refl)
+  value_same (RowNumber name) none = ap (known_value name) (names.names (row_key name) refl refl)
   value_same (BitsAt name start width) none =
       let here = or_false (is_later met (place_key name)) (names_later met start || names_later met width) none in
       let each = or_false (names_later met start) (names_later met width) here.1 in
-      ap (λ (o : Option ℤ). known_value name o >>= λ p. value_of start one >>= λ s. value_of width one >>= λ w. number_at one (p +ℤ s) w) (names (place_key name) here.0)
+      ap (λ (o : Option ℤ). known_value name o >>= λ p. value_of start one >>= λ s. value_of width one >>= λ w. number_at one (p +ℤ s) w) (names.names (place_key name) refl here.0)
       ∙ ap (λ (o : Result ℤ EvalFault). known_value name (other.names.give (place_key name)) >>= λ p. o >>= λ s. value_of width one >>= λ w. number_at one (p +ℤ s) w) (value_same start each.0)
       ∙ ap (λ (o : Result ℤ EvalFault). known_value name (other.names.give (place_key name)) >>= λ p. value_of start other >>= λ s. o >>= λ w. number_at one (p +ℤ s) w) (value_same width each.1)
       ∙ data_same (known_value name (other.names.give (place_key name))) (value_of start other) (value_of width other)
@@ -44,6 +94,28 @@ module _ (met : Names) (one other : Sight) (names : (key : Key) → is_later met
       let each = or_false (names_later met left) (names_later met right) none in
       ap (λ (r : Result ℤ EvalFault). r >>= λ a. value_of right one >>= λ b. operate op a b) (value_same left each.0)
       ∙ ap (λ (r : Result ℤ EvalFault). value_of left other >>= λ a. r >>= λ b. operate op a b) (value_same right each.1)
+
+-- where all names were met none stands later
+abbrev pub every : Names
+every key = true
+
+pub every_early : (key : Key) → is_later every key ≡ false
+every_early (place_of name) = refl
+every_early (count_of name) = refl
+every_early (rows_of name) = refl
+every_early (place_in name number) = refl
+every_early (row_in name) = refl
+
+pub nothing_later : (term : Term) → names_later every term ≡ false
+nothing_later (Constant number) = refl
+nothing_later (Named name) = refl
+nothing_later (Indexed name index) = nothing_later index
+nothing_later (RowsOf name) = refl
+nothing_later (RowNumber name) = refl
+nothing_later (BitsAt name start width) = λ i. nothing_later start i || nothing_later width i
+nothing_later (FactOf which) = refl
+nothing_later (OfOne op operand) = nothing_later operand
+nothing_later (OfTwo op left right) = λ i. nothing_later left i || nothing_later right i
 
 -- Beside late bits the value is the same, or a late bit is read.
 
@@ -82,7 +154,9 @@ module _ (late : Late) (all : List Bool) (at : ℕ) (within : length (take at al
     pub hidden : (term : Term) → Hides at (value_of term (beside late (sees known all names at))) (value_of term (sees known all names at))
     hidden (Constant number) = inl refl
     hidden (Named name) = inl refl
+    hidden (Indexed name index) = hides_then at _ _ _ _ (hidden index) (λ z. inl refl)
     hidden (RowsOf name) = inl refl
+    hidden (RowNumber name) = inl refl
     hidden (BitsAt name start width) =
         hides_then at (known_value name (names.give (place_key name))) (known_value name (names.give (place_key name))) _ _ (inl refl)
         (λ p. hides_then at _ _ _ _ (hidden start) (λ s. hides_then at _ _ _ _ (hidden width)

@@ -22,7 +22,7 @@ use Rattle.rz_types.specs.Kept.{AreCasesKept, AreKept, Differ, IsKept, IsKeptWit
 use Rattle.rz_types_fields.specs.Range.{is_between}
 use Rattle.rz_types.specs.Rules.{bad_width, case_names, may_be_width, unless}
 use Rattle.rz_types_fields.specs.Shape.{are_cases_shaped, are_shaped, is_fixed_number, is_key_shaped, is_none_or, is_number_shaped, is_own_name, is_own_width, is_shaped, is_symbol_of, is_unit, is_well_shaped}
-use Rattle.rz_types.specs.Walk.{and_names, names_of, Own}
+use Rattle.rz_types.specs.Walk.{and_names, around_names, names_of, Own}
 use Rattle.rz_layout.proofs.Rows.{choice_differs, fronted, other_name, Takes}
 use Rattle.rz_layout.proofs.Trees.{choice_is, group_is, line_is, rows_are}
 
@@ -93,7 +93,7 @@ mutual
   field_sound scope in_case (Align unit) is wide kept value has = unit_above unit is
   field_sound scope in_case (Label name) is wide kept value has = tt
   field_sound scope in_case (Array name count row) is wide kept value has =
-      array_sound name count row (λ line are. body_sound (and_names scope (names_of row)) false row (both (is_none_or is_own_name name) (are_shaped false row) is).1 kept.2 line are) value has
+      array_sound name count row (λ line are. body_sound (and_names (and_names scope (around_names name)) (names_of row)) false row (both (is_none_or is_own_name name) (are_shaped false row) is).1 kept.2 line are) value has
   field_sound scope in_case (Switch cases) is wide kept value has =
       subst (IsCaseSound cases) (sym has.2) (cases_sound scope cases is kept.0 kept.1 has.0 has.1)
 

@@ -1,44 +1,45 @@
 -- What is laid is spelled so.
-use Rattle.std.proofs.Common.{◌≡◌, inl, inr, ℕ, ◌+◌, ◌<◌, ◌≤◌, ◌*◌, ◌%◌, ℤ, Bool, true, false, ◌&&◌, ◌||◌, not, List, [], ◌∷◌, ◌++◌, length, take, map, Option, Some, None, Ok, refl, sym, ap, subst, ◌∙◌, arith}
+use Rattle.std.proofs.Common.{◌≡◌, inl, inr, ℕ, suc, ◌+◌, ◌<◌, ◌≤◌, ◌*◌, ◌%◌, ℤ, pos, Bool, true, false, ◌||◌, not, List, [], ◌∷◌, ◌++◌, length, take, map, Option, Some, None, Ok, refl, sym, ap, subst, ◌∙◌, arith}
 use Rattle.std.specs.Prelude.{if◌then◌else◌, nat_abs, slice_index}
 use Rattle.std.specs.List.{AllByRecursion}
 use Rattle.std.specs.Str.{str_eq_ignore_ascii_case}
 use Rattle.std.specs.Option.{is_some, option_to_list}
-use Rattle.std.proofs.lemmas.List.{length-append, take_at}
+use Rattle.std.proofs.lemmas.List.{append_assoc, append-nil, length-append, take_at}
 use Rattle.rz_core.proofs.Tests.{true_false}
 use Rattle.rz_core.specs.Stop.{◌>>=◌}
 use Rattle.rz_core.specs.declared.facts.Facts.{Facts}
 use Rattle.rz_core.specs.declared.resource.Word.{Word}
 use Rattle.rz_bits.specs.Bits.{bits_of, bytes_of}
 use Rattle.rz_bits.specs.BitBuf.{filled, missing, zeros}
-use Rattle.rz_expr.specs.Environment.{count_of, place_of, Environment, Key}
+use Rattle.rz_expr.specs.Environment.{place_in, rows_of, Environment, Key}
 use Rattle.rz_types_fields.specs.declared.tree.Tree.{Tree}
 use Rattle.rz_types_fields.specs.declared.tree.Tree.TheVariants as trees
 use Rattle.rz_types_fields.specs.Field.{case_and, field_and, no_cases, no_fields, takes_value, Align, Array, Fill, Label, Number, PlainBody, PlainCases, PlainField, Points, Switch, Text}
-use Rattle.rz_types_fields.specs.Known.{names_inside}
-use Rattle.rz_types_fields.specs.Laid.{body_laid, case_laid, closing, enter, entered, field_laid, fill, first_value, in_order, laid, lay, leave, line_in, nothing_laid, other_values, outside_of, pieces_laid, row_laid, rows_in, rows_laid, takes_one, Draft, LateNumber}
-use Rattle.rz_types_fields.specs.Passed.{at_field, at_front, behind, behind_piece, declares, gives_key, is_label, nothing_passed, outside, Names, Passed}
+use Rattle.rz_types_fields.specs.Laid.{apart, array_laid, behind_rows, body_laid, case_laid, closing, enter, field_laid, fill, first_value, in_order, laid, lay, leave, line_in, nothing_laid, other_values, outside_of, pieces_laid, row_laid, rows_apart, rows_in, rows_laid, takes_one, with_places, Draft, LateNumber}
+use Rattle.rz_types_fields.specs.Passed.{at_field, at_front, behind, behind_piece, declares, gives_key, gives_rows, has_label, nothing_passed, outside, Names, Passed}
 use Rattle.rz_types_fields.specs.Piece.{pieces_of, Filler, OneNumber, OneText, Piece, Place, Zeros}
-use Rattle.rz_types_fields.specs.Row.{By, IsChoice, IsRow, IsValue}
-use Rattle.rz_types_fields.specs.Sees.{is_later}
-use Rattle.rz_types_fields.specs.Spells.{is_case, row_of, values_for, BodySpells, CaseSpells, FieldSpells, InOrder, Inside, IsCounted, IsGroupedFor, PieceSpells, PiecesSpell, RowOf, RowSpells, RowsSpell, Spells}
+use Rattle.rz_types_fields.specs.Row.{By, IsChoice, IsRow, IsStated, IsValue}
+use Rattle.rz_types_fields.specs.Spells.{is_case, values_for, AreRows, BodySpells, CaseSpells, FieldSpells, HasPlace, InOrder, Inside, IsCounted, IsGroupedFor, PieceSpells, PiecesSpell, RowSpells, RowsSpell, Spells}
+use Rattle.rz_types_fields.specs.RowLabels.{also_rows, is_row, row_of, row_value, RowOf}
 use Rattle.rz_types.specs.Rules.{case_names}
-use Rattle.rz_layout.proofs.Adding.{adds_marks, adds_none, both_came, came_counted, came_is, came_labels, came_met, known_behind, then_came, Adds, Came, FitsAll, IsAny, Still}
+use Rattle.rz_layout.proofs.Adding.{adds_marks, adds_none, alike_back, both_came, came_counted, came_is, came_labels, came_met, known_behind, then_came, Adds, Came, FitsAll, IsAny}
 use Rattle.rz_layout.proofs.Coming.{piece_came, Fresh}
-use Rattle.rz_layout.proofs.Complete.{array_same, is_place, met_all_same, own_give, places_back, points_unplaced, same_behind, Unplaced}
-use Rattle.rz_layout.proofs.Counts.{counted_are, counted_moves, AreApart, AreCasesApart, AreCounted, FieldCounted, IsApart}
+use Rattle.rz_layout.proofs.Complete.{array_same, is_place, met_all_same, places_back, points_unplaced, same_behind, Unplaced}
+use Rattle.rz_layout.proofs.Counts.{AreApart, AreCasesApart, AreCounted, FieldCounted, IsApart}
 use Rattle.rz_layout.proofs.Fed.{number_has, points_have, single_fed, text_has, AreFed}
 use Rattle.rz_layout.proofs.Rows.{choice_chosen, choice_differs, fronted, Takes}
 use Rattle.rz_layout.proofs.Trees.{line_is, rows_are}
 use Rattle.rz_layout.proofs.Filled.{chained, each-map, fill_came, same_ok, Each}
 use Rattle.rz_layout.proofs.Fitting.{met_piece, piece_is, SamePlaces}
 use Rattle.rz_layout.proofs.Masks.{masked}
-use Rattle.rz_layout.proofs.Labels.{behind_met, counts_no_label, entered_none, has_label, inside_later, later_all, met_all, met_behind, met_entered, met_field, met_front, or_first, or_true, places_labels, undeclared, unmet_later, MetKnown}
+use Rattle.rz_layout.proofs.Labels.{behind_met, gives_place, gives_places, label_key, met_all, met_behind, met_entered, met_field, MetKnown}
+use Rattle.rz_layout.proofs.OwnPlaces.{body_behind}
+use Rattle.rz_layout.proofs.Placing.{first_given, others_given, row_in_rows, row_place_is, RowsGiven}
 use Rattle.rz_layout.proofs.Texts.{good}
 use Rattle.rz_layout.proofs.Tracks.{tracks-map, Holds}
 use Rattle.rz_types_fields.specs.Spells.{most_bits}
-
--- Labels.
+use Rattle.rz_layout.proofs.Inward.{inside_counts, inside_fits, inside_within}
+use Rattle.rz_layout.proofs.Unmet.{fresh_first, fresh_front, fresh_rest, rows_given, still_body, still_rows}
 
 unplaced_none : (piece : Piece) → is_place piece ≡ false → (key : Key) → piece_is piece key ≡ false
 unplaced_none (OneNumber number) none key = refl
@@ -46,27 +47,6 @@ unplaced_none (OneText text) none key = refl
 unplaced_none (Zeros count) none key = refl
 unplaced_none (Filler unit) none key = refl
 unplaced_none (Place name) none key = absurd (true_false none)
-
-fresh_front : (row : PlainBody) (met : Names) → Fresh (has_label row) (met_front row met)
-fresh_front row met (place_of name) is = ap (λ (test : Bool). not test && met (place_of name)) (places_labels row name ∙ is)
-fresh_front row met (count_of name) is = absurd (true_false (sym is ∙ counts_no_label row name))
-
-fresh_first : (field : PlainField) (fields : PlainBody) (met : Names) → Fresh (has_label (field_and field fields)) met → Fresh (is_label field) met
-fresh_first field fields met fresh key is = fresh key (or_first (is_label field key) (has_label fields key) is)
-
-fresh_rest : (field : PlainField) (fields : PlainBody) → ((key : Key) → gives_key field key ≡ true → declares fields key ≡ false) → (met : Names) → Fresh (has_label (field_and field fields)) met → Fresh (has_label fields) (met_behind field met)
-fresh_rest field fields apart met fresh key is = by (gives_key field key) refl
-  where
-    by : (test : Bool) → gives_key field key ≡ test → (gives_key field key || met key) ≡ false
-    by true own = absurd (true_false (sym is ∙ undeclared fields key (apart key own)))
-    by false own = ap (λ (test : Bool). test || met key) own ∙ fresh key (or_true (is_label field key) (has_label fields key) is)
-
-still_body : (known : Facts) (fields : PlainBody) (met : Names) → Fresh (has_label fields) met → Still known met (has_label fields) (met_all fields met)
-still_body known fields met fresh key early = by (has_label fields key) refl
-  where
-    by : (test : Bool) → has_label fields key ≡ test → (has_label fields key ≡ false) × (is_later (met_all fields met) key ≡ false)
-    by true is = absurd (true_false (sym (unmet_later fields met key is (fresh key is)) ∙ early))
-    by false is = (is, later_all fields met key is ∙ early)
 
 module _ (known : Facts) where
   abbrev NoCount : Environment → Type 0
@@ -89,11 +69,11 @@ module _ (known : Facts) where
       let next_met = (behind_piece piece passed).met in
       let inner = chained (lay known draft piece value) (λ mid. in_order takes_one (lay known) mid pieces rest) next is in
       let plain = unplaced_none piece flat.0 in
-      let same : SamePlaces (met_piece piece passed.met) passed.met = λ name. ap (λ (test : Bool). test || passed.met (place_of name)) (plain (place_of name)) in
+      let same : SamePlaces (met_piece piece passed.met) passed.met = λ in_rows name. ap (λ (test : Bool). test || passed.met (label_key in_rows name)) (plain (label_key in_rows name)) in
       let first = came_met known none (met_piece piece passed.met) passed.met NoCount draft inner.value (λ all names. PieceSpells false known all names passed piece value) same
       (came_labels known (piece_is piece) none (met_piece piece passed.met) NoCount draft inner.value (λ all names. PieceSpells false known all names passed piece value) plain
       (piece_came known passed piece value fed.0 draft inner.value (λ key is. absurd (true_false (sym is ∙ plain key))) marks met_known inner.is)) in
-      let met_mid : MetKnown next_met inner.value.known = λ name. sym (same_behind piece passed name) ∙ known_behind known none passed.met draft inner.value first.adds met_known name in
+      let met_mid : MetKnown next_met inner.value.known = λ in_rows name. sym (same_behind piece passed in_rows name) ∙ known_behind known none passed.met draft inner.value first.adds met_known in_rows name in
       let more = came_met known none next_met passed.met NoCount inner.value next (λ all names. InOrder (PieceSpells false known all names) (behind_piece piece passed) pieces rest)
       (places_back passed.met next_met (same_behind piece passed))
       (pieces_came (behind_piece piece passed) pieces flat.1 rest fed.2 inner.value next (adds_marks none draft inner.value first.adds marks) first.adds.short met_mid inner.leads) in
@@ -109,13 +89,13 @@ module _ (known : Facts) where
       (λ all names. PiecesSpell false known all field names passed value) (λ all names counted it. (grouped, it))
       (pieces_came passed (pieces_of field) flat (values_for field value) fed draft next marks short met_known is)
 
-  label_came : (passed : Passed) (name : Word) (value : Option Tree) → value ≡ None → (draft next : Draft) → Fresh (is_label (Label name)) passed.met
+  label_came : (passed : Passed) (name : Word) (value : Option Tree) → value ≡ None → (draft next : Draft) → Fresh (gives_place (Label name)) passed.met
       → length draft.late ≡ length draft.bits → MetKnown passed.met draft.known → pieces_laid known draft (Label name) value ≡ Ok next
-      → Came known (is_label (Label name)) (met_behind (Label name) passed.met) NoCount draft next (λ all names. PiecesSpell false known all (Label name) names passed value)
+      → Came known (gives_place (Label name)) (met_behind (Label name) passed.met) NoCount draft next (λ all names. PiecesSpell false known all (Label name) names passed value)
   label_came passed name value empty draft next fresh marks met_known is =
       let inner = chained (lay known draft (Place name) None) (λ mid. Ok mid) next is in
       let laid : lay known draft (Place name) None ≡ Ok next = inner.is ∙ ap (λ (d : Draft). Ok d) (same_ok inner.value next inner.leads) in
-      came_is known (is_label (Label name)) (met_behind (Label name) passed.met) NoCount draft next (λ all names. PieceSpells false known all names passed (Place name) None)
+      came_is known (gives_place (Label name)) (met_behind (Label name) passed.met) NoCount draft next (λ all names. PieceSpells false known all names passed (Place name) None)
       (λ all names. PiecesSpell false known all (Label name) names passed value)
       (λ all names counted it. (tt, (None, option_to_list value, length next.bits, next.late, refl, it, (ap option_to_list empty, refl, refl))))
       (piece_came known passed (Place name) None refl draft next fresh marks met_known laid)
@@ -123,121 +103,227 @@ module _ (known : Facts) where
   -- Rows.
 
   abbrev BodyCame : PlainBody → Type 0
-  BodyCame body = (passed : Passed) (values : List Tree) (draft next : Draft) → Fresh (has_label body) passed.met → length draft.late ≡ length draft.bits → length draft.bits ≤ most_bits
+  BodyCame body = (passed : Passed) (values : List Tree) (draft next : Draft) → Fresh (gives_places body) passed.met → length draft.late ≡ length draft.bits → length draft.bits ≤ most_bits
       → MetKnown passed.met draft.known → IsRow body values → body_laid known draft body values ≡ Ok next
-      → Came known (has_label body) (met_all body passed.met) (AreCounted body values) draft next (λ all names. BodySpells false known all body names passed values)
+      → Came known (gives_places body) (met_all body passed.met) (AreCounted body values) draft next (λ all names. BodySpells false known all body names passed values)
 
   abbrev InsideIs : PlainBody → Option RowOf → Passed → List Tree → List Bool → Environment → RowSpells
   InsideIs row which passed line all names = Inside row which names (λ own. BodySpells false known all row own (at_front row passed) line)
 
-  abbrev inside_adds : (row : PlainBody) (line : List Tree) (draft inner : Draft) → Adds (has_label row) (enter row line draft) inner → Adds none draft (leave row draft inner)
-  inside_adds row line draft inner a = record {
+  abbrev inside_adds : (row : PlainBody) (which : Option RowOf) (line : List Tree) (draft inner : Draft) → Adds (gives_places row) (enter which row line draft) inner → Adds none draft (leave which row draft inner)
+  inside_adds row which line draft inner a = record {
     bits = a.bits;
     marks = a.marks;
     bits_are = a.bits_are;
     marks_are = a.marks_are;
     same = a.same;
     is_zero = a.is_zero;
-    numbers = map (closing row inner.known) a.numbers;
-    numbers_are = ap (λ (n : List LateNumber). draft.numbers ++ map (closing row inner.known) n) a.numbers_are;
-    tracks = tracks-map IsAny IsAny (closing row inner.known) (λ one. refl) (λ one. refl) (λ one any. tt) (length draft.bits) a.numbers a.marks a.tracks;
+    numbers = map (closing which row inner.known) a.numbers;
+    numbers_are = ap (λ (n : List LateNumber). draft.numbers ++ map (closing which row inner.known) n) a.numbers_are;
+    tracks = tracks-map IsAny IsAny (closing which row inner.known) (λ one. refl) (λ one. refl) (λ one any. tt) (length draft.bits) a.numbers a.marks a.tracks;
     short = a.short;
     names_are = λ key is. refl;
-    given = λ name is. absurd (true_false (sym is));
+    given = λ in_rows name is. absurd (true_false (sym is));
   }
 
-  module _ (row : PlainBody) (apart : AreApart row) (passed : Passed) (line : List Tree) (draft inner : Draft) (a : Adds (has_label row) (enter row line draft) inner)
-      (all : List Bool) (names : Environment) (fits : FitsAll known all names passed.met (leave row draft inner)) where
-    abbrev own_names : Environment
-    own_names = outside_of row inner.known names
+  -- outside the labels of a row have the places that they have in it
+  abbrev HavePlaces : PlainBody → Option RowOf → Draft → Environment → Type 0
+  HavePlaces row which inner names = (label : List ℕ) → has_label row label ≡ true → HasPlace which label names inner.known
 
-    inside_names : (key : Key) → is_later (met_all row (met_front row passed.met)) key ≡ false → inner.known.give key ≡ own_names.give key
-    inside_names key early = sym (own_give (declares row key) (inner.known.give key) (names.give key) (inner.known.give key) (λ is. refl) (λ is. sym (outer is)))
-      where
-        outer : declares row key ≡ false → inner.known.give key ≡ names.give key
-        outer is = a.names_are key (undeclared row key is) ∙ entered_none row line draft.known key is
-            ∙ fits.names_are key (sym (inside_later row passed.met key is) ∙ sym (later_all row (met_front row passed.met) key (undeclared row key is)) ∙ early)
-
-    inside_fits : FitsAll known all own_names (met_all row (met_front row passed.met)) inner
-    inside_fits = record { bits = fits.bits; len = refl; late_is = refl; marks = fits.marks; within = fits.within; names_are = inside_names }
-
-    inside_counts : AreCounted row line own_names
-    inside_counts = counted_moves row line (entered row line draft.known) own_names
-        (λ name is. ap (λ (test : Bool). if test then inner.known.give (count_of name) else names.give (count_of name)) is ∙ a.names_are (count_of name) (counts_no_label row name))
-        (counted_are row line (names_inside row draft.known) apart)
-
-  inside_came : (row : PlainBody) → AreApart row → BodyCame row → (passed : Passed) (which : Option RowOf) (line : List Tree) → IsRow row line → (draft next : Draft) → length draft.late ≡ length draft.bits → length draft.bits ≤ most_bits
-      → MetKnown passed.met draft.known → row_laid known row draft line ≡ Ok next → Came known none passed.met NoCount draft next (InsideIs row which passed line)
-  inside_came row apart came passed which line is_row draft next marks short met_known is =
-      let step = chained (body_laid known (enter row line draft) row line) (λ mid. good (leave row draft mid)) next is in
-      let inner = step.value in
-      let c = came (at_front row passed) line (enter row line draft) inner (fresh_front row passed.met) marks short (met_entered row line passed.met draft.known met_known) is_row step.is in
-      subst (λ (d : Draft). Came known none passed.met NoCount draft d (InsideIs row which passed line)) (same_ok (leave row draft inner) next step.leads)
-      (record {
-        adds = inside_adds row line draft inner c.adds;
+  inside_came : (row : PlainBody) → AreApart row → BodyCame row → (passed : Passed) (which : Option RowOf) (line : List Tree) → IsRow row line → (draft inner : Draft) → length draft.late ≡ length draft.bits → length draft.bits ≤ most_bits
+      → MetKnown passed.met draft.known → body_laid known (enter which row line draft) row line ≡ Ok inner → Came known none passed.met (HavePlaces row which inner) draft (leave which row draft inner) (InsideIs row which passed line)
+  inside_came row apart came passed which line is_row draft inner marks short met_known is =
+      let c = came (at_front row passed) line (enter which row line draft) inner (fresh_front row passed.met) marks short (met_entered which row line passed.met draft.known met_known) is_row is in
+      record {
+        adds = inside_adds row which line draft inner c.adds;
         spells = λ all names fits holds counted. (
-          outside_of row inner.known names,
-          record { give = λ key is. ap (λ (test : Bool). if test then inner.known.give key else names.give key) is },
-          c.spells all (outside_of row inner.known names) (inside_fits row apart passed line draft inner c.adds all names fits)
-              (each-map (Holds known all (outside_of row inner.known names)) (Holds known all names) (closing row inner.known)
+          outside_of which row inner.known names,
+          inside_within known row apart which passed line draft inner c.adds all names fits counted,
+          c.spells all (outside_of which row inner.known names) (inside_fits known row apart which passed line draft inner c.adds all names fits)
+              (each-map (Holds known all (outside_of which row inner.known names)) (Holds known all names) (closing which row inner.known)
               (λ one it. record { bits = it.bits; value = it.value; there = it.there; width = it.width }) c.adds.numbers holds)
-              (inside_counts row apart passed line draft inner c.adds all names fits),
+              (inside_counts known row apart which passed line draft inner c.adds all names fits),
         );
-      })
+      }
 
   abbrev RowsAre : Option Word → PlainBody → Passed → ℕ → List (List Tree) → List Bool → Environment → RowSpells
   RowsAre name row passed number rows all names = RowsSpell (λ number line. Inside row (row_of name number) names (λ own. BodySpells false known all row own (at_front row passed) line)) number rows
 
+  -- rows that are laid add these places
+  record RowsCame (name : Option Word) (row : PlainBody) (passed : Passed) (number : ℕ) (rows : List (List Tree)) (draft next : Draft) : Type 0 where
+    places : List ℤ
+    places_are : next.places ≡ draft.places ++ places
+    came : Came known none passed.met (λ names. RowsGiven row names number (length rows) places) draft next (RowsAre name row passed number rows)
+
   rows_came : (name : Option Word) (row : PlainBody) → AreApart row → BodyCame row → (passed : Passed) (number : ℕ) (rows : List (List Tree)) → AllByRecursion (IsRow row) rows → (draft next : Draft)
-      → length draft.late ≡ length draft.bits → length draft.bits ≤ most_bits → MetKnown passed.met draft.known → rows_laid (row_laid known row) draft rows ≡ Ok next
-      → Came known none passed.met NoCount draft next (RowsAre name row passed number rows)
+      → length draft.late ≡ length draft.bits → length draft.bits ≤ most_bits → MetKnown passed.met draft.known → rows_laid (λ number. row_laid known (row_of name number) row) number draft rows ≡ Ok next
+      → RowsCame name row passed number rows draft next
   rows_came name row apart came passed number [] are draft next marks short met_known is =
-      subst (λ (d : Draft). Came known none passed.met NoCount draft d (RowsAre name row passed number [])) (same_ok draft next is)
-      (record { adds = adds_none draft short; spells = λ all names fits holds counted. (refl, refl) })
+      subst (λ (d : Draft). RowsCame name row passed number [] draft d) (same_ok draft next is) (record {
+        places = [];
+        places_are = sym (append-nil draft.places);
+        came = record { adds = adds_none draft short; spells = λ all names fits holds counted. (refl, refl) };
+      })
   rows_came name row apart came passed number (line ∷ rows) are draft next marks short met_known is =
-      let inner = chained (row_laid known row draft line) (λ mid. rows_laid (row_laid known row) mid rows) next is in
-      let first = inside_came row apart came passed (row_of name number) line are.0 draft inner.value marks short met_known inner.is in
-      let more = rows_came name row apart came passed (number + 1) rows are.1 inner.value next (adds_marks none draft inner.value first.adds marks) first.adds.short
-      (known_behind known none passed.met draft inner.value first.adds met_known) inner.leads in
-      both_came known none none passed.met passed.met draft inner.value next (InsideIs row (row_of name number) passed line) (RowsAre name row passed (number + 1) rows) (RowsAre name row passed number (line ∷ rows)) marks
-      (λ all names one others. (length inner.value.bits, inner.value.late, one, others)) first more (λ key early. (refl, early))
+      let which = row_of name number in
+      let outer = chained (row_laid known which row draft line) (λ mid. rows_laid (λ number. row_laid known (row_of name number) row) (number + 1) mid rows) next is in
+      let inner = chained (body_laid known (enter which row line draft) row line) (λ mid. good (leave which row draft mid)) outer.value outer.is in
+      let mid = leave which row draft inner.value in
+      let same : outer.value ≡ mid = sym (same_ok mid outer.value inner.leads) in
+      let found = body_behind known row apart line (enter which row line draft) inner.value inner.is in
+      let first = inside_came row apart came passed which line are.0 draft inner.value marks short met_known inner.is in
+      let more = rows_came name row apart came passed (number + 1) rows are.1 mid next (adds_marks none draft mid first.adds marks) first.adds.short
+      (known_behind known none passed.met draft mid first.adds met_known) (sym (ap (λ (d : Draft). rows_laid (λ number. row_laid known (row_of name number) row) (number + 1) d rows) same) ∙ outer.leads) in
+      record {
+        places = found.places ++ more.places;
+        places_are = more.places_are ∙ ap (λ (p : List ℤ). p ++ more.places) found.places_are ∙ append_assoc draft.places found.places more.places;
+        came = came_counted known none passed.met (λ names. HavePlaces row which inner.value names × RowsGiven row names (number + 1) (length rows) more.places)
+            (λ names. RowsGiven row names number (suc (length rows)) (found.places ++ more.places)) draft next (RowsAre name row passed number (line ∷ rows))
+            (λ names given. (
+              first_given row names inner.value.known number (length rows) found.places more.places found.are given,
+              others_given row names inner.value.known number (length rows) found.places more.places found.are given,
+            ))
+            (both_came known none none passed.met passed.met (HavePlaces row which inner.value) (λ names. RowsGiven row names (number + 1) (length rows) more.places) draft mid next
+            (InsideIs row which passed line) (RowsAre name row passed (number + 1) rows) (RowsAre name row passed number (line ∷ rows)) marks
+            (λ all names one others. (length mid.bits, mid.late, one, others)) first more.came (λ key early. (refl, early)));
+      }
 
   -- Fields.
 
   abbrev FieldCame : PlainField → Type 0
-  FieldCame field = (passed : Passed) (value : Option Tree) → Takes (takes_value field) (IsValue field) value → (draft next : Draft) → Fresh (is_label field) passed.met → length draft.late ≡ length draft.bits → length draft.bits ≤ most_bits
+  FieldCame field = (passed : Passed) (value : Option Tree) → Takes (takes_value field) (IsValue field) value → (draft next : Draft) → Fresh (gives_place field) passed.met → length draft.late ≡ length draft.bits → length draft.bits ≤ most_bits
       → MetKnown passed.met draft.known → field_laid known draft field value ≡ Ok next
-      → Came known (is_label field) (met_behind field passed.met) (FieldCounted field value) draft next (λ all names. FieldSpells false known all field names passed value)
+      → Came known (gives_place field) (met_behind field passed.met) (FieldCounted field value) draft next (λ all names. FieldSpells false known all field names passed value)
 
   abbrev CasesCame : PlainCases → Type 0
   CasesCame cases = (passed : Passed) (v : Tree) → IsChoice cases v → (draft next : Draft) → length draft.late ≡ length draft.bits → length draft.bits ≤ most_bits
       → MetKnown passed.met draft.known → case_laid known draft cases (Some v) ≡ Ok next
       → Came known none passed.met NoCount draft next (λ all names. CaseSpells false known all cases names passed (Some v))
 
+  -- behind all rows the array is as its rows, apart and with the places of the labels in them
+  abbrev array_next : PlainBody → ℕ → Draft → Draft → Draft
+  array_next row count draft mid = with_places draft.places (behind_rows row count mid)
+
+  abbrev array_adds : (row : PlainBody) (count : ℕ) (draft mid : Draft) → Adds none (with_places [] draft) mid → Adds (gives_rows row) draft (array_next row count draft mid)
+  array_adds row count draft mid a = record {
+    bits = a.bits;
+    marks = a.marks;
+    bits_are = a.bits_are;
+    marks_are = a.marks_are;
+    same = a.same;
+    is_zero = a.is_zero;
+    numbers = a.numbers;
+    numbers_are = a.numbers_are;
+    tracks = a.tracks;
+    short = a.short;
+    names_are = λ key is. ap (λ (test : Bool). if test then row_value row count mid.places key else mid.known.give key) is ∙ a.names_are key refl;
+    given = rows_given row count mid.places mid.known;
+  }
+
+  module _ (row : PlainBody) (count : ℕ) (passed : Passed) (draft mid : Draft) (fresh : Fresh (gives_rows row) passed.met) (all : List Bool) (names : Environment)
+      (fits : FitsAll known all names (λ key. gives_rows row key || passed.met key) (array_next row count draft mid)) where
+    rows_fit : FitsAll known all names passed.met mid
+    rows_fit = record {
+      bits = fits.bits;
+      len = refl;
+      late_is = refl;
+      marks = fits.marks;
+      within = fits.within;
+      names_are = alike_back known (gives_rows row) passed.met (λ key. gives_rows row key || passed.met key) mid.known (also_rows row count mid.places mid.known) names
+          (λ key is. ap (λ (test : Bool). if test then row_value row count mid.places key else mid.known.give key) is) (still_rows known row passed.met fresh) fits.names_are;
+    }
+
+    rows_are_given : AreRows row count names
+    rows_are_given = record {
+      give = λ label is. sym (fits.names_are.names (rows_of label) refl (ap (λ (test : Bool). not (test || passed.met (rows_of label))) is))
+          ∙ ap (λ (test : Bool). if test then Some (pos count) else mid.known.give (rows_of label)) is;
+    }
+
+    places_given : RowsGiven row names 1 count mid.places
+    places_given = record {
+      give = λ label j is less.
+          let key : Key = place_in label (pos (1 + j)) in
+          sym (fits.names_are.places label (pos count) (pos (1 + j)) (ap (λ (test : Bool). test || passed.met (rows_of label)) is) (rows_are_given.give label is) (row_in_rows count j less))
+          ∙ ap (λ (test : Bool). if test then row_value row count mid.places key else mid.known.give key) is ∙ row_place_is row count j mid.places label less;
+    }
+
+  rows_array : (name : Option Word) (count : Option ℤ) (row : PlainBody) (passed : Passed) (value : Option Tree) (rows : List (List Tree)) → value ≡ Some (trees.Rows rows) → IsStated count (length rows) → (draft mid : Draft)
+      → Fresh (gives_rows row) passed.met → RowsCame name row passed 1 rows (with_places [] draft) mid
+      → Came known (gives_rows row) (λ key. gives_rows row key || passed.met key) (FieldCounted (Array name count row) value) draft (array_next row (length rows) draft mid)
+      (λ all names. FieldSpells false known all (Array name count row) names passed value)
+  rows_array name count row passed value rows whole stated draft mid fresh it = record {
+    adds = array_adds row (length rows) draft mid it.came.adds;
+    spells = λ all names fits holds counted. (
+      rows,
+      whole,
+      stated,
+      subst (λ (rs : List (List Tree)). IsCounted name (length rs) names) (ap rows_in whole ∙ rows_are rows) counted,
+      rows_are_given row (length rows) passed draft mid fresh all names fits,
+      it.came.spells all names (rows_fit row (length rows) passed draft mid fresh all names fits) holds
+          (subst (RowsGiven row names 1 (length rows)) it.places_are (places_given row (length rows) passed draft mid fresh all names fits)),
+    );
+  }
+
   array_came : (name : Option Word) (count : Option ℤ) (row : PlainBody) → AreApart row → BodyCame row → FieldCame (Array name count row)
   array_came name count row apart came passed value (v, (rows, is_rows, stated, are), some) draft next fresh marks short met_known is =
       let whole : value ≡ Some (trees.Rows rows) = some ∙ ap (λ (t : Tree). Some t) is_rows in
       let lines : rows_in value ≡ rows = ap rows_in whole ∙ rows_are rows in
-      let it = rows_came name row apart came passed 1 rows are draft next marks short met_known (sym (ap (rows_laid (row_laid known row) draft) lines) ∙ is) in
-      came_met known none passed.met (met_behind (Array name count row) passed.met) (FieldCounted (Array name count row) value) draft next (λ all names. FieldSpells false known all (Array name count row) names passed value)
-      (array_same name count row passed.met)
-      (came_is known none passed.met (FieldCounted (Array name count row) value) draft next (RowsAre name row passed 1 rows) (λ all names. FieldSpells false known all (Array name count row) names passed value)
-      (λ all names counted spells. (rows, whole, stated, subst (λ (rs : List (List Tree)). IsCounted name (length rs) names) lines counted, spells))
-      (came_counted known none passed.met NoCount (FieldCounted (Array name count row) value) draft next (RowsAre name row passed 1 rows) (λ names counted. tt) it))
+      let front = with_places [] draft in
+      let outer = chained (array_laid (λ number. row_laid known (row_of name number) row) row rows front) (λ mid. good (with_places draft.places mid)) next
+      (sym (ap (λ (ls : List (List Tree)). rows_apart known name row ls draft) lines) ∙ is) in
+      let inner = chained (rows_laid (λ number. row_laid known (row_of name number) row) 1 front rows) (λ mid. good (behind_rows row (length rows) mid)) outer.value outer.is in
+      let mid = inner.value in
+      let same : array_next row (length rows) draft mid ≡ next = ap (with_places draft.places) (same_ok (behind_rows row (length rows) mid) outer.value inner.leads) ∙ same_ok (with_places draft.places outer.value) next outer.leads in
+      came_met known (gives_rows row) (λ key. gives_rows row key || passed.met key) (met_behind (Array name count row) passed.met) (FieldCounted (Array name count row) value) draft next
+      (λ all names. FieldSpells false known all (Array name count row) names passed value) (array_same name count row passed.met)
+      (subst (λ (d : Draft). Came known (gives_rows row) (λ key. gives_rows row key || passed.met key) (FieldCounted (Array name count row) value) draft d (λ all names. FieldSpells false known all (Array name count row) names passed value)) same
+      (rows_array name count row passed value rows whole stated draft mid fresh (rows_came name row apart came passed 1 rows are front mid marks short met_known inner.is)))
 
   abbrev CaseIs : Word → PlainBody → PlainCases → Passed → Option Tree → List Bool → Environment → RowSpells
   CaseIs name row others passed value all names = CaseSpells false known all (case_and name row others) names passed value
+
+  fits_back : (all : List Bool) (names : Environment) (met : Names) (places : List ℤ) (draft : Draft) → FitsAll known all names met (with_places places draft) → FitsAll known all names met draft
+  fits_back all names met places draft fits = record { bits = fits.bits; len = fits.len; late_is = fits.late_is; marks = fits.marks; within = fits.within; names_are = fits.names_are }
+
+  -- the fields of a case that is chosen
+  case_inside : (row : PlainBody) → AreApart row → BodyCame row → (passed : Passed) (line : List Tree) → IsRow row line → (draft next : Draft) → length draft.late ≡ length draft.bits → length draft.bits ≤ most_bits
+      → MetKnown passed.met draft.known → apart (λ inner. row_laid known None row inner line) draft ≡ Ok next → Came known none passed.met NoCount draft next (InsideIs row None passed line)
+  case_inside row own came passed line is_row draft next marks short met_known is =
+      let front = with_places [] draft in
+      let outer = chained (row_laid known None row front line) (λ mid. good (with_places draft.places mid)) next is in
+      let inner = chained (body_laid known (enter None row line front) row line) (λ mid. good (leave None row front mid)) outer.value outer.is in
+      let same : with_places draft.places (leave None row front inner.value) ≡ next =
+      ap (with_places draft.places) (same_ok (leave None row front inner.value) outer.value inner.leads) ∙ same_ok (with_places draft.places outer.value) next outer.leads in
+      let it = inside_came row own came passed None line is_row front inner.value marks short met_known inner.is in
+      subst (λ (d : Draft). Came known none passed.met NoCount draft d (InsideIs row None passed line)) same (record {
+        adds = record {
+          bits = it.adds.bits;
+          marks = it.adds.marks;
+          bits_are = it.adds.bits_are;
+          marks_are = it.adds.marks_are;
+          same = it.adds.same;
+          is_zero = it.adds.is_zero;
+          numbers = it.adds.numbers;
+          numbers_are = it.adds.numbers_are;
+          tracks = it.adds.tracks;
+          short = it.adds.short;
+          names_are = λ key is. refl;
+          given = λ in_rows name is. absurd (true_false (sym is));
+        };
+        spells = λ all names fits holds counted.
+            it.spells all names (fits_back all names passed.met draft.places (leave None row front inner.value) fits) holds (λ label is. tt);
+      })
 
   -- a case that is chosen, and one that isn't
   case_came : (name : Word) (row : PlainBody) (others : PlainCases) → AreApart row → BodyCame row → (passed : Passed) (v : Tree) → (line : List Tree) × (v ≡ trees.Choice name line) × IsRow row line → (draft next : Draft)
       → length draft.late ≡ length draft.bits → length draft.bits ≤ most_bits → MetKnown passed.met draft.known → case_laid known draft (case_and name row others) (Some v) ≡ Ok next
       → Came known none passed.met NoCount draft next (CaseIs name row others passed (Some v))
-  case_came name row others apart came passed v (line, is_choice, is_row) draft next marks short met_known is =
+  case_came name row others own came passed v (line, is_choice, is_row) draft next marks short met_known is =
       let some : Some v ≡ Some (trees.Choice name line) = ap (λ (t : Tree). Some t) is_choice in
       let chosen : is_case name (Some v) ≡ true = ap (is_case name) some ∙ choice_chosen name line in
-      let so : row_laid known row draft line ≡ Ok next =
-      sym (ap (row_laid known row draft) (ap line_in some ∙ line_is name line))
-      ∙ sym (ap (λ (test : Bool). if test then row_laid known row draft (line_in (Some v)) else case_laid known draft others (Some v)) chosen)
+      let so : apart (λ inner. row_laid known None row inner line) draft ≡ Ok next =
+      sym (ap (λ (l : List Tree). apart (λ inner. row_laid known None row inner l) draft) (ap line_in some ∙ line_is name line))
+      ∙ sym (ap (λ (test : Bool). if test then apart (λ inner. row_laid known None row inner (line_in (Some v))) draft else case_laid known draft others (Some v)) chosen)
       ∙ is in
       came_is known none passed.met NoCount draft next (InsideIs row None passed line) (CaseIs name row others passed (Some v))
       (λ all names counted it. subst (λ (test : Bool). By test
@@ -245,7 +331,7 @@ module _ (known : Facts) where
       × Inside row None names (λ own. BodySpells false known all row own (at_front row passed) line) (length draft.bits) draft.late (length next.bits) next.late)
       (CaseSpells false known all others names passed (Some v) (length draft.bits) draft.late (length next.bits) next.late))
       (sym chosen) (line, some, it))
-      (inside_came row apart came passed None line is_row draft next marks short met_known so)
+      (case_inside row own came passed line is_row draft next marks short met_known so)
 
   others_came : (name : Word) (row : PlainBody) (others : PlainCases) → AllByRecursion (λ later. str_eq_ignore_ascii_case name.bytes later.bytes ≡ false) (case_names others) → CasesCame others → (passed : Passed) (v : Tree) → IsChoice others v → (draft next : Draft)
       → length draft.late ≡ length draft.bits → length draft.bits ≤ most_bits → MetKnown passed.met draft.known → case_laid known draft (case_and name row others) (Some v) ≡ Ok next
@@ -253,7 +339,7 @@ module _ (known : Facts) where
   others_came name row others differ came passed v is_choice draft next marks short met_known is =
       let other : is_case name (Some v) ≡ false = choice_differs name others differ v is_choice in
       let so : case_laid known draft others (Some v) ≡ Ok next =
-      sym (ap (λ (test : Bool). if test then row_laid known row draft (line_in (Some v)) else case_laid known draft others (Some v)) other) ∙ is in
+      sym (ap (λ (test : Bool). if test then apart (λ inner. row_laid known None row inner (line_in (Some v))) draft else case_laid known draft others (Some v)) other) ∙ is in
       came_is known none passed.met NoCount draft next (λ all names. CaseSpells false known all others names passed (Some v)) (CaseIs name row others passed (Some v))
       (λ all names counted it. subst (λ (test : Bool). By test
       ((line : List Tree) × (Some v ≡ Some (trees.Choice name line))
@@ -276,16 +362,16 @@ module _ (known : Facts) where
       let met = met_behind field passed.met in
       let next_met = (behind field here).met in
       let inner = chained (field_laid known draft field value) (λ mid. body_laid known mid fields rest_values) next is in
-      let same : SamePlaces met next_met = λ name. ap (λ (m : Names). m (place_of name)) (sym (behind_met field here)) in
-      let fresh_more : Fresh (has_label fields) met = fresh_rest field fields apart passed.met fresh in
+      let same : SamePlaces met next_met = λ in_rows name. ap (λ (m : Names). m (label_key in_rows name)) (sym (behind_met field here)) in
+      let fresh_more : Fresh (gives_places fields) met = fresh_rest field fields apart passed.met fresh in
       let first = one here value each.one draft inner.value (fresh_first field fields passed.met fresh) marks short met_known inner.is in
       let met_mid : MetKnown next_met inner.value.known =
-      λ name. sym (same name) ∙ met_field field passed.met inner.value.known (known_behind known (is_label field) passed.met draft inner.value first.adds met_known) name in
-      let last = came_met known (has_label fields) (met_all fields next_met) (met_all fields met) (AreCounted fields rest_values) inner.value next (λ all names. BodySpells false known all fields names (behind field here) rest_values)
+      λ in_rows name. sym (same in_rows name) ∙ met_field field passed.met inner.value.known (known_behind known (gives_place field) passed.met draft inner.value first.adds met_known) in_rows name in
+      let last = came_met known (gives_places fields) (met_all fields next_met) (met_all fields met) (AreCounted fields rest_values) inner.value next (λ all names. BodySpells false known all fields names (behind field here) rest_values)
       (met_all_same fields next_met met (places_back met next_met same))
       (more (behind field here) rest_values inner.value next (λ key label. ap (λ (m : Names). m key) (behind_met field here) ∙ fresh_more key label)
-      (adds_marks (is_label field) draft inner.value first.adds marks) first.adds.short met_mid (subst (IsRow fields) each.others others) inner.leads) in
-      then_came known (is_label field) (has_label fields) met (met_all fields met) (FieldCounted field value) (AreCounted fields rest_values) value rest_values values each.whole
+      (adds_marks (gives_place field) draft inner.value first.adds marks) first.adds.short met_mid (subst (IsRow fields) each.others others) inner.leads) in
+      then_came known (gives_place field) (gives_places fields) met (met_all fields met) (FieldCounted field value) (AreCounted fields rest_values) value rest_values values each.whole
       (λ all names v. FieldSpells false known all field names here v) (λ all names vs. BodySpells false known all fields names (behind field here) vs) draft inner.value next marks first last
       (still_body known fields met fresh_more)
 
@@ -327,7 +413,7 @@ module _ (written : (bits : List Bool) → length bits % 8 ≡ 0 → bits_of (by
   pub sound : (known : Facts) (body : PlainBody) → AreApart body → (row : List Tree) (bytes : List ℕ) → IsRow body row → laid known body row ≡ Ok bytes
       → Spells false known body row bytes
   sound known body apart row bytes are is =
-      let one = chained (row_laid known body nothing_laid row) (λ draft. fill known outside draft.numbers draft.bits >>= λ bits. good (bytes_of (filled 8 bits))) bytes is in
+      let one = chained (row_laid known None body nothing_laid row) (λ draft. fill known outside draft.numbers draft.bits >>= λ bits. good (bytes_of (filled 8 bits))) bytes is in
       let draft : Draft = one.value in
       let two = chained (fill known outside draft.numbers draft.bits) (λ bits. good (bytes_of (filled 8 bits))) bytes one.leads in
       let own : List Bool = two.value in
@@ -335,7 +421,11 @@ module _ (written : (bits : List Bool) → length bits % 8 ≡ 0 → bits_of (by
       let bytes_are : bytes_of (filled 8 own) ≡ bytes = same_ok _ bytes two.leads in
       let all = bits_of bytes in
       let all_is : all ≡ own ++ more = ap bits_of (sym bytes_are) ∙ written (filled 8 own) (multiple 8 own (omega (arith))) in
-      let c = inside_came known body apart (body_came known body apart) nothing_passed None row are nothing_laid draft refl (omega (arith)) (λ name. refl) one.is in
+      let inner = chained (body_laid known (enter None body row nothing_laid) body row) (λ mid. good (leave None body nothing_laid mid)) draft one.is in
+      let same : leave None body nothing_laid inner.value ≡ draft = same_ok (leave None body nothing_laid inner.value) draft inner.leads in
+      let c : Came known (λ key. false) nothing_passed.met (λ names. (label : List ℕ) → has_label body label ≡ true → Unit {0}) nothing_laid draft (λ all names. Inside body None names (λ own. BodySpells false known all body own (at_front body nothing_passed) row)) =
+      subst (λ (d : Draft). Came known (λ key. false) nothing_passed.met (λ names. (label : List ℕ) → has_label body label ≡ true → Unit {0}) nothing_laid d (λ all names. Inside body None names (λ own. BodySpells false known all body own (at_front body nothing_passed) row))) same
+      (inside_came known body apart (body_came known body apart) nothing_passed None row are nothing_laid inner.value refl (omega (arith)) (λ in_rows name. refl) inner.is) in
       let size : length c.adds.marks ≡ length draft.bits = c.adds.same ∙ ap length (sym c.adds.bits_are) in
       let second = fill_came known IsAny own more outside c.adds.numbers c.adds.marks [] draft.bits 0 refl size c.adds.tracks
       (ap (λ (n : List LateNumber). fill known outside n draft.bits) (sym c.adds.numbers_are) ∙ two.is) in
@@ -351,9 +441,9 @@ module _ (written : (bits : List Bool) → length bits % 8 ≡ 0 → bits_of (by
         late_is = refl;
         marks = ap length c.adds.marks_are ∙ size;
         within = within;
-        names_are = λ key early. c.adds.names_are key refl;
+        names_are = record { names = λ key single early. c.adds.names_are key refl; places = λ label rows number was has inside. c.adds.names_are (place_in label number) refl };
       } in
-      let it = c.spells all outside fits (subst (λ (a : List Bool). Each (Holds known a outside) c.adds.numbers) (sym all_is) second.holds) tt in
+      let it = c.spells all outside fits (subst (λ (a : List Bool). Each (Holds known a outside) c.adds.numbers) (sym all_is) second.holds) (λ label is. tt) in
       record {
         names = it.0;
         own = it.1;

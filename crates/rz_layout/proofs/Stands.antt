@@ -15,7 +15,9 @@ use Rattle.rz_layout.specs.Sound.{AreSound, IsCaseSound, IsSound, IsWidth}
 use Rattle.rz_types_fields.specs.declared.field.NumForm.{NumForm}
 use Rattle.rz_types_fields.specs.declared.tree.Tree.{Tree}
 use Rattle.rz_types_fields.specs.Field.{case_and, field_and, no_cases, no_fields, takes_value, Align, Array, Fill, Label, Number, PlainBody, PlainCases, PlainField, Points, Switch, Text}
-use Rattle.rz_types_fields.specs.Laid.{body_laid, case_laid, closing, draft_sight, enter, field_laid, first_value, fixed_form, grown, in_order, late_at, later, lay, leave, line_in, met_in, nothing_laid, now, number_form, other_values, piece_form, ranged, reads_late, row_laid, rows_in, rows_laid, takes_one, text_laid, too_long, value_refusal, with_form, with_room, Draft, Form, LateNumber, Refusal}
+use Rattle.rz_types_fields.specs.Laid.{apart, array_laid, behind_rows, body_laid, case_laid, closing, draft_sight, enter, field_laid, first_value, fixed_form, grown, in_order, late_at, later, lay, leave, line_in, met_in, nothing_laid, now, number_form, other_values, piece_form, ranged, reads_late, row_laid, rows_in, rows_laid, takes_one, text_laid, too_long, value_refusal, with_form, with_places, with_room, Draft, Form, LateNumber, Refusal}
+use Rattle.rz_types_fields.specs.RowLabels.{row_of, RowOf}
+use Rattle.rz_core.specs.declared.resource.Word.{Word}
 use Rattle.rz_types_fields.specs.Piece.{fixed_integer, free_integer, integers, pieces_of, Filler, OneNumber, OneText, Piece, Place, Zeros}
 use Rattle.rz_types_fields.specs.Sees.{names_later}
 use Rattle.rz_types_fields.specs.Shape.{numbers_of}
@@ -46,9 +48,10 @@ within_both : (n : ℕ) (one other : List LateNumber) → AllByRecursion (IsWith
 within_both n [] other are more = more
 within_both n (number ∷ one) other are more = (are.0, within_both n one other are.1 more)
 
-within_closing : (n : ℕ) (body : PlainBody) (names : Environment) (numbers : List LateNumber) → AllByRecursion (IsWithin n) numbers → AllByRecursion (IsWithin n) (map (closing body names) numbers)
-within_closing n body names [] are = tt
-within_closing n body names (one ∷ numbers) are = (record { width = are.0.width; stands = are.0.stands }, within_closing n body names numbers are.1)
+within_closing : (n : ℕ) (which : Option RowOf) (body : PlainBody) (names : Environment) (numbers : List LateNumber) → AllByRecursion (IsWithin n) numbers
+    → AllByRecursion (IsWithin n) (map (closing which body names) numbers)
+within_closing n which body names [] are = tt
+within_closing n which body names (one ∷ numbers) are = (record { width = are.0.width; stands = are.0.stands }, within_closing n which body names numbers are.1)
 
 record Keeps (draft next : Draft) : Type 0 where
   more : length draft.bits ≤ length next.bits
@@ -165,23 +168,41 @@ points_sound rect (Some terms) = fixed_sounds terms
 abbrev BodyKeeps : Facts → PlainBody → Type 0
 BodyKeeps facts body = (draft : Draft) (values : List Tree) (next : Draft) → AreSound body values → body_laid facts draft body values ≡ Ok next → Keeps draft next
 
-inside_keeps : (facts : Facts) (row : PlainBody) → BodyKeeps facts row → (draft : Draft) (line : List Tree) (next : Draft) → AreSound row line → row_laid facts row draft line ≡ Ok next → Keeps draft next
-inside_keeps facts row each draft line next sound is =
-    let step = then_ok (body_laid facts (enter row line draft) row line) (λ mid. Ok (leave row draft mid)) next is in
-    let kept = each (enter row line draft) line step.0 sound step.1.0 in
-    subst (Keeps draft) (same_ok (leave row draft step.0) next step.1.1) (record {
+inside_keeps : (facts : Facts) (which : Option RowOf) (row : PlainBody) → BodyKeeps facts row → (draft : Draft) (line : List Tree) (next : Draft) → AreSound row line
+    → row_laid facts which row draft line ≡ Ok next → Keeps draft next
+inside_keeps facts which row each draft line next sound is =
+    let step = then_ok (body_laid facts (enter which row line draft) row line) (λ mid. Ok (leave which row draft mid)) next is in
+    let kept = each (enter which row line draft) line step.0 sound step.1.0 in
+    subst (Keeps draft) (same_ok (leave which row draft step.0) next step.1.1) (record {
       more = kept.more;
-      within = λ are. within_both (length step.0.bits) draft.numbers (map (closing row step.0.known) step.0.numbers)
+      within = λ are. within_both (length step.0.bits) draft.numbers (map (closing which row step.0.known) step.0.numbers)
           (within_more (length draft.bits) (length step.0.bits) kept.more draft.numbers are)
-          (within_closing (length step.0.bits) row step.0.known step.0.numbers (kept.within tt));
+          (within_closing (length step.0.bits) which row step.0.known step.0.numbers (kept.within tt));
     })
 
-rows_keep : (facts : Facts) (row : PlainBody) → BodyKeeps facts row → (rows : List (List Tree)) (draft next : Draft) → AllByRecursion (AreSound row) rows
-    → rows_laid (row_laid facts row) draft rows ≡ Ok next → Keeps draft next
-rows_keep facts row each [] draft next sound is = keeps_itself draft next (same_ok draft next is)
-rows_keep facts row each (line ∷ rows) draft next sound is =
-    let step = then_ok (row_laid facts row draft line) (λ mid. rows_laid (row_laid facts row) mid rows) next is in
-    keeps_both draft step.0 next (inside_keeps facts row each draft line step.0 sound.0 step.1.0) (rows_keep facts row each rows step.0 next sound.1 step.1.1)
+abbrev row_at : Facts → Option Word → PlainBody → ℕ → Draft → List Tree → Result Draft Refusal
+row_at facts name row number draft line = row_laid facts (row_of name number) row draft line
+
+rows_keep : (facts : Facts) (name : Option Word) (row : PlainBody) → BodyKeeps facts row → (rows : List (List Tree)) (number : ℕ) (draft next : Draft) → AllByRecursion (AreSound row) rows
+    → rows_laid (row_at facts name row) number draft rows ≡ Ok next → Keeps draft next
+rows_keep facts name row each [] number draft next sound is = keeps_itself draft next (same_ok draft next is)
+rows_keep facts name row each (line ∷ rows) number draft next sound is =
+    let step = then_ok (row_at facts name row number draft line) (λ mid. rows_laid (row_at facts name row) (number + 1) mid rows) next is in
+    keeps_both draft step.0 next (inside_keeps facts (row_of name number) row each draft line step.0 sound.0 step.1.0)
+    (rows_keep facts name row each rows (number + 1) step.0 next sound.1 step.1.1)
+
+apart_keeps : (lay : Draft → Result Draft Refusal) → ((draft next : Draft) → lay draft ≡ Ok next → Keeps draft next) → (draft next : Draft) → apart lay draft ≡ Ok next → Keeps draft next
+apart_keeps lay keeps draft next is =
+    let step = then_ok (lay (with_places [] draft)) (λ mid. Ok (with_places draft.places mid)) next is in
+    let kept = keeps (with_places [] draft) step.0 step.1.0 in
+    subst (Keeps draft) (same_ok (with_places draft.places step.0) next step.1.1) (record { more = kept.more; within = kept.within })
+
+array_keeps : (facts : Facts) (name : Option Word) (row : PlainBody) → BodyKeeps facts row → (rows : List (List Tree)) → AllByRecursion (AreSound row) rows → (draft next : Draft)
+    → array_laid (row_at facts name row) row rows draft ≡ Ok next → Keeps draft next
+array_keeps facts name row each rows sound draft next is =
+    let step = then_ok (rows_laid (row_at facts name row) 1 draft rows) (λ mid. Ok (behind_rows row (length rows) mid)) next is in
+    let kept = rows_keep facts name row each rows 1 draft step.0 sound step.1.0 in
+    subst (Keeps draft) (same_ok (behind_rows row (length rows) step.0) next step.1.1) (record { more = kept.more; within = kept.within })
 
 either_keeps : (test : Bool) (this other : Result Draft Refusal) (draft next : Draft) → (test ≡ true → this ≡ Ok next → Keeps draft next) → (other ≡ Ok next → Keeps draft next)
     → (if test then this else other) ≡ Ok next → Keeps draft next
@@ -197,14 +218,16 @@ mutual
   field_keeps facts (Fill unit count) draft value next sound is = pieces_keep facts (pieces_of (Fill unit count)) (tt, tt) draft (values_for (Fill unit count) value) next is
   field_keeps facts (Align unit) draft value next sound is = pieces_keep facts (pieces_of (Align unit)) (tt, tt) draft (values_for (Align unit) value) next is
   field_keeps facts (Label name) draft value next sound is = pieces_keep facts (pieces_of (Label name)) (tt, tt) draft (values_for (Label name) value) next is
-  field_keeps facts (Array name count row) draft value next sound is = rows_keep facts row (body_keeps facts row) (rows_in value) draft next sound is
+  field_keeps facts (Array name count row) draft value next sound is =
+      apart_keeps (array_laid (row_at facts name row) row (rows_in value)) (array_keeps facts name row (body_keeps facts row) (rows_in value) sound) draft next is
   field_keeps facts (Switch cases) draft value next sound is = cases_keep facts cases draft value next sound is
 
   cases_keep : (facts : Facts) (cases : PlainCases) (draft : Draft) (value : Option Tree) (next : Draft) → IsCaseSound cases value → case_laid facts draft cases value ≡ Ok next → Keeps draft next
   cases_keep facts no_cases draft value next sound is = keeps_itself draft next (same_ok draft next is)
   cases_keep facts (case_and name row others) draft value next sound is =
-      either_keeps (is_case name value) (row_laid facts row draft (line_in value)) (case_laid facts draft others value) draft next
-      (λ chosen. inside_keeps facts row (body_keeps facts row) draft (line_in value) next (sound.0 chosen))
+      either_keeps (is_case name value) (apart (λ inner. row_laid facts None row inner (line_in value)) draft) (case_laid facts draft others value) draft next
+      (λ chosen. apart_keeps (λ inner. row_laid facts None row inner (line_in value))
+      (λ inner behind. inside_keeps facts None row (body_keeps facts row) inner (line_in value) behind (sound.0 chosen)) draft next)
       (cases_keep facts others draft value next sound.1) is
 
   body_keeps : (facts : Facts) (body : PlainBody) → BodyKeeps facts body
@@ -215,6 +238,6 @@ mutual
       let step = then_ok (field_laid facts draft field value) (λ mid. body_laid facts mid fields others) next is in
       keeps_both draft step.0 next (field_keeps facts field draft value step.0 sound.0 step.1.0) (body_keeps facts fields step.0 others next sound.1 step.1.1)
 
-pub all_within : (facts : Facts) (body : PlainBody) (row : List Tree) (draft : Draft) → AreSound body row → row_laid facts body nothing_laid row ≡ Ok draft
+pub all_within : (facts : Facts) (body : PlainBody) (row : List Tree) (draft : Draft) → AreSound body row → row_laid facts None body nothing_laid row ≡ Ok draft
     → AllByRecursion (IsWithin (length draft.bits)) draft.numbers
-all_within facts body row draft sound is = (inside_keeps facts body (body_keeps facts body) nothing_laid row draft sound is).within tt
+all_within facts body row draft sound is = (inside_keeps facts None body (body_keeps facts body) nothing_laid row draft sound is).within tt

@@ -62,6 +62,10 @@ tracks-map P Q change at width so from (one ∷ others) marks t =
       subst (λ (k : ℕ). Tracks Q k (map change others) t.1) (ap (λ (k : ℕ). k + room_of one) (sym (at one)) ∙ ap (λ (k : ℕ). (change one).at + k) same) (tracks-map P Q change at width so (one.at + room_of one) others t.1 t.5),
     )
 
+pub tracks_so : (P Q : LateNumber → Type 0) → ((one : LateNumber) → P one → Q one) → (from : ℕ) (numbers : List LateNumber) (marks : Late) → Tracks P from numbers marks → Tracks Q from numbers marks
+tracks_so P Q so from [] marks t = t
+tracks_so P Q so from (one ∷ others) marks t = (t.0, t.1, t.2, t.3, so one t.4, tracks_so P Q so (one.at + room_of one) others t.1 t.5)
+
 -- a late number sees the bits before its place
 pub late_front : (known : Facts) (names : Environment) (one : LateNumber) (bits others : List Bool) → take one.at bits ≡ take one.at others → late_bits known names one bits ≡ late_bits known names one others
 late_front known names one bits others same =

@@ -14,4 +14,4 @@ IsCompiled known body row (Err fault) = Refuses known body row fault
 
 -- the faults that a row can have
 abbrev pub is_compile_fault : ℕ → Bool
-is_compile_fault number = (number == 207) || (number == 211) || (number == 213) || (number == 214) || (number == 215) || (number == 216) || (number == 222) || (number == 301)
+is_compile_fault number = (number == 207) || (number == 211) || (number == 213) || (number == 214) || (number == 215) || (number == 216) || (number == 222) || (number == 223) || (number == 301)

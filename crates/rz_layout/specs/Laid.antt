@@ -1,5 +1,5 @@
 -- What the code has laid, and what a call gives of it.
-use Rattle.std.specs.Prelude.{◌≡◌, ℕ, ◌+◌, ◌≤◌, ◌<◌, ℤ, nat_abs, Bool, true, false, List, [], ◌∷◌, ◌++◌, ◌||◌, length, map, take, drop, Option, None, Some, Ok, Err}
+use Rattle.std.specs.Prelude.{◌≡◌, ℕ, ◌+◌, ◌≤◌, ◌<◌, ℤ, nat_abs, nat_lt, Bool, true, false, List, [], ◌∷◌, ◌++◌, ◌||◌, length, map, take, drop, Option, None, Some, Ok, Err}
 use Rattle.std.specs.Borrow.{Bor}
 use Rattle.std.specs.Option.{is_some}
 use Rattle.std.specs.declared.result.Result.{Result}
@@ -28,6 +28,8 @@ use Rattle.rz_types_fields.specs.Piece.{Place, Zeros}
 use Rattle.rz_layout.specs.declared.late.Late.{Late as HeldLate}
 use Rattle.rz_types_fields.specs.declared.field.Field.{Field}
 use Rattle.rz_types_fields.specs.declared.names.Note.TheVariants.{Entered}
+use Rattle.rz_types_fields.specs.declared.names.InRow.{InRow}
+use Rattle.rz_types_fields.specs.RowLabels.{labels_count, RowOf}
 use Rattle.rz_types_fields.specs.Sees.{marked}
 use Rattle.rz_types_fields.specs.Spells.{most_bits}
 use Rattle.rz_types_fields.specs.Field.{field_and, no_fields, plain_body, Array, Label, PlainBody, PlainField, PlainText}
@@ -39,6 +41,7 @@ draft_of laid = record {
   late = marked (length laid.bits) laid.marks;
   known = known laid.notes.items;
   numbers = numbers_in laid.late;
+  places = laid.places.items;
 }
 
 -- no more bits than a resource may have, marks of no more bits than there are, and pieces that can be counted
@@ -112,34 +115,41 @@ abbrev pub placed_put : Facts → Draft → PlainText → Option Tree → Result
 placed_put facts draft text value = size_in facts draft text.size >>= λ size. sized_put facts draft text size value
 
 -- a body was entered: a note says so, and the others behind it are of its own names
-pub record IsEntered (fields : Bor (List Field)) (old new : List Note) : Type 0 where
+pub record IsEntered (fields : Bor (List Field)) (which : Option InRow) (old new : List Note) : Type 0 where
   pub more : List Note
-  pub grew : new ≡ old ++ Entered fields ∷ more
+  pub grew : new ≡ old ++ Entered fields which ∷ more
   pub others : (key : Key) (before : Option ℤ) → declares (plain_body fields.now) key ≡ false → noted before more key ≡ before
 
--- a field has a name: a label has, and an array where it was given one
+-- a field has names: a label has, and an array where it was given one, or where a label stands directly in its rows
 abbrev pub has_name : PlainField → Bool
-has_name (Array name count row) = is_some name
+has_name (Array name count row) = is_some name || nat_lt 0 (labels_count row)
 has_name (Label name) = true
 has_name field = false
+
+-- the body is a row of an array with a name
+abbrev pub is_in_named : Option RowOf → Bool
+is_in_named None = false
+is_in_named (Some row) = is_some row.name
 
 -- one of the fields of a body has, without those within
 abbrev pub has_names : PlainBody → Bool
 has_names no_fields = false
 has_names (field_and field fields) = has_name field || has_names fields
 
--- the late numbers of a body with these notes behind its end: they keep its names where it has any
+-- the late numbers of a body with these notes behind its end: they keep the notes where the body has names,
+-- or is a row of an array with a name
 abbrev pub kept_late : Bool → List Note → List LateNumber → List LateNumber
 kept_late true notes numbers = map (closed_by notes) numbers
 kept_late false notes numbers = numbers
 
 -- a body was left, of which so many notes and these late numbers stood before it
-pub record IsLeft (body : PlainBody) (outer : List HeldLate) (around : ℕ) (old new : Laid) : Type 0 where
+pub record IsLeft (which : Option RowOf) (body : PlainBody) (outer : List HeldLate) (around : ℕ) (old new : Laid) : Type 0 where
   pub piece : new.piece ≡ old.piece
   pub bits : new.bits ≡ old.bits
   pub marks : new.marks ≡ old.marks
+  pub places : new.places.items ≡ old.places.items
   pub notes : new.notes.items ≡ take around old.notes.items
-  pub late : numbers_in new.late ≡ numbers_in outer ++ kept_late (has_names body) (drop around old.notes.items) (numbers_in old.late)
+  pub late : numbers_in new.late ≡ numbers_in outer ++ kept_late (is_in_named which || has_names body) (drop around old.notes.items) (numbers_in old.late)
 
 -- a late number whose bits stand among so many, and whose width may be
 pub record IsWithin (count : ℕ) (one : LateNumber) : Type 0 where

@@ -27,6 +27,7 @@ pub fn value_fault(fault: Unvalued<'_>, piece: u64) -> LayFault
     let (number, value) = match fault {
         Unvalued::ZeroDivisor => (211, 0),
         Unvalued::UnknownName(_) => (203, 0),
+        Unvalued::BadIndex(number) => (223, i64::from(number)),
         Unvalued::LaterData(_, end) => (213, end),
         Unvalued::DataWidth(width) => (213, i64::from(width)),
         Unvalued::BadShift(count) => (215, i64::from(count)),

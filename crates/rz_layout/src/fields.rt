@@ -1,6 +1,6 @@
 //! Rows laid as bytes, field by field, with arrays and switches. What is answered is in `specs/Compiled`.
 
-ghost use Rattle.std.specs.Prelude.{IfOk, ◌≡◌, option_map, true, List, ℕ, []};
+ghost use Rattle.std.specs.Prelude.{IfOk, ◌≡◌, length, option_map, true, List, ℕ, [], None};
 ghost use Rattle.rz_layout.specs.Fault.{refusal_of};
 ghost use Rattle.std.specs.declared.result.Result.{Result as Answer};
 ghost use Rattle.rz_layout.specs.Compiled.{is_compile_fault, IsCompiled};
@@ -8,8 +8,10 @@ ghost use Rattle.rz_layout.specs.Laid.{draft_of, IsNotedBy, IsShort};
 ghost use Rattle.rz_layout.specs.Sound.{AreSound, IsCaseSound, IsSound};
 ghost use Rattle.rz_core.specs.Stop.{OnFault, Gives, Meets, fault_seen, left};
 ghost use Rattle.std.specs.List.{AllByRecursion};
-ghost use Rattle.rz_types_fields.specs.Laid.{body_laid, case_laid, field_laid, laid, row_laid, rows_laid, Refusal};
-ghost use Rattle.rz_types_fields.specs.Passed.{declares, gives_key};
+ghost use Rattle.rz_types_fields.specs.Known.{which_of};
+ghost use Rattle.rz_types_fields.specs.Laid.{apart, body_laid, case_laid, field_laid, laid, row_laid, rows_apart, rows_laid, Refusal};
+ghost use Rattle.rz_types_fields.specs.RowLabels.{row_of};
+ghost use Rattle.rz_types_fields.specs.Passed.{declares, gives_key, gives_rows};
 ghost use Rattle.rz_types_fields.specs.Row.{IsRow};
 ghost use Rattle.rz_types_fields.specs.Field.{plain_body, plain_cases, plain_field};
 ghost use Rattle.rz_types.specs.Template.{template_of};
@@ -25,10 +27,10 @@ use rz_bits::{
     BitBuf, bits_are_written_back, bytes_are_read_back, filled_to_a_multiple,
     numbers_are_read_back, numbers_are_written_back,
 };
-use rz_core::{Bytes, Facts, Listing, Stop};
+use rz_core::{Bytes, Facts, Listing, Stop, Word};
 use rz_types::values::{choice_in, line_in, next_value, rows_in};
 use rz_types::{Case, Field, Template, named_values_are_there, rules_hold_within, takes_value};
-use rz_types_fields::{Row, Tree};
+use rz_types_fields::{ArrayField, InRow, Row, Tree, note_rows};
 use std::alloc::Global;
 use std::mem;
 
@@ -38,26 +40,31 @@ use std::mem;
 /// Pieces are counted from left to right, through all rows of an array and the case that is chosen; a label is one, and an
 /// array and a switch are none themselves. `$$CountOf` gives the number of rows of an array, by its name, to the fields of
 /// its own body and of those within it; a label's name gives them its place, in bits from the start of the resource, and
-/// the `$$` functions of bits the number that stands there. A number whose expression names a label that stands later, or
-/// reads bits of such a number, is late: zero bits stand for it until all other pieces are laid. Then the late numbers are
-/// computed, from left to right, each from the bits before it.
+/// the `$$` functions of bits the number that stands there. Inside a row of an array a name that the row gives is the
+/// row's own, and `$$ArrayIndex` gives the number of the row, from 1, of the array of that name that is around.
+/// `label[index]` is the place of a label that stands directly in the rows of an array of the expression's own body, or of
+/// a body around it, in the row of that number, from 1. A number whose expression names a label that stands later, or reads bits of such a number, is late:
+/// zero bits stand for it until all other pieces are laid; a label of rows stands later up to the end of its array. Then the
+/// late numbers are computed, from left to right, each from the bits before it.
 ///
 /// Otherwise the fault is the first from left to right, those of late numbers behind all others: of an expression 211, a
 /// zero divisor, 213 for bits that aren't there (kept: the place behind the last) or aren't 1 to 32 of them (kept: their
-/// number), or 215, a shift by a count outside 0 to 31 (kept: the count); 214 for a text whose size or formats name a label
-/// that stands later, or read bits of late numbers (kept: the piece); 222 for a format that its arguments don't fit; 207
-/// for a value outside the range of its number, or a size that its text may not have (kept: the value); 216 for a text
-/// without a size that is too long for its type (kept: its length); 301 where a piece ends after 16,777,212 bytes (kept: the
-/// length to its end in bytes, rounded up). In a text 214 for a label comes first, its size's expression comes before its
-/// formats, and these before its size.
+/// number), 215, a shift by a count outside 0 to 31 (kept: the count), or 223 for an index that is the number of no row
+/// (kept: the index); 214 for a text whose size or formats name a label that stands later, or read bits of late numbers
+/// (kept: the piece); 222 for a format that its arguments don't fit; 207 for a value outside the range of its number, or a
+/// size that its text may not have (kept: the value); 216 for a text without a size that is too long for its type (kept:
+/// its length); 301 where a piece ends after 16,777,212 bytes (kept: the length to its end in bytes, rounded up). In a text
+/// 214 for a label comes first, its size's expression comes before its formats, and these before its size.
 ///
 /// Its time is in proportion to the fields that are laid, for each row those of its array, with their expressions and
 /// fixed texts, to the cases of each switch, to the row and to the bytes; a name in an expression counts as many times as
-/// there are fields in its body and in those around it, and a late number as many times as there are bodies around it.
-/// Beside the bytes it takes memory for what is noted of the bodies that are open, a note for each and one for each label
-/// and array in it, for one fixed text at a time, and for late numbers: a bit for each bit up to the last of them, each
-/// with its expression, and what was noted of names in the bodies that have names of their own, where late numbers stand.
-/// (MPW Rez.)
+/// there are fields in its body and in those around it, one with an index also as many times as there are fields in the rows
+/// of their arrays, counted once for each array, and a late number as many times as there are bodies around it. Beside the
+/// bytes it takes memory for what is noted of the bodies that are open, a note for each and one for each label and array in
+/// it; for the places of labels in rows, 4 bytes for each in each row, until the body of their array ends; for one fixed
+/// text at a time; and for late numbers: a bit for each bit up to the last of them, each with its expression, and what was
+/// noted in the bodies that have names of their own, or are rows of an array that has one, where late numbers stand. (MPW
+/// Rez.)
 pub fn compile(
     alloc: Global,
     template: &Template,
@@ -90,16 +97,17 @@ fn compile_fields(
     ensures { Gives (laid facts.now (plain_body fields.now) row.now) (fault_seen refusal_of result) }
 {
     let mut laid = Laid::new(alloc);
-    lay_body(alloc, fields, row, facts, &mut laid)?;
+    lay_body(alloc, fields, None, row, facts, &mut laid)?;
     let Laid {
         mut bits,
         late,
         piece: _,
         marks: _,
         mut notes,
+        places: _,
     } = laid;
     let none = BitBuf::new(alloc);
-    fill(late.as_slice(), facts, &mut notes, &none, &mut bits)?;
+    fill(late, facts, &mut notes, &none, &mut bits)?;
     Ok(bits.finish())
 }
 
@@ -108,24 +116,25 @@ fn compile_fields(
 fn lay_body<'a>(
     alloc: Global,
     fields: &'a [Field],
+    which: Option<InRow<'a>>,
     row: &[Tree],
     facts: &Facts,
     laid: &mut Laid<'a>,
 ) -> Result<(), Stop<LayFault>>
     requires sound { AreSound (plain_body fields.now) row.now }
     requires short { IsShort laid.old }
-    ensures laid { Gives (row_laid facts.now (plain_body fields.now) (draft_of laid.old) row.now) (fault_seen refusal_of (left (draft_of laid.new) result)) }
+    ensures laid { Gives (row_laid facts.now (which_of which.entry) (plain_body fields.now) (draft_of laid.old) row.now) (fault_seen refusal_of (left (draft_of laid.new) result)) }
     ensures short { IfOk result (λ _. IsShort laid.new) }
     ensures notes { IfOk result (λ _. laid.new.notes.items ≡ laid.old.notes.items) }
 {
     let around = laid.notes.len();
-    enter(fields, row, &mut laid.notes)?;
+    enter(fields, which, row, &mut laid.notes)?;
     let outer = mem::replace(&mut laid.late, Listing::new(alloc));
     match lay_fields(alloc, fields, row, facts, laid) {
         Ok(()) => {}
         Err(stop) => return Err(stop),
     }
-    leave(alloc, fields, outer, around, laid)?;
+    leave(fields, which, outer, around, laid)?;
     Ok(())
 }
 
@@ -179,18 +188,49 @@ fn lay_field<'a>(
         ),
         Field::Align(unit) => laid.put_filler(*unit),
         Field::Label(name) => laid.put_place(name),
-        Field::Array(array) => {
-            let fields = array.row.as_slice();
-            lay_rows(alloc, fields, rows_in(value), facts, laid)
-        }
+        Field::Array(array) => lay_array(alloc, array, rows_in(value), facts, laid),
         Field::Switch(cases) => lay_case(alloc, cases.as_slice(), value, facts, laid),
     }
+}
+
+/// Lays the rows of an array; behind them the labels in them are known by the numbers of their rows.
+#[cycle(lay)]
+fn lay_array<'a>(
+    alloc: Global,
+    array: &'a ArrayField,
+    rows: &[Row],
+    facts: &Facts,
+    laid: &mut Laid<'a>,
+) -> Result<(), Stop<LayFault>>
+    requires sound { AllByRecursion (AreSound (plain_body array.now.row)) rows.now }
+    requires short { IsShort laid.old }
+    ensures laid { Gives (rows_apart facts.now array.now.name (plain_body array.now.row) rows.now (draft_of laid.old)) (fault_seen refusal_of (left (draft_of laid.new) result)) }
+    ensures short { IfOk result (λ _. IsShort laid.new) }
+    ensures notes { IfOk result (λ _. IsNotedBy (gives_rows (plain_body array.now.row)) laid.old.notes.items laid.new.notes.items) }
+{
+    let fields = array.row.as_slice();
+    let outer = mem::replace(&mut laid.places, Vec::new(alloc));
+    match lay_rows(alloc, &array.name, fields, rows, facts, laid) {
+        Ok(()) => {}
+        Err(stop) => return Err(stop),
+    }
+    let places = mem::replace(&mut laid.places, outer);
+    note_rows(fields, count_of(rows), places, &mut laid.notes)?;
+    Ok(())
+}
+
+/// How many rows there are.
+fn count_of(rows: &[Row]) -> u64
+    ensures { result ≡ length rows.now }
+{
+    rows.len() as u64
 }
 
 /// Lays the rows of an array one behind the other.
 #[cycle(lay)]
 fn lay_rows<'a>(
     alloc: Global,
+    name: &'a Option<Word>,
     fields: &'a [Field],
     rows: &[Row],
     facts: &Facts,
@@ -198,12 +238,16 @@ fn lay_rows<'a>(
 ) -> Result<(), Stop<LayFault>>
     requires sound { AllByRecursion (AreSound (plain_body fields.now)) rows.now }
     requires short { IsShort laid.old }
-    ensures laid { Gives (rows_laid (row_laid facts.now (plain_body fields.now)) (draft_of laid.old) rows.now) (fault_seen refusal_of (left (draft_of laid.new) result)) }
+    ensures laid { Gives (rows_laid (λ number. row_laid facts.now (row_of name.now number) (plain_body fields.now)) 1 (draft_of laid.old) rows.now) (fault_seen refusal_of (left (draft_of laid.new) result)) }
     ensures short { IfOk result (λ _. IsShort laid.new) }
     ensures notes { IfOk result (λ _. laid.new.notes.items ≡ laid.old.notes.items) }
 {
-    for row in rows {
-        match lay_body(alloc, fields, row.as_slice(), facts, laid) {
+    for before in 0..rows.len() {
+        let which = Some(InRow {
+            array: name,
+            number: before as u64 + 1,
+        });
+        match lay_body(alloc, fields, which, rows[before].as_slice(), facts, laid) {
             Ok(()) => {}
             Err(stop) => return Err(stop),
         }
@@ -230,8 +274,32 @@ fn lay_case<'a>(
     let row = line_in(value);
     for case in cases {
         if case.name.is(name) {
-            return lay_body(alloc, case.row.as_slice(), row, facts, laid);
+            return lay_choice(alloc, case.row.as_slice(), row, facts, laid);
         }
     }
+    Ok(())
+}
+
+/// Lays the fields of a case; the places of its labels end with it.
+#[cycle(lay)]
+fn lay_choice<'a>(
+    alloc: Global,
+    fields: &'a [Field],
+    row: &[Tree],
+    facts: &Facts,
+    laid: &mut Laid<'a>,
+) -> Result<(), Stop<LayFault>>
+    requires sound { AreSound (plain_body fields.now) row.now }
+    requires short { IsShort laid.old }
+    ensures laid { Gives (apart (λ inner. row_laid facts.now None (plain_body fields.now) inner row.now) (draft_of laid.old)) (fault_seen refusal_of (left (draft_of laid.new) result)) }
+    ensures short { IfOk result (λ _. IsShort laid.new) }
+    ensures notes { IfOk result (λ _. laid.new.notes.items ≡ laid.old.notes.items) }
+{
+    let outer = mem::replace(&mut laid.places, Vec::new(alloc));
+    match lay_body(alloc, fields, None, row, facts, laid) {
+        Ok(()) => {}
+        Err(stop) => return Err(stop),
+    }
+    laid.places = outer;
     Ok(())
 }

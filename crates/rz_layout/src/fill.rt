@@ -11,7 +11,7 @@ ghost use Rattle.rz_types_fields.specs.Laid.{fill, late_bits};
 
 use crate::LayFault;
 use crate::fault::value_fault;
-use crate::late::{Late, LateNumber, push_notes};
+use crate::late::{Late, LateNumber, Lates, push_notes};
 use crate::number::ranged;
 use crate::seen::DraftEnv;
 use rz_bits::BitBuf;
@@ -23,19 +23,19 @@ use rz_types_fields::{NamesEnv, Note};
 /// noted here and in the bodies within. `none` marks no bits.
 #[cycle(fill)]
 pub fn fill<'a>(
-    late: &[Late<'a>],
+    late: Lates<'a>,
     facts: &Facts,
     notes: &mut Vec<Note<'a>>,
     none: &BitBuf,
     bits: &mut BitBuf,
 ) -> Result<(), Stop<LayFault>>
     requires none { none.now ≡ [] }
-    requires within { AllByRecursion (IsWithin (length bits.old)) (numbers_in late.now) }
-    ensures filled { Gives (fill facts.now (known notes.old.items) (numbers_in late.now) bits.old) (fault_seen refusal_of (left bits.new result)) }
+    requires within { AllByRecursion (IsWithin (length bits.old)) (numbers_in late) }
+    ensures filled { Gives (fill facts.now (known notes.old.items) (numbers_in late.entry) bits.old) (fault_seen refusal_of (left bits.new result)) }
     ensures notes { IfOk result (λ _. notes.new.items ≡ notes.old.items) }
     ensures length { IfOk result (λ _. length bits.new ≡ length bits.old) }
 {
-    for one in late {
+    for one in late.into_vec() {
         match fill_one(one, facts, notes, none, bits) {
             Ok(()) => {}
             Err(stop) => return Err(stop),
@@ -47,24 +47,24 @@ pub fn fill<'a>(
 /// Writes one late number, or those of a body within.
 #[cycle(fill)]
 fn fill_one<'a>(
-    one: &Late<'a>,
+    one: Late<'a>,
     facts: &Facts,
     notes: &mut Vec<Note<'a>>,
     none: &BitBuf,
     bits: &mut BitBuf,
 ) -> Result<(), Stop<LayFault>>
     requires none { none.now ≡ [] }
-    requires within { AllByRecursion (IsWithin (length bits.old)) (numbers_of one.now) }
-    ensures filled { Gives (fill facts.now (known notes.old.items) (numbers_of one.now) bits.old) (fault_seen refusal_of (left bits.new result)) }
+    requires within { AllByRecursion (IsWithin (length bits.old)) (numbers_of one) }
+    ensures filled { Gives (fill facts.now (known notes.old.items) (numbers_of one.entry) bits.old) (fault_seen refusal_of (left bits.new result)) }
     ensures notes { IfOk result (λ _. notes.new.items ≡ notes.old.items) }
     ensures length { IfOk result (λ _. length bits.new ≡ length bits.old) }
 {
     match one {
-        Late::Number(number) => fill_number(number, facts, notes.as_slice(), none, bits),
+        Late::Number(number) => fill_number(&number, facts, notes.as_slice(), none, bits),
         Late::Inside(own, inner) => {
             let around = notes.len();
-            push_notes(own.as_slice(), notes)?;
-            match fill(inner.as_slice(), facts, notes, none, bits) {
+            push_notes(own, notes)?;
+            match fill(inner, facts, notes, none, bits) {
                 Ok(()) => {}
                 Err(stop) => return Err(stop),
             }

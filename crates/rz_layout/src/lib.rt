@@ -1,13 +1,14 @@
 //! Rows as bytes: `compile` gives exactly the bytes that the values of a row spell under the fields of a type, or
 //! exactly the first refusal, and there is always one of the two.
 //! A row of an array and the case of a switch that is chosen are laid as bodies of their own: inside, the names of their
-//! arrays have the numbers of their rows, and their labels the places where they stand, and behind them no more. Numbers
-//! that name what stands later, or read late bits, are laid as zero bits first, and written in the end.
+//! arrays have the numbers of their rows, their labels the places where they stand, and the name of the array the number of
+//! the row, and behind them no more; but behind an array the labels in its rows are known by the numbers of the rows.
+//! Numbers that name what stands later, or read late bits, are laid as zero bits first, and written in the end.
 //! It rests on `rz_core`, `rz_expr`, `rz_bits`, `rz_types_fields`, which has the definitions of spelling and the notes of
 //! names, and `rz_types`.
 //! A new kind of piece is a case of `IsStored` and of `piece_form` in `rz_types_fields`, and one of `lay_field` here. A new
 //! kind of field with fields within it is a case of `FieldSpells` and of `field_laid` there, and one of `lay_field` here; a
-//! new kind of name, one of `entered` or `placed` there and of `enter` or `put_place` here.
+//! new kind of name, one of `entered`, `placed` or `behind_rows` there and of `enter`, `put_place` or `lay_array` here.
 #![tactic(auto)]
 
 mod fault;

@@ -1,32 +1,33 @@
 //! The names of a body, where it is entered and where it ends. What is noted is in `specs/Laid`.
 
-ghost use Rattle.std.specs.Prelude.{◌≡◌, ◌≤◌, OnOk, length, option_map, pos};
-ghost use Rattle.rz_layout.specs.Laid.{has_name, has_names, IsEntered, IsLeft, IsNotedBy};
+ghost use Rattle.std.specs.Prelude.{◌≡◌, ◌≤◌, ◌||◌, OnOk, length, nat_lt, option_map, pos};
+ghost use Rattle.rz_layout.specs.Laid.{has_name, has_names, is_in_named, IsEntered, IsLeft, IsNotedBy};
 ghost use Rattle.rz_types_fields.specs.Field.{plain_body, plain_field};
-ghost use Rattle.rz_types_fields.specs.Known.{known};
+ghost use Rattle.rz_types_fields.specs.Known.{known, which_of};
 ghost use Rattle.rz_types_fields.specs.Laid.{counted, entered, with_count, with_field};
 ghost use Rattle.rz_types_fields.specs.Passed.{declares, gives_count, gives_key};
+ghost use Rattle.rz_types_fields.specs.RowLabels.{labels_count};
 
 use crate::laid::Laid;
-use crate::late::{Late, Lates, push_lates, push_notes};
+use crate::late::{Late, Lates, push_lates};
 use rz_core::{NoMemory, Word};
 use rz_types::values::{next_value, rows_in};
 use rz_types::{Field, takes_value};
-use rz_types_fields::{Note, Row, Tree};
-use std::alloc::Global;
+use rz_types_fields::{InRow, Note, Row, Tree};
 use std::mem;
 
 /// Enters a body: from here on the names of its arrays have the numbers of their rows, and its labels no place, before
-/// those of the bodies around.
+/// those of the bodies around; and the array of which it is a row, if it is one, has the number of the row.
 pub fn enter<'a>(
     fields: &'a [Field],
+    which: Option<InRow<'a>>,
     row: &[Tree],
     notes: &mut Vec<Note<'a>>,
 ) -> Result<(), NoMemory>
-    ensures known { OnOk result (known notes.new.items ≡ entered (plain_body fields.now) row.now (known notes.old.items)) }
-    ensures noted { OnOk result (IsEntered fields.entry notes.old.items notes.new.items) }
+    ensures known { OnOk result (known notes.new.items ≡ entered (which_of which.entry) (plain_body fields.now) row.now (known notes.old.items)) }
+    ensures noted { OnOk result (IsEntered fields.entry which.entry notes.old.items notes.new.items) }
 {
-    notes.push(Note::Entered(fields))?;
+    notes.push(Note::Entered(fields, which))?;
     count_rows(fields, row, notes)
 }
 
@@ -85,33 +86,48 @@ fn count_of(rows: &[Row]) -> i64
     rows.len() as i64
 }
 
-/// Leaves a body: its names end, and its late numbers keep what was noted of them, where it has names. `outer` are the late
-/// numbers before it, and `around` says how many notes were there.
+/// Leaves a body: its names end, and its late numbers keep what was noted of them, where it has names or is a row of an array
+/// that has one. `outer` are the late numbers before it, and `around` says how many notes were there.
 pub fn leave<'a>(
-    alloc: Global,
     fields: &[Field],
+    which: Option<InRow<'a>>,
     outer: Lates<'a>,
     around: usize,
     laid: &mut Laid<'a>,
 ) -> Result<(), NoMemory>
     requires { around ≤ length laid.old.notes.items }
-    ensures { OnOk result (IsLeft (plain_body fields.now) outer.entry around laid.old laid.new) }
+    ensures { OnOk result (IsLeft (which_of which.entry) (plain_body fields.now) outer.entry around laid.old laid.new) }
 {
     let inner = mem::replace(&mut laid.late, outer);
     if inner.is_empty() {
         laid.notes.truncate(around);
         return Ok(());
     }
-    if !has_names(fields) {
+    if !keeps_names(fields, which) {
         push_lates(inner, &mut laid.late)?;
         laid.notes.truncate(around);
         return Ok(());
     }
-    let mut own = Vec::new(alloc);
-    push_notes(&laid.notes[around..], &mut own)?;
+    let own = laid.notes.split_off(around)?;
     laid.late.push(Late::Inside(own, inner))?;
-    laid.notes.truncate(around);
     Ok(())
+}
+
+/// Whether the late numbers of a body keep what was noted in it: it has names, or is a row of an array that has one.
+fn keeps_names(fields: &[Field], which: Option<InRow<'_>>) -> bool
+    ensures { result ≡ (is_in_named (which_of which.entry) || has_names (plain_body fields.now)) }
+{
+    is_in_named(which) || has_names(fields)
+}
+
+/// Whether a body is a row of an array with a name.
+fn is_in_named(which: Option<InRow<'_>>) -> bool
+    ensures { result ≡ is_in_named (which_of which.entry) }
+{
+    match which {
+        Some(row) => row.array.is_some(),
+        None => false,
+    }
 }
 
 /// Whether one of the fields of a body has a name.
@@ -131,8 +147,20 @@ fn has_name(field: &Field) -> bool
     ensures { result ≡ has_name (plain_field field.now) }
 {
     match field {
-        Field::Array(array) => array.name.is_some(),
+        Field::Array(array) => array.name.is_some() || has_labels(array.row.as_slice()),
         Field::Label(_) => true,
         _ => false,
     }
+}
+
+/// Whether a label stands directly in a body.
+fn has_labels(row: &[Field]) -> bool
+    ensures { result ≡ nat_lt 0 (labels_count (plain_body row.now)) }
+{
+    for field in row {
+        if matches!(field, Field::Label(_)) {
+            return true;
+        }
+    }
+    false
 }

@@ -21,7 +21,7 @@ use crate::laid::Laid;
 use rz_bits::BitBuf;
 use rz_core::{Bytes, Facts, Fault, Mark, Stop, Word};
 use rz_expr::{Env, Expr, FactWord, Unvalued, value_in};
-use rz_types_fields::{NamesEnv, Note, Texts, place_of, text_seen};
+use rz_types_fields::{NamesEnv, Note, Texts, labelled_rows, place_of, text_seen};
 use std::alloc::Global;
 
 /// What an expression sees of names and of the bits before a place, without the late ones.
@@ -48,6 +48,18 @@ impl Env for DraftEnv<'_> {
 
     fn count(&self, name: &Word) -> Option<i32> {
         self.names.count(name)
+    }
+
+    fn rows(&self, label: &Word) -> Option<u64> {
+        self.names.rows(label)
+    }
+
+    fn place_at(&self, label: &Word, row: i32) -> Option<i32> {
+        self.names.place_at(label, row)
+    }
+
+    fn row(&self, array: &Word) -> Option<i32> {
+        self.names.row(array)
     }
 
     fn bits(&self, name: &Word, start: i32, width: i32) -> Option<u32> {
@@ -100,8 +112,11 @@ pub fn names_later(expr: &Expr, notes: &[Note<'_>]) -> bool
     ensures { result ≡ names_later (met_in (known notes.now)) (term_of expr.now) }
 {
     match expr {
-        Expr::Number(_) | Expr::Count(_) | Expr::Fact(_) => false,
+        Expr::Number(_) | Expr::Count(_) | Expr::ArrayIndex(_) | Expr::Fact(_) => false,
         Expr::Name(name) => place_of(notes, name).is_none(),
+        Expr::Indexed(name, index) => {
+            labelled_rows(notes, name).is_none() || names_later(index, notes)
+        }
         Expr::Unary(_, operand) => names_later(operand, notes),
         Expr::Binary(_, left, right) => names_later(left, notes) || names_later(right, notes),
         Expr::Bits(name, start, width) => {

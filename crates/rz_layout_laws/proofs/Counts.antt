@@ -5,9 +5,10 @@ use Rattle.std.specs.Prelude.{if◌then◌else◌, min, nat_lt, length, nat_abs}
 use Rattle.rz_core.specs.Stop.{◌>>=◌}
 use Rattle.rz_core.specs.declared.facts.Facts.{Facts}
 use Rattle.rz_bits.specs.BitBuf.{zeros}
-use Rattle.rz_layout_laws.specs.Flat.{ended, nothing_drafted, pieces_in, steps_drafted, within_bodies, Begins, Drafts, Ends, Lays, Step}
+use Rattle.rz_layout_laws.specs.Flat.{closed, ended, nothing_drafted, pieces_in, steps_drafted, within_bodies, Begins, Closes, Drafts, Ends, EndsRows, Lays, Opens, Step}
 use Rattle.rz_types_fields.specs.Field.{PlainBody}
-use Rattle.rz_types_fields.specs.Laid.{enter, grown, late_at, later, lay, most_kept, now, one_more, piece_form, too_long, with_form, Draft, Form, Refusal}
+use Rattle.rz_types_fields.specs.Laid.{behind_rows, enter, grown, late_at, later, lay, most_kept, now, one_more, piece_form, too_long, with_form, with_places, Draft, Form, Refusal}
+use Rattle.rz_types_fields.specs.RowLabels.{RowOf}
 use Rattle.rz_types_fields.specs.Piece.{Piece}
 use Rattle.rz_types_fields.specs.Spells.{most_bits}
 use Rattle.rz_types_fields.specs.declared.tree.Tree.{Tree}
@@ -55,9 +56,13 @@ has_same : (count other : ℕ) (drafted : Result Drafts Refusal) → count ≡ o
 has_same count other (Ok next) same is = is ∙ same
 has_same count other (Err fault) same is = tt
 
-ended_has : (body : PlainBody) (inner : Draft) (around : List Draft) → (ended body inner around).inner.piece ≡ inner.piece
-ended_has body inner [] = refl
-ended_has body inner (outer ∷ others) = refl
+ended_has : (which : Option RowOf) (body : PlainBody) (inner : Draft) (around : List Draft) → (ended which body inner around).inner.piece ≡ inner.piece
+ended_has which body inner [] = refl
+ended_has which body inner (outer ∷ others) = refl
+
+closed_has : (inner : Draft) (around : List Draft) → (closed inner around).inner.piece ≡ inner.piece
+closed_has inner [] = refl
+closed_has inner (outer ∷ others) = refl
 
 has_is : (count : ℕ) (found : Result Drafts Refusal) (next : Drafts) → Has count found → found ≡ Ok next → next.inner.piece ≡ count
 has_is count (Ok other) next is same =
@@ -66,6 +71,14 @@ has_is count (Ok other) next is same =
 has_is count (Err fault) next is same = absurd cc
 
 module _ (known : Facts) where
+  -- behind a step that lays nothing
+  same_count : (steps : List Step) (drafts next : Drafts) → drafts.inner.piece ≤ most_kept → next.inner.piece ≡ drafts.inner.piece
+      → (next.inner.piece ≤ most_kept → Has (min (next.inner.piece + pieces_in steps) most_kept) (steps_drafted known next steps))
+      → Has (min (drafts.inner.piece + pieces_in steps) most_kept) (steps_drafted known next steps)
+  same_count steps drafts next within same more =
+      has_same (min (next.inner.piece + pieces_in steps) most_kept) (min (drafts.inner.piece + pieces_in steps) most_kept) (steps_drafted known next steps)
+      (ap (λ (c : ℕ). min (c + pieces_in steps) most_kept) same) (more (subst (λ (c : ℕ). c ≤ most_kept) (sym same) within))
+
   steps_count : (steps : List Step) (drafts : Drafts) → drafts.inner.piece ≤ most_kept → Has (min (drafts.inner.piece + pieces_in steps) most_kept) (steps_drafted known drafts steps)
   steps_count [] drafts within = omega arith
   steps_count (Lays piece value ∷ steps) drafts within =
@@ -82,13 +95,14 @@ module _ (known : Facts) where
           has_same (min (next.piece + pieces_in steps) most_kept) (min (drafts.inner.piece + (pieces_in steps + 1)) most_kept)
           (steps_drafted known (within_bodies drafts next) steps) (ap (λ (c : ℕ). min (c + pieces_in steps) most_kept) is ∙ step.0)
           (more next (subst (λ (c : ℕ). c ≤ most_kept) (sym is) step.1))
-  steps_count (Begins body values ∷ steps) drafts within =
-      steps_count steps (record { inner = enter body values drafts.inner; around = drafts.inner ∷ drafts.around }) within
-  steps_count (Ends body ∷ steps) drafts within =
-      has_same (min ((ended body drafts.inner drafts.around).inner.piece + pieces_in steps) most_kept) (min (drafts.inner.piece + pieces_in steps) most_kept)
-      (steps_drafted known (ended body drafts.inner drafts.around) steps)
-      (ap (λ (c : ℕ). min (c + pieces_in steps) most_kept) (ended_has body drafts.inner drafts.around))
-      (steps_count steps (ended body drafts.inner drafts.around) (subst (λ (c : ℕ). c ≤ most_kept) (sym (ended_has body drafts.inner drafts.around)) within))
+  steps_count (Begins which body values ∷ steps) drafts within =
+      steps_count steps (record { inner = enter which body values drafts.inner; around = drafts.inner ∷ drafts.around }) within
+  steps_count (Ends which body ∷ steps) drafts within =
+      same_count steps drafts (ended which body drafts.inner drafts.around) within (ended_has which body drafts.inner drafts.around) (λ within. steps_count steps (ended which body drafts.inner drafts.around) within)
+  steps_count (Opens ∷ steps) drafts within = steps_count steps (record { inner = with_places [] drafts.inner; around = drafts.inner ∷ drafts.around }) within
+  steps_count (Closes ∷ steps) drafts within =
+      same_count steps drafts (closed drafts.inner drafts.around) within (closed_has drafts.inner drafts.around) (λ within. steps_count steps (closed drafts.inner drafts.around) within)
+  steps_count (EndsRows row count ∷ steps) drafts within = steps_count steps (within_bodies drafts (behind_rows row count drafts.inner)) within
 
   pub front_counts : (front : List Step) (drafts : Drafts) → steps_drafted known nothing_drafted front ≡ Ok drafts → drafts.inner.piece ≡ min (pieces_in front) most_kept
   front_counts front drafts is =

@@ -1,12 +1,13 @@
 -- To lay a row is to draft the list of its steps.
-use Rattle.std.proofs.Common.{◌≡◌, Bool, true, false, List, [], ◌∷◌, ◌++◌, Option, Result, Ok, Err, refl, ap, ◌∙◌}
+use Rattle.std.proofs.Common.{◌≡◌, ℕ, ◌+◌, Bool, true, false, List, [], ◌∷◌, ◌++◌, length, Option, None, Result, Ok, Err, refl, ap, ◌∙◌}
 use Rattle.std.specs.Prelude.{if◌then◌else◌}
 use Rattle.rz_core.specs.Stop.{◌>>=◌}
 use Rattle.rz_core.specs.declared.facts.Facts.{Facts}
-use Rattle.rz_layout_laws.specs.Flat.{alone, between, flat, flat_case, flat_field, flat_pieces, flat_row, flat_rows, nothing_drafted, step_drafted, steps_drafted, Drafts, Ends, Step}
+use Rattle.rz_layout_laws.specs.Flat.{alone, between, flat, flat_case, flat_field, flat_pieces, flat_row, flat_rows, nothing_drafted, opened, step_drafted, steps_drafted, Closes, Drafts, Ends, EndsRows, Step}
 use Rattle.rz_types_fields.specs.Field.{case_and, field_and, no_cases, no_fields, takes_value, Align, Array, Fill, Label, Number, PlainBody, PlainCases, PlainField, Points, Switch, Text}
-use Rattle.rz_types_fields.specs.Laid.{body_laid, case_laid, enter, field_laid, first_value, in_order, lay, leave, line_in, nothing_laid, other_values, row_laid, rows_in, rows_laid, takes_one, Draft, Refusal}
+use Rattle.rz_types_fields.specs.Laid.{apart, array_laid, behind_rows, body_laid, case_laid, enter, field_laid, first_value, in_order, lay, leave, line_in, nothing_laid, other_values, row_laid, rows_in, rows_laid, takes_one, with_places, Draft, Refusal}
 use Rattle.rz_types_fields.specs.Piece.{pieces_of, Piece}
+use Rattle.rz_types_fields.specs.RowLabels.{row_of, RowOf}
 use Rattle.rz_types_fields.specs.Spells.{is_case, values_for}
 use Rattle.rz_types_fields.specs.declared.tree.Tree.{Tree}
 
@@ -55,19 +56,33 @@ module _ (known : Facts) where
       (λ next. in_order takes_one (lay known) next pieces (other_values (takes_one piece) values)) (kept_around around)
       (λ next. pieces_so pieces (other_values (takes_one piece) values) next around)
 
-  between_so : (body : PlainBody) (values : List Tree) (steps : List Step) (laid : Draft → Result Draft Refusal) → Lays_so steps laid
-      → Lays_so (between body values steps) (λ draft. laid (enter body values draft) >>= λ next. Ok (leave body draft next))
-  between_so body values steps laid so draft around =
-      parted steps (Ends body ∷ []) (with_around (draft ∷ around) (enter body values draft))
-      ∙ ap (λ (r : Result Drafts Refusal). r >>= λ next. steps_drafted known next (Ends body ∷ [])) (so (enter body values draft) (draft ∷ around))
-      ∙ across (laid (enter body values draft)) (kept_around (draft ∷ around)) (λ next. steps_drafted known next (Ends body ∷ []))
-      (λ next. Ok (leave body draft next)) (kept_around around) (λ next. refl)
+  between_so : (which : Option RowOf) (body : PlainBody) (values : List Tree) (steps : List Step) (laid : Draft → Result Draft Refusal) → Lays_so steps laid
+      → Lays_so (between which body values steps) (λ draft. laid (enter which body values draft) >>= λ next. Ok (leave which body draft next))
+  between_so which body values steps laid so draft around =
+      parted steps (Ends which body ∷ []) (with_around (draft ∷ around) (enter which body values draft))
+      ∙ ap (λ (r : Result Drafts Refusal). r >>= λ next. steps_drafted known next (Ends which body ∷ [])) (so (enter which body values draft) (draft ∷ around))
+      ∙ across (laid (enter which body values draft)) (kept_around (draft ∷ around)) (λ next. steps_drafted known next (Ends which body ∷ []))
+      (λ next. Ok (leave which body draft next)) (kept_around around) (λ next. refl)
 
-  rows_so : (row : List Tree → List Step) (laid : Draft → List Tree → Result Draft Refusal) → ((line : List Tree) → Lays_so (row line) (λ draft. laid draft line))
-      → (lines : List (List Tree)) → Lays_so (flat_rows row lines) (λ draft. rows_laid laid draft lines)
-  rows_so row laid so [] draft around = refl
-  rows_so row laid so (line ∷ lines) draft around =
-      one_and (row line) (flat_rows row lines) (λ draft. laid draft line) (λ draft. rows_laid laid draft lines) (so line) (rows_so row laid so lines) draft around
+  opened_so : (steps : List Step) (laid : Draft → Result Draft Refusal) → Lays_so steps laid → Lays_so (opened steps) (λ draft. apart laid draft)
+  opened_so steps laid so draft around =
+      parted steps (Closes ∷ []) (with_around (draft ∷ around) (with_places [] draft))
+      ∙ ap (λ (r : Result Drafts Refusal). r >>= λ next. steps_drafted known next (Closes ∷ [])) (so (with_places [] draft) (draft ∷ around))
+      ∙ across (laid (with_places [] draft)) (kept_around (draft ∷ around)) (λ next. steps_drafted known next (Closes ∷ []))
+      (λ next. Ok (with_places draft.places next)) (kept_around around) (λ next. refl)
+
+  rows_so : (row : ℕ → List Tree → List Step) (laid : ℕ → Draft → List Tree → Result Draft Refusal) → ((number : ℕ) (line : List Tree) → Lays_so (row number line) (λ draft. laid number draft line))
+      → (number : ℕ) (lines : List (List Tree)) → Lays_so (flat_rows row number lines) (λ draft. rows_laid laid number draft lines)
+  rows_so row laid so number [] draft around = refl
+  rows_so row laid so number (line ∷ lines) draft around =
+      one_and (row number line) (flat_rows row (number + 1) lines) (λ draft. laid number draft line) (λ draft. rows_laid laid (number + 1) draft lines) (so number line)
+      (rows_so row laid so (number + 1) lines) draft around
+
+  array_so : (row : ℕ → List Tree → List Step) (laid : ℕ → Draft → List Tree → Result Draft Refusal) → ((number : ℕ) (line : List Tree) → Lays_so (row number line) (λ draft. laid number draft line))
+      → (body : PlainBody) (lines : List (List Tree)) → Lays_so (flat_rows row 1 lines ++ EndsRows body (length lines) ∷ []) (array_laid laid body lines)
+  array_so row laid so body lines =
+      one_and (flat_rows row 1 lines) (EndsRows body (length lines) ∷ []) (λ draft. rows_laid laid 1 draft lines) (λ draft. Ok (behind_rows body (length lines) draft))
+      (rows_so row laid so 1 lines) (λ draft around. refl)
 
   either_so : (test : Bool) (one other : List Step) (laid or : Draft → Result Draft Refusal) → Lays_so one laid → Lays_so other or
       → Lays_so (if test then one else other) (λ draft. if test then laid draft else or draft)
@@ -83,16 +98,19 @@ module _ (known : Facts) where
     field_so (Align unit) value = pieces_so (pieces_of (Align unit)) (values_for (Align unit) value)
     field_so (Label name) value = pieces_so (pieces_of (Label name)) (values_for (Label name) value)
     field_so (Array name count row) value =
-        rows_so (λ line. flat_row row line) (λ draft line. row_laid known row draft line)
-        (λ line. between_so row line (flat row line) (λ draft. body_laid known draft row line) (body_so row line)) (rows_in value)
+        let lay = λ (number : ℕ). row_laid known (row_of name number) row in
+        let steps = λ (number : ℕ) (line : List Tree). between (row_of name number) row line (flat row line) in
+        opened_so (flat_rows steps 1 (rows_in value) ++ EndsRows row (length (rows_in value)) ∷ []) (array_laid lay row (rows_in value))
+        (array_so steps lay (λ number line. between_so (row_of name number) row line (flat row line) (λ draft. body_laid known draft row line) (body_so row line)) row (rows_in value))
     field_so (Switch cases) value = case_so cases value
 
     case_so : (cases : PlainCases) (value : Option Tree) → Lays_so (flat_case cases value) (λ draft. case_laid known draft cases value)
     case_so no_cases value = λ draft around. refl
     case_so (case_and name row others) value =
-        either_so (is_case name value) (flat_row row (line_in value)) (flat_case others value) (λ draft. row_laid known row draft (line_in value))
+        either_so (is_case name value) (opened (flat_row row (line_in value))) (flat_case others value) (λ draft. apart (λ inner. row_laid known None row inner (line_in value)) draft)
         (λ draft. case_laid known draft others value)
-        (between_so row (line_in value) (flat row (line_in value)) (λ draft. body_laid known draft row (line_in value)) (body_so row (line_in value)))
+        (opened_so (flat_row row (line_in value)) (λ inner. row_laid known None row inner (line_in value))
+        (between_so None row (line_in value) (flat row (line_in value)) (λ draft. body_laid known draft row (line_in value)) (body_so row (line_in value))))
         (case_so others value)
 
     body_so : (body : PlainBody) (values : List Tree) → Lays_so (flat body values) (λ draft. body_laid known draft body values)
@@ -103,5 +121,5 @@ module _ (known : Facts) where
         (λ draft. body_laid known draft fields (other_values (takes_value field) values))
         (field_so field (first_value (takes_value field) values)) (body_so fields (other_values (takes_value field) values))
 
-  pub row_drafted : (body : PlainBody) (row : List Tree) → steps_drafted known nothing_drafted (flat_row body row) ≡ alone (row_laid known body nothing_laid row)
-  row_drafted body row = between_so body row (flat body row) (λ draft. body_laid known draft body row) (body_so body row) nothing_laid []
+  pub row_drafted : (body : PlainBody) (row : List Tree) → steps_drafted known nothing_drafted (flat_row body row) ≡ alone (row_laid known None body nothing_laid row)
+  row_drafted body row = between_so None body row (flat body row) (λ draft. body_laid known draft body row) (body_so body row) nothing_laid []

@@ -1,5 +1,5 @@
 -- The first refusal of steps, and of late numbers.
-use Rattle.std.proofs.Common.{◌≡◌, ℕ, Bool, List, [], ◌∷◌, ◌++◌, Option, Result, Ok, Err, refl, ap, sym, ◌∙◌, inl, inr, ⊎_elim}
+use Rattle.std.proofs.Common.{◌≡◌, ℕ, Bool, List, [], ◌∷◌, ◌++◌, Option, None, Result, Ok, Err, refl, ap, sym, ◌∙◌, inl, inr, ⊎_elim}
 use Rattle.std.specs.Prelude.{◌↔◌}
 use Rattle.rz_core.specs.Stop.{◌>>=◌}
 use Rattle.rz_core.specs.declared.facts.Facts.{Facts}
@@ -9,10 +9,10 @@ use Rattle.rz_layout_laws.proofs.Counts.{front_counts}
 use Rattle.rz_layout_laws.proofs.Drafting.{parted, row_drafted}
 use Rattle.rz_layout_laws.proofs.Left.{number_of_piece}
 use Rattle.rz_layout_laws.proofs.Where.{late_at_its_piece, lay_at, stands}
-use Rattle.rz_layout_laws.specs.Flat.{alone, ended, flat_row, nothing_drafted, step_drafted, steps_drafted, within_bodies, Begins, Drafts, Ends, Lays, Step}
+use Rattle.rz_layout_laws.specs.Flat.{alone, closed, ended, flat_row, nothing_drafted, step_drafted, steps_drafted, within_bodies, Begins, Closes, Drafts, Ends, EndsRows, Lays, Opens, Step}
 use Rattle.rz_layout_laws.specs.RefusedAt.{IsRefusedAt, IsRefusedNumber, IsRefusedPiece}
 use Rattle.rz_types_fields.specs.Field.{PlainBody}
-use Rattle.rz_types_fields.specs.Laid.{enter, fill, laid, late_bits, lay, nothing_laid, patched, row_laid, Draft, LateNumber, Refusal}
+use Rattle.rz_types_fields.specs.Laid.{behind_rows, enter, fill, laid, late_bits, lay, nothing_laid, patched, row_laid, with_places, Draft, LateNumber, Refusal}
 use Rattle.rz_types_fields.specs.Passed.{outside}
 use Rattle.rz_types_fields.specs.Piece.{Piece}
 use Rattle.rz_types_fields.specs.declared.tree.Tree.{Tree}
@@ -51,11 +51,17 @@ module _ (known : Facts) (fault : Refusal) where
       by more (Err other) was is = record { front = []; piece = piece; value = value; behind = steps; there = drafts; are = refl; drafted = refl; refused = was ∙ cc is }
       by more (Ok next) was is =
           one_before drafts (Lays piece value) steps (within_bodies drafts next) (ap (λ (r : Result Draft Refusal). r >>= λ next. Ok (within_bodies drafts next)) was) (more next is)
-  first_piece (Begins body values ∷ steps) drafts is =
-      let next : Drafts = record { inner = enter body values drafts.inner; around = drafts.inner ∷ drafts.around } in
-      one_before drafts (Begins body values) steps next refl (first_piece steps next is)
-  first_piece (Ends body ∷ steps) drafts is =
-      one_before drafts (Ends body) steps (ended body drafts.inner drafts.around) refl (first_piece steps (ended body drafts.inner drafts.around) is)
+  first_piece (Begins which body values ∷ steps) drafts is =
+      let next : Drafts = record { inner = enter which body values drafts.inner; around = drafts.inner ∷ drafts.around } in
+      one_before drafts (Begins which body values) steps next refl (first_piece steps next is)
+  first_piece (Ends which body ∷ steps) drafts is =
+      let next : Drafts = ended which body drafts.inner drafts.around in one_before drafts (Ends which body) steps next refl (first_piece steps next is)
+  first_piece (Opens ∷ steps) drafts is =
+      let next : Drafts = record { inner = with_places [] drafts.inner; around = drafts.inner ∷ drafts.around } in one_before drafts Opens steps next refl (first_piece steps next is)
+  first_piece (Closes ∷ steps) drafts is =
+      let next : Drafts = closed drafts.inner drafts.around in one_before drafts Closes steps next refl (first_piece steps next is)
+  first_piece (EndsRows row count ∷ steps) drafts is =
+      let next : Drafts = within_bodies drafts (behind_rows row count drafts.inner) in one_before drafts (EndsRows row count) steps next refl (first_piece steps next is)
 
   piece_first : (drafts : Drafts) (front : List Step) (piece : Piece) (value : Option Tree) (behind : List Step) (there : Drafts)
       → steps_drafted known drafts front ≡ Ok there → lay known there.inner piece value ≡ Err fault
@@ -116,7 +122,7 @@ abbrev behind_draft : Facts → Draft → Result (List ℕ) Refusal
 behind_draft known draft = fill known outside draft.numbers draft.bits >>= λ bits. Ok (bytes_of (filled 8 bits))
 
 module _ (known : Facts) (body : PlainBody) (row : List Tree) (fault : Refusal) where
-  refused_piece : row_laid known body nothing_laid row ≡ Err fault → IsRefusedPiece known body row fault
+  refused_piece : row_laid known None body nothing_laid row ≡ Err fault → IsRefusedPiece known body row fault
   refused_piece is =
       let it : FirstPiece known nothing_drafted (flat_row body row) fault = first_piece known fault (flat_row body row) nothing_drafted (row_drafted known body row ∙ ap alone is) in
       record {
@@ -132,7 +138,7 @@ module _ (known : Facts) (body : PlainBody) (row : List Tree) (fault : Refusal) 
             ∙ front_counts known it.front it.there it.drafted;
       }
 
-  refused_number : (draft : Draft) → row_laid known body nothing_laid row ≡ Ok draft → fill known outside draft.numbers draft.bits ≡ Err fault → IsRefusedNumber known body row fault
+  refused_number : (draft : Draft) → row_laid known None body nothing_laid row ≡ Ok draft → fill known outside draft.numbers draft.bits ≡ Err fault → IsRefusedNumber known body row fault
   refused_number draft was is =
       let it : FirstNumber known draft.numbers draft.bits fault = first_number known fault draft.numbers draft.bits is in
       record {
@@ -150,19 +156,19 @@ module _ (known : Facts) (body : PlainBody) (row : List Tree) (fault : Refusal) 
       }
 
   to : laid known body row ≡ Err fault → IsRefusedAt known body row fault
-  to is = by (row_laid known body nothing_laid row) refl is
+  to is = by (row_laid known None body nothing_laid row) refl is
     where
-      by_numbers : (draft : Draft) → row_laid known body nothing_laid row ≡ Ok draft → (found : Result (List Bool) Refusal) → fill known outside draft.numbers draft.bits ≡ found
+      by_numbers : (draft : Draft) → row_laid known None body nothing_laid row ≡ Ok draft → (found : Result (List Bool) Refusal) → fill known outside draft.numbers draft.bits ≡ found
           → (found >>= λ bits. Ok (bytes_of (filled 8 bits))) ≡ Err fault → IsRefusedAt known body row fault
       by_numbers draft was (Ok bits) filled is = absurd cc
       by_numbers draft was (Err other) filled is = inr (refused_number draft was (filled ∙ cc is))
 
-      by : (found : Result Draft Refusal) → row_laid known body nothing_laid row ≡ found → (found >>= behind_draft known) ≡ Err fault → IsRefusedAt known body row fault
+      by : (found : Result Draft Refusal) → row_laid known None body nothing_laid row ≡ found → (found >>= behind_draft known) ≡ Err fault → IsRefusedAt known body row fault
       by (Ok draft) was is = by_numbers draft was (fill known outside draft.numbers draft.bits) refl is
       by (Err other) was is = inl (refused_piece (was ∙ cc is))
 
   from_piece : IsRefusedPiece known body row fault → laid known body row ≡ Err fault
-  from_piece it = by (row_laid known body nothing_laid row) (sym (row_drafted known body row) ∙ ap (steps_drafted known nothing_drafted) it.steps
+  from_piece it = by (row_laid known None body nothing_laid row) (sym (row_drafted known body row) ∙ ap (steps_drafted known nothing_drafted) it.steps
       ∙ piece_first known fault nothing_drafted it.front it.piece it.value it.behind it.drafts it.drafted it.refused)
     where
       by : (found : Result Draft Refusal) → alone found ≡ Err fault → (found >>= behind_draft known) ≡ Err fault
@@ -170,7 +176,7 @@ module _ (known : Facts) (body : PlainBody) (row : List Tree) (fault : Refusal) 
       by (Err other) is = cc is
 
   from_number : IsRefusedNumber known body row fault → laid known body row ≡ Err fault
-  from_number it = by (row_laid known body nothing_laid row) (sym (row_drafted known body row) ∙ it.drafted)
+  from_number it = by (row_laid known None body nothing_laid row) (sym (row_drafted known body row) ∙ it.drafted)
     where
       unfilled : fill known outside it.drafts.inner.numbers it.drafts.inner.bits ≡ Err fault
       unfilled = ap (λ (numbers : List LateNumber). fill known outside numbers it.drafts.inner.bits) it.numbers

@@ -7,10 +7,11 @@ use Rattle.rz_bits.specs.BitBuf.{zeros}
 use Rattle.rz_expr.specs.Environment.{Environment}
 use Rattle.rz_expr.specs.Term.{Term}
 use Rattle.rz_layout_laws.proofs.Counts.{front_counts}
-use Rattle.rz_layout_laws.specs.Flat.{ended, flat_row, nothing_drafted, step_drafted, steps_drafted, within_bodies, Begins, Drafts, Ends, Lays, Step}
+use Rattle.rz_layout_laws.specs.Flat.{closed, ended, flat_row, nothing_drafted, step_drafted, steps_drafted, within_bodies, Begins, Closes, Drafts, Ends, EndsRows, Lays, Opens, Step}
 use Rattle.rz_layout_laws.specs.RefusedAt.{IsOfPiece}
 use Rattle.rz_types_fields.specs.Field.{PlainBody}
-use Rattle.rz_types_fields.specs.Laid.{closing, enter, grown, late_at, later, lay, now, piece_form, too_long, with_form, Draft, Form, LateNumber, Refusal}
+use Rattle.rz_types_fields.specs.Laid.{behind_rows, closing, enter, grown, late_at, later, lay, now, piece_form, too_long, with_form, with_places, Draft, Form, LateNumber, Refusal}
+use Rattle.rz_types_fields.specs.RowLabels.{RowOf}
 use Rattle.rz_types_fields.specs.Piece.{Piece}
 use Rattle.rz_types_fields.specs.Spells.{most_bits}
 use Rattle.rz_types_fields.specs.declared.field.NumForm.{NumForm}
@@ -91,15 +92,19 @@ module _ (So : LateNumber → Type 0) where
       (grown piece draft (zeros (nat_abs width)) true (late_at draft form width term ∷ []))
       (each_and draft.numbers (late_at draft form width term ∷ []) is (left form width term refl, tt))
 
-  module _ (closed : (body : PlainBody) (own : Environment) (one : LateNumber) → So one → So (closing body own one)) where
-    each_closed : (body : PlainBody) (own : Environment) (numbers : List LateNumber) → Each numbers → Each (map (closing body own) numbers)
-    each_closed body own [] is = tt
-    each_closed body own (one ∷ others) is = (closed body own one is.0, each_closed body own others is.1)
+  module _ (ends : (which : Option RowOf) (body : PlainBody) (own : Environment) (one : LateNumber) → So one → So (closing which body own one)) where
+    each_closed : (which : Option RowOf) (body : PlainBody) (own : Environment) (numbers : List LateNumber) → Each numbers → Each (map (closing which body own) numbers)
+    each_closed which body own [] is = tt
+    each_closed which body own (one ∷ others) is = (ends which body own one is.0, each_closed which body own others is.1)
 
-    ended_drafted : (body : PlainBody) (inner : Draft) (around : List Draft) → Each inner.numbers → Around around → Drafted (ended body inner around)
-    ended_drafted body inner [] is also = (is, tt)
-    ended_drafted body inner (outer ∷ others) is also =
-        (each_and outer.numbers (map (closing body inner.known) inner.numbers) also.0 (each_closed body inner.known inner.numbers is), also.1)
+    ended_drafted : (which : Option RowOf) (body : PlainBody) (inner : Draft) (around : List Draft) → Each inner.numbers → Around around → Drafted (ended which body inner around)
+    ended_drafted which body inner [] is also = (is, tt)
+    ended_drafted which body inner (outer ∷ others) is also =
+        (each_and outer.numbers (map (closing which body inner.known) inner.numbers) also.0 (each_closed which body inner.known inner.numbers is), also.1)
+
+    closed_drafted : (inner : Draft) (around : List Draft) → Each inner.numbers → Around around → Drafted (closed inner around)
+    closed_drafted inner [] is also = (is, tt)
+    closed_drafted inner (outer ∷ others) is also = (is, also.1)
 
     module _ (known : Facts) where
       -- what is drafted behind a piece has such late numbers too
@@ -142,19 +147,28 @@ module _ (So : LateNumber → Type 0) where
                 counted = refl;
                 at = refl;
               })))
-      steps_left (Begins body values ∷ steps) drafts is left =
-          let next : Drafts = record { inner = enter body values drafts.inner; around = drafts.inner ∷ drafts.around } in
-          steps_left steps next (tt, is) (λ one it. left one (later_step known drafts (Begins body values) steps next one refl it))
-      steps_left (Ends body ∷ steps) drafts is left =
-          steps_left steps (ended body drafts.inner drafts.around) (ended_drafted body drafts.inner drafts.around is.0 is.1)
-          (λ one it. left one (later_step known drafts (Ends body) steps (ended body drafts.inner drafts.around) one refl it))
+      steps_left (Begins which body values ∷ steps) drafts is left =
+          let next : Drafts = record { inner = enter which body values drafts.inner; around = drafts.inner ∷ drafts.around } in
+          steps_left steps next (tt, is) (λ one it. left one (later_step known drafts (Begins which body values) steps next one refl it))
+      steps_left (Ends which body ∷ steps) drafts is left =
+          steps_left steps (ended which body drafts.inner drafts.around) (ended_drafted which body drafts.inner drafts.around is.0 is.1)
+          (λ one it. left one (later_step known drafts (Ends which body) steps (ended which body drafts.inner drafts.around) one refl it))
+      steps_left (Opens ∷ steps) drafts is left =
+          let next : Drafts = record { inner = with_places [] drafts.inner; around = drafts.inner ∷ drafts.around } in
+          steps_left steps next (is.0, is) (λ one it. left one (later_step known drafts Opens steps next one refl it))
+      steps_left (Closes ∷ steps) drafts is left =
+          steps_left steps (closed drafts.inner drafts.around) (closed_drafted drafts.inner drafts.around is.0 is.1)
+          (λ one it. left one (later_step known drafts Closes steps (closed drafts.inner drafts.around) one refl it))
+      steps_left (EndsRows row count ∷ steps) drafts is left =
+          let next : Drafts = within_bodies drafts (behind_rows row count drafts.inner) in
+          steps_left steps next (is.0, is.1) (λ one it. left one (later_step known drafts (EndsRows row count) steps next one refl it))
 
 module _ (known : Facts) (body : PlainBody) (row : List Tree) where
   abbrev Of_piece : LateNumber → Type 0
   Of_piece one = IsOfPiece known body row one
 
-  closed_so : (within : PlainBody) (own : Environment) (one : LateNumber) → Of_piece one → Of_piece (closing within own one)
-  closed_so within own one it = record {
+  closed_so : (which : Option RowOf) (within : PlainBody) (own : Environment) (one : LateNumber) → Of_piece one → Of_piece (closing which within own one)
+  closed_so which within own one it = record {
     front = it.front;
     piece = it.piece;
     value = it.value;

@@ -9,7 +9,7 @@ use Rattle.rz_core.specs.declared.fault.Fault.{Fault}
 use Rattle.rz_expr.specs.Term.{Term}
 use Rattle.rz_expr.specs.Value.{value_of}
 use Rattle.rz_expr.specs.declared.value.EvalFault.{EvalFault}
-use Rattle.rz_expr.specs.declared.value.EvalFault.TheVariants.{BadShift, DataWidth, LaterData, UnknownName, ZeroDivisor}
+use Rattle.rz_expr.specs.declared.value.EvalFault.TheVariants.{BadIndex, BadShift, DataWidth, LaterData, UnknownName, ZeroDivisor}
 use Rattle.rz_bits.specs.Bits.{bits_of, number_bits}
 use Rattle.rz_bits.specs.BitBuf.{zeros}
 use Rattle.rz_types_fields.specs.Field.{PlainText}
@@ -61,6 +61,7 @@ behind_at at (Some fault) other is also = is
 refusal_at : (at : ℕ) (fault : EvalFault) → (value_refusal at fault).piece ≡ at
 refusal_at at ZeroDivisor = refl
 refusal_at at (UnknownName word) = refl
+refusal_at at (BadIndex number) = refl
 refusal_at at (LaterData first end) = refl
 refusal_at at (DataWidth width) = refl
 refusal_at at (BadShift count) = refl

@@ -1,20 +1,25 @@
 -- The pieces of a row in one list, and how they are drafted one after the other. (MPW Rez.)
-use Rattle.std.specs.Prelude.{ℕ, ◌+◌, if◌then◌else◌, List, [], ◌∷◌, ◌++◌, Option, Ok}
+use Rattle.std.specs.Prelude.{ℕ, ◌+◌, if◌then◌else◌, List, [], ◌∷◌, ◌++◌, length, Option, None, Ok}
 use Rattle.std.specs.declared.result.Result.{Result}
 use Rattle.rz_core.specs.Stop.{◌>>=◌}
 use Rattle.rz_core.specs.declared.facts.Facts.{Facts}
 use Rattle.rz_types_fields.specs.Field.{case_and, field_and, no_cases, no_fields, takes_value, Align, Array, Fill, Label, Number, PlainBody, PlainCases, PlainField, Points, Switch, Text}
-use Rattle.rz_types_fields.specs.Laid.{enter, first_value, lay, leave, line_in, nothing_laid, other_values, rows_in, takes_one, Draft, Refusal}
+use Rattle.rz_types_fields.specs.Laid.{behind_rows, enter, first_value, lay, leave, line_in, nothing_laid, other_values, rows_in, takes_one, with_places, Draft, Refusal}
 use Rattle.rz_types_fields.specs.Piece.{pieces_of, Piece}
+use Rattle.rz_types_fields.specs.RowLabels.{row_of, RowOf}
 use Rattle.rz_types_fields.specs.Spells.{is_case, values_for}
 use Rattle.rz_types_fields.specs.declared.tree.Tree.{Tree}
 
--- one step through a row: a piece with its value or none, the front of a body with its values, or the end of a body; from its
--- front to its end a body has names of its own
+-- one step through a row: a piece with its value or none; the front of a body with its values, or its end, between which it has
+-- names of its own; the front or the end of an array or of a case, between which labels have their places apart; or the end of
+-- all rows of an array, behind which the labels in them have places by the numbers of the rows
 pub data Step : Type 0 where
   Lays : (piece : Piece) (value : Option Tree) → Step
-  Begins : (body : PlainBody) (values : List Tree) → Step
-  Ends : (body : PlainBody) → Step
+  Begins : (which : Option RowOf) (body : PlainBody) (values : List Tree) → Step
+  Ends : (which : Option RowOf) (body : PlainBody) → Step
+  Opens : Step
+  Closes : Step
+  EndsRows : (row : PlainBody) (count : ℕ) → Step
 
 -- The list.
 
@@ -24,13 +29,17 @@ flat_pieces [] values = []
 flat_pieces (piece ∷ pieces) values = Lays piece (first_value (takes_one piece) values) ∷ flat_pieces pieces (other_values (takes_one piece) values)
 
 -- the steps of a body between its front and its end
-abbrev pub between : PlainBody → List Tree → List Step → List Step
-between body values steps = Begins body values ∷ (steps ++ Ends body ∷ [])
+abbrev pub between : Option RowOf → PlainBody → List Tree → List Step → List Step
+between which body values steps = Begins which body values ∷ (steps ++ Ends which body ∷ [])
 
--- the steps of rows, one row after the other
-abbrev pub flat_rows : (List Tree → List Step) → List (List Tree) → List Step
-flat_rows row [] = []
-flat_rows row (line ∷ lines) = row line ++ flat_rows row lines
+-- those of an array or of a case
+abbrev pub opened : List Step → List Step
+opened steps = Opens ∷ (steps ++ Closes ∷ [])
+
+-- the steps of rows, one row after the other, of which the first has this number
+abbrev pub flat_rows : (ℕ → List Tree → List Step) → ℕ → List (List Tree) → List Step
+flat_rows row number [] = []
+flat_rows row number (line ∷ lines) = row number line ++ flat_rows row (number + 1) lines
 
 abbrev mutual
   -- the pieces of a field: an array is the pieces of its rows, and a switch those of the case that is chosen
@@ -41,13 +50,14 @@ abbrev mutual
   flat_field (Fill unit count) value = flat_pieces (pieces_of (Fill unit count)) (values_for (Fill unit count) value)
   flat_field (Align unit) value = flat_pieces (pieces_of (Align unit)) (values_for (Align unit) value)
   flat_field (Label name) value = flat_pieces (pieces_of (Label name)) (values_for (Label name) value)
-  flat_field (Array name count row) value = flat_rows (λ line. between row line (flat row line)) (rows_in value)
+  flat_field (Array name count row) value =
+      opened (flat_rows (λ number line. between (row_of name number) row line (flat row line)) 1 (rows_in value) ++ EndsRows row (length (rows_in value)) ∷ [])
   flat_field (Switch cases) value = flat_case cases value
 
   pub flat_case : PlainCases → Option Tree → List Step
   flat_case no_cases value = []
   flat_case (case_and name row others) value =
-      if is_case name value then between row (line_in value) (flat row (line_in value)) else flat_case others value
+      if is_case name value then opened (between None row (line_in value) (flat row (line_in value))) else flat_case others value
 
   -- the pieces of the fields of a body, each field with the next value where it takes one
   pub flat : PlainBody → List Tree → List Step
@@ -57,18 +67,22 @@ abbrev mutual
 
 -- the steps of a whole row
 abbrev pub flat_row : PlainBody → List Tree → List Step
-flat_row body row = between body row (flat body row)
+flat_row body row = between None body row (flat body row)
 
 -- the number of pieces among steps
 abbrev pub pieces_in : List Step → ℕ
 pieces_in [] = 0
 pieces_in (Lays piece value ∷ steps) = pieces_in steps + 1
-pieces_in (Begins body values ∷ steps) = pieces_in steps
-pieces_in (Ends body ∷ steps) = pieces_in steps
+pieces_in (Begins which body values ∷ steps) = pieces_in steps
+pieces_in (Ends which body ∷ steps) = pieces_in steps
+pieces_in (Opens ∷ steps) = pieces_in steps
+pieces_in (Closes ∷ steps) = pieces_in steps
+pieces_in (EndsRows row count ∷ steps) = pieces_in steps
 
 -- The drafts.
 
--- the draft of the innermost body, and the drafts of the bodies around it as they were at its front, the nearest first
+-- the draft of the innermost body, and the drafts of the bodies, the arrays and the cases around it as they were at its front and
+-- at theirs, the nearest first
 pub record Drafts : Type 0 where
   pub inner : Draft
   pub around : List Draft
@@ -85,14 +99,22 @@ abbrev pub alone : Result Draft Refusal → Result Drafts Refusal
 alone laid = laid >>= λ draft. Ok (record { inner = draft; around = [] })
 
 -- the body around goes on behind what is laid of the one within it
-abbrev pub ended : PlainBody → Draft → List Draft → Drafts
-ended body inner [] = record { inner = inner; around = [] }
-ended body inner (outer ∷ others) = record { inner = leave body outer inner; around = others }
+abbrev pub ended : Option RowOf → PlainBody → Draft → List Draft → Drafts
+ended which body inner [] = record { inner = inner; around = [] }
+ended which body inner (outer ∷ others) = record { inner = leave which body outer inner; around = others }
+
+-- behind an array or a case the places of labels are those before it
+abbrev pub closed : Draft → List Draft → Drafts
+closed inner [] = record { inner = inner; around = [] }
+closed inner (outer ∷ others) = record { inner = with_places outer.places inner; around = others }
 
 abbrev pub step_drafted : Facts → Drafts → Step → Result Drafts Refusal
 step_drafted known drafts (Lays piece value) = lay known drafts.inner piece value >>= λ next. Ok (within_bodies drafts next)
-step_drafted known drafts (Begins body values) = Ok (record { inner = enter body values drafts.inner; around = drafts.inner ∷ drafts.around })
-step_drafted known drafts (Ends body) = Ok (ended body drafts.inner drafts.around)
+step_drafted known drafts (Begins which body values) = Ok (record { inner = enter which body values drafts.inner; around = drafts.inner ∷ drafts.around })
+step_drafted known drafts (Ends which body) = Ok (ended which body drafts.inner drafts.around)
+step_drafted known drafts Opens = Ok (record { inner = with_places [] drafts.inner; around = drafts.inner ∷ drafts.around })
+step_drafted known drafts Closes = Ok (closed drafts.inner drafts.around)
+step_drafted known drafts (EndsRows row count) = Ok (within_bodies drafts (behind_rows row count drafts.inner))
 
 -- steps one after the other, or the refusal of the first piece that isn't laid
 abbrev pub steps_drafted : Facts → Drafts → List Step → Result Drafts Refusal

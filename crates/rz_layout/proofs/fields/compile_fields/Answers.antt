@@ -1,8 +1,5 @@
-use Rattle.std.proofs.Common.{List, length, sym, ap, subst, ◌∙◌}
-use Rattle.std.specs.List.{AllByRecursion}
-use Rattle.rz_layout.specs.Laid.{draft_of, IsWithin}
-use Rattle.rz_layout.specs.Late.{numbers_in}
-use Rattle.rz_layout.specs.declared.late.Late.{Late}
+use Rattle.std.proofs.Common.{None, ap, sym, ◌∙◌}
+use Rattle.rz_layout.specs.Laid.{draft_of}
 use Rattle.rz_types_fields.specs.Field.{plain_body}
 use Rattle.rz_types_fields.specs.Laid.{row_laid, Draft}
 use Rattle.rz_layout.proofs.Stands.{all_within}
@@ -10,6 +7,5 @@ use Rattle.rz_layout.proofs.fields.compile_fields.Goals as goal
 
 pub fill-requires-clause-within : goal.fill-requires-clause-within
 fill-requires-clause-within c =
-    subst (λ (late : List Late). AllByRecursion (IsWithin (length c.lay_body.new.laid.bits)) (numbers_in late)) (sym c.as_slice.ensures)
-    (all_within c.args.facts.now (plain_body c.args.fields.now) c.args.row.now (draft_of c.lay_body.new.laid) c.requires
-    (ap (λ (draft : Draft). row_laid c.args.facts.now (plain_body c.args.fields.now) draft c.args.row.now) (sym c.new-laid.ensures.draft) ∙ c.in_ok-lay_body.ensures.laid))
+    all_within c.args.facts.now (plain_body c.args.fields.now) c.args.row.now (draft_of c.lay_body.new.laid) c.requires
+    (ap (λ (draft : Draft). row_laid c.args.facts.now None (plain_body c.args.fields.now) draft c.args.row.now) (sym c.new-laid.ensures.draft) ∙ c.in_ok-lay_body.ensures.laid)
