@@ -76,7 +76,7 @@ fn show_template(template: &Template, came: &mut Text) {
     }
 }
 
-/// Shows a broken rule: its number, the position of the field, and the number or the id that is kept.
+/// Shows a broken rule: its number, the position of the field, and the number, the id or the name that is kept.
 fn show_fault(stop: Stop<TypeFault>, came: &mut Text) {
     let Stop::Refused(fault) = stop else {
         came.fail();
@@ -89,6 +89,7 @@ fn show_fault(stop: Stop<TypeFault>, came: &mut Text) {
     match fault.kept {
         Kept::Number(number) => came.signed(number),
         Kept::Key(_, id) => came.signed(i64::from(id)),
+        Kept::Name(name) => came.put(name.as_slice()),
         _ => came.put(b"of another form"),
     }
 }

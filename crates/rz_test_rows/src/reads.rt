@@ -211,6 +211,40 @@ integer = $$CountOf(Parts) - 1; array Parts { fill long; rect; switch { case But
 integer = $$CountOf(Parts) - 1; array Parts { fill long; rect; switch { case Button: boolean enabled, disabled; key bitstring[7] = 4; pstring; case UserItem: boolean enabled, disabled; key bitstring[7] = 0; fill byte; }; align word; }; @ FFFF => {}
 "#;
 
+/// The same with labels in rows, indexes and numbers of rows.
+pub const LABELS: &str = r#"
+// of the row itself
+integer = $$CountOf(recs); array recs { b: byte = (e - b) / 8; string; e: }; @ 0002 0241 034243 => {"A"|"BC"}
+integer = $$CountOf(recs); array recs { b: byte = (e - b) / 8; string; e: }; @ 0002 0241 044243 => none
+// of a row by its number, behind the array
+integer = $$CountOf(rows); array rows { p: integer = $$ArrayIndex(rows); pstring; }; integer = p[2] / 8; @ 0002 00010141 0002024243 0006 => {"A"|"BC"}
+integer = $$CountOf(rows); array rows { p: integer = $$ArrayIndex(rows); pstring; }; integer = p[2] / 8; @ 0002 00010141 0002024243 0002 => none
+integer = $$CountOf(rows); array rows { p: integer = $$ArrayIndex(rows); pstring; }; integer = p[2] / 8; @ 0002 00010141 0001024243 0006 => none
+integer = $$CountOf(rows); array rows { p: integer = $$ArrayIndex(rows); pstring; }; integer = p[2] / 8; @ 0001 00010141 0002 => none
+array [2] { g: byte; }; byte = g[2] / 8; @ AABB 01 => {170|187}
+array [2] { g: byte; }; byte = g[2] / 8; @ AABB 00 => none
+array [2] { g: byte; h: byte; }; byte = h[1] / 8; @ AABB CCDD 01 => {170 187|204 221}
+array [2] { g: byte; h: byte; }; byte = h[1] / 8; @ AABB CCDD 00 => none
+array [2] { g: byte; }; byte = g[g[2] / 8 + 1] / 8; @ AABB 01 => {170|187}
+array [2] { g: byte; }; byte = g[e / 16]; e: byte; @ AABB 00 07 => {170|187} 7
+array [2] { g: byte; }; byte = g[e / 16]; e: byte; @ AABB 08 07 => none
+array [2] { g: byte; }; byte = (e - g[2]) / 8; string; e: byte; @ AABB 04 4142 2A => {170|187} "AB" 42
+array [2] { g: byte; }; byte = (e - g[2]) / 8; string; e: byte; @ AABB 03 4142 2A => none
+array [0] { w: byte; }; byte = w[1]; @ 00 => none
+byte = $$CountOf(a); array a { byte = $$CountOf(c); array c { w: byte; }; byte = w[1] / 8; }; @ 02 01 AA 02 02 BBCC 05 => {{170}|{187|204}}
+byte = $$CountOf(a); array a { byte = $$CountOf(c); array c { w: byte; }; byte = w[1] / 8; }; @ 02 01 AA 02 02 BBCC 02 => none
+// not before the array, and not within
+integer = p[1] / 8; integer = $$CountOf(rows); array rows { p: pstring; }; @ 0004 0001 0141 => unreadable
+byte = $$CountOf(a); array a { b: byte = b[1] / 8; byte; }; @ 00 => unreadable
+// an index isn't solved
+array [2] { g: byte; }; byte = g[e] + e; string; e: byte; @ AABB 00 07 => unreadable
+// the number of the row of an array around
+byte = $$CountOf(a); array a { array [1] { byte = $$ArrayIndex(a); byte; }; }; @ 02 01AA 02BB => {{170}|{187}}
+byte = $$CountOf(a); array a { array [1] { byte = $$ArrayIndex(a); byte; }; }; @ 02 01AA 01BB => none
+array a { byte = $$ArrayIndex(a); byte; }; @ 0105 0206 => {5|6}
+array a { byte = $$ArrayIndex(a); byte; }; @ 0005 0106 => none
+"#;
+
 /// A declaration whose empty rows would take hours to count.
 pub const EMPTY_ROWS: &str = r#"
 array [1048576] { array [1048576] { array [0] { byte; }; }; }; @ => none

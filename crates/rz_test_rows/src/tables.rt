@@ -25,7 +25,7 @@ const STRINGS: Head = Head {
 };
 
 /// All tables, and what the cases of each call.
-fn tables() -> [(Call, &'static str); 12] {
+fn tables() -> [(Call, &'static str); 13] {
     [
         (Call::Checked, types::CHECKS),
         (Call::Types, types::FINDS),
@@ -33,6 +33,7 @@ fn tables() -> [(Call, &'static str); 12] {
         (Call::Read, reads::TEXTS),
         (Call::Read, reads::ARRAYS),
         (Call::Read, reads::SWITCHES),
+        (Call::Read, reads::LABELS),
         (Call::Read, reads::EMPTY_ROWS),
         (Call::Shown, shows::SHOWN),
         (Call::Statement(GORF), shows::NAMED),

@@ -49,6 +49,26 @@ array [1048577] { byte; }; => 238 0 1048577
 array [2147483647] { byte; }; => 238 0 2147483647
 // positions are counted depth first
 array { byte; }; array { array { byte; bitstring[33]; }; }; => 238 5 33
+// an index is of a label that stands directly in the rows of an array, of this body or of one around
+byte = p[1] / 8; array { p: byte; }; => fields 2
+array { p: byte; }; array { byte = P[2] / 8; byte; }; => fields 2
+array { byte = p[1] / 8; p: byte; }; => fields 1
+array { p: byte; }; byte = p; => 212 3 p
+array { array { p: byte; }; }; byte = p[1]; => 212 4 p
+array { switch { case A: key byte = 1; p: byte; }; }; byte = p[1]; => 212 5 p
+p: byte = p[1]; => 212 1 p
+// the label comes before its index
+byte = p[q]; => 212 0 p
+byte = p[q]; array { p: byte; }; => 212 0 q
+// the number of a row is asked of an array around
+array a { byte = $$ArrayIndex(A); byte; }; => fields 1
+array a { array [2] { byte = $$ArrayIndex(a); byte; }; }; => fields 1
+array a { switch { case A: key byte = 1; byte = $$ArrayIndex(a); }; }; => fields 1
+integer = $$ArrayIndex(rows); array rows { byte; }; => 212 0 rows
+array rows { byte; }; integer = $$ArrayIndex(rows); => 212 2 rows
+array { array b { byte; }; byte = $$ArrayIndex(b); }; => 212 3 b
+// labels differ in all bodies
+array { p: byte; }; array { P: byte; }; => 230 4 P
 "#;
 
 /// Types that are declared, found and copied in turn.

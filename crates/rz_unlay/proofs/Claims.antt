@@ -6,6 +6,7 @@ use Rattle.rz_types_fields.specs.Passed.{is_held, Passed}
 use Rattle.rz_types_fields.specs.Solve.{is_same_key}
 use Rattle.rz_types_fields.proofs.SameNames.{key_is}
 use Rattle.rz_unlay_pieces.specs.Pieces.{agrees, also, claim}
+use Rattle.rz_unlay.proofs.Asked.{is_asked}
 use Rattle.rz_unlay.proofs.ReadsTests.{by_case, either_of, if_false, if_some, if_true, left_true, right_true}
 use Rattle.rz_unlay.proofs.SpelledNames.{Knows}
 
@@ -43,19 +44,19 @@ pub claimed_knows : (key : Key) (value : ℤ) (passed : Passed) (names more : En
     → Knows (λ other. (is_same_key key other || passed.met other) || passed.told other) more
 claimed_knows key value passed names more knows it = record { covers = covers; only = only }
   where
-    covers : (other : Key) → ((is_same_key key other || passed.met other) || passed.told other) ≡ true → (v : ℤ) × (more.give other ≡ Some v)
-    covers other known = by_case (is_same_key key other)
+    covers : (other : Key) → is_asked other ≡ true → ((is_same_key key other || passed.met other) || passed.told other) ≡ true → (v : ℤ) × (more.give other ≡ Some v)
+    covers other asked known = by_case (is_same_key key other)
         (λ one. (value, it.has other one))
         (λ none.
-        let old = knows.covers other (sym (ap (λ (b : Bool). (b || passed.met other) || passed.told other) none) ∙ known) in
+        let old = knows.covers other asked (sym (ap (λ (b : Bool). (b || passed.met other) || passed.told other) none) ∙ known) in
         (old.0, it.same other none ∙ old.1))
 
-    only : (other : Key) (v : ℤ) → more.give other ≡ Some v → ((is_same_key key other || passed.met other) || passed.told other) ≡ true
-    only other v found = by (it.only other v found)
+    only : (other : Key) (v : ℤ) → is_asked other ≡ true → more.give other ≡ Some v → ((is_same_key key other || passed.met other) || passed.told other) ≡ true
+    only other v asked found = by (it.only other v found)
       where
         by : (is_same_key key other ≡ true) ⊎ (names.give other ≡ Some v) → ((is_same_key key other || passed.met other) || passed.told other) ≡ true
         by (inl one) = left_true (is_same_key key other || passed.met other) (passed.told other) (left_true (is_same_key key other) (passed.met other) one)
         by (inr was) = either_of (passed.met other) (passed.told other)
             (λ met. left_true (is_same_key key other || passed.met other) (passed.told other) (right_true (is_same_key key other) (passed.met other) met))
             (λ told. right_true (is_same_key key other || passed.met other) (passed.told other) told)
-            (knows.only other v was)
+            (knows.only other v asked was)

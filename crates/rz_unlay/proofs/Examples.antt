@@ -2,12 +2,12 @@ use Rattle.std.proofs.Common.{◌≡◌, refl, ℕ, ℤ, pos, List, [], ◌∷�
 use Rattle.std.specs.Prelude.{codes, replicate}
 use Rattle.rz_core.specs.declared.facts.Facts.{Facts}
 use Rattle.rz_core.specs.declared.resource.Word.{Word}
-use Rattle.rz_expr.specs.Term.{BitsAt, Constant, Named, OfTwo, RowsOf, Term}
+use Rattle.rz_expr.specs.Term.{BitsAt, Constant, Indexed, Named, OfTwo, RowNumber, RowsOf, Term}
 use Rattle.rz_expr.specs.declared.expr.BinaryOp.TheVariants as two
 use Rattle.std.specs.Int.{int_wrap}
 use Rattle.rz_bits.specs.Bits.{bits_of, number_bits}
 use Rattle.rz_types.specs.Passed.{at_front, nothing_passed, outside}
-use Rattle.rz_unlay.specs.Cursor.{body_found, line_of, Line}
+use Rattle.rz_unlay.specs.Cursor.{body_found, line_of, reading, Line}
 use Rattle.rz_types_fields.specs.Known.{names_inside}
 use Rattle.rz_types_fields.specs.declared.field.NumForm.TheVariants as forms
 use Rattle.rz_types_fields.specs.declared.field.Radix.TheVariants as radixes
@@ -18,11 +18,15 @@ use Rattle.rz_types.specs.Field.{case_and, field_and, no_cases, no_fields, Array
 use Rattle.rz_types.specs.Text.{Plain}
 
 abbrev read : Facts → PlainBody → List ℕ → Option Line
-read known body bytes = line_of (body_found known (bits_of bytes) (at_front body nothing_passed).met body (names_inside body outside) 0 [])
+read known body bytes = line_of (body_found known (bits_of bytes) (at_front body nothing_passed).met body (names_inside None body outside) 0 [])
 
--- a row and the place behind it, where no bit is late
+-- a row, the places of its labels and the place behind it, where no bit is late
+abbrev line_with : List ℤ → List Tree → ℕ → Option Line
+line_with places row after = Some (record { row = row; places = places; after = after; late = replicate after false })
+
+-- so without labels
 abbrev line : List Tree → ℕ → Option Line
-line row after = Some (record { row = row; after = after; late = replicate after false })
+line = line_with []
 
 abbrev number : Option Term → PlainField
 number fixed = Number (record { form = forms.Integer; width = pos 16; unsigned = false; radix = radixes.Plain; symbols = []; fixed = fixed; key = false })
@@ -98,7 +102,7 @@ byte fixed = Number (record { form = forms.Byte; width = pos 8; unsigned = false
 
 -- a label that is passed
 behind_text : (known : Facts) → read known (field_and zero_ended (field_and (label (codes "e")) (field_and (number (Some (place (codes "E")))) no_fields)))
-    (103 ∷ 111 ∷ 114 ∷ 102 ∷ 0 ∷ 0 ∷ 40 ∷ []) ≡ line (trees.Text (codes "gorf") ∷ []) 56
+    (103 ∷ 111 ∷ 114 ∷ 102 ∷ 0 ∷ 0 ∷ 40 ∷ []) ≡ line_with (pos 40 ∷ []) (trees.Text (codes "gorf") ∷ []) 56
 unfolding number_bits int_wrap
 behind_text known = refl
 
@@ -109,6 +113,7 @@ ends = field_and (number (Some (bytes_to (codes "e") (codes "s"))))
 
 text_to_a_label : (known : Facts) → read known ends (0 ∷ 2 ∷ 1 ∷ 2 ∷ 0 ∷ 5 ∷ []) ≡ Some (record {
   row = trees.Text (1 ∷ 2 ∷ []) ∷ trees.Number 5 ∷ [];
+  places = pos 16 ∷ pos 32 ∷ [];
   after = 48;
   late = replicate 16 true ++ replicate 32 false;
 })
@@ -127,6 +132,7 @@ rows_to_a_label : (known : Facts)
     (field_and (label (codes "s")) (field_and (Array None None (field_and (byte None) no_fields)) (field_and (label (codes "e")) (field_and (byte (Some (Constant (pos 7)))) no_fields)))))
     (0 ∷ 3 ∷ 1 ∷ 0 ∷ 2 ∷ 7 ∷ []) ≡ Some (record {
       row = trees.Rows ((trees.Number 1 ∷ []) ∷ (trees.Number 0 ∷ []) ∷ (trees.Number 2 ∷ []) ∷ []) ∷ [];
+      places = pos 16 ∷ pos 40 ∷ [];
       after = 48;
       late = replicate 16 true ++ replicate 32 false;
     })
@@ -139,7 +145,7 @@ size_by_word : (known : Facts)
     (field_and (label (codes "n"))
     (field_and (number None)
     (field_and (label (codes "s")) (field_and (Text (record { form = texts.Open; hex = false; size = Some (BitsAt (codes "n") (Constant (pos 0)) (Constant (pos 16))); fixed = None })) no_fields))))
-    (0 ∷ 3 ∷ 97 ∷ 98 ∷ 99 ∷ []) ≡ line (trees.Number 3 ∷ trees.Text (codes "abc") ∷ []) 40
+    (0 ∷ 3 ∷ 97 ∷ 98 ∷ 99 ∷ []) ≡ line_with (pos 0 ∷ pos 16 ∷ []) (trees.Number 3 ∷ trees.Text (codes "abc") ∷ []) 40
 unfolding number_bits int_wrap
 size_by_word known = refl
 
@@ -153,3 +159,123 @@ late_size : (known : Facts)
     (0 ∷ 2 ∷ 97 ∷ 98 ∷ []) ≡ None
 unfolding number_bits int_wrap
 late_size known = refl
+
+-- Labels in rows.
+
+abbrev divided : Term → ℕ → Term
+divided term by = OfTwo two.Divide term (Constant (pos by))
+
+-- the place of a label in a row, in bytes
+abbrev bytes_in : List ℕ → ℕ → Term
+bytes_in name row = divided (Indexed name (Constant (pos row))) 8
+
+abbrev one_byte : ℕ → List Tree
+one_byte number = trees.Number number ∷ []
+
+-- each row tells where its text ends
+abbrev records : PlainBody
+records = field_and (number (Some (RowsOf (codes "recs"))))
+    (field_and (Array (Some (word (codes "recs"))) None
+    (field_and (label (codes "b")) (field_and (byte (Some (bytes_to (codes "e") (codes "b")))) (field_and open_text (field_and (label (codes "e")) no_fields))))) no_fields)
+
+rows_tell : (known : Facts) → read known records (0 ∷ 2 ∷ 2 ∷ 170 ∷ 3 ∷ 187 ∷ 204 ∷ []) ≡ Some (record {
+  row = trees.Rows ((trees.Text (170 ∷ []) ∷ []) ∷ (trees.Text (187 ∷ 204 ∷ []) ∷ []) ∷ []) ∷ [];
+  places = [];
+  after = 56;
+  late = replicate 16 false ++ replicate 8 true ++ replicate 8 false ++ replicate 8 true ++ replicate 16 false;
+})
+unfolding number_bits int_wrap
+rows_tell known = refl
+
+row_too_long : (known : Facts) → reading known records (0 ∷ 2 ∷ 2 ∷ 170 ∷ 4 ∷ 187 ∷ 204 ∷ []) ≡ None
+unfolding number_bits int_wrap
+row_too_long known = refl
+
+-- a label in a row by its number, and the number of the row around
+abbrev tail : PlainBody
+tail = field_and (number (Some (RowsOf (codes "rows"))))
+    (field_and (Array (Some (word (codes "rows"))) None (field_and (label (codes "p")) (field_and (number (Some (RowNumber (codes "rows")))) (field_and pstring no_fields))))
+    (field_and (number (Some (bytes_in (codes "P") 2))) no_fields))
+
+second_row : (known : Facts) → read known tail (0 ∷ 2 ∷ 0 ∷ 1 ∷ 1 ∷ 65 ∷ 0 ∷ 2 ∷ 2 ∷ 66 ∷ 67 ∷ 0 ∷ 6 ∷ [])
+    ≡ line (trees.Rows ((trees.Text (codes "A") ∷ []) ∷ (trees.Text (codes "BC") ∷ []) ∷ []) ∷ []) 104
+unfolding number_bits int_wrap
+second_row known = refl
+
+first_in_place : (known : Facts) → reading known tail (0 ∷ 2 ∷ 0 ∷ 1 ∷ 1 ∷ 65 ∷ 0 ∷ 2 ∷ 2 ∷ 66 ∷ 67 ∷ 0 ∷ 2 ∷ []) ≡ None
+unfolding number_bits int_wrap
+first_in_place known = refl
+
+-- an index behind the last row isn't taken for the last
+no_second : (known : Facts) → reading known tail (0 ∷ 1 ∷ 0 ∷ 1 ∷ 1 ∷ 65 ∷ 0 ∷ 2 ∷ []) ≡ None
+unfolding number_bits int_wrap
+no_second known = refl
+
+-- nor for one where there is none
+no_rows : (known : Facts)
+    → reading known (field_and (Array None (Some (pos 0)) (field_and (label (codes "w")) (field_and (byte None) no_fields))) (field_and (byte (Some (Indexed (codes "w") (Constant (pos 1))))) no_fields)) (0 ∷ []) ≡ None
+unfolding number_bits int_wrap
+no_rows known = refl
+
+-- two labels in a row have places of their own
+abbrev two_labels : PlainBody
+two_labels = field_and (Array None (Some (pos 2)) (field_and (label (codes "g")) (field_and (byte None) (field_and (label (codes "h")) (field_and (byte None) no_fields)))))
+    (field_and (byte (Some (bytes_in (codes "h") 1))) no_fields)
+
+second_label : (known : Facts) → read known two_labels (170 ∷ 187 ∷ 204 ∷ 221 ∷ 1 ∷ [])
+    ≡ line (trees.Rows ((trees.Number 170 ∷ trees.Number 187 ∷ []) ∷ (trees.Number 204 ∷ trees.Number 221 ∷ []) ∷ []) ∷ []) 40
+unfolding number_bits int_wrap
+second_label known = refl
+
+first_label : (known : Facts) → reading known two_labels (170 ∷ 187 ∷ 204 ∷ 221 ∷ 0 ∷ []) ≡ None
+unfolding number_bits int_wrap
+first_label known = refl
+
+-- a number tells a label behind it by one in a row
+abbrev from_row : PlainBody
+from_row = field_and (Array None (Some (pos 2)) (field_and (label (codes "g")) (field_and (byte None) no_fields)))
+    (field_and (byte (Some (divided (OfTwo two.Minus (place (codes "e")) (Indexed (codes "g") (Constant (pos 2)))) 8))) (field_and open_text (field_and (label (codes "e")) (field_and (byte None) no_fields))))
+
+text_from_row : (known : Facts) → read known from_row (170 ∷ 187 ∷ 4 ∷ 65 ∷ 66 ∷ 42 ∷ []) ≡ Some (record {
+  row = trees.Rows (one_byte 170 ∷ one_byte 187 ∷ []) ∷ trees.Text (codes "AB") ∷ trees.Number 42 ∷ [];
+  places = pos 40 ∷ [];
+  after = 48;
+  late = replicate 16 false ++ replicate 8 true ++ replicate 24 false;
+})
+unfolding number_bits int_wrap
+text_from_row known = refl
+
+short_from_row : (known : Facts) → reading known from_row (170 ∷ 187 ∷ 3 ∷ 65 ∷ 66 ∷ 42 ∷ []) ≡ None
+unfolding number_bits int_wrap
+short_from_row known = refl
+
+-- the number of the row of the outer array, in the rows of an inner one
+abbrev nested : PlainBody
+nested = field_and (byte (Some (RowsOf (codes "a"))))
+    (field_and (Array (Some (word (codes "a"))) None
+    (field_and (Array None (Some (pos 1)) (field_and (byte (Some (RowNumber (codes "A")))) (field_and (byte None) no_fields))) no_fields)) no_fields)
+
+outer_number : (known : Facts) → read known nested (2 ∷ 1 ∷ 170 ∷ 2 ∷ 187 ∷ []) ≡ line (trees.Rows ((trees.Rows (one_byte 170 ∷ []) ∷ []) ∷ (trees.Rows (one_byte 187 ∷ []) ∷ []) ∷ []) ∷ []) 40
+unfolding number_bits int_wrap
+outer_number known = refl
+
+inner_number : (known : Facts) → reading known nested (2 ∷ 1 ∷ 170 ∷ 1 ∷ 187 ∷ []) ≡ None
+unfolding number_bits int_wrap
+inner_number known = refl
+
+-- labels in the rows of an array within are known until the row around ends
+abbrev within : PlainBody
+within = field_and (byte (Some (RowsOf (codes "a"))))
+    (field_and (Array (Some (word (codes "a"))) None
+    (field_and (byte (Some (RowsOf (codes "c"))))
+    (field_and (Array (Some (word (codes "c"))) None (field_and (label (codes "w")) (field_and (byte None) no_fields)))
+    (field_and (byte (Some (bytes_in (codes "w") 1))) no_fields)))) no_fields)
+
+each_within : (known : Facts) → read known within (2 ∷ 1 ∷ 170 ∷ 2 ∷ 2 ∷ 187 ∷ 204 ∷ 5 ∷ [])
+    ≡ line (trees.Rows ((trees.Rows (one_byte 170 ∷ []) ∷ []) ∷ (trees.Rows (one_byte 187 ∷ one_byte 204 ∷ []) ∷ []) ∷ []) ∷ []) 64
+unfolding number_bits int_wrap
+each_within known = refl
+
+first_within : (known : Facts) → reading known within (2 ∷ 1 ∷ 170 ∷ 2 ∷ 2 ∷ 187 ∷ 204 ∷ 2 ∷ []) ≡ None
+unfolding number_bits int_wrap
+first_within known = refl

@@ -1,5 +1,5 @@
 -- Fields of a body, rows of an array and cases of a switch, one more at a time.
-use Rattle.std.proofs.Common.{◌≡◌, ℕ, zero, suc, ◌+◌, ◌-◌, ◌<◌, ◌≤◌, ◌==◌, ◌⊎◌, inl, inr, Bool, true, false, ℤ, pos, negsuc, List, [], ◌∷◌, ◌++◌, length, get_or, drop, IfSome, Option, Some, None, refl, sym, ap, ◌∙◌, subst, append_assoc, arith}
+use Rattle.std.proofs.Common.{◌≡◌, ℕ, zero, suc, ◌+◌, ◌-◌, ◌<◌, ◌≤◌, ◌==◌, ◌||◌, ◌⊎◌, inl, inr, Bool, true, false, ℤ, pos, negsuc, List, [], ◌∷◌, ◌++◌, length, get_or, drop, IfSome, Option, Some, None, refl, sym, ap, ◌∙◌, subst, append_assoc, arith}
 use Rattle.std.specs.Prelude.{nat_le, nat_lt, if◌then◌else◌, option_and_then, option_map}
 use lib.Signed.{◌<ℤ◌}
 use Rattle.std.proofs.lemmas.Bool.Decides.{leb_tells, nat_tests}
@@ -18,11 +18,12 @@ use Rattle.rz_types_fields.specs.declared.field.TextField.{TextField}
 use Rattle.rz_types_fields.proofs.Bodies.{body_end, body_next, cases_end, cases_next}
 use Rattle.rz_types_fields.specs.declared.tree.Tree.{Tree}
 use Rattle.rz_types_fields.specs.declared.tree.Tree.TheVariants as trees
-use Rattle.rz_types_fields.specs.Spells.{values_in}
+use Rattle.rz_types_fields.specs.RowLabels.{also_rows, label_places}
+use Rattle.rz_types_fields.specs.Spells.{put, values_in}
 use Rattle.rz_types_fields.specs.Field.{field_and, plain_body, plain_cases, plain_field, Align, Array, Fill, Label, Number, PlainBody, PlainCases, PlainField, Points, Switch, Text}
 use Rattle.rz_types.specs.Width.{capped, case_keys}
 use Rattle.rz_unlay.specs.Came.{chosen, found_of, line_at, line_in}
-use Rattle.rz_unlay.specs.Cursor.{and_lines, body_found, case_found, field_found, has_keys, line_of, no_lines, open_rows, rows_at, rows_by, rows_to, rows_while, up_to_end, up_to_label, Line, Lines, ReadsRow}
+use Rattle.rz_unlay.specs.Cursor.{and_lines, body_found, case_found, field_found, has_keys, line_of, no_lines, open_rows, rows_at, rows_by, rows_to, rows_while, up_to_end, up_to_label, with_label, Line, Lines, ReadsRow}
 use Rattle.rz_unlay.specs.Pieces.{field_of_pieces, with_value, met_past, Found}
 use Rattle.rz_unlay_pieces.specs.Pieces.{claim_count, here_at, Step}
 use Rattle.rz_unlay_pieces.specs.Came.{met_in, met_of}
@@ -33,28 +34,33 @@ use Rattle.rz_unlay_pieces.specs.Few.{few, step_count, value_count}
 use Rattle.rz_unlay.specs.Few.{found_count, line_count, lines_count}
 use Rattle.rz_unlay.specs.Fits.{AreFit, CasesFit, Fits}
 use Rattle.rz_unlay.specs.declared.came.RowCame.{RowCame}
-use Rattle.rz_types_fields.specs.Passed.{met_behind, met_inside, Names}
+use Rattle.rz_types_fields.specs.Passed.{gives_count, gives_rows, met_behind, met_inside, Names}
 use Rattle.rz_types_fields.specs.Sees.{marked, Late}
 use Rattle.rz_unlay_pieces.specs.Ahead.{Told}
-use Rattle.rz_unlay_pieces.specs.Seen.{told_capped}
+use Rattle.rz_unlay_pieces.specs.Seen.{met_counted, met_in_rows, told_capped}
 use Rattle.rz_unlay_pieces.specs.declared.learnt.Learnt.{Learnt}
 use Rattle.rz_unlay.specs.Rows.{pushed, stop_at, stop_before}
-use Rattle.rz_unlay.proofs.FewValues.{count_choice, count_rows, few_fits, first_within, line_behind, no_line, no_more, none_behind, some_behind, some_same, value_behind, value_less}
+use Rattle.rz_unlay.proofs.FewValues.{count_choice, count_rows, few_fits, first_within, label_behind, line_behind, no_line, no_more, none_behind, some_behind, some_same, value_behind, value_less}
 
 -- Fields.
 
 -- behind a row that was read
-abbrev pub with_row : List Tree → Option Found → Option Found
-with_row row found = option_map (λ f. record { row = row ++ f.row; after = f.after; names = f.names; late = f.late }) found
+abbrev pub with_row : List Tree → List ℤ → Option Found → Option Found
+with_row row places found = option_map (λ f. record { row = row ++ f.row; places = places ++ f.places; after = f.after; names = f.names; late = f.late }) found
 
-pushed_row : (row : List Tree) (value : Option Tree) (found : Option Found) → with_row (pushed row value) found ≡ with_row row (with_value value found)
-pushed_row row value None = refl
-pushed_row row None (Some f) = refl
-pushed_row row (Some value) (Some f) = ap (λ r. Some (record { row = r; after = f.after; names = f.names; late = f.late })) (append_assoc row (value ∷ []) f.row)
+pushed_front : (row : List Tree) (value : Option Tree) (others : List Tree) → pushed row value ++ others ≡ row ++ put value others
+pushed_front row None others = refl
+pushed_front row (Some value) others = append_assoc row (value ∷ []) others
+
+pushed_row : (row : List Tree) (places : List ℤ) (field : PlainField) (at : ℕ) (value : Option Tree) (found : Option Found)
+    → with_row (pushed row value) (places ++ label_places field at) found ≡ with_row row places (with_label field at (with_value value found))
+pushed_row row places field at value None = refl
+pushed_row row places field at value (Some f) =
+    λ i. Some (record { row = pushed_front row value f.row i; places = append_assoc places (label_places field at) f.places i; after = f.after; names = f.names; late = f.late })
 
 module _ (known : Facts) (all : List Bool) (met : Names) (fields : List Field) (i : ℕ) (field : Field) (less : i < length fields) (item : field ≡ get_or fields i field)
-    (row : List Tree) (names : Environment) (at : ℕ) (late : Late) (most : ℕ) (total : Option Found)
-    (so : with_row row (few found_count most (body_found known all met (plain_body (drop i fields)) names at late)) ≡ total) where
+    (row : List Tree) (places : List ℤ) (names : Environment) (at : ℕ) (late : Late) (most : ℕ) (total : Option Found)
+    (so : with_row row places (few found_count most (body_found known all met (plain_body (drop i fields)) names at late)) ≡ total) where
   abbrev others : PlainBody
   others = plain_body (drop (i + 1) fields)
 
@@ -65,32 +71,33 @@ module _ (known : Facts) (all : List Bool) (met : Names) (fields : List Field) (
   behind_it step = body_found known all (met_behind (plain_field field) met) others step.names step.after step.late
 
   abbrev next : Step → Option Found
-  next step = with_value step.value (behind_it step)
+  next step = with_label (plain_field field) at (with_value step.value (behind_it step))
 
-  first_is : with_row row (few found_count most (option_and_then next this)) ≡ total
-  first_is = ap (λ (b : PlainBody). with_row row (few found_count most (body_found known all met b names at late))) (sym (body_next fields i field less item)) ∙ so
+  first_is : with_row row places (few found_count most (option_and_then next this)) ≡ total
+  first_is = ap (λ (b : PlainBody). with_row row places (few found_count most (body_found known all met b names at late))) (sym (body_next fields i field less item)) ∙ so
 
   pub field_more : (more : ℕ) (step : Step) → Some step ≡ few step_count most this → more + value_count step.value ≡ most
-      → with_row (pushed row step.value) (few found_count more (behind_it step)) ≡ total
+      → with_row (pushed row step.value) (places ++ label_places (plain_field field) at) (few found_count more (behind_it step)) ≡ total
   field_more more step is left =
-      pushed_row row step.value (few found_count more (behind_it step))
-      ∙ ap (with_row row) (sym (value_behind step.value (behind_it step) most more left))
-      ∙ ap (with_row row) (sym (some_behind step_count found_count most most this step next is))
+      pushed_row row places (plain_field field) at step.value (few found_count more (behind_it step))
+      ∙ ap (λ (found : Option Found). with_row row places (with_label (plain_field field) at found)) (sym (value_behind step.value (behind_it step) most more left))
+      ∙ ap (with_row row places) (sym (label_behind (plain_field field) at (with_value step.value (behind_it step)) most))
+      ∙ ap (with_row row places) (sym (some_behind step_count found_count most most this step next is))
       ∙ first_is
 
   pub no_field : None ≡ few step_count most this → None ≡ total
   no_field none =
-      ap (with_row row) (none_behind step_count found_count most most this next
-      (λ step whole is over. let n = value_less step.value (behind_it step) whole is in omega (arith, n, over)) none)
+      ap (with_row row places) (none_behind step_count found_count most most this next
+      (λ step whole is over. let n = value_less (plain_field field) at step.value (behind_it step) whole is in omega (arith, n, over)) none)
       ∙ first_is
 
-pub fields_over : (known : Facts) (all : List Bool) (met : Names) (fields : List Field) (i : ℕ) → length fields ≤ i → (row : List Tree) (names : Environment) (at : ℕ) (late : Late) (most : ℕ) (total : Option Found)
-    → with_row row (few found_count most (body_found known all met (plain_body (drop i fields)) names at late)) ≡ total
-    → Some (record { row = row; after = at; names = names; late = late }) ≡ total
-fields_over known all met fields i past row names at late most total so =
-    ap (λ r. Some (record { row = r; after = at; names = names; late = late })) (sym (append-nil row))
-    ∙ ap (with_row row) (sym (few_fits found_count most (record { row = []; after = at; names = names; late = late }) (omega arith)))
-    ∙ ap (λ (b : PlainBody). with_row row (few found_count most (body_found known all met b names at late))) (sym (body_end fields i past))
+pub fields_over : (known : Facts) (all : List Bool) (met : Names) (fields : List Field) (i : ℕ) → length fields ≤ i → (row : List Tree) (places : List ℤ) (names : Environment) (at : ℕ) (late : Late) (most : ℕ) (total : Option Found)
+    → with_row row places (few found_count most (body_found known all met (plain_body (drop i fields)) names at late)) ≡ total
+    → Some (record { row = row; places = places; after = at; names = names; late = late }) ≡ total
+fields_over known all met fields i past row places names at late most total so =
+    (λ i. Some (record { row = sym (append-nil row) i; places = sym (append-nil places) i; after = at; names = names; late = late }))
+    ∙ ap (with_row row places) (sym (few_fits found_count most (record { row = []; places = []; after = at; names = names; late = late }) (omega arith)))
+    ∙ ap (λ (b : PlainBody). with_row row places (few found_count most (body_found known all met b names at late))) (sym (body_end fields i past))
     ∙ so
 
 pub fits_next : (fields : List Field) (i : ℕ) (field : Field) → i < length fields → field ≡ get_or fields i field → AreFit (plain_body (drop i fields))
@@ -102,7 +109,7 @@ pub line_few : (most : ℕ) (found : Option Found) → few line_count most (line
 line_few most None = refl
 line_few most (Some f) = open_test (nat_le (values_in f.row) most)
   where
-    open_test : (test : Bool) → (if test then Some (record { row = f.row; after = f.after; late = f.late }) else None) ≡ line_of (if test then Some f else None)
+    open_test : (test : Bool) → (if test then Some (record { row = f.row; places = f.places; after = f.after; late = f.late }) else None) ≡ line_of (if test then Some f else None)
     open_test true = refl
     open_test false = refl
 
@@ -167,48 +174,52 @@ spent_late learnt (Some m) after is = ap (λ n. Some (met_in (known learnt.notes
 -- Rows.
 
 -- behind rows that were read
-abbrev pub with_lines : List (List Tree) → Option Lines → Option Lines
-with_lines rows lines = option_map (λ l. record { rows = rows ++ l.rows; after = l.after; late = l.late }) lines
+abbrev pub with_lines : List (List Tree) → List ℤ → Option Lines → Option Lines
+with_lines rows places lines = option_map (λ l. record { rows = rows ++ l.rows; places = places ++ l.places; after = l.after; late = l.late }) lines
 
-pub no_lines_before : (lines : Option Lines) → with_lines [] lines ≡ lines
+pub no_lines_before : (lines : Option Lines) → with_lines [] [] lines ≡ lines
 no_lines_before None = refl
 no_lines_before (Some l) = refl
 
-pushed_lines : (rows : List (List Tree)) (line : Line) (lines : Option Lines) → with_lines (rows ++ line.row ∷ []) lines ≡ with_lines rows (option_map (and_lines line) lines)
-pushed_lines rows line None = refl
-pushed_lines rows line (Some l) = ap (λ r. Some (record { rows = r; after = l.after; late = l.late })) (append_assoc rows (line.row ∷ []) l.rows)
+pushed_lines : (rows : List (List Tree)) (places : List ℤ) (line : Line) (lines : Option Lines)
+    → with_lines (rows ++ line.row ∷ []) (places ++ line.places) lines ≡ with_lines rows places (option_map (and_lines line) lines)
+pushed_lines rows places line None = refl
+pushed_lines rows places line (Some l) =
+    λ i. Some (record { rows = append_assoc rows (line.row ∷ []) l.rows i; places = append_assoc places line.places l.places i; after = l.after; late = l.late })
 
 -- no rows more
-none_left : (rows : List (List Tree)) (at : ℕ) (late : Late) (most : ℕ) → Some (record { rows = rows; after = at; late = late }) ≡ with_lines rows (few lines_count most (Some (no_lines at late)))
-none_left rows at late most =
-    ap (λ r. Some (record { rows = r; after = at; late = late })) (sym (append-nil rows)) ∙ ap (with_lines rows) (sym (few_fits lines_count most (no_lines at late) (omega arith)))
+none_left : (rows : List (List Tree)) (places : List ℤ) (at : ℕ) (late : Late) (most : ℕ)
+    → Some (record { rows = rows; places = places; after = at; late = late }) ≡ with_lines rows places (few lines_count most (Some (no_lines at late)))
+none_left rows places at late most =
+    (λ i. Some (record { rows = sym (append-nil rows) i; places = sym (append-nil places) i; after = at; late = late }))
+    ∙ ap (with_lines rows places) (sym (few_fits lines_count most (no_lines at late) (omega arith)))
 
-module _ (row : ReadsRow) (rows : List (List Tree)) (total : Option Lines) where
+module _ (row : ReadsRow) (rows : List (List Tree)) (places : List ℤ) (total : Option Lines) where
   pub row_more : (n number at : ℕ) (late : Late) (most more : ℕ) (line : Line) → 0 < n → 0 < most → Some line ≡ few line_count (most - 1) (row number at late) → more + values_in line.row ≡ most - 1
-      → with_lines rows (few lines_count most (rows_at row n number at late)) ≡ total
-      → with_lines (rows ++ line.row ∷ []) (few lines_count more (rows_at row (n - 1) (number + 1) line.after line.late)) ≡ total
+      → with_lines rows places (few lines_count most (rows_at row n number at late)) ≡ total
+      → with_lines (rows ++ line.row ∷ []) (places ++ line.places) (few lines_count more (rows_at row (n - 1) (number + 1) line.after line.late)) ≡ total
   row_more zero number at late most more line some left is sum so = absurd (omega arith)
   row_more (suc n) number at late most more line some left is sum so =
       let e : suc n - 1 ≡ n = omega arith in
-      ap (λ k. with_lines (rows ++ line.row ∷ []) (few lines_count more (rows_at row k (number + 1) line.after line.late))) e
-      ∙ pushed_lines rows line (few lines_count more (rows_at row n (number + 1) line.after line.late))
-      ∙ ap (with_lines rows) (sym (line_behind (row number at late) (λ l. rows_at row n (number + 1) l.after l.late) most more line left is sum))
+      ap (λ k. with_lines (rows ++ line.row ∷ []) (places ++ line.places) (few lines_count more (rows_at row k (number + 1) line.after line.late))) e
+      ∙ pushed_lines rows places line (few lines_count more (rows_at row n (number + 1) line.after line.late))
+      ∙ ap (with_lines rows places) (sym (line_behind (row number at late) (λ l. rows_at row n (number + 1) l.after l.late) most more line left is sum))
       ∙ so
 
   pub no_row : (n number at : ℕ) (late : Late) (most : ℕ) → 0 < n → 0 < most → None ≡ few line_count (most - 1) (row number at late)
-      → with_lines rows (few lines_count most (rows_at row n number at late)) ≡ total → None ≡ total
+      → with_lines rows places (few lines_count most (rows_at row n number at late)) ≡ total → None ≡ total
   no_row zero number at late most some left none so = absurd (omega arith)
   no_row (suc n) number at late most some left none so =
-      ap (with_lines rows) (no_line (row number at late) (λ l. rows_at row n (number + 1) l.after l.late) most left none) ∙ so
+      ap (with_lines rows places) (no_line (row number at late) (λ l. rows_at row n (number + 1) l.after l.late) most left none) ∙ so
 
-  pub rows_out : (n number at : ℕ) (late : Late) (most : ℕ) → 0 < n → most ≡ 0 → with_lines rows (few lines_count most (rows_at row n number at late)) ≡ total → None ≡ total
+  pub rows_out : (n number at : ℕ) (late : Late) (most : ℕ) → 0 < n → most ≡ 0 → with_lines rows places (few lines_count most (rows_at row n number at late)) ≡ total → None ≡ total
   rows_out zero number at late most some out so = absurd (omega arith)
   rows_out (suc n) number at late most some out so =
-      ap (with_lines rows) (no_more (row number at late) (λ l. rows_at row n (number + 1) l.after l.late) most out) ∙ so
+      ap (with_lines rows places) (no_more (row number at late) (λ l. rows_at row n (number + 1) l.after l.late) most out) ∙ so
 
-  pub rows_over : (n number at : ℕ) (late : Late) (most : ℕ) → n ≡ 0 → with_lines rows (few lines_count most (rows_at row n number at late)) ≡ total
-      → Some (record { rows = rows; after = at; late = late }) ≡ total
-  rows_over zero number at late most none so = none_left rows at late most ∙ so
+  pub rows_over : (n number at : ℕ) (late : Late) (most : ℕ) → n ≡ 0 → with_lines rows places (few lines_count most (rows_at row n number at late)) ≡ total
+      → Some (record { rows = rows; places = places; after = at; late = late }) ≡ total
+  rows_over zero number at late most none so = none_left rows places at late most ∙ so
   rows_over (suc n) number at late most none so = absurd (omega arith)
 
   module _ (stop : ℕ) where
@@ -219,39 +230,39 @@ module _ (row : ReadsRow) (rows : List (List Tree)) (total : Option Lines) where
 
     abbrev further : ℕ → ℕ → ℕ → Late → ℕ → Bool → Option Lines
     further n number at late most test =
-        with_lines rows (few lines_count most (if test then Some (no_lines at late) else option_and_then (λ line. option_map (and_lines line) (whiles n number line)) (row number at late)))
+        with_lines rows places (few lines_count most (if test then Some (no_lines at late) else option_and_then (λ line. option_map (and_lines line) (whiles n number line)) (row number at late)))
 
     pub while_more : (n number at : ℕ) (late : Late) (most more : ℕ) (line : Line) → 0 < n → 0 < most → nat_lt stop (at + 8) ≡ false
         → Some line ≡ few line_count (most - 1) (row number at late) → more + values_in line.row ≡ most - 1
-        → with_lines rows (few lines_count most (rows_while row stop n number at late)) ≡ total
-        → with_lines (rows ++ line.row ∷ []) (few lines_count more (rows_while row stop (n - 1) (number + 1) line.after line.late)) ≡ total
+        → with_lines rows places (few lines_count most (rows_while row stop n number at late)) ≡ total
+        → with_lines (rows ++ line.row ∷ []) (places ++ line.places) (few lines_count more (rows_while row stop (n - 1) (number + 1) line.after line.late)) ≡ total
     while_more zero number at late most more line some left test is sum so = absurd (omega arith)
     while_more (suc n) number at late most more line some left test is sum so =
         let e : suc n - 1 ≡ n = omega arith in
-        ap (λ k. with_lines (rows ++ line.row ∷ []) (few lines_count more (whiles k number line))) e
-        ∙ pushed_lines rows line (few lines_count more (whiles n number line))
-        ∙ ap (with_lines rows) (sym (line_behind (row number at late) (whiles n number) most more line left is sum))
+        ap (λ k. with_lines (rows ++ line.row ∷ []) (places ++ line.places) (few lines_count more (whiles k number line))) e
+        ∙ pushed_lines rows places line (few lines_count more (whiles n number line))
+        ∙ ap (with_lines rows places) (sym (line_behind (row number at late) (whiles n number) most more line left is sum))
         ∙ ap (further n number at late most) (sym test)
         ∙ so
 
     pub no_while : (n number at : ℕ) (late : Late) (most : ℕ) → 0 < n → 0 < most → nat_lt stop (at + 8) ≡ false → None ≡ few line_count (most - 1) (row number at late)
-        → with_lines rows (few lines_count most (rows_while row stop n number at late)) ≡ total → None ≡ total
+        → with_lines rows places (few lines_count most (rows_while row stop n number at late)) ≡ total → None ≡ total
     no_while zero number at late most some left test none so = absurd (omega arith)
     no_while (suc n) number at late most some left test none so =
-        ap (with_lines rows) (no_line (row number at late) (whiles n number) most left none) ∙ ap (further n number at late most) (sym test) ∙ so
+        ap (with_lines rows places) (no_line (row number at late) (whiles n number) most left none) ∙ ap (further n number at late most) (sym test) ∙ so
 
     pub while_out : (n number at : ℕ) (late : Late) (most : ℕ) → 0 < n → most ≡ 0 → nat_lt stop (at + 8) ≡ false
-        → with_lines rows (few lines_count most (rows_while row stop n number at late)) ≡ total → None ≡ total
+        → with_lines rows places (few lines_count most (rows_while row stop n number at late)) ≡ total → None ≡ total
     while_out zero number at late most some out test so = absurd (omega arith)
     while_out (suc n) number at late most some out test so =
-        ap (with_lines rows) (no_more (row number at late) (whiles n number) most out) ∙ ap (further n number at late most) (sym test) ∙ so
+        ap (with_lines rows places) (no_more (row number at late) (whiles n number) most out) ∙ ap (further n number at late most) (sym test) ∙ so
 
-    pub while_over : (n number at : ℕ) (late : Late) (most : ℕ) → 0 < n → nat_lt stop (at + 8) ≡ true → with_lines rows (few lines_count most (rows_while row stop n number at late)) ≡ total
-        → Some (record { rows = rows; after = at; late = late }) ≡ total
+    pub while_over : (n number at : ℕ) (late : Late) (most : ℕ) → 0 < n → nat_lt stop (at + 8) ≡ true → with_lines rows places (few lines_count most (rows_while row stop n number at late)) ≡ total
+        → Some (record { rows = rows; places = places; after = at; late = late }) ≡ total
     while_over zero number at late most some test so = absurd (omega arith)
-    while_over (suc n) number at late most some test so = none_left rows at late most ∙ ap (further n number at late most) (sym test) ∙ so
+    while_over (suc n) number at late most some test so = none_left rows places at late most ∙ ap (further n number at late most) (sym test) ∙ so
 
-    pub while_fails : (n number at : ℕ) (late : Late) (most : ℕ) → n ≡ 0 → with_lines rows (few lines_count most (rows_while row stop n number at late)) ≡ total → None ≡ total
+    pub while_fails : (n number at : ℕ) (late : Late) (most : ℕ) → n ≡ 0 → with_lines rows places (few lines_count most (rows_while row stop n number at late)) ≡ total → None ≡ total
     while_fails zero number at late most none so = so
     while_fails (suc n) number at late most none so = absurd (omega arith)
 
@@ -262,53 +273,53 @@ module _ (row : ReadsRow) (rows : List (List Tree)) (total : Option Lines) where
 
     abbrev onward : ℕ → ℕ → ℕ → Late → ℕ → Bool → Bool → Option Lines
     onward n number at late most before there =
-        with_lines rows (few lines_count most (
+        with_lines rows places (few lines_count most (
         if before then option_and_then (λ line. option_map (and_lines line) (untils n number line)) (row number at late) else if there then Some (no_lines at late) else None))
 
     pub to_more : (n number at : ℕ) (late : Late) (most more : ℕ) (line : Line) → 0 < n → 0 < most → at < stop
         → Some line ≡ few line_count (most - 1) (row number at late) → more + values_in line.row ≡ most - 1
-        → with_lines rows (few lines_count most (rows_to row stop n number at late)) ≡ total
-        → with_lines (rows ++ line.row ∷ []) (few lines_count more (rows_to row stop (n - 1) (number + 1) line.after line.late)) ≡ total
+        → with_lines rows places (few lines_count most (rows_to row stop n number at late)) ≡ total
+        → with_lines (rows ++ line.row ∷ []) (places ++ line.places) (few lines_count more (rows_to row stop (n - 1) (number + 1) line.after line.late)) ≡ total
     to_more zero number at late most more line some left before is sum so = absurd (omega arith)
     to_more (suc n) number at late most more line some left before is sum so =
         let e : suc n - 1 ≡ n = omega arith in
         let test : nat_lt at stop ≡ true = grind (arith, nat_tests, before) in
-        ap (λ k. with_lines (rows ++ line.row ∷ []) (few lines_count more (untils k number line))) e
-        ∙ pushed_lines rows line (few lines_count more (untils n number line))
-        ∙ ap (with_lines rows) (sym (line_behind (row number at late) (untils n number) most more line left is sum))
+        ap (λ k. with_lines (rows ++ line.row ∷ []) (places ++ line.places) (few lines_count more (untils k number line))) e
+        ∙ pushed_lines rows places line (few lines_count more (untils n number line))
+        ∙ ap (with_lines rows places) (sym (line_behind (row number at late) (untils n number) most more line left is sum))
         ∙ ap (λ (b : Bool). onward n number at late most b (at == stop)) (sym test)
         ∙ so
 
     pub no_to : (n number at : ℕ) (late : Late) (most : ℕ) → 0 < n → 0 < most → at < stop → None ≡ few line_count (most - 1) (row number at late)
-        → with_lines rows (few lines_count most (rows_to row stop n number at late)) ≡ total → None ≡ total
+        → with_lines rows places (few lines_count most (rows_to row stop n number at late)) ≡ total → None ≡ total
     no_to zero number at late most some left before none so = absurd (omega arith)
     no_to (suc n) number at late most some left before none so =
         let test : nat_lt at stop ≡ true = grind (arith, nat_tests, before) in
-        ap (with_lines rows) (no_line (row number at late) (untils n number) most left none) ∙ ap (λ (b : Bool). onward n number at late most b (at == stop)) (sym test) ∙ so
+        ap (with_lines rows places) (no_line (row number at late) (untils n number) most left none) ∙ ap (λ (b : Bool). onward n number at late most b (at == stop)) (sym test) ∙ so
 
     pub to_out : (n number at : ℕ) (late : Late) (most : ℕ) → 0 < n → most ≡ 0 → at < stop
-        → with_lines rows (few lines_count most (rows_to row stop n number at late)) ≡ total → None ≡ total
+        → with_lines rows places (few lines_count most (rows_to row stop n number at late)) ≡ total → None ≡ total
     to_out zero number at late most some out before so = absurd (omega arith)
     to_out (suc n) number at late most some out before so =
         let test : nat_lt at stop ≡ true = grind (arith, nat_tests, before) in
-        ap (with_lines rows) (no_more (row number at late) (untils n number) most out) ∙ ap (λ (b : Bool). onward n number at late most b (at == stop)) (sym test) ∙ so
+        ap (with_lines rows places) (no_more (row number at late) (untils n number) most out) ∙ ap (λ (b : Bool). onward n number at late most b (at == stop)) (sym test) ∙ so
 
-    pub to_over : (n number at : ℕ) (late : Late) (most : ℕ) → 0 < n → at ≡ stop → with_lines rows (few lines_count most (rows_to row stop n number at late)) ≡ total
-        → Some (record { rows = rows; after = at; late = late }) ≡ total
+    pub to_over : (n number at : ℕ) (late : Late) (most : ℕ) → 0 < n → at ≡ stop → with_lines rows places (few lines_count most (rows_to row stop n number at late)) ≡ total
+        → Some (record { rows = rows; places = places; after = at; late = late }) ≡ total
     to_over zero number at late most some there so = absurd (omega arith)
     to_over (suc n) number at late most some there so =
         let one : nat_lt at stop ≡ false = grind (arith, nat_tests, there) in
         let two : (at == stop) ≡ true = grind (arith, nat_tests, there) in
-        none_left rows at late most ∙ (λ i. onward n number at late most (sym one i) (sym two i)) ∙ so
+        none_left rows places at late most ∙ (λ i. onward n number at late most (sym one i) (sym two i)) ∙ so
 
-    pub to_past : (n number at : ℕ) (late : Late) (most : ℕ) → 0 < n → stop < at → with_lines rows (few lines_count most (rows_to row stop n number at late)) ≡ total → None ≡ total
+    pub to_past : (n number at : ℕ) (late : Late) (most : ℕ) → 0 < n → stop < at → with_lines rows places (few lines_count most (rows_to row stop n number at late)) ≡ total → None ≡ total
     to_past zero number at late most some past so = absurd (omega arith)
     to_past (suc n) number at late most some past so =
         let one : nat_lt at stop ≡ false = grind (arith, nat_tests, past) in
         let two : (at == stop) ≡ false = grind (arith, nat_tests, past) in
         (λ i. onward n number at late most (sym one i) (sym two i)) ∙ so
 
-    pub to_fails : (n number at : ℕ) (late : Late) (most : ℕ) → n ≡ 0 → with_lines rows (few lines_count most (rows_to row stop n number at late)) ≡ total → None ≡ total
+    pub to_fails : (n number at : ℕ) (late : Late) (most : ℕ) → n ≡ 0 → with_lines rows places (few lines_count most (rows_to row stop n number at late)) ≡ total → None ≡ total
     to_fails zero number at late most none so = so
     to_fails (suc n) number at late most none so = absurd (omega arith)
 
@@ -383,34 +394,48 @@ negative_rows row len rest names (negsuc n) at late below = refl
 
 -- Arrays.
 
-module _ (name : Option Word) (names : Environment) (lines : Option Lines) (most : ℕ) where
+module _ (name : Option Word) (row : PlainBody) (names : Environment) (lines : Option Lines) (most : ℕ) where
+  -- behind the rows
+  abbrev rows_step : Lines → Environment → Step
+  rows_step l more = record { value = Some (trees.Rows l.rows); after = l.after; names = also_rows row (length l.rows) l.places more; late = l.late }
+
   abbrev pub array_step : Lines → Option Step
-  array_step l = option_map (λ more. record { value = Some (trees.Rows l.rows); after = l.after; names = more; late = l.late }) (claim_count name (length l.rows) names)
+  array_step l = option_map (λ more. rows_step l more) (claim_count name (length l.rows) names)
 
   pub array_came : (came : Lines) (more : Environment) → Some came ≡ few lines_count most lines → Some more ≡ claim_count name (length came.rows) names
-      → Some (record { value = Some (trees.Rows came.rows); after = came.after; names = more; late = came.late }) ≡ few step_count most (option_and_then array_step lines)
+      → Some (record { value = Some (trees.Rows came.rows); after = came.after; names = also_rows row (length came.rows) came.places more; late = came.late })
+      ≡ few step_count most (option_and_then array_step lines)
   array_came came more is claimed =
       let fits = (first_within lines_count most lines came is).1 in
-      sym (few_fits step_count most (record { value = Some (trees.Rows came.rows); after = came.after; names = more; late = came.late }) (let n = count_rows came.rows in omega (arith, n, fits)))
-      ∙ ap (λ (o : Option Environment). few step_count most (option_map (λ more. record { value = Some (trees.Rows came.rows); after = came.after; names = more; late = came.late }) o)) claimed
+      sym (few_fits step_count most (rows_step came more) (let n = count_rows came.rows in omega (arith, n, fits)))
+      ∙ ap (λ (o : Option Environment). few step_count most (option_map (λ more. rows_step came more) o)) claimed
       ∙ sym (some_behind lines_count step_count most most lines came array_step is)
 
   pub not_claimed : (came : Lines) → Some came ≡ few lines_count most lines → None ≡ claim_count name (length came.rows) names
       → None ≡ few step_count most (option_and_then array_step lines)
   not_claimed came is claimed =
-      ap (λ (o : Option Environment). few step_count most (option_map (λ more. record { value = Some (trees.Rows came.rows); after = came.after; names = more; late = came.late }) o)) claimed
+      ap (λ (o : Option Environment). few step_count most (option_map (λ more. rows_step came more) o)) claimed
       ∙ sym (some_behind lines_count step_count most most lines came array_step is)
 
-  array_less : (l : Lines) (step : Step) (claimed : Option Environment)
-      → option_map (λ more. record { value = Some (trees.Rows l.rows); after = l.after; names = more; late = l.late }) claimed ≡ Some step → lines_count l ≤ step_count step
+  array_less : (l : Lines) (step : Step) (claimed : Option Environment) → option_map (λ more. rows_step l more) claimed ≡ Some step → lines_count l ≤ step_count step
   array_less l step None is = absurd cc
   array_less l step (Some more) is =
-      subst (λ (s : Step). lines_count l ≤ step_count s) (some_same (record { value = Some (trees.Rows l.rows); after = l.after; names = more; late = l.late }) step is) (let n = count_rows l.rows in omega (arith, n))
+      subst (λ (s : Step). lines_count l ≤ step_count s) (some_same (rows_step l more) step is) (let n = count_rows l.rows in omega (arith, n))
 
   pub no_array : None ≡ few lines_count most lines → None ≡ few step_count most (option_and_then array_step lines)
   no_array none =
       none_behind lines_count step_count most most lines array_step
       (λ l step is over. let n = array_less l step (claim_count name (length l.rows) names) is in omega (arith, n, over)) none
+
+-- behind them the name of the array and the labels in its rows are met
+pub array_met : (name : Option Word) (count : Option ℤ) (row : PlainBody) (met : Names) → met_in_rows row (met_counted name met) ≡ met_behind (Array name count row) met
+array_met name count row met = λ i key. both (gives_rows row key) (gives_count name key) (met key) i
+  where
+    both : (one other before : Bool) → (one || (other || before)) ≡ ((other || one) || before)
+    both true true before = refl
+    both true false before = refl
+    both false true before = refl
+    both false false before = refl
 
 -- Cases.
 
@@ -428,10 +453,10 @@ choice_few name names (Some l) most =
 -- one more case, or the row of this one
 pub case_here : (known : Facts) (all : List Bool) (cases : List Case) (i : ℕ) (one : Case) → i < length cases → one ≡ get_or cases i one → (met : Names) (names : Environment) (at : ℕ) (late : Late) (total : Option Step)
     → has_keys all at (case_keys (plain_body (out-Case one).row)) ≡ true → case_found known all met (plain_cases (drop i cases)) names at late ≡ total
-    → chosen (out-Case one).name names (line_at known all (plain_body (out-Case one).row) met names at late) ≡ total
+    → chosen (out-Case one).name names (line_at known all None (plain_body (out-Case one).row) met names at late) ≡ total
 case_here known all cases i one less item met names at late total has so =
-    plain (body_found known all (met_inside row met) row (names_inside row names) at late)
-    ∙ ap (λ (test : Bool). if test then option_map (λ f. record { value = Some (trees.Choice (out-Case one).name f.row); after = f.after; names = names; late = f.late }) (body_found known all (met_inside row met) row (names_inside row names) at late)
+    plain (body_found known all (met_inside row met) row (names_inside None row names) at late)
+    ∙ ap (λ (test : Bool). if test then option_map (λ f. record { value = Some (trees.Choice (out-Case one).name f.row); after = f.after; names = names; late = f.late }) (body_found known all (met_inside row met) row (names_inside None row names) at late)
     else case_found known all met (plain_cases (drop (i + 1) cases)) names at late) (sym has)
     ∙ ap (λ (cs : PlainCases). case_found known all met cs names at late) (sym (cases_next cases i one less item))
     ∙ so
@@ -448,7 +473,7 @@ pub case_later : (known : Facts) (all : List Bool) (cases : List Case) (i : ℕ)
     → has_keys all at (case_keys (plain_body (out-Case one).row)) ≡ false → case_found known all met (plain_cases (drop i cases)) names at late ≡ total
     → case_found known all met (plain_cases (drop (i + 1) cases)) names at late ≡ total
 case_later known all cases i one less item met names at late total has so =
-    ap (λ (test : Bool). if test then option_map (λ f. record { value = Some (trees.Choice (out-Case one).name f.row); after = f.after; names = names; late = f.late }) (body_found known all (met_inside row met) row (names_inside row names) at late)
+    ap (λ (test : Bool). if test then option_map (λ f. record { value = Some (trees.Choice (out-Case one).name f.row); after = f.after; names = names; late = f.late }) (body_found known all (met_inside row met) row (names_inside None row names) at late)
     else case_found known all met (plain_cases (drop (i + 1) cases)) names at late) (sym has)
     ∙ ap (λ (cs : PlainCases). case_found known all met cs names at late) (sym (cases_next cases i one less item))
     ∙ so

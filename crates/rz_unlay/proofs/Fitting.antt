@@ -12,7 +12,7 @@ use Rattle.rz_types.specs.Kept.{AreCasesKept, AreKept, IsKept, IsKeptWithin}
 use Rattle.rz_types_fields.specs.Range.{is_between}
 use Rattle.rz_types.specs.Rules.{bad_width, may_be_width, unless}
 use Rattle.rz_types_fields.specs.Shape.{are_cases_shaped, are_shaped, is_fixed_number, is_key_shaped, is_none_or, is_number_shaped, is_own_name, is_own_width, is_shaped, is_symbol_of, is_unit, is_well_shaped}
-use Rattle.rz_types.specs.Walk.{and_names, names_of, Own}
+use Rattle.rz_types.specs.Walk.{and_names, around_names, names_of, Own}
 use Rattle.rz_unlay.specs.Fits.{AreFit, CasesFit, Fits}
 
 -- Widths and units.
@@ -54,7 +54,7 @@ mutual
   field_fits scope in_case (Align unit) is wide kept = unit_above unit is
   field_fits scope in_case (Label name) is wide kept = tt
   field_fits scope in_case (Array name count row) is wide kept =
-      body_fits (and_names scope (names_of row)) false row (both (is_none_or is_own_name name) (are_shaped false row) is).1 kept.2
+      body_fits (and_names (and_names scope (around_names name)) (names_of row)) false row (both (is_none_or is_own_name name) (are_shaped false row) is).1 kept.2
   field_fits scope in_case (Switch cases) is wide kept = cases_fit scope cases is kept.1
 
   cases_fit : (scope : Own) (cases : PlainCases) → are_cases_shaped cases ≡ true → AreCasesKept scope cases → CasesFit cases

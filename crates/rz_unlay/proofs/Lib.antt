@@ -4,6 +4,7 @@ pub mod TextSteps
 pub mod MetBehind
 pub mod Ahead
 pub mod ReadsTests
+pub mod Asked
 pub mod OnePiece
 pub mod Sees
 pub mod ReadsBits
@@ -28,8 +29,10 @@ pub mod SpelledNumber
 pub mod SpelledText
 pub mod SpelledPieces
 pub mod RowsRead
+pub mod Fresh
 pub mod OnwardPieces
 pub mod Onward
+pub mod RowsStay
 pub mod SpelledRows
 pub mod SpelledFields
 pub mod SpelledWhole

@@ -11,7 +11,8 @@ use Rattle.rz_types_fields.specs.declared.tree.Tree.{Tree}
 use Rattle.rz_types_fields.specs.declared.tree.Tree.TheVariants as trees
 use Rattle.rz_types_fields.specs.Row.{By}
 use Rattle.rz_types_fields.specs.Sees.{sees, Late}
-use Rattle.rz_types_fields.specs.Spells.{is_case, row_of, values_for, AreBytes, BodySpells, CaseSpells, FieldSpells, Inside, InOrder, IsNumber, IsStored, IsText, PieceSpells, PiecesSpell, RowsSpell, Spells}
+use Rattle.rz_types_fields.specs.RowLabels.{row_of}
+use Rattle.rz_types_fields.specs.Spells.{is_case, values_for, AreBytes, BodySpells, CaseSpells, FieldSpells, Inside, InOrder, IsNumber, IsStored, IsText, PieceSpells, PiecesSpell, RowsSpell, Spells}
 use Rattle.rz_types_fields.specs.Field.{case_and, field_and, no_cases, no_fields, Align, Array, Fill, Label, Number, PlainBody, PlainCases, PlainField, PlainText, Points, Switch, Text}
 use Rattle.rz_types_fields.specs.Passed.{at_field, at_front, behind, behind_piece, nothing_passed, Passed}
 use Rattle.rz_types_fields.specs.Piece.{pieces_of, Filler, OneNumber, OneText, Piece, Place, Zeros}
@@ -104,7 +105,7 @@ module _ (facts : Facts) (all : List Bool) where
     field_loose (Align unit) env passed value at late after late_after it = pieces_loose (Align unit) env passed value at late after late_after it
     field_loose (Label name) env passed value at late after late_after it = pieces_loose (Label name) env passed value at late after late_after it
     field_loose (Array name count row) env passed value at late after late_after it =
-        (it.0, it.1, it.2, it.3, rows_loose name row (body_loose row) env (at_front row passed) it.0 1 at late after late_after it.4)
+        (it.0, it.1, it.2, it.3, it.4, rows_loose name row (body_loose row) env (at_front row passed) it.0 1 at late after late_after it.5)
     field_loose (Switch cases) env passed value at late after late_after it = cases_loose cases env passed value at late after late_after it
 
     cases_loose : (cases : PlainCases) → CasesLoose cases

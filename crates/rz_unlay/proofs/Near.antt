@@ -15,8 +15,9 @@ use Rattle.rz_types_fields.proofs.SameNames.{key_itself}
 use Rattle.rz_unlay_pieces.specs.Ahead.{behind_measured, in_resource, label_place, near_place, place_within, told_label, wider, Told}
 use Rattle.rz_unlay_pieces.specs.Pieces.{here_at, with_near}
 use Rattle.rz_unlay.proofs.Ahead.{Ahead}
+use Rattle.rz_unlay.proofs.Asked.{not_near, rows_no_place}
 use Rattle.rz_unlay.proofs.ReadsTests.{at_most, both_true, either_of, left_true, right_true, some_same, there_is}
-use Rattle.rz_unlay.proofs.Sees.{Covers}
+use Rattle.rz_unlay.proofs.Sees.{rows_kept, Covers, IsKnownOf}
 use Rattle.rz_unlay.proofs.Told.{Widens}
 
 -- the names that are held have values
@@ -107,6 +108,12 @@ still_given : (one more other : Option ℤ) → ((x : ℤ) → one ≡ Some x �
 still_given None more other kept value is = either_given more other value is
 still_given (Some x) more other kept value is = (x, first_given more other x (kept x refl))
 
+-- no other name than those that are near has another value by that
+pub near_alone : (facts : Facts) (all : List Bool) (field : PlainField) (rest : PlainBody) (at : ℕ) (met : Names) (names : Environment) (key : Key) → is_near (field_and field rest) key ≡ false
+    → (with_near (here_at facts all field rest at met) names).give key ≡ names.give key
+near_alone facts all field rest at met names key absent =
+    ap (λ (o : Option ℕ). or_else (names.give key) (in_resource (length all) (option_map (λ p. pos p) o))) (near_none (field_and field rest) key at absent) ∙ or_nothing (names.give key)
+
 module _ (facts : Facts) (all : List Bool) (field : PlainField) (rest : PlainBody) (env : Environment) (at after : ℕ) (met : Names) (ahead : Ahead all field rest env at after) where
   near_given : (key : Key) (place : Option ℕ) (value : ℤ) → near_place (field_and field rest) at key ≡ place → in_resource (length all) (option_map (λ p. pos p) place) ≡ Some value → env.give key ≡ Some value
   near_given key None value so is = absurd cc
@@ -117,8 +124,10 @@ module _ (facts : Facts) (all : List Bool) (field : PlainField) (rest : PlainBod
   given_there names part key value None so is = near_given key (near_place (field_and field rest) at key) value refl is
   given_there names part key value (Some x) so is = part.give key x so ∙ is
 
-  pub near_part : (names : Environment) → IsPartOf names env → IsPartOf (with_near (here_at facts all field rest at met) names) env
-  near_part names part = record { give = λ key value is. given_there names part key value (names.give key) refl is }
+  pub near_part : (names : Environment) → IsKnownOf names env → IsKnownOf (with_near (here_at facts all field rest at met) names) env
+  near_part names stands = rows_kept names (with_near (here_at facts all field rest at met) names) env stands
+      (record { give = λ key of. near_alone facts all field rest at met names key (not_near (field_and field rest) key (rows_no_place key of)) })
+      (record { give = λ key value is. given_there names stands.part key value (names.give key) refl is })
 
   pub near_widens : Widens env (with_near (here_at facts all field rest at met))
   near_widens = record {
@@ -128,19 +137,13 @@ module _ (facts : Facts) (all : List Bool) (field : PlainField) (rest : PlainBod
   }
 
   pub near_covers : (passed : Passed) (names : Environment) → Knows passed names → passed.near ≡ is_near (field_and field rest) → Covers (is_known passed) (with_near (here_at facts all field rest at met) names)
-  near_covers passed names knows near key known =
+  near_covers passed names knows near key asked known =
       either_of (passed.near key) (is_held passed key)
       (λ is.
       let there = near_some (field_and field rest) key at (sym (ap (λ (near : Names). near key) near) ∙ is) in
       either_given (names.give key) _ (pos there.0) (ap (λ (o : Option ℕ). in_resource (length all) (option_map (λ p. pos p) o)) there.1 ∙ in_resource_is (length all) there.0 (ahead.near key there.0 there.1).1))
-      (λ held. let it = knows key held in (it.0, first_given (names.give key) _ it.0 it.1))
+      (λ held. let it = knows key asked held in (it.0, first_given (names.give key) _ it.0 it.1))
       known
-
--- no other name has another value by that
-pub near_alone : (facts : Facts) (all : List Bool) (field : PlainField) (rest : PlainBody) (at : ℕ) (met : Names) (names : Environment) (key : Key) → is_near (field_and field rest) key ≡ false
-    → (with_near (here_at facts all field rest at met) names).give key ≡ names.give key
-near_alone facts all field rest at met names key absent =
-    ap (λ (o : Option ℕ). or_else (names.give key) (in_resource (length all) (option_map (λ p. pos p) o))) (near_none (field_and field rest) key at absent) ∙ or_nothing (names.give key)
 
 -- Told labels.
 
@@ -150,7 +153,7 @@ module _ (len : ℕ) (told : Names) (names env : Environment) (covers : Covers t
       → is_told_label field told ≡ true → (place : ℕ) × (label_place len field names ≡ Some place)
   label_told (Label name) fields lies is =
       let key = place_key name.bytes in
-      let it = covers key is in
+      let it = covers key refl is in
       let there = lies (str_to_ascii_lowercase name.bytes) (left_true (gives_key (Label name) key) (declares fields key) (key_itself key)) in
       let same : it.0 ≡ pos there.0 = some_same it.0 (pos there.0) (sym (part.give key it.0 it.1) ∙ there.1) in
       (there.0, ap (place_within len) (it.1 ∙ ap (λ (v : ℤ). Some v) same) ∙ place_within_is len there.0 there.2)

@@ -1,13 +1,15 @@
 -- What is read of fields goes on from left to right: names only grow, places stay in the resource, fields that have the same
 -- width in every row have it, and labels that were near stand where they were seen.
 use Rattle.std.proofs.Common.{◌≡◌, ℕ, ◌+◌, ◌*◌, ◌≤◌, ℤ, pos, Bool, true, false, ◌&&◌, List, [], ◌∷◌, length, Option, Some, None, refl, sym, ap, ◌∙◌, subst, arith}
-use Rattle.std.specs.Prelude.{nat_abs, option_and_then, option_map}
+use Rattle.std.specs.Prelude.{if◌then◌else◌, nat_abs, ◌++◌, option_and_then, option_map}
 use Rattle.rz_core.specs.declared.facts.Facts.{Facts}
 use Rattle.rz_core.specs.declared.resource.Word.{Word}
 use Rattle.rz_expr.specs.Environment.{count_key, place_of, Environment, IsPartOf, Key}
 use Rattle.rz_types_fields.specs.Field.{case_and, field_and, no_cases, no_fields, Align, Array, Fill, Label, Number, PlainBody, PlainCases, PlainField, Points, Switch, Text}
 use Rattle.rz_types_fields.specs.Known.{names_inside, stated_in}
-use Rattle.rz_types_fields.specs.Passed.{declares, is_label, met_behind, met_inside, Names}
+use Rattle.rz_types_fields.specs.Passed.{declares, gives_rows, is_label, met_behind, met_inside, Names}
+use Rattle.rz_types_fields.specs.RowLabels.{also_rows, is_row, label_places, row_number, row_of, row_value, RowOf}
+use Rattle.rz_types_fields.proofs.RowKeys.{placed_none}
 use Rattle.rz_types_fields.specs.Piece.{pieces_of}
 use Rattle.rz_types_fields.specs.Row.{IsStated}
 use Rattle.rz_types_fields.specs.Sees.{Late}
@@ -19,20 +21,49 @@ use Rattle.rz_types_fields.specs.declared.tree.Tree.TheVariants as trees
 use Rattle.rz_unlay_pieces.specs.Ahead.{behind_measured, near_place}
 use Rattle.rz_unlay.specs.Pieces.{field_of_pieces, pieces_found, value_of_field, with_value, Found}
 use Rattle.rz_unlay_pieces.specs.Pieces.{claim, claim_count, here_at, label_step, Here, Step}
-use Rattle.rz_unlay.specs.Cursor.{body_found, case_found, count_known, field_found, has_keys, line_of, rows_by, Line, Lines, ReadsRow}
+use Rattle.rz_unlay.specs.Cursor.{body_found, case_found, count_known, field_found, has_keys, line_of, rows_by, with_label, Line, Lines, ReadsRow}
 use Rattle.rz_unlay.proofs.Ahead.{HasPlaces}
+use Rattle.rz_unlay.proofs.Asked.{not_label, of_rows, rows_no_place}
 use Rattle.rz_unlay.proofs.Claims.{claim_came}
-use Rattle.rz_unlay.proofs.OnwardPieces.{field_goes, places_kept, points_behind, Goes, GoesOn}
+use Rattle.rz_unlay.proofs.Fresh.{no_rows}
+use Rattle.rz_core.proofs.Tests.{true_false}
+use Rattle.rz_unlay.proofs.OnwardPieces.{field_goes, points_behind, Goes}
 use Rattle.rz_unlay.proofs.ReadsNames.{not_declared}
 use Rattle.rz_unlay.proofs.ReadsTests.{and_then, both_true, by_case, if_false, if_true, mapped, none_is, some_same}
 use Rattle.rz_unlay.proofs.RowsRead.{if_either, lines_came}
-use Rattle.rz_unlay.proofs.Told.{part_of_part, same_part}
+use Rattle.rz_unlay.proofs.Told.{same_part}
 
 -- `true` and `false` keep their values in a body.
 
-pub places_within : (in_case : Bool) (body : PlainBody) (names : Environment) → are_shaped in_case body ≡ true → HasPlaces names → HasPlaces (names_inside body names)
-places_within in_case body names shaped has name value is =
-    if_false (declares body (place_of name)) (stated_in body (place_of name)) (names.give (place_of name)) (not_declared in_case body name value shaped is) ∙ has name value is
+pub places_within : (in_case : Bool) (which : Option RowOf) (body : PlainBody) (names : Environment) → are_shaped in_case body ≡ true → HasPlaces names → HasPlaces (names_inside which body names)
+places_within in_case which body names shaped has name value is =
+    if_false (is_row which (place_of name)) (row_number which) (if declares body (place_of name) then stated_in body (place_of name) else names.give (place_of name)) (placed_none which name)
+    ∙ if_false (declares body (place_of name)) (stated_in body (place_of name)) (names.give (place_of name)) (not_declared in_case body name value shaped is) ∙ has name value is
+
+-- Names that aren't of rows stay.
+
+-- what is known stays so, but for names of rows
+pub record Keeps (names more : Environment) : Type 0 where
+  pub give : (key : Key) (value : ℤ) → of_rows key ≡ false → names.give key ≡ Some value → more.give key ≡ Some value
+
+keeps_part : (names more : Environment) → IsPartOf names more → Keeps names more
+keeps_part names more part = record { give = λ key value plain is. part.give key value is }
+
+keeps_then : (a b c : Environment) → Keeps a b → Keeps b c → Keeps a c
+keeps_then a b c one other = record { give = λ key value plain is. other.give key value plain (one.give key value plain is) }
+
+-- so `true` and `false` keep their values
+pub places_stay : (names more : Environment) → Keeps names more → HasPlaces names → HasPlaces more
+places_stay names more kept has = λ name value is. kept.give _ value refl (has name value is)
+
+-- what was read: more is known behind it, and its end lies in the resource, just there where it is known
+pub record Passes (len : ℕ) (names more : Environment) (after : ℕ) (known : Option ℕ) : Type 0 where
+  pub kept : Keeps names more
+  pub within : after ≤ len
+  pub is : (next : ℕ) → known ≡ Some next → after ≡ next
+
+passes_on : (len : ℕ) (names : Environment) (known : Option ℕ) (step : Step) → Goes len names known step → Passes len names step.names step.after known
+passes_on len names known step it = record { kept = keeps_part names step.names it.kept; within = it.within; is = it.is }
 
 -- Rows.
 
@@ -68,14 +99,18 @@ module _ (len : ℕ) (width : Option ℕ) (row : ReadsRow) (one : (number at : �
 
 -- Fields.
 
+label_plain : (field : PlainField) (key : Key) → is_label field key ≡ true → of_rows key ≡ false
+label_plain field key label =
+    by_case (of_rows key) (λ of. absurd (true_false (sym label ∙ not_label field key (rows_no_place key of)))) (λ plain. plain)
+
 -- what was read of a field: a label stands at its place
 pub record FieldGoes (len : ℕ) (field : PlainField) (names : Environment) (at : ℕ) (step : Step) : Type 0 where
-  pub goes : Goes len names (behind_measured field at) step
+  pub goes : Passes len names step.names step.after (behind_measured field at)
   pub label : (key : Key) → is_label field key ≡ true → step.names.give key ≡ Some (pos at)
 
 -- and of a body: those that were near stand in the resource
 pub record BodyGoes (len : ℕ) (body : PlainBody) (names : Environment) (at : ℕ) (found : Found) : Type 0 where
-  pub goes : GoesOn len names (option_map (λ width. at + width) (fixed_widths body)) found
+  pub goes : Passes len names found.names found.after (option_map (λ width. at + width) (fixed_widths body))
   pub near : (key : Key) (place : ℕ) → near_place body at key ≡ Some place → (found.names.give key ≡ Some (pos place)) × (place ≤ len)
 
 other_known : (len : ℕ) (names : Environment) (one other : Option ℕ) (step : Step) → one ≡ other → Goes len names one step → Goes len names other step
@@ -100,7 +135,7 @@ body_goes : (len : ℕ) (field : PlainField) (fields : PlainBody) (names : Envir
     → FieldGoes len field names at step → BodyGoes len fields step.names step.after inner → inner.after ≡ found.after → inner.names ≡ found.names → BodyGoes len (field_and field fields) names at found
 body_goes len field fields names at step inner found inside one others same_after same_names = record {
   goes = record {
-    kept = subst (IsPartOf names) same_names (part_of_part names step.names inner.names one.goes.kept others.goes.kept);
+    kept = subst (Keeps names) same_names (keeps_then names step.names inner.names one.goes.kept others.goes.kept);
     within = subst (λ (n : ℕ). n ≤ len) same_after others.goes.within;
     is = λ next so. sym same_after ∙ both (fixed_width field) (fixed_widths fields) (λ width is. one.goes.is (at + width) (measured field at width is)) others.goes.is next so;
   };
@@ -119,7 +154,7 @@ body_goes len field fields names at step inner found inside one others same_afte
     own : (key : Key) (place : ℕ) → near_place (field_and field fields) at key ≡ Some place → is_label field key ≡ true → (inner.names.give key ≡ Some (pos place)) × (place ≤ len)
     own key place is label =
         let same : at ≡ place = some_same at place (sym (if_true (is_label field key) (Some at) _ label) ∙ is) in
-        (others.goes.kept.give key (pos place) (one.label key label ∙ ap (λ (n : ℕ). Some (pos n)) same), subst (λ (n : ℕ). n ≤ len) same inside)
+        (others.goes.kept.give key (pos place) (label_plain field key label) (one.label key label ∙ ap (λ (n : ℕ). Some (pos n)) same), subst (λ (n : ℕ). n ≤ len) same inside)
 
     later : (key : Key) (place : ℕ) → near_place (field_and field fields) at key ≡ Some place → is_label field key ≡ false → (inner.names.give key ≡ Some (pos place)) × (place ≤ len)
     later key place is none =
@@ -139,6 +174,37 @@ label_there here name names at late step is key label =
     (ap (λ (f : Found). f.names.give key) (sym (some_same _ it.0 one.2))
     ∙ subst (λ (s : Step). s.names.give key ≡ Some (pos at)) claimed.2 ((claim_came _ (pos at) names more claimed.1).has key label))
 
+-- Names behind rows, and behind the first field.
+
+rows_stay : (row : PlainBody) (rows : ℕ) (places : List ℤ) (names more : Environment) → Keeps names more → Keeps names (also_rows row rows places more)
+rows_stay row rows places names more kept = record {
+  give = λ key value plain is. if_false (gives_rows row key) (row_value row rows places key) (more.give key) (no_rows row key plain) ∙ kept.give key value plain is;
+}
+
+-- what was read behind the first field of a body is what was read of the body, but for its first value and label
+pub record IsBehind (field : PlainField) (at : ℕ) (value : Option Tree) (inner found : Found) : Type 0 where
+  pub row : put value inner.row ≡ found.row
+  pub places : label_places field at ++ inner.places ≡ found.places
+  pub after : inner.after ≡ found.after
+  pub names : inner.names ≡ found.names
+  pub late : inner.late ≡ found.late
+
+pub body_behind : (field : PlainField) (at : ℕ) (value : Option Tree) (others : Option Found) (found : Found) → with_label field at (with_value value others) ≡ Some found
+    → (inner : Found) × (others ≡ Some inner) × IsBehind field at value inner found
+body_behind field at value None found is = absurd (none_is found is)
+body_behind field at value (Some inner) found is =
+    let same = some_same _ found is in (
+      inner,
+      refl,
+      record {
+        row = ap (λ (f : Found). f.row) same;
+        places = ap (λ (f : Found). f.places) same;
+        after = ap (λ (f : Found). f.after) same;
+        names = ap (λ (f : Found). f.names) same;
+        late = ap (λ (f : Found). f.late) same;
+      },
+    )
+
 module _ (facts : Facts) (all : List Bool) where
   abbrev pub FieldsGo : PlainField → Type 0
   FieldsGo field = (in_case : Bool) (rest : PlainBody) (met : Names) (names : Environment) (at : ℕ) (late : Late) (step : Step) → is_shaped in_case field ≡ true → HasPlaces names → at ≤ length all
@@ -153,27 +219,27 @@ module _ (facts : Facts) (all : List Bool) where
       → case_found facts all met cases names at late ≡ Some step → (names ≡ step.names) × (step.after ≤ length all)
 
   -- a row within
-  line_reaches : (in_case : Bool) (row : PlainBody) (met : Names) (names : Environment) → BodiesGo row → are_shaped in_case row ≡ true → HasPlaces names → (at : ℕ) (late : Late) (line : Line) → at ≤ length all
-      → line_of (body_found facts all (met_inside row met) row (names_inside row names) at late) ≡ Some line → Reaches (length all) (fixed_widths row) at line.after
-  line_reaches in_case row met names go shaped has at late line inside is =
-      let it = mapped (λ f. record { row = f.row; after = f.after; late = f.late }) (body_found facts all (met_inside row met) row (names_inside row names) at late) line is in
-      let one = (go in_case (met_inside row met) (names_inside row names) at late it.0 shaped (places_within in_case row names shaped has) inside it.1).goes in
+  line_reaches : (in_case : Bool) (which : Option RowOf) (row : PlainBody) (met : Names) (names : Environment) → BodiesGo row → are_shaped in_case row ≡ true → HasPlaces names → (at : ℕ) (late : Late) (line : Line) → at ≤ length all
+      → line_of (body_found facts all (met_inside row met) row (names_inside which row names) at late) ≡ Some line → Reaches (length all) (fixed_widths row) at line.after
+  line_reaches in_case which row met names go shaped has at late line inside is =
+      let it = mapped (λ f. record { row = f.row; places = f.places; after = f.after; late = f.late }) (body_found facts all (met_inside row met) row (names_inside which row names) at late) line is in
+      let one = (go in_case (met_inside row met) (names_inside which row names) at late it.0 shaped (places_within in_case which row names shaped has) inside it.1).goes in
       subst (λ (l : Line). Reaches (length all) (fixed_widths row) at l.after) it.2
       (one.within, λ bits so. one.is (at + bits) (ap (option_map (λ width. at + width)) so))
 
   array_goes : (name : Option Word) (count : Option ℤ) (row : PlainBody) → BodiesGo row → FieldsGo (Array name count row)
   array_goes name count row go in_case rest met names at late step shaped has inside is =
       let test = both_true (is_none_or is_own_name name) (are_shaped false row) shaped in
-      let reads : ReadsRow = λ number place marks. line_of (body_found facts all (met_inside row met) row (names_inside row names) place marks) in
-      let one = and_then (λ lines. option_map (λ more. record { value = Some (trees.Rows lines.rows); after = lines.after; names = more; late = lines.late }) (claim_count name (length lines.rows) names))
+      let reads : ReadsRow = λ number place marks. line_of (body_found facts all (met_inside row met) row (names_inside (row_of name number) row names) place marks) in
+      let one = and_then (λ lines. option_map (λ more. record { value = Some (trees.Rows lines.rows); after = lines.after; names = also_rows row (length lines.rows) lines.places more; late = lines.late }) (claim_count name (length lines.rows) names))
       (rows_by reads (length all) rest names (count_known names name count) at late) step is in
       let lines : Lines = one.0 in
-      let two = mapped (λ more. record { value = Some (trees.Rows lines.rows); after = lines.after; names = more; late = lines.late }) (claim_count name (length lines.rows) names) step one.2 in
+      let two = mapped (λ more. record { value = Some (trees.Rows lines.rows); after = lines.after; names = also_rows row (length lines.rows) lines.places more; late = lines.late }) (claim_count name (length lines.rows) names) step one.2 in
       let reach = known_reach (length all) (fixed_widths row) reads
-      (λ number place marks line within found. line_reaches false row met names go test.1 has place marks line within found) rest names name count at late lines inside one.1 in
+      (λ number place marks line within found. line_reaches false (row_of name number) row met names go test.1 has place marks line within found) rest names name count at late lines inside one.1 in
       subst (FieldGoes (length all) (Array name count row) names at) two.2 (record {
         goes = record {
-          kept = kept name (length lines.rows) two.0 two.1;
+          kept = rows_stay row (length lines.rows) lines.places names two.0 (keeps_part names two.0 (kept name (length lines.rows) two.0 two.1));
           within = reach.0;
           is = λ next so. let width = mapped (λ bits. at + bits) (rows_width count (fixed_widths row)) next so in reach.1 width.0 width.1 ∙ width.2;
         };
@@ -188,7 +254,7 @@ module _ (facts : Facts) (all : List Bool) where
   switch_goes cases go in_case rest met names at late step shaped has inside is =
       let it = go met names at late step shaped has inside is in
       record {
-        goes = record { kept = subst (IsPartOf names) it.0 (same_part names); within = it.1; is = λ next so. absurd (none_is next so) };
+        goes = record { kept = subst (Keeps names) it.0 (keeps_part names names (same_part names)); within = it.1; is = λ next so. absurd (none_is next so) };
         label = λ key label. absurd cc;
       }
 
@@ -198,8 +264,8 @@ module _ (facts : Facts) (all : List Bool) where
       let both = both_true (are_shaped true row) (are_cases_shaped others) test.1 in
       if_either (has_keys all at (case_keys row)) _ (case_found facts all met others names at late) step
       (λ chosen.
-      let it = mapped (λ f. record { value = Some (trees.Choice name f.row); after = f.after; names = names; late = f.late }) (body_found facts all (met_inside row met) row (names_inside row names) at late) step chosen in
-      let goes = (one true (met_inside row met) (names_inside row names) at late it.0 both.0 (places_within true row names both.0 has) inside it.1).goes in
+      let it = mapped (λ f. record { value = Some (trees.Choice name f.row); after = f.after; names = names; late = f.late }) (body_found facts all (met_inside row met) row (names_inside None row names) at late) step chosen in
+      let goes = (one true (met_inside row met) (names_inside None row names) at late it.0 both.0 (places_within true None row names both.0 has) inside it.1).goes in
       subst (λ (s : Step). (names ≡ s.names) × (s.after ≤ length all)) it.2 (refl, goes.within))
       (λ later. more met names at late step both.1 has inside later)
       is
@@ -207,37 +273,37 @@ module _ (facts : Facts) (all : List Bool) where
   first_and_others : (field : PlainField) (fields : PlainBody) → FieldsGo field → BodiesGo fields → BodiesGo (field_and field fields)
   first_and_others field fields one others in_case met names at late found shaped has inside is =
       let test = both_true (is_shaped in_case field) (are_shaped in_case fields) shaped in
-      let first = and_then (λ step. with_value step.value (body_found facts all (met_behind field met) fields step.names step.after step.late)) (field_found facts all fields met field names at late) found is in
+      let first = and_then (λ step. with_label field at (with_value step.value (body_found facts all (met_behind field met) fields step.names step.after step.late))) (field_found facts all fields met field names at late) found is in
       let step : Step = first.0 in
-      let more = mapped (λ f. record { row = put step.value f.row; after = f.after; names = f.names; late = f.late }) (body_found facts all (met_behind field met) fields step.names step.after step.late) found first.2 in
+      let more = body_behind field at step.value (body_found facts all (met_behind field met) fields step.names step.after step.late) found first.2 in
       let here = one in_case fields met names at late step test.0 has inside first.1 in
-      let behind = others in_case (met_behind field met) step.names step.after step.late more.0 test.1 (places_kept names step.names here.goes.kept has) here.goes.within more.1 in
-      body_goes (length all) field fields names at step more.0 found inside here behind (ap (λ (f : Found). f.after) more.2) (ap (λ (f : Found). f.names) more.2)
+      let behind = others in_case (met_behind field met) step.names step.after step.late more.0 test.1 (places_stay names step.names here.goes.kept has) here.goes.within more.1 in
+      body_goes (length all) field fields names at step more.0 found inside here behind more.2.after more.2.names
 
   mutual
     pub field_on : (field : PlainField) → FieldsGo field
     field_on (Number number) in_case rest met names at late step shaped has inside is = record {
-      goes = field_goes (here_at facts all (Number number) rest at met) (Number number) names at late step has inside is;
+      goes = passes_on (length all) names _ step (field_goes (here_at facts all (Number number) rest at met) (Number number) names at late step has inside is);
       label = λ key label. absurd cc;
     }
     field_on (Text text) in_case rest met names at late step shaped has inside is = record {
-      goes = other_known (length all) names _ _ step (one_behind (text_width text.form text.size) at) (field_goes (here_at facts all (Text text) rest at met) (Text text) names at late step has inside is);
+      goes = passes_on (length all) names _ step (other_known (length all) names _ _ step (one_behind (text_width text.form text.size) at) (field_goes (here_at facts all (Text text) rest at met) (Text text) names at late step has inside is));
       label = λ key label. absurd cc;
     }
     field_on (Points points) in_case rest met names at late step shaped has inside is = record {
-      goes = other_known (length all) names _ _ step (points_behind points.rect points.fixed at shaped) (field_goes (here_at facts all (Points points) rest at met) (Points points) names at late step has inside is);
+      goes = passes_on (length all) names _ step (other_known (length all) names _ _ step (points_behind points.rect points.fixed at shaped) (field_goes (here_at facts all (Points points) rest at met) (Points points) names at late step has inside is));
       label = λ key label. absurd cc;
     }
     field_on (Fill unit count) in_case rest met names at late step shaped has inside is = record {
-      goes = field_goes (here_at facts all (Fill unit count) rest at met) (Fill unit count) names at late step has inside is;
+      goes = passes_on (length all) names _ step (field_goes (here_at facts all (Fill unit count) rest at met) (Fill unit count) names at late step has inside is);
       label = λ key label. absurd cc;
     }
     field_on (Align unit) in_case rest met names at late step shaped has inside is = record {
-      goes = field_goes (here_at facts all (Align unit) rest at met) (Align unit) names at late step has inside is;
+      goes = passes_on (length all) names _ step (field_goes (here_at facts all (Align unit) rest at met) (Align unit) names at late step has inside is);
       label = λ key label. absurd cc;
     }
     field_on (Label name) in_case rest met names at late step shaped has inside is = record {
-      goes = other_known (length all) names (Some at) (Some (at + 0)) step (ap (λ (n : ℕ). Some n) (omega (arith))) (field_goes (here_at facts all (Label name) rest at met) (Label name) names at late step has inside is);
+      goes = passes_on (length all) names _ step (other_known (length all) names (Some at) (Some (at + 0)) step (ap (λ (n : ℕ). Some n) (omega (arith))) (field_goes (here_at facts all (Label name) rest at met) (Label name) names at late step has inside is));
       label = label_there (here_at facts all (Label name) rest at met) name names at late step is;
     }
     field_on (Array name count row) in_case rest met names at late step shaped has inside is = array_goes name count row (body_on row) in_case rest met names at late step shaped has inside is
@@ -249,8 +315,8 @@ module _ (facts : Facts) (all : List Bool) where
 
     pub body_on : (body : PlainBody) → BodiesGo body
     body_on no_fields in_case met names at late found shaped has inside is =
-        subst (BodyGoes (length all) no_fields names at) (some_same (record { row = []; after = at; names = names; late = late }) found is) (record {
-          goes = record { kept = same_part names; within = inside; is = λ next so. (let same = some_same (at + 0) next so in omega (arith, same)) };
+        subst (BodyGoes (length all) no_fields names at) (some_same (record { row = []; places = []; after = at; names = names; late = late }) found is) (record {
+          goes = record { kept = keeps_part names names (same_part names); within = inside; is = λ next so. (let same = some_same (at + 0) next so in omega (arith, same)) };
           near = λ key place none. absurd (none_is place none);
         })
     body_on (field_and field fields) in_case met names at late found shaped has inside is =

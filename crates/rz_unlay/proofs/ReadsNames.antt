@@ -1,6 +1,6 @@
 -- What is known of names inside a body, and outside of all fields.
 use Rattle.std.proofs.Common.{◌≡◌, ℕ, ◌==◌, ℤ, pos, Bool, true, false, ◌&&◌, ◌||◌, not, List, [], ◌∷◌, length, Option, Some, None, refl, sym, ap, ◌∙◌, subst}
-use Rattle.std.specs.Prelude.{codes, if◌then◌else◌}
+use Rattle.std.specs.Prelude.{codes, if◌then◌else◌, int_le}
 use Rattle.std.specs.Option.{is_some}
 use Rattle.std.specs.Str.{str_to_ascii_lowercase}
 use Rattle.std.proofs.lemmas.Bool.{eqb-true}
@@ -8,7 +8,7 @@ use Rattle.rz_core.specs.Lists.{or_else}
 use Rattle.rz_core.specs.declared.facts.Facts.{Facts}
 use Rattle.rz_core.specs.declared.resource.Word.{Word}
 use Rattle.rz_expr.specs.Attribute.{attribute_word}
-use Rattle.rz_expr.specs.Environment.{count_key, place_key, place_of, predefined, Environment, IsPartOf, Key}
+use Rattle.rz_expr.specs.Environment.{count_key, place_in, place_key, place_of, predefined, row_in, rows_of, Environment, IsPartOf, Key}
 use Rattle.rz_expr.specs.Keyword.{keyword_of}
 use Rattle.rz_expr.specs.Words.{is_label}
 use Rattle.rz_expr.specs.Words as words
@@ -18,14 +18,20 @@ use Rattle.rz_expr.proofs.Cases.{same_value}
 use Rattle.rz_types_fields.specs.declared.tree.Tree.{Tree}
 use Rattle.rz_types_fields.specs.Field.{field_and, no_fields, Align, Array, Fill, Label, Number, PlainBody, PlainField, Points, Switch, Text}
 use Rattle.rz_types_fields.specs.Known.{names_inside, stated_in}
+use Rattle.rz_types.specs.Names.{FillsRows}
 use Rattle.rz_types_fields.specs.Passed.{at_field, at_front, behind, declares, gives_count, gives_key, nothing_passed, outside, states, Passed}
 use Rattle.rz_types_fields.specs.Shape.{are_shaped, is_shaped}
 use Rattle.rz_types_fields.specs.Solve.{is_same_key}
-use Rattle.rz_types_fields.specs.Spells.{BodySpells, IsCounted, RowOf, Within}
+use Rattle.rz_types_fields.specs.RowLabels.{is_row, row_number, RowOf}
+use Rattle.rz_types_fields.specs.Spells.{BodySpells, IsCounted, Within}
+use Rattle.rz_types_fields.proofs.RowKeys.{entered_place_in, entered_row, entered_rows, placed_none, undeclared}
 use Rattle.rz_types_fields.proofs.SameNames.{key_is}
 use Rattle.rz_unlay.proofs.Ahead.{HasPlaces}
+use Rattle.rz_unlay.proofs.Asked.{asked_no_row}
 use Rattle.rz_unlay.proofs.Near.{Knows}
-use Rattle.rz_unlay.proofs.ReadsTests.{both_true, neither, some_is}
+use Rattle.rz_unlay.proofs.ReadsTests.{both_true, if_false, neither, some_is}
+use Rattle.rz_unlay.proofs.Sees.{IsKnownOf}
+use Rattle.rz_unlay.proofs.Told.{same_part}
 
 -- Inside a body.
 
@@ -47,13 +53,15 @@ stated_has (field_and (Array name (Some count) row) fields) key is =
     stated_first (gives_count name key) count (stated_in fields key) (states fields key) (stated_has fields key) is
 stated_has (field_and (Switch cases) fields) key is = stated_has fields key is
 
-pub knows_inside : (body : PlainBody) (passed : Passed) (names : Environment) → Knows passed names → Knows (at_front body passed) (names_inside body names)
-knows_inside body passed names knows key is = by (declares body key) is
+pub knows_inside : (body : PlainBody) (which : Option RowOf) (passed : Passed) (names : Environment) → Knows passed names → Knows (at_front body passed) (names_inside which body names)
+knows_inside body which passed names knows key asked is =
+    let own = by (declares body key) is in
+    (own.0, if_false (is_row which key) (row_number which) (if declares body key then stated_in body key else names.give key) (asked_no_row which key asked) ∙ own.1)
   where
     by : (test : Bool) → ((not test && passed.met key) || (if test then states body key else passed.told key)) ≡ true
         → (v : ℤ) × ((if test then stated_in body key else names.give key) ≡ Some v)
     by true is = stated_has body key is
-    by false is = knows key is
+    by false is = knows key asked is
 
 pub counted_at : (name : Option Word) (rows : ℕ) (own : Environment) (key : Key) → IsCounted name rows own → gives_count name key ≡ true → own.give key ≡ Some (pos rows)
 counted_at None rows own key counted gives = absurd cc
@@ -62,6 +70,19 @@ counted_at (Some name) rows own key counted gives = sym (ap own.give (key_is (co
 first_stated : (P : ℤ → Type 0) (test : Bool) (count : ℤ) (more : Option ℤ) (v : ℤ) → (test ≡ true → P count) → (more ≡ Some v → P v) → or_else (if test then Some count else None) more ≡ Some v → P v
 first_stated P true count more v here later is = subst P (some_is count v is) (here refl)
 first_stated P false count more v here later is = later is
+
+-- labels in rows, of which the number is known inside a body, are those outside of it
+rows_inside : (body : PlainBody) (which : Option RowOf) (names : Environment) → FillsRows names → FillsRows (names_inside which body names)
+rows_inside body which names fills = record {
+  give = λ label rows number is low high. by label rows number low high (declares body (rows_of label)) refl (sym (entered_rows which body label (names.give (rows_of label))) ∙ is);
+}
+  where
+    by : (label : List ℕ) (rows number : ℤ) → int_le (pos 1) number ≡ true → int_le number rows ≡ true → (test : Bool) → declares body (rows_of label) ≡ test
+        → (if test then None else names.give (rows_of label)) ≡ Some rows → (place : ℤ) × ((names_inside which body names).give (place_in label number) ≡ Some place)
+    by label rows number low high true given is = absurd cc
+    by label rows number low high false none is =
+        let it = fills.give label rows number is low high in
+        (it.0, entered_place_in which body label number (names.give (place_in label number)) ∙ if_false (declares body (rows_of label)) None (names.give (place_in label number)) none ∙ it.1)
 
 module _ (known : Facts) (all : List Bool) where
   -- what a body states is so where it is spelled
@@ -90,15 +111,32 @@ module _ (known : Facts) (all : List Bool) where
   stated_holds (field_and (Switch cases) fields) own passed line at late after late_after it key v is =
       stated_holds fields own (behind (Switch cases) (at_field (field_and (Switch cases) fields) passed)) it.1 it.2 it.3 after late_after it.6 key v is
 
-  pub part_inside : (body : PlainBody) (which : Option RowOf) (names env own : Environment) (passed : Passed) (line : List Tree) (at : ℕ) (late : List Bool) (after : ℕ) (late_after : List Bool)
-      → IsPartOf names env → Within body which env own → BodySpells true known all body own passed line at late after late_after → IsPartOf (names_inside body names) own
+  part_inside : (body : PlainBody) (which : Option RowOf) (names env own : Environment) (passed : Passed) (line : List Tree) (at : ℕ) (late : List Bool) (after : ℕ) (late_after : List Bool)
+      → IsPartOf names env → Within body which env own → BodySpells true known all body own passed line at late after late_after → IsPartOf (names_inside which body names) own
   part_inside body which names env own passed line at late after late_after part within it = record {
-    give = λ key v is. by key v (declares body key) refl is;
+    give = λ key v is. around key v (is_row which key) refl is;
   }
     where
-      by : (key : Key) (v : ℤ) (test : Bool) → declares body key ≡ test → (if test then stated_in body key else names.give key) ≡ Some v → own.give key ≡ Some v
-      by key v true declared is = stated_holds body own passed line at late after late_after it key v is
-      by key v false none is = within.give key none ∙ part.give key v is
+      by : (key : Key) (v : ℤ) → is_row which key ≡ false → (test : Bool) → declares body key ≡ test → (if test then stated_in body key else names.give key) ≡ Some v → own.give key ≡ Some v
+      by key v other true declared is = stated_holds body own passed line at late after late_after it key v is
+      by key v other false none is = within.give key none other ∙ part.give key v is
+
+      around : (key : Key) (v : ℤ) (test : Bool) → is_row which key ≡ test → (if test then row_number which else if declares body key then stated_in body key else names.give key) ≡ Some v → own.give key ≡ Some v
+      around key v true number is = within.number key number ∙ is
+      around key v false other is = by key v other (declares body key) refl is
+
+  -- what is known at the front of a body is known so inside
+  pub known_inside : (body : PlainBody) (which : Option RowOf) (names env own : Environment) (passed : Passed) (line : List Tree) (at : ℕ) (late : List Bool) (after : ℕ) (late_after : List Bool)
+      → IsKnownOf names env → Within body which env own → BodySpells true known all body own passed line at late after late_after → IsKnownOf (names_inside which body names) own
+  known_inside body which names env own passed line at late after late_after stands within it = record {
+    part = part_inside body which names env own passed line at late after late_after stands.part within it;
+    rows = rows_inside body which names stands.rows;
+    around = λ array. entered_row which body array (names.give (row_in array)) ∙ by array (is_row which (row_in array)) refl;
+  }
+    where
+      by : (array : List ℕ) (test : Bool) → is_row which (row_in array) ≡ test → (if test then row_number which else names.give (row_in array)) ≡ own.give (row_in array)
+      by array true number = sym (within.number (row_in array) number)
+      by array false other = stands.around array ∙ sym (within.give (row_in array) (undeclared body array) other)
 
 -- `true` and `false` have their values everywhere.
 
@@ -149,12 +187,12 @@ not_declared in_case (field_and field fields) name value shaped is =
     λ i. not_given in_case field name value each.0 is i || not_declared in_case fields name value each.1 is i
 
 pub places_inside : (in_case : Bool) (body : PlainBody) (which : Option RowOf) (env own : Environment) → are_shaped in_case body ≡ true → Within body which env own → HasPlaces env → HasPlaces own
-places_inside in_case body which env own shaped within has name value is = within.give (place_of name) (not_declared in_case body name value shaped is) ∙ has name value is
+places_inside in_case body which env own shaped within has name value is = within.give (place_of name) (not_declared in_case body name value shaped is) (placed_none which name) ∙ has name value is
 
 -- Outside of all fields.
 
 pub knows_outside : Knows nothing_passed outside
-knows_outside key is = some_has (outside.give key) (met (is_some (outside.give key)) is)
+knows_outside key asked is = some_has (outside.give key) (met (is_some (outside.give key)) is)
   where
     met : (some : Bool) → (some || false) ≡ true → some ≡ true
     met true is = refl
@@ -163,6 +201,13 @@ knows_outside key is = some_has (outside.give key) (met (is_some (outside.give k
     some_has : (o : Option ℤ) → is_some o ≡ true → (v : ℤ) × (o ≡ Some v)
     some_has None is = absurd cc
     some_has (Some v) is = (v, refl)
+
+pub known_outside : IsKnownOf outside outside
+known_outside = record {
+  part = same_part outside;
+  rows = record { give = λ label rows number is low high. absurd cc };
+  around = λ array. refl;
+}
 
 pub places_outside : HasPlaces outside
 places_outside name value is = is

@@ -1,15 +1,13 @@
 -- A number that is spelled plainly is read.
-use Rattle.std.proofs.Common.{◌≡◌, inl, inr, ℕ, ◌+◌, ◌<◌, ◌≤◌, ◌^◌, ◌%◌, ◌==◌, ℤ, pos, Bool, true, false, ◌&&◌, ◌||◌, List, ◌++◌, length, take, drop, Option, Some, None, Result, Ok, Err, refl, sym, ap, ◌∙◌, subst, arith}
+use Rattle.std.proofs.Common.{◌≡◌, inl, inr, ℕ, ◌+◌, ◌<◌, ◌≤◌, ◌^◌, ◌%◌, ◌==◌, ℤ, pos, Bool, true, false, ◌&&◌, ◌||◌, List, ◌++◌, length, take, drop, Option, Some, None, Result, Ok, refl, sym, ap, ◌∙◌, subst}
 use Rattle.std.specs.Prelude.{if◌then◌else◌, nat_abs, not, option_and_then, option_map, replicate}
 use Rattle.std.specs.Int.{cast_unsigned, w64}
-use Rattle.std.proofs.lemmas.Bool.Decides.{nat_tests}
 use Rattle.std.proofs.lemmas.Nat.{pow_pos}
 use Rattle.std.proofs.Math.Nat.{mod-lt}
-use Rattle.rz_core.specs.Stop.{◌>>=◌}
 use Rattle.rz_core.specs.declared.facts.Facts.{Facts}
-use Rattle.rz_expr.specs.Environment.{count_key, count_of, place_key, place_of, Environment, IsPartOf, Key, Sight}
-use Rattle.rz_expr.specs.Term.{BitsAt, Constant, FactOf, Named, OfOne, OfTwo, RowsOf, Term}
-use Rattle.rz_expr.specs.Value.{known_value, value_of}
+use Rattle.rz_expr.specs.Environment.{count_key, count_of, place_in, place_key, place_of, row_in, rows_key, rows_of, Environment, IsPartOf, Key, Sight}
+use Rattle.rz_expr.specs.Term.{BitsAt, Constant, FactOf, Indexed, Named, OfOne, OfTwo, RowNumber, RowsOf, Term}
+use Rattle.rz_expr.specs.Value.{known_value, place_in_row, value_of}
 use Rattle.rz_expr.specs.declared.value.EvalFault.{EvalFault}
 use Rattle.rz_bits.specs.Bits.{number_bits, number_of}
 use Rattle.rz_types_fields.specs.declared.field.NumForm.{NumForm}
@@ -22,16 +20,17 @@ use Rattle.rz_types_fields.specs.Solve.{can_solve, has_key, is_same_key, solved_
 use Rattle.rz_types_fields.specs.Spells.{is_late_value, IsNumber}
 use Rattle.rz_types_fields.specs.Stored.{stored_number}
 use Rattle.rz_types_fields.specs.Value.{see}
-use Rattle.rz_types_fields.proofs.SameNames.{key_is, key_itself}
+use Rattle.rz_types_fields.proofs.SameNames.{key_is}
 use Rattle.rz_types.specs.Readable.{all_known, is_number_read, tells_one}
 use Rattle.rz_unlay_pieces.specs.Ahead.{in_resource}
 use Rattle.rz_unlay_pieces.specs.Pieces.{here_at, is_stored, late_behind, number_step, seen_at, solve_all, solved_at, with_near, Step}
 use Rattle.rz_unlay.proofs.Ahead.{Ahead}
+use Rattle.rz_unlay.proofs.Asked.{of_rows, plain_in}
 use Rattle.rz_unlay.proofs.Near.{in_resource_is, near_alone, near_covers, near_part, near_widens}
 pub use Rattle.rz_unlay.proofs.Near.{Knows}
 use Rattle.rz_unlay.proofs.ReadsBits.{length_number, number_found}
-use Rattle.rz_unlay.proofs.ReadsTests.{both_true, by_test, either_of, left_true, neither, not_true, right_true, some_same}
-use Rattle.rz_unlay.proofs.Sees.{late_same, met_known, others_known, solve_same, value_same, Covers}
+use Rattle.rz_unlay.proofs.ReadsTests.{both_true, by_test, either_of, itself, left_true, neither, not_true, right_true, some_same}
+use Rattle.rz_unlay.proofs.Sees.{late_same, met_known, name_has, others_known, parts_have, solve_same, still_known, value_same, Covers, IsKnownOf}
 use Rattle.rz_unlay.proofs.Teller.{teller}
 use Rattle.rz_unlay.proofs.Told.{all_told, AreTold, IsTold, Widens}
 
@@ -41,6 +40,8 @@ use Rattle.rz_unlay.proofs.Told.{all_told, AreTold, IsTold, Widens}
 solved_there : (key : Key) (term : Term) → can_solve key term ≡ true → has_key key term ≡ true
 solved_there key (Constant number) can = absurd cc
 solved_there key (Named name) can = can
+solved_there key (Indexed name index) can = absurd cc
+solved_there key (RowNumber name) can = absurd cc
 solved_there key (RowsOf name) can = can
 solved_there key (BitsAt name start width) can = absurd cc
 solved_there key (FactOf which) can = absurd cc
@@ -48,6 +49,10 @@ solved_there key (OfOne op operand) can = solved_there key operand (both_true (u
 solved_there key (OfTwo op left right) can =
     by_test (has_key key left) _ _ (λ there is. left_true (has_key key left) (has_key key right) there)
     (λ absent is. right_true (has_key key left) (has_key key right) (solved_there key right (both_true (undoes_right op) (can_solve key right) is).1)) can
+
+-- so it is none of rows
+solved_plain : (key : Key) (term : Term) → can_solve key term ≡ true → of_rows key ≡ false
+solved_plain key term can = plain_in key term (solved_there key term can)
 
 solved_to : (test : Bool) (solved value : Option ℤ) → test ≡ false → IsSolvedTo test solved value → solved ≡ value
 solved_to true solved value is to = absurd cc
@@ -59,6 +64,8 @@ solved_back : (known : Names) (solved : Key → Option ℤ) (names : Environment
 solved_back known solved names key unknown (Constant number) are has = absurd cc
 solved_back known solved names key unknown (Named name) are has =
     subst (λ (k : Key). known k ≡ false → solved k ≡ names.give k) (sym (key_is key (place_key name) has)) (λ so. solved_to (known (place_key name)) _ _ so are) unknown
+solved_back known solved names key unknown (Indexed name index) are has = solved_back known solved names key unknown index are has
+solved_back known solved names key unknown (RowNumber name) are has = absurd cc
 solved_back known solved names key unknown (RowsOf name) are has =
     subst (λ (k : Key). known k ≡ false → solved k ≡ names.give k) (sym (key_is key (count_key name) has)) (λ so. solved_to (known (count_key name)) _ _ so are) unknown
 solved_back known solved names key unknown (BitsAt name start width) are has =
@@ -74,37 +81,16 @@ solved_back known solved names key unknown (OfTwo op left right) are has =
     either_of (has_key key left) (has_key key right) (λ there. solved_back known solved names key unknown left are.0 there)
     (λ there. solved_back known solved names key unknown right are.1 there) has
 
--- names that stand in it are all its names
-pub all_of_its : (known : Names) (term : Term) → ((key : Key) → has_key key term ≡ true → known key ≡ true) → all_known known known term ≡ true
-all_of_its known (Constant number) each = refl
-all_of_its known (Named name) each = each (place_key name) (key_itself (place_key name))
-all_of_its known (RowsOf name) each = each (count_key name) (key_itself (count_key name))
-all_of_its known (BitsAt name start width) each = rw (
-  each (place_key name) (left_true _ (has_key (place_key name) width) (left_true _ (has_key (place_key name) start) (key_itself (place_key name)))),
-  all_of_its known start (λ key has. each key (left_true _ (has_key key width) (right_true (is_same_key key (place_key name)) (has_key key start) has))),
-  all_of_its known width (λ key has. each key (right_true _ (has_key key width) has)),
-) refl
-all_of_its known (FactOf which) each = refl
-all_of_its known (OfOne op operand) each = all_of_its known operand each
-all_of_its known (OfTwo op left right) each = rw (
-  all_of_its known left (λ key has. each key (left_true (has_key key left) (has_key key right) has)),
-  all_of_its known right (λ key has. each key (right_true (has_key key left) (has_key key right) has)),
-) refl
-
 -- in an expression with a value each name has one
-parts_have : {X Y : Type 0} (first : Result X EvalFault) (next : X → Result Y EvalFault) (value : Y) → (first >>= next) ≡ Ok value → (x : X) × (first ≡ Ok x) × (next x ≡ Ok value)
-parts_have (Ok x) next value is = (x, refl, is)
-parts_have (Err fault) next value is = absurd cc
-
-name_has : (name : List ℕ) (found : Option ℤ) (value : ℤ) → known_value name found ≡ Ok value → (v : ℤ) × (found ≡ Some v)
-name_has name None value is = absurd cc
-name_has name (Some v) value is = (v, refl)
-
 pub has_value : (facts : Facts) (bits : ℤ → ℤ → Option ℤ) (names : Environment) (key : Key) (term : Term) (value : ℤ) → value_of term (see facts bits names) ≡ Ok value → has_key key term ≡ true
     → (v : ℤ) × (names.give key ≡ Some v)
 has_value facts bits names key (Constant number) value is has = absurd cc
 has_value facts bits names key (Named name) value is has =
     let it = name_has name (names.give (place_key name)) value is in (it.0, ap names.give (key_is key (place_key name) has) ∙ it.1)
+has_value facts bits names key (Indexed name index) value is has =
+    let one = parts_have (value_of index (see facts bits names)) (λ number. place_in_row name names number (names.give (rows_key name))) value is in
+    has_value facts bits names key index one.0 one.1 has
+has_value facts bits names key (RowNumber name) value is has = absurd cc
 has_value facts bits names key (RowsOf name) value is has =
     let it = name_has name (names.give (count_key name)) value is in (it.0, ap names.give (key_is key (count_key name) has) ∙ it.1)
 has_value facts bits names key (BitsAt name start width) value is has =
@@ -133,6 +119,8 @@ module _ (met known : Names) (env : Environment) (near : Environment → Environ
   all_are_known : (term : Term) → all_known met known term ≡ true → AreTold met known env near solved term
   all_are_known (Constant number) is = tt
   all_are_known (Named name) is = inl is
+  all_are_known (Indexed name index) is = all_are_known index (both_true (known (rows_key name)) (all_known met known index) is).1
+  all_are_known (RowNumber name) is = tt
   all_are_known (RowsOf name) is = inl is
   all_are_known (BitsAt name start width) is = is
   all_are_known (FactOf which) is = tt
@@ -140,23 +128,25 @@ module _ (met known : Names) (env : Environment) (near : Environment → Environ
   all_are_known (OfTwo op left right) is =
       let each = both_true (all_known met known left) (all_known met known right) is in (all_are_known left each.0, all_are_known right each.1)
 
-  each_told : (key : Key) → IsTold known env near solved key → (term : Term) → can_solve key term ≡ true
+  each_told : (key : Key) → of_rows key ≡ false → IsTold known env near solved key → (term : Term) → can_solve key term ≡ true
       → all_known met (λ other. is_same_key key other || known other) term ≡ true → AreTold met known env near solved term
-  each_told key told (Constant number) can is = absurd cc
-  each_told key told (Named name) can is = subst (IsTold known env near solved) (key_is key (place_key name) can) told
-  each_told key told (RowsOf name) can is = subst (IsTold known env near solved) (key_is key (count_key name) can) told
-  each_told key told (BitsAt name start width) can is = absurd cc
-  each_told key told (FactOf which) can is = absurd cc
-  each_told key told (OfOne op operand) can is = each_told key told operand (both_true (undoes_one op) (can_solve key operand) can).1 is
-  each_told key told (OfTwo op left right) can is =
+  each_told key plain told (Constant number) can is = absurd cc
+  each_told key plain told (Named name) can is = subst (IsTold known env near solved) (key_is key (place_key name) can) told
+  each_told key plain told (Indexed name index) can is = absurd cc
+  each_told key plain told (RowNumber name) can is = absurd cc
+  each_told key plain told (RowsOf name) can is = subst (IsTold known env near solved) (key_is key (count_key name) can) told
+  each_told key plain told (BitsAt name start width) can is = absurd cc
+  each_told key plain told (FactOf which) can is = absurd cc
+  each_told key plain told (OfOne op operand) can is = each_told key plain told operand (both_true (undoes_one op) (can_solve key operand) can).1 is
+  each_told key plain told (OfTwo op left right) can is =
       let each = both_true (all_known met (λ other. is_same_key key other || known other) left) _ is in
       by_test (has_key key left) _ _
       (λ there one.
       let second = both_true (undoes_left op && not (has_key key right)) (can_solve key left) one in
       let first = both_true (undoes_left op) (not (has_key key right)) second.0 in
-      (each_told key told left second.1 each.0, all_are_known right (others_known met known key right (not_true (has_key key right) first.1) each.1)))
+      (each_told key plain told left second.1 each.0, all_are_known right (others_known met known key plain right (not_true (has_key key right) first.1) each.1)))
       (λ absent other.
-      (all_are_known left (others_known met known key left absent each.0), each_told key told right (both_true (undoes_right op) (can_solve key right) other).1 each.1))
+      (all_are_known left (others_known met known key plain left absent each.0), each_told key plain told right (both_true (undoes_right op) (can_solve key right) other).1 each.1))
       can
 
 module _ (facts : Facts) (bits : ℤ → ℤ → Option ℤ) (rest : PlainBody) (len : ℕ) (met known : Names) (leads : (key : Key) → met key ≡ true → known key ≡ true) (env : Environment) (near : Environment → Environment) (widens : Widens env near)
@@ -166,11 +156,14 @@ module _ (facts : Facts) (bits : ℤ → ℤ → Option ℤ) (rest : PlainBody) 
   solved key names = solved_at len width key (see facts bits (near names)) term stored
 
   solved_same : (key : Key) → can_solve key term ≡ true → all_known met (λ other. is_same_key key other || known other) term ≡ true
-      → (names : Environment) → Covers known (near names) → IsPartOf names env → solved_value width key (see facts bits (near names)) term stored ≡ solved_value width key (see facts bits env) term stored
-  solved_same (place_of name) can others names covers part = solve_same facts bits met known leads (near names) env covers (widens.part names part) (place_of name) term can others (pos stored)
+      → (names : Environment) → Covers known (near names) → IsKnownOf names env → solved_value width key (see facts bits (near names)) term stored ≡ solved_value width key (see facts bits env) term stored
+  solved_same (place_of name) can others names covers part = solve_same facts bits met known leads (near names) env covers (widens.part names part) (place_of name) refl term can others (pos stored)
   solved_same (count_of name) can others names covers part =
       ap (λ (o : Option ℤ). option_map (λ count. pos (cast_unsigned w64 count % 2 ^ width)) o)
-      (solve_same facts bits met known leads (near names) env covers (widens.part names part) (count_of name) term can others (pos stored))
+      (solve_same facts bits met known leads (near names) env covers (widens.part names part) (count_of name) refl term can others (pos stored))
+  solved_same (rows_of label) can others names covers part = absurd (let wrong = solved_plain (rows_of label) term can in cc)
+  solved_same (place_in label number) can others names covers part = absurd (let wrong = solved_plain (place_in label number) term can in cc)
+  solved_same (row_in array) can others names covers part = absurd (let wrong = solved_plain (row_in array) term can in cc)
 
   -- the value of a place lies in the resource
   solved_in : (key : Key) (sight : Sight) (v : ℤ) → declares rest key ≡ true → env.give key ≡ Some v → solved_value width key sight term stored ≡ Some v → solved_at len width key sight term stored ≡ Some v
@@ -179,6 +172,9 @@ module _ (facts : Facts) (bits : ℤ → ℤ → Option ℤ) (rest : PlainBody) 
       let same : pos it.0 ≡ v = some_same (pos it.0) v (sym it.1 ∙ has) in
       ap (in_resource len) is ∙ subst (λ (x : ℤ). in_resource len (Some x) ≡ Some x) same (in_resource_is len it.0 it.2)
   solved_in (count_of name) sight v declared has is = is
+  solved_in (rows_of label) sight v declared has is = is
+  solved_in (place_in label number) sight v declared has is = is
+  solved_in (row_in array) sight v declared has is = is
 
   key_told : (key : Key) → declares rest key ≡ true → can_solve key term ≡ true → all_known met (λ other. is_same_key key other || known other) term ≡ true → IsTold known env near solved key
   key_told key declared can others = by (known key) refl
@@ -202,8 +198,31 @@ module _ (facts : Facts) (bits : ℤ → ℤ → Option ℤ) (rest : PlainBody) 
       let it = teller rest met known term term tells_it in
       let one = both_true (declares rest it.key && can_solve it.key term) _ it.is in
       let two = both_true (declares rest it.key) (can_solve it.key term) one.0 in
-      each_told met known env near solved it.key (key_told it.key two.0 two.1 one.1) term two.1 one.1)
+      each_told met known env near solved it.key (solved_plain it.key term two.1) (key_told it.key two.0 two.1 one.1) term two.1 one.1)
       is
+
+-- the names that stand in an expression, beside those that are known
+abbrev names_with : Term → Passed → Names
+names_with term passed key = has_key key term || is_known passed key
+
+-- are all its names, where it is read
+its_names : (rest : PlainBody) (term : Term) (passed : Passed) → is_number_read rest passed (Some term) ≡ true → all_known (names_with term passed) (names_with term passed) term ≡ true
+its_names rest term passed reads =
+    let its = names_with term passed in
+    let known = is_known passed in
+    let still : (key : Key) → known key ≡ true → its key ≡ true = (λ key is. right_true (has_key key term) (known key) is) in
+    let met : (key : Key) → passed.met key ≡ true → its key ≡ true = (λ key is. still key (met_known passed key is)) in
+    either_of (all_known passed.met known term) (tells_one rest passed.met known term term)
+    (λ all. still_known passed.met known its its met still term all)
+    (λ tells_it.
+    let it = teller rest passed.met known term term tells_it in
+    let one = both_true (declares rest it.key && can_solve it.key term) _ it.is in
+    let can = (both_true (declares rest it.key) (can_solve it.key term) one.0).1 in
+    still_known passed.met (λ other. is_same_key it.key other || known other) its its met
+    (λ other is. either_of (is_same_key it.key other) (known other)
+    (λ same. left_true (has_key other term) (known other) (sym (ap (λ (key : Key). has_key key term) (key_is it.key other same)) ∙ solved_there it.key term can))
+    (still other) is) term one.1)
+    reads
 
 -- Reading it.
 
@@ -212,11 +231,11 @@ pub record Steps (passed : Passed) (env : Environment) (value : Option Tree) (af
   pub names : Environment
   pub is : step ≡ Some (record { value = value; after = after; names = names; late = late_after })
   pub knows : Knows passed names
-  pub part : IsPartOf names env
+  pub part : IsKnownOf names env
 
 told_knows : (term : Term) (passed : Passed) (names more : Environment) → Knows passed names → IsPartOf names more
     → ((key : Key) → has_key key term ≡ true → is_known passed key ≡ false → (value : ℤ) × (more.give key ≡ Some value)) → Knows (told_by (Some term) passed) more
-told_knows term passed names more knows kept has key is =
+told_knows term passed names more knows kept has key asked is =
     either_of (passed.met key) ((has_key key term && not (is_known passed key)) || passed.told key)
     (λ met. before (left_true (passed.met key) (passed.told key) met))
     (either_of (has_key key term && not (is_known passed key)) (passed.told key)
@@ -225,7 +244,7 @@ told_knows term passed names more knows kept has key is =
     is
   where
     before : is_held passed key ≡ true → (value : ℤ) × (more.give key ≡ Some value)
-    before known = let it = knows key known in (it.0, kept.give key it.0 it.1)
+    before known = let it = knows key asked known in (it.0, kept.give key it.0 it.1)
 
 module _ (back : (width number : ℕ) → number < 2 ^ width → number_of (number_bits width number) ≡ number) (facts : Facts) (all : List Bool) (field : PlainField) (rest : PlainBody) (env : Environment) (first after : ℕ)
     (met : Names) (ahead : Ahead all field rest env first after) where
@@ -235,7 +254,7 @@ module _ (back : (width number : ℕ) → number < 2 ^ width → number_of (numb
   abbrev lateness : Passed → Late → Option Term → ℕ → Bool
   lateness passed late fixed at = is_late_value passed.met late fixed (sees facts all env at)
 
-  free_steps : (passed : Passed) (names : Environment) → Knows passed names → IsPartOf names env → (form : NumForm) (width : ℤ) (value : Option Tree) (bits : List Bool) (at : ℕ) (late : Late)
+  free_steps : (passed : Passed) (names : Environment) → Knows passed names → IsKnownOf names env → (form : NumForm) (width : ℤ) (value : Option Tree) (bits : List Bool) (at : ℕ) (late : Late)
       → IsNumber true passed form width None (sees facts all env at) value bits → take (length bits) (drop at all) ≡ bits → at + length bits ≤ length all
       → Steps passed env value (at + length bits) (late ++ replicate (length bits) false) (number_step (here_at facts all field rest first met) form width None names at late)
   free_steps passed names knows part form width value bits at late (n, is, small, are) there within =
@@ -258,7 +277,16 @@ module _ (back : (width number : ℕ) → number < 2 ^ width → number_of (numb
       let absent = (neither (passed.near key) (is_held passed key) unknown).0 in
       (it.0, sym (near_alone facts all field rest first met more key (sym (ap (λ (near : Names). near key) near_is) ∙ absent)) ∙ it.1)
 
-  fixed_steps : (passed : Passed) (names : Environment) → passed.met ≡ met → passed.near ≡ is_near (field_and field rest) → Knows passed names → IsPartOf names env
+  -- all names of an expression have values then
+  its_covered : (passed : Passed) (names : Environment) → passed.near ≡ is_near (field_and field rest) → Knows passed names → IsKnownOf names env → (term : Term) (more : Environment) → IsPartOf names more
+      → ((key : Key) → has_key key term ≡ true → (value : ℤ) × ((near more).give key ≡ Some value)) → Covers (names_with term passed) (near more)
+  its_covered passed names near_is knows part term more kept has key asked is =
+      either_of (has_key key term) (is_known passed key) (has key)
+      (λ known.
+      let it = near_covers facts all field rest env first after met ahead passed names knows near_is key asked known in
+      (near_widens facts all field rest env first after met ahead).wider names more kept key it.0 it.1) is
+
+  fixed_steps : (passed : Passed) (names : Environment) → passed.met ≡ met → passed.near ≡ is_near (field_and field rest) → Knows passed names → IsKnownOf names env
       → (form : NumForm) (width : ℤ) (term : Term) (value : Option Tree) (bits : List Bool) (at : ℕ) (late : Late) → is_number_read rest passed (Some term) ≡ true
       → IsNumber true passed form width (Some term) (sees facts all env at) value bits → take (length bits) (drop at all) ≡ bits → at + length bits ≤ length all
       → Steps (told_by (Some term) passed) env value (at + length bits) (late ++ replicate (length bits) (lateness passed late (Some term) at))
@@ -275,13 +303,14 @@ module _ (back : (width number : ℕ) → number < 2 ^ width → number_of (numb
       let told = names_told facts seen rest (length all) passed.met (is_known passed) (met_known passed) env near widens ahead.lies w term n v valued solves reads in
       let goes = all_told passed.met (is_known passed) (met_known passed) env near widens (λ key now. solved_at (length all) w key (seen_at here now at) term n) term names
       (near_covers facts all field rest env first after met ahead passed names knows near_is) part told in
-      let its = λ (key : Key). has_key key term in
+      let its = names_with term passed in
+      let covers = its_covered passed names near_is knows part term goes.more goes.kept goes.has in
       let whole = near_part facts all field rest env first after met ahead goes.more goes.part in
-      let all_its = all_of_its its term (λ key has. has) in
-      let now : value_of term (seen_at here goes.more at) ≡ Ok v = value_same facts seen its its (λ key has. has) (near goes.more) env goes.has whole term all_its ∙ valued in
+      let all_its = its_names rest term passed reads in
+      let now : value_of term (seen_at here goes.more at) ≡ Ok v = value_same facts seen its its (λ key has. has) (near goes.more) env covers whole term all_its ∙ valued in
       let later : is_late met late term (seen_at here goes.more at) ≡ lateness passed late (Some term) at =
-      ap (λ (m : Names). is_late m late term (seen_at here goes.more at)) (sym met_is) ∙ late_same facts seen its its (λ key has. has) (near goes.more) env goes.has whole passed.met late term all_its in
-      let same : (n == n) ≡ true = grind (arith, nat_tests) in
+      ap (λ (m : Names). is_late m late term (seen_at here goes.more at)) (sym met_is) ∙ late_same facts seen its its (λ key has. has) (near goes.more) env covers whole passed.met late term all_its in
+      let same : (n == n) ≡ true = itself n in
       let stored : is_stored form width (value_of term (seen_at here goes.more at)) n ≡ true =
       ap (λ (r : Result ℤ EvalFault). is_stored form width r n) now ∙ ap (λ (b : Bool). b && (n == n)) fits ∙ same in
       let answer = λ (more : Environment).
@@ -298,7 +327,7 @@ module _ (back : (width number : ℕ) → number < 2 ^ width → number_of (numb
         part = goes.part;
       }
 
-  pub number_steps : (passed : Passed) (names : Environment) → passed.met ≡ met → passed.near ≡ is_near (field_and field rest) → Knows passed names → IsPartOf names env
+  pub number_steps : (passed : Passed) (names : Environment) → passed.met ≡ met → passed.near ≡ is_near (field_and field rest) → Knows passed names → IsKnownOf names env
       → (form : NumForm) (width : ℤ) (fixed : Option Term) (value : Option Tree) (bits : List Bool) (at : ℕ) (late : Late) → is_number_read rest passed fixed ≡ true
       → IsNumber true passed form width fixed (sees facts all env at) value bits → take (length bits) (drop at all) ≡ bits → at + length bits ≤ length all
       → Steps (told_by fixed passed) env value (at + length bits) (late ++ replicate (length bits) (lateness passed late fixed at))

@@ -27,7 +27,8 @@ use Rattle.rz_unlay.proofs.ReadsBits.{length_zeros, zeros_found}
 use Rattle.rz_unlay.proofs.ReadsNumber.{number_steps, Knows, Steps}
 use Rattle.rz_unlay.proofs.ReadsTests.{both_true, some_same}
 use Rattle.rz_unlay.proofs.ReadsText.{text_steps, EndsAt}
-use Rattle.rz_unlay.proofs.Told.{also_part}
+use Rattle.rz_unlay.proofs.Sees.{IsKnownOf}
+use Rattle.rz_unlay.proofs.Told.{also_known}
 
 -- One piece.
 
@@ -121,9 +122,9 @@ still_near (Some term) passed = refl
 -- the reader is behind pieces, with their values
 record Finds (passed : Passed) (env : Environment) (values : List Tree) (after : ℕ) (late_after : Late) (found : Option Found) : Type 0 where
   names : Environment
-  is : found ≡ Some (record { row = values; after = after; names = names; late = late_after })
+  is : found ≡ Some (record { row = values; places = []; after = after; names = names; late = late_after })
   knows : Knows passed names
-  part : IsPartOf names env
+  part : IsKnownOf names env
 
 module _ (back : (width number : ℕ) → number < 2 ^ width → number_of (number_bits width number) ≡ number) (facts : Facts) (all : List Bool) (env : Environment) (outermost : Bool) (field : PlainField) (rest : PlainBody)
     (first end : ℕ) (met : Names) (ahead : Ahead all field rest env first end) where
@@ -131,7 +132,7 @@ module _ (back : (width number : ℕ) → number < 2 ^ width → number_of (numb
   here = here_at facts all field rest first met
 
   one_number : (number : PlainNumber) (passed : Passed) (names : Environment) (value : Option Tree) (at : ℕ) (late : Late) (after : ℕ) (late_after : Late)
-      → passed.met ≡ met → passed.near ≡ is_near (field_and field rest) → Knows passed names → IsPartOf names env → is_number_read rest passed number.fixed ≡ true
+      → passed.met ≡ met → passed.near ≡ is_near (field_and field rest) → Knows passed names → IsKnownOf names env → is_number_read rest passed number.fixed ≡ true
       → PieceSpells true facts all env passed (OneNumber number) value at late after late_after → after ≤ length all
       → Steps (behind_piece (OneNumber number) passed) env value after late_after (piece_step here (OneNumber number) names at late)
   one_number number passed names value at late after late_after met_is near_is knows part reads it within =
@@ -145,12 +146,12 @@ module _ (back : (width number : ℕ) → number < 2 ^ width → number_of (numb
       }
 
   numbers_go : (pieces : List Piece) (passed : Passed) (names : Environment) (values : List Tree) (at : ℕ) (late : Late) (after : ℕ) (late_after : Late)
-      → AreNumbers pieces → passed.met ≡ met → passed.near ≡ is_near (field_and field rest) → Knows passed names → IsPartOf names env → are_pieces_read outermost rest passed pieces ≡ true
+      → AreNumbers pieces → passed.met ≡ met → passed.near ≡ is_near (field_and field rest) → Knows passed names → IsKnownOf names env → are_pieces_read outermost rest passed pieces ≡ true
       → InOrder (PieceSpells true facts all env) passed pieces values at late after late_after → after ≤ length all
       → Finds (behind_pieces pieces passed) env values after late_after (pieces_found here pieces names at late)
   numbers_go [] passed names values at late after late_after are met_is near_is knows part reads it within = record {
     names = names;
-    is = λ i. Some (record { row = sym it.0 i; after = sym it.1 i; names = names; late = sym it.2 i });
+    is = λ i. Some (record { row = sym it.0 i; places = []; after = sym it.1 i; names = names; late = sym it.2 i });
     knows = knows;
     part = part;
   }
@@ -163,7 +164,7 @@ module _ (back : (width number : ℕ) → number < 2 ^ width → number_of (numb
         names = others.names;
         is = ap (option_and_then (λ step. with_value step.value (pieces_found here pieces step.names step.after step.late))) one.is
             ∙ ap (with_value it.0) others.is
-            ∙ (λ i. Some (record { row = sym it.4 i; after = after; names = others.names; late = late_after }));
+            ∙ (λ i. Some (record { row = sym it.4 i; places = []; after = after; names = others.names; late = late_after }));
         knows = others.knows;
         part = others.part;
       }
@@ -189,7 +190,7 @@ group_again (Some terms) value is = sym is
 module _ (read : (width number : ℕ) → number_of (number_bits width number) ≡ number % 2 ^ width) (written : (bits : List Bool) → number_bits (length bits) (number_of bits) ≡ bits)
     (again : (bytes : List ℕ) → ((k : ℕ) → slice_index bytes k < 256) → bytes_of (bits_of bytes) ≡ bytes)
     (back : (width number : ℕ) → number < 2 ^ width → number_of (number_bits width number) ≡ number) (facts : Facts) (all : List Bool) (env : Environment) (outermost : Bool) (rest : PlainBody)
-    (passed : Passed) (names : Environment) (knows : Knows passed names) (part : IsPartOf names env) (value : Option Tree) (at : ℕ) (late : Late) (after : ℕ) (late_after : Late)
+    (passed : Passed) (names : Environment) (knows : Knows passed names) (part : IsKnownOf names env) (value : Option Tree) (at : ℕ) (late : Late) (after : ℕ) (late_after : Late)
     (within : after ≤ length all) where
   -- what is passed at the field
   abbrev there : PlainField → Passed
@@ -275,11 +276,11 @@ module _ (read : (width number : ℕ) → number_of (number_bits width number) �
 
   -- behind a label its place is known
   label_knows : (name : Word) → Knows (behind (Label name) (there (Label name))) (also (place_key name.bytes) (pos at) names)
-  label_knows name key is = by (stands_at name.bytes key) is
+  label_knows name key asked is = by (stands_at name.bytes key) is
     where
       by : (test : Bool) → ((test || passed.met key) || passed.told key) ≡ true → (v : ℤ) × ((if test then Some (pos at) else names.give key) ≡ Some v)
       by true is = (pos at, refl)
-      by false is = knows key is
+      by false is = knows key asked is
 
   pub label_field : (name : Word) → FieldSpells true facts all (Label name) env (there (Label name)) value at late after late_after
       → Steps (behind (Label name) (there (Label name))) env value after late_after (found (Label name))
@@ -294,7 +295,7 @@ module _ (read : (width number : ℕ) → number_of (number_bits width number) �
       record {
         names = also key (pos at) names;
         is = field_one (here_at facts all field rest at passed.met) (Place name) names (also key (pos at) names) value one.value at after late late_after
-            (label_goes name names env at after late late_after one.value part stands.stored.1 stands.stored.0 ends marks) one.are;
+            (label_goes name names env at after late late_after one.value part.part stands.stored.1 stands.stored.0 ends marks) one.are;
         knows = label_knows name;
-        part = also_part key (pos at) names env part stands.stored.1;
+        part = also_known key (pos at) names env refl part stands.stored.1;
       }

@@ -1,33 +1,71 @@
 -- The rows of an array are read, and their number is known behind it.
-use Rattle.std.proofs.Common.{◌≡◌, ℕ, zero, suc, ◌+◌, ◌-◌, ◌<◌, ◌≤◌, ◌==◌, ℤ, pos, Bool, true, false, ◌&&◌, ◌||◌, List, [], ◌∷◌, length, Option, Some, None, refl, sym, ap, ◌∙◌, arith}
-use Rattle.std.specs.Prelude.{if◌then◌else◌, nat_le, nat_lt, option_and_then, option_map}
+use Rattle.std.proofs.Common.{◌≡◌, ℕ, zero, suc, ◌+◌, ◌-◌, ◌<◌, ◌≤◌, ◌==◌, ℤ, pos, Bool, true, false, ◌&&◌, ◌||◌, List, [], ◌∷◌, length, Option, Some, None, refl, sym, ap, ◌∙◌, subst, arith}
+use Rattle.std.specs.Prelude.{◌*◌, ◌++◌, if◌then◌else◌, int_le, nat_abs, nat_le, nat_lt, option_and_then, option_map, slice_get}
 use Rattle.std.specs.Option.{is_some}
 use Rattle.std.specs.Str.{str_to_ascii_lowercase}
 use Rattle.std.proofs.lemmas.Bool.Decides.{Decides-int_eq, nat_tests}
 use Rattle.rz_core.specs.declared.resource.Word.{Word}
-use Rattle.rz_expr.specs.Environment.{count_key, count_of, place_of, Environment, IsPartOf, Key}
+use Rattle.rz_expr.specs.Environment.{count_key, count_of, place_in, place_of, row_in, rows_of, Environment, IsPartOf, Key}
 use Rattle.rz_types_fields.specs.declared.tree.Tree.{Tree}
 use Rattle.rz_types_fields.specs.Row.{IsStated}
 use Rattle.rz_types_fields.specs.Sees.{Late}
-use Rattle.rz_types_fields.specs.Spells.{IsCounted, RowSpells, RowsSpell}
-use Rattle.rz_types_fields.specs.Field.{field_and, no_fields, Align, Array, Fill, Label, Number, PlainBody, PlainField, Points, Switch, Text}
-use Rattle.rz_types_fields.specs.Passed.{declares, gives_count, is_held, is_label, is_measured, is_near, Passed}
+use Rattle.rz_types_fields.specs.RowLabels.{also_rows, label_index, labels_count, row_value}
+use Rattle.rz_types_fields.specs.Spells.{AreRows, IsCounted, RowSpells, RowsSpell}
+use Rattle.rz_types_fields.specs.Field.{Array, PlainBody}
+use Rattle.rz_types_fields.specs.Passed.{behind, declares, gives_count, gives_rows, has_label, is_held, Passed}
 use Rattle.rz_types_fields.specs.Width.{fixed_widths}
 use Rattle.rz_types.specs.Readable.{ends_at_end, ends_at_label, is_count_known, least_widths, rows_end}
 use Rattle.rz_unlay_pieces.specs.Ahead.{told_label, Told}
 use Rattle.rz_unlay_pieces.specs.Pieces.{agrees, also, claim_count, known_count}
-use Rattle.rz_unlay.specs.Cursor.{and_lines, count_known, no_lines, open_rows, rows_at, rows_by, rows_to, rows_while, up_to_end, up_to_label, Lines, ReadsRow}
+use Rattle.rz_unlay.specs.Cursor.{and_lines, count_known, no_lines, open_rows, rows_at, rows_by, rows_to, rows_while, up_to_end, up_to_label, Line, Lines, ReadsRow}
+use Rattle.rz_types_fields.proofs.RowPlaces.{no_rows_have, row_value_is, rows_have, RowHas, RowsHave}
+use Rattle.rz_unlay.proofs.Asked.{is_asked}
 use Rattle.rz_unlay.proofs.Near.{told_there}
 use Rattle.rz_unlay.proofs.ReadsNumber.{Knows}
-use Rattle.rz_unlay.proofs.ReadsTests.{below, both_true, either_of, itself, not_below, right_true, some_is, there_is}
+use Rattle.rz_unlay.proofs.ReadsTests.{below, both_true, either_of, if_false, if_true, itself, not_below, right_true, some_is, there_is}
 use Rattle.rz_unlay.proofs.ReadsText.{EndsAt}
-use Rattle.rz_unlay.proofs.Told.{also_part}
+use Rattle.rz_unlay.proofs.Sees.{IsKnownOf}
+use Rattle.rz_unlay.proofs.Told.{also_known}
+
+-- a row is read, and the labels in it stand at these places
+pub record LineFound (row : PlainBody) (names : Environment) (number : ℕ) (line : List Tree) (after : ℕ) (late : Late) (found : Option Line) : Type 0 where
+  pub places : List ℤ
+  pub is : found ≡ Some (record { row = line; places = places; after = after; late = late })
+  pub has : RowHas row names number places
+
+-- so are rows, of which the first has this number
+pub record LinesFound (row : PlainBody) (names : Environment) (number : ℕ) (rows : List (List Tree)) (after : ℕ) (late : Late) (found : Option Lines) : Type 0 where
+  pub places : List ℤ
+  pub is : found ≡ Some (record { rows = rows; places = places; after = after; late = late })
+  pub have : RowsHave row names number (length rows) places
+
+none_found : (row : PlainBody) (names : Environment) (number at : ℕ) (late : Late) (after : ℕ) (late_after : Late) (found : Option Lines) → found ≡ Some (no_lines at late) → after ≡ at → late_after ≡ late
+    → LinesFound row names number [] after late_after found
+none_found row names number at late after late_after found is ends marks = record {
+  places = [];
+  is = is ∙ (λ i. Some (record { rows = []; places = []; after = sym ends i; late = sym marks i }));
+  have = no_rows_have row names number;
+}
+
+-- one row and those behind it
+and_found : (row : PlainBody) (names : Environment) (number : ℕ) (line : List Tree) (rows : List (List Tree)) (mid : ℕ) (late_mid : Late) (after : ℕ) (late : Late) (first : Option Line) (next : Line → Option Lines) (found : Option Lines)
+    → found ≡ option_and_then (λ line. option_map (and_lines line) (next line)) first → LineFound row names number line mid late_mid first
+    → ((places : List ℤ) → LinesFound row names (number + 1) rows after late (next (record { row = line; places = places; after = mid; late = late_mid })))
+    → LinesFound row names number (line ∷ rows) after late found
+and_found row names number line rows mid late_mid after late first next found so one others =
+    let own : Line = record { row = line; places = one.places; after = mid; late = late_mid } in
+    let more = others one.places in
+    record {
+      places = one.places ++ more.places;
+      is = so ∙ ap (option_and_then (λ line. option_map (and_lines line) (next line))) one.is ∙ ap (option_map (and_lines own)) more.is;
+      have = rows_have row names number (length rows) one.places more.places one.has more.have;
+    }
 
 -- Rows one behind the other.
 
-module _ (f : ReadsRow) (Row : ℕ → List Tree → RowSpells) (least last : ℕ)
+module _ (row : PlainBody) (env : Environment) (f : ReadsRow) (Row : ℕ → List Tree → RowSpells) (least last : ℕ)
     (one : (number : ℕ) (line : List Tree) (at : ℕ) (late : Late) (after : ℕ) (late_after : Late) → after ≤ last → Row number line at late after late_after
-    → f number at late ≡ Some (record { row = line; after = after; late = late_after }))
+    → LineFound row env number line after late_after (f number at late))
     (rise : (number : ℕ) (line : List Tree) (at : ℕ) (late : Late) (after : ℕ) (late_after : Late) → Row number line at late after late_after → at + least ≤ after) where
   rows_rise : (number : ℕ) (rows : List (List Tree)) (at : ℕ) (late : Late) (after : ℕ) (late_after : Late) → RowsSpell Row number rows at late after late_after → at ≤ after
   rows_rise number [] at late after late_after it = let e = it.0 in omega (arith, e)
@@ -37,52 +75,50 @@ module _ (f : ReadsRow) (Row : ℕ → List Tree → RowSpells) (least last : �
       omega (arith, first, rest)
 
   rows_again : (number : ℕ) (rows : List (List Tree)) (at : ℕ) (late : Late) (after : ℕ) (late_after : Late) → after ≤ last → RowsSpell Row number rows at late after late_after
-      → rows_at f (length rows) number at late ≡ Some (record { rows = rows; after = after; late = late_after })
-  rows_again number [] at late after late_after within it = λ i. Some (record { rows = []; after = sym it.0 i; late = sym it.1 i })
-  rows_again number (row ∷ rows) at late after late_after within it =
+      → LinesFound row env number rows after late_after (rows_at f (length rows) number at late)
+  rows_again number [] at late after late_after within it = none_found row env number at late after late_after (rows_at f 0 number at late) refl it.0 it.1
+  rows_again number (line ∷ rows) at late after late_after within it =
       let rest = rows_rise (number + 1) rows it.0 it.1 after late_after it.3 in
-      ap (option_and_then (λ line. option_map (and_lines line) (rows_at f (length rows) (number + 1) line.after line.late))) (one number row at late it.0 it.1 (omega (arith, rest, within)) it.2)
-      ∙ ap (option_map (and_lines (record { row = row; after = it.0; late = it.1 }))) (rows_again (number + 1) rows it.0 it.1 after late_after within it.3)
+      and_found row env number line rows it.0 it.1 after late_after (f number at late) (λ line. rows_at f (length rows) (number + 1) line.after line.late) (rows_at f (length (line ∷ rows)) number at late) refl
+      (one number line at late it.0 it.1 (omega (arith, rest, within)) it.2) (λ places. rows_again (number + 1) rows it.0 it.1 after late_after within it.3)
 
   while_again : (stop most number : ℕ) (rows : List (List Tree)) (at : ℕ) (late : Late) (after : ℕ) (late_after : Late) → after ≤ last → RowsSpell Row number rows at late after late_after
-      → 8 ≤ least → after ≤ stop → stop < after + 8 → after < at + most → rows_while f stop most number at late ≡ Some (record { rows = rows; after = after; late = late_after })
+      → 8 ≤ least → after ≤ stop → stop < after + 8 → after < at + most → LinesFound row env number rows after late_after (rows_while f stop most number at late)
   while_again stop zero number rows at late after late_after within it low before over fuel =
       let rest = rows_rise number rows at late after late_after it in absurd (omega (arith, rest, fuel))
   while_again stop (suc most) number [] at late after late_after within it low before over fuel =
       let e = it.0 in
       let test : nat_lt stop (at + 8) ≡ true = below stop (at + 8) (omega (arith, e, over)) in
-      ap (λ (b : Bool). if b then Some (no_lines at late) else option_and_then (λ line. option_map (and_lines line) (rows_while f stop most (number + 1) line.after line.late)) (f number at late)) test
-      ∙ (λ i. Some (record { rows = []; after = sym e i; late = sym it.1 i }))
-  while_again stop (suc most) number (row ∷ rows) at late after late_after within it low before over fuel =
-      let first = rise number row at late it.0 it.1 it.2 in
+      none_found row env number at late after late_after (rows_while f stop (suc most) number at late)
+      (if_true (nat_lt stop (at + 8)) (Some (no_lines at late)) (option_and_then (λ line. option_map (and_lines line) (rows_while f stop most (number + 1) line.after line.late)) (f number at late)) test) it.0 it.1
+  while_again stop (suc most) number (line ∷ rows) at late after late_after within it low before over fuel =
+      let first = rise number line at late it.0 it.1 it.2 in
       let rest = rows_rise (number + 1) rows it.0 it.1 after late_after it.3 in
       let test : nat_lt stop (at + 8) ≡ false = not_below stop (at + 8) (omega (arith, first, rest, low, before)) in
-      ap (λ (b : Bool). if b then Some (no_lines at late) else option_and_then (λ line. option_map (and_lines line) (rows_while f stop most (number + 1) line.after line.late)) (f number at late)) test
-      ∙ ap (option_and_then (λ line. option_map (and_lines line) (rows_while f stop most (number + 1) line.after line.late))) (one number row at late it.0 it.1 (omega (arith, rest, within)) it.2)
-      ∙ ap (option_map (and_lines (record { row = row; after = it.0; late = it.1 })))
-      (while_again stop most (number + 1) rows it.0 it.1 after late_after within it.3 low before over (omega (arith, first, low, fuel)))
+      and_found row env number line rows it.0 it.1 after late_after (f number at late) (λ line. rows_while f stop most (number + 1) line.after line.late) (rows_while f stop (suc most) number at late)
+      (if_false (nat_lt stop (at + 8)) (Some (no_lines at late)) (option_and_then (λ line. option_map (and_lines line) (rows_while f stop most (number + 1) line.after line.late)) (f number at late)) test)
+      (one number line at late it.0 it.1 (omega (arith, rest, within)) it.2)
+      (λ places. while_again stop most (number + 1) rows it.0 it.1 after late_after within it.3 low before over (omega (arith, first, low, fuel)))
 
   to_again : (stop most number : ℕ) (rows : List (List Tree)) (at : ℕ) (late : Late) (after : ℕ) (late_after : Late) → after ≤ last → RowsSpell Row number rows at late after late_after
-      → 1 ≤ least → after ≡ stop → after < at + most → rows_to f stop most number at late ≡ Some (record { rows = rows; after = after; late = late_after })
+      → 1 ≤ least → after ≡ stop → after < at + most → LinesFound row env number rows after late_after (rows_to f stop most number at late)
   to_again stop zero number rows at late after late_after within it low ends fuel =
       let rest = rows_rise number rows at late after late_after it in absurd (omega (arith, rest, fuel))
   to_again stop (suc most) number [] at late after late_after within it low ends fuel =
       let e = it.0 in
       let test : nat_lt at stop ≡ false = not_below at stop (omega (arith, e, ends)) in
       let there : (at == stop) ≡ true = ap (λ (n : ℕ). n == stop) (sym e ∙ ends) ∙ itself stop in
-      ap (λ (b : Bool). if b then option_and_then (λ line. option_map (and_lines line) (rows_to f stop most (number + 1) line.after line.late)) (f number at late)
-      else if at == stop then Some (no_lines at late) else None) test
-      ∙ ap (λ (b : Bool). if b then Some (no_lines at late) else None) there
-      ∙ (λ i. Some (record { rows = []; after = sym e i; late = sym it.1 i }))
-  to_again stop (suc most) number (row ∷ rows) at late after late_after within it low ends fuel =
-      let first = rise number row at late it.0 it.1 it.2 in
+      none_found row env number at late after late_after (rows_to f stop (suc most) number at late)
+      (if_false (nat_lt at stop) (option_and_then (λ line. option_map (and_lines line) (rows_to f stop most (number + 1) line.after line.late)) (f number at late)) (if at == stop then Some (no_lines at late) else None) test
+      ∙ ap (λ (b : Bool). if b then Some (no_lines at late) else None) there) it.0 it.1
+  to_again stop (suc most) number (line ∷ rows) at late after late_after within it low ends fuel =
+      let first = rise number line at late it.0 it.1 it.2 in
       let rest = rows_rise (number + 1) rows it.0 it.1 after late_after it.3 in
       let test : nat_lt at stop ≡ true = below at stop (omega (arith, first, rest, low, ends)) in
-      ap (λ (b : Bool). if b then option_and_then (λ line. option_map (and_lines line) (rows_to f stop most (number + 1) line.after line.late)) (f number at late)
-      else if at == stop then Some (no_lines at late) else None) test
-      ∙ ap (option_and_then (λ line. option_map (and_lines line) (rows_to f stop most (number + 1) line.after line.late))) (one number row at late it.0 it.1 (omega (arith, rest, within)) it.2)
-      ∙ ap (option_map (and_lines (record { row = row; after = it.0; late = it.1 })))
-      (to_again stop most (number + 1) rows it.0 it.1 after late_after within it.3 low ends (omega (arith, first, low, fuel)))
+      and_found row env number line rows it.0 it.1 after late_after (f number at late) (λ line. rows_to f stop most (number + 1) line.after line.late) (rows_to f stop (suc most) number at late)
+      (if_true (nat_lt at stop) (option_and_then (λ line. option_map (and_lines line) (rows_to f stop most (number + 1) line.after line.late)) (f number at late)) (if at == stop then Some (no_lines at late) else None) test)
+      (one number line at late it.0 it.1 (omega (arith, rest, within)) it.2)
+      (λ places. to_again stop most (number + 1) rows it.0 it.1 after late_after within it.3 low ends (omega (arith, first, low, fuel)))
 
 -- Their number.
 
@@ -92,29 +128,11 @@ known_is None rows names env v part counted is = absurd cc
 known_is (Some name) rows names env v part counted is = some_is v (pos rows) (sym (part.give (count_key name.bytes) v is) ∙ counted)
 
 -- no number of rows is near
-not_label : (field : PlainField) (name : List ℕ) → is_label field (count_of name) ≡ false
-not_label (Number number) name = refl
-not_label (Text text) name = refl
-not_label (Points points) name = refl
-not_label (Fill unit count) name = refl
-not_label (Align unit) name = refl
-not_label (Label own) name = refl
-not_label (Array own count row) name = refl
-not_label (Switch cases) name = refl
-
-pub not_near : (body : PlainBody) (name : List ℕ) → is_near body (count_of name) ≡ false
-not_near no_fields name = refl
-not_near (field_and field fields) name = (λ i. not_label field name i || (is_measured field && not_near fields name i)) ∙ no_more (is_measured field)
-  where
-    no_more : (test : Bool) → (false || (test && false)) ≡ false
-    no_more true = refl
-    no_more false = refl
-
 count_given : (passed : Passed) (name : Option Word) (names : Environment) → ((own : List ℕ) → passed.near (count_of own) ≡ false) → Knows passed names → is_count_known passed name ≡ true
     → (v : ℤ) × (known_count name names ≡ Some v)
 count_given passed None names apart knows is = absurd cc
 count_given passed (Some name) names apart knows is =
-    knows (count_key name.bytes) (held (passed.near (count_key name.bytes)) (apart (str_to_ascii_lowercase name.bytes)) (is_held passed (count_key name.bytes)) is)
+    knows (count_key name.bytes) refl (held (passed.near (count_key name.bytes)) (apart (str_to_ascii_lowercase name.bytes)) (is_held passed (count_key name.bytes)) is)
   where
     held : (near : Bool) → near ≡ false → (others : Bool) → (near || others) ≡ true → others ≡ true
     held true none others is = absurd cc
@@ -130,22 +148,22 @@ Lies all rest env = (name : List ℕ) → declares rest (place_of name) ≡ true
 abbrev pub Stops : List Bool → PlainBody → Environment → ℕ → Type 0
 Stops all rest env after = (names : Environment) → IsPartOf names env → (told : Told) → told_label (length all) rest names ≡ Some told → told.place ≡ after + told.width
 
-module _ (f : ReadsRow) (Row : ℕ → List Tree → RowSpells) (least last : ℕ)
+module _ (row : PlainBody) (env : Environment) (f : ReadsRow) (Row : ℕ → List Tree → RowSpells) (least last : ℕ)
     (one : (number : ℕ) (line : List Tree) (at : ℕ) (late : Late) (after : ℕ) (late_after : Late) → after ≤ last → Row number line at late after late_after
-    → f number at late ≡ Some (record { row = line; after = after; late = late_after }))
+    → LineFound row env number line after late_after (f number at late))
     (rise : (number : ℕ) (line : List Tree) (at : ℕ) (late : Late) (after : ℕ) (late_after : Late) → Row number line at late after late_after → at + least ≤ after)
-    (outermost : Bool) (all : List Bool) (rest row : PlainBody) (name : Option Word) (rows : List (List Tree)) (names env : Environment) (passed : Passed)
-    (at : ℕ) (late : Late) (after : ℕ) (late_after : Late) (low : least ≡ least_widths row) (apart : (own : List ℕ) → passed.near (count_of own) ≡ false) (knows : Knows passed names) (part : IsPartOf names env)
+    (outermost : Bool) (all : List Bool) (rest : PlainBody) (name : Option Word) (rows : List (List Tree)) (names : Environment) (passed : Passed)
+    (at : ℕ) (late : Late) (after : ℕ) (late_after : Late) (low : least ≡ least_widths row) (apart : (own : List ℕ) → passed.near (count_of own) ≡ false) (knows : Knows passed names) (part : IsKnownOf names env)
     (it : RowsSpell Row 1 rows at late after late_after) (within : after ≤ last) (inside : after ≤ length all) where
   abbrev AreFound : Option Lines → Type 0
-  AreFound found = found ≡ Some (record { rows = rows; after = after; late = late_after })
+  AreFound found = LinesFound row env 1 rows after late_after found
 
   -- up to a label whose place is told
   at_label : (told : Told) → told.place ≡ after + told.width → 1 ≤ least → AreFound (up_to_label f (length all) told at late)
   at_label told stands wide =
       let fits : nat_lt told.place told.width ≡ false = not_below told.place told.width (omega (arith, stands)) in
-      ap (λ (test : Bool). if test then None else rows_to f (told.place - told.width) (suc (length all)) 1 at late) fits
-      ∙ to_again f Row least last one rise (told.place - told.width) (suc (length all)) 1 rows at late after late_after within it wide (omega (arith, stands)) (omega (arith, inside))
+      subst AreFound (sym (if_false (nat_lt told.place told.width) None (rows_to f (told.place - told.width) (suc (length all)) 1 at late) fits))
+      (to_again row env f Row least last one rise (told.place - told.width) (suc (length all)) 1 rows at late after late_after within it wide (omega (arith, stands)) (omega (arith, inside)))
 
   -- up to the end of the resource
   at_end : EndsAt outermost all rest after → ends_at_end outermost rest ≡ true → 8 ≤ least → AreFound (up_to_end f (length all) (fixed_widths rest) at late)
@@ -156,14 +174,15 @@ module _ (f : ReadsRow) (Row : ℕ → List Tree → RowSpells) (least last : �
       let a = there.0 in
       let b = there.1 in
       let fits : nat_lt (length all) width.0 ≡ false = not_below (length all) width.0 (omega (arith, a)) in
-      ap (λ (o : Option ℕ). up_to_end f (length all) o at late) width.1
-      ∙ ap (λ (test : Bool). if test then None else rows_while f (length all - width.0) (suc (length all)) 1 at late) fits
-      ∙ while_again f Row least last one rise (length all - width.0) (suc (length all)) 1 rows at late after late_after within it wide (omega (arith, a)) (omega (arith, a, b)) (omega (arith, inside))
+      subst AreFound
+      (sym (ap (λ (o : Option ℕ). up_to_end f (length all) o at late) width.1
+      ∙ if_false (nat_lt (length all) width.0) None (rows_while f (length all - width.0) (suc (length all)) 1 at late) fits))
+      (while_again row env f Row least last one rise (length all - width.0) (suc (length all)) 1 rows at late after late_after within it wide (omega (arith, a)) (omega (arith, a, b)) (omega (arith, inside)))
 
   -- where no label is told no label ends them
   no_label : (told_label (length all) rest names ≡ None) → Lies all rest env → ends_at_label rest passed.told ≡ true → ⊥
   no_label is lies ends =
-      let there = told_there (length all) passed.told names env (λ key told. knows key (right_true (passed.met key) (passed.told key) told)) part rest lies ends in
+      let there = told_there (length all) passed.told names env (λ key asked told. knows key asked (right_true (passed.met key) (passed.told key) told)) part.part rest lies ends in
       let wrong = sym is ∙ there.1 in cc
 
   -- whatever ends them, each is at least so wide
@@ -189,7 +208,7 @@ module _ (f : ReadsRow) (Row : ℕ → List Tree → RowSpells) (least last : �
           (λ is. (let wide = low_end is in omega (arith, wide))) ends
 
       by : (o : Option Told) → told_label (length all) rest names ≡ o → AreFound (open_rows f (length all) o (fixed_widths rest) at late)
-      by (Some told) is = at_label told (stops names part told is) wide_one
+      by (Some told) is = at_label told (stops names part.part told is) wide_one
       by None is =
           either_of ((is_count_known passed name && nat_le 1 (least_widths row)) || (ends_at_label rest passed.told && nat_le 1 (least_widths row))) (ends_at_end outermost rest && nat_le 8 (least_widths row))
           (either_of (is_count_known passed name && nat_le 1 (least_widths row)) (ends_at_label rest passed.told && nat_le 1 (least_widths row)) (λ known. absurd (known_one known))
@@ -199,13 +218,14 @@ module _ (f : ReadsRow) (Row : ℕ → List Tree → RowSpells) (least last : �
   pub rows_go : (count : Option ℤ) → rows_end outermost rest passed name count row ≡ true → IsStated count (length rows) → IsCounted name (length rows) env
       → Lies all rest env → Stops all rest env after → EndsAt outermost all rest after → AreFound (rows_by f (length all) rest names (count_known names name count) at late)
   rows_go (Some count) ends stated counted lies stops end =
-      ap (λ (c : ℤ). rows_by f (length all) rest names (Some c) at late) stated ∙ rows_again f Row least last one rise 1 rows at late after late_after within it
+      subst AreFound (sym (ap (λ (c : ℤ). rows_by f (length all) rest names (Some c) at late) stated))
+      (rows_again row env f Row least last one rise 1 rows at late after late_after within it)
   rows_go None ends stated counted lies stops end = by (known_count name names) refl
     where
       by : (o : Option ℤ) → known_count name names ≡ o → AreFound (rows_by f (length all) rest names o at late)
       by (Some v) is =
-          ap (λ (c : ℤ). rows_by f (length all) rest names (Some c) at late) (known_is name (length rows) names env v part counted is)
-          ∙ rows_again f Row least last one rise 1 rows at late after late_after within it
+          subst AreFound (sym (ap (λ (c : ℤ). rows_by f (length all) rest names (Some c) at late) (known_is name (length rows) names env v part.part counted is)))
+          (rows_again row env f Row least last one rise 1 rows at late after late_after within it)
       by None is = open_go is ends lies stops end
 
 -- Behind the array.
@@ -217,28 +237,91 @@ pub record Claims (passed : Passed) (env : Environment) (name : Option Word) (ro
   pub more : Environment
   pub is : claim_count name rows names ≡ Some more
   pub knows : Knows (passed_behind passed name) more
-  pub part : IsPartOf more env
+  pub part : IsKnownOf more env
+
+without_own : (own met told : Bool) → own ≡ false → ((own || met) || told) ≡ true → (met || told) ≡ true
+without_own true met told none is = absurd cc
+without_own false met told none is = is
 
 -- the number that is known agrees with that of the rows
 agrees_there : (o : Option ℤ) (value : ℤ) → ((v : ℤ) → o ≡ Some v → v ≡ value) → agrees o value ≡ true
 agrees_there None value same = refl
 agrees_there (Some v) value same = (Decides-int_eq v value).1 (same v refl)
 
-pub count_claims : (passed : Passed) (env : Environment) (name : Option Word) (rows : ℕ) (names : Environment) → Knows passed names → IsPartOf names env → IsCounted name rows env
+pub count_claims : (passed : Passed) (env : Environment) (name : Option Word) (rows : ℕ) (names : Environment) → Knows passed names → IsKnownOf names env → IsCounted name rows env
     → Claims passed env name rows names
 count_claims passed env None rows names knows part counted = record { more = names; is = refl; knows = knows; part = part }
 count_claims passed env (Some name) rows names knows part counted = record {
   more = also (count_key name.bytes) (pos rows) names;
   is = ap (λ (b : Bool). if b then Some (also (count_key name.bytes) (pos rows) names) else None)
-      (agrees_there (names.give (count_key name.bytes)) (pos rows) (λ v is. known_is (Some name) rows names env v part counted is));
-  knows = λ key is. by key (gives_count (Some name) key) refl is;
-  part = also_part (count_key name.bytes) (pos rows) names env part counted;
+      (agrees_there (names.give (count_key name.bytes)) (pos rows) (λ v is. known_is (Some name) rows names env v part.part counted is));
+  knows = λ key asked is. by key asked (gives_count (Some name) key) refl is;
+  part = also_known (count_key name.bytes) (pos rows) names env refl part counted;
 }
   where
-    without_own : (own met told : Bool) → own ≡ false → ((own || met) || told) ≡ true → (met || told) ≡ true
-    without_own true met told none is = absurd cc
-    without_own false met told none is = is
+    by : (key : Key) → is_asked key ≡ true → (own : Bool) → gives_count (Some name) key ≡ own → ((gives_count (Some name) key || passed.met key) || passed.told key) ≡ true
+        → (v : ℤ) × ((if own then Some (pos rows) else names.give key) ≡ Some v)
+    by key asked true gives is = (pos rows, refl)
+    by key asked false none is = knows key asked (without_own (gives_count (Some name) key) (passed.met key) (passed.told key) none is)
 
-    by : (key : Key) (own : Bool) → gives_count (Some name) key ≡ own → ((gives_count (Some name) key || passed.met key) || passed.told key) ≡ true → (v : ℤ) × ((if own then Some (pos rows) else names.give key) ≡ Some v)
-    by key true gives is = (pos rows, refl)
-    by key false none is = knows key (without_own (gives_count (Some name) key) (passed.met key) (passed.told key) none is)
+-- The labels in its rows.
+
+-- they are known by the number of the rows and by their places in them
+pub rows_known : (row : PlainBody) (count : ℕ) (places : List ℤ) (names env : Environment) → AreRows row count env → RowsHave row env 1 count places → IsKnownOf names env → IsKnownOf (also_rows row count places names) env
+rows_known row count places names env are have stands = record {
+  part = record { give = λ key v is. from key v (gives_rows row key) refl is };
+  rows = record { give = λ label rows number is low high. fills label rows number low high (has_label row label) refl is };
+  around = stands.around;
+}
+  where
+    same_number : (v : ℤ) → Some (pos count) ≡ Some v → pos count ≡ v
+    same_number v is = some_is (pos count) v is
+
+    placed : (label : List ℕ) (number v : ℤ) → has_label row label ≡ true → (low high : Bool) → int_le (pos 1) number ≡ low → int_le number (pos count) ≡ high
+        → (if low && high then slice_get places ((nat_abs number - 1) * labels_count row + label_index row label) else None) ≡ Some v → env.give (place_in label number) ≡ Some v
+    placed label number v given false high low_is high_is is = absurd cc
+    placed label number v given true false low_is high_is is = absurd cc
+    placed label number v given true true low_is high_is is =
+        let it = row_value_is row env count places have label number given low_is high_is in
+        let one : row_value row count places (place_in label number) ≡ Some v =
+        (λ i. if low_is i && high_is i then slice_get places ((nat_abs number - 1) * labels_count row + label_index row label) else None) ∙ is in
+        it.2 ∙ sym it.1 ∙ one
+
+    in_rows : (key : Key) (v : ℤ) → gives_rows row key ≡ true → row_value row count places key ≡ Some v → env.give key ≡ Some v
+    in_rows (place_of name) v given is = absurd cc
+    in_rows (count_of name) v given is = absurd cc
+    in_rows (rows_of label) v given is = are.give label given ∙ is
+    in_rows (place_in label number) v given is = placed label number v given (int_le (pos 1) number) (int_le number (pos count)) refl refl is
+    in_rows (row_in array) v given is = absurd cc
+
+    from : (key : Key) (v : ℤ) (test : Bool) → gives_rows row key ≡ test → (if test then row_value row count places key else names.give key) ≡ Some v → env.give key ≡ Some v
+    from key v true given is = in_rows key v given is
+    from key v false none is = stands.part.give key v is
+
+    fills : (label : List ℕ) (rows number : ℤ) → int_le (pos 1) number ≡ true → int_le number rows ≡ true → (test : Bool) → has_label row label ≡ test
+        → (if test then Some (pos count) else names.give (rows_of label)) ≡ Some rows
+        → (place : ℤ) × ((if test then row_value row count places (place_in label number) else names.give (place_in label number)) ≡ Some place)
+    fills label rows number low high true given is =
+        let it = row_value_is row env count places have label number given low (ap (int_le number) (same_number rows is) ∙ high) in (it.0, it.1)
+    fills label rows number low high false none is = stands.rows.give label rows number is low high
+
+-- and so they are met
+pub rows_met : (row : PlainBody) (count : ℕ) (places : List ℤ) (passed : Passed) (name : Option Word) (stated : Option ℤ) (names : Environment) → Knows (passed_behind passed name) names
+    → Knows (behind (Array name stated row) passed) (also_rows row count places names)
+rows_met row count places passed name stated names knows key asked is = by (gives_rows row key) refl
+  where
+    in_rows : (key : Key) → is_asked key ≡ true → gives_rows row key ≡ true → (v : ℤ) × (row_value row count places key ≡ Some v)
+    in_rows (place_of name) asked given = absurd cc
+    in_rows (count_of name) asked given = absurd cc
+    in_rows (rows_of label) asked given = (pos count, refl)
+    in_rows (place_in label number) asked given = absurd cc
+    in_rows (row_in array) asked given = absurd cc
+
+    without_rows : (own rows met told : Bool) → rows ≡ false → (((own || rows) || met) || told) ≡ true → ((own || met) || told) ≡ true
+    without_rows true rows met told none is = refl
+    without_rows false true met told none is = absurd cc
+    without_rows false false met told none is = is
+
+    by : (test : Bool) → gives_rows row key ≡ test → (v : ℤ) × ((if test then row_value row count places key else names.give key) ≡ Some v)
+    by true given = in_rows key asked given
+    by false none = knows key asked (without_rows (gives_count name key) (gives_rows row key) (passed.met key) (passed.told key) none is)

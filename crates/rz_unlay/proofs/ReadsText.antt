@@ -8,7 +8,7 @@ use Rattle.std.proofs.lemmas.Bool.Decides.{nat_tests}
 use Rattle.std.proofs.lemmas.List.{append_assoc, length-append, length-map, length-replicate, length-take}
 use Rattle.rz_core.specs.declared.facts.Facts.{Facts}
 use Rattle.rz_core.specs.declared.fault.Fault.{Fault}
-use Rattle.rz_expr.specs.Environment.{place_of, Environment, IsPartOf, Key, Sight}
+use Rattle.rz_expr.specs.Environment.{place_of, Environment, Key, Sight}
 use Rattle.rz_expr.specs.Term.{Term}
 use Rattle.rz_expr.specs.Value.{value_of}
 use Rattle.rz_bits.specs.Bits.{bits_of, bytes_of, number_bits, number_of}
@@ -40,7 +40,7 @@ use Rattle.rz_unlay.proofs.Near.{near_covers, near_part, told_there, Knows}
 use Rattle.rz_unlay.proofs.PlainText.{plain_text_is}
 use Rattle.rz_unlay.proofs.ReadsBits.{all_append, bits_there, each_small, front_there, length_bits, length_number, number_append, number_found, reduced_are, reduced_bits, take_are, zero_there, zeros_are, AreBytes}
 use Rattle.rz_unlay.proofs.ReadsTests.{both_true, either_of, itself, not_below, right_true, some_is, there_is}
-use Rattle.rz_unlay.proofs.Sees.{late_same, met_known, value_same, Covers}
+use Rattle.rz_unlay.proofs.Sees.{late_same, met_known, value_same, Covers, IsKnownOf}
 
 -- Lengths.
 
@@ -163,7 +163,7 @@ count_before told at count ends =
     ∙ ap (λ (n : ℕ). Some n) number
 
 -- a text without a size ends at a told label, or at the end of the resource
-module _ (all : List Bool) (rest : PlainBody) (outermost : Bool) (passed : Passed) (names env : Environment) (knows : Knows passed names) (part : IsPartOf names env)
+module _ (all : List Bool) (rest : PlainBody) (outermost : Bool) (passed : Passed) (names env : Environment) (knows : Knows passed names) (part : IsKnownOf names env)
     (lies : (name : List ℕ) → declares rest (place_of name) ≡ true → (place : ℕ) × (env.give (place_of name) ≡ Some (pos place)) × (place ≤ length all)) (at count after : ℕ) (ends : after ≡ at + 8 * count)
     (stops : (told : Told) → told_label (length all) rest names ≡ Some told → told.place ≡ after + told.width) (end : EndsAt outermost all rest after) where
   end_left : ends_at_end outermost rest ≡ true → bytes_left (length all) (fixed_widths rest) at ≡ Some count
@@ -175,7 +175,7 @@ module _ (all : List Bool) (rest : PlainBody) (outermost : Bool) (passed : Passe
       ∙ count_left (length all) width.0 at count (let a = behind.0 in omega (arith, ends, a)) (let b = behind.1 in omega (arith, ends, b))
 
   told_known : Covers passed.told names
-  told_known key is = knows key (right_true (passed.met key) (passed.told key) is)
+  told_known key asked is = knows key asked (right_true (passed.met key) (passed.told key) is)
 
   open_found : (ends_at_label rest passed.told || ends_at_end outermost rest) ≡ true → open_size (length all) (told_label (length all) rest names) (fixed_widths rest) at ≡ Some count
   open_found reads = by (told_label (length all) rest names) refl
@@ -184,7 +184,7 @@ module _ (all : List Bool) (rest : PlainBody) (outermost : Bool) (passed : Passe
       by (Some told) so = count_before told at count (let it = stops told so in omega (arith, ends, it))
       by None so =
           either_of (ends_at_label rest passed.told) (ends_at_end outermost rest)
-          (λ label. let it = told_there (length all) passed.told names env told_known part rest lies label in absurd (let wrong = sym so ∙ it.1 in cc)) end_left reads
+          (λ label. let it = told_there (length all) passed.told names env told_known part.part rest lies label in absurd (let wrong = sym so ∙ it.1 in cc)) end_left reads
 
 module _ (back : (width number : ℕ) → number < 2 ^ width → number_of (number_bits width number) ≡ number) (all : List Bool) (room : Option ℕ) (at : ℕ) (bytes : List ℕ) where
   -- a free text without a size says its own length
@@ -248,7 +248,7 @@ module _ (met known : Names) where
   formats_known (Some size) others reads = (both_true (all_known met known size) (list_all (all_known met known) others) reads).1
 
 -- what is known is enough for a text whose names are known
-module _ (facts : Facts) (seen : ℤ → ℤ → Option ℤ) (met known : Names) (leads : (key : Key) → met key ≡ true → known key ≡ true) (some whole : Environment) (covers : Covers known some) (part : IsPartOf some whole) where
+module _ (facts : Facts) (seen : ℤ → ℤ → Option ℤ) (met known : Names) (leads : (key : Key) → met key ≡ true → known key ≡ true) (some whole : Environment) (covers : Covers known some) (part : IsKnownOf some whole) where
   size_is_read : (form : TextForm) (term : Option Term) (size : Option ℕ) → ((t : Term) → term ≡ Some t → all_known met known t ≡ true)
       → IsSize form (see facts seen whole) term size → size_read form term (see facts seen some) ≡ Some size
   size_is_read form None size is_known is = ap (λ (o : Option ℕ). Some o) (sym is)
@@ -296,7 +296,7 @@ record TextTold (here : Here) (names : Environment) (form : TextForm) (size : Op
 module _ (read : (width number : ℕ) → number_of (number_bits width number) ≡ number % 2 ^ width) (written : (bits : List Bool) → number_bits (length bits) (number_of bits) ≡ bits)
     (again : (bytes : List ℕ) → ((k : ℕ) → slice_index bytes k < 256) → bytes_of (bits_of bytes) ≡ bytes)
     (back : (width number : ℕ) → number < 2 ^ width → number_of (number_bits width number) ≡ number) (facts : Facts) (all : List Bool) (env : Environment) (outermost : Bool) (field : PlainField) (rest : PlainBody)
-    (passed : Passed) (names : Environment) (knows : Knows passed names) (part : IsPartOf names env) (at after : ℕ) (ahead : Ahead all field rest env at after) (end : EndsAt outermost all rest after) where
+    (passed : Passed) (names : Environment) (knows : Knows passed names) (part : IsKnownOf names env) (at after : ℕ) (ahead : Ahead all field rest env at after) (end : EndsAt outermost all rest after) where
   abbrev here : Here
   here = here_at facts all field rest at passed.met
 
@@ -305,7 +305,7 @@ module _ (read : (width number : ℕ) → number_of (number_bits width number) �
       → form ≡ texts.Open → open_size (length all) (told_label (length all) rest names) (fixed_widths rest) at ≡ Some (length bytes)
   opens_so texts.Open bytes bits reads are ends is =
       let long : length bits ≡ 8 * length bytes = ap length are ∙ length_bits bytes in
-      open_found all rest outermost passed names env knows part ahead.lies at (length bytes) after (ends ∙ ap (λ (n : ℕ). at + n) long) (λ told. ahead.stops names part told) end reads
+      open_found all rest outermost passed names env knows part ahead.lies at (length bytes) after (ends ∙ ap (λ (n : ℕ). at + n) long) (λ told. ahead.stops names part.part told) end reads
   opens_so texts.Pascal bytes bits reads are ends is = absurd cc
   opens_so texts.WordLong bytes bits reads are ends is = absurd cc
   opens_so texts.Zero bytes bits reads are ends is = absurd cc

@@ -12,7 +12,7 @@ use Rattle.rz_core.specs.declared.facts.Facts.{Facts}
 use Rattle.rz_expr.specs.Constant.{constant_of, constant_sight, is_constant}
 use Rattle.rz_expr.proofs.Cases.{same_value}
 use Rattle.rz_expr.specs.Environment.{predefined, Environment, Sight}
-use Rattle.rz_expr.specs.Term.{BitsAt, Constant, FactOf, Named, OfOne, OfTwo, RowsOf, Term}
+use Rattle.rz_expr.specs.Term.{BitsAt, Constant, FactOf, Indexed, Named, OfOne, OfTwo, RowNumber, RowsOf, Term}
 use Rattle.rz_expr.specs.Value.{known_value, operate, operate_one, value_of}
 use Rattle.rz_expr.specs.declared.value.EvalFault.{EvalFault}
 use Rattle.rz_types_fields.specs.declared.field.NumForm.{NumForm}
@@ -21,7 +21,8 @@ use Rattle.rz_types_fields.specs.declared.field.TextForm.{TextForm}
 use Rattle.rz_types_fields.specs.declared.field.TextForm.TheVariants as texts
 use Rattle.rz_types_fields.specs.declared.tree.Tree.{Tree}
 use Rattle.rz_types_fields.specs.Row.{By, IsStated}
-use Rattle.rz_types_fields.specs.Spells.{is_case, row_of, values_for, BodySpells, CaseSpells, FieldSpells, InOrder, IsNumber, IsSize, PieceSpells, RowSpells, RowsSpell}
+use Rattle.rz_types_fields.specs.RowLabels.{row_of}
+use Rattle.rz_types_fields.specs.Spells.{is_case, values_for, BodySpells, CaseSpells, FieldSpells, InOrder, IsNumber, IsSize, PieceSpells, RowSpells, RowsSpell}
 use Rattle.rz_types.specs.Field.{case_and, field_and, no_cases, no_fields, Align, Array, Fill, Label, Number, PlainBody, PlainCases, PlainField, Points, Switch, Text}
 use Rattle.rz_types.specs.Readable.{least_case, least_of, least_rows, least_text, least_width, least_widths}
 use Rattle.rz_types.specs.Shape.{are_cases_shaped, are_fixed_points, are_shaped, is_none_or, is_own_name, is_shaped, numbers_of}
@@ -50,7 +51,9 @@ module _ (facts : Facts) (bits : ℤ → ℤ → Option ℤ) (env : Environment)
   same_constant (Named name) is =
       let there = value_there (predefined (str_to_ascii_lowercase name)) (sym (ap is_some (same_value name)) ∙ is) in
       ap (known_value name) (there.1 ∙ sym (has (str_to_ascii_lowercase name) there.0 there.1))
+  same_constant (Indexed name index) is = absurd cc
   same_constant (RowsOf name) is = absurd cc
+  same_constant (RowNumber name) is = absurd cc
   same_constant (BitsAt name start width) is = absurd cc
   same_constant (FactOf which) is = absurd cc
   same_constant (OfOne op operand) is = λ i. same_constant operand is i >>= λ value. Ok (operate_one op value)
@@ -246,7 +249,7 @@ module _ (known : Facts) (all : List Bool) where
         (λ number line at late after late_after inside.
         body_wide false row inside.0 (at_front row passed) line at late after late_after test.1
         (places_inside false row (row_of name number) env inside.0 test.1 inside.1 has) inside.2)
-        1 it.0 at late after late_after it.4 in
+        1 it.0 at late after late_after it.5 in
         array_wide count (length it.0) (least_widths row) (fixed_widths row) at after it.2 wide.0 wide.1
     field_wide in_case (Switch cases) env passed value at late after late_after shaped has it =
         let least = cases_wide cases env passed value at late after late_after shaped has it in

@@ -1,7 +1,7 @@
 -- The names of an expression that are solved where a number is read.
 use Rattle.std.proofs.Common.{◌≡◌, ◌⊎◌, inl, inr, ℤ, false, ◌||◌, Option, Some, None, refl, sym, ap, ◌∙◌, subst}
 use Rattle.rz_expr.specs.Environment.{count_key, place_key, Environment, IsPartOf, Key}
-use Rattle.rz_expr.specs.Term.{BitsAt, Constant, FactOf, Named, OfOne, OfTwo, RowsOf, Term}
+use Rattle.rz_expr.specs.Term.{BitsAt, Constant, FactOf, Indexed, Named, OfOne, OfTwo, RowNumber, RowsOf, Term}
 use Rattle.rz_types_fields.specs.Passed.{Names}
 use Rattle.rz_types_fields.specs.Solve.{has_key, is_same_key}
 use Rattle.rz_types_fields.proofs.SameNames.{key_is, key_itself}
@@ -78,6 +78,8 @@ module _ (near : Environment → Environment) (solved : Key → Environment → 
     pub all_solved : (term : Term) (names more : Environment) → solve_all near solved term names ≡ Some more → Solved near solved (λ key. has_key key term) names more
     all_solved (Constant number) names more is = none_solved (λ key. false) names more is
     all_solved (Named name) names more is = key_solved (place_key name) names more is
+    all_solved (Indexed name index) names more is = all_solved index names more is
+    all_solved (RowNumber name) names more is = none_solved (λ key. false) names more is
     all_solved (RowsOf name) names more is = key_solved (count_key name) names more is
     all_solved (BitsAt name start width) names more is = none_solved (λ key. has_key key (BitsAt name start width)) names more is
     all_solved (FactOf which) names more is = none_solved (λ key. false) names more is

@@ -5,17 +5,18 @@ use Rattle.std.specs.Int.{cast_unsigned, w64}
 use Rattle.std.specs.Result.{result_ok}
 use Rattle.rz_core.specs.declared.facts.Facts.{Facts}
 use Rattle.rz_expr.proofs.Grows as sights
-use Rattle.rz_expr.specs.Environment.{count_of, place_of, Environment, IsPartOf, Key}
-use Rattle.rz_expr.specs.Term.{BitsAt, Constant, FactOf, Named, OfOne, OfTwo, RowsOf, Term}
+use Rattle.rz_expr.specs.Environment.{count_of, place_in, place_of, row_in, rows_of, Environment, IsPartOf, Key}
+use Rattle.rz_expr.specs.Term.{BitsAt, Constant, FactOf, Indexed, Named, OfOne, OfTwo, RowNumber, RowsOf, Term}
 use Rattle.rz_expr.specs.Value.{value_of}
 use Rattle.rz_expr.specs.declared.value.EvalFault.{EvalFault}
 use Rattle.rz_types_fields.specs.Field.{PlainBody}
 use Rattle.rz_types_fields.specs.Passed.{Names}
 use Rattle.rz_types_fields.specs.Sees.{Late}
-use Rattle.rz_types_fields.specs.Solve.{has_key, in_64_bits, solve, solved_value, undo_left, undo_one, undo_right}
+use Rattle.rz_types_fields.specs.Solve.{has_key, in_64_bits, solve, solved_count, solved_value, undo_left, undo_one, undo_right}
 use Rattle.rz_types_fields.specs.Spells.{RowSpells}
 use Rattle.rz_types_fields.specs.Value.{see}
 use Rattle.rz_unlay_pieces.specs.Ahead.{near_place}
+use Rattle.rz_unlay.proofs.Asked.{is_asked}
 use Rattle.rz_unlay.proofs.ReadsTests.{and_then, mapped, none_is, so_then, some_same}
 use Rattle.rz_unlay.proofs.Told.{part_of_part}
 
@@ -49,7 +50,9 @@ module _ (facts : Facts) (bits : ℤ → ℤ → Option ℤ) (part whole : Envir
   solve_grows : (key : Key) (term : Term) (number value : ℤ) → solve key (see facts bits part) term number ≡ Some value → solve key (see facts bits whole) term number ≡ Some value
   solve_grows key (Constant other) number value is = is
   solve_grows key (Named name) number value is = is
+  solve_grows key (Indexed name index) number value is = is
   solve_grows key (RowsOf name) number value is = is
+  solve_grows key (RowNumber name) number value is = is
   solve_grows key (BitsAt name start width) number value is = is
   solve_grows key (FactOf which) number value is = is
   solve_grows key (OfOne op operand) number value is =
@@ -61,19 +64,26 @@ module _ (facts : Facts) (bits : ℤ → ℤ → Option ℤ) (part whole : Envir
       (side_grows left (λ s. undo_right op s number) (solve key (see facts bits part) right) (solve key (see facts bits whole) right) (λ n v. solve_grows key right n v) value)
       is
 
+  counted_grows : (width : ℕ) (key : Key) (term : Term) (stored : ℕ) (value : ℤ)
+      → solved_count width key (see facts bits part) term stored ≡ Some value → solved_count width key (see facts bits whole) term stored ≡ Some value
+  counted_grows width key term stored value is =
+      let one = mapped (λ count. pos (cast_unsigned w64 count % 2 ^ width)) (solve key (see facts bits part) term (pos stored)) value is in
+      ap (option_map (λ count. pos (cast_unsigned w64 count % 2 ^ width))) (solve_grows key term (pos stored) one.0 one.1) ∙ ap (λ (v : ℤ). Some v) one.2
+
   pub solved_grows : (width : ℕ) (key : Key) (term : Term) (stored : ℕ) (value : ℤ)
       → solved_value width key (see facts bits part) term stored ≡ Some value → solved_value width key (see facts bits whole) term stored ≡ Some value
   solved_grows width (place_of name) term stored value is = solve_grows (place_of name) term (pos stored) value is
-  solved_grows width (count_of name) term stored value is =
-      let one = mapped (λ count. pos (cast_unsigned w64 count % 2 ^ width)) (solve (count_of name) (see facts bits part) term (pos stored)) value is in
-      ap (option_map (λ count. pos (cast_unsigned w64 count % 2 ^ width))) (solve_grows (count_of name) term (pos stored) one.0 one.1) ∙ ap (λ (v : ℤ). Some v) one.2
+  solved_grows width (count_of name) term stored value is = counted_grows width (count_of name) term stored value is
+  solved_grows width (rows_of label) term stored value is = counted_grows width (rows_of label) term stored value is
+  solved_grows width (place_in label number) term stored value is = counted_grows width (place_in label number) term stored value is
+  solved_grows width (row_in array) term stored value is = counted_grows width (row_in array) term stored value is
 
 -- What is known.
 
--- the known names have values, and no others
+-- the known names that are asked for have values, and no others
 pub record Knows (known : Names) (names : Environment) : Type 0 where
-  pub covers : (key : Key) → known key ≡ true → (value : ℤ) × (names.give key ≡ Some value)
-  pub only : (key : Key) (value : ℤ) → names.give key ≡ Some value → known key ≡ true
+  pub covers : (key : Key) → is_asked key ≡ true → known key ≡ true → (value : ℤ) × (names.give key ≡ Some value)
+  pub only : (key : Key) (value : ℤ) → is_asked key ≡ true → names.give key ≡ Some value → known key ≡ true
 
 -- more is known, of these names alone
 pub record Grows (declared : Names) (names more : Environment) : Type 0 where

@@ -6,8 +6,8 @@ use Rattle.std.proofs.lemmas.List.{length-drop, length-take}
 use Rattle.std.proofs.lemmas.Nat.{pow_pos}
 use Rattle.std.proofs.Math.Nat.{mod-lt}
 use Rattle.rz_core.specs.declared.facts.Facts.{Facts}
-use Rattle.rz_expr.specs.Environment.{count_key, count_of, place_key, place_of, Environment, IsPartOf, Key, Sight}
-use Rattle.rz_expr.specs.Term.{BitsAt, Constant, FactOf, Named, OfOne, OfTwo, RowsOf, Term}
+use Rattle.rz_expr.specs.Environment.{count_key, count_of, place_in, place_key, place_of, row_in, rows_of, Environment, IsPartOf, Key, Sight}
+use Rattle.rz_expr.specs.Term.{BitsAt, Constant, FactOf, Indexed, Named, OfOne, OfTwo, RowNumber, RowsOf, Term}
 use Rattle.rz_expr.specs.Value.{value_of}
 use Rattle.rz_expr.specs.declared.value.EvalFault.{EvalFault}
 use Rattle.rz_bits.specs.Bits.{number_bits, number_of}
@@ -26,12 +26,13 @@ use Rattle.rz_types_fields.proofs.SameNames.{key_is, key_itself}
 use Rattle.rz_types.specs.Readable.{all_known, is_number_read, tells_one}
 use Rattle.rz_unlay_pieces.specs.Pieces.{here_at, is_stored, late_behind, number_step, seen_at, solve_all, solved_at, with_near, Here, Step}
 use Rattle.rz_unlay.proofs.Near.{near_alone}
-use Rattle.rz_unlay.proofs.ReadsNumber.{all_of_its, has_value}
+use Rattle.rz_unlay.proofs.Asked.{asked_in, is_asked}
+use Rattle.rz_unlay.proofs.ReadsNumber.{has_value}
 use Rattle.rz_unlay.proofs.ReadsTests.{and_then, both_true, by_case, either_of, if_some, left_true, mapped, neither, none_is, not_both, right_true}
 use Rattle.rz_unlay.proofs.Solved.{all_solved, Solved, WasSolved}
 use Rattle.rz_unlay.proofs.SpelledNames.{solved_grows, value_grows, Grows, Knows, NearIn, NearShort}
 use Rattle.rz_unlay.proofs.SpelledNear.{absent_far, near_keeps, resource_place, with_part}
-use Rattle.rz_unlay.proofs.Sees.{its_known, late_same, met_known, Covers}
+use Rattle.rz_unlay.proofs.Sees.{its_known, late_hidden, met_known, Covers}
 use Rattle.rz_unlay.proofs.Teller.{teller}
 use Rattle.rz_unlay.proofs.Told.{part_of_part, same_part}
 
@@ -97,6 +98,8 @@ each_solved : (known : Names) (solved : Key → Option ℤ) (names : Environment
     → AreSolved known solved names term
 each_solved known solved names (Constant number) each = tt
 each_solved known solved names (Named name) each = each (place_key name) (key_itself (place_key name))
+each_solved known solved names (Indexed name index) each = each_solved known solved names index each
+each_solved known solved names (RowNumber name) each = tt
 each_solved known solved names (RowsOf name) each = each (count_key name) (key_itself (count_key name))
 each_solved known solved names (BitsAt name start width) each = (
   each (place_key name) (left_true (is_same_key (place_key name) (place_key name) || has_key (place_key name) start) (has_key (place_key name) width)
@@ -138,6 +141,9 @@ has_not false known is = absurd cc
 solved_place : (len width : ℕ) (key : Key) (seen : Sight) (term : Term) (stored : ℕ) (value : ℤ) → solved_at len width key seen term stored ≡ Some value → solved_value width key seen term stored ≡ Some value
 solved_place len width (place_of name) seen term stored value is = resource_place len (solved_value width (place_of name) seen term stored) value is
 solved_place len width (count_of name) seen term stored value is = is
+solved_place len width (rows_of label) seen term stored value is = is
+solved_place len width (place_in label number) seen term stored value is = is
+solved_place len width (row_in array) seen term stored value is = is
 
 module _ (facts : Facts) (all : List Bool) (field : PlainField) (rest : PlainBody) (first at width : ℕ) (passed : Passed) (term : Term) (n : ℕ) (names more : Environment) where
   abbrev here : Here
@@ -152,8 +158,8 @@ module _ (facts : Facts) (all : List Bool) (field : PlainField) (rest : PlainBod
   module _ (near_is : (key : Key) → passed.near key ≡ is_near body key) (near : NearShort all body first) (knows : Knows (is_held passed) names)
       (it : Solved (with_near here) solves (λ key. has_key key term) names more) where
     -- a name that was solved wasn't known
-    solved_unknown : (key : Key) (value : ℤ) → WasSolved (with_near here) solves names more key value → is_known passed key ≡ false
-    solved_unknown key value was = by (is_held passed key) refl
+    solved_unknown : (key : Key) (value : ℤ) → is_asked key ≡ true → WasSolved (with_near here) solves names more key value → is_known passed key ≡ false
+    solved_unknown key value asked was = by (is_held passed key) refl
       where
         far : is_near body key ≡ false
         far = absent_far facts all field rest first passed.met near was.mid key was.absent
@@ -161,15 +167,15 @@ module _ (facts : Facts) (all : List Bool) (field : PlainField) (rest : PlainBod
         by : (test : Bool) → is_held passed key ≡ test → (passed.near key || test) ≡ false
         by false none = ap (λ (b : Bool). b || false) (near_is key ∙ far)
         by true held =
-            let old = knows.covers key held in
+            let old = knows.covers key asked held in
             absurd (none_is old.0 (sym (near_keeps here was.mid key was.absent) ∙ was.behind.give key old.0 old.1))
 
-    known_same : (key : Key) → is_known passed key ≡ true → more.give key ≡ names.give key
-    known_same key known = by (more.give key) refl (names.give key) refl
+    known_same : (key : Key) → is_asked key ≡ true → is_known passed key ≡ true → more.give key ≡ names.give key
+    known_same key asked known = by (more.give key) refl (names.give key) refl
       where
         of_value : (value : ℤ) → more.give key ≡ Some value → (names.give key ≡ Some value) ⊎ WasSolved (with_near here) solves names more key value → more.give key ≡ names.give key
         of_value value found (inl was) = found ∙ sym was
-        of_value value found (inr was) = not_both (is_known passed key) known (solved_unknown key value was)
+        of_value value found (inr was) = not_both (is_known passed key) known (solved_unknown key value asked was)
 
         by : (now : Option ℤ) → more.give key ≡ now → (before : Option ℤ) → names.give key ≡ before → more.give key ≡ names.give key
         by (Some value) found before was = of_value value found (it.had key value found)
@@ -180,51 +186,51 @@ module _ (facts : Facts) (all : List Bool) (field : PlainField) (rest : PlainBod
     told_grows reads = record {
       kept = it.kept;
       same = λ key none. by_case (has_key key term)
-          (λ has. known_same key (either_of (declares rest key) (is_known passed key) (λ given. not_both (declares rest key) given none) (λ known. known)
+          (λ has. known_same key (asked_in key term has) (either_of (declares rest key) (is_known passed key) (λ given. not_both (declares rest key) given none) (λ known. known)
           (known_or_given rest passed.met (is_known passed) (met_known passed) term reads key has)))
           (λ absent. it.same key absent);
     }
 
     module _ (value : ℤ) (valued : value_of term (seen_at here more at) ≡ Ok value) where
       its_values : Covers (λ key. has_key key term) (with_near here more)
-      its_values key has = has_value facts (bits_before all at) (with_near here more) key term value valued has
+      its_values key asked has = has_value facts (bits_before all at) (with_near here more) key term value valued has
 
       -- a name of the expression that wasn't known has its value now
       own_given : (key : Key) → has_key key term ≡ true → is_known passed key ≡ false → (value : ℤ) × (more.give key ≡ Some value)
       own_given key has none =
-          let one = its_values key has in
+          let one = its_values key (asked_in key term has) has in
           let far : is_near body key ≡ false = sym (near_is key) ∙ (neither (passed.near key) (is_held passed key) none).0 in
           (one.0, sym (near_alone facts all field rest first passed.met more key far) ∙ one.1)
 
       told_knows : Knows (is_held (told_by (Some term) passed)) more
       told_knows = record { covers = covers; only = only }
         where
-          covers : (key : Key) → is_held (told_by (Some term) passed) key ≡ true → (value : ℤ) × (more.give key ≡ Some value)
-          covers key known =
+          covers : (key : Key) → is_asked key ≡ true → is_held (told_by (Some term) passed) key ≡ true → (value : ℤ) × (more.give key ≡ Some value)
+          covers key asked known =
               by_case (is_held passed key)
-              (λ held. let old = knows.covers key held in (old.0, it.kept.give key old.0 old.1))
+              (λ held. let old = knows.covers key asked held in (old.0, it.kept.give key old.0 old.1))
               (λ none.
               let told = has_not (has_key key term) (is_known passed key) (held_by (passed.met key) (has_key key term && not (is_known passed key)) (passed.told key) none known) in
               own_given key told.0 told.1)
 
-          of_value : (key : Key) (value : ℤ) → more.give key ≡ Some value → (names.give key ≡ Some value) ⊎ WasSolved (with_near here) solves names more key value
+          of_value : (key : Key) (value : ℤ) → is_asked key ≡ true → more.give key ≡ Some value → (names.give key ≡ Some value) ⊎ WasSolved (with_near here) solves names more key value
               → is_held (told_by (Some term) passed) key ≡ true
-          of_value key value found (inl was) = still_held (passed.met key) (has_key key term && not (is_known passed key)) (passed.told key) (knows.only key value was)
-          of_value key value found (inr was) =
+          of_value key value asked found (inl was) = still_held (passed.met key) (has_key key term && not (is_known passed key)) (passed.told key) (knows.only key value asked was)
+          of_value key value asked found (inr was) =
               by_case (has_key key term)
-              (λ has. newly_held (passed.met key) (has_key key term && not (is_known passed key)) (passed.told key) (λ i. has i && not (solved_unknown key value was i)))
-              (λ absent. still_held (passed.met key) (has_key key term && not (is_known passed key)) (passed.told key) (knows.only key value (sym (it.same key absent) ∙ found)))
+              (λ has. newly_held (passed.met key) (has_key key term && not (is_known passed key)) (passed.told key) (λ i. has i && not (solved_unknown key value asked was i)))
+              (λ absent. still_held (passed.met key) (has_key key term && not (is_known passed key)) (passed.told key) (knows.only key value asked (sym (it.same key absent) ∙ found)))
 
-          only : (key : Key) (value : ℤ) → more.give key ≡ Some value → is_held (told_by (Some term) passed) key ≡ true
-          only key value found = of_value key value found (it.had key value found)
+          only : (key : Key) (value : ℤ) → is_asked key ≡ true → more.give key ≡ Some value → is_held (told_by (Some term) passed) key ≡ true
+          only key value asked found = of_value key value asked found (it.had key value found)
 
       told_back : (env : Environment) → IsPartOf more env → NearIn all body first env → SolvesBack (is_known passed) width (sees facts all env at) term n
       told_back env part near_in = each_solved (is_known passed) (λ key. solved_value width key (sees facts all env at) term n) env term (λ key has. by key has (is_known passed key) refl)
         where
-          of_value : (key : Key) (value : ℤ) → is_known passed key ≡ false → more.give key ≡ Some value → (names.give key ≡ Some value) ⊎ WasSolved (with_near here) solves names more key value
+          of_value : (key : Key) (value : ℤ) → is_asked key ≡ true → is_known passed key ≡ false → more.give key ≡ Some value → (names.give key ≡ Some value) ⊎ WasSolved (with_near here) solves names more key value
               → solved_value width key (sees facts all env at) term n ≡ env.give key
-          of_value key value none found (inl was) = not_both (is_known passed key) (right_true (passed.near key) (is_held passed key) (knows.only key value was)) none
-          of_value key value none found (inr was) =
+          of_value key value asked none found (inl was) = not_both (is_known passed key) (right_true (passed.near key) (is_held passed key) (knows.only key value asked was)) none
+          of_value key value asked none found (inr was) =
               solved_grows facts (bits_before all at) (with_near here was.mid) env
               (with_part facts all field rest first passed.met was.mid env (part_of_part was.mid more env was.before part) near_in) width key term n value
               (solved_place (length all) width key (seen_at here was.mid at) term n value was.is)
@@ -232,13 +238,12 @@ module _ (facts : Facts) (all : List Bool) (field : PlainField) (rest : PlainBod
 
           by : (key : Key) → has_key key term ≡ true → (test : Bool) → is_known passed key ≡ test → IsSolvedTo test (solved_value width key (sees facts all env at) term n) (env.give key)
           by key has true known = tt
-          by key has false none = let one = own_given key has none in of_value key one.0 none one.1 (it.had key one.0 one.1)
+          by key has false none = let one = own_given key has none in of_value key one.0 (asked_in key term has) none one.1 (it.had key one.0 one.1)
 
       -- it is late in the finished names where it is late here
       same_late : (env : Environment) → IsPartOf more env → NearIn all body first env → (met : Names) (late : Late) → is_late met late term (seen_at here more at) ≡ is_late met late term (sees facts all env at)
       same_late env part near_in met late =
-          late_same facts (bits_before all at) (λ key. has_key key term) (λ key. has_key key term) (λ key has. has) (with_near here more) env its_values
-          (with_part facts all field rest first passed.met more env part near_in) met late term (all_of_its (λ key. has_key key term) term (λ key has. has))
+          late_hidden facts (bits_before all at) (with_near here more) env (with_part facts all field rest first passed.met more env part near_in) met late term value valued
 
 -- The value that is stored.
 

@@ -13,7 +13,8 @@ use Rattle.rz_types_fields.specs.declared.tree.Tree.{out-Tree, Tree}
 use Rattle.rz_types_fields.specs.declared.tree.Tree.TheVariants as trees
 use Rattle.rz_types_fields.specs.Row.{By, IsChoice, IsFront, IsRow, IsValue}
 use Rattle.rz_types_fields.specs.Sees.{sees, Late}
-use Rattle.rz_types_fields.specs.Spells.{group_in, is_case, numbers_of_group, put, row_of, AreBytes, BodySpells, CaseSpells, FieldSpells, Inside, InOrder, IsGrouped, IsNumber, IsStored, IsText, PieceSpells, RowsSpell, RowSpells, Spells}
+use Rattle.rz_types_fields.specs.Spells.{group_in, is_case, numbers_of_group, put, AreBytes, BodySpells, CaseSpells, FieldSpells, Inside, InOrder, IsGrouped, IsNumber, IsStored, IsText, PieceSpells, RowsSpell, RowSpells, Spells}
+use Rattle.rz_types_fields.specs.RowLabels.{row_of}
 use Rattle.rz_types.specs.Field.{case_and, field_and, no_cases, no_fields, takes_value, Align, Array, Fill, Label, Number, PlainBody, PlainCases, PlainField, PlainPoints, PlainText, Points, Switch, Text}
 use Rattle.rz_types.specs.Shape.{numbers_of}
 use Rattle.rz_types.specs.Passed.{at_field, at_front, behind, behind_piece, nothing_passed, Passed}
@@ -138,7 +139,7 @@ module _ (plain : Bool) (facts : Facts) (all : List Bool) where
     field_takes (Align unit) env passed value at late after late_after it = (single (Filler unit) env passed value at late after late_after it.1).1.0
     field_takes (Label name) env passed value at late after late_after it = (single (Place name) env passed value at late after late_after it.1).1.0
     field_takes (Array name count row) env passed value at late after late_after it =
-        (trees.Rows it.0, (it.0, refl, it.2, rows_are name row (body_is row) env (at_front row passed) it.0 1 at late after late_after it.4), it.1)
+        (trees.Rows it.0, (it.0, refl, it.2, rows_are name row (body_is row) env (at_front row passed) it.0 1 at late after late_after it.5), it.1)
     field_takes (Switch cases) env passed value at late after late_after it = cases_are cases env passed value at late after late_after it
 
     cases_are : (cases : PlainCases) → CasesAre cases

@@ -9,7 +9,8 @@ use Rattle.rz_types_fields.specs.declared.tree.Tree.{Tree}
 use Rattle.rz_types_fields.specs.declared.tree.Tree.TheVariants as trees
 use Rattle.rz_types_fields.specs.Row.{By}
 use Rattle.rz_types_fields.specs.Sees.{Late}
-use Rattle.rz_types_fields.specs.Spells.{is_case, most_bits, row_of, values_for, BodySpells, CaseSpells, FieldSpells, Inside, InOrder, PieceSpells, RowsSpell, Spells}
+use Rattle.rz_types_fields.specs.Spells.{is_case, most_bits, values_for, BodySpells, CaseSpells, FieldSpells, Inside, InOrder, PieceSpells, RowsSpell, Spells}
+use Rattle.rz_types_fields.specs.RowLabels.{row_of}
 use Rattle.rz_types.specs.Field.{case_and, field_and, no_cases, no_fields, Align, Array, Fill, Label, Number, PlainBody, PlainCases, PlainField, Points, Switch, Text}
 use Rattle.rz_types.specs.Passed.{at_field, at_front, behind, behind_piece, nothing_passed, Passed}
 use Rattle.rz_types.specs.Piece.{pieces_of, Piece}
@@ -62,7 +63,7 @@ module _ (plain : Bool) (facts : Facts) (all : List Bool) where
     field_short (Label name) env passed value at late after late_after few it =
         pieces_short (pieces_of (Label name)) env passed (values_for (Label name) value) at late after late_after few it.1
     field_short (Array name count row) env passed value at late after late_after few it =
-        rows_short name row (body_short row) env (at_front row passed) it.0 1 at late after late_after few it.4
+        rows_short name row (body_short row) env (at_front row passed) it.0 1 at late after late_after few it.5
     field_short (Switch cases) env passed value at late after late_after few it = cases_short cases env passed value at late after late_after few it
 
     cases_short : (cases : PlainCases) → CasesShort cases

@@ -9,7 +9,7 @@ use Rattle.rz_expr.specs.Environment.{Key}
 use Rattle.rz_bits.specs.Bits.{bits_of, number_of}
 use Rattle.rz_bits.specs.BitBuf.{filled, missing, zeros}
 use Rattle.rz_types_fields.specs.Field.{PlainBody}
-use Rattle.rz_types_fields.specs.Known.{names_inside}
+use Rattle.rz_types_fields.specs.Known.{names_inside, stated_in}
 use Rattle.rz_types_fields.specs.Passed.{at_front, declares, is_held, nothing_passed, outside, Passed}
 use Rattle.rz_types_fields.specs.Shape.{are_shaped}
 use Rattle.rz_types_fields.specs.Spells.{most_bits, values_in, Spells}
@@ -19,6 +19,8 @@ use Rattle.rz_types.specs.Readable.{is_readable}
 use Rattle.rz_types.specs.Walk.{names_of}
 use Rattle.rz_unlay.specs.Pieces.{Found}
 use Rattle.rz_unlay.specs.Cursor.{body_found, ended, reading}
+use Rattle.rz_unlay.proofs.Asked.{is_asked}
+use Rattle.rz_unlay.proofs.Fresh.{fresh_front}
 use Rattle.rz_unlay.proofs.Onward.{places_within}
 use Rattle.rz_unlay.proofs.ReadsBits.{length_bits}
 use Rattle.rz_unlay.proofs.ReadsNames.{places_outside}
@@ -73,10 +75,10 @@ filled_is all end count whole within near none =
     ∙ ap (λ (bits : List Bool). take end all ++ bits) (zero_bits (drop end all) none ∙ ap zeros (length-drop end all ∙ missing_is end (length all) count whole within near ∙ ap (missing 8) (sym front)))
 
 outside_knows : Knows (is_held nothing_passed) outside
-outside_knows = record { covers = has; only = λ key value is. left_true (is_some (outside.give key)) false (ap is_some is) }
+outside_knows = record { covers = has; only = λ key value asked is. left_true (is_some (outside.give key)) false (ap is_some is) }
   where
-    has : (key : Key) → (is_some (outside.give key) || false) ≡ true → (value : ℤ) × (outside.give key ≡ Some value)
-    has key = by (outside.give key)
+    has : (key : Key) → is_asked key ≡ true → (is_some (outside.give key) || false) ≡ true → (value : ℤ) × (outside.give key ≡ Some value)
+    has key asked = by (outside.give key)
       where
         by : (found : Option ℤ) → (is_some found || false) ≡ true → (value : ℤ) × (found ≡ Some value)
         by None is = absurd cc
@@ -84,7 +86,7 @@ outside_knows = record { covers = has; only = λ key value is. left_true (is_som
 
 pub was_read : (tells : Tells) (facts : Facts) (body : PlainBody) (row : List Tree) (bytes : List ℕ) → are_shaped false body ≡ true → IsKept body → is_readable body ≡ true → length bytes ≤ 16777212
     → ((k : ℕ) → slice_index bytes k < 256) → reading facts body bytes ≡ Some row → Spells true facts body row bytes
-was_read tells facts body row bytes shaped kept reads few are is = by (body_found facts all front.met body (names_inside body outside) 0 []) refl is
+was_read tells facts body row bytes shaped kept reads few are is = by (body_found facts all front.met body (names_inside None body outside) 0 []) refl is
   where
     all : List Bool
     all = bits_of bytes
@@ -92,20 +94,25 @@ was_read tells facts body row bytes shaped kept reads few are is = by (body_foun
     front : Passed
     front = at_front body nothing_passed
 
-    by : (o : Option Found) → body_found facts all front.met body (names_inside body outside) 0 [] ≡ o → ended all o ≡ Some row → Spells true facts body row bytes
+    by : (o : Option Found) → body_found facts all front.met body (names_inside None body outside) 0 [] ≡ o → ended all o ≡ Some row → Spells true facts body row bytes
     by None so is = absurd (none_is row is)
     by (Some found) so is =
         let end = end_is all found row is in
         let long = length_bits bytes in
         let short : length all ≤ most_bits = omega (arith, long, few) in
-        let came = body_came tells facts all short (names_of body) false true front body kept.1 shaped reads (names_inside body outside) 0 [] found
-        (record { knows = inside_knows body nothing_passed outside outside_knows; has = places_within false body outside shaped places_outside; inside = omega (arith) }) so in
+        let came = body_came tells facts all short (names_of body) false true front body kept.0 kept.1 shaped reads (names_inside None body outside) 0 [] found
+        (record { knows = inside_knows body None nothing_passed outside outside_knows; has = places_within false None body outside shaped places_outside; inside = omega (arith) }) (fresh_front None body outside) so in
+        let spelled = came.0 in
         subst (λ (r : List Tree). Spells true facts body r bytes) end.same (record {
           names = found.names;
-          own = record { give = λ key none. came.grows.same key none ∙ if_false (declares body key) _ (outside.give key) none };
+          own = record {
+            give = λ key none other. spelled.grows.same key none ∙ if_false (declares body key) (stated_in body key) (outside.give key) none;
+            number = λ key is. absurd cc;
+            places = λ label has. tt;
+          };
           end = found.after;
           late = found.late;
-          fields = came.spells found.names (same_part found.names);
+          fields = spelled.spells found.names (same_part found.names);
           filled = filled_is all found.after (length bytes) long end.within end.near end.none;
           within = end.within;
           are_bytes = are;

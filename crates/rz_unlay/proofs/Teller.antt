@@ -1,7 +1,7 @@
 -- A name of an expression that the expression tells, once the others are known.
 use Rattle.std.proofs.Common.{◌≡◌, true, ◌||◌}
 use Rattle.rz_expr.specs.Environment.{count_key, place_key, Key}
-use Rattle.rz_expr.specs.Term.{BitsAt, Constant, FactOf, Named, OfOne, OfTwo, RowsOf, Term}
+use Rattle.rz_expr.specs.Term.{BitsAt, Constant, FactOf, Indexed, Named, OfOne, OfTwo, RowNumber, RowsOf, Term}
 use Rattle.rz_types_fields.specs.Field.{PlainBody}
 use Rattle.rz_types.specs.Readable.{tells, tells_one}
 use Rattle.rz_types_fields.specs.Passed.{Names}
@@ -15,6 +15,8 @@ pub record Teller (rest : PlainBody) (met known : Names) (whole : Term) : Type 0
 pub teller : (rest : PlainBody) (met known : Names) (whole term : Term) → tells_one rest met known whole term ≡ true → Teller rest met known whole
 teller rest met known whole (Constant number) is = absurd cc
 teller rest met known whole (Named name) is = record { key = place_key name; is = is }
+teller rest met known whole (Indexed name index) is = teller rest met known whole index is
+teller rest met known whole (RowNumber name) is = absurd cc
 teller rest met known whole (RowsOf name) is = record { key = count_key name; is = is }
 teller rest met known whole (BitsAt name start width) is =
     either_of (tells rest met known whole (place_key name) || tells_one rest met known whole start) (tells_one rest met known whole width)

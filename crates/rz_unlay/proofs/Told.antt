@@ -2,14 +2,15 @@
 use Rattle.std.proofs.Common.{◌≡◌, ◌⊎◌, inl, inr, ℤ, Bool, true, false, ◌||◌, Option, Some, None, refl, sym, ap, ◌∙◌, subst}
 use Rattle.std.specs.Prelude.{if◌then◌else◌, option_and_then}
 use Rattle.rz_expr.specs.Environment.{count_key, place_key, Environment, IsPartOf, Key}
-use Rattle.rz_expr.specs.Term.{BitsAt, Constant, FactOf, Named, OfOne, OfTwo, RowsOf, Term}
+use Rattle.rz_expr.specs.Term.{BitsAt, Constant, FactOf, Indexed, Named, OfOne, OfTwo, RowNumber, RowsOf, Term}
 use Rattle.rz_unlay_pieces.specs.Pieces.{also, solve_all, solve_key}
 use Rattle.rz_types.specs.Readable.{all_known}
 use Rattle.rz_types_fields.specs.Solve.{has_key, is_same_key}
 use Rattle.rz_types_fields.specs.Passed.{Names}
 use Rattle.rz_types_fields.proofs.SameNames.{key_is, key_itself}
-use Rattle.rz_unlay.proofs.ReadsTests.{some_same}
-use Rattle.rz_unlay.proofs.Sees.{its_known, Covers}
+use Rattle.rz_unlay.proofs.Asked.{apart_from_rows, asked_in, of_rows, plain_asked}
+use Rattle.rz_unlay.proofs.ReadsTests.{if_false, some_same}
+use Rattle.rz_unlay.proofs.Sees.{its_known, rows_kept, Covers, IsKnownOf, KeepsRows}
 
 -- One more name.
 
@@ -40,6 +41,13 @@ also_part key value names env part is = record {
 pub also_has : (key : Key) (value : ℤ) (names : Environment) → (also key value names).give key ≡ Some value
 also_has key value names = ap (λ (test : Bool). if test then Some value else names.give key) (key_itself key)
 
+-- of rows as much is known with one more name that is none of theirs
+pub also_rows_kept : (key : Key) (value : ℤ) (names : Environment) → of_rows key ≡ false → KeepsRows names (also key value names)
+also_rows_kept key value names plain = record { give = λ other of. if_false (is_same_key key other) (Some value) (names.give other) (apart_from_rows key other plain of) }
+
+pub also_known : (key : Key) (value : ℤ) (names env : Environment) → of_rows key ≡ false → IsKnownOf names env → env.give key ≡ Some value → IsKnownOf (also key value names) env
+also_known key value names env plain stands is = rows_kept names (also key value names) env stands (also_rows_kept key value names plain) (also_part key value names env stands.part is)
+
 -- All names of an expression.
 
 or_true : (a b : Bool) → (a || b) ≡ true → (a ≡ true) ⊎ (b ≡ true)
@@ -50,20 +58,22 @@ or_true false b is = inr is
 pub record Widens (env : Environment) (near : Environment → Environment) : Type 0 where
   pub more : (names : Environment) → IsPartOf names (near names)
   pub wider : (names others : Environment) → IsPartOf names others → (key : Key) (value : ℤ) → (near names).give key ≡ Some value → (v : ℤ) × ((near others).give key ≡ Some v)
-  pub part : (names : Environment) → IsPartOf names env → IsPartOf (near names) env
+  pub part : (names : Environment) → IsKnownOf names env → IsKnownOf (near names) env
 
 module _ (known : Names) (env : Environment) (near : Environment → Environment) (solved : Key → Environment → Option ℤ) where
   -- a name that is known, or that has a value and is solved to it by whatever is known
   abbrev pub IsTold : Key → Type 0
   IsTold key =
       (known key ≡ true)
-      ⊎ ((value : ℤ) × (env.give key ≡ Some value) × ((names : Environment) → Covers known (near names) → IsPartOf names env → solved key names ≡ Some value))
+      ⊎ ((value : ℤ) × (env.give key ≡ Some value) × ((names : Environment) → Covers known (near names) → IsKnownOf names env → solved key names ≡ Some value))
 
 module _ (met known : Names) (env : Environment) (near : Environment → Environment) (solved : Key → Environment → Option ℤ) where
   -- so is each name of an expression; those at which bits are asked for are known
   abbrev pub AreTold : Term → Type 0
   AreTold (Constant number) = Unit {0}
   AreTold (Named name) = IsTold known env near solved (place_key name)
+  AreTold (Indexed name index) = AreTold index
+  AreTold (RowNumber name) = Unit {0}
   AreTold (RowsOf name) = IsTold known env near solved (count_key name)
   AreTold (BitsAt name start width) = all_known met known (BitsAt name start width) ≡ true
   AreTold (FactOf which) = Unit {0}
@@ -75,7 +85,7 @@ pub record Tells (env : Environment) (near : Environment → Environment) (Has :
   pub more : Environment
   pub is : found ≡ Some more
   pub kept : IsPartOf names more
-  pub part : IsPartOf more env
+  pub part : IsKnownOf more env
   pub has : (key : Key) → Has key → (value : ℤ) × ((near more).give key ≡ Some value)
 
 module _ (known : Names) (env : Environment) (near : Environment → Environment) (widens : Widens env near) (solved : Key → Environment → Option ℤ) where
@@ -86,21 +96,21 @@ module _ (known : Names) (env : Environment) (near : Environment → Environment
       by None so = refl
       by (Some value) so = absurd (let there = (widens.more names).give key value so in let wrong = sym there ∙ absent in cc)
 
-  key_told : (key : Key) (names : Environment) → Covers known (near names) → IsPartOf names env → IsTold known env near solved key
+  key_told : (key : Key) (names : Environment) → of_rows key ≡ false → Covers known (near names) → IsKnownOf names env → IsTold known env near solved key
       → Tells env near (λ other. is_same_key other key ≡ true) names (solve_key solved key ((near names).give key) names)
-  key_told key names covers part told = by ((near names).give key) refl told
+  key_told key names plain covers part told = by ((near names).give key) refl told
     where
       at_key : (more : Environment) (value : ℤ) → (near more).give key ≡ Some value → (other : Key) → is_same_key other key ≡ true → (v : ℤ) × ((near more).give other ≡ Some v)
       at_key more value has other same = (value, ap (near more).give (key_is other key same) ∙ has)
 
       by : (o : Option ℤ) → (near names).give key ≡ o → IsTold known env near solved key → Tells env near (λ other. is_same_key other key ≡ true) names (solve_key solved key o names)
       by (Some value) is told = record { more = names; is = refl; kept = same_part names; part = part; has = at_key names value is }
-      by None is (inl known_key) = let it = covers key known_key in absurd (let wrong = sym it.1 ∙ is in cc)
+      by None is (inl known_key) = let it = covers key (plain_asked key plain) known_key in absurd (let wrong = sym it.1 ∙ is in cc)
       by None is (inr (value, has, solves)) = record {
         more = also key value names;
         is = ap (option_and_then (λ value. Some (also key value names))) (solves names covers part);
         kept = also_keeps key value names (less_none key names is);
-        part = also_part key value names env part has;
+        part = also_known key value names env plain part has;
         has = at_key (also key value names) value ((widens.more (also key value names)).give key value (also_has key value names));
       }
 
@@ -124,19 +134,21 @@ module _ (known : Names) (env : Environment) (near : Environment → Environment
 
 module _ (met known : Names) (leads : (key : Key) → met key ≡ true → known key ≡ true) (env : Environment) (near : Environment → Environment) (widens : Widens env near) (solved : Key → Environment → Option ℤ) where
   covers_more : (names more : Environment) → Covers known (near names) → IsPartOf names more → Covers known (near more)
-  covers_more names more covers kept key is = let it = covers key is in widens.wider names more kept key it.0 it.1
+  covers_more names more covers kept key asked is = let it = covers key asked is in widens.wider names more kept key it.0 it.1
 
-  pub all_told : (term : Term) (names : Environment) → Covers known (near names) → IsPartOf names env → AreTold met known env near solved term
+  pub all_told : (term : Term) (names : Environment) → Covers known (near names) → IsKnownOf names env → AreTold met known env near solved term
       → Tells env near (λ key. has_key key term ≡ true) names (solve_all near solved term names)
   all_told (Constant number) names covers part told = record { more = names; is = refl; kept = same_part names; part = part; has = λ key has. absurd cc }
-  all_told (Named name) names covers part told = key_told known env near widens solved (place_key name) names covers part told
-  all_told (RowsOf name) names covers part told = key_told known env near widens solved (count_key name) names covers part told
+  all_told (Named name) names covers part told = key_told known env near widens solved (place_key name) names refl covers part told
+  all_told (Indexed name index) names covers part told = all_told index names covers part told
+  all_told (RowNumber name) names covers part told = record { more = names; is = refl; kept = same_part names; part = part; has = λ key has. absurd cc }
+  all_told (RowsOf name) names covers part told = key_told known env near widens solved (count_key name) names refl covers part told
   all_told (BitsAt name start width) names covers part told = record {
     more = names;
     is = refl;
     kept = same_part names;
     part = part;
-    has = λ key has. covers key (its_known met known leads key (BitsAt name start width) told has);
+    has = λ key has. covers key (asked_in key (BitsAt name start width) has) (its_known met known leads key (BitsAt name start width) told has);
   }
   all_told (FactOf which) names covers part told = record { more = names; is = refl; kept = same_part names; part = part; has = λ key has. absurd cc }
   all_told (OfOne op operand) names covers part told = all_told operand names covers part told

@@ -12,26 +12,27 @@ use Rattle.rz_unlay_pieces.specs.declared.learnt.Learnt.{Learnt}
 use Rattle.rz_unlay.specs.Pieces.{Found}
 use Rattle.rz_unlay_pieces.specs.Pieces.{Step}
 use Rattle.rz_types_fields.specs.Known.{known, names_inside}
+use Rattle.rz_types_fields.specs.RowLabels.{row_of, RowOf}
 use Rattle.rz_unlay.specs.declared.came.RowCame.{RowCame}
 use Rattle.rz_unlay.specs.declared.came.RowsCame.{RowsCame}
 
 -- the row of a body, where so much is known behind it
 abbrev pub found_of : Learnt → RowCame → Found
-found_of learnt came = record { row = came.row; after = came.after; names = known learnt.notes.items; late = marked came.after learnt.marks }
+found_of learnt came = record { row = came.row; places = came.places.items; after = came.after; names = known learnt.notes.items; late = marked came.after learnt.marks }
 
 abbrev pub line_in : Learnt → RowCame → Line
-line_in learnt came = record { row = came.row; after = came.after; late = marked came.after learnt.marks }
+line_in learnt came = record { row = came.row; places = came.places.items; after = came.after; late = marked came.after learnt.marks }
 
 abbrev pub lines_in : Learnt → RowsCame → Lines
-lines_in learnt came = record { rows = came.rows; after = came.after; late = marked came.after learnt.marks }
+lines_in learnt came = record { rows = came.rows; places = came.places.items; after = came.after; late = marked came.after learnt.marks }
 
 -- the row of a body within, from a place on, where so much is met and known outside of it
-abbrev pub line_at : Facts → List Bool → PlainBody → Names → Environment → ℕ → Late → Option Line
-line_at facts all body met names place late = line_of (body_found facts all (met_inside body met) body (names_inside body names) place late)
+abbrev pub line_at : Facts → List Bool → Option RowOf → PlainBody → Names → Environment → ℕ → Late → Option Line
+line_at facts all which body met names place late = line_of (body_found facts all (met_inside body met) body (names_inside which body names) place late)
 
--- a row of an array; so far none tells its number
-abbrev pub row_at : Facts → List Bool → PlainBody → Names → Environment → ReadsRow
-row_at facts all body met names number place late = line_at facts all body met names place late
+-- a row of the array of this name
+abbrev pub row_at : Facts → List Bool → Option Word → PlainBody → Names → Environment → ReadsRow
+row_at facts all name body met names number place late = line_at facts all (row_of name number) body met names place late
 
 -- a row as the value of a switch
 abbrev pub chosen : Word → Environment → Option Line → Option Step

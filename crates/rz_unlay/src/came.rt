@@ -7,6 +7,8 @@ use rz_types_fields::{Row, RowList};
 pub struct RowCame {
     /// Its values.
     pub row: Row,
+    /// The places of the labels that stand directly in it, in order, in bits.
+    pub places: Vec<i32>,
     /// The place behind it, in bits.
     pub after: u32,
     /// How many values more there may be.
@@ -18,6 +20,8 @@ pub struct RowCame {
 pub struct RowsCame {
     /// The rows.
     pub rows: RowList,
+    /// The places of the labels that stand directly in them, row by row, in bits.
+    pub places: Vec<i32>,
     /// The place behind them, in bits.
     pub after: u32,
     /// How many values more there may be.

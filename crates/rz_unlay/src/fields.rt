@@ -1,6 +1,6 @@
 //! The reader of fields, rows and cases, from left to right. What it finds is in `specs/Cursor`.
 
-ghost use Rattle.std.specs.Prelude.{◌≡◌, ◌+◌, ◌≤◌, pos, suc, length, drop, IfOk, IfSome, OnOk, option_map};
+ghost use Rattle.std.specs.Prelude.{◌≡◌, ◌+◌, ◌≤◌, pos, suc, length, drop, IfOk, IfSome, None, OnOk, option_map};
 ghost use Rattle.rz_bits.specs.View.{seen};
 ghost use Rattle.rz_types_fields.specs.Spells.{values_in};
 ghost use Rattle.rz_types.specs.Field.{field_and, plain_array, plain_body, plain_case, plain_cases, plain_field};
@@ -10,7 +10,7 @@ ghost use Rattle.rz_unlay.specs.Cursor.{body_found, case_found, count_known, fie
 ghost use Rattle.rz_unlay_pieces.specs.Few.{few, step_count, value_count};
 ghost use Rattle.rz_unlay.specs.Few.{found_count, line_count, lines_count, rows_count};
 ghost use Rattle.rz_unlay.specs.Fits.{AreFit, CasesFit, Fits};
-ghost use Rattle.rz_types_fields.specs.Known.{known, met, Grew};
+ghost use Rattle.rz_types_fields.specs.Known.{known, met, which_of, Grew};
 ghost use Rattle.rz_types_fields.specs.Passed.{met_behind};
 ghost use Rattle.rz_types_fields.specs.Sees.{marked};
 ghost use Rattle.rz_types_fields.specs.Width.{fixed_widths};
@@ -21,11 +21,15 @@ ghost use Rattle.rz_unlay.specs.Rows.{pushed, stop_at, stop_before};
 use crate::came::{RowCame, RowsCame};
 use crate::cases::has_keys;
 use crate::leaf::{read_pieces, spend};
-use crate::steps::{count_known, push_value, stop_at, stop_before, tail};
+use crate::steps::{
+    count_known, push_label, push_places, push_value, row_behind, stop_at, stop_before, tail,
+};
 use rz_bits::BitView;
 use rz_core::{Facts, NoMemory, Word};
-use rz_types_fields::{ArrayField, Case, Field, Note, Row, RowList, Tree, fixed_widths, rows_of};
-use rz_unlay_pieces::{LabelAhead, Learnt, Met, Spot, claim_count, enter, told_label};
+use rz_types_fields::{
+    ArrayField, Case, Field, InRow, Note, Row, RowList, Tree, fixed_widths, rows_of,
+};
+use rz_unlay_pieces::{LabelAhead, Learnt, Met, Spot, claim_count, enter, learn_rows, told_label};
 use std::alloc::Global;
 
 /// What is read: the bits of a resource, and what is known of it.
@@ -40,7 +44,7 @@ pub struct Reader<'v> {
 }
 
 impl Reader<'_> {
-    ghost use Rattle.std.specs.Prelude.{◌≡◌, ◌+◌, ◌≤◌, pos, suc, length, drop, IfOk, IfSome, OnOk, option_map};
+    ghost use Rattle.std.specs.Prelude.{◌≡◌, ◌+◌, ◌≤◌, pos, suc, length, drop, IfOk, IfSome, None, OnOk, option_map};
     ghost use Rattle.rz_bits.specs.View.{seen};
     ghost use Rattle.rz_types_fields.specs.Spells.{values_in};
     ghost use Rattle.rz_types.specs.Field.{field_and, plain_array, plain_body, plain_case, plain_cases, plain_field};
@@ -50,7 +54,7 @@ impl Reader<'_> {
     ghost use Rattle.rz_unlay_pieces.specs.Few.{few, step_count, value_count};
     ghost use Rattle.rz_unlay.specs.Few.{found_count, line_count, lines_count, rows_count};
     ghost use Rattle.rz_unlay.specs.Fits.{AreFit, CasesFit, Fits};
-    ghost use Rattle.rz_types_fields.specs.Known.{known, met, Grew};
+    ghost use Rattle.rz_types_fields.specs.Known.{known, met, which_of, Grew};
     ghost use Rattle.rz_types_fields.specs.Passed.{met_behind};
     ghost use Rattle.rz_types_fields.specs.Sees.{marked};
     ghost use Rattle.rz_types_fields.specs.Width.{fixed_widths};
@@ -63,6 +67,7 @@ impl Reader<'_> {
     pub fn read_body<'a>(
         &self,
         fields: &'a [Field],
+        which: Option<InRow<'a>>,
         learnt: &mut Learnt<'a>,
         at: u32,
         left: u32,
@@ -71,14 +76,14 @@ impl Reader<'_> {
         requires at { at ≤ length (seen self.now.view.now) }
         requires marks { length learnt.old.marks ≤ at }
         ensures row { IfOk result (λ came. option_map (line_in learnt.new) came
-            ≡ few line_count left (line_at self.now.facts.now (seen self.now.view.now) (plain_body fields.now) (met learnt.old.notes.items) (known learnt.old.notes.items) at (marked at learnt.old.marks))) }
+            ≡ few line_count left (line_at self.now.facts.now (seen self.now.view.now) (which_of which.entry) (plain_body fields.now) (met learnt.old.notes.items) (known learnt.old.notes.items) at (marked at learnt.old.marks))) }
         ensures left { IfOk result (λ came. IfSome came (λ r. r.left + values_in r.row ≡ left)) }
         ensures within { IfOk result (λ came. IfSome came (λ r. r.after ≤ length (seen self.now.view.now))) }
         ensures marks { IfOk result (λ came. IfSome came (λ r. length learnt.new.marks ≤ r.after)) }
         ensures notes { IfOk result (λ came. IfSome came (λ r. learnt.new.notes.items ≡ learnt.old.notes.items)) }
     {
         let around = learnt.notes.len();
-        enter(fields, learnt)?;
+        enter(fields, which, learnt)?;
         let came = self.read_fields(fields, learnt, at, left)?;
         learnt.notes.truncate(around);
         Ok(came)
@@ -104,12 +109,14 @@ impl Reader<'_> {
         ensures grew { IfOk result (λ came. IfSome came (λ r. Grew learnt.old.notes.items learnt.new.notes.items)) }
     {
         let mut row = Row::new(self.alloc);
+        let mut places = Vec::new(self.alloc);
         let mut end = at;
         let mut more = left;
         let mut behind = 0;
         for field in fields {
             let here = tail(fields, behind);
             behind += 1;
+            push_label(&mut places, field, end)?;
             match self.read_field(field, here, tail(fields, behind), learnt, end, more)? {
                 Some(found) => {
                     push_value(&mut row, found.value)?;
@@ -121,6 +128,7 @@ impl Reader<'_> {
         }
         Ok(Some(RowCame {
             row,
+            places,
             after: end,
             left: more,
         }))
@@ -197,7 +205,9 @@ impl Reader<'_> {
         let row = array.row.as_slice();
         match self.read_rows(&array.name, array.count, row, rest, learnt, at, left)? {
             Some(came) => {
-                if claim_count(&array.name, came.rows.len() as u32, learnt)? {
+                let count = came.rows.len();
+                if claim_count(&array.name, count as u32, learnt)? {
+                    learn_rows(row, count as u64, came.places, learnt)?;
                     Ok(Some(Met {
                         value: Some(Tree::Rows(came.rows)),
                         after: came.after,
@@ -215,7 +225,7 @@ impl Reader<'_> {
     #[cycle(read)]
     fn read_rows<'a>(
         &self,
-        name: &Option<Word>,
+        name: &'a Option<Word>,
         count: Option<i32>,
         row: &'a [Field],
         rest: &[Field],
@@ -227,7 +237,7 @@ impl Reader<'_> {
         requires at { at ≤ length (seen self.now.view.now) }
         requires marks { length learnt.old.marks ≤ at }
         ensures rows { IfOk result (λ came. option_map (lines_in learnt.new) came
-            ≡ few lines_count left (rows_by (row_at self.now.facts.now (seen self.now.view.now) (plain_body row.now) (met learnt.old.notes.items) (known learnt.old.notes.items)) (length (seen self.now.view.now)) (plain_body rest.now) (known learnt.old.notes.items)
+            ≡ few lines_count left (rows_by (row_at self.now.facts.now (seen self.now.view.now) name.now (plain_body row.now) (met learnt.old.notes.items) (known learnt.old.notes.items)) (length (seen self.now.view.now)) (plain_body rest.now) (known learnt.old.notes.items)
             (count_known (known learnt.old.notes.items) name.now count) at (marked at learnt.old.marks))) }
         ensures left { IfOk result (λ came. IfSome came (λ r. r.left + rows_count r.rows ≡ left)) }
         ensures within { IfOk result (λ came. IfSome came (λ r. r.after ≤ length (seen self.now.view.now))) }
@@ -239,10 +249,10 @@ impl Reader<'_> {
                 if count < 0 {
                     Ok(None)
                 } else {
-                    self.read_so_many(row, count as u64, learnt, at, left)
+                    self.read_so_many(name, row, count as u64, learnt, at, left)
                 }
             }
-            None => self.read_open(row, rest, learnt, at, left),
+            None => self.read_open(name, row, rest, learnt, at, left),
         }
     }
 
@@ -250,6 +260,7 @@ impl Reader<'_> {
     #[cycle(read)]
     fn read_open<'a>(
         &self,
+        name: &'a Option<Word>,
         row: &'a [Field],
         rest: &[Field],
         learnt: &mut Learnt<'a>,
@@ -260,7 +271,7 @@ impl Reader<'_> {
         requires at { at ≤ length (seen self.now.view.now) }
         requires marks { length learnt.old.marks ≤ at }
         ensures rows { IfOk result (λ came. option_map (lines_in learnt.new) came
-            ≡ few lines_count left (open_rows (row_at self.now.facts.now (seen self.now.view.now) (plain_body row.now) (met learnt.old.notes.items) (known learnt.old.notes.items)) (length (seen self.now.view.now))
+            ≡ few lines_count left (open_rows (row_at self.now.facts.now (seen self.now.view.now) name.now (plain_body row.now) (met learnt.old.notes.items) (known learnt.old.notes.items)) (length (seen self.now.view.now))
             (told_label (length (seen self.now.view.now)) (plain_body rest.now) (known learnt.old.notes.items)) (fixed_widths (plain_body rest.now)) at (marked at learnt.old.marks))) }
         ensures left { IfOk result (λ came. IfSome came (λ r. r.left + rows_count r.rows ≡ left)) }
         ensures within { IfOk result (λ came. IfSome came (λ r. r.after ≤ length (seen self.now.view.now))) }
@@ -269,11 +280,11 @@ impl Reader<'_> {
     {
         match told_label(rest, learnt.notes.as_slice(), self.view.len()) {
             Some(told) => match stop_before(told) {
-                Some(stop) => self.read_to(row, stop, learnt, at, left),
+                Some(stop) => self.read_to(name, row, stop, learnt, at, left),
                 None => Ok(None),
             },
             None => match stop_at(self.view, fixed_widths(rest)) {
-                Some(stop) => self.read_while(row, stop, learnt, at, left),
+                Some(stop) => self.read_while(name, row, stop, learnt, at, left),
                 None => Ok(None),
             },
         }
@@ -283,6 +294,7 @@ impl Reader<'_> {
     #[cycle(read)]
     fn read_so_many<'a>(
         &self,
+        name: &'a Option<Word>,
         row: &'a [Field],
         count: u64,
         learnt: &mut Learnt<'a>,
@@ -293,21 +305,23 @@ impl Reader<'_> {
         requires at { at ≤ length (seen self.now.view.now) }
         requires marks { length learnt.old.marks ≤ at }
         ensures rows { IfOk result (λ came. option_map (lines_in learnt.new) came
-            ≡ few lines_count left (rows_at (row_at self.now.facts.now (seen self.now.view.now) (plain_body row.now) (met learnt.old.notes.items) (known learnt.old.notes.items)) count 1 at (marked at learnt.old.marks))) }
+            ≡ few lines_count left (rows_at (row_at self.now.facts.now (seen self.now.view.now) name.now (plain_body row.now) (met learnt.old.notes.items) (known learnt.old.notes.items)) count 1 at (marked at learnt.old.marks))) }
         ensures left { IfOk result (λ came. IfSome came (λ r. r.left + rows_count r.rows ≡ left)) }
         ensures within { IfOk result (λ came. IfSome came (λ r. r.after ≤ length (seen self.now.view.now))) }
         ensures marks { IfOk result (λ came. IfSome came (λ r. length learnt.new.marks ≤ r.after)) }
         ensures notes { IfOk result (λ came. IfSome came (λ r. learnt.new.notes.items ≡ learnt.old.notes.items)) }
     {
         let mut rows = RowList::new(self.alloc);
+        let mut places = Vec::new(self.alloc);
         let mut end = at;
         let mut more = left;
         for _turn in 0..count {
             if more == 0 {
                 return Ok(None);
             }
-            match self.read_body(row, learnt, end, more - 1)? {
+            match self.read_body(row, row_behind(name, &rows), learnt, end, more - 1)? {
                 Some(came) => {
+                    push_places(&mut places, came.places.as_slice())?;
                     rows.push(came.row)?;
                     end = came.after;
                     more = came.left;
@@ -317,6 +331,7 @@ impl Reader<'_> {
         }
         Ok(Some(RowsCame {
             rows,
+            places,
             after: end,
             left: more,
         }))
@@ -326,6 +341,7 @@ impl Reader<'_> {
     #[cycle(read)]
     fn read_while<'a>(
         &self,
+        name: &'a Option<Word>,
         row: &'a [Field],
         stop: u32,
         learnt: &mut Learnt<'a>,
@@ -336,19 +352,21 @@ impl Reader<'_> {
         requires at { at ≤ length (seen self.now.view.now) }
         requires marks { length learnt.old.marks ≤ at }
         ensures rows { IfOk result (λ came. option_map (lines_in learnt.new) came
-            ≡ few lines_count left (rows_while (row_at self.now.facts.now (seen self.now.view.now) (plain_body row.now) (met learnt.old.notes.items) (known learnt.old.notes.items)) stop (suc (length (seen self.now.view.now))) 1 at (marked at learnt.old.marks))) }
+            ≡ few lines_count left (rows_while (row_at self.now.facts.now (seen self.now.view.now) name.now (plain_body row.now) (met learnt.old.notes.items) (known learnt.old.notes.items)) stop (suc (length (seen self.now.view.now))) 1 at (marked at learnt.old.marks))) }
         ensures left { IfOk result (λ came. IfSome came (λ r. r.left + rows_count r.rows ≡ left)) }
         ensures within { IfOk result (λ came. IfSome came (λ r. r.after ≤ length (seen self.now.view.now))) }
         ensures marks { IfOk result (λ came. IfSome came (λ r. length learnt.new.marks ≤ r.after)) }
         ensures notes { IfOk result (λ came. IfSome came (λ r. learnt.new.notes.items ≡ learnt.old.notes.items)) }
     {
         let mut rows = RowList::new(self.alloc);
+        let mut places = Vec::new(self.alloc);
         let mut end = at;
         let mut more = left;
         for _turn in 0..self.view.len() + 1 {
             if stop < end + 8 {
                 return Ok(Some(RowsCame {
                     rows,
+                    places,
                     after: end,
                     left: more,
                 }));
@@ -356,8 +374,9 @@ impl Reader<'_> {
             if more == 0 {
                 return Ok(None);
             }
-            match self.read_body(row, learnt, end, more - 1)? {
+            match self.read_body(row, row_behind(name, &rows), learnt, end, more - 1)? {
                 Some(came) => {
+                    push_places(&mut places, came.places.as_slice())?;
                     rows.push(came.row)?;
                     end = came.after;
                     more = came.left;
@@ -372,6 +391,7 @@ impl Reader<'_> {
     #[cycle(read)]
     fn read_to<'a>(
         &self,
+        name: &'a Option<Word>,
         row: &'a [Field],
         stop: u32,
         learnt: &mut Learnt<'a>,
@@ -382,19 +402,21 @@ impl Reader<'_> {
         requires at { at ≤ length (seen self.now.view.now) }
         requires marks { length learnt.old.marks ≤ at }
         ensures rows { IfOk result (λ came. option_map (lines_in learnt.new) came
-            ≡ few lines_count left (rows_to (row_at self.now.facts.now (seen self.now.view.now) (plain_body row.now) (met learnt.old.notes.items) (known learnt.old.notes.items)) stop (suc (length (seen self.now.view.now))) 1 at (marked at learnt.old.marks))) }
+            ≡ few lines_count left (rows_to (row_at self.now.facts.now (seen self.now.view.now) name.now (plain_body row.now) (met learnt.old.notes.items) (known learnt.old.notes.items)) stop (suc (length (seen self.now.view.now))) 1 at (marked at learnt.old.marks))) }
         ensures left { IfOk result (λ came. IfSome came (λ r. r.left + rows_count r.rows ≡ left)) }
         ensures within { IfOk result (λ came. IfSome came (λ r. r.after ≤ length (seen self.now.view.now))) }
         ensures marks { IfOk result (λ came. IfSome came (λ r. length learnt.new.marks ≤ r.after)) }
         ensures notes { IfOk result (λ came. IfSome came (λ r. learnt.new.notes.items ≡ learnt.old.notes.items)) }
     {
         let mut rows = RowList::new(self.alloc);
+        let mut places = Vec::new(self.alloc);
         let mut end = at;
         let mut more = left;
         for _turn in 0..self.view.len() + 1 {
             if end == stop {
                 return Ok(Some(RowsCame {
                     rows,
+                    places,
                     after: end,
                     left: more,
                 }));
@@ -405,8 +427,9 @@ impl Reader<'_> {
             if more == 0 {
                 return Ok(None);
             }
-            match self.read_body(row, learnt, end, more - 1)? {
+            match self.read_body(row, row_behind(name, &rows), learnt, end, more - 1)? {
                 Some(came) => {
+                    push_places(&mut places, came.places.as_slice())?;
                     rows.push(came.row)?;
                     end = came.after;
                     more = came.left;
@@ -457,14 +480,14 @@ impl Reader<'_> {
         requires at { at ≤ length (seen self.now.view.now) }
         requires marks { length learnt.old.marks ≤ at }
         ensures step { IfOk result (λ found. option_map (met_of learnt.new) found
-            ≡ few step_count left (chosen (plain_case case.now).name (known learnt.old.notes.items) (line_at self.now.facts.now (seen self.now.view.now) (plain_case case.now).row (met learnt.old.notes.items) (known learnt.old.notes.items) at (marked at learnt.old.marks)))) }
+            ≡ few step_count left (chosen (plain_case case.now).name (known learnt.old.notes.items) (line_at self.now.facts.now (seen self.now.view.now) None (plain_case case.now).row (met learnt.old.notes.items) (known learnt.old.notes.items) at (marked at learnt.old.marks)))) }
         ensures left { IfOk result (λ found. IfSome found (λ m. m.left + value_count m.value ≡ left)) }
         ensures within { IfOk result (λ found. IfSome found (λ m. m.after ≤ length (seen self.now.view.now))) }
         ensures marks { IfOk result (λ found. IfSome found (λ m. length learnt.new.marks ≤ m.after)) }
         ensures notes { IfOk result (λ found. IfSome found (λ m. learnt.new.notes.items ≡ learnt.old.notes.items)) }
     {
         let fields = case.row.as_slice();
-        match self.read_body(fields, learnt, at, left)? {
+        match self.read_body(fields, None, learnt, at, left)? {
             Some(came) => {
                 let name = case.name.copy(self.alloc)?;
                 Ok(Some(Met {

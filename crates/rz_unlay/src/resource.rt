@@ -43,7 +43,8 @@ pub enum Reading {
 /// is read of them: for each row with the fields of its array and the cases of each switch, with the square of the
 /// operators in an expression that tells a name, and with the square of the names in one row. A name is looked for from the
 /// newest on, in its row and the bodies around, and then through the fields ahead, for a label at a known distance; an open
-/// text or array looks through the fields behind it for a label whose place is told. (MPW Rez.)
+/// text or array looks through the fields behind it for a label whose place is told. The places of labels in rows take 4 bytes
+/// for each in each row, until the body of their array ends. (MPW Rez.)
 pub fn read(
     alloc: Global,
     template: &Template,

@@ -41,7 +41,7 @@ pub fn read_row(
         view: &view,
         facts,
     };
-    match reader.read_body(fields, &mut learnt, 0, MOST_VALUES)? {
+    match reader.read_body(fields, None, &mut learnt, 0, MOST_VALUES)? {
         Some(came) => {
             if is_end(&view, came.after) {
                 Ok(Some(came.row))

@@ -1,16 +1,18 @@
 //! Steps between fields and rows: what is behind a field, one value more, and where rows end. See `specs/Rows` and
 //! `specs/Cursor`.
 
-ghost use Rattle.std.specs.Prelude.{◌≡◌, ◌≤◌, length, drop, OnOk};
+ghost use Rattle.std.specs.Prelude.{◌≡◌, ◌+◌, ◌<◌, ◌≤◌, ◌++◌, length, drop, OnOk};
 ghost use Rattle.rz_bits.specs.View.{seen};
-ghost use Rattle.rz_types_fields.specs.Known.{known};
+ghost use Rattle.rz_types_fields.specs.Field.{plain_field};
+ghost use Rattle.rz_types_fields.specs.Known.{known, which_of};
+ghost use Rattle.rz_types_fields.specs.RowLabels.{label_places, row_of};
 ghost use Rattle.rz_unlay.specs.Cursor.{count_known};
 ghost use Rattle.rz_unlay.specs.Rows.{pushed, stop_at, stop_before};
 ghost use Rattle.rz_unlay_pieces.specs.Seen.{told_of};
 
 use rz_bits::BitView;
 use rz_core::{NoMemory, Word};
-use rz_types_fields::{Field, Note, Row, Tree, rows_of};
+use rz_types_fields::{Field, InRow, Note, Row, RowList, Tree, rows_of};
 use rz_unlay_pieces::LabelAhead;
 
 /// The fields behind so many.
@@ -29,6 +31,39 @@ pub fn push_value(row: &mut Row, value: Option<Tree>) -> Result<(), NoMemory>
         Some(value) => row.push(value),
         None => Ok(()),
     }
+}
+
+/// Appends the place of a label, where the field is one.
+pub fn push_label(places: &mut Vec<i32>, field: &Field, at: u32) -> Result<(), NoMemory>
+    requires { at ≤ 134217696 }
+    ensures { OnOk result (places.new.items ≡ places.old.items ++ label_places (plain_field field.now) at) }
+{
+    match field {
+        Field::Label(_) => {
+            places.push(at as i32)?;
+            Ok(())
+        }
+        _ => Ok(()),
+    }
+}
+
+/// Appends places to others.
+pub fn push_places(places: &mut Vec<i32>, own: &[i32]) -> Result<(), NoMemory>
+    ensures { OnOk result (places.new.items ≡ places.old.items ++ own.now) }
+{
+    places.extend_from_slice(own)?;
+    Ok(())
+}
+
+/// Which row of the array of this name stands behind these.
+pub fn row_behind<'a>(name: &'a Option<Word>, rows: &RowList) -> Option<InRow<'a>>
+    requires { length rows.now < 4294967295 }
+    ensures { which_of result ≡ row_of name.now (length rows.now + 1) }
+{
+    Some(InRow {
+        array: name,
+        number: rows.len() as u64 + 1,
+    })
 }
 
 /// The number of rows, where it is stated or known.

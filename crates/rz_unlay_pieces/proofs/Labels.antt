@@ -5,9 +5,9 @@ use Rattle.std.proofs.lemmas.Bool.Decides.{leb_tells, nat_tests}
 use Rattle.rz_core.specs.Lists.{or_else}
 use Rattle.rz_bits.specs.BitBuf.{missing}
 use Rattle.rz_bits.specs.View.{seen}
-use Rattle.rz_expr.specs.Environment.{count_of, Environment, Key}
+use Rattle.rz_expr.specs.Environment.{count_of, place_in, row_in, rows_of, Environment, Key}
 use Rattle.rz_types_fields.specs.Field.{field_and, no_fields, plain_body, plain_field, Align, Array, Fill, Label, Number, PlainBody, PlainField, Points, Switch, Text}
-use Rattle.rz_types_fields.specs.Passed.{is_label}
+use Rattle.rz_types_fields.specs.Passed.{is_label, stands_at}
 use Rattle.rz_types_fields.specs.Width.{capped, fixed_width}
 use Rattle.rz_types_fields.specs.declared.field.Field.{Field}
 use Rattle.rz_types_fields.proofs.Bodies.{body_end, body_next}
@@ -95,35 +95,50 @@ near_over len (field_and field fields) at key over = by (is_label field key) (be
     by false None grows further = refl
     by false (Some n) grows further = let more = grows n refl in further n (omega (arith, over, more))
 
--- a label that isn't known to stand ahead is a count
-pub no_near_count : (body : PlainBody) (at : ℕ) (name : List ℕ) → near_place body at (count_of name) ≡ None
-no_near_count no_fields at name = refl
-no_near_count (field_and field fields) at name = ap (λ (test : Bool). if test then Some at else option_and_then (λ n. near_place fields n (count_of name)) (behind_measured field at)) (no_label field) ∙ by (behind_measured field at) (λ n. no_near_count fields n name)
-  where
-    no_label : (field : PlainField) → is_label field (count_of name) ≡ false
-    no_label (Number number) = refl
-    no_label (Text text) = refl
-    no_label (Points points) = refl
-    no_label (Fill unit count) = refl
-    no_label (Align unit) = refl
-    no_label (Label label) = refl
-    no_label (Array array count row) = refl
-    no_label (Switch cases) = refl
+-- only labels by themselves are near
+module _ (key : Key) (other : (name : List ℕ) → stands_at name key ≡ false) where
+  no_label : (field : PlainField) → is_label field key ≡ false
+  no_label (Number number) = refl
+  no_label (Text text) = refl
+  no_label (Points points) = refl
+  no_label (Fill unit count) = refl
+  no_label (Align unit) = refl
+  no_label (Label name) = other name.bytes
+  no_label (Array name count row) = refl
+  no_label (Switch cases) = refl
 
-    by : (next : Option ℕ) → ((n : ℕ) → near_place fields n (count_of name) ≡ None) → option_and_then (λ n. near_place fields n (count_of name)) next ≡ None
-    by None further = refl
-    by (Some n) further = further n
+  none_near : (body : PlainBody) (at : ℕ) → near_place body at key ≡ None
+  none_near no_fields at = refl
+  none_near (field_and field fields) at =
+      ap (λ (test : Bool). if test then Some at else option_and_then (λ n. near_place fields n key) (behind_measured field at)) (no_label field)
+      ∙ by (behind_measured field at) (λ n. none_near fields n)
+    where
+      by : (next : Option ℕ) → ((n : ℕ) → near_place fields n key ≡ None) → option_and_then (λ n. near_place fields n key) next ≡ None
+      by None further = refl
+      by (Some n) further = further n
 
-or_none : (value : Option ℤ) → or_else value None ≡ value
-or_none None = refl
-or_none (Some value) = refl
+  pub seen_known : (spot : Spot) (names : Environment) → names.give key ≡ (near_names spot names).give key
+  seen_known spot names =
+      sym (
+      ap (λ (p : Option ℕ). or_else (names.give key) (option_map (λ q. pos q) (place_within (length (seen spot.view.now)) (option_map (λ q. pos q) p)))) (none_near (plain_body spot.fields.now) spot.first)
+      ∙ or_none (names.give key)
+      )
+    where
+      or_none : (value : Option ℤ) → or_else value None ≡ value
+      or_none None = refl
+      or_none (Some value) = refl
 
 pub count_seen : (spot : Spot) (names : Environment) (name : List ℕ) → names.give (count_of name) ≡ (near_names spot names).give (count_of name)
-count_seen spot names name =
-    sym (
-    ap (λ (p : Option ℕ). or_else (names.give (count_of name)) (option_map (λ q. pos q) (place_within (length (seen spot.view.now)) (option_map (λ q. pos q) p)))) (no_near_count (plain_body spot.fields.now) spot.first name)
-    ∙ or_none (names.give (count_of name))
-    )
+count_seen spot names name = seen_known (count_of name) (λ label. refl) spot names
+
+pub rows_seen : (spot : Spot) (names : Environment) (label : List ℕ) → names.give (rows_of label) ≡ (near_names spot names).give (rows_of label)
+rows_seen spot names label = seen_known (rows_of label) (λ other. refl) spot names
+
+pub place_in_seen : (spot : Spot) (names : Environment) (label : List ℕ) (number : ℤ) → names.give (place_in label number) ≡ (near_names spot names).give (place_in label number)
+place_in_seen spot names label number = seen_known (place_in label number) (λ other. refl) spot names
+
+pub row_seen : (spot : Spot) (names : Environment) (array : List ℕ) → names.give (row_in array) ≡ (near_names spot names).give (row_in array)
+row_seen spot names array = seen_known (row_in array) (λ label. refl) spot names
 
 module _ (len : ℕ) (fields : List Field) (i : ℕ) (field : Field) (less : i < length fields) (item : field ≡ get_or fields i field) (at : ℕ) (key : Key) (total : Option ℕ)
     (so : near_within len (plain_body (drop i fields)) at key ≡ total) where

@@ -5,8 +5,8 @@ use Rattle.std.specs.Ordering.{int_eq}
 use Rattle.std.specs.declared.result.Result.{Result}
 use Rattle.rz_core.specs.declared.facts.Facts.{Facts}
 use Rattle.rz_core.specs.declared.resource.Word.{Word}
-use Rattle.rz_expr.specs.Environment.{count_key, count_of, place_key, place_of, Environment, Key, Sight}
-use Rattle.rz_expr.specs.Term.{BitsAt, Constant, FactOf, Named, OfOne, OfTwo, RowsOf, Term}
+use Rattle.rz_expr.specs.Environment.{count_key, place_key, place_of, Environment, Key, Sight}
+use Rattle.rz_expr.specs.Term.{BitsAt, Constant, FactOf, Indexed, Named, OfOne, OfTwo, RowNumber, RowsOf, Term}
 use Rattle.rz_expr.specs.Value.{value_of}
 use Rattle.rz_expr.specs.declared.value.EvalFault.{EvalFault}
 use Rattle.rz_types_fields.specs.declared.field.NumForm.{NumForm}
@@ -79,7 +79,7 @@ pub record Step : Type 0 where
 -- the value that a number tells of a name; a place lies in the resource
 abbrev pub solved_at : ℕ → ℕ → Key → Sight → Term → ℕ → Option ℤ
 solved_at len width (place_of name) sight term stored = in_resource len (solved_value width (place_of name) sight term stored)
-solved_at len width (count_of name) sight term stored = solved_value width (count_of name) sight term stored
+solved_at len width key sight term stored = solved_value width key sight term stored
 
 -- the names in an expression that have no value are solved, one after the other
 abbrev pub solve_key : (Key → Environment → Option ℤ) → Key → Option ℤ → Environment → Option Environment
@@ -89,6 +89,8 @@ solve_key solved key None names = option_and_then (λ value. Some (also key valu
 abbrev pub solve_all : (Environment → Environment) → (Key → Environment → Option ℤ) → Term → Environment → Option Environment
 solve_all near solved (Constant number) names = Some names
 solve_all near solved (Named name) names = solve_key solved (place_key name) ((near names).give (place_key name)) names
+solve_all near solved (Indexed name index) names = solve_all near solved index names
+solve_all near solved (RowNumber name) names = Some names
 solve_all near solved (RowsOf name) names = solve_key solved (count_key name) ((near names).give (count_key name)) names
 solve_all near solved (BitsAt name start width) names = Some names
 solve_all near solved (FactOf which) names = Some names

@@ -2,9 +2,9 @@
 use Rattle.std.specs.Prelude.{ℕ, ◌+◌, Bool, false, ◌&&◌, ◌||◌, if◌then◌else◌, List, Option, Some, None, option_map}
 use Rattle.rz_expr.specs.Environment.{Environment, Sight}
 use Rattle.rz_bits.specs.BitBuf.{missing}
-use Rattle.rz_types_fields.specs.Field.{Align, PlainField}
+use Rattle.rz_types_fields.specs.Field.{Align, PlainBody, PlainField}
 use Rattle.rz_types_fields.specs.Known.{known, met}
-use Rattle.rz_types_fields.specs.Passed.{gives_count, stands_at, Names}
+use Rattle.rz_types_fields.specs.Passed.{gives_count, gives_rows, stands_at, Names}
 use Rattle.rz_types_fields.specs.Sees.{hit}
 use Rattle.rz_types_fields.specs.Width.{capped, fixed_width}
 use Rattle.rz_core.specs.declared.resource.Word.{Word}
@@ -44,6 +44,10 @@ met_placed name met key = stands_at name.bytes key || met key
 -- behind the rows of an array its name is met
 abbrev pub met_counted : Option Word → Names → Names
 met_counted name met key = gives_count name key || met key
+
+-- behind the rows of an array the labels in them are met
+abbrev pub met_in_rows : PlainBody → Names → Names
+met_in_rows row met key = gives_rows row key || met key
 
 -- Labels ahead.
 

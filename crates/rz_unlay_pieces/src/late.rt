@@ -17,7 +17,7 @@ use crate::seen::SpotEnv;
 use crate::spot::Spot;
 use rz_core::NoMemory;
 use rz_expr::{Expr, value_in};
-use rz_types_fields::{Note, TextField, is_met, text_expressions};
+use rz_types_fields::{Note, TextField, is_met, labelled_rows, text_expressions};
 use std::alloc::Global;
 
 /// The value of an expression, and whether a number with it is late.
@@ -74,8 +74,11 @@ fn names_later(expr: &Expr, notes: &[Note<'_>]) -> bool
     ensures { result ≡ names_later (met notes.now) (term_of expr.now) }
 {
     match expr {
-        Expr::Number(_) | Expr::Count(_) | Expr::Fact(_) => false,
+        Expr::Number(_) | Expr::Count(_) | Expr::ArrayIndex(_) | Expr::Fact(_) => false,
         Expr::Name(name) => !is_met(notes, name),
+        Expr::Indexed(name, index) => {
+            labelled_rows(notes, name).is_none() || names_later(index, notes)
+        }
         Expr::Unary(_, operand) => names_later(operand, notes),
         Expr::Binary(_, left, right) => names_later(left, notes) || names_later(right, notes),
         Expr::Bits(name, start, width) => {

@@ -23,7 +23,7 @@ pub use ahead::{LabelAhead, open_size, told_label};
 pub use came::{Came, Met};
 pub use late::is_late_text;
 pub use learnt::Learnt;
-pub use names::{claim_count, claim_place, enter};
+pub use names::{claim_count, claim_place, enter, learn_rows};
 pub use number::{read_fixed, read_number};
 pub use seen::SpotEnv;
 pub use spot::Spot;

@@ -4,24 +4,30 @@
 ghost use Rattle.std.specs.Prelude.{◌≡◌, IfOk, OnOk, Some, pos, true};
 ghost use Rattle.rz_expr.specs.Environment.{count_key, place_key};
 ghost use Rattle.rz_types_fields.specs.Field.{plain_body};
-ghost use Rattle.rz_types_fields.specs.Known.{known, met, names_inside, Grew};
+ghost use Rattle.rz_types_fields.specs.Known.{known, met, names_inside, which_of, Grew};
 ghost use Rattle.rz_types_fields.specs.Passed.{met_inside, stands_at};
+ghost use Rattle.rz_types_fields.specs.RowLabels.{also_rows};
 ghost use Rattle.rz_unlay_pieces.specs.Names.{told};
 ghost use Rattle.rz_unlay_pieces.specs.Pieces.{agrees, claim, claim_count};
-ghost use Rattle.rz_unlay_pieces.specs.Seen.{met_counted, met_placed};
+ghost use Rattle.rz_unlay_pieces.specs.Seen.{met_counted, met_in_rows, met_placed};
 
 use crate::learnt::Learnt;
 use rz_core::{NoMemory, Word};
-use rz_types_fields::{Field, Note, place_of, rows_of};
+use rz_types_fields::{Field, InRow, Note, note_rows, place_of, rows_of};
 
-/// Enters a body, with one note: what was known of its own names is hidden, and the stated numbers of its arrays are known.
-pub fn enter<'a>(fields: &'a [Field], learnt: &mut Learnt<'a>) -> Result<(), NoMemory>
-    ensures known { OnOk result (known learnt.new.notes.items ≡ names_inside (plain_body fields.now) (known learnt.old.notes.items)) }
+/// Enters a body, with one note: what was known of its own names is hidden, the stated numbers of its arrays are known, and so
+/// is the number of the row, where it is one of an array with a name.
+pub fn enter<'a>(
+    fields: &'a [Field],
+    which: Option<InRow<'a>>,
+    learnt: &mut Learnt<'a>,
+) -> Result<(), NoMemory>
+    ensures known { OnOk result (known learnt.new.notes.items ≡ names_inside (which_of which.entry) (plain_body fields.now) (known learnt.old.notes.items)) }
     ensures met { OnOk result (met learnt.new.notes.items ≡ met_inside (plain_body fields.now) (met learnt.old.notes.items)) }
     ensures grew { OnOk result (Grew learnt.old.notes.items learnt.new.notes.items) }
     ensures marks { OnOk result (learnt.new.marks ≡ learnt.old.marks) }
 {
-    learnt.notes.push(Note::Entered(fields))?;
+    learnt.notes.push(Note::Entered(fields, which))?;
     Ok(())
 }
 
@@ -56,6 +62,23 @@ fn claim_rows<'a>(name: &'a Word, rows: i64, learnt: &mut Learnt<'a>) -> Result<
     } else {
         Ok(false)
     }
+}
+
+/// Notes that all rows of an array were read: so many, in which the labels directly in them stand at these places, those of each
+/// row in order, row by row.
+pub fn learn_rows<'a>(
+    row: &'a [Field],
+    count: u64,
+    places: Vec<i32>,
+    learnt: &mut Learnt<'a>,
+) -> Result<(), NoMemory>
+    ensures known { OnOk result (known learnt.new.notes.items ≡ also_rows (plain_body row.now) count places.items (known learnt.old.notes.items)) }
+    ensures met { OnOk result (met learnt.new.notes.items ≡ met_in_rows (plain_body row.now) (met learnt.old.notes.items)) }
+    ensures grew { OnOk result (Grew learnt.old.notes.items learnt.new.notes.items) }
+    ensures marks { OnOk result (learnt.new.marks ≡ learnt.old.marks) }
+{
+    note_rows(row, count, places, &mut learnt.notes)?;
+    Ok(())
 }
 
 /// Notes that the label of this name stands at a place, in bits. False if another place of it was told. The name is looked for

@@ -14,7 +14,7 @@ use crate::spot::Spot;
 use rz_bits::{BitBuf, BitView};
 use rz_core::Word;
 use rz_expr::{Env, FactWord, signed};
-use rz_types_fields::{fact_of, place_of, rows_of};
+use rz_types_fields::{fact_of, labelled_rows, place_in, place_of, row_around, rows_of};
 
 /// What an expression sees at a place of a field: what is noted of names, the labels ahead at a known distance, and the
 /// bits before the place. A name is looked for from the newest note on, and then through the fields ahead.
@@ -42,6 +42,21 @@ impl Env for SpotEnv<'_> {
     fn count(&self, name: &Word) -> Option<i32> {
         match rows_of(self.learnt.notes.as_slice(), name) {
             Some(rows) => Some(reduced(rows)),
+            None => None,
+        }
+    }
+
+    fn rows(&self, label: &Word) -> Option<u64> {
+        labelled_rows(self.learnt.notes.as_slice(), label)
+    }
+
+    fn place_at(&self, label: &Word, row: i32) -> Option<i32> {
+        place_in(self.learnt.notes.as_slice(), label, row)
+    }
+
+    fn row(&self, array: &Word) -> Option<i32> {
+        match row_around(self.learnt.notes.as_slice(), array) {
+            Some(number) => Some(reduced_count(number)),
             None => None,
         }
     }
@@ -94,6 +109,14 @@ fn reduced(number: i64) -> i32
     ensures { result ≡ reduced number }
 {
     signed((number.cast_unsigned() % 4_294_967_296) as u32)
+}
+
+/// The number of a row, reduced to 32 bits with a sign.
+#[tactic(auto, using(rz_types_fields::proofs::Noting::count_again))]
+fn reduced_count(count: u64) -> i32
+    ensures { result ≡ reduced (pos count) }
+{
+    signed((count % 4_294_967_296) as u32)
 }
 
 /// The number in so many bits from a bit on, where they all stand before a place, and none of them is late, where the late

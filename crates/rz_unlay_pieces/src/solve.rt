@@ -54,6 +54,7 @@ pub fn solve_all<'a>(
 {
     match part {
         Expr::Name(name) => solve_place(name, asked, learnt),
+        Expr::Indexed(_, index) => solve_all(index, asked, learnt),
         Expr::Count(name) => solve_count(name, asked, learnt),
         Expr::Unary(_, operand) => solve_all(operand, asked, learnt),
         Expr::Binary(_, left, right) => {
@@ -63,7 +64,7 @@ pub fn solve_all<'a>(
                 Ok(false)
             }
         }
-        Expr::Number(_) | Expr::Bits(..) | Expr::Fact(_) => Ok(true),
+        Expr::Number(_) | Expr::ArrayIndex(_) | Expr::Bits(..) | Expr::Fact(_) => Ok(true),
     }
 }
 
@@ -203,7 +204,11 @@ fn solve(key: KeyRef<'_>, expr: &Expr, env: &SpotEnv<'_>, number: i64) -> Option
                 }
             }
         }
-        Expr::Number(_) | Expr::Bits(..) | Expr::Fact(_) => None,
+        Expr::Number(_)
+        | Expr::Indexed(..)
+        | Expr::ArrayIndex(_)
+        | Expr::Bits(..)
+        | Expr::Fact(_) => None,
     }
 }
 

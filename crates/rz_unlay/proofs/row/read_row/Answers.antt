@@ -1,4 +1,4 @@
-use Rattle.std.proofs.Common.{◌≤◌, Bool, List, [], Option, IfSome, length, sym, ap, ◌∙◌, subst}
+use Rattle.std.proofs.Common.{◌≤◌, Bool, List, [], Option, IfSome, None, length, sym, ap, ◌∙◌, subst}
 use Rattle.std.specs.Prelude.{option_map}
 use Rattle.rz_bits.specs.View.{seen}
 use Rattle.rz_types_fields.specs.declared.field.Field.{Field}
@@ -24,7 +24,7 @@ read_body-requires-clause-fits c =
 
 -- what is read of a body, in the bits of the resource
 abbrev whole_found : Facts → PlainBody → List Bool → Option Found
-whole_found known body all = body_found known all (met_inside body nothing_passed.met) body (names_inside body outside) 0 []
+whole_found known body all = body_found known all (met_inside body nothing_passed.met) body (names_inside None body outside) 0 []
 
 pub returns-then-is_end : goal.returns-then-is_end
 returns-then-is_end c =
@@ -33,7 +33,7 @@ returns-then-is_end c =
     let came = c.in-Some.came in
     ended_so all (whole_found c.args.facts.now body all) (line_in c.read_body.new.learnt came)
     (ap (option_map (line_in c.read_body.new.learnt)) (sym c.in-Some.is) ∙ c.in_ok-came.ensures.row
-    ∙ (λ i. few line_count 1048576 (line_at c.args.facts.now all (plain_body (c.as_slice-fields.ensures i)) (met (c.new-learnt.ensures.notes i)) (known (c.new-learnt.ensures.notes i)) 0 (marked 0 (c.new-learnt.ensures.marks i)))))
+    ∙ (λ i. few line_count 1048576 (line_at c.args.facts.now all None (plain_body (c.as_slice-fields.ensures i)) (met (c.new-learnt.ensures.notes i)) (known (c.new-learnt.ensures.notes i)) 0 (marked 0 (c.new-learnt.ensures.marks i)))))
     (subst (λ o. IfSome o (λ r. r.after ≤ length all)) c.in-Some.is c.in_ok-came.ensures.within)
     (sym c.if-is_end.ensures)
     ∙ ap (λ (bits : List Bool). ended bits (whole_found c.args.facts.now body bits)) c.over-view.ensures
@@ -45,7 +45,7 @@ returns-in-Some c =
     let came = c.in-Some.came in
     not_ended all (whole_found c.args.facts.now body all) (line_in c.read_body.new.learnt came)
     (ap (option_map (line_in c.read_body.new.learnt)) (sym c.in-Some.is) ∙ c.in_ok-came.ensures.row
-    ∙ (λ i. few line_count 1048576 (line_at c.args.facts.now all (plain_body (c.as_slice-fields.ensures i)) (met (c.new-learnt.ensures.notes i)) (known (c.new-learnt.ensures.notes i)) 0 (marked 0 (c.new-learnt.ensures.marks i)))))
+    ∙ (λ i. few line_count 1048576 (line_at c.args.facts.now all None (plain_body (c.as_slice-fields.ensures i)) (met (c.new-learnt.ensures.notes i)) (known (c.new-learnt.ensures.notes i)) 0 (marked 0 (c.new-learnt.ensures.marks i)))))
     (subst (λ o. IfSome o (λ r. r.after ≤ length all)) c.in-Some.is c.in_ok-came.ensures.within)
     (sym c.if-is_end.ensures)
     ∙ ap (λ (bits : List Bool). ended bits (whole_found c.args.facts.now body bits)) c.over-view.ensures
@@ -56,5 +56,5 @@ returns c =
     let body = plain_body c.args.body.now in
     none_ended all (whole_found c.args.facts.now body all)
     (ap (option_map (line_in c.read_body.new.learnt)) (sym c.in-None.is) ∙ c.in_ok-came.ensures.row
-    ∙ (λ i. few line_count 1048576 (line_at c.args.facts.now all (plain_body (c.as_slice-fields.ensures i)) (met (c.new-learnt.ensures.notes i)) (known (c.new-learnt.ensures.notes i)) 0 (marked 0 (c.new-learnt.ensures.marks i)))))
+    ∙ (λ i. few line_count 1048576 (line_at c.args.facts.now all None (plain_body (c.as_slice-fields.ensures i)) (met (c.new-learnt.ensures.notes i)) (known (c.new-learnt.ensures.notes i)) 0 (marked 0 (c.new-learnt.ensures.marks i)))))
     ∙ ap (λ (bits : List Bool). ended bits (whole_found c.args.facts.now body bits)) c.over-view.ensures
