@@ -12,7 +12,8 @@
                         form of before System 7, without it.
    EitherSystem         For derez of a fork of any age, and for rez of its text; not for other sources. The position
                         of WIND, DLOG and ALRT is a list of none or one, the width and height of a MENU are items,
-                        and what stands behind the short form of a thng is a string.
+                        each item of a DITL has a string of the padding behind it, and what stands behind the short
+                        form of a thng is a string.
    thng_RezTemplateVersion, UseExtendedThingTemplate
                         which form of thng: 0 (the short one, unless stated), 1 (also by UseExtendedThingTemplate) or 2.
 
@@ -29,8 +30,8 @@
    fonts       NFNT FONT FOND
    sounds      snd
    Finder      BNDL FREF vers mstr mst#
-   system      SIZE carb plst thng mach nrct aete aeut
-   help        hwin hrct
+   system      SIZE cfrg carb plst thng mach nrct aete aeut
+   help        hwin hrct hfdr
    tools       DRVW TMPL MPSR Estr
 
    Macros that stay, for sources: apple, Untitled, those of pop-up menus (popupTitleLeftJust and so on), Reserved8,
@@ -41,10 +42,8 @@
    More is More Macintosh Toolbox, Imaging is Imaging With QuickDraw, and the others have their own names. Types
    without a book are of Mac OS 8 or of a tool.
 
-   What takes labels, which these types don't have yet, or labels in rows, which the language doesn't have yet: hmnu,
-   hdlg, hfdr and hovr, whose parts begin with their length, cfrg and ictb, which aren't here; of cicn, ppat, crsr, snd,
-   NFNT, FONT and FOND the parts behind the fields that stand here, which are one string; and a DITL whose padding behind
-   an odd text isn't zero, as ResEdit leaves it now and then, which derez shows as data. */
+   Not here yet: hmnu, hdlg and hovr, whose parts begin with their length as those of hfdr do, and ictb. Of snd and FOND
+   the parts behind the fields that stand here are one string, and so are the pixels of what has some. */
 #ifndef __TYPES_R__
 #define __TYPES_R__
 
@@ -292,7 +291,8 @@ type 'ALRT' {
 #endif
 };
 
-/* The items of a dialog or an alert. Items: { {top, left, bottom, right}, Button { enabled, "OK" }; .. }. Essentials,
+/* The items of a dialog or an alert. Items: { {top, left, bottom, right}, Button { enabled, "OK" } [, padding]; .. }. The
+   padding behind an odd text is zero, or else, as ResEdit leaves it now and then, a string of EitherSystem. Essentials,
    Dialog Manager; HelpItem: More, Help Manager. */
 type 'DITL' {
     integer = $$CountOf(DITLarray) - 1;
@@ -358,7 +358,12 @@ type 'DITL' {
             key bitstring[7] = 0;
             fill byte;
         };
+#ifdef EitherSystem
+    padding:
+        hex string[padding / 8 % 2];
+#else
         align word;
+#endif
     };
 };
 
@@ -549,22 +554,36 @@ type 'SICN' {
 
 /* A pixel map, as it stands in cicn, crsr and ppat: where its pixels are, 8000 and the bytes of a row, bounds, version,
    packing and packed size, pixels to the inch (across and down), kind, bits of a pixel, components, bits of one,
-   distance of planes, where its colour table is, reserved. Imaging, Color QuickDraw. */
+   distance of planes. Where its colour table is and what is reserved stand behind. Imaging, Color QuickDraw. */
 #define types_pixmap unsigned hex longint; unsigned hex integer; rect; integer; integer unpacked = 0; unsigned longint; \
     unsigned hex longint; unsigned hex longint; integer chunky, chunkyPlanar, planar; integer; integer; integer; \
-    unsigned longint; unsigned longint; unsigned hex longint
+    unsigned longint
 
-/* A bit map: where its bits are, the bytes of a row, bounds. Imaging, Basic QuickDraw. */
-#define types_bitmap unsigned hex longint; integer; rect
+/* A colour table. Items: seed, flags, { value, red, green, blue; .. }. Imaging, Color QuickDraw. */
+#define types_colours unsigned hex longint; unsigned hex integer; integer = $$CountOf(ColorSpec) - 1; \
+    wide array ColorSpec { integer; types_rgb; }
 
-/* An icon in colour. Items: the fields of its pixel map and of its two bit maps (mask and icon), a handle, and then as
-   one string the bits of the mask, those of the icon, the colour table and the pixels, which sources for MPW write as
-   items of their own; that takes labels. */
+/* An icon in colour. Items: the fields of its pixel map, where its colour table is, reserved, of its two bit maps (mask and
+   icon) each where its bits are, the bytes of a row and the bounds, a handle, $".." (the mask), $".." (the icon), the
+   colour table, $".." (the pixels). Imaging, Color QuickDraw. */
 type 'cicn' {
     types_pixmap;
-    types_bitmap;                                       // mask
-    types_bitmap;                                       // bits
+    unsigned longint;                                   // where the colour table is
+    unsigned hex longint;
+    unsigned hex longint;                               // where the bits of the mask are
+maskBytes:
+    integer;
+maskBounds:
+    rect;
+    unsigned hex longint;                               // where the bits of the icon are
+iconBytes:
+    integer;
+iconBounds:
+    rect;
     unsigned hex longint;                               // handle of the pixels
+    hex string[$$Word(maskBytes) * ($$BitField(maskBounds, 32, 16) - $$Word(maskBounds))];
+    hex string[$$Word(iconBytes) * ($$BitField(iconBounds, 32, 16) - $$Word(iconBounds))];
+    types_colours;
     hex string;
 };
 
@@ -589,12 +608,12 @@ type 'acur' {
     };
 };
 
-/* A cursor in colour. Items: kind, $"..", $"..", {down, right}, seed, id, the fields of its pixel map, and then its
-   pixels and its colour table as one string; to part them takes labels. Imaging, Cursor Utilities. */
+/* A cursor in colour. Items: kind, $"..", $"..", {down, right}, seed, id, the fields of its pixel map, $".." (the
+   pixels), its colour table. Imaging, Cursor Utilities. */
 type 'crsr' {
     unsigned hex integer oldCursor = 0x8000, newCursor = 0x8001;
-    longint = 96;                                       // where the pixel map begins
-    longint = 146;                                      // where its pixels begin
+    unsigned longint = pixelMap / 8;
+    unsigned longint = pixels / 8;
     fill long;
     fill word;
     fill long;
@@ -603,8 +622,14 @@ type 'crsr' {
     point;
     unsigned longint;                                   // seed of the colour table
     unsigned longint;                                   // id
+pixelMap:
     types_pixmap;
+    unsigned longint = colours / 8;
+    unsigned hex longint;                               // reserved
+pixels:
     hex string;
+colours:
+    types_colours;
 };
 
 /* A pattern of 8 by 8 bits, and a list of them. Items: $".."; { $".."; .. }. Imaging, QuickDraw Drawing. */
@@ -618,18 +643,24 @@ type 'PAT#' {
     };
 };
 
-/* A pattern in colour. Items: kind, -1, the pattern of bits, the fields of its pixel map, and then its pixels and its
-   colour table as one string; to part them takes labels. Imaging, Color QuickDraw. */
+/* A pattern in colour. Items: kind, -1, the pattern of bits, the fields of its pixel map, $".." (the pixels), its colour
+   table. Imaging, Color QuickDraw. */
 type 'ppat' {
     integer oldPattern, newPattern, ditherPattern;
-    longint = 28;                                       // where the pixel map begins
-    longint = 78;                                       // where its pixels begin
+    unsigned longint = pixelMap / 8;
+    unsigned longint = pixels / 8;
     fill long;
     integer;                                            // -1: to be expanded
     fill long;
     hex string[8];
+pixelMap:
     types_pixmap;
+    unsigned longint = colours / 8;
+    unsigned hex longint;                               // reserved
+pixels:
     hex string;
+colours:
+    types_colours;
 };
 
 /* A picture. Items: the low half of its length, {top, left, bottom, right}, its opcodes as one string. Imaging,
@@ -672,8 +703,10 @@ type 'pltt' {
 /* ---- Fonts ---- */
 
 /* A font of bits. Items: kind, first and last character, widest width, kerning, 0 less the descent, width and height of
-   the box, where the offsets and widths begin (in words from here), ascent, descent, leading, words of a row, and then
-   as one string the rows of bits, the places of characters, and their offsets and widths. Text, Font Manager. */
+   the box, ascent, descent, leading, words of a row, $".." (the rows of bits), { where each character begins in a row;
+   .. }, { offset and width of each; .. }. Both lists have one character more, which stands for those that are missing, and
+   the first one has its end too; a missing character has -1, -1. Tables that a kind has behind them go on in the second
+   list. Text, Font Manager. */
 type 'NFNT' {
     unsigned hex integer propFont = 0x9000, prpFntH = 0x9001, prpFntW = 0x9002, prpFntHW = 0x9003,
         fixedFont = 0xB000, fxdFntH = 0xB001, fxdFntW = 0xB002, fxdFntHW = 0xB003, fontWid = 0xACB0;
@@ -683,13 +716,24 @@ type 'NFNT' {
     integer;                                            // kerning, at most 0
     integer;                                            // 0 less the descent
     integer;                                            // width of the box
+height:
     integer;                                            // height of the box
-    unsigned integer;                                   // where the offsets and widths begin
+offsets:
+    unsigned integer = (widths - offsets) / 16;
     integer;                                            // ascent
     integer;                                            // descent
     integer;                                            // leading
+words:
     integer;                                            // words of a row
-    hex string;
+    hex string[2 * $$Word(words) * $$Word(height)];
+    wide array {
+        unsigned integer;
+    };
+widths:
+    wide array {
+        byte;                                           // offset
+        byte;                                           // width
+    };
 };
 
 /* The same, with an id of 128 times the family and the size. One without bytes, which has but the family's name, is
@@ -838,6 +882,38 @@ type 'SIZE' {
     boolean reserved;
     unsigned longint;                                   // wanted
     unsigned longint;                                   // least
+};
+
+/* The code fragments of a file (id 0). Items: { kPowerPCCFragArch, kIsCompleteCFrag, version, oldest version that it can
+   stand for, kDefaultStackSize, kNoAppSubFolder, kApplicationCFrag, kDataForkCFragLocator, kZeroOffset, kCFragGoesToEOF,
+   "name"; .. }. One with extensions of Mac OS 8 behind its names is shown as data. PowerPC System Software, Code Fragment
+   Manager. */
+type 'cfrg' {
+    fill long[2];
+    longint = 1;                                        // version of this form
+    fill long[4];
+    longint = $$CountOf(memberArray);
+    array memberArray {
+    memberStart:
+        literal longint kPowerPCCFragArch = 'pwpc', kMotorola68KCFragArch = 'm68k', kPowerPC = 'pwpc', kPowerPCArch = 'pwpc',
+            kMotorola68K = 'm68k', kMotorola68KArch = 'm68k';
+        longint kIsCompleteCFrag, kFirstCFragUpdate, kFullLib = 0, kUpdateLib = 1;
+        unsigned hex longint kNoVersionNum;             // version
+        unsigned hex longint kNoVersionNum;             // the oldest that it can stand for
+        unsigned longint kDefaultStackSize;
+        integer kNoAppSubFolder, kNoAppLibFolder = 0;   // id of an alis
+        byte kImportLibraryCFrag, kApplicationCFrag, kDropInAdditionCFrag, kStubLibraryCFrag, kWeakStubLibraryCFrag, kIsLib = 0,
+            kIsApp = 1, kIsDropIn = 2;
+        byte kMemoryCFragLocator, kDataForkCFragLocator, kResourceCFragLocator, kByteStreamCFragLocator,
+            kNamedFragmentCFragLocator, kInMem = 0, kOnDiskFlat = 1, kOnDiskSegmented = 2;
+        unsigned longint kZeroOffset;                   // where it begins
+        unsigned longint kCFragGoesToEOF, kWholeFork = 0; // its length
+        fill long[2];
+        unsigned integer = (memberEnd - memberStart) / 8;
+        pstring;
+        align long;
+    memberEnd:
+    };
 };
 
 /* That a file is made for Carbon (id 0). Items: none. */
@@ -1055,8 +1131,7 @@ type 'hwin' {
 };
 
 /* The help of places in a window. Items: HelpMgrVersion, hmDefaultOptions, 0, 0, { HMStringResItem { {tip},
-   {top, left, bottom, right}, id, index }; .. }. A part that has its text in itself, HMStringItem, begins with its
-   length, which takes a label. More, Help Manager. */
+   {top, left, bottom, right}, id, index }; .. }. More, Help Manager. */
 type 'hrct' {
     integer HelpMgrVersion = 2;
     longint hmDefaultOptions = 0, hmUseSubID = 1, hmAbsoluteCoords = 2, hmSaveBitsNoWindow = 4, hmSaveBitsWindow = 8,
@@ -1066,6 +1141,15 @@ type 'hrct' {
     integer = $$CountOf(HelpRectArray);
     wide array HelpRectArray {
         switch {
+        case HMStringItem:
+        itemStart:
+            integer = (itemEnd - itemStart) / 8;
+            key integer = 1;
+            point;
+            rect;
+            pstring;
+            align word;
+        itemEnd:
         case HMPictItem:
             integer = 18;
             key integer = 2;
@@ -1091,6 +1175,48 @@ type 'hrct' {
             point;
             rect;
             integer;                                    // id of the STR
+        };
+    };
+};
+
+/* The help of an icon of the Finder, with the id -5696. Items: HelpMgrVersion, hmDefaultOptions, 0, 0,
+   { HMSTRResItem { id } }. More, Help Manager. */
+type 'hfdr' {
+    integer HelpMgrVersion = 2;
+    longint hmDefaultOptions = 0, hmUseSubID = 1, hmAbsoluteCoords = 2, hmSaveBitsNoWindow = 4, hmSaveBitsWindow = 8,
+        hmMatchInTitle = 16;
+    integer;                                            // id of the WDEF of balloons
+    integer;                                            // variation
+    integer = $$CountOf(HelpIconArray);
+    wide array HelpIconArray {
+        switch {
+        case HMStringItem:
+        itemStart:
+            integer = (itemEnd - itemStart) / 8;
+            key integer = 1;
+            pstring;
+            align word;
+        itemEnd:
+        case HMPictItem:
+            integer = 6;
+            key integer = 2;
+            integer;                                    // id of the PICT
+        case HMStringResItem:
+            integer = 8;
+            key integer = 3;
+            integer;                                    // id of the STR#
+            integer;                                    // which of its texts
+        case HMTEResItem:
+            integer = 6;
+            key integer = 6;
+            integer;                                    // id of the TEXT and styl
+        case HMSTRResItem:
+            integer = 6;
+            key integer = 7;
+            integer;                                    // id of the STR
+        case HMSkipItem:
+            integer = 4;
+            key integer = 256;
         };
     };
 };
@@ -1157,7 +1283,7 @@ type 'Estr' as 'STR ';
 #undef types_window_procs
 #undef types_positions
 #undef types_pixmap
-#undef types_bitmap
+#undef types_colours
 #undef types_flag
 #undef types_flags8
 #endif
