@@ -16,8 +16,10 @@ def tree_from(term):
         return tree_of(term)
     if isinstance(term, str):
         return ("fact", FACTS[term]) if term in FACTS else ("name", term)
-    if term[0] == "count":
-        return "rows", term[1]
+    if term[0] in ("count", "row"):
+        return "rows" if term[0] == "count" else "row", term[1]
+    if term[0] == "index":
+        return "index", term[1], tree_from(term[2])
     if term[0] == "bits":
         return ("bits", term[1], term[2]) + tuple(tree_from(each) for each in term[3:])
     return (term[0][:1] if len(term) == 2 else term[0],) + tuple(tree_from(each) for each in term[1:])

@@ -5,8 +5,9 @@ the document: `is_readable` goes over the fields with the names that are known, 
 same names and their values. It looks for one row only, and believes none: what it found counts if labels.py lays it to
 the same bytes. label_search.py tries all rows in its place.
 """
-from label_types import Align, Array, Expr, Fill, Label, Number, Points, Refused, Switch, Text, UNITS, value_of, words_in
-from labels import bytes_of, constant, expressions, formats_in, joined, stored, takes, width_of
+from label_types import (Align, Array, Expr, Fill, Label, Number, Points, Refused, Switch, Text, UNITS, in_row, value_of,
+                         words_in)
+from labels import bytes_of, constant, expressions, formats_in, joined, own_names, stored, takes, width_of
 
 MOST_VALUES = 1048576
 LENGTHS = {"string": 0, "cstring": 0, "pstring": 8, "wstring": 16}
@@ -20,13 +21,26 @@ class NoRow(Exception):
 # What is known at a field.
 
 class Known:
-    """Labels that stand before a field with their places, labels that were solved, and arrays with a known number of rows."""
+    """What is known at a field.
 
-    def __init__(self, passed=(), solved=(), counts=()):
+    These are the labels that stand before it with their places, labels that were solved, arrays with a known number of
+    rows, the labels in rows of arrays that have ended with their places, and the arrays around with the number of the row.
+    """
+
+    def __init__(self, passed=(), solved=(), counts=(), ended=(), around=()):
         self.passed, self.solved, self.counts = dict(passed), dict(solved), dict(counts)
+        self.ended, self.around = dict(ended), dict(around)
 
-    def inner(self):
-        return Known(self.passed, self.solved, self.counts)
+    def inner(self, array=None, number=None):
+        """What is known at the beginning of a case, or of a row of an array; nothing of it is known behind that."""
+        around = {**self.around, array: number} if array else self.around
+        return Known(self.passed, self.solved, self.counts, self.ended, around)
+
+    def end(self, array, lines):
+        """An array has ended; of each row stands what is known at its end."""
+        self.counts[array_name(array)] = len(lines)
+        for name in own_names(array.row, Label):
+            self.ended[name] = [line.passed[name] for line in lines]
 
 
 def is_label(field, name):
@@ -44,8 +58,10 @@ def steps_to(body, k, name):
 
 
 def is_known(kind, name, body, k, known):
-    if kind == "rows":
-        return name in known.counts
+    if kind == "row":  # a row knows its own number
+        return True
+    if kind in ("rows", "index"):
+        return name in (known.counts if kind == "rows" else known.ended)
     if name in known.passed:
         return True
     if kind == "label":  # bits are read at a label that stands before
@@ -88,7 +104,7 @@ def is_counted(field, known):
 
 def is_own(body, word):
     kind, name = word
-    return any(is_label(field, name) if kind == "name" else array_name(field) == name for field in body)
+    return kind != "index" and any(is_label(field, name) if kind == "name" else array_name(field) == name for field in body)
 
 
 # Whether a type can be read.
@@ -141,8 +157,8 @@ def field_is_readable(body, k, known, outermost):
         ends = not is_open or solved_end(body, k, known) is not None or rest_of(body, k, outermost) is not None
         return ends and not any(unknown_in(expr.tree, body, k, known) for expr in expressions(field))
     if isinstance(field, Array):
-        readable = array_ends(body, k, known, outermost) and is_readable(field.row, known.inner(), False)
-        known.counts[array_name(field)] = None
+        readable = array_ends(body, k, known, outermost) and is_readable(field.row, known.inner(array_name(field)), False)
+        known.end(field, [])
         return readable
     return not isinstance(field, Switch) or all(is_readable(row, known.inner(), False) for _, row in field.cases)
 
@@ -200,7 +216,7 @@ def undone(sign, value, side, on_left):
 # The row that bytes are.
 
 class Here:
-    """What an expression of a field sees: labels, numbers of rows, the bits before a place, and facts."""
+    """What an expression of a field sees: labels, numbers of rows, the rows around, the bits before a place, and facts."""
 
     def __init__(self, reader, body, k, known, start):
         self.reader, self.body, self.k, self.known, self.start = reader, body, k, known, start
@@ -221,6 +237,12 @@ class Here:
 
     def rows(self, name):
         return self.known.counts[name.lower()]
+
+    def place_in(self, name, index):
+        return in_row(self.known.ended[name.lower()], index)
+
+    def row(self, name):
+        return self.known.around[name.lower()]
 
     def bits(self, first, width):
         if first < 0 or first + width > self.end:
@@ -340,14 +362,15 @@ class Reader:
         return value
 
     def rows(self, field, here, outermost):
-        out, count = [], here.known.counts[array_name(field)] if is_counted(field, here.known) else field.count
+        out, lines, count = [], [], here.known.counts[array_name(field)] if is_counted(field, here.known) else field.count
         end, rest = (None, 0) if count is not None else self.end_of(here, outermost)
         while (len(out) < count if count is not None else self.at < end if end is not None else self.length - rest - self.at >= 8):
             self.values_more(1)
-            out.append(self.body(field.row, here.known.inner(), False))
+            lines.append(here.known.inner(array_name(field), len(lines) + 1))
+            out.append(self.body(field.row, lines[-1], False))
         if end is not None and self.at != end:
             raise NoRow
-        here.known.counts[array_name(field)] = len(out)
+        here.known.end(field, lines)
         return out
 
     def case(self, field, known):

@@ -17,7 +17,8 @@ from label_reading import (LENGTHS, NoRow, array_name, can_solve, is_own, is_lab
 from label_spelling import is_spelled, width_at
 from label_types import (Align, Array, Fill, Label, Number, Points, Refused, Switch, Text, UNITS, type_text, value_of,
                          words_in)
-from labels import FACTS, Names, Sight, bytes_bits, bytes_of, constant, expressions, inner, takes, width_of
+from labels import (FACTS, Names, Sight, bytes_bits, bytes_of, constant, expressions, inner, own_names, takes,
+                    width_of)
 from random_types import some_bytes, some_type
 
 
@@ -27,7 +28,7 @@ class Told:
     """A type with the place of each field in a walk: its number, its body and where it stands there, and where it ends."""
 
     def __init__(self, body):
-        self.outermost, self.all, self.labels, self.arrays = body, [], {}, {}
+        self.outermost, self.all, self.labels, self.arrays, self.lines = body, [], {}, {}, {}
         self.walk(body)
 
     def walk(self, body):
@@ -40,11 +41,17 @@ class Told:
                 self.walk(row)
             if array_name(field):
                 self.arrays[array_name(field)] = number, len(self.all)
+            if isinstance(field, Array):
+                self.lines.update(dict.fromkeys(own_names(field.row, Label), len(self.all)))
 
     def is_known(self, word, number, part):
         """Whether part `part` of field `number` knows a name; `label` is the name at which bits are read."""
         kind, name = word
         _, body, k = self.all[number]
+        if kind == "row":
+            return True
+        if kind == "index":
+            return self.lines[name] <= number
         if kind == "rows":
             return self.arrays[name][1] <= number or self.was_solved(word, number, part)
         if name not in self.labels and name in ("true", "false"):
@@ -163,12 +170,12 @@ def arrays_in(field, bits, at, count):
 
 def is_plain(told, body, row, data):
     """Every solving number of the row solves to what the row has, and its strings are as they have to be."""
-    return all(part_is_plain(told, *one) for one in placed(told, body, row, bytes_bits(data), None, [0], 0))
+    return all(part_is_plain(told, *one) for one in placed(told, body, row, bytes_bits(data), Names(body, row, None), [0], 0))
 
 
-def placed(told, body, row, bits, outer, at, first):
+def placed(told, body, row, bits, names, at, first):
     """The fields of a row in their order: each with its number in the type, its value, and what is seen there at last."""
-    names, values, out, number = Names(body, row, outer), iter(row), [], first
+    values, out, number = iter(row), [], first
     for field in body:
         value = next(values) if takes(field) else None
         start = at[0]
@@ -177,13 +184,15 @@ def placed(told, body, row, bits, outer, at, first):
         if isinstance(field, Label):
             names.labels[field.name.lower()] = start
         elif isinstance(field, Array):
-            for line in value:
-                out += placed(told, field.row, line, bits, names, at, number + 1)
+            lines = [Names(field.row, line, names, field.name, k) for k, line in enumerate(value, 1)]
+            for inside, line in zip(lines, value):
+                out += placed(told, field.row, line, bits, inside, at, number + 1)
+            names.ended(field, lines)
         elif isinstance(field, Switch):
             skipped = number + 1
             for name, inner_row in field.cases:
                 if name == value[0]:
-                    out += placed(told, inner_row, value[1], bits, names, at, skipped)
+                    out += placed(told, inner_row, value[1], bits, Names(inner_row, value[1], names), at, skipped)
                 skipped += size_of(inner_row)
         else:
             at[0] = start + width_at(field, value, names, bits, start, FACTS)

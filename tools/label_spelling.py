@@ -6,7 +6,7 @@ random_labels.py ask this of all that labels.py lays.
 """
 from label_types import Align, Array, Fill, Label, Number, Points, Refused, Text, number, UNITS, value_of, words_in
 from labels import (Late, Names, Sight, bytes_bits, expressions, formats_in, in_range, joined, may_be_size, number_bits,
-                    stored, takes, width_of)
+                    own_names, stored, takes, width_of)
 
 
 class Reads(Sight):
@@ -22,37 +22,50 @@ class Reads(Sight):
         return found
 
 
-def flat(body, row, outer):
-    """The pieces of a row in their order: each with its field, its value or expression, and the names of its body."""
-    names, values = Names(body, row, outer), iter(row)
+def flat(names, body, row, pieces, ends):
+    """Appends the pieces of a row in their order: each with its field, its value or expression, and the names of its body.
+
+    Of each scope with labels in rows the number of the piece at which the array ends is kept, by the first of the labels.
+    """
+    values = iter(row)
     for field in body:
         value = next(values) if takes(field) else None
         if isinstance(field, Points):
-            for k in range(field.count):
-                yield Number("integer", 16, field.fixed[k] if field.fixed else None), value[k] if value else None, names
+            pieces += [(Number("integer", 16, field.fixed[k] if field.fixed else None), value[k] if value else None, names)
+                       for k in range(field.count)]
         elif isinstance(field, Array):
-            for line in value:
-                yield from flat(field.row, line, names)
+            lines = [Names(field.row, line, names, field.name, k) for k, line in enumerate(value, 1)]
+            names.ended(field, lines)
+            for inside, line in zip(lines, value):
+                flat(inside, field.row, line, pieces, ends)
+            ends.update(((id(names), name), len(pieces)) for name in own_names(field.row, Label))
         elif isinstance(field, (Label, Number, Text, Fill, Align)):
-            yield field, value, names
+            pieces.append((field, value, names))
         else:
-            yield from flat(dict(field.cases)[value[0]], value[1], names)
-
-
-def labels_of(expr):
-    return [word for kind, word in words_in(expr.tree) if kind != "rows"]
+            chosen = dict(field.cases)[value[0]]
+            flat(Names(chosen, value[1], names), chosen, value[1], pieces, ends)
 
 
 def is_spelled(body, row, facts, data):
     """The bytes are those of the row, by the definition."""
     bits = bytes_bits(data)
+    pieces, ends = [], {}
+    flat(Names(body, row, None), body, row, pieces, ends)
     try:
-        return places_are(list(flat(body, row, None)), bits, facts)
+        return places_are(pieces, ends, bits, facts)
     except (Refused, Late, KeyError, TypeError):
         return False
 
 
-def places_are(pieces, bits, facts):
+def stands_later(kind, word, names, k, stands, ends):
+    """A name of piece k stands behind it: a label, or the end of the array whose rows have it."""
+    if kind == "index":
+        return ends[(id(names.lines_of(word)), word.lower())] > k
+    found = names.label(word) if kind in ("name", "label") else None
+    return found is not None and stands[(id(found), word.lower())] > k
+
+
+def places_are(pieces, ends, bits, facts):
     places, end = [], 0
     stands = {}  # the number of the piece of each label
     for k, (field, value, names) in enumerate(pieces):
@@ -66,8 +79,7 @@ def places_are(pieces, bits, facts):
     late = set()
     for k, (field, value, names) in enumerate(pieces):
         place, sight = places[k], Reads(names, bits, places[k], None, facts)
-        later = any(stands[(id(names.label(word)), word.lower())] > k
-                    for expr in expressions(field) for word in labels_of(expr) if names.label(word))
+        later = any(stands_later(*word, names, k, stands, ends) for expr in expressions(field) for word in words_in(expr.tree))
         width = (places + [end])[k + 1] - place
         own = bits[place:place + width]
         if isinstance(field, Text):

@@ -5,7 +5,7 @@ A field is a tuple of what its text says, and an expression is built by Python's
 from collections import namedtuple
 
 NAMES = {207: "OutOfRange", 211: "ZeroDivisor", 212: "UnknownLabel", 213: "LaterData", 214: "SizeLater", 215: "BadShift",
-         216: "TextTooLong", 222: "BadFormat", 230: "LabelTwice", 231: "ArrayTwice", 232: "CaseTwice", 233: "KeyMissing",
+         216: "TextTooLong", 222: "BadFormat", 223: "BadIndex", 230: "LabelTwice", 231: "ArrayTwice", 232: "CaseTwice", 233: "KeyMissing",
          235: "KeyDistance", 237: "ElementWithoutValues", 238: "BadWidth", 301: "ResourceTooLong"}
 
 
@@ -66,6 +66,16 @@ def rows_of(array):
     return Expr("rows", array)
 
 
+def at_row(label, index):
+    """The place of a label in a row of its array."""
+    return Expr("index", label, tree_of(index))
+
+
+def row_of(array):
+    """The number of the row of an array in which the expression stands."""
+    return Expr("row", array)
+
+
 def bits_at(label, start, width):
     return Expr("bits", "BitField", label, tree_of(start), tree_of(width))
 
@@ -94,6 +104,10 @@ def spelled(tree, loosest=99):
         return tree[1]
     if tree[0] == "rows":
         return "$$CountOf(%s)" % tree[1]
+    if tree[0] == "row":
+        return "$$ArrayIndex(%s)" % tree[1]
+    if tree[0] == "index":
+        return "%s[%s]" % (tree[1], spelled(tree[2]))
     if tree[0] == "fact":
         return "$$" + tree[1]
     if tree[0] == "bits":
@@ -131,7 +145,7 @@ def operated(sign, left, right):
 
 
 def value_of(tree, sight):
-    """The value of an expression by what is seen: names, numbers of rows, bits and facts."""
+    """The value of an expression by what is seen: names, numbers of rows, rows around, bits and facts."""
     kind = tree[0]
     if kind == "number":
         return wrapped(tree[1])
@@ -139,6 +153,10 @@ def value_of(tree, sight):
         return sight.name(tree[1])
     if kind == "rows":
         return wrapped(sight.rows(tree[1]))
+    if kind == "row":
+        return wrapped(sight.row(tree[1]))
+    if kind == "index":
+        return sight.place_in(tree[1], value_of(tree[2], sight))
     if kind == "fact":
         return wrapped(sight.facts[tree[1]])
     if kind == "bits":
@@ -155,10 +173,20 @@ def value_of(tree, sight):
     return operated(kind, left, value_of(tree[2], sight))
 
 
+def in_row(places, index):
+    """The place in one of these rows, which count from 1."""
+    if not 1 <= index <= len(places):
+        raise Refused(223, index)
+    return places[index - 1]
+
+
 def words_in(tree):
-    """The names in an expression as they are written: pairs of what they are, a label or an array, and the name."""
-    if tree[0] in ("name", "rows"):
+    """The names in an expression as they are written: pairs of what they are, as a label or an array, and the name."""
+    if tree[0] in ("name", "rows", "row"):
         yield tree[0], tree[1]
+    elif tree[0] == "index":
+        yield "index", tree[1]
+        yield from words_in(tree[2])
     elif tree[0] == "bits":
         yield "label", tree[2]
         for each in tree[3:]:

@@ -7,8 +7,8 @@ of all labels at hand, each number has to be what its expression says. label_cas
 A row is a list with a value for each field that takes an item: a number, bytes, a tuple of numbers for a point or a
 rectangle, a list of rows, or a pair of the name of a case and a row.
 """
-from label_types import (Align, Array, Expr, Fill, Format, Label, Number, Points, Refused, Switch, Text, UNITS, value_of, words_in,
-                         wrapped)
+from label_types import (Align, Array, Expr, Fill, Format, Label, Number, Points, Refused, Switch, Text, UNITS, in_row,
+                         value_of, words_in, wrapped)
 
 MOST = 16777212 * 8
 
@@ -81,6 +81,11 @@ def own_names(body, kind):
     return {field.name.lower() for field in body if isinstance(field, kind) and field.name}
 
 
+def row_labels(body):
+    """The labels that stand directly in the rows of the arrays of a body."""
+    return {name for field in body if isinstance(field, Array) for name in own_names(field.row, Label)}
+
+
 def check(body):
     """The first broken rule of a type as a fault, or nothing; those on keys but their distance are not looked at."""
     seen, count = {Label: set(), Array: set()}, [0]
@@ -108,30 +113,37 @@ def check(body):
                         raise Refused(235, field.cases[place][0])
                     before = sum(distance)
 
-    def named(fields, labels, arrays):
-        labels, arrays = labels | own_names(fields, Label), arrays | own_names(fields, Array)
+    def named(fields, around):
+        can = {"label": around["label"] | own_names(fields, Label), "rows": around["rows"] | own_names(fields, Array),
+               "index": around["index"] | row_labels(fields), "row": around["row"]}
+        can["name"] = can["label"] | {"true", "false"}
         for field in fields:
             for kind, name in [each for expr in expressions(field) for each in words_in(expr.tree)]:
-                known = arrays if kind == "rows" else labels | ({"true", "false"} if kind == "name" else set())
-                if name.lower() not in known:
+                if name.lower() not in can[kind]:
                     raise Refused(212, name)
+            entered = {field.name.lower()} if isinstance(field, Array) and field.name else set()
             for row in inner(field):
-                named(row, labels, arrays)
+                named(row, dict(can, row=can["row"] | entered))
 
     walk(body, None)
-    named(body, set(), set())
+    named(body, dict.fromkeys(("label", "rows", "index", "row"), set()))
 
 
 # Bytes.
 
 class Names:
-    """The labels and arrays of a body as far as they are known, and those around it."""
+    """The labels and arrays of a body as far as they are known, and those around it; of a row also its array and its number.
 
-    def __init__(self, body, row, outer):
+    Of a label in the rows of an array of the body stand the names of the rows, from the array's end on.
+    """
+
+    def __init__(self, body, row, outer, array=None, number=None):
         self.labels = {field.name.lower(): None for field in body if isinstance(field, Label)}
         values = iter(row)
         paired = [(field, next(values) if takes(field) else None) for field in body]
         self.arrays = {field.name.lower(): len(value) for field, value in paired if isinstance(field, Array) and field.name}
+        self.lines = {name: None for name in row_labels(body)}
+        self.array, self.number = array and array.lower(), number
         self.outer = outer
 
     def label(self, name):
@@ -141,7 +153,24 @@ class Names:
             found = found.outer
         return found
 
-    def is_later(self, name):
+    def lines_of(self, name):
+        """The scope that has the array whose rows have the label, or None."""
+        found = self
+        while found and name.lower() not in found.lines:
+            found = found.outer
+        return found
+
+    def ended(self, array, lines):
+        """An array has ended, and these are the names of its rows."""
+        for name in own_names(array.row, Label):
+            self.lines[name] = lines
+
+    def is_later(self, kind, name):
+        """A name stands behind what asks for it."""
+        if kind in ("rows", "row"):
+            return False
+        if kind == "index":
+            return self.lines_of(name).lines[name.lower()] is None
         found = self.label(name)
         return bool(found) and found.labels[name.lower()] is None
 
@@ -161,6 +190,19 @@ class Sight:
         while name.lower() not in found.arrays:
             found = found.outer
         return found.arrays[name.lower()]
+
+    def places(self, name):
+        """The places of a label in the rows of its array."""
+        return [line.labels[name.lower()] for line in self.names.lines_of(name).lines[name.lower()]]
+
+    def place_in(self, name, index):
+        return in_row(self.places(name), index)
+
+    def row(self, name):
+        found = self.names
+        while found.array != name.lower():
+            found = found.outer
+        return found.number
 
     def bits(self, first, width):
         if first < 0 or first + width > self.end:
@@ -232,6 +274,8 @@ def stored(form, size, data):
 class Laid:
     """A row that is laid: bits, marks of late ones, and the late numbers with their places and what they see."""
 
+    sees = Sight
+
     def __init__(self, facts):
         self.facts, self.bits, self.marks, self.late, self.piece = facts, [], [], [], 0
 
@@ -243,10 +287,10 @@ class Laid:
         self.piece += 1
 
     def sight(self, names):
-        return Sight(names, self.bits, len(self.bits), self.marks, self.facts)
+        return self.sees(names, self.bits, len(self.bits), self.marks, self.facts)
 
     def fixed(self, field, expr, names):
-        late = any(names.is_later(word) for kind, word in words_in(expr.tree) if kind != "rows")
+        late = any(names.is_later(*word) for word in words_in(expr.tree))
         if not late:
             try:
                 value = value_of(expr.tree, self.sight(names))
@@ -268,7 +312,7 @@ class Laid:
 
     def string(self, field, value, names):
         every = expressions(field)
-        if any(names.is_later(word) for expr in every for kind, word in words_in(expr.tree) if kind != "rows"):
+        if any(names.is_later(*word) for expr in every for word in words_in(expr.tree)):
             raise Refused(214, self.piece)
         size = None if field.size is None else self.early(field.size, names)
         if field.fixed is not None:
@@ -282,10 +326,11 @@ class Laid:
             raise Refused(301, (len(self.bits) + 8 * (size + {"pstring": 1, "wstring": 2}.get(field.form, 0)) + 7) // 8)
         self.push(bytes_bits(stored(field.form, size, value)))
 
-    def body(self, fields, row, outer):
-        names, values = Names(fields, row, outer), iter(row)
+    def body(self, fields, row, outer, array=None, number=None):
+        names, values = Names(fields, row, outer, array, number), iter(row)
         for field in fields:
             self.field(field, next(values) if takes(field) else None, names)
+        return names
 
     def field(self, field, value, names):
         if isinstance(field, Label):
@@ -309,15 +354,14 @@ class Laid:
         elif isinstance(field, Align):
             self.push([0] * (-len(self.bits) % UNITS[field.unit]))
         elif isinstance(field, Array):
-            for row in value:
-                self.body(field.row, row, names)
+            names.ended(field, [self.body(field.row, row, names, field.name, k + 1) for k, row in enumerate(value)])
         else:
             self.body(dict(field.cases)[value[0]], value[1], names)
 
     def fill_in(self):
         """The late numbers in their order, each seen with all labels and the bits before it."""
         for field, expr, names, place in self.late:
-            value = value_of(expr.tree, Sight(names, self.bits, place, None, self.facts))
+            value = value_of(expr.tree, self.sees(names, self.bits, place, None, self.facts))
             if not in_range(field, value):
                 raise Refused(207, value)
             self.bits[place:place + field.width] = number_bits(value, field.width)
@@ -331,9 +375,9 @@ def packed(bits):
 FACTS = {"ID": 1, "Type": int.from_bytes(b"Test", "big"), "Attributes": 0, "Name": b"", "Version": b"V1.0"}
 
 
-def bytes_of(body, row, facts=FACTS):
+def bytes_of(body, row, facts=FACTS, lays=Laid):
     """The bytes of a row, or its refusal."""
-    laid = Laid(facts)
+    laid = lays(facts)
     laid.body(body, row, None)
     laid.fill_in()
     return packed(laid.bits)

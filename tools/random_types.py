@@ -6,9 +6,10 @@ random_rows.py stand on it.
 """
 import random
 
-from label_types import (Align, Array, Expr, Fill, Format, Label, Number, Points, Refused, Switch, Text, at, bits_at,
-                         byte_at, fact, key, long_at, num, number, rows_of, text, word_at)
-from labels import bytes_of, check, takes
+from label_types import (Align, Array, Expr, Fill, Format, Label, Number, Points, Refused, Switch, Text, at, at_row, bits_at,
+                         byte_at, fact, key, long_at, num, number, row_of, rows_of, text, word_at, words_in)
+from label_wrong import WRONG
+from labels import Laid, bytes_of, check, takes
 
 PICK = random.choice
 
@@ -18,10 +19,15 @@ def chance(part):
 
 
 class Maker:
-    """Makes bodies; the names of labels and arrays count up."""
+    """Makes bodies; the names of labels and arrays count up.
+
+    Beside them stand the names of the arrays around, and the labels in the rows of arrays that have ended, each with
+    the name of its array.
+    """
 
     def __init__(self):
         self.labels = self.arrays = 0
+        self.around, self.ended_rows = [], []
 
     def label(self):
         self.labels += 1
@@ -36,6 +42,10 @@ class Maker:
     def side(self, passed):
         """What is known: a number, a place, a fact, or bits."""
         kind = PICK(["number"] * 5 + ["place", "place", "bits", "fact"])
+        if kind in ("place", "number") and self.around and chance(0.15):
+            return row_of(PICK(self.around))
+        if kind == "place" and self.ended_rows and chance(0.5):
+            return PICK([self.in_row(passed), self.in_row(passed) / 8])
         if kind == "place" and passed:
             return PICK([at(PICK(passed)), at(PICK(passed)) / 8])
         if kind == "bits" and passed:
@@ -43,6 +53,14 @@ class Maker:
             start, width = number(PICK([0, 1, 3, -1, -3, -8])), number(PICK([1, 2, 3, 8, 9, 31, 32, 33, 0]))
             return PICK([byte_at(name), word_at(name), long_at(name) & 7, bits_at(name, start, width)])
         return fact("ID") if kind == "fact" else number(PICK([0, 1, 1, 2, 2, 3, 4, 5, 7, 8, 8, 9, 16]))
+
+    def in_row(self, passed):
+        """The place of a label in a row of an array that has ended."""
+        label, array = PICK(self.ended_rows)
+        indexes = [number(each) for each in (1, 1, 1, 2, 2, 3, 0, -1)] + [row_of(each) for each in self.around * 3]
+        indexes += [rows_of(array)] * 2 + [rows_of(array) - 1] if array else []
+        indexes += [bits_at(PICK(passed), number(6), number(2))] if passed else []
+        return at_row(label, PICK(indexes))
 
     def over(self, one, passed, steps):
         """An expression over one unknown."""
@@ -102,18 +120,35 @@ class Maker:
         """A string or an array that has no end by itself."""
         if chance(0.5) or depth == 0:
             return text("string", None, None if chance(0.9) else b"xy", PICK(["", "hex "]))
-        return Array(PICK([None, None, self.array()]), None, self.row(depth - 1, passed))
+        return self.rows(PICK([None, None, self.array()]), None, depth - 1, passed)
+
+    def rows(self, name, count, depth, passed):
+        """An array; behind it the labels of its rows can be named."""
+        before = len(self.ended_rows)
+        self.around += [name] * bool(name)
+        out = Array(name, count, self.row(depth, passed))
+        del self.around[len(self.around) - bool(name):], self.ended_rows[before:]
+        self.ended_rows += [(field.name, name) for field in out.row if isinstance(field, Label)]
+        return out
 
     def row(self, depth, passed):
         out = self.between(0.3)
-        if passed and chance(0.4):
+        if chance(0.4):
+            passed = passed + [self.label()]
+            out.insert(random.randrange(len(out) + 1), Label(passed[-1]))
+        if chance(0.2):
+            out += PICK([self.ended, self.ended, self.near, self.sized])(0, passed)
+        if (passed or self.around) and chance(0.4):
             out.append(num(self.small(), self.known(passed)))
         if depth and chance(0.2):
             out += self.counted(depth, passed)
-        return out + [PICK([num("byte"), num("byte"), text("pstring"), num("bitstring[3]"), num("integer")])]
+        out.append(PICK([num("byte"), num("byte"), text("pstring"), num("bitstring[3]"), num("integer")]))
+        return out + [Label(self.label())] * chance(0.15)
 
     def known(self, passed):
-        return self.over(at(PICK(passed)) / 8, passed, PICK([0, 0, 1]))
+        pools = [at(each) / 8 for each in passed] + [row_of(each) for each in self.around]
+        pools += [self.in_row(passed) / 8 for _ in range(3)] if self.ended_rows else []
+        return self.over(PICK(pools), passed, PICK([0, 0, 1]))
 
     # Groups of fields.
 
@@ -136,7 +171,13 @@ class Maker:
     def counted(self, depth, passed):
         name = self.array()
         one = self.over(rows_of(name), passed, PICK([0, 0, 1, 2]))
-        return [num(self.small(), one)] + self.between(0.2) + [Array(name, None, self.row(max(depth - 1, 0), passed))]
+        between = self.between(0.2)
+        out = [num(self.small(), one)] + between + [self.rows(name, None, max(depth - 1, 0), passed)]
+        if self.ended_rows and chance(0.6):
+            out.append(num(self.small(), self.in_row(passed) / PICK([1, 8, 8, 8])))
+        if self.ended_rows and chance(0.03):
+            out.insert(0, num(self.small(), self.in_row(passed)))
+        return out
 
     def sized(self, depth, passed):
         """A number, and a size or a number that reads it."""
@@ -148,20 +189,24 @@ class Maker:
 
     def named(self, depth, passed):
         """A known name in a number, a size, a point or a format."""
-        if not passed:
+        if not (passed or self.ended_rows or self.around):
             return []
         one = self.known(passed)
-        return [PICK([num(self.form(), one), Points(2, [one, self.known(passed)]), text("string", one & 3),
+        counts = any(kind == "rows" for kind, _ in words_in(one.tree))  # they stand in no size
+        return [PICK([num(self.form(), one), Points(2, [one, self.known(passed)]), text("string", number(2) if counts else one & 3),
                       text("pstring", None, [Format(b"%d", [one])]), text("string", 2, [Format(b"%x", [one])])])]
 
     def switch(self, depth, passed):
         first = PICK([[], [], [num("byte")], [num("boolean"), Fill("bit", 2)]])
         values = random.sample(range(8), PICK([1, 2]))
-        return [Switch([(name, first + [key("bitstring[4]", value)] + self.body(depth - 1, passed, 1)) for name,
-            value in zip(["One", "two"], values)])]
+        before, cases = len(self.ended_rows), []
+        for name, value in zip(["One", "two"], values):
+            cases.append((name, first + [key("bitstring[4]", value)] + self.body(depth - 1, passed, 1)))
+            del self.ended_rows[before:]
+        return [Switch(cases)]
 
     def stated(self, depth, passed):
-        return [Array(None, random.randrange(3), self.row(depth - 1, passed))]
+        return [self.rows(None, random.randrange(3), depth - 1, passed)]
 
     def body(self, depth, passed, most):
         out = []
@@ -190,7 +235,7 @@ def some_type(depth=1, most=2):
         maker = Maker()
         body = maker.body(depth, [], most)
         if chance(0.2):
-            body += PICK([[text("string")], [text("string"), num("byte")], [Array(None, None, maker.row(0, []))],
+            body += PICK([[text("string")], [text("string"), num("byte")], [maker.rows(None, None, 0, [])],
                           [text("string"), Label(maker.label())]])
         body = broken(body)
         try:
@@ -242,11 +287,12 @@ def changed(data):
 
 
 def row_bytes(body, facts, texts=SHORT):
-    """The bytes of some row; after some that have none, any bytes."""
+    """The bytes of some row, now and then by a compiler that is wrong; after some rows that have none, any bytes."""
+    lays = PICK(WRONG) if chance(0.15) else Laid
     for _ in range(4):
         try:
-            return bytes_of(body, some_row(body, texts), facts)
-        except Refused:
+            return bytes_of(body, some_row(body, texts), facts, lays)
+        except (Refused, IndexError):
             pass
     return bytes(random.randrange(256) for _ in range(random.randrange(9)))
 

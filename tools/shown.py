@@ -16,7 +16,8 @@ A declaration is a list of fields, each a dictionary:
     {"is": "fill", "bits"}    {"is": "align", "bits"}     {"is": "array", "name", "count", "row"}
     {"is": "switch", "cases": [(name, fields)]}           {"is": "label", "name"}
 
-where fixed values and sizes are expressions: numbers, names in lower case, and tuples of an operator and operands. The
+where fixed values and sizes are expressions: numbers, names in lower case, and tuples of an operator and operands, of
+"count" or "row" and an array, of "index", a label and an operand, or of "bits", a function, a label and operands. The
 fixed value of a text is a list of bytes, of facts in lower case, and of formats: tuples of "format", bytes, and a list of
 expressions and lists. Rows of types with labels or formats are told by label_reading.py; those of all other short
 resources are told by both, which have to agree.
@@ -149,11 +150,11 @@ class Reader:
             inner = self.expression()
             self.want(")")
             return inner
-        if token.lower() == "$$countof":
+        if token.lower() in ("$$countof", "$$arrayindex"):
             self.want("(")
             name = self.next().lower()
             self.want(")")
-            return ("count", name)
+            return ("count" if token.lower() == "$$countof" else "row", name)
         if token.lower() in FUNCTIONS:
             self.want("(")
             bits = ("bits", FUNCTIONS[token.lower()], self.next().lower())
@@ -167,6 +168,10 @@ class Reader:
             return int(token[1:], 16)
         if token[0].isdigit():
             return int(token, 8 if re.fullmatch(r"0[0-7]+", token) else 0)
+        if self.take("["):
+            index = self.expression()
+            self.want("]")
+            return ("index", token.lower(), index)
         return {"true": 1, "false": 0}.get(token.lower(), token.lower())
 
     def constant(self):
@@ -369,13 +374,15 @@ def all_facts(facts):
 
 
 def value_of(term, counts, facts):
-    """The value of an expression; NoRow if it has none."""
+    """The value of an expression; NoRow if it has none. Beside the counts stand the numbers of the rows around."""
     if isinstance(term, int):
         return wrapped(term)
     if isinstance(term, str):
         return wrapped(fact_of(term, facts))
     if term[0] == "count":
         return wrapped(counts[term[1]])
+    if term[0] == "row":
+        return wrapped(counts[term])
     values = [value_of(each, counts, facts) for each in term[1:]]
     if term[0] in ("/", "%") and values[1] == 0 or term[0] in ("<<", ">>") and not 0 <= values[1] <= 31:
         raise NoRow
@@ -395,7 +402,7 @@ def names_in(term):
         return []
     if term[0] == "count":
         return [term[1]]
-    return [name for each in term[1:] for name in names_in(each)]
+    return [] if term[0] == "row" else [name for each in term[1:] for name in names_in(each)]
 
 
 def can_solve(term, name):
@@ -616,7 +623,7 @@ def read_rows(field, rest, counts, facts, bits):
         count = counts.get(field["name"])
     while len(rows) < count if count is not None else bits.left() - width_of(rest) >= 8:
         bits.count(1)
-        rows.append(read_row(row, dict(counts), facts, bits))
+        rows.append(read_row(row, {**counts, ("row", field["name"]): len(rows) + 1}, facts, bits))
     if field["name"]:
         counts[field["name"]] = len(rows)
     return ("rows", rows)

@@ -190,6 +190,10 @@ def items():
              ("HelpItem {\ndisabled\nHMScanAppendhdlg {\n132; 5\n}\n}", "81 06 0008 0084 0005")]
     one("DITL", "{\n" + "\n".join("{1, 2, 3, 4}\n" + text for text, _ in parts) + "\n}",
         "000B " + " ".join(rect + content for _, content in parts))
+    one("DITL", """{\n{1, 2, 3, 4}\nCheckBox {\nenabled; "Cut"\n}\n$41\n{1, 2, 3, 4}\nButton {\nenabled; "OK"\n}\n$
+        {1, 2, 3, 4}\nStaticText {\ndisabled; "?"\n}\n$\n{1, 2, 3, 4}\nEditText {\nenabled; ""\n}\n$\n}""",
+        "0003 " + rect + '05 03 "Cut" 41 ' + rect + '04 02 "OK" ' + rect + '88 01 "?" 00 ' + rect + "10 00",
+        128, "with padding that isn't zero", EITHER)
 
 
 def controls():
@@ -220,8 +224,8 @@ def icons():
     one("icm8", "$0001*96", "0001*96")
     one("SICN", "{\n$%s\n$%s\n$\n}" % (small, full), "%s %s 00*32" % (small, full))
     one("cicn", """0x00000000; 0x8002; {0, 0, 2, 8}; 0; unpacked; 0; 0x00480000; 0x00480000; chunky; 1; 1; 1; 0; 0; 0x00000000
-        0x00000000; 2; {0, 0, 2, 8}; 0x00000000; 2; {0, 0, 2, 8}; 0x00000000
-        $FF00 FF00 AA00 5500 00000000 0000 0001 0000 FFFF*3 0001 0000*3 AA00 5500""",
+        0x00000000; 2; {0, 0, 2, 8}; 0x00000000; 2; {0, 0, 2, 8}; 0x00000000\n$FF00 FF\n$AA00 55
+        0x00000000; 0x0000\n{\n0; 65535; 65535; 65535\n1; 0; 0; 0\n}\n$AA00 5500""",
         """00000000 8002 0000 0000 0002 0008 0000 0000 00000000 00480000 00480000 0000 0001 0001 0001 00000000 00000000
         00000000 00000000 0002 0000 0000 0002 0008 00000000 0002 0000 0000 0002 0008 00000000
         FF00 FF00 AA00 5500 00000000 0000 0001 0000 FFFF*3 0001 0000*3 AA00 5500""")
@@ -234,17 +238,18 @@ def pictures():
     one("CURS", "$%s\n$%s\n{1, 1}" % (arrow, mask), arrow + zeros + mask + zeros + "0001 0001")
     one("acur", "{\n128; 129\n}", "0002 0000 0080 0000 0081 0000")
     table = "00000000 0000 0001 0000 FFFF*3 0001 0000*3"
+    colours = "0x00000000; 0x0000\n{\n0; 65535; 65535; 65535\n1; 0; 0; 0\n}"
     one("crsr", """newCursor\n$%s\n$%s\n{1, 2}; 0; 0
-        0x00000000; 0x8002; {0, 0, 16, 16}; 0; unpacked; 0; 0x00480000; 0x00480000; chunky; 1; 1; 1; 0; 178; 0x00000000
-        $AA00*16 %s""" % (arrow, mask, table),
+        0x00000000; 0x8002; {0, 0, 16, 16}; 0; unpacked; 0; 0x00480000; 0x00480000; chunky; 1; 1; 1; 0; 0x00000000
+        $AA00*16\n%s""" % (arrow, mask, colours),
         """8001 00000060 00000092 00000000 0000 00000000 %s 00*25 %s 00*25 0001 0002 00000000 00000000
         00000000 8002 0000 0000 0010 0010 0000 0000 00000000 00480000 00480000 0000 0001 0001 0001 00000000 000000B2 00000000
         AA00*16 %s""" % (arrow, mask, table))
     one("PAT ", "$AA55*4", "AA55*4")
     one("PAT#", "{\n$AA55*4\n$FF*8\n}", "0002 AA55*4 FF*8")
     one("ppat", """newPattern; -1\n$AA55*4
-        0x00000000; 0x8002; {0, 0, 8, 8}; 0; unpacked; 0; 0x00480000; 0x00480000; chunky; 1; 1; 1; 0; 94; 0x00000000
-        $AA00*8 %s""" % table,
+        0x00000000; 0x8002; {0, 0, 8, 8}; 0; unpacked; 0; 0x00480000; 0x00480000; chunky; 1; 1; 1; 0; 0x00000000
+        $AA00*8\n%s""" % colours,
         """0001 0000001C 0000004E 00000000 FFFF 00000000 AA55*4
         00000000 8002 0000 0000 0008 0008 0000 0000 00000000 00480000 00480000 0000 0001 0001 0001 00000000 0000005E 00000000
         AA00*8 %s""" % table)
@@ -258,7 +263,7 @@ def pictures():
 def fonts():
     BOOK.say("Fonts and sounds.")
     letter = "9000 0041 0041 0004 0000 FFFF 0004 0002 000A 0001 0001 0000 0001 E000 A000 0000 0003 0006 0004 FFFF FFFF"
-    text = "propFont; 65; 65; 4; 0; -1; 4; 2; 10; 1; 1; 0; 1\n$E000 A000 0000 0003 0006 0004 FFFF FFFF"
+    text = """propFont; 65; 65; 4; 0; -1; 4; 2; 1; 1; 0; 1\n$E000 A0\n{\n0; 3; 6\n}\n{\n0; 4; -1; -1; -1; -1\n}"""
     one("NFNT", text, letter)
     one("FONT", text, letter, 396)
     one("FOND", """0x2000; 128; 65; 65; 3072; -1024; 256; 4096; 0; 0; 0\n{\n0; 0; 0; 0; 0; 0; 0; 0; -1\n}
@@ -288,6 +293,13 @@ def system():
         backgroundAndForeground; dontGetFrontClicks; ignoreAppDiedEvents; is32BitCompatible; isHighLevelEventAware
         localAndRemoteHLEvents; notStationeryAware; dontUseTextEditServices; reserved; reserved; reserved
         524288; 262144""", "58E0 00080000 00040000", -1)
+    one("cfrg", """{\nkPowerPCCFragArch; kIsCompleteCFrag; kNoVersionNum; kNoVersionNum; kDefaultStackSize; kNoAppSubFolder
+        kApplicationCFrag; kDataForkCFragLocator; kZeroOffset; kCFragGoesToEOF; "Sample"
+        kMotorola68KCFragArch; kFirstCFragUpdate; 0x02108001; 0x01000000; 32768; 128
+        kImportLibraryCFrag; kResourceCFragLocator; 16; 1024; "SampleLib"\n}""",
+        """00000000*2 00000001 00000000*4 00000002
+        "pwpc" 00000000 00000000 00000000 00000000 0000 01 01 00000000 00000000 00000000*2 0034 06 "Sample" 000000
+        "m68k" 00000001 02108001 01000000 00008000 0080 00 02 00000010 00000400 00000000*2 0034 09 "SampleLib" """, 0)
     one("carb", "", "", 0)
     one("plst", '"<plist/>"', '"<plist/>"', 0)
     thing = "'draw'; 'oval'; 'Smpl'; 0x80000000; kAnyComponentFlagsMask; 'CODE'; 128; 'STR '; 128; 'STR '; 129; 'ICON'; 128"
@@ -300,6 +312,13 @@ def system():
     one("thng", thing + "\n$00010002 00000000 0082 00000000", bytes_ + " 00010002 00000000 0082 00000000", 128, "of any form", EITHER)
     one("mach", "0xFFFF; 0x0000", "FFFF 0000", -4064)
     one("nrct", "{\n{-1, 87, 255, 322}\n{10, 10, 20, 20}\n}", "0002 FFFF 0057 00FF 0142 000A 000A 0014 0014", -4064)
+
+
+    member = """kPowerPC, kFullLib, kNoVersionNum, kNoVersionNum, kDefaultStackSize, kNoAppSubFolder, kIsApp, kOnDiskFlat,
+        kZeroOffset, kWholeFork, "App\""""
+    BOOK.case("compiled: cfrg, with the names of before Mac OS 8", "rez t.r s.r -o x", [("t.r", declaration("'cfrg'")),
+        ("s.r", "resource 'cfrg' (0) { { %s } };\n" % member)], leaves=[("x", image([(b"cfrg", 0, b"", 0, spelled(
+            '00000000*2 00000001 00000000*4 00000001 "pwpc" 00000000*4 0000 01 01 00000000*4 0030 03 "App" 0000'))]))])
 
 
 def words():
@@ -332,13 +351,22 @@ def helps():
     BOOK.say("Balloon help.")
     one("hwin", "HelpMgrVersion; hmDefaultOptions\n{\n128; 'hdlg'; 8; \"Untitled\"\n129; 'hrct'; -8; \"\"\n}",
         '0002 00000000 0002 0080 "hdlg" 0008 08 "Untitled" 00 0081 "hrct" FFF8 00 00')
-    one("hrct", """HelpMgrVersion; hmMatchInTitle; 0; 1\n{\nHMPictItem {\n{1, 2}; {3, 4, 5, 6}; 131\n}
+    one("hrct", """HelpMgrVersion; hmMatchInTitle; 0; 1\n{
+        HMStringItem {\n{1, 2}; {3, 4, 5, 6}; "Here."\n}
+        HMStringItem {\n{1, 2}; {3, 4, 5, 6}; "Even"\n}\nHMPictItem {\n{1, 2}; {3, 4, 5, 6}; 131\n}
         HMStringResItem {\n{1, 2}; {3, 4, 5, 6}; 132; 1\n}
         HMTEResItem {\n{1, 2}; {3, 4, 5, 6}; 133\n}
         HMSTRResItem {\n{-1, -1}; {3, 4, 5, 6}; 134\n}\n}""",
-        """0002 00000010 0000 0001 0004 0012 0002 0001 0002 0003 0004 0005 0006 0083
+        """0002 00000010 0000 0001 0006 0016 0001 0001 0002 0003 0004 0005 0006 05 "Here."
+        0016 0001 0001 0002 0003 0004 0005 0006 04 "Even" 00 0012 0002 0001 0002 0003 0004 0005 0006 0083
         0014 0003 0001 0002 0003 0004 0005 0006 0084 0001
         0012 0006 0001 0002 0003 0004 0005 0006 0085 0012 0007 FFFF FFFF 0003 0004 0005 0006 0086""")
+    one("hfdr", "HelpMgrVersion; hmDefaultOptions; 0; 0\n{\nHMSTRResItem {\n1000\n}\n}",
+        "0002 00000000 0000 0000 0001 0006 0007 03E8", -5696)
+    one("hfdr", """HelpMgrVersion; hmDefaultOptions; 0; 0\n{\nHMStringItem {\n"It draws."\n}\nHMStringItem {\n"It writes."\n}
+        HMPictItem {\n128\n}\nHMStringResItem {\n129; 2\n}\nHMTEResItem {\n130\n}\nHMSkipItem {\n}\n}""",
+        """0002 00000000 0000 0000 0006 000E 0001 09 "It draws." 0010 0001 0A "It writes." 00
+        0006 0002 0080 0008 0003 0081 0002 0006 0006 0082 0004 0100""", -5696, "of each part")
 
 
 def tools():
