@@ -228,6 +228,19 @@ def write_late(folder, rng, size):
     return fork_length({("Late", 0): 6 * count})
 
 
+def write_indexes(folder, rng, size):
+    """Two arrays: each row of the second has the place of a label in a row of the first, the last one first."""
+    count = size // len("100,\n100,\n")
+    with open(os.path.join(folder, "main.r"), "w") as source:
+        source.write("type 'Indx' { array Parts { part: byte; }; array All { longint = part[$$CountOf(All) + 1 - $$ArrayIndex(All)]; byte; }; };\n")
+        source.write("resource 'Indx' (0) { {\n")
+        source.writelines("%d,\n" % rng.randrange(100, 256) for _ in range(count))
+        source.write("}, {\n")
+        source.writelines("%d,\n" % rng.randrange(100, 256) for _ in range(count))
+        source.write("} };\n")
+    return fork_length({("Indx", 0): 6 * count})
+
+
 def write_fork(folder, rng, size):
     """A fork of 4,000 resources in 500 types. Gives the length of its text."""
     count, kinds = 4000, 500
@@ -345,6 +358,7 @@ def main():
         ("innerdata", write_inner_data),
         ("sizes", write_sizes),
         ("late", write_late),
+        ("indexes", write_indexes),
         ("fork", write_fork),
     )
     print("%s, seed %d, %d cores" % (program, seed, os.cpu_count()))

@@ -5,8 +5,9 @@ usage: bench/shown.py [PROGRAM [SEED]]
 
 Two forks are made from the seed in a folder of their own, which is removed at the end: lists of strings ('STR#') of a
 few strings each, and one array whose rows are a number, a string and a flag, counted before it. The same array is made
-with a length in front of it, which two labels around it tell, in place of its count. Each is made in two sizes, of which
-the second is four times the first. Each run is done five times; printed are the median of the seconds,
+with a length in front of it, which two labels around it tell, in place of its count; and one whose rows each have the
+place of a label in a row of an array before it, and a number. Each is made in two sizes, of which the second is four
+times the first. Each run is done five times; printed are the median of the seconds,
 the peak memory, both for each byte that is read and written, and how much of both the second size takes in place of the
 first. What each run writes is compared, byte by byte, with a text that is made here together with the fork; and the text
 with the fields is compiled by `rez` with the type file in front of it, which must give the fork again. The status is 1
@@ -99,6 +100,23 @@ def lengths(rng, count):
     return one_array(types, len(content).to_bytes(4, "big") + content, items)
 
 
+def indexes(rng, count):
+    """Strings behind their count, and one number for each of them behind the place of its string, the last one first."""
+    content, places, texts = bytearray(count.to_bytes(4, "big")), [], []
+    for _ in range(count):
+        texts.append("".join(rng.choices(LETTERS, k=rng.randrange(5))))
+        places.append(len(content))
+        content += bytes([len(texts[-1])]) + texts[-1].encode()
+    numbers = [rng.randrange(128) for _ in range(count)]
+    for place, number in zip(reversed(places), numbers):
+        content += place.to_bytes(4, "big") + bytes([number])
+    types = "type 'Rows' { longint = $$CountOf(Parts); array Parts { part: pstring; };\n"
+    types += "    array All { longint = part[$$CountOf(Parts) + 1 - $$ArrayIndex(All)] / 8; byte; }; };\n"
+    lists = ["    {\n        %s\n    }" % ",\n        ".join(items) for items in (['"%s"' % text for text in texts], map(str, numbers))]
+    shown = "resource 'Rows' (128) {\n%s\n};\n\n" % ",\n".join(lists)
+    return types, fork_of([(b"Rows", 128, b"", 0, bytes(content))]), data_text("Rows", 128, content), shown
+
+
 def put(folder, name, content):
     with open(os.path.join(folder, name), "wb") as file:
         file.write(content)
@@ -167,7 +185,8 @@ def main():
     print("%s, seed %d, %d cores, median of %d runs" % (program, seed, os.cpu_count(), RUNS))
     print("%-8s %8s %-10s %10s %8s %7s %8s %7s %10s" % ("kind", "count", "way", "bytes", "seconds", "MB/s", "peak MB", "/byte", "growth"))
     good, by_fields = True, {}
-    kinds = ("strings", strings, (1_000, 4_000)), ("rows", rows, (25_000, 100_000)), ("lengths", lengths, (25_000, 100_000))
+    kinds = (("strings", strings, (1_000, 4_000)), ("rows", rows, (25_000, 100_000)), ("lengths", lengths, (25_000, 100_000)),
+             ("indexes", indexes, (25_000, 100_000)))
     for kind, make, counts in kinds:
         before, took = {}, {}
         for count in counts:
