@@ -1,22 +1,21 @@
-//! The file in bytes of a form, and the resources of its fork. What they are is in `specs/Contents`.
+//! The file in bytes of a form, and its fork in place. What they are is in `specs/Contents`.
 
-ghost use Rattle.std.specs.Prelude.{◌≡◌, ℕ, ◌<◌, ◌≤◌, ◌^◌, [], length, IfOk};
+ghost use Rattle.std.specs.Prelude.{◌≡◌, ℕ, ◌<◌, ◌≤◌, ◌^◌, [], length, IfOk, IfErr, Ok, Err};
 ghost use Rattle.std.specs.List.{AllByRecursion};
 ghost use Rattle.rz_core.specs.Message.{IsMarked, IsNameable};
 ghost use Rattle.rz_core.specs.Resources.{KeysDiffer};
-ghost use Rattle.rz_core.specs.Stop.{seen, Gives, OnFault};
-ghost use Rattle.rz_fork.specs.Code.{held_by};
+ghost use Rattle.rz_core.specs.Stop.{Gives, OnFault};
 ghost use Rattle.rz_fork.specs.Contents.{FitsFork};
 ghost use Rattle.rz_fork.specs.Image.{AreNamed};
 ghost use Rattle.rz_bridge_form.specs.Forms.{content_of};
-ghost use Rattle.rz_bridge_files.specs.Contents.{admit_fork, file_in, fork_in, form_or, IsFile};
+ghost use Rattle.rz_bridge_files.specs.Contents.{admit_fork, file_in, form_or, IsFile};
 ghost use Rattle.rz_bridge_files.specs.Faults.{or_broken};
 
 use crate::fault::{fork_fault, form_fault};
 use rz_bridge::MacFile;
 use rz_bridge_form::{Form, form_of, read_form};
 use rz_core::{Bytes, Fault, Mark, Stop};
-use rz_fork::{ForkList, read_fork};
+use rz_fork::ForkView;
 use std::alloc::Global;
 
 /// The file in these bytes, fewer than 2^32, and in the data file beside them, which AppleDouble alone has; read in
@@ -104,43 +103,22 @@ fn is_file(bytes: &[u8])
     let _count = bytes.len();
 }
 
-/// The resources of a fork, of fewer than 2^32 bytes.
+/// The fork in these bytes, fewer than 2^32, in place: it takes no memory.
 ///
-/// Refused at the mark with the first rule that the fork breaks, 401 to 410, as [`read_fork`] says. (Inside Macintosh:
-/// More Macintosh Toolbox, Resource Manager, resource file format.)
-pub fn admit_fork(alloc: Global, fork: &[u8], mark: Option<Mark>) -> Result<ForkList, Stop<Fault>>
+/// Refused at the mark with the first rule that the fork breaks, 401 to 410, as [`ForkView::admit`] says. (Inside
+/// Macintosh: More Macintosh Toolbox, Resource Manager, resource file format.)
+pub fn admit_fork<'a>(fork: &'a [u8], mark: Option<Mark>) -> Result<ForkView<'a>, Fault>
     requires { length fork.now < 2 ^ 32 }
-    ensures fork { Gives (admit_fork mark fork.now) (seen held_by result) }
-    ensures keys { IfOk result (λ fork. KeysDiffer [] fork.list) }
-    ensures bytes { IfOk result (λ fork. AllByRecursion FitsFork fork.list) }
-    ensures names { IfOk result (λ fork. AreNamed fork.list) }
-    ensures room { IfOk result (λ fork. length fork.reserved ≤ 240) }
-    ensures nameable { (files : ℕ) → IsMarked files mark → OnFault result (IsNameable files) }
+    ensures fork { IfOk result (λ view. admit_fork mark fork.now ≡ Ok view) }
+    ensures fault { IfErr result (λ fault. admit_fork mark fork.now ≡ Err fault) }
+    ensures keys { IfOk result (λ view. KeysDiffer [] view.list) }
+    ensures bytes { IfOk result (λ view. AllByRecursion FitsFork view.list) }
+    ensures names { IfOk result (λ view. AreNamed view.list) }
+    ensures room { IfOk result (λ view. length view.reserved ≤ 240) }
+    ensures nameable { (files : ℕ) → IsMarked files mark → IfErr result (IsNameable files) }
 {
-    match read_fork(alloc, fork) {
-        Ok(fork) => Ok(fork),
-        Err(Stop::Refused(fault)) => Err(Stop::Refused(fork_fault(fault, mark))),
-        Err(Stop::NoMemory) => Err(Stop::NoMemory),
+    match ForkView::admit(fork) {
+        Ok(view) => Ok(view),
+        Err(fault) => Err(fork_fault(fault, mark)),
     }
-}
-
-/// The resources of the file in these bytes, fewer than 2^32, as [`file_in`] reads it; nothing is asked of its data
-/// fork.
-///
-/// Refused at the mark as by [`file_in`], and then as by [`admit_fork`].
-pub fn fork_in(
-    alloc: Global,
-    form: Option<Form>,
-    bytes: Bytes,
-    mark: Option<Mark>,
-) -> Result<ForkList, Stop<Fault>>
-    requires { length bytes < 2 ^ 32 }
-    ensures fork { Gives (fork_in mark form bytes) (seen held_by result) }
-    ensures keys { IfOk result (λ fork. KeysDiffer [] fork.list) }
-    ensures bytes { IfOk result (λ fork. AllByRecursion FitsFork fork.list) }
-    ensures names { IfOk result (λ fork. AreNamed fork.list) }
-    ensures nameable { (files : ℕ) → IsMarked files mark → OnFault result (IsNameable files) }
-{
-    let file = file_in(alloc, form, bytes, Bytes::new(alloc), mark)?;
-    admit_fork(alloc, file.res_fork.as_slice(), mark)
 }

@@ -10,7 +10,7 @@ mod laws;
 mod name;
 mod write;
 
-pub use content::{admit_fork, file_in, fork_in};
+pub use content::{admit_fork, file_in};
 pub use fault::{fork_fault, form_fault};
 pub use laws::{every_file_is_named, forks_are_found_raw, one_named_file, one_taken_name};
 pub use name::{named, taken_name};

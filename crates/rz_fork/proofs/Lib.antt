@@ -6,7 +6,9 @@ pub mod Holding
 pub mod Items
 pub mod Keys
 pub mod Law
+pub mod Lending
 pub mod Lengths
+pub mod Marks
 pub mod Order
 pub mod Regroup
 pub mod Resources

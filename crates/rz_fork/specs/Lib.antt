@@ -4,3 +4,4 @@ pub mod Contents
 pub mod Groups
 pub mod Image
 pub mod Layout
+pub mod View

@@ -1,23 +1,24 @@
 //! Whether bytes are a fork: the rules in their order, over all types and references. See `specs/Admit`.
 
-ghost use Rattle.std.specs.Prelude.{◌≡◌, ◌<◌, ◌≤◌, ◌+◌, ◌*◌, ◌^◌, ◌==◌, [], length, take, slice_get, IfNone, IfSome, IfOk, IfErr, MatchResult, Some, None};
-ghost use Rattle.std.specs.List.{list_any};
+ghost use Rattle.std.specs.Prelude.{◌≡◌, ◌<◌, ◌≤◌, ◌+◌, ◌*◌, ◌^◌, [], length, slice_get, List, IfSome, IfOk, IfErr, MatchResult, Some, None};
 ghost use Rattle.rz_core.specs.Lists.{first_in};
 ghost use Rattle.rz_fork.specs.Layout.{header_of, the_outline, entries, references};
-ghost use Rattle.rz_fork.specs.Admit.{map_fault, list_rule, type_rule, reference_rule, in_type, in_types, lists_broken, inadmissible, HasTypes, IsAdmitted, IsSayable};
+ghost use Rattle.rz_fork.specs.Admit.{map_fault, list_rule, reference_rule, in_type, in_types, lists_broken, inadmissible, HasTypes, IsAdmitted, IsSayable};
 ghost use Rattle.rz_fork.specs.Code.{tested_by};
+ghost use Rattle.rz_fork.specs.declared.layout.Reference.{Reference};
 
 use crate::fault::ForkFault;
 use crate::layout::{
     Outline, Reference, TypeEntry, entry_at, read_header, read_outline, reference_at, types,
 };
+use crate::repeats::{id_repeated, type_repeated};
 use crate::rules::{
-    ReferenceRule, data_area_outside, data_outside, fault, map_outside, name_outside,
-    references_outside, short_header, short_map, type_list_outside, types_outside,
+    ReferenceRule, data_area_outside, data_outside, map_outside, name_outside, references_outside,
+    short_header, short_map, type_list_outside, types_outside,
 };
 
-/// The outline of an admitted fork, or the first broken rule. It takes no memory. The time is linear
-/// in the map, but for the rule on repeated types and ids, which compares each with those before it.
+/// The outline of an admitted fork, or the first broken rule. It takes no memory. The time is linear in the map, but
+/// that the codes of types are sorted, and are compared with each other where one stands twice.
 pub fn admit(bytes: &[u8]) -> Result<Outline, ForkFault>
     requires short { length bytes.now < 2 ^ 32 }
     requires some { 0 < length bytes.now }
@@ -89,7 +90,7 @@ fn lists_broken(bytes: &[u8], outline: Outline) -> Option<ForkFault>
     if let Some(fault) = type_repeated(bytes, outline) {
         return Some(fault);
     }
-    in_types(ReferenceRule::Id, bytes, outline)
+    id_repeated(bytes, outline)
 }
 
 /// The entry of a type, by its position from 0.
@@ -135,77 +136,20 @@ fn lists_outside(bytes: &[u8], outline: Outline) -> Option<ForkFault>
     None
 }
 
-/// Whether one of the first so many types is this one.
-fn has_code(bytes: &[u8], outline: Outline, count: usize, code: u32) -> bool
-    requires types { HasTypes bytes.now outline }
-    requires count { count ≤ outline.count }
-    ensures { result ≡
-        list_any (λ other. other.code == code) (take count (entries bytes.now outline)) }
-{
-    for position in 0..count {
-        if entry_of(bytes, outline, position).code == code {
-            return true;
-        }
-    }
-    false
-}
-
-/// The first type that an entry before has.
-fn type_repeated(bytes: &[u8], outline: Outline) -> Option<ForkFault>
-    requires types { HasTypes bytes.now outline }
-    ensures rule { result ≡ first_in type_rule [] (entries bytes.now outline) }
-    ensures sayable { IfSome result IsSayable }
-{
-    for position in 0..outline.count {
-        let entry = entry_of(bytes, outline, position);
-        if has_code(bytes, outline, position, entry.code) {
-            return Some(fault(410, entry.place, entry.code));
-        }
-    }
-    None
-}
-
-/// Whether one of the first so many references of a type has this id.
-fn has_id(bytes: &[u8], entry: TypeEntry, count: usize, id: u16) -> bool
-    requires list { entry.list + 12 * entry.count ≤ length bytes.now }
-    requires count { count ≤ entry.count }
-    ensures { result ≡
-        list_any (λ other. other.id == id) (take count (references bytes.now entry)) }
-{
-    for position in 0..count {
-        if reference_of(bytes, entry, position).id == id {
-            return true;
-        }
-    }
-    false
-}
-
-/// A rule on the reference at a position of a type.
+/// A rule on where the data or the name of a reference stand.
 fn reference_broken(
     rule: ReferenceRule,
     bytes: &[u8],
     outline: Outline,
-    entry: TypeEntry,
-    position: usize,
     reference: Reference,
 ) -> Option<ForkFault>
-    requires types { HasTypes bytes.now outline }
-    requires list { entry.list + 12 * entry.count ≤ length bytes.now }
-    requires position { position ≤ entry.count }
-    requires place { reference.place < length bytes.now }
-    ensures rule { result ≡ reference_rule (tested_by rule) bytes.now outline
-        (take position (references bytes.now entry)) reference }
+    requires { HasTypes bytes.now outline }
+    ensures rule { (before : List Reference) → result ≡ reference_rule (tested_by rule) bytes.now outline before reference }
     ensures sayable { IfSome result IsSayable }
 {
     match rule {
         ReferenceRule::Data => data_outside(bytes, outline, reference),
         ReferenceRule::Name => name_outside(bytes, outline, reference),
-        ReferenceRule::Id => {
-            if has_id(bytes, entry, position, reference.id) {
-                return Some(fault(410, reference.place, reference.id as u32));
-            }
-            None
-        }
     }
 }
 
@@ -223,7 +167,7 @@ fn in_type(
 {
     for position in 0..entry.count {
         let reference = reference_of(bytes, entry, position);
-        if let Some(fault) = reference_broken(rule, bytes, outline, entry, position, reference) {
+        if let Some(fault) = reference_broken(rule, bytes, outline, reference) {
             return Some(fault);
         }
     }

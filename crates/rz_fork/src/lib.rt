@@ -1,6 +1,7 @@
 //! Resource forks of the classic Macintosh: a list of resources as the bytes of a fork, and back. `write_fork`
-//! gives exactly the one image of a list, or the first limit that it passes; `read_fork` gives exactly what the
-//! bytes hold, or the first rule that they break; and an image is read as its list, grouped by type.
+//! gives exactly the one image of a list, or the first limit that it passes; `ForkView::admit` gives exactly what the
+//! bytes hold, or the first rule that they break; and an image is read as its list, grouped by type. What is read
+//! is lent from the bytes: a view and a walk over it take no memory, and only `copy_all` copies.
 //! It rests on `rz_core`, `indexmap` and `thiserror`.
 //! What a fork is stands in `specs` and in docs/FORMATS.md, which change together.
 #![tactic(auto)]
@@ -13,10 +14,12 @@ mod layout;
 mod limit;
 mod parts;
 mod read;
+mod repeats;
 mod rules;
+mod view;
 mod write;
 
 pub use fault::{ForkFault, LimitFault};
 pub use laws::admitted_forks_fit;
-pub use read::{ForkList, read_fork};
+pub use view::{ForkView, ResView, Walk};
 pub use write::write_fork;

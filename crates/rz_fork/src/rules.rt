@@ -11,19 +11,18 @@ use rz_core::{u8_at, u32_at};
 /// The offsets of data have 24 bits.
 const DATA_END: usize = 16_777_216;
 
-const MAX_TYPES: usize = 8_192;
+/// How many types a fork has at most.
+pub const MAX_TYPES: usize = 8_192;
 
 const MAX_REFERENCES: usize = 16_384;
 
-/// A rule that each reference is tested by.
+/// A rule that each reference is tested by, whatever stands before it.
 #[derive(Clone, Copy)]
 pub enum ReferenceRule {
     /// DataOutside.
     Data,
     /// NameOutside.
     Name,
-    /// Repeated, of an id.
-    Id,
 }
 
 /// The fault of a rule, with its offset in bytes from the start of the fork and its value.

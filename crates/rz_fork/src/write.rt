@@ -28,7 +28,7 @@ const TYPES_AT: u16 = 28;
 /// list. Resources stand grouped by type, types in the order of their first resources, and share
 /// nothing; a resource without a name has the name offset FFFF. `attributes` are those of the map, with
 /// the bits 0x80 (read only), 0x40 (compact) and 0x20 (changed). Each name has at most 255 bytes, pairs
-/// of type and id differ, and there are at most 240 reserved bytes. [`read_fork`](crate::read_fork) of
+/// of type and id differ, and there are at most 240 reserved bytes. [`ForkView::admit`](crate::ForkView::admit) of
 /// the fork gives the resources grouped by type, the attributes and the 240 reserved bytes again. The
 /// time is linear in the resources and their bytes.
 ///

@@ -1,7 +1,7 @@
 //! The layout of a fork.
 
 use rz_core::{Attr, Bytes, OsType, Resource, Resources};
-use rz_fork::{ForkList, read_fork, write_fork};
+use rz_fork::{ForkView, ResView, write_fork};
 use rz_test_tables::Text;
 use std::alloc::Global;
 
@@ -53,21 +53,45 @@ fn is_read(alloc: Global, fork: &[u8]) -> bool {
     if fork.len() > 1_000 {
         return false;
     }
-    match read_fork(alloc, fork) {
-        Ok(held) => is_held(&held),
+    match ForkView::admit(fork) {
+        Ok(view) => is_lent(&view) && is_copied(alloc, &view),
         Err(_) => false,
     }
 }
 
-/// Whether a fork that was read is as it is to be.
-fn is_held(held: &ForkList) -> bool {
-    held.attributes == 0x0080
-        && held.reserved.len() == 240
-        && held.reserved.as_slice().starts_with(b"rez\x00")
-        && match held.list.as_slice() {
-            [read] => read.id == -1
-                && read.attr.byte() == 0x81
-                && read.name.as_slice() == b"ab".as_slice(),
+/// Whether what a fork lends is as it is to be: its numbers, its reserved bytes, and its one resource, as it stands at
+/// its position and as the walk gives it.
+fn is_lent(view: &ForkView<'_>) -> bool {
+    if view.len() != 1 {
+        return false;
+    }
+    let mut walk = view.walk();
+    view.attributes() == 0x0080
+        && view.reserved().len() == 240
+        && view.reserved().starts_with(b"rez\x00")
+        && is_one(&view.resource(0))
+        && matches!(walk.next(), Some(one) if is_one(&one))
+        && walk.next().is_none()
+}
+
+/// Whether this is the resource of the fork.
+fn is_one(one: &ResView<'_>) -> bool {
+    one.kind.code == 0x5465_7374
+        && one.id == -1
+        && one.attr.byte() == 0x81
+        && one.name == b"ab".as_slice()
+        && one.bytes.is_empty()
+}
+
+/// Whether the copy holds that resource alone.
+fn is_copied(alloc: Global, view: &ForkView<'_>) -> bool {
+    match view.copy_all(alloc) {
+        Ok(list) => match list.as_slice() {
+            [one] => one.id == -1
+                && one.attr.byte() == 0x81
+                && one.name.as_slice() == b"ab".as_slice(),
             _ => false,
-        }
+        },
+        Err(_) => false,
+    }
 }

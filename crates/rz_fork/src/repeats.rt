@@ -1,0 +1,144 @@
+//! The rule on repeated types and ids, without a look back over all that stands before each: codes of types are sorted,
+//! and ids are marked in a table. See `specs/Admit`.
+
+ghost use Rattle.std.specs.Prelude.{◌≡◌, ◌+◌, ◌*◌, ◌≤◌, ◌<◌, ◌^◌, ◌==◌, [], length, map, take, eqb, true, None, IfNone, IfSome};
+ghost use Rattle.std.specs.List.{list_any, IsDistinct};
+ghost use Rattle.std.specs.List.Sorted.{IsStrictlyIncreasing};
+ghost use Rattle.rz_core.specs.Lists.{first_in};
+ghost use Rattle.rz_fork.specs.Layout.{entries, references};
+ghost use Rattle.rz_fork.specs.Admit.{id_rule, in_types, list_rule, type_rule, HasTypes, Id, IsSayable};
+ghost use Rattle.rz_fork.specs.Code.{AreMarked};
+
+use crate::admit::{entry_of, reference_of};
+use crate::fault::ForkFault;
+use crate::layout::{Outline, TypeEntry};
+use crate::rules::{MAX_TYPES, fault};
+
+/// How many ids there are.
+const IDS: usize = 65_536;
+
+/// The first type that an entry before has.
+pub fn type_repeated(bytes: &[u8], outline: Outline) -> Option<ForkFault>
+    requires types { HasTypes bytes.now outline }
+    ensures rule { result ≡ first_in type_rule [] (entries bytes.now outline) }
+    ensures sayable { IfSome result IsSayable }
+{
+    if codes_differ(bytes, outline) {
+        return None;
+    }
+    first_repeated(bytes, outline)
+}
+
+/// Whether the codes of all types differ.
+fn codes_differ(bytes: &[u8], outline: Outline) -> bool
+    requires types { HasTypes bytes.now outline }
+    ensures { result ≡ true → IsDistinct eqb (map (λ t. t.code) (entries bytes.now outline)) }
+{
+    let mut codes = [0; MAX_TYPES];
+    let codes = &mut codes[..outline.count];
+    read_codes(codes, bytes, outline);
+    codes.sort_unstable();
+    rises(codes)
+}
+
+/// Reads the code of each type.
+fn read_codes(codes: &mut [u32], bytes: &[u8], outline: Outline)
+    requires types { HasTypes bytes.now outline }
+    requires count { length codes.now ≡ outline.count }
+    ensures { codes.new ≡ map (λ t. t.code) (entries bytes.now outline) }
+{
+    for position in 0..outline.count {
+        codes[position] = entry_of(bytes, outline, position).code;
+    }
+}
+
+/// Whether each number but the last is below the next.
+fn rises(numbers: &[u32]) -> bool
+    ensures { result ≡ true → IsStrictlyIncreasing numbers.now }
+{
+    for position in 1..numbers.len() {
+        if numbers[position - 1] >= numbers[position] {
+            return false;
+        }
+    }
+    true
+}
+
+/// The first type that an entry before has, where each is compared with those before it.
+fn first_repeated(bytes: &[u8], outline: Outline) -> Option<ForkFault>
+    requires types { HasTypes bytes.now outline }
+    ensures rule { result ≡ first_in type_rule [] (entries bytes.now outline) }
+    ensures sayable { IfSome result IsSayable }
+{
+    for position in 0..outline.count {
+        let entry = entry_of(bytes, outline, position);
+        if has_code(bytes, outline, position, entry.code) {
+            return Some(fault(410, entry.place, entry.code));
+        }
+    }
+    None
+}
+
+/// Whether one of the first so many types is this one.
+fn has_code(bytes: &[u8], outline: Outline, count: usize, code: u32) -> bool
+    requires types { HasTypes bytes.now outline }
+    requires count { count ≤ outline.count }
+    ensures { result ≡
+        list_any (λ other. other.code == code) (take count (entries bytes.now outline)) }
+{
+    for position in 0..count {
+        if entry_of(bytes, outline, position).code == code {
+            return true;
+        }
+    }
+    false
+}
+
+/// The first reference whose id a reference of its type before has.
+pub fn id_repeated(bytes: &[u8], outline: Outline) -> Option<ForkFault>
+    requires types { HasTypes bytes.now outline }
+    requires lists { first_in (list_rule outline) [] (entries bytes.now outline) ≡ None }
+    ensures rule { result ≡ in_types Id bytes.now outline (entries bytes.now outline) }
+    ensures sayable { IfSome result IsSayable }
+{
+    let mut seen = [false; IDS];
+    for position in 0..outline.count {
+        let entry = entry_of(bytes, outline, position);
+        if let Some(fault) = mark_ids(&mut seen, bytes, entry) {
+            return Some(fault);
+        }
+        clear_ids(&mut seen, bytes, entry);
+    }
+    None
+}
+
+/// Marks the ids of a type, up to the first that is marked already.
+fn mark_ids(seen: &mut [bool; IDS], bytes: &[u8], entry: TypeEntry) -> Option<ForkFault>
+    requires list { entry.list + 12 * entry.count ≤ length bytes.now }
+    requires short { length bytes.now < 2 ^ 32 }
+    requires clear { AreMarked seen.now [] }
+    ensures rule { result ≡ first_in id_rule [] (references bytes.now entry) }
+    ensures marked { IfNone result (AreMarked seen.new (references bytes.now entry)) }
+    ensures sayable { IfSome result IsSayable }
+{
+    for position in 0..entry.count {
+        let reference = reference_of(bytes, entry, position);
+        let id = reference.id as usize;
+        if seen[id] {
+            return Some(fault(410, reference.place, reference.id as u32));
+        }
+        seen[id] = true;
+    }
+    None
+}
+
+/// Clears the marks of the ids of a type, so that the time goes by its references alone.
+fn clear_ids(seen: &mut [bool; IDS], bytes: &[u8], entry: TypeEntry)
+    requires list { entry.list + 12 * entry.count ≤ length bytes.now }
+    requires marked { AreMarked seen.now (references bytes.now entry) }
+    ensures { AreMarked seen.new [] }
+{
+    for position in 0..entry.count {
+        seen[reference_of(bytes, entry, position).id as usize] = false;
+    }
+}
