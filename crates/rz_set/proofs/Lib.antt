@@ -12,3 +12,5 @@ pub mod Taken
 pub mod Changed
 pub mod Sequence
 pub mod Wants
+pub mod Alone
+pub mod Stands

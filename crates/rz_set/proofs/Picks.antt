@@ -30,7 +30,7 @@ wanted_kind wanted r is = by wanted.ids is
   where
     by : (given : Ids) → is_within wanted.kind given r ≡ true → is_of wanted.kind r ≡ true
     by ids.All is = is
-    by (ids.One bits) is = (both (is_of wanted.kind r) (bits == id_bits r) is).0
+    by (ids.One id) is = (both (is_of wanted.kind r) (cast_unsigned w16 id == id_bits r) is).0
     by (ids.Range first last) is = (both (is_of wanted.kind r) (int_le first r.id && int_le r.id last) is).0
 
 module _ (kind : OsType) where

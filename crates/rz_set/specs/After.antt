@@ -53,6 +53,10 @@ replaced list r = as_list (found r.kind r.id list)
 abbrev pub after_put : Bool → Resource → List Resource → Result (List Resource) SetFault
 after_put over r list = unless_fault (forbidden over (replaced list r)) (put list r)
 
+-- several are put in order, if none of them replaces a protected one of the list
+abbrev pub after_put_each : Bool → List Resource → List Resource → Result (List Resource) SetFault
+after_put_each over news list = unless_fault (forbidden over (flat_map (replaced list) news)) (put_all list news)
+
 -- Taking out.
 
 -- the chosen ones are taken out

@@ -1,5 +1,5 @@
 -- Which resources of a list a statement is for. (MPW Rez.)
-use Rattle.std.specs.Prelude.{ℕ, int_le, ◌==◌, ◌&&◌, Bool, true, false, not, if◌then◌else◌, List, [], ◌∷◌, filter, Option, Some, None}
+use Rattle.std.specs.Prelude.{ℕ, ℤ, int_le, ◌==◌, ◌&&◌, Bool, true, false, not, if◌then◌else◌, List, [], ◌∷◌, filter, Option, Some, None}
 use Rattle.std.specs.List.{list_any}
 use Rattle.std.specs.Str.{bytes_eq}
 use Rattle.rz_core.specs.Resources.{same_key}
@@ -72,3 +72,15 @@ abbrev pub missing_choice : Choice → List Resource → Option SetFault
 missing_choice choices.All list = None
 missing_choice (choices.Except kind) list = None
 missing_choice (choices.Chosen kind pick) list = missing kind pick list
+
+-- The key of the one that a choice finds.
+
+-- the type and the id of a resource
+abbrev pub key_pair : Resource → OsType × ℤ
+key_pair r = (r.kind, r.id)
+
+-- the one that the pick by id or name of a choice finds in a list
+abbrev pub the_choice : Choice → List Resource → Option Resource
+the_choice choices.All list = None
+the_choice (choices.Except kind) list = None
+the_choice (choices.Chosen kind pick) list = picked kind pick list

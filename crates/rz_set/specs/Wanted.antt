@@ -1,9 +1,9 @@
 -- How the code holds a pick: by the types and ids that it is for.
-use Rattle.std.specs.Prelude.{int_le, ◌==◌, ◌&&◌, Bool, true, not}
-use Rattle.rz_core.specs.Resources.{id_bits}
+use Rattle.std.specs.Prelude.{int_le, ◌&&◌, Bool, true, not}
 use Rattle.rz_core.specs.declared.resource.OsType.{OsType}
 use Rattle.rz_core.specs.declared.resource.Resource.{Resource}
 use Rattle.rz_set.specs.Choice.{is_of}
+use Rattle.rz_set.specs.ResSet.{has_key}
 use Rattle.rz_set.specs.declared.wanted.Ids.{Ids}
 use Rattle.rz_set.specs.declared.wanted.Ids.TheVariants.{All, One, Range}
 use Rattle.rz_set.specs.declared.wanted.Included.{Included}
@@ -13,7 +13,7 @@ use Rattle.rz_set.specs.declared.wanted.Wanted.{Wanted}
 -- a resource of this type has one of these ids
 abbrev pub is_within : OsType → Ids → Resource → Bool
 is_within kind All r = is_of kind r
-is_within kind (One bits) r = is_of kind r && (bits == id_bits r)
+is_within kind (One id) r = has_key kind id r
 is_within kind (Range first last) r = is_of kind r && (int_le first r.id && int_le r.id last)
 
 abbrev pub is_wanted : Wanted → Resource → Bool

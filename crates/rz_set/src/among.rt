@@ -1,22 +1,31 @@
 //! What a pick chooses in a list, by id or by name; changed only with `specs/Choice`.
 
-ghost use Rattle.std.specs.Prelude.{◌≡◌, None, Some, IfOk, IfErr};
-ghost use Rattle.std.specs.Option.{option_copied};
-ghost use Rattle.rz_set.specs.Choice.{chooses, found_name, missing, picked};
+ghost use Rattle.std.specs.Prelude.{◌≡◌};
+ghost use Rattle.std.specs.Option.{option_copied, option_map};
+ghost use Rattle.rz_set.specs.Choice.{found_name, key_pair, picked, the_choice};
 ghost use Rattle.rz_set.specs.ResSet.{found};
-ghost use Rattle.rz_set.specs.Wanted.{is_wanted};
 
-use crate::pick::{Pick, SetFault};
-use crate::wanted::{Wanted, wanted_by};
+use crate::pick::{Choice, Pick};
 use rz_core::{OsType, Resource};
 
-/// What a pick chooses in a list, by type and id, or that there is no such resource.
-pub fn wanted_among(list: &[Resource], kind: OsType, pick: &Pick) -> Result<Wanted, SetFault>
-    ensures chooses { IfOk result (λ wanted. is_wanted wanted ≡ chooses kind pick.now list.now) }
-    ensures there { IfOk result (λ wanted. missing kind pick.now list.now ≡ None) }
-    ensures missing { IfErr result (λ fault. missing kind pick.now list.now ≡ Some fault) }
+/// The type and the id of the resource that the pick by id or name of a choice finds in a list, if there is one.
+pub fn chosen_in(list: &[Resource], choice: &Choice) -> Option<(OsType, i16)>
+    ensures { result ≡ option_map key_pair (the_choice choice.now list.now) }
 {
-    wanted_by(kind, pick, picked_in(list, kind, pick))
+    match choice {
+        Choice::All | Choice::Except(_) => None,
+        Choice::Chosen(kind, pick) => pair_of(picked_in(list, *kind, pick)),
+    }
+}
+
+/// The type and the id of a resource, if it is there.
+pub fn pair_of(one: Option<&Resource>) -> Option<(OsType, i16)>
+    ensures { result ≡ option_map key_pair (option_copied one.entry) }
+{
+    match one {
+        Some(one) => Some((one.kind, one.id)),
+        None => None,
+    }
 }
 
 /// The resource that a pick by id or name finds in a list.
@@ -31,7 +40,7 @@ fn picked_in<'a>(list: &'a [Resource], kind: OsType, pick: &Pick) -> Option<&'a 
 }
 
 /// The first resource of a list that has a type and an id, or nothing where there is none. It goes over the list once.
-pub fn find_in(list: &[Resource], kind: OsType, id: i16) -> Option<&Resource>
+fn find_in(list: &[Resource], kind: OsType, id: i16) -> Option<&Resource>
     ensures { option_copied result ≡ found kind id list.now }
 {
     for resource in list {
@@ -44,7 +53,7 @@ pub fn find_in(list: &[Resource], kind: OsType, id: i16) -> Option<&Resource>
 
 /// The first resource of a list that is of a type and has exactly this name, or nothing where there is none. It goes over
 /// the list once.
-pub fn find_name_in<'a>(list: &'a [Resource], kind: OsType, name: &[u8]) -> Option<&'a Resource>
+fn find_name_in<'a>(list: &'a [Resource], kind: OsType, name: &[u8]) -> Option<&'a Resource>
     ensures { option_copied result ≡ found_name kind name.now list.now }
 {
     for resource in list {

@@ -2,10 +2,10 @@
 
 ghost use Rattle.std.specs.Prelude.{◌≡◌, IfOk};
 ghost use Rattle.rz_set.specs.After.{under_head};
-ghost use Rattle.rz_set.specs.Fates.{left};
+ghost use Rattle.rz_set.specs.Fates.{keeps_key, left};
 
 use crate::pick::Head;
-use rz_core::{Bytes, NoMemory, Resource};
+use rz_core::{Bytes, NoMemory, OsType, Resource};
 use std::alloc::Global;
 
 /// What a change makes of a resource of a set.
@@ -35,6 +35,13 @@ pub fn copy_head(alloc: Global, head: &Head) -> Result<Head, NoMemory>
     })
 }
 
+/// Whether a head leaves a resource with this type and this id both of them.
+pub fn keeps_key(head: &Head, kind: OsType, id: i16) -> bool
+    ensures { result ≡ keeps_key head.now kind id }
+{
+    head.kind.code == kind.code && head.id.unwrap_or(id).cast_unsigned() == id.cast_unsigned()
+}
+
 /// The resource as its fate leaves it, if it does.
 pub fn left(resource: Resource, fate: Fate) -> Option<Resource>
     ensures { result ≡ left fate resource }
@@ -42,32 +49,32 @@ pub fn left(resource: Resource, fate: Fate) -> Option<Resource>
     match fate {
         Fate::Stays => Some(resource),
         Fate::GivesWay => None,
-        Fate::ComesUnder(head) => Some(put_under(resource, head)),
+        Fate::ComesUnder(head) => {
+            let mut changed = resource;
+            come_under(&mut changed, head);
+            Some(changed)
+        }
     }
 }
 
-/// The resource with what a head has in place of its own.
-fn put_under(resource: Resource, head: Head) -> Resource
-    ensures { result ≡ under_head head resource }
+/// Gives a resource what a head has in place of its own.
+pub fn come_under(resource: &mut Resource, head: Head)
+    ensures { resource.new ≡ under_head head resource.old }
 {
-    let Resource {
-        kind: _,
-        id: own_id,
-        name: own_name,
-        attr: own_attr,
-        bytes,
-    } = resource;
     let Head {
         kind,
         id,
         name,
         attr,
     } = head;
-    Resource {
-        kind,
-        id: id.unwrap_or(own_id),
-        name: name.unwrap_or(own_name),
-        attr: attr.unwrap_or(own_attr),
-        bytes,
+    resource.kind = kind;
+    if let Some(id) = id {
+        resource.id = id;
+    }
+    if let Some(name) = name {
+        resource.name = name;
+    }
+    if let Some(attr) = attr {
+        resource.attr = attr;
     }
 }

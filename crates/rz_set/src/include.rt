@@ -6,9 +6,9 @@ ghost use Rattle.rz_set.specs.After.{under, under_head};
 ghost use Rattle.rz_set.specs.Choice.{included, missing_choice};
 ghost use Rattle.rz_set.specs.Wanted.{is_included};
 
-use crate::among::wanted_among;
+use crate::among::chosen_in;
 use crate::pick::{Choice, Head, SetFault};
-use crate::wanted::Included;
+use crate::wanted::{Included, included_as};
 use rz_core::{Bytes, NoMemory, Resource};
 use std::alloc::Global;
 
@@ -18,14 +18,7 @@ pub fn included_by(source: &[Resource], choice: &Choice) -> Result<Included, Set
     ensures there { IfOk result (λ test. missing_choice choice.now source.now ≡ None) }
     ensures missing { IfErr result (λ fault. missing_choice choice.now source.now ≡ Some fault) }
 {
-    match choice {
-        Choice::All => Ok(Included::All),
-        Choice::Except(kind) => Ok(Included::Except(*kind)),
-        Choice::Chosen(kind, pick) => match wanted_among(source, *kind, pick) {
-            Ok(wanted) => Ok(Included::These(wanted)),
-            Err(fault) => Err(fault),
-        },
-    }
+    included_as(choice, chosen_in(source, choice))
 }
 
 /// Copies of the included resources under a head, in order.
@@ -39,7 +32,7 @@ pub fn copy_all(
 {
     let mut news = Vec::new(alloc);
     for resource in source {
-        if included.holds(resource) {
+        if included.holds(resource.kind, resource.id) {
             news.push(copy_under(alloc, resource, head)?)?;
         }
     }

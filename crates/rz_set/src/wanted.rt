@@ -1,22 +1,22 @@
 //! Which resources are wanted or included, by type and id alone; changed only with `specs/Wanted`.
 
-ghost use Rattle.std.specs.Prelude.{◌≡◌, List, None, Some, IfOk, IfErr};
-ghost use Rattle.std.specs.Option.{option_copied};
+ghost use Rattle.std.specs.Prelude.{◌≡◌, filter, List, None, Some, IfOk, IfErr};
+ghost use Rattle.std.specs.Option.{option_map};
 ghost use Rattle.rz_core.specs.declared.resource.Resource.{Resource};
-ghost use Rattle.rz_set.specs.Choice.{chooses, missing, picked};
+ghost use Rattle.rz_set.specs.Choice.{chooses, included, key_pair, missing, missing_choice, picked, the_choice};
 ghost use Rattle.rz_set.specs.Wanted.{is_included, is_wanted};
 
-use crate::pick::{Pick, SetFault};
-use rz_core::{OsType, Resource};
+use crate::pick::{Choice, Pick, SetFault};
+use rz_core::OsType;
 
 /// The ids that resources are wanted by.
 #[derive(Clone, Copy)]
 pub enum Ids {
     /// All.
     All,
-    /// One, by its 16 bits.
-    One(u16),
-    /// Those from the first to the second.
+    /// One.
+    One(i16),
+    /// Those from the first to the second, both of them too.
     Range(i16, i16),
 }
 
@@ -30,28 +30,27 @@ pub struct Wanted {
 }
 
 impl Wanted {
-    /// Whether a resource is wanted.
-    pub fn holds(self, resource: &Resource) -> bool
-        ensures { result ≡ is_wanted self resource.now }
+    /// Whether a resource with this type and this id is wanted.
+    pub fn holds(self, kind: OsType, id: i16) -> bool
+        ensures { (r : Resource) → r.kind ≡ kind → r.id ≡ id → result ≡ is_wanted self r }
     {
-        let id = resource.id;
-        self.kind.code == resource.kind.code
+        self.kind.code == kind.code
             && match self.ids {
                 Ids::All => true,
-                Ids::One(bits) => bits == id.cast_unsigned(),
+                Ids::One(one) => one.cast_unsigned() == id.cast_unsigned(),
                 Ids::Range(first, last) => first <= id && id <= last,
             }
     }
 }
 
-/// What a pick chooses by type and id in a list where it finds this resource by id or name, or that there is no such
-/// resource.
-pub fn wanted_by(kind: OsType, pick: &Pick, one: Option<&Resource>) -> Result<Wanted, SetFault>
-    ensures chooses { (list : List Resource) → option_copied one.entry ≡ picked kind pick.now list
+/// What a pick chooses in a list, by types and ids alone. `one` is the type and the id of the resource that a pick by id or
+/// name finds in that list, if there is one; where there is none, such a pick is refused, with its type.
+pub fn wanted_as(kind: OsType, pick: &Pick, one: Option<(OsType, i16)>) -> Result<Wanted, SetFault>
+    ensures chooses { (list : List Resource) → option_map key_pair (picked kind pick.now list) ≡ one
         → IfOk result (λ wanted. is_wanted wanted ≡ chooses kind pick.now list) }
-    ensures there { (list : List Resource) → option_copied one.entry ≡ picked kind pick.now list
+    ensures there { (list : List Resource) → option_map key_pair (picked kind pick.now list) ≡ one
         → IfOk result (λ wanted. missing kind pick.now list ≡ None) }
-    ensures missing { (list : List Resource) → option_copied one.entry ≡ picked kind pick.now list
+    ensures missing { (list : List Resource) → option_map key_pair (picked kind pick.now list) ≡ one
         → IfErr result (λ fault. missing kind pick.now list ≡ Some fault) }
 {
     match pick {
@@ -64,9 +63,9 @@ pub fn wanted_by(kind: OsType, pick: &Pick, one: Option<&Resource>) -> Result<Wa
             ids: Ids::Range(*first, *last),
         }),
         Pick::Id(_) | Pick::Name(_) => match one {
-            Some(one) => Ok(Wanted {
-                kind: one.kind,
-                ids: Ids::One(one.id.cast_unsigned()),
+            Some((kind, id)) => Ok(Wanted {
+                kind,
+                ids: Ids::One(id),
             }),
             None => Err(SetFault::NoSuchResource(kind)),
         },
@@ -85,14 +84,35 @@ pub enum Included {
 }
 
 impl Included {
-    /// Whether a resource is included.
-    pub fn holds(self, resource: &Resource) -> bool
-        ensures { result ≡ is_included self resource.now }
+    /// Whether a resource with this type and this id is included.
+    pub fn holds(self, kind: OsType, id: i16) -> bool
+        ensures { (r : Resource) → r.kind ≡ kind → r.id ≡ id → result ≡ is_included self r }
     {
         match self {
             Included::All => true,
-            Included::Except(kind) => kind.code != resource.kind.code,
-            Included::These(wanted) => wanted.holds(resource),
+            Included::Except(left_out) => left_out.code != kind.code,
+            Included::These(wanted) => wanted.holds(kind, id),
         }
+    }
+}
+
+/// Which resources of a list a choice includes, by types and ids alone, so that a list that is read in place needs no copy.
+/// `one` is the type and the id of the resource that the choice's pick by id or name finds in that list, if there is one;
+/// where there is none, such a choice is refused, with its type. (MPW Rez.)
+pub fn included_as(choice: &Choice, one: Option<(OsType, i16)>) -> Result<Included, SetFault>
+    ensures included { (list : List Resource) → option_map key_pair (the_choice choice.now list) ≡ one
+        → IfOk result (λ test. filter (is_included test) list ≡ included choice.now list) }
+    ensures there { (list : List Resource) → option_map key_pair (the_choice choice.now list) ≡ one
+        → IfOk result (λ test. missing_choice choice.now list ≡ None) }
+    ensures missing { (list : List Resource) → option_map key_pair (the_choice choice.now list) ≡ one
+        → IfErr result (λ fault. missing_choice choice.now list ≡ Some fault) }
+{
+    match choice {
+        Choice::All => Ok(Included::All),
+        Choice::Except(kind) => Ok(Included::Except(*kind)),
+        Choice::Chosen(kind, pick) => match wanted_as(*kind, pick, one) {
+            Ok(wanted) => Ok(Included::These(wanted)),
+            Err(fault) => Err(fault),
+        },
     }
 }

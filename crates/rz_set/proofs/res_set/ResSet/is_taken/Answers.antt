@@ -1,4 +1,4 @@
-use Rattle.std.proofs.Common.{rules, ◌≡◌, ◌==◌, ◌&&◌, Bool, true, false, Some, None, sym, ap, subst, ◌∙◌, arith}
+use Rattle.std.proofs.Common.{rules, ◌≡◌, ◌==◌, ◌&&◌, Bool, true, false, Some, None, refl, sym, ap, subst, ◌∙◌, arith}
 use Rattle.std.proofs.lemmas.Bool.Decides.{nat_tests}
 use Rattle.std.proofs.lemmas.Int.{to_z-of_z}
 use Rattle.std.specs.Int.{cast_unsigned, w16}
@@ -27,7 +27,7 @@ returns-in-Some-find c =
     let test = is_wanted c.args.wanted in
     let kinds : (c.args.head.now.kind.code == c.args.resource.now.kind.code) ≡ true = let same = c.if-head-resource.true in grind (arith, nat_tests, same) in
     let one : found c.args.wanted.kind c.args.resource.now.id c.args.self.now ≡ Some c.in-Some-find.one.now = cc (c.in-Some-find.ensures, to_z-of_z w16 c.args.resource.now.id (search rules)) in
-    c.holds.ensures
+    c.holds.ensures c.in-Some-find.one.now refl (sym (to_z-of_z w16 c.in-Some-find.one.now.id (search rules)))
     ∙ ap (holds test) (sym one)
     ∙ ap (λ (b : Bool). b && holds test (found c.args.wanted.kind c.args.resource.now.id c.args.self.now)) (sym kinds)
     ∙ sym (taken_by_type test c.args.head.now c.args.resource.now c.in-None.is c.args.wanted.kind (wanted_kind c.args.wanted) c.args.self.now c.keys_differ.ensures)

@@ -4,7 +4,7 @@ use Rattle.rz_core.specs.declared.resource.Resource.{Resource}
 use Rattle.rz_set.specs.ResSet.{values_of, AreKeyed}
 use Rattle.rz_set.specs.Wanted.{is_wanted}
 use Rattle.rz_set.proofs.Kept.{are_keyed, values_kept}
-use Rattle.rz_set.proofs.res_set.ResSet.take_out.Goals as goal
+use Rattle.rz_set.proofs.res_set.ResSet.take_all_out.Goals as goal
 
 pub invariant_of-self : goal.invariant_of-self
 invariant_of-self c =

@@ -1,7 +1,7 @@
 use Rattle.std.proofs.Common.{ap, ◌∙◌}
 use Rattle.rz_core.specs.Resources.{put}
 use Rattle.rz_set.proofs.Puts.{put_keyed, put_values}
-use Rattle.rz_set.proofs.res_set.ResSet.put.Goals as goal
+use Rattle.rz_set.proofs.res_set.ResSet.put_in_place.Goals as goal
 
 pub invariant_of-self-2 : goal.invariant_of-self-2
 invariant_of-self-2 c =
