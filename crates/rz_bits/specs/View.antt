@@ -19,3 +19,7 @@ bytes_at all at count = option_map bytes_of (bits_at all at (8 * count))
 -- the bits that a view is over
 abbrev pub seen : BitView → List Bool
 seen view = bits_of view.bytes.now
+
+-- the place of a view among them: how many bits are before it
+abbrev pub place_of : BitView → ℕ
+place_of view = view.place

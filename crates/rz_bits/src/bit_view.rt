@@ -1,28 +1,32 @@
-//! The bits of bytes, read in place from any bit on. What they are is in `specs/Bits`.
+//! The bits of bytes, read in place from any bit on, by place or one number behind another. What they are is in
+//! `specs/Bits` and `specs/View`.
 
-ghost use Rattle.std.specs.Prelude.{◌≡◌, ◌+◌, ◌*◌, ◌^◌, ◌==◌, ◌<◌, ◌≤◌, length, take, drop, IfOk, IfSome};
+ghost use Rattle.std.specs.Prelude.{◌≡◌, ◌+◌, ◌*◌, ◌^◌, ◌==◌, ◌<◌, ◌≤◌, length, take, drop, IfOk, IfSome, IfNone};
 ghost use Rattle.rz_bits.specs.Bits.{bits_of, front_bytes, number_bits, number_of};
 
 use rz_core::{Bytes, NoMemory};
 use std::alloc::Global;
 
-/// The bits of bytes, read in place: the first bit of a byte is its most significant one. It takes no memory.
-/// (Inside Macintosh: More Macintosh Toolbox, Resource Manager; MPW Rez.)
+/// The bits of bytes, read in place, and a place among them, from which on `take` reads: the first bit of a byte is its
+/// most significant one. It takes no memory. (Inside Macintosh: More Macintosh Toolbox, Resource Manager; MPW Rez.)
 #[derive(Clone, Copy)]
 pub struct BitView<'a> {
     bytes: &'a [u8],
+    place: u32,
     ghost short: { length bytes.now ≤ 16777212 },
+    ghost within: { place ≤ 8 * length bytes.now },
 }
 
 impl<'a> BitView<'a> {
-    ghost use Rattle.rz_bits.specs.View.{bytes_at, number_at, seen};
+    ghost use Rattle.rz_bits.specs.View.{bytes_at, number_at, place_of, seen};
 
-    /// The view of these bytes, at most 16,777,212 of them.
+    /// The view of these bytes, at most 16,777,212 of them. Its place is the first bit, 0.
     pub fn over(bytes: &'a [u8]) -> BitView<'a>
         requires { length bytes.now ≤ 16777212 }
-        ensures { seen result ≡ bits_of bytes.now }
+        ensures bits { seen result ≡ bits_of bytes.now }
+        ensures place { place_of result ≡ 0 }
     {
-        BitView { bytes }
+        BitView { bytes, place: 0 }
     }
 
     /// The number of bits.
@@ -32,6 +36,45 @@ impl<'a> BitView<'a> {
         ensures most { result ≤ 134217696 }
     {
         self.bytes.len() as u32 * 8
+    }
+
+    /// The place, counted from 0: how many bits are before it.
+    #[tactic(auto, using(crate::proofs::Windows::bits_length))]
+    pub fn place(&self) -> u32
+        ensures is { result ≡ place_of self.now }
+        ensures within { result ≤ length (seen self.now) }
+    {
+        self.place
+    }
+
+    /// The number in the next so many bits, the highest bit first; the place then stands behind them. `None` exactly where
+    /// so many bits are not left, and then the view is unchanged. It looks at five bytes at most.
+    #[tactic(auto, using(crate::proofs::Windows::bits_length))]
+    pub fn take(&mut self, width: u8) -> Option<u32>
+        requires { width ≤ 32 }
+        ensures number { result ≡ number_at (seen self.old) (place_of self.old) width }
+        ensures small { IfSome result (λ n. n < 2 ^ width) }
+        ensures bits { seen self.new ≡ seen self.old }
+        ensures moves { IfSome result (λ n. place_of self.new ≡ place_of self.old + width) }
+        ensures stands { IfNone result (self.new ≡ self.old) }
+    {
+        let number = self.at(self.place, width)?;
+        self.place += u32::from(width);
+        Some(number)
+    }
+
+    /// The number in so many bits, the highest bit first, where `ahead` bits are between the place and them. `None` exactly
+    /// where so many bits are not there. The place stays. It looks at five bytes at most.
+    #[tactic(auto, using(crate::proofs::Windows::bits_length))]
+    pub fn peek(&self, ahead: u32, width: u8) -> Option<u32>
+        requires { width ≤ 32 }
+        ensures number { result ≡ number_at (seen self.now) (place_of self.now + ahead) width }
+        ensures small { IfSome result (λ n. n < 2 ^ width) }
+    {
+        if ahead > self.len() - self.place {
+            return None;
+        }
+        self.at(self.place + ahead, width)
     }
 
     /// The number in so many bits from a place on, counted from 0, the highest bit first; of no bits it is 0. `None`

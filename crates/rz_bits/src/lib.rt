@@ -1,6 +1,7 @@
 //! Bits, most significant first: a buffer of them that grows at its end and becomes bytes, and a view of bytes as
-//! their bits. Contracts see a `BitBuf` as the list of its bits, and each call gives exactly its definition, or is
-//! out of memory. The laws say that numbers and bytes are read back from their bits.
+//! their bits, with a place among them. Contracts see a `BitBuf` as the list of its bits, and of a `BitView` that list
+//! and the place; each call gives exactly its definition, or is out of memory. The laws say that numbers and bytes are
+//! read back from their bits.
 //! It rests on `rz_core` and the standard library.
 //! What a bit, a number of bits and a byte are is defined in `specs/Bits.antt`, and what stands at a place in
 //! `specs/View.antt`. How the code holds the bits, in whole bytes, is in `specs/Held.antt`.

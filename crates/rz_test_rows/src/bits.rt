@@ -1,6 +1,6 @@
-//! Bits that are appended to a buffer.
+//! Bits that are appended to a buffer, and numbers that are taken of bytes.
 
-use rz_bits::BitBuf;
+use rz_bits::{BitBuf, BitView};
 use rz_test_tables::add_if_wrong;
 use std::process::Abort;
 
@@ -25,11 +25,48 @@ const GOING_ON: [Option<(u32, u8)>; 4] = [
     Some((7, 0)),
 ];
 
+/// The bytes of these, with four zero bits behind them.
+const AS_BYTES: [u8; 5] = [0xB1, 0x23, 0x45, 0x67, 0x80];
+
+/// Widths of the numbers that are taken of them, one behind another, each with what comes.
+const TAKEN: [(u8, Option<u32>); 7] = [
+    (3, Some(5)),
+    (1, Some(1)),
+    (32, Some(0x1234_5678)),
+    (5, None),
+    (0, Some(0)),
+    (4, Some(0)),
+    (1, None),
+];
+
 /// Adds the buffers that come out otherwise.
 pub fn add_bits(rt: &(impl Abort + AllocGlobal), wrong: &mut String) {
     add_steps(rt, &NUMBERS, 44, &[0x90, 0, 1, 0xFF, 0xFF, 0], wrong);
-    add_steps(rt, &GOING_ON, 36, &[0xB1, 0x23, 0x45, 0x67, 0x80], wrong);
+    add_steps(rt, &GOING_ON, 36, &AS_BYTES, wrong);
     add_many(rt, wrong);
+    take_numbers(rt);
+}
+
+/// Takes numbers of bytes, after a look at each, and ends the test where others come.
+fn take_numbers(rt: &impl Abort) {
+    let mut view = BitView::over(&AS_BYTES);
+    if view.peek(4, 32) != Some(0x1234_5678)
+        || view.peek(9, 32).is_some()
+        || view.peek(u32::MAX, 1).is_some()
+    {
+        panic!(rt; "another number ahead");
+    }
+    for (width, wanted) in &TAKEN {
+        if *width > 32 {
+            panic!(rt; "too wide for a test");
+        }
+        if view.peek(0, *width) != *wanted || view.take(*width) != *wanted {
+            panic!(rt; "another number taken");
+        }
+    }
+    if view.place() != 40 {
+        panic!(rt; "another place");
+    }
 }
 
 /// Appends zero bits and one bits, more than 32 at once, and adds them if they are others.

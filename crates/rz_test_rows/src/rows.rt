@@ -6,7 +6,7 @@ ghost use Rattle.rz_types.specs.Template.{template_of};
 
 use crate::made::template_of;
 use crate::show::show_row;
-use rz_core::{Attr, Bytes, Facts, Moment, OsType, Resource};
+use rz_core::{Attr, Bytes, Facts, Moment, OsType};
 use rz_layout::compile;
 use rz_show::{Hidden, show_row as write_statement, uses_hidden, write_row};
 use rz_test_tables::Text;
@@ -171,20 +171,20 @@ fn written(
         None => write_row(fields, row, 1, &hidden, &mut shown).expect(rt, "memory"),
         Some(head) => {
             shown.append(b"first\n").expect(rt, "memory");
-            let resource = resource_of(rt, head);
-            write_statement(&resource, fields, row, &hidden, &mut shown).expect(rt, "memory");
+            let facts = facts_under(rt, head);
+            write_statement(&facts, fields, row, &hidden, &mut shown).expect(rt, "memory");
         }
     }
     shown
 }
 
-/// A resource with this head and no bytes.
-fn resource_of(rt: &(impl Abort + AllocGlobal), head: Head) -> Resource {
-    Resource {
+/// What is known of a resource with this head.
+fn facts_under(rt: &(impl Abort + AllocGlobal), head: Head) -> Facts {
+    Facts {
         kind: OsType { code: head.kind },
         id: head.id,
         name: Bytes::of(rt.alloc(), head.name.as_bytes()).expect(rt, "memory"),
         attr: Attr::of(head.attr),
-        bytes: Bytes::new(rt.alloc()),
+        ..facts_of(rt)
     }
 }

@@ -1,21 +1,21 @@
 //! Resources that are shown by their bytes.
 
-use rz_core::{Attr, Bytes, Facts, Moment, OsType, Resource};
-use rz_show::{show_bytes, show_resource};
+use rz_core::{Attr, Bytes, Facts, Moment, OsType};
+use rz_show::{append_bytes, show_bytes};
 use rz_test_tables::add_if_wrong;
 use std::process::Abort;
 
 /// Adds a resource if it is shown otherwise behind another text.
 pub fn add_resource(rt: &(impl Abort + AllocGlobal), wrong: &mut String) {
-    let resource = Resource {
+    let facts = Facts {
         kind: OsType { code: 0x5465_7374 },
         id: 128,
         name: Bytes::new(rt.alloc()),
         attr: Attr::of(0),
-        bytes: Bytes::of(rt.alloc(), b"\x01\x02").expect(rt, "memory"),
+        moment: Moment::of_unix(0).ok_or("no moment").expect(rt, "a moment"),
     };
     let mut text = Bytes::of(rt.alloc(), b"first\n").expect(rt, "memory");
-    show_resource(&resource, &mut text).expect(rt, "memory");
+    append_bytes(&facts, b"\x01\x02", &mut text).expect(rt, "memory");
     let wanted = b"first\ndata 'Test' (128) {\n    $\"0102\"\n};\n\n";
     add_if_wrong("a resource", wanted, text.as_slice(), wrong).expect(rt, "memory");
 }

@@ -36,7 +36,7 @@ returns-then-is_end c =
     ∙ (λ i. few line_count 1048576 (line_at c.args.facts.now all None (plain_body (c.as_slice-fields.ensures i)) (met (c.new-learnt.ensures.notes i)) (known (c.new-learnt.ensures.notes i)) 0 (marked 0 (c.new-learnt.ensures.marks i)))))
     (subst (λ o. IfSome o (λ r. r.after ≤ length all)) c.in-Some.is c.in_ok-came.ensures.within)
     (sym c.if-is_end.ensures)
-    ∙ ap (λ (bits : List Bool). ended bits (whole_found c.args.facts.now body bits)) c.over-view.ensures
+    ∙ ap (λ (bits : List Bool). ended bits (whole_found c.args.facts.now body bits)) c.over-view.ensures.bits
 
 pub returns-in-Some : goal.returns-in-Some
 returns-in-Some c =
@@ -48,7 +48,7 @@ returns-in-Some c =
     ∙ (λ i. few line_count 1048576 (line_at c.args.facts.now all None (plain_body (c.as_slice-fields.ensures i)) (met (c.new-learnt.ensures.notes i)) (known (c.new-learnt.ensures.notes i)) 0 (marked 0 (c.new-learnt.ensures.marks i)))))
     (subst (λ o. IfSome o (λ r. r.after ≤ length all)) c.in-Some.is c.in_ok-came.ensures.within)
     (sym c.if-is_end.ensures)
-    ∙ ap (λ (bits : List Bool). ended bits (whole_found c.args.facts.now body bits)) c.over-view.ensures
+    ∙ ap (λ (bits : List Bool). ended bits (whole_found c.args.facts.now body bits)) c.over-view.ensures.bits
 
 pub returns : goal.returns
 returns c =
@@ -57,4 +57,4 @@ returns c =
     none_ended all (whole_found c.args.facts.now body all)
     (ap (option_map (line_in c.read_body.new.learnt)) (sym c.in-None.is) ∙ c.in_ok-came.ensures.row
     ∙ (λ i. few line_count 1048576 (line_at c.args.facts.now all None (plain_body (c.as_slice-fields.ensures i)) (met (c.new-learnt.ensures.notes i)) (known (c.new-learnt.ensures.notes i)) 0 (marked 0 (c.new-learnt.ensures.marks i)))))
-    ∙ ap (λ (bits : List Bool). ended bits (whole_found c.args.facts.now body bits)) c.over-view.ensures
+    ∙ ap (λ (bits : List Bool). ended bits (whole_found c.args.facts.now body bits)) c.over-view.ensures.bits
