@@ -1,3 +1,4 @@
+pub mod Leaving
 pub mod Fronts
 pub mod Takes
 pub mod RunsAhead

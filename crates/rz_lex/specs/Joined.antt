@@ -1,6 +1,6 @@
 -- The joined text of a source: its bytes and line ends, each with the physical line on which it stands, without each
 -- backslash that stands directly before a line end and without that line end. (MPW Rez.)
-use Rattle.std.specs.Prelude.{ℕ, ◌+◌, ◌<◌, ◌≤◌, length, Bool, false, ◌&&◌, ◌==◌, if◌then◌else◌, List, [], ◌∷◌}
+use Rattle.std.specs.Prelude.{◌≡◌, ◌-◌, drop, ℕ, ◌+◌, ◌<◌, ◌≤◌, length, Bool, false, ◌&&◌, ◌==◌, if◌then◌else◌, List, [], ◌∷◌}
 use Rattle.rz_lex.specs.declared.joined.Placed.{Placed}
 use Rattle.rz_lex.specs.declared.joined.Position.{Position}
 
@@ -44,10 +44,12 @@ ahead place = joined place.line place.rest.now
 
 -- a place is as far on as another or further
 pub record IsOn (start place : Position) : Type 0 where
+  pub suffix : place.rest.now ≡ drop (length start.rest.now - length place.rest.now) start.rest.now
   pub shorter : length place.rest.now ≤ length start.rest.now
   pub within : place.line + length place.rest.now ≤ start.line + length start.rest.now
 
 -- a place is further on than another
 pub record IsFurther (start place : Position) : Type 0 where
+  pub suffix : place.rest.now ≡ drop (length start.rest.now - length place.rest.now) start.rest.now
   pub shorter : length place.rest.now < length start.rest.now
   pub within : place.line + length place.rest.now ≤ start.line + length start.rest.now

@@ -20,3 +20,4 @@ pub mod Lexeme
 pub mod Token
 pub mod Spelled
 pub mod Within
+pub mod Lexer

@@ -1,8 +1,8 @@
 //! The logical lines of a source, one by one, and the laws of them. They are defined in `specs/Lines`.
 
-ghost use Rattle.std.specs.Prelude.{◌≡◌, ℕ, ◌+◌, ◌≤◌, ◌^◌, [], length, List, Option, None, Ok, Err, IfNone, IfOk, IfSome};
+ghost use Rattle.std.specs.Prelude.{◌≡◌, ℕ, ◌+◌, ◌≤◌, ◌^◌, [], length, List, Option, None, IfNone, IfOk, IfSome};
 ghost use Rattle.rz_core.specs.Message.{IsNameable};
-ghost use Rattle.rz_core.specs.Stop.{Gives, OnFault};
+ghost use Rattle.rz_core.specs.Stop.{OnFault};
 ghost use Rattle.rz_core.specs.declared.fault.Fault.{Fault};
 ghost use Rattle.rz_lex.specs.Joined.{ahead, IsFurther};
 ghost use Rattle.rz_lex.specs.Lines.{open_comment, HasLines, HasOpenComment, StandsBefore};
@@ -20,27 +20,8 @@ const FIRST_ROOM: usize = 64;
 
 /// The first logical line that stands ahead, and the position of the next. `file` is the position of the
 /// source in the list of files, for the marks. `None` comes exactly at the end of the text. 107 comes
-/// exactly where a comment begins in this line that never ends; its mark is that of the line. (MPW Rez:
-/// comments, and a backslash at the end of a line.)
+/// exactly where a comment begins in this line that never ends; its mark is that of the line.
 pub fn next_line<'a>(
-    alloc: Global,
-    file: u64,
-    start: Position<'a>,
-) -> Result<Option<(RawLine, Position<'a>)>, Stop<Fault>>
-    requires { start.line + length start.rest.now ≤ 2 ^ 32 }
-    ensures line { IfOk result (λ read. IfSome read (λ read. StandsBefore file (ahead start.entry) read.0 (ahead read.1))) }
-    ensures end { IfOk result (λ read. IfNone read (HasLines file (ahead start.entry) [] None)) }
-    ensures comment { OnFault result (HasOpenComment file (ahead start.entry) []) }
-    ensures at_end { HasLines file (ahead start.entry) [] None → Gives (Ok None) result }
-    ensures in_comment { (fault : Fault) → HasOpenComment file (ahead start.entry) [] fault → Gives (Err fault) result }
-    ensures mark { IfOk result (λ read. IfSome read (λ read. read.0.mark.file ≡ file)) }
-    ensures nameable { OnFault result (IsNameable (file + 1)) }
-    ensures further { IfOk result (λ read. IfSome read (λ read. IsFurther start.entry read.1)) }
-{
-    read_line(alloc, file, start)
-}
-
-fn read_line<'a>(
     alloc: Global,
     file: u64,
     start: Position<'a>,

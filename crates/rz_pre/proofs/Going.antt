@@ -12,14 +12,13 @@ use Rattle.rz_core.specs.declared.fault.Fault.{Fault}
 use Rattle.rz_core.specs.declared.stop.Stop.{Stop}
 use Rattle.rz_core.specs.declared.stop.Stop.TheVariants as stops
 use Rattle.rz_folder.specs.Folder.{Files}
-use Rattle.rz_lex.specs.Joined.{joined}
 use Rattle.rz_lex.specs.Lines.{HasLines, StandsBefore}
 use Rattle.rz_lex.specs.declared.joined.Placed.{Placed}
 use Rattle.rz_lex.specs.declared.raw_line.RawLine.{RawLine}
 use Rattle.rz_core.specs.Stop.{halt_of, IsReadFault, Meets, OnFault, OnRefusal, Yields}
 use Rattle.rz_lex.specs.Lines.{HasOpenComment}
 use Rattle.rz_pre.specs.Line.{Does}
-use Rattle.rz_pre.specs.Program.{ends, fails, innermost, opens_after, state_after, too_deep, live_after, start, Enters, Follows, HasText, IncludedGoes, Includes, LineGoes, LinesGo, NamedGoes, NamesGo, Opens, OpensAs, State, TextGoes}
+use Rattle.rz_pre.specs.Program.{ends, fails, innermost, opens_after, state_after, too_deep, live_after, start, AheadGoes, Enters, Follows, HasText, IncludedGoes, Includes, LineGoes, LinesGo, NamedGoes, NamesGo, Opens, OpensAs, State, TextGoes}
 use Rattle.rz_pre.specs.declared.program.Failure.{Failure}
 use Rattle.rz_pre.specs.Live.{live_in, put, shapes_of, Live}
 use Rattle.rz_pre.specs.Macros.{rows_of}
@@ -42,27 +41,27 @@ NamesLead tool files paths names rest before s =
     (answer : Result State Failure) → NamesGo tool files paths rest s answer → NamesGo tool files paths names before answer
 
 -- whatever is read of the text ahead, the file reads so
-abbrev pub LinesLead : Includes → Tool → ℕ → List ℕ → State → List Placed → List Open → State → Type 0
+abbrev pub LinesLead : Includes → Tool → ℕ → List Placed → State → List Placed → List Open → State → Type 0
 LinesLead Reads tool file text before ahead opens s =
     (lines : List RawLine) (ending : Option Fault) (answer : Result State Failure)
-    → HasLines file ahead lines ending → LinesGo Reads tool lines ending opens s answer → TextGoes Reads tool file text before answer
+    → HasLines file ahead lines ending → LinesGo Reads tool lines ending opens s answer → AheadGoes Reads tool file text before answer
 
 -- the lines of a text, and how they end
 abbrev pub SomeLines : ℕ → List Placed → Type 0
 SomeLines file text = (lines : List RawLine) × (ending : Option Fault) × HasLines file text lines ending
 
-module _ (Reads : Includes) (tool : Tool) (file : ℕ) (text : List ℕ) (before : State) where
+module _ (Reads : Includes) (tool : Tool) (file : ℕ) (text : List Placed) (before : State) where
   abbrev Leads : List Placed → List Open → State → Type 0
   Leads ahead opens s = LinesLead Reads tool file text before ahead opens s
 
-  pub leads_first : Leads (joined 1 text) [] before
+  pub leads_first : Leads text [] before
   leads_first = λ lines ending answer has goes. (lines, ending, has, goes)
 
   module _ (here : List Placed) (opens : List Open) (s : State) (leads : Leads here opens s) where
-    pub leads_end : HasLines file here [] None → TextGoes Reads tool file text before (ends opens s)
+    pub leads_end : HasLines file here [] None → AheadGoes Reads tool file text before (ends opens s)
     leads_end has = leads [] None (ends opens s) has refl
 
-    pub leads_comment : (fault : Fault) → HasLines file here [] (Some fault) → TextGoes Reads tool file text before (fails fault s)
+    pub leads_comment : (fault : Fault) → HasLines file here [] (Some fault) → AheadGoes Reads tool file text before (fails fault s)
     leads_comment fault has = leads [] (Some fault) (fails fault s) has refl
 
     module _ (line : RawLine) (rest : List Placed) (stands : StandsBefore file here line rest) where
@@ -70,7 +69,7 @@ module _ (Reads : Includes) (tool : Tool) (file : ℕ) (text : List ℕ) (before
       leads_on after t goes = λ lines ending answer has further.
           leads (line ∷ lines) ending answer (stands lines ending has) (inl ((after, t), goes, further))
 
-      pub leads_out : SomeLines file rest → (failure : Failure) → LineGoes Reads tool line opens s (Err failure) → TextGoes Reads tool file text before (Err failure)
+      pub leads_out : SomeLines file rest → (failure : Failure) → LineGoes Reads tool line opens s (Err failure) → AheadGoes Reads tool file text before (Err failure)
       leads_out some failure goes =
           leads (line ∷ some.0) some.1 (Err failure) (stands some.0 some.1 some.2) (inr (failure, goes, refl))
 
@@ -171,10 +170,10 @@ at_some (Some y) x is P so = subst P (same_Some y x is) so
 
 -- How a file is left, and how reading goes on.
 
-module _ (tool : Tool) (files : Files) (paths : List (List ℕ)) (levels file : ℕ) (text : List ℕ) (before : State)
+module _ (tool : Tool) (files : Files) (paths : List (List ℕ)) (levels file : ℕ) (text : List Placed) (before : State)
     (here : List Placed) (opens : List Open) (s : State) (leads : LinesLead (IncludedGoes tool files paths levels) tool file text before here opens s) where
   abbrev Goes : Result State Failure → Type 0
-  Goes answer = TextGoes (IncludedGoes tool files paths levels) tool file text before answer
+  Goes answer = AheadGoes (IncludedGoes tool files paths levels) tool file text before answer
 
   pub left_in_comment : (X : Type 0) (stop : Stop Fault) → OnFault {X = X} (Err stop) (HasOpenComment file here []) → Yields (with_state alone s (Err (halt_of stop))) Goes
   left_in_comment X (stops.Refused fault) has = leads_comment (IncludedGoes tool files paths levels) tool file text before here opens s leads fault has

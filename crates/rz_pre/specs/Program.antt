@@ -8,6 +8,7 @@ use Rattle.rz_core.specs.declared.fault.Mark.{Mark}
 use Rattle.rz_folder.specs.Folder.{Files}
 use Rattle.rz_lex.specs.Joined.{joined}
 use Rattle.rz_lex.specs.Lines.{HasLines}
+use Rattle.rz_lex.specs.declared.joined.Placed.{Placed}
 use Rattle.rz_lex.specs.declared.raw_line.RawLine.{RawLine}
 use Rattle.rz_lex.specs.declared.token.Token.{Token}
 use Rattle.rz_core.specs.Answers.{Then}
@@ -85,10 +86,14 @@ LinesGo Reads tool [] (Some open_comment) opens s answer = answer ≡ fails open
 LinesGo Reads tool (line ∷ lines) ending opens s answer =
     Then (LineGoes Reads tool line opens s) (λ next. LinesGo Reads tool lines ending next.0 next.1) answer
 
--- the text of a file at this position of the list of files
+-- the joined text of a file at this position of the list of files
+abbrev pub AheadGoes : Includes → Tool → ℕ → List Placed → State → Result State Failure → Type 0
+AheadGoes Reads tool file ahead s answer =
+    (lines : List RawLine) × (ending : Option Fault) × HasLines file ahead lines ending × LinesGo Reads tool lines ending [] s answer
+
+-- the text of a file
 abbrev pub TextGoes : Includes → Tool → ℕ → List ℕ → State → Result State Failure → Type 0
-TextGoes Reads tool file text s answer =
-    (lines : List RawLine) × (ending : Option Fault) × HasLines file (joined 1 text) lines ending × LinesGo Reads tool lines ending [] s answer
+TextGoes Reads tool file text s answer = AheadGoes Reads tool file (joined 1 text) s answer
 
 -- Files.
 

@@ -8,7 +8,7 @@ ghost use Rattle.rz_pre.specs.Macros.{rows_of};
 ghost use Rattle.rz_folder.specs.Counts.{Rose};
 ghost use Rattle.rz_folder.specs.OnlyReads.{OnlyReads};
 ghost use Rattle.rz_pre.specs.Placed.{AreOpenIn, IsPlaced, IsSourceFault};
-ghost use Rattle.rz_pre.specs.Program.{ends, live_after, open_if, start, too_deep, Enters, IncludedGoes, NamedGoes, NamesGo, ProgramGoes, State, TextGoes};
+ghost use Rattle.rz_pre.specs.Program.{ends, live_after, open_if, start, too_deep, AheadGoes, Enters, IncludedGoes, NamedGoes, NamesGo, ProgramGoes, State};
 ghost use Rattle.rz_pre.specs.declared.program.Failure.{Failure};
 ghost use Rattle.rz_pre.specs.Reading.{alone, state_of, together, with_state, Finishes, IsAnswer, IsProgram, OfProgram};
 ghost use Rattle.rz_core.specs.Stop.{IsReadFault, OnRefusal, Yields};
@@ -25,7 +25,7 @@ use crate::reading::{Reading, step};
 use rz_core::{Bytes, Fault, FileNames, Halt, Kept, Mark, NoMemory};
 use rz_folder::Folder;
 use rz_folder_paths::names_of;
-use rz_lex::{Position, every_text_has_lines, next_line, tokens_are_lexed};
+use rz_lex::{Lexer, every_text_has_lines, tokens_are_lexed};
 use std::alloc::Global;
 
 /// How many levels deep a file on level 1 may include files.
@@ -38,21 +38,20 @@ struct Setting<'a> {
     paths: &'a FileNames,
 }
 
-/// Reads a file that was opened, and those that it includes, so many levels deep.
+/// Reads the source of a file that was opened, and the files that it includes, so many levels deep. The calls of this
+/// function are the stack of the sources that are open: each owns one, at most 16, and its text goes when it returns.
 fn read_file<F: Folder>(
     alloc: Global,
     folder: &mut F,
     setting: Setting<'_>,
     levels: u32,
-    file: u64,
-    text: &[u8],
+    mut source: Lexer,
     reading: &mut Reading,
 ) -> Result<(), Halt<Fault>>
-    requires short { length text.now < 2 ^ 32 }
-    requires open { file < length reading.now.files }
+    requires open { source.file < length reading.now.files }
     requires placed { IsPlaced reading.now }
     ensures read { IfSome (F.files folder.old) (λ files. Yields (with_state alone (state_of reading.new) result)
-        (TextGoes (IncludedGoes setting.entry.tool files setting.entry.paths.now levels) setting.entry.tool file text.now (state_of reading.old))) }
+        (AheadGoes (IncludedGoes setting.entry.tool files setting.entry.paths.now levels) setting.entry.tool source.file source.ahead (state_of reading.old))) }
     ensures placed { OnOk result (IsPlaced reading.new) }
     ensures more { OnOk result (length reading.old.files ≤ length reading.new.files) }
     ensures nameable { OnRefusal result (IsSourceFault (length reading.new.files)) }
@@ -62,14 +61,10 @@ fn read_file<F: Folder>(
     every_text_has_lines();
     tokens_are_lexed();
     let mut opens: Vec<Open> = Vec::new(alloc);
-    let mut place = Position {
-        rest: text,
-        line: 1,
-    };
-    while let Some((line, after)) = next_line(alloc, file, place)? {
+    while let Some(line) = source.next(alloc)? {
         if let Some(name) = step(alloc, setting.tool, &line, &mut opens, reading)? {
-            let inner = reading.files.len();
-            let source = open_included(
+            let file = reading.files.len();
+            let text = open_included(
                 alloc,
                 folder,
                 setting,
@@ -78,17 +73,9 @@ fn read_file<F: Folder>(
                 line.mark,
                 reading,
             )?;
-            read_file(
-                alloc,
-                folder,
-                setting,
-                levels - 1,
-                inner,
-                source.as_slice(),
-                reading,
-            )?;
+            let included = Lexer::over(text, file);
+            read_file(alloc, folder, setting, levels - 1, included, reading)?;
         }
-        place = after;
     }
     end(&opens)
 }
@@ -203,15 +190,8 @@ fn read_named<F: Folder>(
     let mut own = FileNames::new(alloc);
     own.push(name)?;
     let text = open_file(alloc, folder, &own, None, name.as_bytes(), reading)?;
-    read_file(
-        alloc,
-        folder,
-        setting,
-        LEVELS_BELOW,
-        file,
-        text.as_slice(),
-        reading,
-    )
+    let source = Lexer::over(text, file);
+    read_file(alloc, folder, setting, LEVELS_BELOW, source, reading)
 }
 
 /// What the words define, before any file is read.
@@ -299,7 +279,7 @@ fn into_program(alloc: Global, reading: Reading) -> Result<Program, NoMemory>
 /// - 104 for a directive of another form (kept: its first token, where that is a word);
 /// - 105 for a conditional that is open at the end of its file, 106 for an `#else`, `#elif` or `#endif` that
 ///   belongs to none, each kept nothing;
-/// - 107 to 111, 113 and 115 of the lines and their tokens, as for `next_line` and `cut` of `rz_lex`;
+/// - 107 to 111, 113 and 115 of the lines and their tokens, as for `Lexer` and `cut` of `rz_lex`;
 /// - 112 for a word for which more than 65,536 tokens are handled (kept: the word);
 /// - 114 for a condition with more than 1,024 tokens behind its macros, with the name of a function, that is no
 ///   expression or has no value.

@@ -32,7 +32,7 @@ pub fn show_tokens(tokens: &Tokens, came: &mut Text) {
 }
 
 /// Shows the fault's number, its line, and what it keeps: a number in decimal, bytes as they are.
-fn show_fault(fault: &Fault, came: &mut Text) {
+pub fn show_fault(fault: &Fault, came: &mut Text) {
     came.number(u64::from(fault.number));
     match fault.mark {
         Some(mark) => {

@@ -1,57 +1,57 @@
-//! The lines of texts, taken and cut one by one.
+//! The lines of sources, asked for and cut one by one.
 
-use crate::outcome::show_tokens;
-use rz_lex::{Position, RawLine, cut, next_line};
+use crate::outcome::{show_fault, show_tokens};
+use rz_core::{Bytes, Stop};
+use rz_lex::{Lexer, RawLine, cut};
 use rz_test_tables::Text;
 use std::alloc::Global;
 
 /// Texts and their lines, as `show_lines` shows them.
 pub const TAKEN: &str = r#"
- => [end]
-a /* x */ "b"\␊c // d␍␊  e => [3:1:a   "b"c  |1:a 1:"b" 1:c |3 3:3:  e|3:e |3 end]
-a␊␊b => [3:1:a|1:a |2 3:2:||3 3:3:b|3:b |3 end]
+ => [end end ]
+a /* x */ "b"\␊c // d␍␊  e => [3:1:a   "b"c  |1:a 1:"b" 1:c | 3:3:  e|3:e | end end ]
+a␊␊b => [3:1:a|1:a | 3:2:|| 3:3:b|3:b | end end ]
+a␊b␊ => [3:1:a|1:a | 3:2:b|2:b | end end ]
+# at a comment without an end it stays
+a␊/* b => [3:1:a|1:a | 107 on 2 107 on 2 ]
+/* b␊c => [107 on 1 107 on 1 ]
+a \␊/* b␊c => [107 on 1 107 on 1 ]
 "#;
 
 /// The most bytes of a text of a test.
 const MOST: usize = 1_000_000;
 
-/// Shows the lines of a text as they are taken one by one: of each its file and line, its bytes, its tokens, and the
-/// physical line at which the text goes on; and the end of the text.
+/// Shows the lines of a source as they are asked for one by one: of each its file and line, its bytes, and its tokens.
+/// What comes behind them, the end or a fault, is asked for twice.
 pub fn show_lines(alloc: Global, text: &[u8], came: &mut Text) {
-    let mut start = Position {
-        rest: text,
-        line: 1,
+    if text.len() > MOST {
+        came.fail();
+        return;
+    }
+    let Ok(own) = Bytes::of(alloc, text) else {
+        came.fail();
+        return;
     };
+    let mut lexer = Lexer::over(own, 3);
     for _ in 0..=text.len() {
-        match show_line(alloc, start, came) {
-            Some(after) => start = after,
-            None => break,
+        if !show_next(alloc, &mut lexer, came) {
+            break;
         }
     }
+    show_next(alloc, &mut lexer, came);
 }
 
-/// Takes a line, and shows it. At the end of a text it shows that.
-fn show_line<'a>(alloc: Global, start: Position<'a>, came: &mut Text) -> Option<Position<'a>> {
-    if start.rest.len() > MOST || start.line > 1_000_000 {
-        came.fail();
-        return None;
+/// Asks for the next line, shows what comes, and says whether it is a line.
+fn show_next(alloc: Global, lexer: &mut Lexer, came: &mut Text) -> bool {
+    let answer = lexer.next(alloc);
+    match &answer {
+        Ok(Some(line)) => show_taken(alloc, line, came),
+        Ok(None) => came.put(b"end"),
+        Err(Stop::Refused(fault)) => show_fault(fault, came),
+        Err(Stop::NoMemory) => came.fail(),
     }
-    match next_line(alloc, 3, start) {
-        Ok(Some((line, after))) => {
-            show_taken(alloc, &line, came);
-            came.number(after.line);
-            came.put(b" ");
-            Some(after)
-        }
-        Ok(None) => {
-            came.put(b"end");
-            None
-        }
-        Err(_) => {
-            came.fail();
-            None
-        }
-    }
+    came.put(b" ");
+    matches!(answer, Ok(Some(_)))
 }
 
 /// Shows a line and its tokens.

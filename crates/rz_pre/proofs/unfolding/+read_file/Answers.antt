@@ -2,8 +2,7 @@ use Rattle.std.proofs.Common.{ℕ, ◌-◌, ◌<◌, ◌^◌, List, length, rule
 use Rattle.std.specs.declared.option.Option.{Option}
 use Rattle.std.proofs.lemmas.Result.{err_from_is_err_and}
 use Rattle.rz_lex.specs.Within.{AreWithin}
-use Rattle.rz_lex.specs.Joined.{ahead}
-use Rattle.rz_lex.specs.declared.joined.Position.{Position}
+use Rattle.rz_lex.specs.Lexer.{Source}
 use Rattle.rz_lex.specs.declared.raw_line.RawLine.{RawLine}
 use Rattle.rz_pre.specs.Reading.{state_of}
 use Rattle.rz_pre.proofs.Going.{at_some, left_at_end, left_in_comment, left_in_line, left_in_opening, left_inside, on_behind, on_inside}
@@ -14,87 +13,86 @@ use Rattle.rz_folder.proofs.Reading.{reads_on}
 use Rattle.rz_pre.proofs.Lexing.{steps_lexed}
 use Rattle.rz_folder_paths.proofs.Found.{if_some}
 use Rattle.rz_pre.proofs.unfolding.+read_file.Goals as goal
-use Rattle.rz_pre.proofs.unfolding.+read_file.Goals.{in-Some-2+in_ok-source+in_ok-read_file, in_default-2}
+use Rattle.rz_pre.proofs.unfolding.+read_file.Goals.{in-Some-2+in_ok-text+in_ok-read_file, in_default-2}
 
 pub read_file-requires : goal.read_file-requires
 read_file-requires g t c =
-    let smaller : c.args.levels - 1 < c.args.levels = omega (arith, c.in_ok-source.ensures.deep) in
-    let short : length c.as_slice-in-Some-2.result.now < 2 ^ 32 = subst (λ (text : List ℕ). length text < 2 ^ 32) (sym c.as_slice-in-Some-2.ensures) c.in_ok-source.ensures.short in
-    let inside : c.len-inner.result < length c.open_included.new.reading.files = omega (arith, c.len-inner.ensures, c.in_ok-source.ensures.more) in
+    let smaller : c.args.levels - 1 < c.args.levels = omega (arith, c.in_ok-text.ensures.deep) in
+    let inside : c.over-included.result.file < length c.open_included.new.reading.files = omega (arith, ap (λ (s : Source). s.file) c.over-included.ensures, c.len-file.ensures, c.in_ok-text.ensures.more) in
     let same = steps_files c.args.setting.tool c.in-Some.line (reverse c.loop-opens.opens.items) (state_of c.loop-opens.reading) c.in_ok-name.field-0 (reverse c.step.new.opens.items) (state_of c.step.new.reading) c.in_ok-name.ensures.steps in
-    let stepped = steps_within c.args.setting.tool c.in-Some.line (reverse c.loop-opens.opens.items) (state_of c.loop-opens.reading) c.in_ok-name.field-0 (reverse c.step.new.opens.items) (state_of c.step.new.reading) c.in_ok-name.ensures.steps (length c.loop-opens.reading.files) (omega (arith, rw c.in-Some.is at c.in_ok-line.ensures.mark, c.requires.open, c.loop-opens.invariant.more)) c.loop-opens.invariant.placed in
+    let stepped = steps_within c.args.setting.tool c.in-Some.line (reverse c.loop-opens.opens.items) (state_of c.loop-opens.reading) c.in_ok-name.field-0 (reverse c.step.new.opens.items) (state_of c.step.new.reading) c.in_ok-name.ensures.steps (length c.loop-opens.reading.files) (omega (arith, rw c.in-Some.is at c.in_ok-line.ensures.mark, c.loop-opens.invariant.file, c.requires.open, c.loop-opens.invariant.more)) c.loop-opens.invariant.placed in
     let placed : IsPlaced c.open_included.new.reading =
-    subst (λ (tokens : List Token). AreWithin (length c.open_included.new.reading.files) tokens) (sym c.in_ok-source.ensures.tokens)
+    subst (λ (tokens : List Token). AreWithin (length c.open_included.new.reading.files) tokens) (sym c.in_ok-text.ensures.tokens)
     (within_more (length c.loop-opens.reading.files) (length c.open_included.new.reading.files) c.step.new.reading.tokens
-    (omega (arith, ap (λ (files : List (List ℕ)). length files) same, c.in_ok-source.ensures.more)) stepped) in
+    (omega (arith, ap (λ (files : List (List ℕ)). length files) same, c.in_ok-text.ensures.more)) stepped) in
     search rules
 
 pub returns-in_err-line-clause-read : goal.returns-in_err-line-clause-read
 returns-in_err-line-clause-read g t c = if_some (g.F.Folder.files c.args.folder.now) _ (λ files told.
     let p = err_from_is_err_and c.from_residual.result c.from_residual.ensures.1 in
-    rw (p.1, p.2) (left_in_comment c.args.setting.tool files c.args.setting.paths.now c.args.levels c.args.file c.args.text.now (state_of c.args.reading.now)
-    (ahead c.loop-opens.place) (reverse c.loop-opens.opens.items) (state_of c.loop-opens.reading) (c.loop-opens.invariant.leads files told)
-    (Option (RawLine × Position)) c.in_err-line.field-0.0 c.in_err-line.ensures.comment))
+    rw (p.1, p.2) (left_in_comment c.args.setting.tool files c.args.setting.paths.now c.args.levels c.args.source.file c.args.source.ahead (state_of c.args.reading.now)
+    c.loop-opens.source.ahead (reverse c.loop-opens.opens.items) (state_of c.loop-opens.reading) (c.loop-opens.invariant.leads files told)
+    (Option RawLine) c.in_err-line.field-0.0 (rw c.loop-opens.invariant.file at c.in_err-line.ensures.comment)))
 
 pub returns-in_err-name-clause-read : goal.returns-in_err-name-clause-read
 returns-in_err-name-clause-read g t c = if_some (g.F.Folder.files c.args.folder.now) _ (λ files told.
     let p = err_from_is_err_and c.from_residual-in_err-name.result c.from_residual-in_err-name.ensures.1 in
-    rw (p.1, p.2) (left_in_line c.args.setting.tool files c.args.setting.paths.now c.args.levels c.args.file c.args.text.now (state_of c.args.reading.now)
-    (ahead c.loop-opens.place) (reverse c.loop-opens.opens.items) (state_of c.loop-opens.reading) (c.loop-opens.invariant.leads files told)
-    c.in-Some.line (ahead c.in-Some.after) (rw c.in-Some.is at c.in_ok-line.ensures.line) (c.every_text_has_lines.ensures c.args.file (ahead c.in-Some.after))
+    rw (p.1, p.2) (left_in_line c.args.setting.tool files c.args.setting.paths.now c.args.levels c.args.source.file c.args.source.ahead (state_of c.args.reading.now)
+    c.loop-opens.source.ahead (reverse c.loop-opens.opens.items) (state_of c.loop-opens.reading) (c.loop-opens.invariant.leads files told)
+    c.in-Some.line c.next.new.self.ahead (rw c.loop-opens.invariant.file at (rw c.in-Some.is at c.in_ok-line.ensures.line)) (c.every_text_has_lines.ensures c.args.source.file c.next.new.self.ahead)
     c.in_err-name.field-0.0 _ _ c.in_err-name.ensures.steps))
 
-pub returns-in_err-source-clause-read : goal.returns-in_err-source-clause-read
-returns-in_err-source-clause-read g t c = if_some (g.F.Folder.files c.args.folder.now) _ (λ files told.
-    let p = err_from_is_err_and c.from_residual-in_err-source.result c.from_residual-in_err-source.ensures.1 in
-    rw (p.1, p.2) (left_in_opening c.args.setting.tool files c.args.setting.paths.now c.args.levels c.args.file c.args.text.now (state_of c.args.reading.now)
-    (ahead c.loop-opens.place) (reverse c.loop-opens.opens.items) (state_of c.loop-opens.reading) (c.loop-opens.invariant.leads files told)
-    c.in-Some.line (ahead c.in-Some.after) (rw c.in-Some.is at c.in_ok-line.ensures.line)
-    c.in-Some-2.name _ _ (rw c.in-Some-2.is at c.in_ok-name.ensures.steps) (c.every_text_has_lines.ensures c.args.file (ahead c.in-Some.after))
-    c.in_err-source.field-0.0 _ (at_some _ files (c.loop-opens.invariant.reads.unchanged ∙ told) _ (rw c.as_slice.ensures at c.in_err-source.ensures.opened))))
+pub returns-in_err-text-clause-read : goal.returns-in_err-text-clause-read
+returns-in_err-text-clause-read g t c = if_some (g.F.Folder.files c.args.folder.now) _ (λ files told.
+    let p = err_from_is_err_and c.from_residual-in_err-text.result c.from_residual-in_err-text.ensures.1 in
+    rw (p.1, p.2) (left_in_opening c.args.setting.tool files c.args.setting.paths.now c.args.levels c.args.source.file c.args.source.ahead (state_of c.args.reading.now)
+    c.loop-opens.source.ahead (reverse c.loop-opens.opens.items) (state_of c.loop-opens.reading) (c.loop-opens.invariant.leads files told)
+    c.in-Some.line c.next.new.self.ahead (rw c.loop-opens.invariant.file at (rw c.in-Some.is at c.in_ok-line.ensures.line))
+    c.in-Some-2.name _ _ (rw c.in-Some-2.is at c.in_ok-name.ensures.steps) (c.every_text_has_lines.ensures c.args.source.file c.next.new.self.ahead)
+    c.in_err-text.field-0.0 _ (at_some _ files (c.loop-opens.invariant.reads.unchanged ∙ told) _ (rw c.as_slice.ensures at c.in_err-text.ensures.opened))))
 
 pub returns-in_err-read_file-clause-read : goal.returns-in_err-read_file-clause-read
 returns-in_err-read_file-clause-read g t c = if_some (g.F.Folder.files c.args.folder.now) _ (λ files told.
     let p = err_from_is_err_and c.from_residual-in_err-read_file.result c.from_residual-in_err-read_file.ensures.1 in
-    rw (p.1, p.2) (left_inside c.args.setting.tool files c.args.setting.paths.now c.args.levels c.args.file c.args.text.now (state_of c.args.reading.now)
-    (ahead c.loop-opens.place) (reverse c.loop-opens.opens.items) (state_of c.loop-opens.reading) (c.loop-opens.invariant.leads files told)
-    c.in-Some.line (ahead c.in-Some.after) (rw c.in-Some.is at c.in_ok-line.ensures.line)
+    rw (p.1, p.2) (left_inside c.args.setting.tool files c.args.setting.paths.now c.args.levels c.args.source.file c.args.source.ahead (state_of c.args.reading.now)
+    c.loop-opens.source.ahead (reverse c.loop-opens.opens.items) (state_of c.loop-opens.reading) (c.loop-opens.invariant.leads files told)
+    c.in-Some.line c.next.new.self.ahead (rw c.loop-opens.invariant.file at (rw c.in-Some.is at c.in_ok-line.ensures.line))
     c.in-Some-2.name _ _ (rw c.in-Some-2.is at c.in_ok-name.ensures.steps)
-    c.in_ok-source.source _ (c.args.levels - 1) (omega (arith, c.in_ok-source.ensures.deep))
-    (at_some _ files (c.loop-opens.invariant.reads.unchanged ∙ told) _ (rw c.as_slice.ensures at c.in_ok-source.ensures.opened)) (c.every_text_has_lines.ensures c.args.file (ahead c.in-Some.after))
-    c.in_err-read_file.field-0.0 _ (at_some _ files (c.in_ok-source.ensures.reads.unchanged ∙ c.loop-opens.invariant.reads.unchanged ∙ told) _ (rw (c.as_slice-in-Some-2.ensures, c.len-inner.ensures) at c.in_err-read_file.ensures.read))))
+    c.in_ok-text.text _ (c.args.levels - 1) (omega (arith, c.in_ok-text.ensures.deep))
+    (at_some _ files (c.loop-opens.invariant.reads.unchanged ∙ told) _ (rw c.as_slice.ensures at c.in_ok-text.ensures.opened)) (c.every_text_has_lines.ensures c.args.source.file c.next.new.self.ahead)
+    c.in_err-read_file.field-0.0 _ (at_some _ files (c.in_ok-text.ensures.reads.unchanged ∙ c.loop-opens.invariant.reads.unchanged ∙ told) _ (rw (c.over-included.ensures, c.len-file.ensures) at c.in_err-read_file.ensures.read))))
 
 pub loop-opens-preserved : goal.loop-opens-preserved
 loop-opens-preserved g t c = record {
   leads = elim c.match-branch-4.branch [
-    | in-Some-2+in_ok-source+in_ok-read_file w ↦ λ files told.
-        rw w.reading-is (on_inside c.args.setting.tool files c.args.setting.paths.now c.args.levels c.args.file c.args.text.now (state_of c.args.reading.now)
-        (ahead c.loop-opens.place) (reverse c.loop-opens.opens.items) (state_of c.loop-opens.reading) (c.loop-opens.invariant.leads files told)
-        c.in-Some.line (ahead c.in-Some.after) (rw c.in-Some.is at c.in_ok-line.ensures.line)
+    | in-Some-2+in_ok-text+in_ok-read_file w ↦ λ files told.
+        rw w.reading-is (on_inside c.args.setting.tool files c.args.setting.paths.now c.args.levels c.args.source.file c.args.source.ahead (state_of c.args.reading.now)
+        c.loop-opens.source.ahead (reverse c.loop-opens.opens.items) (state_of c.loop-opens.reading) (c.loop-opens.invariant.leads files told)
+        c.in-Some.line c.next.new.self.ahead (rw c.loop-opens.invariant.file at (rw c.in-Some.is at c.in_ok-line.ensures.line))
         w.in-Some-2.name _ _ (rw w.in-Some-2.is at c.in_ok-name.ensures.steps)
-        w.in_ok-source.source _ (c.args.levels - 1) (omega (arith, w.in_ok-source.ensures.deep))
-        (at_some _ files (c.loop-opens.invariant.reads.unchanged ∙ told) _ (rw w.as_slice.ensures at w.in_ok-source.ensures.opened))
-        _ (at_some _ files (w.in_ok-source.ensures.reads.unchanged ∙ c.loop-opens.invariant.reads.unchanged ∙ told) _ (rw (w.as_slice-in-Some-2.ensures, w.len-inner.ensures) at w.in_ok-read_file.ensures.read)))
+        w.in_ok-text.text _ (c.args.levels - 1) (omega (arith, w.in_ok-text.ensures.deep))
+        (at_some _ files (c.loop-opens.invariant.reads.unchanged ∙ told) _ (rw w.as_slice.ensures at w.in_ok-text.ensures.opened))
+        _ (at_some _ files (w.in_ok-text.ensures.reads.unchanged ∙ c.loop-opens.invariant.reads.unchanged ∙ told) _ (rw (w.over-included.ensures, w.len-file.ensures) at w.in_ok-read_file.ensures.read)))
     | in_default-2 w ↦ λ files told.
-        rw w.reading-is (on_behind c.args.setting.tool files c.args.setting.paths.now c.args.levels c.args.file c.args.text.now (state_of c.args.reading.now)
-        (ahead c.loop-opens.place) (reverse c.loop-opens.opens.items) (state_of c.loop-opens.reading) (c.loop-opens.invariant.leads files told)
-        c.in-Some.line (ahead c.in-Some.after) (rw c.in-Some.is at c.in_ok-line.ensures.line)
+        rw w.reading-is (on_behind c.args.setting.tool files c.args.setting.paths.now c.args.levels c.args.source.file c.args.source.ahead (state_of c.args.reading.now)
+        c.loop-opens.source.ahead (reverse c.loop-opens.opens.items) (state_of c.loop-opens.reading) (c.loop-opens.invariant.leads files told)
+        c.in-Some.line c.next.new.self.ahead (rw c.loop-opens.invariant.file at (rw c.in-Some.is at c.in_ok-line.ensures.line))
         _ _ (rw w.in_default-2.is at c.in_ok-name.ensures.steps))
   ];
-  within = let on = rw c.in-Some.is at c.in_ok-line.ensures.further in omega (arith, on.within, c.loop-opens.invariant.within);
+  file = c.next.ensures.file ∙ c.loop-opens.invariant.file;
   reads = elim c.match-branch-4.branch [
-    | in-Some-2+in_ok-source+in_ok-read_file w ↦ rw w.folder-is (reads_on g.F.Folder.files g.F.Folder.read_faults g.F.Folder.write_faults _ _ _ _ _ _
-        (reads_on g.F.Folder.files g.F.Folder.read_faults g.F.Folder.write_faults _ _ _ _ _ ⊥ c.loop-opens.invariant.reads w.in_ok-source.ensures.reads (λ never. absurd never))
+    | in-Some-2+in_ok-text+in_ok-read_file w ↦ rw w.folder-is (reads_on g.F.Folder.files g.F.Folder.read_faults g.F.Folder.write_faults _ _ _ _ _ _
+        (reads_on g.F.Folder.files g.F.Folder.read_faults g.F.Folder.write_faults _ _ _ _ _ ⊥ c.loop-opens.invariant.reads w.in_ok-text.ensures.reads (λ never. absurd never))
         w.in_ok-read_file.ensures.reads (λ never. absurd never))
     | in_default-2 w ↦ rw w.folder-is c.loop-opens.invariant.reads
   ];
   placed = elim c.match-branch-4.branch [
-    | in-Some-2+in_ok-source+in_ok-read_file w ↦ rw w.reading-is w.in_ok-read_file.ensures.placed
+    | in-Some-2+in_ok-text+in_ok-read_file w ↦ rw w.reading-is w.in_ok-read_file.ensures.placed
     | in_default-2 w ↦ rw w.reading-is (subst (λ (files : List (List ℕ)). AreWithin (length files) c.step.new.reading.tokens) (sym (steps_files c.args.setting.tool c.in-Some.line (reverse c.loop-opens.opens.items) (state_of c.loop-opens.reading) c.in_ok-name.field-0 (reverse c.step.new.opens.items) (state_of c.step.new.reading) c.in_ok-name.ensures.steps))
-        (steps_within c.args.setting.tool c.in-Some.line (reverse c.loop-opens.opens.items) (state_of c.loop-opens.reading) c.in_ok-name.field-0 (reverse c.step.new.opens.items) (state_of c.step.new.reading) c.in_ok-name.ensures.steps (length c.loop-opens.reading.files) (omega (arith, rw c.in-Some.is at c.in_ok-line.ensures.mark, c.requires.open, c.loop-opens.invariant.more)) c.loop-opens.invariant.placed))
+        (steps_within c.args.setting.tool c.in-Some.line (reverse c.loop-opens.opens.items) (state_of c.loop-opens.reading) c.in_ok-name.field-0 (reverse c.step.new.opens.items) (state_of c.step.new.reading) c.in_ok-name.ensures.steps (length c.loop-opens.reading.files) (omega (arith, rw c.in-Some.is at c.in_ok-line.ensures.mark, c.loop-opens.invariant.file, c.requires.open, c.loop-opens.invariant.more)) c.loop-opens.invariant.placed))
   ];
   lexed = λ before. elim c.match-branch-4.branch [
-    | in-Some-2+in_ok-source+in_ok-read_file w ↦ rw w.reading-is (w.in_ok-read_file.ensures.lexed (w.in_ok-source.ensures.lexed
+    | in-Some-2+in_ok-text+in_ok-read_file w ↦ rw w.reading-is (w.in_ok-read_file.ensures.lexed (w.in_ok-text.ensures.lexed
         (steps_lexed c.tokens_are_lexed.ensures c.args.setting.tool c.in-Some.line (reverse c.loop-opens.opens.items) (state_of c.loop-opens.reading) c.in_ok-name.field-0 (reverse c.step.new.opens.items) (state_of c.step.new.reading) c.in_ok-name.ensures.steps
         (c.loop-opens.invariant.lexed before))))
     | in_default-2 w ↦ rw w.reading-is
@@ -102,27 +100,27 @@ loop-opens-preserved g t c = record {
         (c.loop-opens.invariant.lexed before))
   ];
   more = elim c.match-branch-4.branch [
-    | in-Some-2+in_ok-source+in_ok-read_file w ↦ rw w.reading-is (omega (
+    | in-Some-2+in_ok-text+in_ok-read_file w ↦ rw w.reading-is (omega (
       arith,
       w.in_ok-read_file.ensures.more,
-      w.in_ok-source.ensures.more,
+      w.in_ok-text.ensures.more,
       ap (λ (files : List (List ℕ)). length files) (steps_files c.args.setting.tool c.in-Some.line (reverse c.loop-opens.opens.items) (state_of c.loop-opens.reading) c.in_ok-name.field-0 (reverse c.step.new.opens.items) (state_of c.step.new.reading) c.in_ok-name.ensures.steps),
       c.loop-opens.invariant.more,
     ))
     | in_default-2 w ↦ rw w.reading-is (omega (arith, ap (λ (files : List (List ℕ)). length files) (steps_files c.args.setting.tool c.in-Some.line (reverse c.loop-opens.opens.items) (state_of c.loop-opens.reading) c.in_ok-name.field-0 (reverse c.step.new.opens.items) (state_of c.step.new.reading) c.in_ok-name.ensures.steps), c.loop-opens.invariant.more))
   ];
   opened = elim c.match-branch-4.branch [
-    | in-Some-2+in_ok-source+in_ok-read_file w ↦ rw w.reading-is (open_more (length c.loop-opens.reading.files) (length w.read_file.new.reading.files) (reverse c.step.new.opens.items)
-        (omega (arith, w.in_ok-read_file.ensures.more, w.in_ok-source.ensures.more, ap (λ (files : List (List ℕ)). length files) (steps_files c.args.setting.tool c.in-Some.line (reverse c.loop-opens.opens.items) (state_of c.loop-opens.reading) c.in_ok-name.field-0 (reverse c.step.new.opens.items) (state_of c.step.new.reading) c.in_ok-name.ensures.steps)))
-        (steps_open c.args.setting.tool c.in-Some.line (reverse c.loop-opens.opens.items) (state_of c.loop-opens.reading) c.in_ok-name.field-0 (reverse c.step.new.opens.items) (state_of c.step.new.reading) c.in_ok-name.ensures.steps (length c.loop-opens.reading.files) (omega (arith, rw c.in-Some.is at c.in_ok-line.ensures.mark, c.requires.open, c.loop-opens.invariant.more)) c.loop-opens.invariant.opened))
+    | in-Some-2+in_ok-text+in_ok-read_file w ↦ rw w.reading-is (open_more (length c.loop-opens.reading.files) (length w.read_file.new.reading.files) (reverse c.step.new.opens.items)
+        (omega (arith, w.in_ok-read_file.ensures.more, w.in_ok-text.ensures.more, ap (λ (files : List (List ℕ)). length files) (steps_files c.args.setting.tool c.in-Some.line (reverse c.loop-opens.opens.items) (state_of c.loop-opens.reading) c.in_ok-name.field-0 (reverse c.step.new.opens.items) (state_of c.step.new.reading) c.in_ok-name.ensures.steps)))
+        (steps_open c.args.setting.tool c.in-Some.line (reverse c.loop-opens.opens.items) (state_of c.loop-opens.reading) c.in_ok-name.field-0 (reverse c.step.new.opens.items) (state_of c.step.new.reading) c.in_ok-name.ensures.steps (length c.loop-opens.reading.files) (omega (arith, rw c.in-Some.is at c.in_ok-line.ensures.mark, c.loop-opens.invariant.file, c.requires.open, c.loop-opens.invariant.more)) c.loop-opens.invariant.opened))
     | in_default-2 w ↦ rw w.reading-is (open_more (length c.loop-opens.reading.files) (length c.step.new.reading.files) (reverse c.step.new.opens.items)
         (omega (arith, ap (λ (files : List (List ℕ)). length files) (steps_files c.args.setting.tool c.in-Some.line (reverse c.loop-opens.opens.items) (state_of c.loop-opens.reading) c.in_ok-name.field-0 (reverse c.step.new.opens.items) (state_of c.step.new.reading) c.in_ok-name.ensures.steps)))
-        (steps_open c.args.setting.tool c.in-Some.line (reverse c.loop-opens.opens.items) (state_of c.loop-opens.reading) c.in_ok-name.field-0 (reverse c.step.new.opens.items) (state_of c.step.new.reading) c.in_ok-name.ensures.steps (length c.loop-opens.reading.files) (omega (arith, rw c.in-Some.is at c.in_ok-line.ensures.mark, c.requires.open, c.loop-opens.invariant.more)) c.loop-opens.invariant.opened))
+        (steps_open c.args.setting.tool c.in-Some.line (reverse c.loop-opens.opens.items) (state_of c.loop-opens.reading) c.in_ok-name.field-0 (reverse c.step.new.opens.items) (state_of c.step.new.reading) c.in_ok-name.ensures.steps (length c.loop-opens.reading.files) (omega (arith, rw c.in-Some.is at c.in_ok-line.ensures.mark, c.loop-opens.invariant.file, c.requires.open, c.loop-opens.invariant.more)) c.loop-opens.invariant.opened))
   ];
 }
 
 pub returns-clause-read : goal.returns-clause-read
 returns-clause-read g t c = if_some (g.F.Folder.files c.args.folder.now) _ (λ files told.
-    left_at_end c.args.setting.tool files c.args.setting.paths.now c.args.levels c.args.file c.args.text.now (state_of c.args.reading.now)
-    (ahead c.loop-opens.place) (reverse c.loop-opens.opens.items) (state_of c.loop-opens.reading) (c.loop-opens.invariant.leads files told)
-    (rw c.in_default.is at c.in_ok-line.ensures.end) c.end.result (rw c.deref.ensures.value at c.end.ensures.end (state_of c.loop-opens.reading)))
+    left_at_end c.args.setting.tool files c.args.setting.paths.now c.args.levels c.args.source.file c.args.source.ahead (state_of c.args.reading.now)
+    c.loop-opens.source.ahead (reverse c.loop-opens.opens.items) (state_of c.loop-opens.reading) (c.loop-opens.invariant.leads files told)
+    (rw c.loop-opens.invariant.file at (rw c.in_default.is at c.in_ok-line.ensures.end)) c.end.result (rw c.deref.ensures.value at c.end.ensures.end (state_of c.loop-opens.reading)))

@@ -1,7 +1,6 @@
 use Rattle.std.proofs.Common.{◌≡◌, ◌+◌, ◌^◌, ◌≤◌, length, reverse, Some}
 use Rattle.rz_folder.specs.Folder.{Files}
 use Rattle.rz_folder.specs.OnlyReads.{OnlyReads}
-use Rattle.rz_lex.specs.Joined.{ahead}
 use Rattle.rz_pre.specs.Lexed.{IsLexedReading}
 use Rattle.rz_pre.specs.Placed.{AreOpenIn, IsPlaced}
 use Rattle.rz_pre.specs.Program.{IncludedGoes}
@@ -15,9 +14,9 @@ decreases-read_file g l = l.levels
 abbrev pub invariant-loop-opens : goal.invariant-loop-opens
 invariant-loop-opens g l = record {
   leads : (files : Files) → g.F.Folder.files l.fn.folder ≡ Some files
-      → LinesLead (IncludedGoes l.setting.tool files l.setting.paths.now l.levels) l.setting.tool l.file l.text (state_of l.fn.reading)
-      (ahead l.place) (reverse l.opens.items) (state_of l.reading);
-  within : l.place.line + length l.place.rest.now ≤ 2 ^ 32;
+      → LinesLead (IncludedGoes l.setting.tool files l.setting.paths.now l.levels) l.setting.tool l.fn.source.file l.fn.source.ahead (state_of l.fn.reading)
+      l.source.ahead (reverse l.opens.items) (state_of l.reading);
+  file : l.source.file ≡ l.fn.source.file;
   reads : OnlyReads g.F.Folder.files g.F.Folder.read_faults g.F.Folder.write_faults l.fn.folder l.folder ⊥;
   placed : IsPlaced l.reading;
   lexed : IsLexedReading l.fn.reading → IsLexedReading l.reading;
@@ -26,4 +25,4 @@ invariant-loop-opens g l = record {
 }
 
 abbrev pub decreases-loop-opens : goal.decreases-loop-opens
-decreases-loop-opens g l = length l.place.rest.now
+decreases-loop-opens g l = l.source.left

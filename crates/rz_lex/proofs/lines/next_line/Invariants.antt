@@ -2,7 +2,7 @@ use Rattle.std.proofs.Common.{◌≡◌, ◌<◌, ◌⊎◌, length}
 use Rattle.rz_lex.specs.Joined.{ahead, IsOn}
 use Rattle.rz_lex.specs.Lines.{mark_of}
 use Rattle.rz_lex.proofs.OneLine.{LineSoFar}
-use Rattle.rz_lex.proofs.lines.read_line.Given as goal
+use Rattle.rz_lex.proofs.lines.next_line.Given as goal
 
 abbrev pub invariant-loop-byte : goal.invariant-loop-byte
 invariant-loop-byte l = record {
