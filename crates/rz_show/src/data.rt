@@ -2,10 +2,10 @@
 
 ghost use Rattle.std.specs.Prelude.{◌≡◌, ◌++◌, IfOk, OnOk, OnErr};
 ghost use Rattle.rz_core.specs.Lists.{each_with_front};
-ghost use Rattle.rz_show.specs.Data.{byte_gap, data_byte, data_text, lines_text, resource_text, statement_text};
+ghost use Rattle.rz_show.specs.Data.{byte_gap, data_byte, data_text, lines_text, statement_text};
 
 use crate::head::append_head;
-use rz_core::{Attr, Bytes, Facts, NoMemory, OsType, Resource, write_hex};
+use rz_core::{Bytes, Facts, NoMemory, write_hex};
 use std::alloc::Global;
 
 /// The bytes of a resource that stand on one line.
@@ -22,47 +22,27 @@ pub fn show_bytes(alloc: Global, facts: &Facts, bytes: &[u8]) -> Result<Bytes, N
     ensures text { IfOk result (λ text. text ≡ data_text facts.now bytes.now) }
 {
     let mut text = Bytes::new(alloc);
-    append_statement(
-        facts.kind,
-        facts.id,
-        facts.name.as_slice(),
-        facts.attr,
-        bytes,
-        &mut text,
-    )?;
+    append_statement(facts, bytes, &mut text)?;
     Ok(text)
 }
 
-/// Appends the `data` statement of a resource, in the form of `show_bytes`: so the statements of several
-/// resources follow one another. Where memory is refused `into` is unchanged.
-pub fn show_resource(resource: &Resource, into: &mut Bytes) -> Result<(), NoMemory>
-    ensures ok { OnOk result (into.new ≡ into.old ++ resource_text resource.now) }
+/// Appends the `data` statement of a resource with these facts and these bytes, in the form of `show_bytes`:
+/// so the statements of several resources follow one another. Where memory is refused `into` is unchanged.
+pub fn append_bytes(facts: &Facts, bytes: &[u8], into: &mut Bytes) -> Result<(), NoMemory>
+    ensures ok { OnOk result (into.new ≡ into.old ++ data_text facts.now bytes.now) }
     ensures err { OnErr result (into.new ≡ into.old) }
 {
     let mut text = Bytes::new(into.allocator());
-    append_statement(
-        resource.kind,
-        resource.id,
-        resource.name.as_slice(),
-        resource.attr,
-        resource.bytes.as_slice(),
-        &mut text,
-    )?;
+    append_statement(facts, bytes, &mut text)?;
     into.append(text.as_slice())
 }
 
+/// Appends the statement. Where memory is refused a part of it may have been appended.
 #[tactic(auto, unfolding(crate::specs::Data::statement_text))]
-fn append_statement(
-    kind: OsType,
-    id: i16,
-    name: &[u8],
-    attr: Attr,
-    bytes: &[u8],
-    into: &mut Bytes,
-) -> Result<(), NoMemory>
-    ensures { OnOk result (into.new ≡ into.old ++ statement_text kind.code id name.now attr bytes.now) }
+fn append_statement(facts: &Facts, bytes: &[u8], into: &mut Bytes) -> Result<(), NoMemory>
+    ensures { OnOk result (into.new ≡ into.old ++ data_text facts.now bytes.now) }
 {
-    append_head(b"data", kind, id, name, attr, into)?;
+    append_head(b"data", facts, into)?;
     append_lines(bytes, into)?;
     into.append(b"};\n\n")?;
     Ok(())

@@ -5,34 +5,27 @@ ghost use Rattle.rz_core.specs.Lists.{each_with_front};
 ghost use Rattle.rz_show.specs.Head.{attr_text, head_text, name_byte, name_gap, name_text, word_text};
 
 use rz_core::{
-    Attr, Bytes, NoMemory, OsType, write_hex, write_quoted, write_shown, write_signed, write_type,
+    Bytes, Facts, NoMemory, write_hex, write_quoted, write_shown, write_signed, write_type,
 };
 use rz_expr::{Attribute, bit_of, setting_word};
 
 /// The bytes of a name that stand on one line.
 const PIECE: usize = 64;
 
-/// Appends the line that begins a statement: its word, the type as a literal, and in
+/// Appends the line that begins the statement of a resource with these facts: its word, the type as a literal, and in
 /// parentheses the id in decimal, the name where there is one, and the attributes where there are any;
 /// behind them a brace and a line end. Where memory is refused a part of it may have been appended.
 #[tactic(auto, unfolding(crate::specs::Head::head_text))]
-pub fn append_head(
-    word: &[u8],
-    kind: OsType,
-    id: i16,
-    name: &[u8],
-    attr: Attr,
-    into: &mut Bytes,
-) -> Result<(), NoMemory>
-    ensures { OnOk result (into.new ≡ into.old ++ head_text word.now kind.code id name.now attr) }
+pub fn append_head(word: &[u8], facts: &Facts, into: &mut Bytes) -> Result<(), NoMemory>
+    ensures { OnOk result (into.new ≡ into.old ++ head_text word.now facts.now.kind.code facts.now.id facts.now.name facts.now.attr) }
 {
     into.append(word)?;
     into.append(b" ")?;
-    write_type(kind, into)?;
+    write_type(facts.kind, into)?;
     into.append(b" (")?;
-    write_signed(i64::from(id), into)?;
-    append_name(name, into)?;
-    append_attr(attr.byte(), into)?;
+    write_signed(i64::from(facts.id), into)?;
+    append_name(facts.name.as_slice(), into)?;
+    append_attr(facts.attr.byte(), into)?;
     into.append(b") {\n")?;
     Ok(())
 }

@@ -18,7 +18,7 @@ mod rows;
 mod text;
 mod uses;
 
-pub use data::{show_bytes, show_resource};
+pub use data::{append_bytes, show_bytes};
 pub use hidden::Hidden;
 pub use resource::show_row;
 pub use rows::write_row;

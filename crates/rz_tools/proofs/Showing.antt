@@ -14,9 +14,7 @@ use Rattle.rz_folder.specs.Folder.{Files, Reads}
 use Rattle.rz_folder.specs.declared.folder.Read.TheVariants as reads
 use Rattle.rz_bridge.specs.declared.file.MacFile.{MacFile}
 use Rattle.rz_bridge_files.specs.Contents.{admit_fork, file_in, fork_in, IsFile}
-use Rattle.rz_fork.specs.Code.{held_by}
 use Rattle.rz_fork.specs.Contents.{Fork}
-use Rattle.rz_fork.specs.declared.read.ForkList.{ForkList}
 use Rattle.rz_bridge_form.specs.declared.form.Form.{Form}
 use Rattle.rz_folder_paths.specs.Names.{missing_file}
 use Rattle.rz_tools.specs.Again.{HoldsFile}
@@ -64,13 +62,12 @@ said_so compiled files warnings same_files same_warnings output result says =
 -- The text of a fork.
 
 module _ (known : Known) (asked : DeRezAsked) where
-  pub fork_shown : (answer : Result Fork Fault) (fork : ForkList) (text : List ℕ) → Gives answer (seen held_by (Ok fork))
+  pub fork_shown : (answer : Result Fork Fault) (fork : Fork) (text : List ℕ) → answer ≡ Ok fork
       → ShowsEach known (chosen asked.only asked.skip fork.list) text → HasForkText known asked answer (Ok text)
   fork_shown answer fork text is shows = subst (λ (a : Result Fork Fault). HasForkText known asked a (Ok text)) (sym is) (text, shows, λ i. Ok text)
 
-  pub fork_refused : (answer : Result Fork Fault) (stop : Stop Fault) → Gives {X = Fork} answer (Err stop) → Meets {X = List ℕ} (Err stop) (HasForkText known asked answer)
-  fork_refused answer (Refused fault) is = subst (λ (a : Result Fork Fault). HasForkText known asked a (Err fault)) (sym is) (λ i. Err fault)
-  fork_refused answer NoMemory is = tt
+  pub fork_refused : (answer : Result Fork Fault) (fault : Fault) → answer ≡ Err fault → HasForkText known asked answer (Err fault)
+  fork_refused answer fault is = subst (λ (a : Result Fork Fault). HasForkText known asked a (Err fault)) (sym is) (λ i. Err fault)
 
   -- the fork of a file, and of one that is refused
   module _ (bytes data_file : List ℕ) (empty : data_file ≡ []) where

@@ -33,7 +33,7 @@ use rz_folder::{Folder, Read};
 use rz_folder_paths::missing_file;
 use rz_tools_answer::{Failing, Faults, Made, Outcome, Plan, say_beside};
 use rz_tools_args::{Command, Flag, Kinds, Switch};
-use rz_tools_text::{Known, show_list};
+use rz_tools_text::{Known, show_fork};
 use rz_tools_work::Work;
 use std::alloc::Global;
 use std::convert::Infallible;
@@ -230,6 +230,8 @@ fn text_of_fork(
     ensures text { Meets result (HasForkText (known_of known.now) (derez words.now) (admit_fork None fork.now)) }
     ensures nameable { (files : ℕ) → OnFault result (IsNameable files) }
 {
-    let fork = admit_fork(alloc, fork, None)?;
-    Ok(show_list(alloc, &fork.list, &words.only, &words.skip, known)?)
+    match admit_fork(fork, None) {
+        Ok(fork) => Ok(show_fork(alloc, &fork, &words.only, &words.skip, known)?),
+        Err(fault) => Err(Stop::Refused(fault)),
+    }
 }

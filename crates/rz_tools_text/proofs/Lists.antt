@@ -1,8 +1,7 @@
--- Texts that show the resources of a list.
-use Rattle.std.proofs.Common.{◌≡◌, ◌<◌, ◌≤◌, ◌+◌, ℕ, zero, suc, Bool, true, false, if◌then◌else◌, List, [], ◌∷◌, ◌++◌, drop, get_or, length, Ok, Err, refl, sym, ap, subst, ◌∙◌, arith, append_assoc, append-nil}
+-- Texts that show the resources of a list, which are met one after the other.
+use Rattle.std.proofs.Common.{◌≡◌, ℕ, Bool, true, false, if◌then◌else◌, List, [], ◌∷◌, ◌++◌, Ok, Err, refl, sym, ap, subst, ◌∙◌, append_assoc, append-nil}
 use Rattle.std.specs.Prelude.{OnOk}
 use Rattle.std.specs.declared.result.Result.{Result}
-use Rattle.std.proofs.lemmas.List.{drop_more}
 use Rattle.rz_core.specs.declared.resource.OsType.{OsType}
 use Rattle.rz_core.specs.declared.resource.Resource.{Resource}
 use Rattle.rz_core.specs.declared.stop.NoMemory.{NoMemory}
@@ -10,17 +9,13 @@ use Rattle.rz_tools_text.specs.Chosen.{chosen, is_chosen}
 use Rattle.rz_tools_text.specs.Shown.{Known, Shown}
 use Rattle.rz_tools_text.specs.Text.{ShowsEach}
 
-drop_past : (items : List Resource) (i : ℕ) → length items ≤ i → drop i items ≡ []
-drop_past [] zero past = refl
-drop_past [] (suc i) past = refl
-drop_past (r ∷ items) zero past = absurd (omega (arith, past))
-drop_past (r ∷ items) (suc i) past = drop_past items i (omega (arith, past))
-
 module _ (known : Known) (only skip : List OsType) where
   -- nothing is shown before the first
-  pub each_start : (items : List Resource) (text : List ℕ) → text ≡ [] → (rest : List ℕ) → ShowsEach known (chosen only skip (drop 0 items)) rest
-      → ShowsEach known (chosen only skip items) (text ++ rest)
-  each_start items text is rest shows = subst (λ (t : List ℕ). ShowsEach known (chosen only skip items) (t ++ rest)) (sym is) shows
+  pub each_start : (list before : List Resource) → before ≡ list → (text : List ℕ) → text ≡ [] → (rest : List ℕ) → ShowsEach known (chosen only skip before) rest
+      → ShowsEach known (chosen only skip list) (text ++ rest)
+  each_start list before same text is rest shows =
+      subst (λ (t : List ℕ). ShowsEach known (chosen only skip list) (t ++ rest)) (sym is)
+      (subst (λ (l : List Resource). ShowsEach known (chosen only skip l) rest) same shows)
 
   -- one resource and those behind it
   one_more : (r : Resource) (rs : List Resource) (piece rest : List ℕ) → ShowsEach known (chosen only skip (r ∷ [])) piece → ShowsEach known (chosen only skip rs) rest
@@ -32,22 +27,22 @@ module _ (known : Known) (only skip : List OsType) where
           (front, rest, ap (λ (t : List ℕ). t ++ rest) (eq ∙ ap (λ (t : List ℕ). front ++ t) none ∙ append-nil front), shown, shows)
       by false none = subst (λ (t : List ℕ). ShowsEach known (chosen only skip rs) (t ++ rest)) (sym none) shows
 
-  pub each_next : (items : List Resource) (i : ℕ) (r : Resource) → i < length items → r ≡ get_or items i r
-      → (text after piece : List ℕ) → after ≡ text ++ piece → ShowsEach known (chosen only skip (r ∷ [])) piece
-      → ((rest : List ℕ) → ShowsEach known (chosen only skip (drop i items)) rest → ShowsEach known (chosen only skip items) (text ++ rest))
-      → (rest : List ℕ) → ShowsEach known (chosen only skip (drop (i + 1) items)) rest → ShowsEach known (chosen only skip items) (after ++ rest)
-  each_next items i r within is text after piece eq one so_far rest shows =
-      let at : drop i items ≡ r ∷ drop (i + 1) items = drop_more items i r within ∙ ap (λ (x : Resource). x ∷ drop (i + 1) items) (sym is) in
-      subst (λ (t : List ℕ). ShowsEach known (chosen only skip items) t) (sym (append_assoc text piece rest) ∙ ap (λ (t : List ℕ). t ++ rest) (sym eq))
-      (so_far (piece ++ rest)
-      (subst (λ (l : List Resource). ShowsEach known (chosen only skip l) (piece ++ rest)) (sym at) (one_more r (drop (i + 1) items) piece rest one shows)))
+  -- the first of those that are still to come
+  pub each_next : (list before behind : List Resource) (r : Resource) → before ≡ r ∷ behind → (text after piece : List ℕ) → after ≡ text ++ piece
+      → ShowsEach known (chosen only skip (r ∷ [])) piece
+      → ((rest : List ℕ) → ShowsEach known (chosen only skip before) rest → ShowsEach known (chosen only skip list) (text ++ rest))
+      → (rest : List ℕ) → ShowsEach known (chosen only skip behind) rest → ShowsEach known (chosen only skip list) (after ++ rest)
+  each_next list before behind r is text after piece eq one so_far rest shows =
+      subst (λ (t : List ℕ). ShowsEach known (chosen only skip list) t) (sym (append_assoc text piece rest) ∙ ap (λ (t : List ℕ). t ++ rest) (sym eq))
+      (so_far (piece ++ rest) (subst (λ (l : List Resource). ShowsEach known (chosen only skip l) (piece ++ rest)) (sym is) (one_more r behind piece rest one shows)))
 
-  pub each_end : (items : List Resource) (i : ℕ) (text : List ℕ) → length items ≤ i
-      → ((rest : List ℕ) → ShowsEach known (chosen only skip (drop i items)) rest → ShowsEach known (chosen only skip items) (text ++ rest))
-      → ShowsEach known (chosen only skip items) text
-  each_end items i text past so_far =
-      subst (λ (t : List ℕ). ShowsEach known (chosen only skip items) t) (append-nil text)
-      (so_far [] (subst (λ (l : List Resource). ShowsEach known (chosen only skip l) []) (sym (drop_past items i past)) refl))
+  -- none is still to come
+  pub each_end : (list before : List Resource) → before ≡ [] → (text : List ℕ)
+      → ((rest : List ℕ) → ShowsEach known (chosen only skip before) rest → ShowsEach known (chosen only skip list) (text ++ rest))
+      → ShowsEach known (chosen only skip list) text
+  each_end list before none text so_far =
+      subst (λ (t : List ℕ). ShowsEach known (chosen only skip list) t) (append-nil text)
+      (so_far [] (subst (λ (l : List Resource). ShowsEach known (chosen only skip l) []) (sym none) refl))
 
   -- a resource that is chosen, and one that isn't
   pub chosen_shown : (r : Resource) (before after : List ℕ) (result : Result (Unit {0}) NoMemory) → is_chosen only skip r.kind ≡ true

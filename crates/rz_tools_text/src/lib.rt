@@ -1,7 +1,8 @@
-//! Resources of a fork as `derez` shows them: which of a list are shown, and the text of each, by a row of the type that is
-//! declared for it or by its bytes. Each list has exactly one text.
-//! It rests on `rz_core`, `rz_types`, `rz_types_table`, which finds the fields, `rz_unlay`, which reads the row that bytes
-//! tell, and `rz_show`, which writes; of `rz_pre` it has what it is to be among words.
+//! Resources of a fork as `derez` shows them: which of them are shown, and the text of each, by a row of the type that is
+//! declared for it or by its bytes. They are shown where they lie in the fork. Each list has exactly one text.
+//! It rests on `rz_core`, `rz_fork`, which lends the resources, `rz_types`, `rz_types_table`, which finds the fields,
+//! `rz_unlay`, which reads the row that bytes tell, and `rz_show`, which writes; of `rz_pre` it has what it is to be among
+//! words.
 //! Another form of a resource's text, or another choice of the form, changes `specs/Shown` and `shown`; what `-only` and
 //! `-skip` leave, `specs/Chosen` and `chosen`.
 #![tactic(auto)]
@@ -14,4 +15,4 @@ mod text;
 pub use chosen::is_chosen;
 pub use laws::{every_list_is_shown, one_shown_text};
 pub use shown::{Known, show};
-pub use text::show_list;
+pub use text::show_fork;

@@ -2,6 +2,7 @@
 
 ghost use Rattle.std.specs.Prelude.{◌≡◌, ◌++◌, ℕ, if◌then◌else◌, List, Some, None, option_map, IfOk, OnOk};
 ghost use Rattle.rz_core.specs.Decided.{Decided};
+ghost use Rattle.rz_fork.specs.View.{lent};
 ghost use Rattle.rz_show.specs.Hidden.{hides};
 ghost use Rattle.rz_show.specs.Shown.{row_uses};
 ghost use Rattle.rz_tools_text.specs.Held.{known_of, macros_held};
@@ -9,13 +10,15 @@ ghost use Rattle.rz_tools_text.specs.Shown.{declared_for, Shown, TellsRow};
 ghost use Rattle.rz_types.specs.Field.{plain_body};
 ghost use Rattle.rz_types.specs.Template.{template_of};
 ghost use Rattle.rz_types_table.specs.TypeTable.{table_of};
+ghost use Rattle.rz_unlay.specs.Reading.{facts_of};
 
-use rz_core::{Bytes, Moment, NoMemory, Resource, Words};
-use rz_show::{Hidden, show_resource, show_row, uses_hidden};
+use rz_core::{Bytes, Facts, Moment, NoMemory, Words};
+use rz_fork::ResView;
+use rz_show::{Hidden, append_bytes, show_row, uses_hidden};
 use rz_types::{Body, Template};
 use rz_types_fields::Row;
 use rz_types_table::TypeTable;
-use rz_unlay::{facts_of, tree_under};
+use rz_unlay::tree_under;
 use std::alloc::Global;
 
 /// What is known where resources are shown.
@@ -48,68 +51,86 @@ impl Known {
     }
 
     /// The template that is declared for a resource.
-    fn template_for(&self, resource: &Resource) -> Option<&Template>
-        ensures { option_map (λ template. template_of template.now) result ≡ declared_for (known_of self.now) resource.now }
+    fn template_for(&self, view: &ResView<'_>) -> Option<&Template>
+        ensures { option_map (λ template. template_of template.now) result ≡ declared_for (known_of self.now) (lent view.now) }
     {
-        self.types.find(resource.kind, resource.id)
+        self.types.find(view.kind, view.id)
     }
 }
 
-/// Appends the text of a resource: the `resource` statement with the row that its bytes tell under the type that is
-/// declared for it, unless the row chooses a case whose name is a macro; and where there is no such row its `data`
-/// statement. (MPW DeRez.)
+/// Appends the text of a resource that is lent: the `resource` statement with the row that its bytes tell under the type
+/// that is declared for it, unless the row chooses a case whose name is a macro; and where there is no such row its `data`
+/// statement. Of the resource its name alone is copied. Every resource can be shown: `NoMemory` is the only refusal. (MPW
+/// DeRez.)
 pub fn show(
     alloc: Global,
-    resource: &Resource,
+    view: &ResView<'_>,
     known: &Known,
     into: &mut Bytes,
 ) -> Result<(), NoMemory>
-    ensures { OnOk result ((text : List ℕ) × (into.new ≡ into.old ++ text) × Shown (known_of known.now) resource.now text) }
+    ensures { OnOk result ((text : List ℕ) × (into.new ≡ into.old ++ text) × Shown (known_of known.now) (lent view.now) text) }
 {
-    match known.template_for(resource) {
-        Some(template) => show_under(alloc, resource, template, known, into),
-        None => show_resource(resource, into),
+    let facts = facts_of(alloc, view, known.moment)?;
+    match known.template_for(view) {
+        Some(template) => show_under(alloc, view, &facts, template, known, into),
+        None => append_bytes(&facts, view.bytes, into),
     }
 }
 
-/// Appends the text of a resource under the template that is declared for it.
+/// What is known of a resource that is lent beside its bytes.
+fn facts_of(alloc: Global, view: &ResView<'_>, moment: Moment) -> Result<Facts, NoMemory>
+    ensures { IfOk result (λ facts. facts ≡ facts_of moment (lent view.now)) }
+{
+    Ok(Facts {
+        kind: view.kind,
+        id: view.id,
+        name: Bytes::of(alloc, view.name)?,
+        attr: view.attr,
+        moment,
+    })
+}
+
+/// Appends the text of a resource with these facts under the template that is declared for it.
 fn show_under(
     alloc: Global,
-    resource: &Resource,
+    view: &ResView<'_>,
+    facts: &Facts,
     template: &Template,
     known: &Known,
     into: &mut Bytes,
 ) -> Result<(), NoMemory>
-    requires { declared_for (known_of known.now) resource.now ≡ Some (template_of template.now) }
-    ensures { OnOk result ((text : List ℕ) × (into.new ≡ into.old ++ text) × Shown (known_of known.now) resource.now text) }
+    requires facts { facts.now ≡ facts_of known.now.moment (lent view.now) }
+    requires declared { declared_for (known_of known.now) (lent view.now) ≡ Some (template_of template.now) }
+    ensures { OnOk result ((text : List ℕ) × (into.new ≡ into.old ++ text) × Shown (known_of known.now) (lent view.now) text) }
 {
-    let row = row_told(alloc, resource, template, known)?;
+    let row = row_told(alloc, view, facts, template, known)?;
     let fields = template.body();
     match row {
         Some(row) => show_row(
-            resource,
+            facts,
             fields.as_slice(),
             row.as_slice(),
             &known.macros,
             into,
         ),
-        None => show_resource(resource, into),
+        None => append_bytes(facts, view.bytes, into),
     }
 }
 
-/// The row that the bytes of a resource tell under the template that is declared for it, unless it chooses a case whose
-/// name is a macro.
+/// The row that the bytes of a resource with these facts tell under the template that is declared for it, unless it chooses
+/// a case whose name is a macro.
 fn row_told(
     alloc: Global,
-    resource: &Resource,
+    view: &ResView<'_>,
+    facts: &Facts,
     template: &Template,
     known: &Known,
 ) -> Result<Option<Row>, NoMemory>
-    requires { declared_for (known_of known.now) resource.now ≡ Some (template_of template.now) }
-    ensures { IfOk result (Decided (TellsRow (known_of known.now) resource.now (template_of template.now))) }
+    requires facts { facts.now ≡ facts_of known.now.moment (lent view.now) }
+    requires declared { declared_for (known_of known.now) (lent view.now) ≡ Some (template_of template.now) }
+    ensures { IfOk result (Decided (TellsRow (known_of known.now) (lent view.now) (template_of template.now))) }
 {
-    let facts = facts_of(alloc, resource, known.moment)?;
-    match tree_under(alloc, Some(template), resource.bytes.as_slice(), &facts)? {
+    match tree_under(alloc, Some(template), view.bytes, facts)? {
         Some(row) => unless_hidden(alloc, template.body(), row, known),
         None => Ok(None),
     }
