@@ -31,6 +31,15 @@ module _ {X Y : Type 0} (first : Result X Fault) (next : X → Result Y Fault) w
   pub yields_on : (value : X) (result : Result Y (Halt Fault)) → Ok value ≡ first → Yields result (λ answer. answer ≡ next value) → Yields result (λ answer. answer ≡ (first >>= next))
   yields_on value result is so = subst (λ (a : Result X Fault). Yields result (λ answer. answer ≡ (a >>= next))) is so
 
+-- the end of a call that reads no files
+pub yields_same : (X : Type 0) (given : Result X Fault) (stop : Stop Fault) (halt : Halt Fault) → halt ≡ halt_of stop → Gives {X = X} given (Err stop)
+    → Yields {X = X} (Err halt) (λ answer. answer ≡ given)
+yields_same X given stop halt is gives = subst (λ (h : Halt Fault). Yields {X = X} (Err h) (λ answer. answer ≡ given)) (sym is) (by stop gives)
+  where
+    by : (stop : Stop Fault) → Gives {X = X} given (Err stop) → Yields {X = X} (Err (halt_of stop)) (λ answer. answer ≡ given)
+    by (stops.Refused fault) is = sym is
+    by stops.NoMemory is = tt
+
 -- What holds of a fault.
 
 pub refuses_so : (X Y : Type 0) (stop : Stop Fault) (halt : Halt Fault) (P : Fault → Type 0) → halt ≡ halt_of stop → OnFault {X = X} (Err stop) P → OnRefusal {X = Y} (Err halt) P

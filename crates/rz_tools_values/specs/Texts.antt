@@ -15,6 +15,7 @@ use Rattle.rz_types_fields.specs.declared.text.TextPart.{TextPart}
 use Rattle.rz_folder.specs.Folder.{Files}
 use Rattle.rz_set.specs.declared.pick.Pick.{Pick}
 use Rattle.rz_set.specs.declared.pick.Pick.TheVariants.{Id, Name}
+use Rattle.rz_bridge_files.specs.Contents.{admit_fork}
 use Rattle.rz_tools_values.specs.Files.{list_named}
 use Rattle.rz_tools_values.specs.Chosen.{chosen_one, id_said}
 use Rattle.rz_tools_values.specs.Files.{file_named}
@@ -31,6 +32,10 @@ bytes_of_one (Some r) = r.bytes
 -- the bytes of the first resource that a pick by id or name chooses: 218
 abbrev pub bytes_chosen : Mark → OsType → Pick → List Resource → Result (List ℕ) Fault
 bytes_chosen mark kind pick list = chosen_one mark kind pick list >>= λ one. Ok (bytes_of_one one)
+
+-- the same of the bytes of a fork: the first rule that it breaks, and then 218
+abbrev pub bytes_in : Mark → OsType → Pick → List ℕ → Result (List ℕ) Fault
+bytes_in mark kind pick fork = admit_fork (Some mark) fork >>= λ fork. bytes_chosen mark kind pick fork.list
 
 abbrev pub resource_bytes : List (List ℕ) → Files → Mark → List ℕ → OsType → Pick → Result (List ℕ) Fault
 resource_bytes paths files mark file kind pick = list_named paths files mark file >>= bytes_chosen mark kind pick

@@ -4,39 +4,47 @@ ghost use Rattle.std.specs.Prelude.{◌≡◌, ◌<◌, ℕ, IfOk, Some};
 ghost use Rattle.rz_core.specs.Message.{IsNameable};
 ghost use Rattle.rz_core.specs.Stop.{Gives, OnFault, seen};
 ghost use Rattle.rz_expr.specs.Term.{term_of};
+ghost use Rattle.rz_set.specs.Choice.{is_for_one};
+ghost use Rattle.rz_tools_values.specs.Lent.{lent_one};
 ghost use Rattle.rz_tools_values.specs.Chosen.{id_said, no_resource, sought_by, chosen_one, the_one};
 ghost use Rattle.std.specs.Option.{option_copied};
 
 use crate::head::id_of;
+use crate::lent::picked_in;
 use rz_core::{Bytes, Facts, Fault, Kept, Mark, NoMemory, OsType, Resource, Stop};
 use rz_expr::Expr;
-use rz_set::{Pick, ResSet, find_in, find_name_in};
+use rz_fork::{ForkView, ResView};
+use rz_set::{Pick, ResSet};
 use rz_types::number_of;
 use std::alloc::Global;
 
-/// The resource of a list that a pick by id or name is for: 218 on this line where there is none (kept: the type and the
-/// id, or the name). Other picks are for no one resource. (MPW Rez.)
-pub fn chosen_in_list<'a>(
+/// The resource of a fork that a pick by id or name is for, lent: 218 on this line where there is none (kept: the type
+/// and the id, or the name). Other picks are for no one resource. (MPW Rez.)
+pub fn chosen_in_fork<'a>(
     alloc: Global,
-    list: &'a [Resource],
+    fork: &ForkView<'a>,
     kind: OsType,
     pick: &Pick,
     mark: Mark,
-) -> Result<Option<&'a Resource>, Stop<Fault>>
-    ensures chosen { Gives (chosen_one mark kind pick.now list.now) (seen option_copied result) }
+) -> Result<Option<ResView<'a>>, Stop<Fault>>
+    ensures chosen { Gives (chosen_one mark kind pick.now fork.now.list) (seen lent_one result) }
     ensures nameable { (files : ℕ) → mark.file < files → OnFault result (IsNameable files) }
 {
-    match pick {
-        Pick::Id(id) => the_one(alloc, find_in(list, kind, *id), kind, pick, mark),
-        Pick::Name(name) => {
-            let one = find_name_in(list, kind, name.as_slice());
-            the_one(alloc, one, kind, pick, mark)
-        }
-        Pick::All | Pick::Range(..) => Ok(None),
+    let one = picked_in(fork, kind, pick);
+    if one.is_none() && is_for_one(pick) {
+        return Err(Stop::Refused(no_resource(alloc, kind, pick, mark)?));
     }
+    Ok(one)
 }
 
-/// The resource of a program that a pick by id or name chooses, as `chosen_in_list` says it of the list of a file.
+/// Whether the pick is for one resource.
+fn is_for_one(pick: &Pick) -> bool
+    ensures { result ≡ is_for_one pick.now }
+{
+    matches!(pick, Pick::Id(_) | Pick::Name(_))
+}
+
+/// The resource of a program that a pick by id or name chooses, as [`chosen_in_fork`] says it of a fork.
 pub fn chosen_in_set<'a>(
     alloc: Global,
     set: &'a ResSet,

@@ -1,14 +1,15 @@
-//! The files that statements name: their bytes, and the resources of their forks, as `specs/Files` says.
+//! The files that statements name: their bytes, and what these hold in the form that they tell, as `specs/Files` says.
 
-ghost use Rattle.std.specs.Prelude.{◌≡◌, ◌<◌, ◌^◌, ℕ, length, IfOk, IfSome, None, Some};
+ghost use Rattle.std.specs.Prelude.{◌≡◌, ◌<◌, ◌^◌, ℕ, [], length, IfOk, IfSome, None, Some};
 ghost use Rattle.rz_core.specs.Message.{IsNameable};
 ghost use Rattle.rz_folder.specs.OnlyReads.{OnlyReads};
 ghost use Rattle.rz_core.specs.Stop.{IsReadFault, OnRefusal, Yields, halted};
-ghost use Rattle.rz_set.specs.ResSet.{AreNamed};
-ghost use Rattle.rz_tools_values.specs.Files.{file_named, list_in, list_named};
+ghost use Rattle.rz_bridge_files.specs.Contents.{file_in};
+ghost use Rattle.rz_tools_values.specs.Files.{file_named, file_of_name};
 
-use rz_bridge_files::fork_in;
-use rz_core::{Bytes, Fault, FileNames, Halt, Mark, Resources, Stop};
+use rz_bridge::MacFile;
+use rz_bridge_files::file_in;
+use rz_core::{Bytes, Fault, FileNames, Halt, Mark, Stop};
 use rz_folder::Folder;
 use rz_folder_paths::{names_of, read_file};
 use std::alloc::Global;
@@ -41,35 +42,37 @@ pub fn bytes_halted(given: Result<Bytes, Stop<Fault>>) -> Result<Bytes, Halt<Fau
     }
 }
 
-/// The resources of the file that a statement on this line names.
-pub fn list_named<F: Folder>(
+/// The file that a statement on this line names, read in the form that its bytes tell. A raw file is its bytes as they
+/// were read, which are copied no more. Refused with 101 where there is no such file (kept: the name), and then with the
+/// first rule of its form that it breaks, as `rz_bridge_files` says. No file changes. (MPW Rez.)
+pub fn file_of_name<F: Folder>(
     alloc: Global,
     folder: &mut F,
     paths: &FileNames,
     name: &[u8],
     mark: Mark,
-) -> Result<Resources, Halt<Fault>>
-    ensures list { IfSome (F.files folder.old) (λ files. Yields result (λ answer. answer ≡ list_named paths.now files mark name.now)) }
-    ensures named { IfOk result AreNamed }
+) -> Result<MacFile, Halt<Fault>>
+    ensures file { IfSome (F.files folder.old) (λ files. Yields result (λ answer. answer ≡ file_of_name paths.now files mark name.now)) }
+    ensures res_fork { IfOk result (λ file. length file.res_fork < 2 ^ 32) }
     ensures nameable { (files : ℕ) → mark.file < files → OnRefusal result (IsNameable files) }
     ensures reads { OnlyReads F.files F.read_faults F.write_faults folder.old folder.new (IsReadFault result) }
 {
     match file_named(alloc, folder, paths, name, mark) {
-        Ok(bytes) => list_in(alloc, bytes, mark),
+        Ok(bytes) => file_told(alloc, bytes, mark),
         Err(halt) => Err(halt),
     }
 }
 
-/// The resources of the file in these bytes.
-fn list_in(alloc: Global, bytes: Bytes, mark: Mark) -> Result<Resources, Halt<Fault>>
+/// The file in these bytes, read in the form that they tell.
+fn file_told(alloc: Global, bytes: Bytes, mark: Mark) -> Result<MacFile, Halt<Fault>>
     requires short { length bytes < 2 ^ 32 }
-    ensures list { Yields result (λ answer. answer ≡ list_in mark bytes) }
-    ensures named { IfOk result AreNamed }
+    ensures file { Yields result (λ answer. answer ≡ file_in (Some mark) None bytes []) }
+    ensures res_fork { IfOk result (λ file. length file.res_fork < 2 ^ 32) }
     ensures nameable { (files : ℕ) → mark.file < files → OnRefusal result (IsNameable files) }
     ensures unread { IsReadFault result → ⊥ }
 {
-    match fork_in(alloc, None, bytes, Some(mark)) {
-        Ok(fork) => Ok(fork.list),
+    match file_in(alloc, None, bytes, Bytes::new(alloc), Some(mark)) {
+        Ok(file) => Ok(file),
         Err(stop) => Err(Halt::from(stop)),
     }
 }

@@ -1,19 +1,19 @@
 //! Strings with what the files give that they name. What takes the place of each part is in `specs/Texts`.
 
-ghost use Rattle.std.specs.Prelude.{◌≡◌, ◌<◌, ℕ, IfOk, IfSome};
-ghost use Rattle.std.specs.Option.{option_copied};
+ghost use Rattle.std.specs.Prelude.{◌≡◌, ◌<◌, ◌^◌, ℕ, length, IfOk, IfSome};
 ghost use Rattle.rz_core.specs.Message.{IsNameable};
 ghost use Rattle.rz_core.specs.Stop.{Gives, OnFault, IsReadFault, OnRefusal, Yields};
 ghost use Rattle.rz_types_fields.specs.Text.{arguments_of, plain_argument, plain_arguments, plain_key, plain_part, plain_parts, Format};
 ghost use Rattle.rz_folder.specs.OnlyReads.{OnlyReads};
-ghost use Rattle.rz_tools_values.specs.Texts.{argument_given, argument_read, arguments_given, arguments_read, bytes_chosen, bytes_of_one, key_said, part_given, part_read, resource_bytes, resource_named, texts_given, texts_read};
+ghost use Rattle.rz_tools_values.specs.Lent.{lent_one};
+ghost use Rattle.rz_tools_values.specs.Texts.{argument_given, argument_read, arguments_given, arguments_read, bytes_chosen, bytes_in, bytes_of_one, key_said, part_given, part_read, resource_bytes, resource_named, texts_given, texts_read};
 
-use crate::chosen::{chosen_in_list, id_said};
-use crate::files::{bytes_halted, file_named, list_named};
-use rz_core::{
-    Bytes, Facts, Fault, FileNames, Halt, Mark, NoMemory, OsType, Resource, Resources, Stop,
-};
+use crate::chosen::{chosen_in_fork, id_said};
+use crate::files::{bytes_halted, file_named, file_of_name};
+use rz_bridge_files::admit_fork;
+use rz_core::{Bytes, Facts, Fault, FileNames, Halt, Mark, NoMemory, OsType, Stop};
 use rz_folder::Folder;
+use rz_fork::{ForkView, ResView};
 use rz_set::Pick;
 use rz_types_fields::{FormatArg, FormatArgs, ResKey, TextPart, Texts, text_of};
 use std::alloc::Global;
@@ -186,9 +186,27 @@ fn resource_bytes<F: Folder>(
     ensures nameable { (files : ℕ) → mark.file < files → OnRefusal result (IsNameable files) }
     ensures reads { OnlyReads F.files F.read_faults F.write_faults folder.old folder.new (IsReadFault result) }
 {
-    match list_named(alloc, folder, paths, name, mark) {
-        Ok(list) => bytes_halted(bytes_chosen(alloc, &list, kind, pick, mark)),
+    match file_of_name(alloc, folder, paths, name, mark) {
+        Ok(file) => bytes_halted(bytes_in(alloc, file.res_fork.as_slice(), kind, pick, mark)),
         Err(halt) => Err(halt),
+    }
+}
+
+/// The bytes of the resource of a fork that a pick by id or name chooses.
+fn bytes_in(
+    alloc: Global,
+    fork: &[u8],
+    kind: OsType,
+    pick: &Pick,
+    mark: Mark,
+) -> Result<Bytes, Stop<Fault>>
+    requires short { length fork.now < 2 ^ 32 }
+    ensures bytes { Gives (bytes_in mark kind pick.now fork.now) result }
+    ensures nameable { (files : ℕ) → mark.file < files → OnFault result (IsNameable files) }
+{
+    match admit_fork(fork, Some(mark)) {
+        Ok(fork) => bytes_chosen(alloc, &fork, kind, pick, mark),
+        Err(fault) => Err(Stop::Refused(fault)),
     }
 }
 
@@ -206,26 +224,26 @@ fn key_said(alloc: Global, key: &ResKey, mark: Mark, known: &Facts) -> Result<Pi
 /// The bytes of the resource that a pick by id or name chooses: 218 where there is none.
 fn bytes_chosen(
     alloc: Global,
-    list: &Resources,
+    fork: &ForkView<'_>,
     kind: OsType,
     pick: &Pick,
     mark: Mark,
 ) -> Result<Bytes, Stop<Fault>>
-    ensures bytes { Gives (bytes_chosen mark kind pick.now list.now) result }
+    ensures bytes { Gives (bytes_chosen mark kind pick.now fork.now.list) result }
     ensures nameable { (files : ℕ) → mark.file < files → OnFault result (IsNameable files) }
 {
-    match chosen_in_list(alloc, list.as_slice(), kind, pick, mark) {
-        Ok(one) => Ok(bytes_of_one(alloc, one)?),
+    match chosen_in_fork(alloc, fork, kind, pick, mark) {
+        Ok(one) => Ok(bytes_of_one(alloc, &one)?),
         Err(stop) => Err(stop),
     }
 }
 
-/// A copy of the bytes of a resource, or none.
-fn bytes_of_one(alloc: Global, one: Option<&Resource>) -> Result<Bytes, NoMemory>
-    ensures { IfOk result (λ bytes. bytes ≡ bytes_of_one (option_copied one.entry)) }
+/// A copy of the bytes of a resource that is lent, or none.
+fn bytes_of_one(alloc: Global, one: &Option<ResView<'_>>) -> Result<Bytes, NoMemory>
+    ensures { IfOk result (λ bytes. bytes ≡ bytes_of_one (lent_one one.now)) }
 {
     match one {
-        Some(resource) => Bytes::of(alloc, resource.bytes.as_slice()),
+        Some(resource) => Bytes::of(alloc, resource.bytes),
         None => Ok(Bytes::new(alloc)),
     }
 }

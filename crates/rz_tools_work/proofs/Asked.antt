@@ -30,19 +30,17 @@ module _ (setting : Setting) (mark : Mark) (source : List Resource) (kind new_ki
   abbrev with_pick : Pick → Result Asked Fault
   with_pick pick = chosen_one mark kind pick source >>= with_one pick
 
-  module _ (pick : Pick) (picks : picked mark (head_facts setting kind.code) given ≡ Ok pick) (slice : List Resource) (same : slice ≡ source) where
+  module _ (pick : Pick) (picks : picked mark (head_facts setting kind.code) given ≡ Ok pick) where
     behind_pick : all ≡ with_pick pick
     behind_pick = ap (λ (a : Result Pick Fault). a >>= with_pick) picks
 
-    pub one_stop : (stop : Stop Fault) → Gives (chosen_one mark kind pick slice) (Err stop) → Gives all (Err stop)
+    pub one_stop : (stop : Stop Fault) → Gives (chosen_one mark kind pick source) (Err stop) → Gives all (Err stop)
     one_stop stop gives =
-        subst (λ (a : Result Asked Fault). Gives a (Err stop)) (sym behind_pick)
-        (gives_stop (chosen_one mark kind pick source) (with_one pick) stop (subst (λ (l : List Resource). Gives (chosen_one mark kind pick l) (Err stop)) same gives))
+        subst (λ (a : Result Asked Fault). Gives a (Err stop)) (sym behind_pick) (gives_stop (chosen_one mark kind pick source) (with_one pick) stop gives)
 
-    module _ (one : Option Resource) (chooses : chosen_one mark kind pick slice ≡ Ok one) where
+    module _ (one : Option Resource) (chooses : chosen_one mark kind pick source ≡ Ok one) where
       behind_one : all ≡ with_one pick one
-      behind_one =
-          behind_pick ∙ ap (λ (l : List Resource). chosen_one mark kind pick l >>= with_one pick) (sym same) ∙ ap (λ (a : Result (Option Resource) Fault). a >>= with_one pick) chooses
+      behind_one = behind_pick ∙ ap (λ (a : Result (Option Resource) Fault). a >>= with_one pick) chooses
 
       pub head_stop : (stop : Stop Fault) → Gives (new_head setting mark new_kind one head) (Err stop) → Gives all (Err stop)
       head_stop stop gives =

@@ -5,3 +5,4 @@ pub mod Calls
 pub mod Puts
 pub mod Renamings
 pub mod Asked
+pub mod Included

@@ -1,5 +1,5 @@
 -- What an `include` statement leaves of the list of resources, or its first fault. (MPW Rez.)
-use Rattle.std.specs.Prelude.{List, Option, None, Some, Ok}
+use Rattle.std.specs.Prelude.{ℕ, List, Option, None, Some, Ok}
 use Rattle.std.specs.declared.result.Result.{Result}
 use Rattle.rz_core.specs.Stop.{◌>>=◌}
 use Rattle.rz_core.specs.declared.fault.Fault.{Fault}
@@ -7,6 +7,7 @@ use Rattle.rz_core.specs.declared.fault.Kept.TheVariants.{Nothing}
 use Rattle.rz_core.specs.declared.fault.Mark.{Mark}
 use Rattle.rz_core.specs.declared.resource.OsType.{OsType}
 use Rattle.rz_core.specs.declared.resource.Resource.{Resource}
+use Rattle.rz_bridge_files.specs.Contents.{admit_fork}
 use Rattle.rz_stmt_lists.specs.Include.{Include, Part}
 use Rattle.rz_set.specs.After.{after_include}
 use Rattle.rz_set.specs.declared.pick.Choice.{Choice}
@@ -50,3 +51,9 @@ included setting mark list part source = asked_by setting mark source part >>= l
 
 abbrev pub list_including : Around → Mark → List Resource → Include → Result (List Resource) Fault
 list_including around mark list one = list_named around.paths around.files mark one.file >>= included around.setting mark list one.part
+
+-- How the code goes.
+
+-- the resources of the fork in these bytes that are asked for are put, or the first rule that the fork breaks
+abbrev pub fork_included : Setting → Mark → List Resource → Part → List ℕ → Result (List Resource) Fault
+fork_included setting mark list part bytes = admit_fork (Some mark) bytes >>= λ fork. included setting mark list part fork.list

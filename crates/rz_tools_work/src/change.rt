@@ -12,7 +12,7 @@ ghost use Rattle.rz_tools_work.specs.Change.{change_said, list_changed, list_cha
 
 use crate::pick::pick_said;
 use crate::putting::on_line;
-use crate::renaming::{Renamed, new_head};
+use crate::renaming::{Renamed, lent_of, new_head};
 use rz_core::{Fault, Kept, Mark, OsType, Stop};
 use rz_set::{Pick, ResSet};
 use rz_stmt_lists::{ChangeStmt, DeleteStmt, PickExpr};
@@ -56,10 +56,10 @@ fn change_said(
 {
     let pick = pick_to_change(alloc, stmt.kind, &stmt.pick, mark, setting)?;
     let one = match chosen_in_set(alloc, list, stmt.kind, &pick, mark) {
-        Ok(one) => one,
+        Ok(one) => lent_of(one),
         Err(stop) => return Err(stop),
     };
-    let head = new_head(alloc, stmt.new_kind, one, &stmt.head, mark, setting)?;
+    let head = new_head(alloc, stmt.new_kind, &one, &stmt.head, mark, setting)?;
     Ok(Renamed { pick, head })
 }
 

@@ -1,6 +1,6 @@
 //! The statement `include`. What it leaves of the list is in `specs/Include`.
 
-ghost use Rattle.std.specs.Prelude.{◌≡◌, ◌<◌, ℕ, None, Some, IfOk, IfSome};
+ghost use Rattle.std.specs.Prelude.{◌≡◌, ◌<◌, ◌^◌, ℕ, length, None, Some, IfOk, IfSome};
 ghost use Rattle.rz_core.specs.Message.{IsNameable};
 ghost use Rattle.rz_core.specs.Stop.{Gives, OnFault, IsReadFault, OnRefusal, Yields, left, Meets};
 ghost use Rattle.rz_folder.specs.OnlyReads.{OnlyReads};
@@ -8,18 +8,20 @@ ghost use Rattle.rz_stmt_lists.specs.Include.{include_of, part_of};
 ghost use Rattle.rz_set.specs.After.{HasShortName};
 ghost use Rattle.rz_set.specs.ResSet.{AreNamed};
 ghost use Rattle.rz_tools_values.specs.Around.{around};
-ghost use Rattle.rz_tools_values.specs.Files.{list_named};
-ghost use Rattle.rz_tools_work.specs.Include.{all_of, asked_by, asked_for, included, list_including, list_with_asked};
+ghost use Rattle.rz_tools_work.specs.Include.{all_of, asked_by, asked_for, fork_included, included, list_including, list_with_asked};
 
+use crate::lent::include_lent;
 use crate::pick::pick_said;
 use crate::putting::on_line;
 use crate::read::halted;
 use crate::renaming::new_head;
-use rz_core::{Fault, FileNames, Halt, Kept, Mark, NoMemory, OsType, Resources, Stop};
+use rz_bridge_files::admit_fork;
+use rz_core::{Fault, FileNames, Halt, Kept, Mark, NoMemory, OsType, Stop};
 use rz_folder::Folder;
+use rz_fork::ForkView;
 use rz_set::{Choice, Head, Pick, ResSet};
 use rz_stmt_lists::{IncludePart, IncludeStmt};
-use rz_tools_values::{Setting, chosen_in_list, list_named, sought_by};
+use rz_tools_values::{Setting, chosen_in_fork, file_of_name, sought_by};
 use std::alloc::Global;
 
 /// What an `include` statement asks for.
@@ -33,12 +35,13 @@ pub struct Asked {
     pub sought: Kept,
 }
 
-/// Does what an `include` statement on this line says: resources of the fork of a file of whatever form are put into the
-/// list, all of them, all but those of a type, or those that its pick chooses, under a new type and, where one is chosen,
-/// under its head. The first fault is the answer: 101 where the file stands neither under its name nor behind a path
-/// (kept: the name); the first rule that the form or the fork breaks; of the ids of the pick 211, 215 and 204; 218 for a
-/// pick by id or name that chooses none; the faults of the head, as `new_head` says; and 219 for a protected resource that
-/// would be replaced, where protected ones aren't given up (kept: its type and id). No file changes. (MPW Rez.)
+/// Does what an `include` statement on this line says: copies of resources of the fork of a file of whatever form are put
+/// into the list, all of them, all but those of a type, or those that its pick chooses, under a new type and, where one is
+/// chosen, under its head. The first fault is the answer: 101 where the file stands neither under its name nor behind a
+/// path (kept: the name); the first rule that the form or the fork breaks; of the ids of the pick 211, 215 and 204; 218
+/// for a pick by id or name that chooses none; the faults of the head, as `new_head` says; and 219 for a protected
+/// resource that would be replaced, where protected ones aren't given up (kept: its type and id). Up to there no
+/// resource is copied, but for the name of a picked one while its head is computed. No file changes. (MPW Rez.)
 pub fn include_resources<F: Folder>(
     alloc: Global,
     folder: &mut F,
@@ -53,42 +56,65 @@ pub fn include_resources<F: Folder>(
     ensures nameable { (files : ℕ) → mark.file < files → OnRefusal result (IsNameable files) }
     ensures reads { OnlyReads F.files F.read_faults F.write_faults folder.old folder.new (IsReadFault result) }
 {
-    match list_named(alloc, folder, paths, stmt.file.as_slice(), mark) {
-        Ok(source) => halted(include_part(alloc, &source, &stmt.part, mark, setting, resources)),
+    match file_of_name(alloc, folder, paths, stmt.file.as_slice(), mark) {
+        Ok(file) => {
+            let fork = file.res_fork.as_slice();
+            halted(include_fork(alloc, fork, &stmt.part, mark, setting, resources))
+        }
         Err(halt) => Err(halt),
     }
 }
 
-/// Puts the resources of another list that a part means into the list.
-fn include_part(
+/// Puts the resources that a part means of the fork in these bytes into the list. No other is copied.
+fn include_fork(
     alloc: Global,
-    source: &Resources,
+    bytes: &[u8],
     part: &IncludePart,
     mark: Mark,
     setting: Setting,
     resources: &mut ResSet,
 ) -> Result<(), Stop<Fault>>
-    requires named { AreNamed source.now }
-    ensures included { Meets (left resources.new result) (λ answer. answer ≡ included setting mark resources.old (part_of part.now) source.now) }
+    requires short { length bytes.now < 2 ^ 32 }
+    ensures included { Meets (left resources.new result) (λ answer. answer ≡ fork_included setting mark resources.old (part_of part.now) bytes.now) }
+    ensures nameable { (files : ℕ) → mark.file < files → OnFault result (IsNameable files) }
+{
+    match admit_fork(bytes, Some(mark)) {
+        Ok(source) => include_part(alloc, &source, part, mark, setting, resources),
+        Err(fault) => Err(Stop::Refused(fault)),
+    }
+}
+
+/// Puts the resources that a part means of a fork into the list.
+fn include_part(
+    alloc: Global,
+    source: &ForkView<'_>,
+    part: &IncludePart,
+    mark: Mark,
+    setting: Setting,
+    resources: &mut ResSet,
+) -> Result<(), Stop<Fault>>
+    requires named { AreNamed source.now.list }
+    ensures included { Meets (left resources.new result) (λ answer. answer ≡ included setting mark resources.old (part_of part.now) source.now.list) }
     ensures nameable { (files : ℕ) → mark.file < files → OnFault result (IsNameable files) }
 {
     match asked_by(alloc, source, part, mark, setting) {
-        Ok(asked) => include_asked(source, asked, mark, setting, resources),
+        Ok(asked) => include_asked(alloc, source, asked, mark, setting, resources),
         Err(stop) => Err(stop),
     }
 }
 
-/// Puts the resources of another list that are asked for into the list.
+/// Puts the resources that are asked for of a fork into the list.
 fn include_asked(
-    source: &Resources,
+    alloc: Global,
+    source: &ForkView<'_>,
     asked: Asked,
     mark: Mark,
     setting: Setting,
     resources: &mut ResSet,
 ) -> Result<(), Stop<Fault>>
-    requires named { AreNamed source.now }
+    requires named { AreNamed source.now.list }
     requires short { HasShortName asked.head }
-    ensures included { Meets (left resources.new result) (λ answer. answer ≡ list_with_asked setting mark resources.old source.now asked) }
+    ensures included { Meets (left resources.new result) (λ answer. answer ≡ list_with_asked setting mark resources.old source.now.list asked) }
     ensures nameable { (files : ℕ) → mark.file < files → OnFault result (IsNameable files) }
 {
     let Asked {
@@ -96,19 +122,26 @@ fn include_asked(
         head,
         sought,
     } = asked;
-    let left = resources.include(source, &choice, head.as_ref(), setting.over);
+    let left = include_lent(
+        alloc,
+        source,
+        &choice,
+        head.as_ref(),
+        setting.over,
+        resources,
+    );
     on_line(left, mark, sought)
 }
 
-/// What a part asks for of another list.
+/// What a part asks for of a fork.
 fn asked_by(
     alloc: Global,
-    source: &Resources,
+    source: &ForkView<'_>,
     part: &IncludePart,
     mark: Mark,
     setting: Setting,
 ) -> Result<Asked, Stop<Fault>>
-    ensures asked { Gives (asked_by setting mark source.now (part_of part.now)) result }
+    ensures asked { Gives (asked_by setting mark source.now.list (part_of part.now)) result }
     ensures short { IfOk result (λ asked. HasShortName asked.head) }
     ensures nameable { (files : ℕ) → mark.file < files → OnFault result (IsNameable files) }
 {
@@ -121,11 +154,11 @@ fn asked_by(
         }
         IncludePart::Renamed(kind, pick, new_kind, head) => {
             let pick = pick_said(alloc, *kind, pick, mark, setting)?;
-            let one = match chosen_in_list(alloc, source.as_slice(), *kind, &pick, mark) {
+            let one = match chosen_in_fork(alloc, source, *kind, &pick, mark) {
                 Ok(one) => one,
                 Err(stop) => return Err(stop),
             };
-            let head = match new_head(alloc, *new_kind, one, head, mark, setting) {
+            let head = match new_head(alloc, *new_kind, &one, head, mark, setting) {
                 Ok(head) => head,
                 Err(stop) => return Err(stop),
             };

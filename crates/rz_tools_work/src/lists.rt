@@ -30,7 +30,8 @@ use std::alloc::Global;
 ///
 /// 101 keeps the name, 218 the type and the id, or the name, and 219 the type and the id of the protected resource; 219
 /// isn't tested where protected ones are given up. A read fault comes only where the folder's count of read faults rose. No
-/// file changes. A statement goes a few times over the resources of its file or over the list. (MPW Rez.)
+/// file changes. A statement goes a few times over the resources of its file or over the list; of those of the file it copies
+/// what it puts alone. (MPW Rez.)
 pub fn list_step<F: Folder>(
     alloc: Global,
     folder: &mut F,

@@ -20,7 +20,7 @@ pub fn put(
     ensures put { Meets (left resources.new result) (λ answer. answer ≡ list_with mark over resources.old resource) }
     ensures nameable { (files : ℕ) → mark.file < files → OnFault result (IsNameable files) }
 {
-    let left = resources.put_over(resource, over);
+    let left = resources.put(resource, over);
     on_line(left, mark, Kept::Nothing)
 }
 

@@ -2,14 +2,17 @@
 
 ghost use Rattle.std.specs.Prelude.{◌≡◌, ◌<◌, [], ℕ, length, map, option_map, IfOk, Some};
 ghost use Rattle.std.specs.Option.{option_copied, unwrap_or};
+ghost use Rattle.rz_fork.specs.View.{lent};
 ghost use Rattle.rz_core.specs.Message.{IsNameable};
 ghost use Rattle.rz_core.specs.Stop.{Gives, OnFault};
 ghost use Rattle.rz_stmt_data.specs.Head.{attribute_of, head_of};
 ghost use Rattle.rz_set.specs.After.{HasShortName};
 ghost use Rattle.rz_types.specs.Text.{plain_parts};
+ghost use Rattle.rz_tools_values.specs.Lent.{lent_one};
 ghost use Rattle.rz_tools_work.specs.Pick.{as_type, chosen_facts, head_said, new_attributes, new_head, new_name};
 
 use rz_core::{Attr, Bytes, Facts, Fault, Mark, NoMemory, OsType, Resource, Stop};
+use rz_fork::ResView;
 use rz_set::{Head, Pick};
 use rz_stmt_data::{AttrParts, HeadExpr};
 use rz_tools_values::{Setting, bits_of, id_said, name_of};
@@ -33,21 +36,37 @@ pub struct Renamed {
 pub fn new_head(
     alloc: Global,
     kind: OsType,
-    one: Option<&Resource>,
+    one: &Option<ResView<'_>>,
     head: &Option<HeadExpr>,
     mark: Mark,
     setting: Setting,
 ) -> Result<Head, Stop<Fault>>
-    ensures head { Gives (new_head setting mark kind (option_copied one.entry) (option_map head_of head.now)) result }
+    ensures head { Gives (new_head setting mark kind (lent_one one.now) (option_map head_of head.now)) result }
     ensures short { IfOk result (λ head. HasShortName (Some head)) }
     ensures nameable { (files : ℕ) → mark.file < files → OnFault result (IsNameable files) }
 {
-    let Some(resource) = one else {
+    let Some(one) = one else {
         return Ok(as_type(kind));
     };
     match head {
-        Some(head) => head_for(alloc, kind, resource, head, mark, setting),
+        Some(head) => head_for(alloc, kind, one, head, mark, setting),
         None => Ok(as_type(kind)),
+    }
+}
+
+/// A resource of the list, lent as one of a fork is, where there is one.
+pub fn lent_of(one: Option<&Resource>) -> Option<ResView<'_>>
+    ensures { lent_one result ≡ option_copied one.entry }
+{
+    match one {
+        Some(resource) => Some(ResView {
+            kind: resource.kind,
+            id: resource.id,
+            name: resource.name.as_slice(),
+            attr: resource.attr,
+            bytes: resource.bytes.as_slice(),
+        }),
+        None => None,
     }
 }
 
@@ -67,28 +86,28 @@ fn as_type(kind: OsType) -> Head
 fn head_for(
     alloc: Global,
     kind: OsType,
-    resource: &Resource,
+    one: &ResView<'_>,
     head: &HeadExpr,
     mark: Mark,
     setting: Setting,
 ) -> Result<Head, Stop<Fault>>
-    ensures head { Gives (head_said mark (chosen_facts setting resource.now) kind (head_of head.now)) result }
+    ensures head { Gives (head_said mark (chosen_facts setting (lent one.now)) kind (head_of head.now)) result }
     ensures short { IfOk result (λ head. HasShortName (Some head)) }
     ensures nameable { (files : ℕ) → mark.file < files → OnFault result (IsNameable files) }
 {
-    let known = chosen_facts(alloc, resource, setting)?;
+    let known = chosen_facts(alloc, one, setting)?;
     head_said(alloc, kind, head, mark, &known)
 }
 
 /// What is known of a chosen resource while its new head is computed.
-fn chosen_facts(alloc: Global, resource: &Resource, setting: Setting) -> Result<Facts, NoMemory>
-    ensures { IfOk result (λ known. known ≡ chosen_facts setting resource.now) }
+fn chosen_facts(alloc: Global, one: &ResView<'_>, setting: Setting) -> Result<Facts, NoMemory>
+    ensures { IfOk result (λ known. known ≡ chosen_facts setting (lent one.now)) }
 {
     Ok(Facts {
-        kind: resource.kind,
-        id: resource.id,
-        name: Bytes::of(alloc, resource.name.as_slice())?,
-        attr: resource.attr,
+        kind: one.kind,
+        id: one.id,
+        name: Bytes::of(alloc, one.name)?,
+        attr: one.attr,
         moment: setting.moment,
     })
 }

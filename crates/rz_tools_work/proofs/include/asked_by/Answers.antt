@@ -1,11 +1,11 @@
 use Rattle.std.proofs.Common.{◌≡◌, Ok, Err, sym, subst}
 use Rattle.std.specs.Prelude.{option_map}
-use Rattle.std.specs.Option.{option_copied}
 use Rattle.rz_core.specs.Stop.{Gives}
 use Rattle.rz_stmt_data.specs.Head.{head_of}
 use Rattle.rz_stmt_lists.specs.Include.{part_of}
 use Rattle.rz_stmt_lists.specs.Pick.{pick_of}
 use Rattle.rz_stmt_lists.specs.declared.include.IncludePart.{IncludePart}
+use Rattle.rz_tools_values.specs.Lent.{lent_one}
 use Rattle.rz_tools_work.specs.Include.{asked_by}
 use Rattle.rz_tools_work.specs.declared.include.Asked.{Asked}
 use Rattle.rz_tools_work.proofs.Asked.{asked_so, head_stop, one_stop}
@@ -13,20 +13,20 @@ use Rattle.rz_tools_work.proofs.include.asked_by.Goals as goal
 
 pub returns-in-Err-clause-asked : goal.returns-in-Err-clause-asked
 returns-in-Err-clause-asked c =
-    subst (λ (p : IncludePart). Gives {X = Asked} (asked_by c.args.setting c.args.mark c.args.source.now (part_of p)) (Err c.in-Err.stop)) (sym c.in-Renamed.is)
-    (one_stop c.args.setting c.args.mark c.args.source.now c.in-Renamed.kind c.in-Renamed.new_kind (pick_of c.in-Renamed.pick) (option_map head_of c.in-Renamed.head)
-    c.in_ok-pick-in-Renamed.pick c.in_ok-pick-in-Renamed.ensures.pick c.as_slice.result.now c.as_slice.ensures c.in-Err.stop c.in-Err.ensures.chosen)
+    subst (λ (p : IncludePart). Gives {X = Asked} (asked_by c.args.setting c.args.mark c.args.source.now.list (part_of p)) (Err c.in-Err.stop)) (sym c.in-Renamed.is)
+    (one_stop c.args.setting c.args.mark c.args.source.now.list c.in-Renamed.kind c.in-Renamed.new_kind (pick_of c.in-Renamed.pick) (option_map head_of c.in-Renamed.head)
+    c.in_ok-pick-in-Renamed.pick c.in_ok-pick-in-Renamed.ensures.pick c.in-Err.stop c.in-Err.ensures.chosen)
 
 pub returns-in-Err-new_head-clause-asked : goal.returns-in-Err-new_head-clause-asked
 returns-in-Err-new_head-clause-asked c =
-    subst (λ (p : IncludePart). Gives {X = Asked} (asked_by c.args.setting c.args.mark c.args.source.now (part_of p)) (Err c.in-Err-new_head.stop)) (sym c.in-Renamed.is)
-    (head_stop c.args.setting c.args.mark c.args.source.now c.in-Renamed.kind c.in-Renamed.new_kind (pick_of c.in-Renamed.pick) (option_map head_of c.in-Renamed.head)
-    c.in_ok-pick-in-Renamed.pick c.in_ok-pick-in-Renamed.ensures.pick c.as_slice.result.now c.as_slice.ensures (option_copied c.in-Ok.one) c.in-Ok.ensures.chosen
+    subst (λ (p : IncludePart). Gives {X = Asked} (asked_by c.args.setting c.args.mark c.args.source.now.list (part_of p)) (Err c.in-Err-new_head.stop)) (sym c.in-Renamed.is)
+    (head_stop c.args.setting c.args.mark c.args.source.now.list c.in-Renamed.kind c.in-Renamed.new_kind (pick_of c.in-Renamed.pick) (option_map head_of c.in-Renamed.head)
+    c.in_ok-pick-in-Renamed.pick c.in_ok-pick-in-Renamed.ensures.pick (lent_one c.in-Ok.one) c.in-Ok.ensures.chosen
     c.in-Err-new_head.stop c.in-Err-new_head.ensures.head)
 
 pub returns-in_ok-asked_for-in-Renamed-clause-asked : goal.returns-in_ok-asked_for-in-Renamed-clause-asked
 returns-in_ok-asked_for-in-Renamed-clause-asked c =
-    subst (λ (p : IncludePart). asked_by c.args.setting c.args.mark c.args.source.now (part_of p) ≡ Ok c.in_ok-asked_for-in-Renamed.field-0) (sym c.in-Renamed.is)
-    (asked_so c.args.setting c.args.mark c.args.source.now c.in-Renamed.kind c.in-Renamed.new_kind (pick_of c.in-Renamed.pick) (option_map head_of c.in-Renamed.head)
-    c.in_ok-pick-in-Renamed.pick c.in_ok-pick-in-Renamed.ensures.pick c.as_slice.result.now c.as_slice.ensures (option_copied c.in-Ok.one) c.in-Ok.ensures.chosen
+    subst (λ (p : IncludePart). asked_by c.args.setting c.args.mark c.args.source.now.list (part_of p) ≡ Ok c.in_ok-asked_for-in-Renamed.field-0) (sym c.in-Renamed.is)
+    (asked_so c.args.setting c.args.mark c.args.source.now.list c.in-Renamed.kind c.in-Renamed.new_kind (pick_of c.in-Renamed.pick) (option_map head_of c.in-Renamed.head)
+    c.in_ok-pick-in-Renamed.pick c.in_ok-pick-in-Renamed.ensures.pick (lent_one c.in-Ok.one) c.in-Ok.ensures.chosen
     c.in-Ok-new_head.head c.in_ok-asked_for-in-Renamed.field-0 c.in-Ok-new_head.ensures.head c.in_ok-asked_for-in-Renamed.ensures)

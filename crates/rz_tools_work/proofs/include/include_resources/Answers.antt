@@ -1,35 +1,48 @@
-use Rattle.std.proofs.Common.{◌≡◌, ℕ, List, Ok, Err, IfSome, subst}
+use Rattle.std.proofs.Common.{◌≡◌, ℕ, List, Ok, Err, IfSome, sym, subst}
 use Rattle.std.proofs.lemmas.Option.{IfSome_then}
+use Rattle.std.specs.declared.result.Result.{Result}
 use Rattle.rz_core.specs.Message.{IsNameable}
+use Rattle.rz_core.specs.Stop.{IsReadFault, Meets, Yields, left}
+use Rattle.rz_core.specs.declared.fault.Fault.{Fault}
 use Rattle.rz_core.specs.declared.resource.Resource.{Resource}
+use Rattle.rz_bridge.specs.declared.file.MacFile.{MacFile}
 use Rattle.rz_stmt_lists.specs.Include.{part_of}
-use Rattle.rz_core.specs.Stop.{IsReadFault, Yields}
-use Rattle.rz_tools_values.specs.Files.{list_named}
-use Rattle.rz_tools_work.specs.Include.{included}
+use Rattle.rz_tools_values.specs.Files.{file_of_name}
 use Rattle.rz_tools_values.proofs.Calls.{reads_first}
+use Rattle.rz_tools_work.specs.Include.{fork_included}
 use Rattle.rz_tools_work.proofs.Calls.{halted_refuses, halted_unread, went_halt, went_on}
+use Rattle.rz_tools_work.proofs.Included.{of_the_file}
 use Rattle.rz_tools_work.proofs.include.include_resources.Goals as goal
 
 pub returns-in-Ok-clause-included : goal.returns-in-Ok-clause-included
 returns-in-Ok-clause-included g c =
-    let list = subst (λ (name : List ℕ). IfSome (g.F.Folder.files c.args.folder.now) (λ files.
-    Yields {X = List Resource} (Ok c.in-Ok.source) (λ answer. answer ≡ list_named c.args.paths.now files c.args.mark name))) c.as_slice.ensures c.in-Ok.ensures.list in
-    IfSome_then (g.F.Folder.files c.args.folder.now) list (λ files yields.
-    went_on (list_named c.args.paths.now files c.args.mark c.args.stmt.now.file) (included c.args.setting c.args.mark c.args.resources.now (part_of c.args.stmt.now.part))
-    c.in-Ok.source c.include_part.result c.halted.result c.include_part.new.resources yields c.halted.ensures c.include_part.ensures.included)
+    let part = part_of c.args.stmt.now.part in
+    let told = subst (λ (name : List ℕ). IfSome (g.F.Folder.files c.args.folder.now) (λ files.
+    Yields {X = MacFile} (Ok c.in-Ok.file) (λ answer. answer ≡ file_of_name c.args.paths.now files c.args.mark name))) c.as_slice.ensures c.in-Ok.ensures.file in
+    let put = subst (λ (fork : List ℕ). Meets (left c.include_fork.new.resources c.include_fork.result)
+    (λ answer. answer ≡ fork_included c.args.setting c.args.mark c.args.resources.now part fork)) c.as_slice-fork.ensures c.include_fork.ensures.included in
+    IfSome_then (g.F.Folder.files c.args.folder.now) told (λ files yields.
+    subst (λ (a : Result (List Resource) Fault). Yields (left c.include_fork.new.resources c.halted.result) (λ answer. answer ≡ a))
+    (sym (of_the_file c.args.setting c.args.mark c.args.resources.now part c.args.paths.now files c.args.stmt.now.file))
+    (went_on (file_of_name c.args.paths.now files c.args.mark c.args.stmt.now.file)
+    (λ (file : MacFile). fork_included c.args.setting c.args.mark c.args.resources.now part file.res_fork)
+    c.in-Ok.file c.include_fork.result c.halted.result c.include_fork.new.resources yields c.halted.ensures put))
 
 pub returns-in-Ok-clause-nameable : goal.returns-in-Ok-clause-nameable
-returns-in-Ok-clause-nameable g c files within = halted_refuses c.include_part.result c.halted.result (IsNameable files) c.halted.ensures (c.include_part.ensures.nameable files within)
+returns-in-Ok-clause-nameable g c files within = halted_refuses c.include_fork.result c.halted.result (IsNameable files) c.halted.ensures (c.include_fork.ensures.nameable files within)
 
 pub returns-in-Ok-clause-reads : goal.returns-in-Ok-clause-reads
 returns-in-Ok-clause-reads g c =
-    reads_first g.F.Folder.files g.F.Folder.read_faults g.F.Folder.write_faults c.args.folder.now c.list_named.new.folder (IsReadFault c.halted.result)
-    (halted_unread c.include_part.result c.halted.result c.halted.ensures) c.in-Ok.ensures.reads
+    reads_first g.F.Folder.files g.F.Folder.read_faults g.F.Folder.write_faults c.args.folder.now c.file_of_name.new.folder (IsReadFault c.halted.result)
+    (halted_unread c.include_fork.result c.halted.result c.halted.ensures) c.in-Ok.ensures.reads
 
 pub returns-in-Err-clause-included : goal.returns-in-Err-clause-included
 returns-in-Err-clause-included g c =
-    let list = subst (λ (name : List ℕ). IfSome (g.F.Folder.files c.args.folder.now) (λ files.
-    Yields {X = List Resource} (Err c.in-Err.halt) (λ answer. answer ≡ list_named c.args.paths.now files c.args.mark name))) c.as_slice.ensures c.in-Err.ensures.list in
-    IfSome_then (g.F.Folder.files c.args.folder.now) list (λ files yields.
-    went_halt (list_named c.args.paths.now files c.args.mark c.args.stmt.now.file) (included c.args.setting c.args.mark c.args.resources.now (part_of c.args.stmt.now.part))
-    c.in-Err.halt c.args.resources.now yields)
+    let part = part_of c.args.stmt.now.part in
+    let told = subst (λ (name : List ℕ). IfSome (g.F.Folder.files c.args.folder.now) (λ files.
+    Yields {X = MacFile} (Err c.in-Err.halt) (λ answer. answer ≡ file_of_name c.args.paths.now files c.args.mark name))) c.as_slice.ensures c.in-Err.ensures.file in
+    IfSome_then (g.F.Folder.files c.args.folder.now) told (λ files yields.
+    subst (λ (a : Result (List Resource) Fault). Yields (left c.args.resources.now (Err c.in-Err.halt)) (λ answer. answer ≡ a))
+    (sym (of_the_file c.args.setting c.args.mark c.args.resources.now part c.args.paths.now files c.args.stmt.now.file))
+    (went_halt (file_of_name c.args.paths.now files c.args.mark c.args.stmt.now.file)
+    (λ (file : MacFile). fork_included c.args.setting c.args.mark c.args.resources.now part file.res_fork) c.in-Err.halt c.args.resources.now yields))

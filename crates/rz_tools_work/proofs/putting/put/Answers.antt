@@ -5,5 +5,5 @@ use Rattle.rz_tools_work.proofs.putting.put.Goals as goal
 
 pub returns-clause-put : goal.returns-clause-put
 returns-clause-put c =
-    leaves_so c.args.mark Nothing c.args.resources.now c.put_over-left.new.self (after_put c.args.over c.args.resource c.args.resources.now) c.put_over-left.result c.on_line.result c.on_line.ensures.left
-    c.put_over-left.ensures
+    leaves_so c.args.mark Nothing c.args.resources.now c.put-left.new.self (after_put c.args.over c.args.resource c.args.resources.now) c.put-left.result c.on_line.result c.on_line.ensures.left
+    c.put-left.ensures

@@ -1,0 +1,165 @@
+//! The resources of a fork, which are lent, as an `include` statement puts them: which of them, and copies of those alone.
+//! What is left of the list is `after_include` of `rz_set`.
+
+ghost use Rattle.std.specs.Prelude.{◌≡◌, filter, map, option_map, IfOk, IfErr, None, Some};
+ghost use Rattle.std.specs.List.{flat_map};
+ghost use Rattle.std.specs.Option.{option_copied};
+ghost use Rattle.rz_fork.specs.View.{lent};
+ghost use Rattle.rz_set.specs.After.{after_include, forbidden, replaced, under, under_head, HasShortName, Leaves};
+ghost use Rattle.rz_set.specs.Choice.{included, key_pair, missing_choice, the_choice};
+ghost use Rattle.rz_set.specs.ResSet.{AreNamed};
+ghost use Rattle.rz_set.specs.Wanted.{is_included};
+ghost use Rattle.rz_tools_values.specs.Lent.{lent_one};
+
+use rz_core::{Bytes, NoMemory, OsType, Resource, Stop};
+use rz_fork::{ForkView, ResView};
+use rz_set::{Choice, Head, Included, ResSet, SetFault, included_as};
+use rz_tools_values::picked_in;
+use std::alloc::Global;
+
+/// Puts copies of the chosen resources of a fork into the list, in order, each with the type, id, name and attributes of a
+/// head in place of its own, where the head has them; no other is copied. A pick by id or name that chooses none is
+/// refused, and then one by which a protected resource of the list would be replaced, where protected ones aren't given
+/// up; both before anything is copied. After a refusal, and where memory is refused, the list is unchanged. It goes at
+/// most three times over the fork. (MPW Rez.)
+pub fn include_lent(
+    alloc: Global,
+    fork: &ForkView<'_>,
+    choice: &Choice,
+    head: Option<&Head>,
+    over: bool,
+    resources: &mut ResSet,
+) -> Result<(), Stop<SetFault>>
+    requires named { AreNamed fork.now.list }
+    requires head { HasShortName (option_copied head) }
+    ensures { Leaves resources.old (after_include fork.now.list choice.now (option_copied head.entry) over resources.old) result resources.new }
+{
+    let included = match included_in(fork, choice) {
+        Ok(included) => included,
+        Err(fault) => return Err(Stop::Refused(fault)),
+    };
+    if let Some(fault) = forbidden_in(fork, included, head, over, resources) {
+        return Err(Stop::Refused(fault));
+    }
+    let news = copies(alloc, fork, included, head)?;
+    resources.put_each(news, over)
+}
+
+/// Which resources of a fork are included, by type and id, or that there is no such resource.
+fn included_in(fork: &ForkView<'_>, choice: &Choice) -> Result<Included, SetFault>
+    ensures included { IfOk result (λ test. filter (is_included test) fork.now.list ≡ included choice.now fork.now.list) }
+    ensures there { IfOk result (λ test. missing_choice choice.now fork.now.list ≡ None) }
+    ensures missing { IfErr result (λ fault. missing_choice choice.now fork.now.list ≡ Some fault) }
+{
+    included_as(choice, key_in(fork, choice))
+}
+
+/// The type and the id of the resource of a fork that the pick by id or name of a choice finds, if there is one.
+fn key_in(fork: &ForkView<'_>, choice: &Choice) -> Option<(OsType, i16)>
+    ensures { result ≡ option_map key_pair (the_choice choice.now fork.now.list) }
+{
+    match choice {
+        Choice::All | Choice::Except(_) => None,
+        Choice::Chosen(kind, pick) => key_of(&picked_in(fork, *kind, pick)),
+    }
+}
+
+/// The type and the id of a lent resource, if there is one.
+fn key_of(one: &Option<ResView<'_>>) -> Option<(OsType, i16)>
+    ensures { result ≡ option_map key_pair (lent_one one.now) }
+{
+    match one {
+        Some(one) => Some((one.kind, one.id)),
+        None => None,
+    }
+}
+
+/// The first protected resource of the list that an included one of a fork would replace, if it may not be. It takes no
+/// memory.
+fn forbidden_in(
+    fork: &ForkView<'_>,
+    included: Included,
+    head: Option<&Head>,
+    over: bool,
+    resources: &ResSet,
+) -> Option<SetFault>
+    ensures { result ≡ forbidden over
+        (flat_map (replaced resources.now) (map (under (option_copied head.entry)) (filter (is_included included) fork.now.list))) }
+{
+    let mut walk = fork.walk();
+    while let Some(one) = walk.next() {
+        if included.holds(one.kind, one.id) {
+            if let Some(fault) = forbidden_by(&one, head, over, resources) {
+                return Some(fault);
+            }
+        }
+    }
+    None
+}
+
+/// The protected resource of the list that one would replace under a head, if it may not be.
+fn forbidden_by(
+    one: &ResView<'_>,
+    head: Option<&Head>,
+    over: bool,
+    resources: &ResSet,
+) -> Option<SetFault>
+    ensures { result ≡ forbidden over (replaced resources.now (under (option_copied head.entry) (lent one.now))) }
+{
+    match head {
+        Some(head) => resources.forbidden_at(head.kind, head.id.unwrap_or(one.id), over),
+        None => resources.forbidden_at(one.kind, one.id, over),
+    }
+}
+
+/// Copies of the included resources of a fork under a head, in order.
+fn copies(
+    alloc: Global,
+    fork: &ForkView<'_>,
+    included: Included,
+    head: Option<&Head>,
+) -> Result<Vec<Resource>, NoMemory>
+    ensures { IfOk result (λ news. news.items ≡ map (under (option_copied head.entry)) (filter (is_included included) fork.now.list)) }
+{
+    let mut news = Vec::new(alloc);
+    let mut walk = fork.walk();
+    while let Some(one) = walk.next() {
+        if included.holds(one.kind, one.id) {
+            news.push(copy_under(alloc, &one, head)?)?;
+        }
+    }
+    Ok(news)
+}
+
+/// A copy of a lent resource under a head.
+fn copy_under(alloc: Global, one: &ResView<'_>, head: Option<&Head>) -> Result<Resource, NoMemory>
+    ensures { IfOk result (λ copy. copy ≡ under (option_copied head.entry) (lent one.now)) }
+{
+    match head {
+        Some(head) => copy_under_head(alloc, one, head),
+        None => Ok(Resource {
+            kind: one.kind,
+            id: one.id,
+            name: Bytes::of(alloc, one.name)?,
+            attr: one.attr,
+            bytes: Bytes::of(alloc, one.bytes)?,
+        }),
+    }
+}
+
+/// A copy of a lent resource with what a head has in place of its own.
+fn copy_under_head(alloc: Global, one: &ResView<'_>, head: &Head) -> Result<Resource, NoMemory>
+    ensures { IfOk result (λ copy. copy ≡ under_head head.now (lent one.now)) }
+{
+    let name = match &head.name {
+        Some(name) => name.as_slice(),
+        None => one.name,
+    };
+    Ok(Resource {
+        kind: head.kind,
+        id: head.id.unwrap_or(one.id),
+        name: Bytes::of(alloc, name)?,
+        attr: head.attr.unwrap_or(one.attr),
+        bytes: Bytes::of(alloc, one.bytes)?,
+    })
+}
