@@ -47,10 +47,11 @@ or_empty (Some bytes) = bytes
 abbrev pub read_only : ℕ → Fault
 read_only attributes = record { number = 220; mark = None; kept = Number (pos attributes) }
 
--- a file and its fork; the bit 80 of the map's attributes says that the fork may be read only: 220
+-- a file and its fork; the bit 80 of the map's attributes says that the fork may be read only: 220. Of the file all else than
+-- its fork is kept
 abbrev pub begun_with : Form → MacFile → Fork → Result Base Fault
 begun_with form file fork =
-    if bit_and fork.attributes 128 == 0 then Ok (record { form = form; file = file; fork = fork }) else Err (read_only fork.attributes)
+    if bit_and fork.attributes 128 == 0 then Ok (record { form = form; file = record file { res_fork = [] }; fork = fork }) else Err (read_only fork.attributes)
 
 -- what bytes hold to begin with, in the form that is asked for or else that they have: the rules of the form, then those of
 -- the fork, then 220

@@ -5,17 +5,15 @@ ghost use Rattle.rz_core.specs.Message.{IsNameable};
 ghost use Rattle.rz_core.specs.Resources.{KeysDiffer};
 ghost use Rattle.rz_core.specs.Stop.{seen, Gives, IsReadFault, OnFault, OnRefusal, Yields};
 ghost use Rattle.rz_folder.specs.OnlyReads.{OnlyReads};
-ghost use Rattle.rz_fork.specs.Code.{held_by};
 ghost use Rattle.rz_bridge_files.specs.Contents.{form_or};
 ghost use Rattle.rz_set.specs.ResSet.{AreNamed};
-ghost use Rattle.rz_tools_output.specs.Base.{base_in, base_of, begun_of, begun_with, new_base, read_only};
+ghost use Rattle.rz_tools_output.specs.Base.{base_in, base_of, begun_of, new_base, read_only};
 
 use rz_bridge::{Finder, MacFile};
 use rz_bridge_files::{admit_fork, file_in};
 use rz_bridge_form::{Form, form_of};
 use rz_core::{Bytes, Fault, Halt, Kept, OsType, Resources, Stop};
 use rz_folder::{Folder, Read};
-use rz_fork::ForkList;
 use std::alloc::Global;
 
 /// The attribute bit of a map that may be read only.
@@ -124,7 +122,8 @@ fn begin_in(alloc: Global, bytes: Bytes) -> Result<Beginning, Halt<Fault>>
     }
 }
 
-/// What bytes hold to begin with, in the form that is asked for or else that they have.
+/// What bytes hold to begin with, in the form that is asked for or else that they have. The resources are copied out of their
+/// fork, whose own bytes are then given back.
 fn base_in(alloc: Global, form: Option<Form>, bytes: Bytes) -> Result<Beginning, Stop<Fault>>
     requires { length bytes < 2 ^ 32 }
     ensures base { Gives (base_in form bytes) (seen begun_of result) }
@@ -135,8 +134,28 @@ fn base_in(alloc: Global, form: Option<Form>, bytes: Bytes) -> Result<Beginning,
 {
     let had = form_or(form, bytes.as_slice());
     let file = file_in(alloc, form, bytes, Bytes::new(alloc), None)?;
-    let fork = admit_fork(alloc, file.res_fork.as_slice(), None)?;
-    begun_with(had, file, fork)
+    let fork = match admit_fork(file.res_fork.as_slice(), None) {
+        Ok(fork) => fork,
+        Err(fault) => return Err(Stop::Refused(fault)),
+    };
+    let attributes = fork.attributes();
+    if attributes & READ_ONLY != 0 {
+        return Err(Stop::Refused(read_only(attributes)));
+    }
+    let list = fork.copy_all(alloc)?;
+    let reserved = Bytes::of(alloc, fork.reserved())?;
+    Ok(Beginning {
+        base: Base {
+            form: had,
+            file: MacFile {
+                res_fork: Bytes::new(alloc),
+                ..file
+            },
+            attributes,
+            reserved,
+        },
+        list,
+    })
 }
 
 /// The form that is asked for, or else that bytes have.
@@ -147,31 +166,6 @@ pub fn form_or(form: Option<Form>, bytes: &[u8]) -> Form
         Some(form) => form,
         None => form_of(bytes),
     }
-}
-
-/// A file of a form and its fork, or 220.
-fn begun_with(form: Form, file: MacFile, fork: ForkList) -> Result<Beginning, Stop<Fault>>
-    requires keys { KeysDiffer [] fork.list }
-    requires named { AreNamed fork.list }
-    requires room { length fork.reserved ≤ 240 }
-    ensures base { Gives (begun_with form file (held_by fork)) (seen begun_of result) }
-    ensures keys { IfOk result (λ begun. KeysDiffer [] begun.list) }
-    ensures named { IfOk result (λ begun. AreNamed begun.list) }
-    ensures room { IfOk result (λ begun. length begun.base.reserved ≤ 240) }
-    ensures nameable { (files : ℕ) → OnFault result (IsNameable files) }
-{
-    if fork.attributes & READ_ONLY != 0 {
-        return Err(Stop::Refused(read_only(fork.attributes)));
-    }
-    Ok(Beginning {
-        base: Base {
-            form,
-            file,
-            attributes: fork.attributes,
-            reserved: fork.reserved,
-        },
-        list: fork.list,
-    })
 }
 
 /// 220, with the attributes.
