@@ -159,16 +159,16 @@ def fork_lines(data):
 
 
 def form_lines(data):
-    """What a comment says of a file of another form."""
+    """What a comment says of a file of another form, or of a fork of another layout."""
     form = form_of(data)
-    if form == "raw":
+    if not data:
         return []
     try:
         file = read_form(form, data)
         resources, attributes, _ = admitted(file.res)
     except Refused:
         return []
-    name = {"double": "AppleDouble", "macbin": "MacBinary", "hqx": "BinHex"}[form]
+    name = {"double": "AppleDouble", "macbin": "MacBinary", "hqx": "BinHex", "raw": "another layout,"}[form]
     lines = [resource_line(each) for each in resources]
     return (["# %s with no resources" % name] if not lines else
             ["# %s with %s" % (name, line) for line in lines if line]

@@ -431,12 +431,19 @@ class DeRez:
     """A run of `derez` without types: its type files have statements that do nothing."""
 
     def __init__(self, words, folder, sources, form=None):
-        self.words, self.folder, self.sources, self.form = words, folder, sources, form
+        self.folder, self.sources, self.form = folder, sources, form
+        self.files, self.only, self.skip = [], [], []
+        takes = {"-only": self.only, "-skip": self.skip, "-s": self.skip, "-from": []}
+        rest = iter(words)
+        for word in rest:
+            if word in takes:
+                takes[word].append(roman(next(rest)))
+            else:
+                self.files.append(word)
 
     def run(self):
         """The text that it writes."""
-        files = [word for k, word in enumerate(self.words) if not word.startswith("-") and self.words[k - 1] != "-from"]
-        for name in files[1:]:
+        for name in self.files[1:]:
             self.folder.read(name)
             line = 1
             for text, what in self.sources[name]:
@@ -444,11 +451,14 @@ class DeRez:
                     what.fault.place = "%s:%d" % (name, line)
                     raise what.fault
                 line += 1 + text.count("\n")
-        held = self.folder.read(files[0])
+        held = self.folder.read(self.files[0])
         if held is None:
-            raise Refused(101, quoted(files[0].encode()))
+            raise Refused(101, quoted(self.files[0].encode()))
         resources, *_ = admitted(forms.read_form(self.form or forms.form_of(held), held).res)
-        return "".join(shown(Resource(*each)) for each in resources)
+        return "".join(shown(Resource(*each)) for each in resources if self.is_shown(each[0]))
+
+    def is_shown(self, kind):
+        return kind not in self.skip and (kind in self.only or not self.only)
 
 
 def shown(one):
