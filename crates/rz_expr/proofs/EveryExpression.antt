@@ -7,8 +7,8 @@ use Rattle.rz_core.specs.Decided.{Decided}
 use Rattle.rz_core.specs.declared.resource.Word.{Word}
 use Rattle.rz_lex.specs.declared.token.Token.{Token}
 use Rattle.rz_expr.specs.declared.expr.BinaryOp.{BinaryOp}
-use Rattle.rz_expr.specs.declared.words.Function.{Function}
-use Rattle.rz_expr.specs.declared.words.Function.TheVariants.{CountOf, ArrayIndex, BitField, Data}
+use Rattle.rz_words.specs.declared.words.Function.{Function}
+use Rattle.rz_words.specs.declared.words.Function.TheVariants.{CountOf, ArrayIndex, BitField, Data}
 use Rattle.rz_expr.specs.Term.{Term, Constant, Named, Indexed, RowsOf, RowNumber, BitsAt, OfOne, OfTwo}
 use Rattle.rz_expr.specs.Grammar.{Start, Operand, Label, Prefix, Bracket, Calls, NoStart, After, Operates, Closes, Separates, Indexes, EndsIndex, start_of, after_of, level_of, loosest, argument, Derives, operand, labelled, indexed, prefixed, grouped, counted, numbered, data_at, bits_at, tighter, binary, IsExpression, LongestExpression, NoExpression}
 use Rattle.rz_core.proofs.EveryCut.{all_three, both, head, tail, one_of, is_nothing, answer_of, one_answer, LongestCut, NoCut, Split, longest_cut, some_of, some_split, parts_few}

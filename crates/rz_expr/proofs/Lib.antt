@@ -9,8 +9,6 @@ pub mod OneExpression
 pub mod FaultsStay
 pub mod Whole
 pub mod Cases
-pub mod Spelled
 pub mod Nameless
-pub mod ByLength
 pub mod OneTerm
 pub mod EveryExpression

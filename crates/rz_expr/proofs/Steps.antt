@@ -17,9 +17,9 @@ use Rattle.rz_expr.specs.declared.expr.BinaryOp.{BinaryOp}
 use Rattle.rz_expr.specs.declared.expr.BinaryOp.TheVariants as two
 use Rattle.rz_expr.specs.declared.operators.Frame.{Frame}
 use Rattle.rz_expr.specs.declared.operators.Frame.TheVariants.{Group, InIndex, InStart, InWidth}
-use Rattle.rz_expr.specs.declared.words.Function.{Function}
-use Rattle.rz_expr.specs.declared.words.Function.TheVariants.{CountOf, ArrayIndex, BitField, Data}
-use Rattle.rz_expr.specs.declared.words.Role.{Role}
+use Rattle.rz_words.specs.declared.words.Function.{Function}
+use Rattle.rz_words.specs.declared.words.Function.TheVariants.{CountOf, ArrayIndex, BitField, Data}
+use Rattle.rz_words.specs.declared.words.Role.{Role}
 use Rattle.rz_expr.specs.Term.{Term, Constant, Named as NamedTerm, Indexed, RowsOf, RowNumber, BitsAt, OfOne, OfTwo}
 use Rattle.rz_expr.specs.Grammar.{Start, Operand, Label, Prefix, Bracket, Calls, NoStart, After, Operates, Closes, Separates, Indexes, EndsIndex, NoAfter, start_of, after_of, sign_start, word_start, level_of, loosest, argument, is_bracket, Derives, operand, labelled, indexed, prefixed, grouped, counted, numbered, data_at, bits_at, tighter, binary, LongestExpression, NoExpression}
 use Rattle.rz_expr.specs.Fronts.{wants, calls, ends, ends_labelled, NoneBegins, NoneEnds, Stops}

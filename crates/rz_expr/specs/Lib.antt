@@ -1,6 +1,4 @@
 pub mod Keyword
-pub mod Attribute
-pub mod Words
 pub mod Term
 pub mod Environment
 pub mod Value

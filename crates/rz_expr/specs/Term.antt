@@ -4,7 +4,7 @@ use Rattle.rz_expr.specs.declared.expr.UnaryOp.{UnaryOp}
 use Rattle.rz_expr.specs.declared.expr.BinaryOp.{BinaryOp}
 use Rattle.rz_expr.specs.declared.expr.Expr.{Expr}
 use Rattle.rz_expr.specs.declared.expr.Expr.TheVariants.{Number, Name, Indexed', Count, ArrayIndex, Bits', Fact, Unary', Binary'}
-use Rattle.rz_expr.specs.declared.words.FactWord.{FactWord}
+use Rattle.rz_words.specs.declared.words.FactWord.{FactWord}
 
 pub data Term : Type 0 where
   Constant : ℤ → Term

@@ -1,17 +1,9 @@
-//! Laws of expressions: tokens are one at most, values and faults stay, and words are spelled in one way.
+//! Laws of expressions: tokens are one at most, and values and faults stay.
 
-ghost use Rattle.std.specs.Prelude.{◌≡◌, ◌↔◌, ℕ, ℤ, Bool, List, MatchOption, Ok, Err, Option, Some, true};
-ghost use Rattle.std.specs.Str.{str_eq_ignore_ascii_case};
+ghost use Rattle.std.specs.Prelude.{◌≡◌, ℤ, List, MatchOption, Ok, Err, Option, true};
 ghost use Rattle.rz_core.specs.Decided.{Decided};
 ghost use Rattle.rz_lex.specs.declared.token.Token.{Token};
-ghost use Rattle.rz_expr.specs.declared.attribute.Attribute.{Attribute};
-ghost use Rattle.rz_expr.specs.declared.attribute.AttributeWord.{AttributeWord};
-ghost use Rattle.rz_expr.specs.declared.keyword.Keyword.{Keyword};
-ghost use Rattle.rz_expr.specs.declared.words.Role.TheVariants.{OtherName, Reserved};
 ghost use Rattle.rz_expr.specs.declared.value.EvalFault.{EvalFault};
-ghost use Rattle.rz_expr.specs.Attribute.{attribute_word, said_by, IsSaid};
-ghost use Rattle.rz_expr.specs.Keyword.{keyword_of, spelling};
-ghost use Rattle.rz_expr.specs.Words.{role_of};
 ghost use Rattle.rz_expr.specs.Environment.{IsSeenIn, Sight};
 ghost use Rattle.rz_expr.specs.Grammar.{IsExpression, LongestExpression, NoExpression};
 ghost use Rattle.rz_expr.specs.Term.{Term};
@@ -51,21 +43,4 @@ pub fn values_stay()
 pub fn faults_stay()
     ensures { (known finished : Sight) → IsSeenIn known finished → (term : Term) (fault : EvalFault)
         → stays fault ≡ true → value_of term known ≡ Err fault → value_of term finished ≡ Err fault }
-{}
-
-/// A law, with nothing to run: a name is a keyword exactly where it is that keyword's spelling in whatever
-/// case; no two keywords have one spelling; and each is reserved, as it is written in the table.
-pub fn keywords_are_spelled()
-    ensures keyword { (name : List ℕ) (keyword : Keyword)
-        → (keyword_of name ≡ Some keyword) ↔ (str_eq_ignore_ascii_case name (spelling keyword) ≡ true) }
-    ensures one { (one other : Keyword) → str_eq_ignore_ascii_case (spelling one) (spelling other) ≡ true → one ≡ other }
-    ensures reserved { (keyword : Keyword) → role_of (spelling keyword) ≡ Reserved keyword }
-{}
-
-/// A law, with nothing to run: a name says something as an attribute word exactly where it is the word that
-/// sets or clears a bit, in whatever case, and then it says that; and each such word may name what is no
-/// label.
-pub fn attribute_words_are_spelled()
-    ensures word { (name : List ℕ) (word : AttributeWord) → (attribute_word name ≡ Some word) ↔ IsSaid name word }
-    ensures other { (attribute : Attribute) (sets : Bool) → role_of (said_by attribute sets) ≡ OtherName }
 {}

@@ -6,8 +6,8 @@ ghost use Rattle.rz_expr.specs.Grammar.{bytes_number, is_bracket, loosest, sign_
 ghost use Rattle.rz_expr.specs.Reading.{prefix_count, prefix_of, prefixed_term, Begins, IsEnded, IsFront};
 ghost use Rattle.rz_expr.specs.Term.{term_of, BitsAt, Constant, Indexed, Term};
 ghost use Rattle.rz_expr.specs.Value.{reduced};
-ghost use Rattle.rz_expr.specs.Words.{role_of};
-ghost use Rattle.rz_expr.specs.declared.words.Function.TheVariants as function;
+ghost use Rattle.rz_words.specs.Words.{role_of};
+ghost use Rattle.rz_words.specs.declared.words.Function.TheVariants as function;
 ghost use Rattle.rz_lex.specs.declared.token.Token.{Token};
 
 use crate::operators::{Frame, argument, ends_at, index_at, operator_at, prefix_at, prefix_count};

@@ -11,7 +11,7 @@ use Rattle.rz_expr.specs.Term.{BitsAt, Constant, FactOf, Indexed, Named, OfOne, 
 use Rattle.rz_expr.specs.Value.{known_bits, known_value, number_at, operate, operate_one, place_in_row, reduced, value_of}
 use Rattle.rz_expr.specs.declared.value.EvalFault.{EvalFault}
 use Rattle.rz_expr.specs.declared.value.EvalFault.TheVariants.{BadIndex, DataWidth, LaterData}
-use Rattle.rz_expr.specs.declared.words.FactWord.{FactWord}
+use Rattle.rz_words.specs.declared.words.FactWord.{FactWord}
 use Rattle.rz_types_fields.specs.Laid.{reads_late}
 use Rattle.rz_types_fields.specs.Passed.{Names}
 use Rattle.rz_types_fields.specs.Sees.{beside, bits_before, hit, is_later, names_later, sees, Late}

@@ -4,8 +4,8 @@
 //! arrays have the numbers of their rows, their labels the places where they stand, and the name of the array the number of
 //! the row, and behind them no more; but behind an array the labels in its rows are known by the numbers of the rows.
 //! Numbers that name what stands later, or read late bits, are laid as zero bits first, and written in the end.
-//! It rests on `rz_core`, `rz_expr`, `rz_bits`, `rz_types_fields`, which has the definitions of spelling and the notes of
-//! names, and `rz_types`.
+//! It rests on `rz_core`, `rz_words`, `rz_expr`, `rz_bits`, `rz_types_fields`, which has the definitions of spelling
+//! and the notes of names, and `rz_types`.
 //! A new kind of piece is a case of `IsStored` and of `piece_form` in `rz_types_fields`, and one of `lay_field` here. A new
 //! kind of field with fields within it is a case of `FieldSpells` and of `field_laid` there, and one of `lay_field` here; a
 //! new kind of name, one of `entered`, `placed` or `behind_rows` there and of `enter`, `put_place` or `lay_array` here.

@@ -12,14 +12,15 @@ use Rattle.rz_lex.specs.declared.token.Shape.TheVariants as shapes
 use Rattle.rz_lex.specs.declared.token.Token.{Token}
 use Rattle.rz_expr.specs.Environment.{predefined, Sight}
 use Rattle.rz_expr.specs.Grammar.{IsExpression}
-use Rattle.rz_expr.specs.Keyword.{is_keyword, spelling}
+use Rattle.rz_words.specs.Keyword.{spelling}
+use Rattle.rz_expr.specs.Keyword.{is_keyword}
 use Rattle.rz_expr.specs.Term.{Term}
 use Rattle.rz_expr.specs.Value.{is_zero, value_of}
-use Rattle.rz_expr.specs.Words.{role_of}
-use Rattle.rz_expr.specs.declared.keyword.Keyword.{Keyword}
-use Rattle.rz_expr.specs.declared.keyword.Keyword.TheVariants as keywords
-use Rattle.rz_expr.specs.declared.words.Role.{Role}
-use Rattle.rz_expr.specs.declared.words.Role.TheVariants.{Call, Fact, Text}
+use Rattle.rz_words.specs.Words.{role_of}
+use Rattle.rz_words.specs.declared.keyword.Keyword.{Keyword}
+use Rattle.rz_words.specs.declared.keyword.Keyword.TheVariants as keywords
+use Rattle.rz_words.specs.declared.words.Role.{Role}
+use Rattle.rz_words.specs.declared.words.Role.TheVariants.{Call, Fact, Text}
 use Rattle.rz_pre.specs.Expanded.{ExpandInto, FirstTooLong}
 use Rattle.rz_pre.specs.Live.{Live}
 use Rattle.rz_pre.specs.declared.condition.Tool.{Tool}

@@ -12,7 +12,7 @@ use Rattle.rz_lex.specs.declared.token.Shape.{Shape}
 use Rattle.rz_lex.specs.declared.token.Shape.TheVariants as shapes
 use Rattle.rz_lex.specs.declared.token.Token.{Token}
 use Rattle.rz_expr.specs.Value.{is_zero}
-use Rattle.rz_expr.specs.Words.{is_label, role_of}
+use Rattle.rz_words.specs.Words.{is_label, role_of}
 use Rattle.rz_core.specs.Answers.{Then}
 use Rattle.rz_pre.specs.Condition.{is_known, ConditionFails, IsCondition}
 use Rattle.rz_pre_source.specs.Directive.{behind_hash, directive_in, has_parameters, unblanked}

@@ -4,7 +4,7 @@ use Rattle.rz_core.proofs.Once.{ok_or_err, same_ok}
 use Rattle.rz_core.proofs.Tests.{none_some, or_false}
 use Rattle.rz_core.specs.declared.fault.Fault.{Fault}
 use Rattle.rz_core.specs.declared.fault.Mark.{Mark}
-use Rattle.rz_expr.specs.declared.keyword.Keyword.TheVariants as keywords
+use Rattle.rz_words.specs.declared.keyword.Keyword.TheVariants as keywords
 use Rattle.rz_folder.specs.Folder.{Files}
 use Rattle.rz_folder_paths.specs.Names.{file_of, missing_file, names_of, utf8_name}
 use Rattle.rz_lex.specs.Cutting.{Cuts}

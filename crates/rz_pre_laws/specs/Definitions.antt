@@ -2,7 +2,7 @@
 use Rattle.std.specs.Prelude.{◌≡◌, ℕ, true, false, List, [], ◌∷◌, ◌++◌, map, option_map}
 use Rattle.std.specs.List.{AllByRecursion}
 use Rattle.std.specs.Str.{bytes_eq, str_to_ascii_lowercase}
-use Rattle.rz_expr.specs.Words.{is_label, role_of}
+use Rattle.rz_words.specs.Words.{is_label, role_of}
 use Rattle.rz_pre.specs.Live.{shapes_of, Row}
 use Rattle.rz_pre_laws.specs.Unfolding.{Entry, Line, Opened}
 use Rattle.rz_pre.specs.declared.act.Act.{Act}

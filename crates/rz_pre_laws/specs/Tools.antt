@@ -2,7 +2,7 @@
 use Rattle.std.specs.Prelude.{◌≡◌, ℕ, Bool, true, false, ◌||◌, List, [], ◌∷◌, Option, Some, None, unwrap_or, IfSome}
 use Rattle.std.specs.List.{AllByRecursion}
 use Rattle.rz_expr.specs.Keyword.{is_keyword}
-use Rattle.rz_expr.specs.declared.keyword.Keyword.TheVariants as keywords
+use Rattle.rz_words.specs.declared.keyword.Keyword.TheVariants as keywords
 use Rattle.rz_folder.specs.Folder.{Files}
 use Rattle.rz_lex.specs.Cutting.{Cuts}
 use Rattle.rz_lex.specs.declared.raw_line.RawLine.{RawLine}

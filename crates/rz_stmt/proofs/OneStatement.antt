@@ -16,9 +16,10 @@ use Rattle.rz_stmt_lists.specs.Lists.{word_of, BeginsWith, Changes, Deletes, Inc
 use Rattle.rz_stmt_type.specs.Constants.{declared}
 use Rattle.rz_stmt_type.specs.Declare.{IsDeclare}
 use Rattle.rz_stmt_fields.specs.Form.{DeclareForm}
-use Rattle.rz_expr.specs.Keyword.{is_keyword, keyword_of, spelling}
-use Rattle.rz_expr.specs.declared.keyword.Keyword.{Keyword}
-use Rattle.rz_expr.specs.declared.keyword.Keyword.TheVariants as keywords
+use Rattle.rz_words.specs.Keyword.{keyword_of, spelling}
+use Rattle.rz_expr.specs.Keyword.{is_keyword}
+use Rattle.rz_words.specs.declared.keyword.Keyword.{Keyword}
+use Rattle.rz_words.specs.declared.keyword.Keyword.TheVariants as keywords
 use Rattle.rz_stmt.specs.Grammar.{alone, beyond, data_statement, list_statement, mark_of, none, resource_statement, statement, type_statement, Compiles, Data, Declares, Empty, IsStatement, Lists, Parses, Statement}
 
 -- The kind of a statement, by its first word.

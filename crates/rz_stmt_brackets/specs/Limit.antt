@@ -1,7 +1,7 @@
 -- How deep and how long a statement may be. (MPW Rez bounds both; the bounds are rezkit's.)
 use Rattle.std.specs.Prelude.{◌++◌, not, ◌≤◌, ◌≡◌, ℕ, suc, nat_le, Bool, true, false, ◌&&◌, if◌then◌else◌, List, [], ◌∷◌}
 use Rattle.rz_expr.specs.Keyword.{is_keyword}
-use Rattle.rz_expr.specs.declared.keyword.Keyword.TheVariants as keywords
+use Rattle.rz_words.specs.declared.keyword.Keyword.TheVariants as keywords
 use Rattle.rz_lex.specs.declared.sign.Sign.TheVariants.{CloseBrace, Comma, OpenBrace, Semicolon}
 use Rattle.rz_lex.specs.declared.token.Shape.{Shape}
 use Rattle.rz_lex.specs.declared.token.Shape.TheVariants as shapes

@@ -1,6 +1,6 @@
 //! The tokens of a program as statements, and the tokens of a statement as pieces, each cut in exactly one way
 //! where a sign or the word `case` stands outside brackets; and how deep and how long a statement may be.
-//! It rests on `rz_core`, `rz_lex` and `rz_expr`.
+//! It rests on `rz_core`, `rz_lex`, `rz_words` and `rz_expr`.
 //! `rz_stmt` cuts a store of tokens by the same definition, `specs/Statements.antt`, and changes with it.
 //! What one kind of statement means stands in the crates above.
 #![tactic(auto)]

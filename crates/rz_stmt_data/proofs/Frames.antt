@@ -7,7 +7,7 @@ use Rattle.rz_core.specs.Decided.{Decided}
 use Rattle.rz_expr.proofs.OneTerm.{OneExpression}
 use Rattle.rz_expr.specs.Grammar.{IsExpression}
 use Rattle.rz_expr.specs.Term.{Term}
-use Rattle.rz_expr.specs.declared.keyword.Keyword.{Keyword}
+use Rattle.rz_words.specs.declared.keyword.Keyword.{Keyword}
 use Rattle.rz_lex.specs.declared.token.Token.{Token}
 use Rattle.rz_stmt_brackets.proofs.OneBracket.{one_bracketed}
 use Rattle.rz_stmt_brackets.proofs.OneCut.{one_cut, some_pieces}

@@ -5,7 +5,7 @@ use Rattle.std.specs.List.{AllByRecursion}
 use Rattle.rz_core.proofs.EveryCut.{both, is_true, some_of}
 use Rattle.rz_core.proofs.Tests.{same_some}
 use Rattle.rz_expr.specs.Keyword.{is_keyword}
-use Rattle.rz_expr.specs.declared.keyword.Keyword.{Keyword}
+use Rattle.rz_words.specs.declared.keyword.Keyword.{Keyword}
 use Rattle.rz_lex.specs.declared.token.Token.{Token}
 use Rattle.rz_stmt_brackets.specs.Kind.{kind_in}
 use Rattle.rz_stmt_data.specs.Typed.{IsTyped, Typed}

@@ -9,11 +9,11 @@ use Rattle.rz_core.proofs.Tests.{none_some, same_some, true_false}
 use Rattle.rz_expr.proofs.OneTerm.{OneExpression}
 use Rattle.rz_expr.specs.Grammar.{binary, bits_at, counted, data_at, grouped, indexed, labelled, numbered, operand, prefixed, start_of, tighter, word_start, Bracket, Calls, Derives, IsExpression, Label, NoStart, Operand, Prefix, Start}
 use Rattle.rz_expr.specs.Term.{Term}
-use Rattle.rz_expr.specs.Words.{role_of}
-use Rattle.rz_expr.specs.declared.words.Function.TheVariants.{ArrayIndex, BitField, CountOf, Data}
-use Rattle.rz_expr.specs.declared.words.Role.{Role}
-use Rattle.rz_expr.specs.declared.words.Role.TheVariants as roles
-use Rattle.rz_expr.specs.declared.words.TextWord.TheVariants as words
+use Rattle.rz_words.specs.Words.{role_of}
+use Rattle.rz_words.specs.declared.words.Function.TheVariants.{ArrayIndex, BitField, CountOf, Data}
+use Rattle.rz_words.specs.declared.words.Role.{Role}
+use Rattle.rz_words.specs.declared.words.Role.TheVariants as roles
+use Rattle.rz_words.specs.declared.words.TextWord.TheVariants as words
 use Rattle.rz_types_fields.specs.Text as plain
 use Rattle.rz_types_fields.specs.Text.{arguments_of, parts_of, FileBytes, FileResource, Number, PlainArgument, PlainPart, Text}
 use Rattle.rz_lex.specs.declared.token.Shape.{Shape}

@@ -1,6 +1,6 @@
 -- The frame of a statement that makes a resource: a word, a type, a head in brackets, and braces, with `;` behind them. (MPW Rez.)
 use Rattle.std.specs.Prelude.{◌≡◌, ℕ, true, List}
-use Rattle.rz_expr.specs.declared.keyword.Keyword.{Keyword}
+use Rattle.rz_words.specs.declared.keyword.Keyword.{Keyword}
 use Rattle.rz_lex.specs.declared.token.Token.{Token}
 use Rattle.rz_stmt_brackets.specs.Bracket.{IsBracketed}
 use Rattle.rz_stmt_brackets.specs.Pieces.{AreCut, Parted}

@@ -1,8 +1,8 @@
 -- The head of a statement: an id, and then maybe a name and attributes. A head of a new resource has constants, the
 -- moment and `$$Version` alone; one of a resource that is chosen may speak of that too. (MPW Rez.)
 use Rattle.std.specs.Prelude.{◌≡◌, ℕ, Bool, true, false, if◌then◌else◌, List, [], ◌∷◌, map, Option, Some, None, option_map}
-use Rattle.rz_expr.specs.Attribute.{attribute_word}
-use Rattle.rz_expr.specs.declared.attribute.AttributeWord.{AttributeWord}
+use Rattle.rz_words.specs.Attribute.{attribute_word}
+use Rattle.rz_words.specs.declared.attribute.AttributeWord.{AttributeWord}
 use Rattle.rz_expr.specs.Grammar.{IsExpression}
 use Rattle.rz_expr.specs.Term.{term_of, Term}
 use Rattle.rz_lex.specs.declared.token.Shape.{Shape}

@@ -1,6 +1,6 @@
 -- A `data` statement: `data`, a type, a head, and in braces a text, or nothing, with at most one `;` behind it. (MPW Rez.)
 use Rattle.std.specs.Prelude.{◌≡◌, ℕ, List, [], ◌∷◌}
-use Rattle.rz_expr.specs.declared.keyword.Keyword.TheVariants as keywords
+use Rattle.rz_words.specs.declared.keyword.Keyword.TheVariants as keywords
 use Rattle.rz_lex.specs.declared.token.Token.{Token}
 use Rattle.rz_stmt_brackets.specs.Pieces.{AreCut}
 use Rattle.rz_stmt_brackets.specs.declared.pieces.Divider.TheVariants.{Semicolon}

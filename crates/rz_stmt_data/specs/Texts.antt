@@ -7,10 +7,10 @@ use Rattle.rz_stmt_brackets.specs.declared.bracket.Bracket.TheVariants.{Round}
 use Rattle.rz_stmt_brackets.specs.declared.pieces.Divider.TheVariants.{Comma}
 use Rattle.rz_expr.specs.Grammar.{IsExpression}
 use Rattle.rz_expr.specs.Term.{Term}
-use Rattle.rz_expr.specs.Words.{role_of}
-use Rattle.rz_expr.specs.declared.words.Role.{Role}
-use Rattle.rz_expr.specs.declared.words.Role.TheVariants as roles
-use Rattle.rz_expr.specs.declared.words.TextWord.TheVariants as words
+use Rattle.rz_words.specs.Words.{role_of}
+use Rattle.rz_words.specs.declared.words.Role.{Role}
+use Rattle.rz_words.specs.declared.words.Role.TheVariants as roles
+use Rattle.rz_words.specs.declared.words.TextWord.TheVariants as words
 use Rattle.rz_types_fields.specs.Place.{may_stand}
 use Rattle.rz_types_fields.specs.Text.{arguments_of, parts_of, ById, ByName, DateFact, FileBytes, FileResource, NameFact, Number, Plain, PlainArgument, PlainKey, PlainPart, Text, TimeFact, VersionFact}
 use Rattle.rz_types_fields.specs.Text as plain

@@ -2,7 +2,7 @@
 
 ghost use Rattle.std.specs.Prelude.{◌≡◌, IfOk, map, option_map};
 ghost use Rattle.rz_expr.specs.Term.{term_of};
-ghost use Rattle.rz_expr.specs.Attribute.{attribute_word};
+ghost use Rattle.rz_words.specs.Attribute.{attribute_word};
 ghost use Rattle.rz_types_fields.specs.Text.{plain_parts};
 ghost use Rattle.rz_core.specs.Decided.{Decided};
 ghost use Rattle.rz_stmt_data.specs.Head.{attribute_of, head_of, place_of, said, word_attribute, AreAttributesFor, IsAttributeFor, IsHead, IsHeadFor, IsRestOf, IsSaidFor};

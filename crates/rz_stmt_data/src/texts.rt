@@ -2,7 +2,7 @@
 
 ghost use Rattle.std.specs.Prelude.{◌≡◌, IfOk, map, option_map};
 ghost use Rattle.rz_core.specs.Decided.{Decided};
-ghost use Rattle.rz_expr.specs.Words.{role_of};
+ghost use Rattle.rz_words.specs.Words.{role_of};
 ghost use Rattle.rz_types_fields.specs.Text.{plain_argument, plain_arguments, plain_key, plain_part, plain_parts};
 ghost use Rattle.rz_stmt_data.specs.Files.{text_of};
 ghost use Rattle.rz_stmt_data.specs.Steps.{held_front, IsAsked, IsCalledPair, IsFormatted, IsFrontPair};

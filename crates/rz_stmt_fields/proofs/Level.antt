@@ -6,13 +6,13 @@ use Rattle.rz_core.specs.declared.resource.Word.{Word}
 use Rattle.rz_expr.specs.Grammar.{after_of, argument, closes, ends_name, is_bracket, named_by, separates, start_of, word_start, Calls, Derives, EndsIndex, Indexes, Label, Operand, Operates, Prefix}
 use Rattle.rz_expr.specs.Grammar.{binary, bits_at, counted, data_at, grouped, indexed, labelled, numbered, operand, prefixed, tighter}
 use Rattle.rz_expr.specs.Term.{Term}
-use Rattle.rz_expr.specs.Words.{role_of}
+use Rattle.rz_words.specs.Words.{role_of}
 use Rattle.rz_expr.specs.declared.expr.BinaryOp.{BinaryOp}
 use Rattle.rz_expr.specs.declared.expr.UnaryOp.{UnaryOp}
-use Rattle.rz_expr.specs.declared.words.Function.{Function}
-use Rattle.rz_expr.specs.declared.words.Function.TheVariants.{ArrayIndex, BitField, CountOf, Data}
-use Rattle.rz_expr.specs.declared.words.Role.{Role}
-use Rattle.rz_expr.specs.declared.words.Role.TheVariants as roles
+use Rattle.rz_words.specs.declared.words.Function.{Function}
+use Rattle.rz_words.specs.declared.words.Function.TheVariants.{ArrayIndex, BitField, CountOf, Data}
+use Rattle.rz_words.specs.declared.words.Role.{Role}
+use Rattle.rz_words.specs.declared.words.Role.TheVariants as roles
 use Rattle.rz_lex.specs.declared.sign.Sign.TheVariants as signs
 use Rattle.rz_lex.specs.declared.token.Shape.{Shape}
 use Rattle.rz_lex.specs.declared.token.Shape.TheVariants as shapes

@@ -6,8 +6,8 @@ use Rattle.std.proofs.lemmas.Bool.{eq-eqb}
 use Rattle.std.proofs.lemmas.Option.{same_Some}
 use Rattle.rz_expr.specs.Keyword.{keyword_in}
 use Rattle.rz_expr.specs.Term.{Term}
-use Rattle.rz_expr.specs.declared.keyword.Keyword.{Keyword}
-use Rattle.rz_expr.specs.declared.keyword.Keyword.TheVariants as keywords
+use Rattle.rz_words.specs.declared.keyword.Keyword.{Keyword}
+use Rattle.rz_words.specs.declared.keyword.Keyword.TheVariants as keywords
 use Rattle.rz_lex.specs.Lexeme.{AreLexed}
 use Rattle.rz_lex.specs.declared.token.Shape.{Shape}
 use Rattle.rz_lex.specs.declared.token.Token.{Token}

@@ -4,7 +4,7 @@
 //! too, whose texts, arrays and switches `rz_stmt_type` reads.
 //! A field begins with the words of `field_word`; behind them stand values (`value`), or of a number its width, its
 //! symbols and its fixed value (`number_field`, `symbols`).
-//! It rests on `rz_core`, `rz_lex`, `rz_expr`, `rz_types_fields` and `rz_stmt_brackets`.
+//! It rests on `rz_core`, `rz_lex`, `rz_words`, `rz_expr`, `rz_types_fields` and `rz_stmt_brackets`.
 //! A new kind of field changes `form` and `field_word` here, and `field`, where it has no fields of its own, each with
 //! its definitions; the values of its constants in `rz_stmt_type`, and `Field` of `rz_types_fields`.
 #![tactic(auto)]

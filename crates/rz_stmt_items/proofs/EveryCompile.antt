@@ -7,7 +7,7 @@ use Rattle.rz_lex.specs.declared.token.Token.{Token}
 use Rattle.rz_expr.proofs.OneTerm.{OneExpression}
 use Rattle.rz_expr.specs.Grammar.{IsExpression}
 use Rattle.rz_expr.specs.Term.{Term}
-use Rattle.rz_expr.specs.declared.keyword.Keyword.TheVariants.{Resource}
+use Rattle.rz_words.specs.declared.keyword.Keyword.TheVariants.{Resource}
 use Rattle.rz_stmt_brackets.specs.Bracket.{IsBracketed}
 use Rattle.rz_stmt_brackets.specs.Pieces.{Parted}
 use Rattle.rz_stmt_brackets.specs.declared.bracket.Bracket.{Bracket}

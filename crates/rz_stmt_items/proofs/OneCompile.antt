@@ -11,7 +11,7 @@ use Rattle.rz_stmt_data.proofs.OneText.{one_parts}
 use Rattle.rz_stmt_data.specs.Frame.{Frame}
 use Rattle.rz_stmt_data.specs.Texts.{begins_text}
 use Rattle.rz_expr.proofs.OneTerm.{OneExpression}
-use Rattle.rz_expr.specs.declared.keyword.Keyword.TheVariants.{Resource}
+use Rattle.rz_words.specs.declared.keyword.Keyword.TheVariants.{Resource}
 use Rattle.rz_lex.specs.declared.token.Token.{Token}
 use Rattle.rz_types_fields.specs.Text.{PlainPart}
 use Rattle.rz_core.specs.declared.fault.Mark.{Mark}

@@ -6,7 +6,7 @@ use Rattle.rz_stmt_brackets.specs.declared.bracket.Bracket.TheVariants.{Curly}
 use Rattle.rz_stmt_brackets.specs.declared.pieces.Divider.TheVariants.{Separator}
 use Rattle.rz_lex.specs.Within.{AreWithin}
 use Rattle.rz_lex.specs.declared.token.Token.{Token}
-use Rattle.rz_expr.specs.declared.keyword.Keyword.TheVariants.{Resource}
+use Rattle.rz_words.specs.declared.keyword.Keyword.TheVariants.{Resource}
 use Rattle.rz_stmt_data.proofs.Frames.{frame_each}
 use Rattle.rz_stmt_data.specs.Texts.{begins_text}
 use Rattle.rz_stmt_items.specs.Compile.{Compile, IsCompile}

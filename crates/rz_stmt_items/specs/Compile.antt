@@ -1,6 +1,6 @@
 -- A `resource` statement: `resource`, a type, a head, items in braces, and `;`. (MPW Rez.)
 use Rattle.std.specs.Prelude.{ℕ, List}
-use Rattle.rz_expr.specs.declared.keyword.Keyword.TheVariants as keywords
+use Rattle.rz_words.specs.declared.keyword.Keyword.TheVariants as keywords
 use Rattle.rz_lex.specs.declared.token.Token.{Token}
 use Rattle.rz_stmt_data.specs.Frame.{IsFrame}
 use Rattle.rz_stmt_data.specs.Head.{head_of, Head}

@@ -4,7 +4,7 @@ use Rattle.rz_stmt_brackets.specs.Bracket.{begins, IsBracketed}
 use Rattle.rz_stmt_brackets.specs.Pieces.{AreCut, Parted}
 use Rattle.rz_stmt_brackets.specs.declared.bracket.Bracket.TheVariants.{Curly}
 use Rattle.rz_stmt_brackets.specs.declared.pieces.Divider.TheVariants.{Separator}
-use Rattle.rz_expr.specs.Words.{is_name, role_of}
+use Rattle.rz_words.specs.Words.{is_name, role_of}
 use Rattle.rz_lex.specs.declared.token.Shape.{Shape}
 use Rattle.rz_lex.specs.declared.token.Shape.TheVariants as shapes
 use Rattle.rz_lex.specs.declared.token.Token.{Token}

@@ -1,7 +1,7 @@
 -- An `include` statement, taken apart.
 use Rattle.std.proofs.Common.{◌≡◌, true, List, ◌∷◌, ◌++◌, Some, sym, subst, ◌∙◌}
 use Rattle.rz_expr.specs.Keyword.{is_keyword}
-use Rattle.rz_expr.specs.declared.keyword.Keyword.TheVariants as keywords
+use Rattle.rz_words.specs.declared.keyword.Keyword.TheVariants as keywords
 use Rattle.rz_lex.specs.declared.token.Token.{Token}
 use Rattle.rz_stmt_data.proofs.FileNames.{file_found, file_is}
 use Rattle.rz_stmt_data.specs.Files.{behind_texts, file_in, IsFile}

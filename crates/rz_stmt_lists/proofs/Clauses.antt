@@ -1,6 +1,6 @@
 -- Tokens are one clause at most.
 use Rattle.std.proofs.Common.{◌≡◌, List, subst}
-use Rattle.rz_expr.specs.declared.keyword.Keyword.{Keyword}
+use Rattle.rz_words.specs.declared.keyword.Keyword.{Keyword}
 use Rattle.rz_lex.specs.declared.token.Token.{Token}
 use Rattle.rz_stmt_data.proofs.InFront.{one_typed}
 use Rattle.rz_stmt_data.specs.Typed.{IsTyped, Typed}

@@ -17,7 +17,7 @@ use Rattle.rz_stmt_data.specs.Typed.{IsTyped, Typed}
 use Rattle.rz_stmt_data.specs.declared.head.Subject.TheVariants.{New}
 use Rattle.rz_expr.proofs.OneTerm.{OneExpression}
 use Rattle.rz_expr.specs.Keyword.{is_keyword}
-use Rattle.rz_expr.specs.declared.keyword.Keyword.TheVariants as keywords
+use Rattle.rz_words.specs.declared.keyword.Keyword.TheVariants as keywords
 use Rattle.rz_lex.specs.declared.token.Token.{Token}
 use Rattle.rz_stmt_lists.proofs.Apart.{include_is, included}
 use Rattle.rz_stmt_lists.proofs.EveryPick.{clause_with, is_head_in, is_picked, is_renaming, maybe_with, picked_with, EveryBracket, EveryHead, EveryText}

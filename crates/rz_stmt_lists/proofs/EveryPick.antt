@@ -4,7 +4,6 @@ use Rattle.std.proofs.Math.Decide.{map_dec}
 use Rattle.rz_core.proofs.EveryCut.{both, is_true, known_of, known_with}
 use Rattle.rz_core.proofs.Tests.{by_test, true_false}
 use Rattle.rz_core.specs.Decided.{Decided}
-use Rattle.rz_stmt_brackets.proofs.OneBracket.{one_bracketed}
 use Rattle.rz_stmt_brackets.proofs.OneCut.{one_cut, some_pieces}
 use Rattle.rz_stmt_brackets.specs.Bracket.{begins, IsBracketed}
 use Rattle.rz_stmt_brackets.specs.Pieces.{AreCut, Parted}
@@ -21,7 +20,7 @@ use Rattle.rz_stmt_data.specs.declared.head.Subject.{Subject}
 use Rattle.rz_stmt_data.specs.declared.head.Subject.TheVariants.{Chosen, New}
 use Rattle.rz_expr.proofs.OneTerm.{OneExpression}
 use Rattle.rz_expr.specs.Term.{Term}
-use Rattle.rz_expr.specs.declared.keyword.Keyword.{Keyword}
+use Rattle.rz_words.specs.declared.keyword.Keyword.{Keyword}
 use Rattle.rz_types_fields.specs.Text.{PlainPart}
 use Rattle.rz_types_fields.specs.declared.place.TextPlace.{TextPlace}
 use Rattle.rz_types_fields.specs.declared.place.TextPlace.TheVariants as places

@@ -10,7 +10,7 @@ use Rattle.rz_stmt_brackets.specs.declared.bracket.Bracket.TheVariants.{Round}
 use Rattle.rz_stmt_data.specs.declared.head.Subject.TheVariants.{New}
 use Rattle.rz_expr.proofs.OneTerm.{OneExpression}
 use Rattle.rz_expr.specs.Keyword.{is_keyword}
-use Rattle.rz_expr.specs.declared.keyword.Keyword.TheVariants as keywords
+use Rattle.rz_words.specs.declared.keyword.Keyword.TheVariants as keywords
 use Rattle.rz_lex.specs.declared.token.Token.{Token}
 use Rattle.rz_stmt_lists.proofs.Apart.{include_after}
 use Rattle.rz_stmt_lists.proofs.Clauses.{one_clause}

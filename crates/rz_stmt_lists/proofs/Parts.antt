@@ -5,8 +5,8 @@ use Rattle.rz_core.proofs.Tests.{none_some, same_some, true_false}
 use Rattle.rz_stmt_brackets.specs.Kind.{kind_in}
 use Rattle.rz_stmt_brackets.specs.Statements.{is_empty, is_semicolon}
 use Rattle.rz_expr.specs.Keyword.{is_keyword}
-use Rattle.rz_expr.specs.declared.keyword.Keyword.{Keyword}
-use Rattle.rz_expr.specs.declared.keyword.Keyword.TheVariants as keywords
+use Rattle.rz_words.specs.declared.keyword.Keyword.{Keyword}
+use Rattle.rz_words.specs.declared.keyword.Keyword.TheVariants as keywords
 use Rattle.rz_lex.specs.declared.token.Shape.{Shape}
 use Rattle.rz_lex.specs.declared.token.Shape.TheVariants as shapes
 use Rattle.rz_lex.specs.declared.token.Token.{Token}

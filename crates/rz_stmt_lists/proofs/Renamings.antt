@@ -7,7 +7,7 @@ use Rattle.rz_stmt_data.specs.Head.{Head, IsHeadFor}
 use Rattle.rz_stmt_data.specs.declared.head.Subject.{Subject}
 use Rattle.rz_stmt_data.specs.declared.head.Subject.TheVariants.{Chosen}
 use Rattle.rz_expr.proofs.OneTerm.{OneExpression}
-use Rattle.rz_expr.specs.declared.keyword.Keyword.{Keyword}
+use Rattle.rz_words.specs.declared.keyword.Keyword.{Keyword}
 use Rattle.rz_lex.specs.declared.token.Token.{Token}
 use Rattle.rz_stmt_lists.proofs.Clauses.{one_clause}
 use Rattle.rz_stmt_lists.specs.Clause.{Clause}

@@ -1,7 +1,7 @@
 -- A `change` statement: `change`, a type, maybe a pick in brackets, and behind `to` what the picked resources become. (MPW
 -- Rez.)
 use Rattle.std.specs.Prelude.{ℕ, List, Option, option_map}
-use Rattle.rz_expr.specs.declared.keyword.Keyword.TheVariants as keywords
+use Rattle.rz_words.specs.declared.keyword.Keyword.TheVariants as keywords
 use Rattle.rz_lex.specs.declared.token.Token.{Token}
 use Rattle.rz_stmt_data.specs.Head.{head_of, Head}
 use Rattle.rz_stmt_lists.specs.Clause.{IsClause}

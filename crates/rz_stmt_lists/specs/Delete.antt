@@ -1,6 +1,6 @@
 -- A `delete` statement: `delete`, a type, maybe a pick in brackets, and `;`. (MPW Rez.)
 use Rattle.std.specs.Prelude.{◌≡◌, ℕ, true, List, Option}
-use Rattle.rz_expr.specs.declared.keyword.Keyword.TheVariants as keywords
+use Rattle.rz_words.specs.declared.keyword.Keyword.TheVariants as keywords
 use Rattle.rz_lex.specs.declared.token.Token.{Token}
 use Rattle.rz_stmt_brackets.specs.Statements.{is_empty}
 use Rattle.rz_stmt_lists.specs.Clause.{IsClause}

@@ -2,7 +2,7 @@
 -- that are picked, maybe as another type and with another head. (MPW Rez.)
 use Rattle.std.specs.Prelude.{◌≡◌, ℕ, true, List, ◌∷◌, ◌++◌, Option, Some, option_map}
 use Rattle.rz_expr.specs.Keyword.{is_keyword}
-use Rattle.rz_expr.specs.declared.keyword.Keyword.TheVariants as keywords
+use Rattle.rz_words.specs.declared.keyword.Keyword.TheVariants as keywords
 use Rattle.rz_lex.specs.declared.token.Token.{Token}
 use Rattle.rz_stmt_brackets.specs.Kind.{kind_in}
 use Rattle.rz_stmt_brackets.specs.Statements.{is_empty}

@@ -1,6 +1,6 @@
 -- A `read` statement: `read`, a type, a head, a file, and `;`. (MPW Rez.)
 use Rattle.std.specs.Prelude.{◌≡◌, ℕ, true, List, ◌++◌}
-use Rattle.rz_expr.specs.declared.keyword.Keyword.TheVariants as keywords
+use Rattle.rz_words.specs.declared.keyword.Keyword.TheVariants as keywords
 use Rattle.rz_lex.specs.declared.token.Token.{Token}
 use Rattle.rz_stmt_brackets.specs.Bracket.{IsBracketed}
 use Rattle.rz_stmt_brackets.specs.Pieces.{Parted}

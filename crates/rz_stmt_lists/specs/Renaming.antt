@@ -1,6 +1,6 @@
 -- What chosen resources become: a word, a type, and maybe a head in brackets. (MPW Rez.)
 use Rattle.std.specs.Prelude.{◌≡◌, ℕ, true, List, Option, Some, None, option_map}
-use Rattle.rz_expr.specs.declared.keyword.Keyword.{Keyword}
+use Rattle.rz_words.specs.declared.keyword.Keyword.{Keyword}
 use Rattle.rz_lex.specs.declared.token.Token.{Token}
 use Rattle.rz_stmt_brackets.specs.Pieces.{AreCut}
 use Rattle.rz_stmt_brackets.specs.Statements.{is_empty}

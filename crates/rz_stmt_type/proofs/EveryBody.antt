@@ -22,8 +22,8 @@ use Rattle.rz_stmt_type.specs.Label.{label_front, LabelFront}
 use Rattle.rz_stmt_type.specs.Start.{start_of, started, wide_start, Array, FieldStart, Flat, Key, Switch}
 use Rattle.rz_expr.proofs.OneTerm.{OneExpression}
 use Rattle.rz_expr.specs.Keyword.{is_keyword, keyword_in}
-use Rattle.rz_expr.specs.declared.keyword.Keyword.{Keyword}
-use Rattle.rz_expr.specs.declared.keyword.Keyword.TheVariants as keywords
+use Rattle.rz_words.specs.declared.keyword.Keyword.{Keyword}
+use Rattle.rz_words.specs.declared.keyword.Keyword.TheVariants as keywords
 use Rattle.rz_types_fields.specs.declared.place.TextPlace.{TextPlace}
 use Rattle.rz_stmt_fields.proofs.EveryTerm.{EveryExpression, EveryWithin}
 use Rattle.rz_stmt_fields.specs.FieldForm.{IsFieldFront}

@@ -19,7 +19,7 @@ use Rattle.rz_stmt_type.specs.DeclareSteps.{AreScoped, IsCopy, IsCopyId, IsCopyI
 use Rattle.rz_expr.proofs.OneTerm.{OneExpression}
 use Rattle.rz_expr.specs.Constant.{IsConstant}
 use Rattle.rz_expr.specs.Term.{Term}
-use Rattle.rz_expr.specs.declared.keyword.Keyword.TheVariants as keywords
+use Rattle.rz_words.specs.declared.keyword.Keyword.TheVariants as keywords
 use Rattle.rz_types_fields.specs.declared.place.TextPlace.{TextPlace}
 use Rattle.rz_stmt_fields.proofs.EveryTerm.{EveryExpression, EveryWithin}
 use Rattle.rz_stmt_fields.proofs.EveryValue.{has_constant, HasTerm}

@@ -4,10 +4,11 @@ use Rattle.std.proofs.lemmas.Bool.{eqb-true, false≢true}
 use Rattle.std.specs.Prelude.{option_and_then, option_map}
 use Rattle.rz_core.proofs.Tests.{none_some}
 use Rattle.rz_core.specs.declared.resource.Word.{Word}
-use Rattle.rz_expr.specs.Keyword.{keyword_in, keyword_of}
-use Rattle.rz_expr.specs.Words.{dollar_role, is_label, is_other_name, keyword_role, plain_role, role_of}
-use Rattle.rz_expr.specs.declared.keyword.Keyword.{Keyword}
-use Rattle.rz_expr.specs.declared.words.Role.TheVariants.{OtherName}
+use Rattle.rz_words.specs.Keyword.{keyword_of}
+use Rattle.rz_expr.specs.Keyword.{keyword_in}
+use Rattle.rz_words.specs.Words.{dollar_role, is_label, is_other_name, keyword_role, plain_role, role_of}
+use Rattle.rz_words.specs.declared.keyword.Keyword.{Keyword}
+use Rattle.rz_words.specs.declared.words.Role.TheVariants.{OtherName}
 use Rattle.rz_lex.specs.Lexeme.{is_lexed, AreLexed}
 use Rattle.rz_lex.specs.declared.token.Shape.{Shape}
 use Rattle.rz_lex.specs.declared.token.Shape.TheVariants as shapes

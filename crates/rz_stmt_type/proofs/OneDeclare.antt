@@ -7,7 +7,7 @@ use Rattle.rz_stmt_brackets.specs.Statements.{is_empty}
 use Rattle.rz_stmt_brackets.specs.declared.bracket.Bracket.TheVariants.{Curly, Round}
 use Rattle.rz_stmt_brackets.specs.declared.pieces.Divider.TheVariants.{Colon}
 use Rattle.rz_expr.specs.Term.{Term}
-use Rattle.rz_expr.specs.declared.keyword.Keyword.TheVariants.{As, Kind}
+use Rattle.rz_words.specs.declared.keyword.Keyword.TheVariants.{As, Kind}
 use Rattle.rz_lex.specs.declared.token.Token.{Token}
 use Rattle.rz_stmt_data.proofs.InFront.{one_typed}
 use Rattle.rz_stmt_data.specs.Typed.{Typed}

@@ -2,8 +2,8 @@
 use Rattle.std.proofs.Common.{◌≡◌, Bool, true, false, List, [], ◌∷◌, Option, Some, None, refl, sym, subst, ◌∙◌}
 use Rattle.std.specs.Prelude.{option_and_then, option_map}
 use Rattle.rz_expr.specs.Keyword.{keyword_in}
-use Rattle.rz_expr.specs.declared.keyword.Keyword.{Keyword}
-use Rattle.rz_expr.specs.declared.keyword.Keyword.TheVariants as keywords
+use Rattle.rz_words.specs.declared.keyword.Keyword.{Keyword}
+use Rattle.rz_words.specs.declared.keyword.Keyword.TheVariants as keywords
 use Rattle.rz_lex.specs.declared.token.Token.{Token}
 use Rattle.rz_stmt_type.specs.Body.{array, flat, key, switch, IsArray, IsField, IsSwitch}
 use Rattle.rz_stmt_type.specs.Flat.{IsFlat}

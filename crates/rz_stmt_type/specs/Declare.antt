@@ -2,7 +2,7 @@
 -- type. (MPW Rez.)
 use Rattle.std.specs.Prelude.{◌≡◌, ℕ, true, false, List, [], ◌∷◌, Some, None}
 use Rattle.rz_expr.specs.Term.{Term}
-use Rattle.rz_expr.specs.declared.keyword.Keyword.TheVariants as keywords
+use Rattle.rz_words.specs.declared.keyword.Keyword.TheVariants as keywords
 use Rattle.rz_lex.specs.declared.token.Token.{Token}
 use Rattle.rz_stmt_brackets.specs.Bracket.{IsBracketed}
 use Rattle.rz_stmt_brackets.specs.Pieces.{AreCut, Parted}

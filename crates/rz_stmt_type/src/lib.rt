@@ -4,7 +4,8 @@
 //! own, whose first words stand in `start` and what stands before their braces or their fields in `head`; the labels in
 //! front of fields stand in `label`. `flat` reads texts, and asks `rz_stmt_fields` for the other fields; the keys of cases
 //! and the form of the statement stand there too.
-//! It rests on `rz_core`, `rz_lex`, `rz_expr`, `rz_types_fields`, `rz_stmt_brackets`, `rz_stmt_data` and `rz_stmt_fields`.
+//! It rests on `rz_core`, `rz_lex`, `rz_words`, `rz_expr`, `rz_types_fields`, `rz_stmt_brackets`, `rz_stmt_data` and
+//! `rz_stmt_fields`.
 //! A new kind of field changes `form` of `rz_stmt_fields`, `field` there (or `start` and `body` here, where it has fields of
 //! its own) and `constants` here, each with its definitions, and `Field` of `rz_types_fields`.
 #![tactic(auto)]

@@ -1,8 +1,8 @@
 -- What expressions see in tests.
 use Rattle.std.specs.Prelude.{ℕ, ◌+◌, ◌-◌, ◌/◌, ◌%◌, ◌^◌, nat_lt, ℤ, pos, negsuc, ◌*ℤ◌, ◌-ℤ◌, unsigned_abs, int_lt, ◌||◌, if◌then◌else◌, List, Option, Some, None, codes}
 use Rattle.std.specs.Str.{bytes_eq}
-use Rattle.rz_expr.specs.declared.words.FactWord.{FactWord}
-use Rattle.rz_expr.specs.declared.words.FactWord.TheVariants.{Id, Kind, Attributes, Year, Month, Day, Hour, Minute, Second, Weekday}
+use Rattle.rz_words.specs.declared.words.FactWord.{FactWord}
+use Rattle.rz_words.specs.declared.words.FactWord.TheVariants.{Id, Kind, Attributes, Year, Month, Day, Hour, Minute, Second, Weekday}
 use Rattle.rz_expr.specs.Environment as keys
 use Rattle.rz_expr.specs.Environment.{Key, count_of, place_of, row_in, Sight}
 

@@ -1,6 +1,6 @@
 //! Tests of expressions: what words may be, the grammar and the values, worked out by hand. It rests on
-//! `rz_core`, `rz_lex`, `rz_expr` and `rz_test_tables`, and has no code that ships. It changes with what `rz_expr`
-//! promises.
+//! `rz_core`, `rz_lex`, `rz_words`, `rz_expr` and `rz_test_tables`, and has no code that ships. It changes with what
+//! `rz_words` and `rz_expr` promise.
 #![tactic(auto)]
 
 #[cfg(test)]

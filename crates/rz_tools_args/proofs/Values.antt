@@ -5,8 +5,8 @@ use Rattle.std.specs.Str.{IsAscii}
 use Rattle.std.proofs.lemmas.Str.{encodes-IsAscii}
 use Rattle.rz_core.specs.declared.resource.OsType.{OsType}
 use Rattle.rz_bridge_form.specs.declared.form.Form.TheVariants as forms
-use Rattle.rz_expr.specs.Attribute.{attribute_word}
-use Rattle.rz_expr.specs.Keyword.{keyword_of}
+use Rattle.rz_words.specs.Attribute.{attribute_word}
+use Rattle.rz_words.specs.Keyword.{keyword_of}
 use Rattle.rz_lex.specs.Cutting.{Next}
 use Rattle.rz_lex.specs.declared.token.Shape.TheVariants as shapes
 use Rattle.rz_pre_source.specs.Source.IsTextOf.{marked}

@@ -3,7 +3,7 @@ use Rattle.std.specs.Prelude.{◌≡◌, ◌≢◌, ℕ, ◌<◌, true, List, []
 use Rattle.std.specs.List.{AllByRecursion}
 use Rattle.rz_core.specs.declared.fault.Mark.{Mark}
 use Rattle.rz_core.specs.declared.resource.Word.{Word}
-use Rattle.rz_expr.specs.Words.{is_label, role_of}
+use Rattle.rz_words.specs.Words.{is_label, role_of}
 use Rattle.rz_lex.specs.Cutting.{Cuts}
 use Rattle.rz_lex.specs.declared.token.Shape.TheVariants as shapes
 use Rattle.rz_lex.specs.declared.token.Token.{Token}

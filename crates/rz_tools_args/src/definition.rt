@@ -1,7 +1,7 @@
 //! What `-d` and `-u` define. What may be defined is in `specs/Definition`.
 
 ghost use Rattle.std.specs.Prelude.{◌≡◌, ◌&&◌, IfOk};
-ghost use Rattle.rz_expr.specs.Words.{is_label, role_of};
+ghost use Rattle.rz_words.specs.Words.{is_label, role_of};
 ghost use Rattle.rz_tools_args.specs.Definition.{Alone, Defines, IsName, IsText, Undefines, WithText};
 ghost use Rattle.rz_core.specs.Decided.{Decided};
 ghost use Rattle.rz_tools_args.specs.Line.{is_one_word};

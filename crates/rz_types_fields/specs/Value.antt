@@ -14,8 +14,8 @@ use Rattle.rz_expr.specs.Term.{BitsAt, Constant, FactOf, Indexed, Named, OfOne, 
 use Rattle.rz_expr.specs.Value.{value_of}
 use Rattle.rz_expr.specs.declared.value.EvalFault.{EvalFault}
 use Rattle.rz_expr.specs.declared.value.EvalFault.TheVariants.{BadIndex, BadShift, DataWidth, LaterData, UnknownName, ZeroDivisor}
-use Rattle.rz_expr.specs.declared.words.FactWord.{FactWord}
-use Rattle.rz_expr.specs.declared.words.FactWord.TheVariants as facts
+use Rattle.rz_words.specs.declared.words.FactWord.{FactWord}
+use Rattle.rz_words.specs.declared.words.FactWord.TheVariants as facts
 use Rattle.rz_types_fields.specs.declared.field.Symbol.{Symbol}
 
 -- Facts.

@@ -7,7 +7,7 @@
 //! bytes they are laid as, piece after piece and then the late numbers, or where they are refused first. The rules that the
 //! fields of a type keep stand in `rz_types`, where a type is found in `rz_types_table`; `rz_stmt_items` makes a row of
 //! items, `rz_layout` bytes of a row, and `rz_unlay` a row of bytes.
-//! It rests on `rz_core`, `rz_bits`, `rz_types_format`, `rz_lex` and `rz_expr`.
+//! It rests on `rz_core`, `rz_bits`, `rz_types_format`, `rz_lex`, `rz_words` and `rz_expr`.
 //! A new kind of field changes `Field` and its mirror `PlainField`, the shape, the pieces and the width here, its value in
 //! `specs/Row` and `Tree`, its stored form in `specs/Spells` and how it is laid in `specs/Laid`, the rules and whether it is
 //! read in `rz_types`, the walk in `rz_types_check`, `copies` of `rz_types_table`, its form in `rz_stmt_fields` and, for

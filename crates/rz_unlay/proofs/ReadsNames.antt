@@ -7,13 +7,13 @@ use Rattle.std.proofs.lemmas.Bool.{eqb-true}
 use Rattle.rz_core.specs.Lists.{or_else}
 use Rattle.rz_core.specs.declared.facts.Facts.{Facts}
 use Rattle.rz_core.specs.declared.resource.Word.{Word}
-use Rattle.rz_expr.specs.Attribute.{attribute_word}
+use Rattle.rz_words.specs.Attribute.{attribute_word}
 use Rattle.rz_expr.specs.Environment.{count_key, place_in, place_key, place_of, predefined, row_in, rows_of, Environment, IsPartOf, Key}
-use Rattle.rz_expr.specs.Keyword.{keyword_of}
-use Rattle.rz_expr.specs.Words.{is_label}
-use Rattle.rz_expr.specs.Words as words
-use Rattle.rz_expr.specs.declared.words.Role.{Role}
-use Rattle.rz_expr.specs.declared.words.Role.TheVariants.{OtherName}
+use Rattle.rz_words.specs.Keyword.{keyword_of}
+use Rattle.rz_words.specs.Words.{is_label}
+use Rattle.rz_words.specs.Words as words
+use Rattle.rz_words.specs.declared.words.Role.{Role}
+use Rattle.rz_words.specs.declared.words.Role.TheVariants.{OtherName}
 use Rattle.rz_expr.proofs.Cases.{same_value}
 use Rattle.rz_types_fields.specs.declared.tree.Tree.{Tree}
 use Rattle.rz_types_fields.specs.Field.{field_and, no_fields, Align, Array, Fill, Label, Number, PlainBody, PlainField, Points, Switch, Text}

@@ -1,7 +1,8 @@
 //! Bytes as rows: `read` gives exactly the row that bytes spell plainly under the fields of a type, or that there is
 //! none.
-//! It rests on `rz_core`, `rz_expr`, `rz_bits`, `rz_types_fields`, which has the definitions of spelling and the notes of
-//! names, `rz_types`, and on `rz_unlay_pieces` and `rz_unlay_texts`, which read what stands at a place.
+//! It rests on `rz_core`, `rz_words`, `rz_expr`, `rz_bits`, `rz_types_fields`, which has the definitions of spelling
+//! and the notes of names, `rz_types`, and on `rz_unlay_pieces` and `rz_unlay_texts`, which read what stands at a
+//! place.
 //! Fields are read from left to right; what is learnt of names is cut at the end of each row, and the places of its labels
 //! are noted behind its array; the marks of late bits are kept, and values are counted down, so that no more are read
 //! than a row has.
@@ -28,4 +29,4 @@ pub use resource::{Reading, read};
 pub use spelled::{
     plain_rows_are_spelled, read_rows_are_plain, spelled_bytes_are_few, spelled_rows_are_rows,
 };
-pub use tree::{facts_of, one_tree, tree_under, trees_are_decided};
+pub use tree::{one_tree, tree_under, trees_are_decided};

@@ -7,11 +7,11 @@ ghost use Rattle.rz_core.specs.declared.facts.Facts.{Facts};
 ghost use Rattle.rz_types.specs.Field.{PlainBody};
 ghost use Rattle.rz_types.specs.Template.{template_of};
 ghost use Rattle.rz_types_fields.specs.declared.tree.Tree.{Tree};
-ghost use Rattle.rz_unlay.specs.Reading.{facts_of, IsTree};
+ghost use Rattle.rz_unlay.specs.Reading.{IsTree};
 
 use crate::found::{one_plain_row, told_rows_are_decided};
 use crate::resource::{Reading, read};
-use rz_core::{Bytes, Facts, Moment, NoMemory, Resource};
+use rz_core::{Facts, NoMemory};
 use rz_types::Template;
 use rz_types_fields::Row;
 use std::alloc::Global;
@@ -49,19 +49,6 @@ fn row_under(
         Reading::Tree(row) => Ok(Some(row)),
         Reading::NoTree => Ok(None),
     }
-}
-
-/// What is known of a resource beside its bytes.
-pub fn facts_of(alloc: Global, resource: &Resource, moment: Moment) -> Result<Facts, NoMemory>
-    ensures { IfOk result (λ facts. facts ≡ facts_of moment resource.now) }
-{
-    Ok(Facts {
-        kind: resource.kind,
-        id: resource.id,
-        name: Bytes::of(alloc, resource.name.as_slice())?,
-        attr: resource.attr,
-        moment,
-    })
 }
 
 /// A law, with nothing to run: where fields may be declared, it is decided of all bytes which row they tell as a tree: there

@@ -7,9 +7,9 @@ use Rattle.rz_core.specs.declared.resource.Word.{Word}
 use Rattle.rz_expr.specs.Grammar.{argument, start_of}
 use Rattle.rz_expr.specs.Reading.{index_at, prefix_count, prefixed_term, Begins, IsFront}
 use Rattle.rz_expr.specs.Term.{term_of, Constant, FactOf, Named}
-use Rattle.rz_expr.specs.Words.{role_of}
-use Rattle.rz_expr.specs.declared.words.Role.TheVariants.{Fact, OtherName}
-use Rattle.rz_expr.specs.declared.words.Function.TheVariants.{BitField}
+use Rattle.rz_words.specs.Words.{role_of}
+use Rattle.rz_words.specs.declared.words.Role.TheVariants.{Fact, OtherName}
+use Rattle.rz_words.specs.declared.words.Function.TheVariants.{BitField}
 use Rattle.rz_expr.proofs.Steps.{alone_front, begins_first, begins_role, field_is, field_not_started, field_not_wide, field_size, first_operand, group_read, named_tokens, index_read, label_alone, label_front, label_open, no_operator, no_prefixes, none_of_no_start, one_operand_more, plain_sign, prefix_rest, prefixes_read, until_none, until_open, until_read}
 use Rattle.rz_expr.proofs.read.+read.Goals as goal
 

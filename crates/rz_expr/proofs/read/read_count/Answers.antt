@@ -4,7 +4,7 @@ use Rattle.rz_core.specs.declared.resource.Word.{Word}
 use Rattle.rz_expr.specs.Grammar.{argument}
 use Rattle.rz_expr.specs.Reading.{IsFront}
 use Rattle.rz_expr.specs.Term.{RowsOf}
-use Rattle.rz_expr.specs.declared.words.Function.TheVariants.{CountOf}
+use Rattle.rz_words.specs.declared.words.Function.TheVariants.{CountOf}
 use Rattle.rz_expr.proofs.Steps.{named_tokens, counted_front}
 use Rattle.rz_expr.proofs.read.read_count.Goals as goal
 

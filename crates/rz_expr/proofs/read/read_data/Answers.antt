@@ -2,7 +2,7 @@ use Rattle.std.proofs.Common.{sym, ap, subst, ◌∙◌}
 use Rattle.std.specs.Option.{option_copied}
 use Rattle.rz_expr.specs.Grammar.{argument}
 use Rattle.rz_expr.specs.Reading.{IsFront}
-use Rattle.rz_expr.specs.declared.words.Function.TheVariants.{Data}
+use Rattle.rz_words.specs.declared.words.Function.TheVariants.{Data}
 use Rattle.rz_expr.proofs.Steps.{named_tokens, data_front}
 use Rattle.rz_expr.proofs.read.read_data.Goals as goal
 

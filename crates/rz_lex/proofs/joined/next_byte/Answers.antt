@@ -1,4 +1,4 @@
-use Rattle.std.proofs.Common.{rules, refl, ap, arith, ◌≡◌}
+use Rattle.std.proofs.Common.{rules, refl, ap, arith}
 use Rattle.std.proofs.lemmas.Grind.{common_steps}
 use Rattle.rz_lex.specs.declared.joined.Position.{Position}
 use Rattle.rz_lex.proofs.Leaving.{left_part}

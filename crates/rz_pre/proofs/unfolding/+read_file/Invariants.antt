@@ -1,4 +1,4 @@
-use Rattle.std.proofs.Common.{◌≡◌, ◌+◌, ◌^◌, ◌≤◌, length, reverse, Some}
+use Rattle.std.proofs.Common.{◌≡◌, ◌≤◌, length, reverse, Some}
 use Rattle.rz_folder.specs.Folder.{Files}
 use Rattle.rz_folder.specs.OnlyReads.{OnlyReads}
 use Rattle.rz_pre.specs.Lexed.{IsLexedReading}

@@ -1,5 +1,5 @@
 use Rattle.std.proofs.Common.{List, subst}
-use Rattle.rz_expr.specs.declared.keyword.Keyword.TheVariants.{Resource}
+use Rattle.rz_words.specs.declared.keyword.Keyword.TheVariants.{Resource}
 use Rattle.rz_lex.specs.declared.token.Token.{Token}
 use Rattle.rz_stmt_data.proofs.Frames.{same_inside}
 use Rattle.rz_stmt_items.specs.Items.{AreItems}

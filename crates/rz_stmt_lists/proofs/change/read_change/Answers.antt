@@ -1,5 +1,5 @@
 use Rattle.std.proofs.Common.{subst}
-use Rattle.rz_expr.specs.declared.keyword.Keyword.TheVariants.{Change, To}
+use Rattle.rz_words.specs.declared.keyword.Keyword.TheVariants.{Change, To}
 use Rattle.rz_stmt_lists.proofs.Clauses.{one_clause}
 use Rattle.rz_stmt_lists.proofs.Picks.{one_pick}
 use Rattle.rz_stmt_lists.specs.Clause.{clause_of, Clause}

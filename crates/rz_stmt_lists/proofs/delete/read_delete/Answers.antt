@@ -1,6 +1,6 @@
 use Rattle.std.proofs.Common.{sym, ap, subst, ◌∙◌}
 use Rattle.rz_core.proofs.Tests.{true_false}
-use Rattle.rz_expr.specs.declared.keyword.Keyword.TheVariants.{Delete}
+use Rattle.rz_words.specs.declared.keyword.Keyword.TheVariants.{Delete}
 use Rattle.rz_stmt_brackets.specs.Statements.{is_empty}
 use Rattle.rz_stmt_lists.proofs.Clauses.{one_clause}
 use Rattle.rz_stmt_lists.specs.Clause.{Clause}

@@ -1,5 +1,5 @@
 use Rattle.std.proofs.Common.{subst}
-use Rattle.rz_expr.specs.declared.keyword.Keyword.TheVariants.{Kind}
+use Rattle.rz_words.specs.declared.keyword.Keyword.TheVariants.{Kind}
 use Rattle.rz_stmt_data.proofs.InFront.{one_typed}
 use Rattle.rz_stmt_data.specs.Typed.{Typed}
 use Rattle.rz_stmt_type.specs.Declare.{IsScoped}

@@ -1,5 +1,5 @@
 use Rattle.std.proofs.Common.{◌≡◌, ℕ, ◌&&◌, List, sym, ap, subst, ◌∙◌}
-use Rattle.rz_expr.specs.Words.{is_label, role_of}
+use Rattle.rz_words.specs.Words.{is_label, role_of}
 use Rattle.rz_lex.specs.Cutting.{Cuts}
 use Rattle.rz_tools_args.specs.Definition.{nowhere}
 use Rattle.rz_tools_args.specs.Line.{is_one_word}

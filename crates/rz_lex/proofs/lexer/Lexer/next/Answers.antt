@@ -1,4 +1,4 @@
-use Rattle.std.proofs.Common.{rules, [], Some, None, Ok, Err}
+use Rattle.std.proofs.Common.{rules, [], Some, None, Ok}
 use Rattle.rz_lex.specs.Joined.{ahead}
 use Rattle.rz_lex.specs.Lines.{StandsBefore}
 use Rattle.rz_lex.proofs.Only.{only_end, only_comment}

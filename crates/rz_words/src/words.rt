@@ -1,7 +1,7 @@
 //! The roles of words: names, facts, functions and reserved words; a new role changes `specs/Words` too.
 
 ghost use Rattle.std.specs.Prelude.{◌≡◌};
-ghost use Rattle.rz_expr.specs.Words.{fact_role, function_role, is_label, is_name, is_other_name, keyword_role, plain_role, role_of, text_role};
+ghost use Rattle.rz_words.specs.Words.{fact_role, function_role, is_label, is_name, is_other_name, keyword_role, plain_role, role_of, text_role};
 
 use crate::attribute::attribute_word;
 use crate::keyword::{Keyword, is, keyword_named};

@@ -1,5 +1,5 @@
-use Rattle.rz_expr.proofs.Spelled.{keyword_is, keyword_reserved, one_keyword}
-use Rattle.rz_expr.proofs.laws.keywords_are_spelled.Goals as goal
+use Rattle.rz_words.proofs.Spelled.{keyword_is, keyword_reserved, one_keyword}
+use Rattle.rz_words.proofs.laws.keywords_are_spelled.Goals as goal
 
 pub returns-clause-keyword : goal.returns-clause-keyword
 returns-clause-keyword c = keyword_is

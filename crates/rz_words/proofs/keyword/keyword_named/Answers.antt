@@ -1,6 +1,6 @@
 use Rattle.std.proofs.Common.{length, ◌∙◌, refl, arith}
-use Rattle.rz_expr.proofs.ByLength.{by_length, no_keyword}
-use Rattle.rz_expr.proofs.keyword.keyword_named.Goals as goal
+use Rattle.rz_words.proofs.ByLength.{by_length, no_keyword}
+use Rattle.rz_words.proofs.keyword.keyword_named.Goals as goal
 
 pub returns-in-2 : goal.returns-in-2
 returns-in-2 c = c.spelled_among.ensures ∙ by_length 2 c.args.name.now c.in-2.is

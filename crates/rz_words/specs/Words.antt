@@ -2,14 +2,14 @@
 use Rattle.std.specs.Prelude.{ℕ, Bool, true, false, ◌||◌, ◌==◌, if◌then◌else◌, List, [], ◌∷◌, Option, Some, None, codes}
 use Rattle.std.specs.Option.{is_some}
 use Rattle.std.specs.Str.{str_eq_ignore_ascii_case}
-use Rattle.rz_expr.specs.Attribute.{attribute_word}
-use Rattle.rz_expr.specs.Keyword.{keyword_of}
-use Rattle.rz_expr.specs.declared.keyword.Keyword.{Keyword}
-use Rattle.rz_expr.specs.declared.words.FactWord.TheVariants as facts
-use Rattle.rz_expr.specs.declared.words.Function.TheVariants.{CountOf, ArrayIndex, BitField, Data}
-use Rattle.rz_expr.specs.declared.words.Role.{Role}
-use Rattle.rz_expr.specs.declared.words.Role.TheVariants.{Label, OtherName, Fact, Call, Text, Reserved, OtherFunction}
-use Rattle.rz_expr.specs.declared.words.TextWord.TheVariants as texts
+use Rattle.rz_words.specs.Attribute.{attribute_word}
+use Rattle.rz_words.specs.Keyword.{keyword_of}
+use Rattle.rz_words.specs.declared.keyword.Keyword.{Keyword}
+use Rattle.rz_words.specs.declared.words.FactWord.TheVariants as facts
+use Rattle.rz_words.specs.declared.words.Function.TheVariants.{CountOf, ArrayIndex, BitField, Data}
+use Rattle.rz_words.specs.declared.words.Role.{Role}
+use Rattle.rz_words.specs.declared.words.Role.TheVariants.{Label, OtherName, Fact, Call, Text, Reserved, OtherFunction}
+use Rattle.rz_words.specs.declared.words.TextWord.TheVariants as texts
 
 -- the same name, in whatever case
 abbrev pub is : List ℕ → List ℕ → Bool

@@ -4,15 +4,15 @@ use Rattle.std.specs.Prelude.{◌↔◌}
 use Rattle.std.proofs.lemmas.Option.{same_Some}
 use Rattle.std.proofs.lemmas.Slice.Eq.{bytes_eq-Decides}
 use Rattle.std.specs.Str.{bytes_eq, str_eq_ignore_ascii_case, str_to_ascii_lowercase}
-use Rattle.rz_expr.specs.Attribute.{attribute_among, attribute_word, bit_of, clearing_word, every_attribute, said_by, setting_word, IsSaid}
-use Rattle.rz_expr.specs.Keyword.{every_keyword, keyword_of, spelled_among, spelling}
-use Rattle.rz_expr.specs.Words.{role_of}
-use Rattle.rz_expr.specs.declared.attribute.Attribute.{Attribute}
-use Rattle.rz_expr.specs.declared.attribute.Attribute.TheVariants as attributes
-use Rattle.rz_expr.specs.declared.attribute.AttributeWord.{AttributeWord}
-use Rattle.rz_expr.specs.declared.keyword.Keyword.{Keyword}
-use Rattle.rz_expr.specs.declared.keyword.Keyword.TheVariants as keywords
-use Rattle.rz_expr.specs.declared.words.Role.TheVariants.{OtherName, Reserved}
+use Rattle.rz_words.specs.Attribute.{attribute_among, attribute_word, bit_of, clearing_word, every_attribute, said_by, setting_word, IsSaid}
+use Rattle.rz_words.specs.Keyword.{every_keyword, keyword_of, spelled_among, spelling}
+use Rattle.rz_words.specs.Words.{role_of}
+use Rattle.rz_words.specs.declared.attribute.Attribute.{Attribute}
+use Rattle.rz_words.specs.declared.attribute.Attribute.TheVariants as attributes
+use Rattle.rz_words.specs.declared.attribute.AttributeWord.{AttributeWord}
+use Rattle.rz_words.specs.declared.keyword.Keyword.{Keyword}
+use Rattle.rz_words.specs.declared.keyword.Keyword.TheVariants as keywords
+use Rattle.rz_words.specs.declared.words.Role.TheVariants.{OtherName, Reserved}
 
 pub same_lower : (name other : List ℕ) → str_eq_ignore_ascii_case name other ≡ true → str_to_ascii_lowercase name ≡ str_to_ascii_lowercase other
 same_lower name other is = (bytes_eq-Decides (str_to_ascii_lowercase name) (str_to_ascii_lowercase other)).0 is

@@ -6,9 +6,9 @@ use Rattle.std.specs.List.{list_all}
 use Rattle.std.specs.Str.{str_eq_ignore_ascii_case, str_to_ascii_lowercase}
 use Rattle.std.proofs.lemmas.Bool.{leb-true}
 use Rattle.rz_core.proofs.Tests.{both}
-use Rattle.rz_expr.specs.Keyword.{every_keyword, keyword_of, spelled_among, spelling}
-use Rattle.rz_expr.specs.declared.keyword.Keyword.{Keyword}
-use Rattle.rz_expr.proofs.Spelled.{same_lower}
+use Rattle.rz_words.specs.Keyword.{every_keyword, keyword_of, spelled_among, spelling}
+use Rattle.rz_words.specs.declared.keyword.Keyword.{Keyword}
+use Rattle.rz_words.proofs.Spelled.{same_lower}
 
 length-lower : (name : List ℕ) → length (str_to_ascii_lowercase name) ≡ length name
 length-lower [] = refl

@@ -1,9 +1,9 @@
 -- The words that set or clear an attribute. Case doesn't matter. (MPW Rez.)
 use Rattle.std.specs.Prelude.{◌≡◌, ℕ, Bool, true, false, if◌then◌else◌, List, [], ◌∷◌, Option, Some, None, codes}
 use Rattle.std.specs.Str.{str_eq_ignore_ascii_case}
-use Rattle.rz_expr.specs.declared.attribute.Attribute.{Attribute}
-use Rattle.rz_expr.specs.declared.attribute.Attribute.TheVariants.{SystemHeap, Purgeable, Locked, Protected, Preload, Changed}
-use Rattle.rz_expr.specs.declared.attribute.AttributeWord.{AttributeWord}
+use Rattle.rz_words.specs.declared.attribute.Attribute.{Attribute}
+use Rattle.rz_words.specs.declared.attribute.Attribute.TheVariants.{SystemHeap, Purgeable, Locked, Protected, Preload, Changed}
+use Rattle.rz_words.specs.declared.attribute.AttributeWord.{AttributeWord}
 
 -- the bit of each
 abbrev pub bit_of : Attribute → ℕ

@@ -1,5 +1,5 @@
-use Rattle.rz_expr.proofs.Spelled.{attribute_is, attribute_other_name}
-use Rattle.rz_expr.proofs.laws.attribute_words_are_spelled.Goals as goal
+use Rattle.rz_words.proofs.Spelled.{attribute_is, attribute_other_name}
+use Rattle.rz_words.proofs.laws.attribute_words_are_spelled.Goals as goal
 
 pub returns-clause-word : goal.returns-clause-word
 returns-clause-word c = attribute_is

@@ -1,7 +1,7 @@
 //! The words that set or clear a bit of the attributes; a new word changes `specs/Attribute` too.
 
 ghost use Rattle.std.specs.Prelude.{◌≡◌, List, Some, None};
-ghost use Rattle.rz_expr.specs.Attribute.{attribute_among, attribute_word, bit_of, clearing_word, every_attribute, setting_word};
+ghost use Rattle.rz_words.specs.Attribute.{attribute_among, attribute_word, bit_of, clearing_word, every_attribute, setting_word};
 
 use crate::keyword::is;
 

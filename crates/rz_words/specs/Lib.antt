@@ -1,0 +1,3 @@
+pub mod Keyword
+pub mod Attribute
+pub mod Words
