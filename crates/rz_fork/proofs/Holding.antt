@@ -10,7 +10,8 @@ use Rattle.rz_fork.specs.declared.layout.Reference.{Reference}
 use Rattle.rz_fork.specs.Layout.{entries, references}
 use Rattle.rz_fork.specs.Admit.{references_outside, count_of, list_rule, data_outside, name_outside, type_rule, reference_rule, in_type, in_types, lists_broken, IsAdmitted, HasResources, Data, Name, Id}
 
-list_within : (o : Outline) (so_far : ℕ) (t : TypeEntry) → references_outside o so_far t ≡ None → t.list + 12 * t.count ≤ o.header.map_at + o.header.map_length
+-- a reference list that keeps its rule lies in the map
+pub list_within : (o : Outline) (so_far : ℕ) (t : TypeEntry) → references_outside o so_far t ≡ None → t.list + 12 * t.count ≤ o.header.map_at + o.header.map_length
 unfolding references_outside
 list_within o so_far t holds = grind (arith, nat_tests)
 
@@ -59,6 +60,7 @@ has_resources bytes o k t admitted is =
     let list = lists_within o (entries bytes o) k t all.lists is in
     record {
       types = admitted.types;
+      area = admitted.area;
       list = omega (arith, list, admitted.types.map);
       areas = (first_in_none (λ (before : List TypeEntry) (t : TypeEntry). in_type Data bytes o t) [] (entries bytes o) k t all.areas is).1;
       name_lists = (first_in_none (λ (before : List TypeEntry) (t : TypeEntry). in_type Name bytes o t) [] (entries bytes o) k t all.name_lists is).1;

@@ -1,4 +1,5 @@
 pub mod Admitted
+pub mod Breaking
 pub mod Fits
 pub mod Framed
 pub mod Grouping

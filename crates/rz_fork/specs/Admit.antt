@@ -159,15 +159,17 @@ pub record IsSayable (fault : ForkFault) : Type 0 where
 
 -- What the rules give.
 
+-- the data area lies in the bytes
+abbrev pub HasArea : List ℕ → Header → Type 0
+HasArea bytes h = h.data_at + h.data_length ≤ length bytes
+
 -- the map lies in the bytes
 pub record HasMap (bytes : List ℕ) (h : Header) : Type 0 where
-  pub area : h.data_at + h.data_length ≤ length bytes
   pub map : h.map_at + h.map_length ≤ length bytes
   pub long : 28 ≤ h.map_length
 
 -- the type list lies in the map
 pub record HasTypes (bytes : List ℕ) (o : Outline) : Type 0 where
-  pub area : o.header.data_at + o.header.data_length ≤ length bytes
   pub map : o.header.map_at + o.header.map_length ≤ length bytes
   pub long : 28 ≤ o.header.map_length
   pub types : o.types + 2 + 8 * o.count ≤ o.header.map_length
@@ -180,11 +182,13 @@ pub record IsAdmitted (bytes : List ℕ) (o : Outline) : Type 0 where
   pub outline : o ≡ the_outline bytes
   pub header : o.header ≡ header_of bytes
   pub types : HasTypes bytes o
+  pub area : HasArea bytes o.header
   pub lists : lists_broken bytes o ≡ None
 
 -- no rule on a type's list and references is broken
 pub record HasResources (bytes : List ℕ) (o : Outline) (t : TypeEntry) : Type 0 where
   pub types : HasTypes bytes o
+  pub area : HasArea bytes o.header
   pub list : t.list + 12 * t.count ≤ length bytes
   pub areas : in_type Data bytes o t ≡ None
   pub name_lists : in_type Name bytes o t ≡ None

@@ -1,4 +1,5 @@
 pub mod Admit
+pub mod Breaks
 pub mod Code
 pub mod Contents
 pub mod Groups

@@ -3,13 +3,13 @@
 ghost use Rattle.std.specs.Prelude.{◌≡◌, ◌<◌, ◌≤◌, ◌+◌, ◌*◌, ◌^◌, [], length, slice_get, List, IfSome, IfOk, IfErr, MatchResult, Some, None};
 ghost use Rattle.rz_core.specs.Lists.{first_in};
 ghost use Rattle.rz_fork.specs.Layout.{header_of, the_outline, entries, references};
-ghost use Rattle.rz_fork.specs.Admit.{map_fault, list_rule, reference_rule, in_type, in_types, lists_broken, inadmissible, HasTypes, IsAdmitted, IsSayable};
+ghost use Rattle.rz_fork.specs.Admit.{map_fault, list_rule, reference_rule, in_type, in_types, lists_broken, inadmissible, HasArea, HasTypes, IsAdmitted, IsSayable};
 ghost use Rattle.rz_fork.specs.Code.{tested_by};
 ghost use Rattle.rz_fork.specs.declared.layout.Reference.{Reference};
 
 use crate::fault::ForkFault;
 use crate::layout::{
-    Outline, Reference, TypeEntry, entry_at, read_header, read_outline, reference_at, types,
+    Outline, Reference, TypeEntry, entry_at, read_header, read_outline, reference_at, type_list_at,
 };
 use crate::repeats::{id_repeated, type_repeated};
 use crate::rules::{
@@ -45,6 +45,7 @@ fn admit_map(bytes: &[u8]) -> Result<Outline, ForkFault>
     ensures outline { IfOk result (λ outline. outline ≡ the_outline bytes.now) }
     ensures header { IfOk result (λ outline. outline.header ≡ header_of bytes.now) }
     ensures types { IfOk result (HasTypes bytes.now) }
+    ensures area { IfOk result (λ outline. HasArea bytes.now outline.header) }
     ensures sayable { IfErr result IsSayable }
 {
     if let Some(fault) = short_header(bytes) {
@@ -60,7 +61,7 @@ fn admit_map(bytes: &[u8]) -> Result<Outline, ForkFault>
     if let Some(fault) = short_map(header) {
         return Err(fault);
     }
-    let types = types(bytes, header);
+    let types = type_list_at(bytes, header);
     if let Some(fault) = type_list_outside(header, types) {
         return Err(fault);
     }
@@ -74,7 +75,8 @@ fn admit_map(bytes: &[u8]) -> Result<Outline, ForkFault>
 /// The first broken rule on types and references.
 #[tactic(auto, unfolding(crate::specs::Admit::lists_broken))]
 fn lists_broken(bytes: &[u8], outline: Outline) -> Option<ForkFault>
-    requires { HasTypes bytes.now outline }
+    requires types { HasTypes bytes.now outline }
+    requires area { HasArea bytes.now outline.header }
     ensures rule { result ≡ lists_broken bytes.now outline }
     ensures sayable { IfSome result IsSayable }
 {
@@ -143,7 +145,8 @@ fn reference_broken(
     outline: Outline,
     reference: Reference,
 ) -> Option<ForkFault>
-    requires { HasTypes bytes.now outline }
+    requires types { HasTypes bytes.now outline }
+    requires area { HasArea bytes.now outline.header }
     ensures rule { (before : List Reference) → result ≡ reference_rule (tested_by rule) bytes.now outline before reference }
     ensures sayable { IfSome result IsSayable }
 {
@@ -161,6 +164,7 @@ fn in_type(
     entry: TypeEntry,
 ) -> Option<ForkFault>
     requires types { HasTypes bytes.now outline }
+    requires area { HasArea bytes.now outline.header }
     requires list { entry.list + 12 * entry.count ≤ length bytes.now }
     ensures rule { result ≡ in_type (tested_by rule) bytes.now outline entry }
     ensures sayable { IfSome result IsSayable }
@@ -177,6 +181,7 @@ fn in_type(
 /// The first reference of all types that breaks the rule.
 fn in_types(rule: ReferenceRule, bytes: &[u8], outline: Outline) -> Option<ForkFault>
     requires types { HasTypes bytes.now outline }
+    requires area { HasArea bytes.now outline.header }
     requires lists { first_in (list_rule outline) [] (entries bytes.now outline) ≡ None }
     ensures rule { result ≡ in_types (tested_by rule) bytes.now outline (entries bytes.now outline) }
     ensures sayable { IfSome result IsSayable }

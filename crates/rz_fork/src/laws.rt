@@ -1,9 +1,11 @@
-//! A law with nothing to run: admitted forks hold what a fork can hold. See `specs/Admit`, `specs/Contents`.
+//! Laws with nothing to run: admitted forks hold what a fork can hold, and admission gives the first of all broken
+//! rules. See `specs/Admit`, `specs/Breaks`, `specs/Contents`.
 
 ghost use Rattle.std.specs.Prelude.{◌≡◌, ◌<◌, ℕ, [], List, Ok};
 ghost use Rattle.std.specs.List.{AllByRecursion};
 ghost use Rattle.rz_core.specs.Resources.{KeysDiffer};
-ghost use Rattle.rz_fork.specs.Admit.{admitted};
+ghost use Rattle.rz_fork.specs.Admit.{admitted, inadmissible};
+ghost use Rattle.rz_fork.specs.Breaks.{breaks, first};
 ghost use Rattle.rz_fork.specs.Contents.{Fork, FitsFork};
 
 /// A law, with nothing to run: where bytes are admitted as a fork, no two of its resources have the same
@@ -11,4 +13,10 @@ ghost use Rattle.rz_fork.specs.Contents.{Fork, FitsFork};
 pub fn admitted_forks_fit()
     ensures { (bytes : List ℕ) → AllByRecursion (λ b. b < 256) bytes → (fork : Fork) → admitted bytes ≡ Ok fork
         → KeysDiffer [] fork.list × AllByRecursion FitsFork fork.list }
+{}
+
+/// A law, with nothing to run: the first of all broken rules is the one that admission gives, and so none is broken
+/// exactly where bytes are admitted.
+pub fn breaks_begin()
+    ensures { (bytes : List ℕ) → first (breaks bytes) ≡ inadmissible bytes }
 {}

@@ -83,7 +83,7 @@ pub fn read_header(bytes: &[u8]) -> Header
 
 /// Where the type list begins in the map.
 #[tactic(auto, unfolding(crate::specs::Layout::types_of))]
-pub fn types(bytes: &[u8], header: Header) -> usize
+pub fn type_list_at(bytes: &[u8], header: Header) -> usize
     requires { HasMap bytes.now header }
     ensures types { result ≡ types_of bytes.now header }
     ensures small { result < 2 ^ 16 }

@@ -12,6 +12,7 @@ mod group;
 mod laws;
 mod layout;
 mod limit;
+mod numbers;
 mod parts;
 mod read;
 mod repeats;
@@ -19,7 +20,15 @@ mod rules;
 mod view;
 mod write;
 
+pub use admit::{entry_of, reference_of};
 pub use fault::{ForkFault, LimitFault};
-pub use laws::admitted_forks_fit;
+pub use laws::{admitted_forks_fit, breaks_begin};
+pub use layout::{Header, Outline, Reference, TypeEntry, read_header, read_outline, type_list_at};
+pub use numbers::{long_at, word_at};
+pub use repeats::{id_repeats, type_repeats};
+pub use rules::{
+    data_area_outside, data_outside, map_outside, name_outside, references_outside, short_header,
+    short_map, type_list_outside, types_outside,
+};
 pub use view::{ForkView, ResView, Walk};
 pub use write::write_fork;

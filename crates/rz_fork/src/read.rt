@@ -2,7 +2,7 @@
 
 ghost use Rattle.std.specs.Prelude.{◌≡◌, ◌<◌, ◌≤◌, ◌+◌, ◌^◌, length, take, drop, None};
 ghost use Rattle.rz_fork.specs.Contents.{data_of, name_of, attributes_of, reserved_of};
-ghost use Rattle.rz_fork.specs.Admit.{data_outside, name_outside};
+ghost use Rattle.rz_fork.specs.Admit.{data_outside, name_outside, HasArea};
 
 use crate::layout::{Header, NO_NAME, Outline, Reference};
 use rz_core::{rest_at, u8_at, u16_at, u32_at};
@@ -18,7 +18,7 @@ fn piece_at(bytes: &[u8], place: usize, count: usize) -> &[u8]
 /// A resource's bytes.
 #[tactic(auto, unfolding(crate::specs::Contents::data_of, crate::specs::Admit::data_outside))]
 pub fn data_of(bytes: &[u8], outline: Outline, reference: Reference) -> &[u8]
-    requires area { outline.header.data_at + outline.header.data_length ≤ length bytes.now }
+    requires area { HasArea bytes.now outline.header }
     requires within { data_outside bytes.now outline reference ≡ None }
     ensures { result.now ≡ data_of bytes.now outline reference }
 {

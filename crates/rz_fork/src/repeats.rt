@@ -11,7 +11,7 @@ ghost use Rattle.rz_fork.specs.Code.{AreMarked};
 
 use crate::admit::{entry_of, reference_of};
 use crate::fault::ForkFault;
-use crate::layout::{Outline, TypeEntry};
+use crate::layout::{Outline, Reference, TypeEntry};
 use crate::rules::{MAX_TYPES, fault};
 
 /// How many ids there are.
@@ -72,9 +72,28 @@ fn first_repeated(bytes: &[u8], outline: Outline) -> Option<ForkFault>
 {
     for position in 0..outline.count {
         let entry = entry_of(bytes, outline, position);
-        if has_code(bytes, outline, position, entry.code) {
-            return Some(fault(410, entry.place, entry.code));
+        if let Some(fault) = type_repeats(bytes, outline, position, entry) {
+            return Some(fault);
         }
+    }
+    None
+}
+
+/// Repeated, of a type behind so many: whether one of them has its code.
+pub fn type_repeats(
+    bytes: &[u8],
+    outline: Outline,
+    count: usize,
+    entry: TypeEntry,
+) -> Option<ForkFault>
+    requires types { HasTypes bytes.now outline }
+    requires count { count ≤ outline.count }
+    requires place { entry.place < 2 ^ 32 }
+    ensures rule { result ≡ type_rule (take count (entries bytes.now outline)) entry }
+    ensures sayable { IfSome result IsSayable }
+{
+    if has_code(bytes, outline, count, entry.code) {
+        return Some(fault(410, entry.place, entry.code));
     }
     None
 }
@@ -110,6 +129,40 @@ pub fn id_repeated(bytes: &[u8], outline: Outline) -> Option<ForkFault>
         clear_ids(&mut seen, bytes, entry);
     }
     None
+}
+
+/// Repeated, of a reference behind so many of its type: whether one of them has its id.
+pub fn id_repeats(
+    bytes: &[u8],
+    entry: TypeEntry,
+    count: usize,
+    reference: Reference,
+) -> Option<ForkFault>
+    requires list { entry.list + 12 * entry.count ≤ length bytes.now }
+    requires count { count ≤ entry.count }
+    requires place { reference.place < 2 ^ 32 }
+    ensures rule { result ≡ id_rule (take count (references bytes.now entry)) reference }
+    ensures sayable { IfSome result IsSayable }
+{
+    if has_id(bytes, entry, count, reference.id) {
+        return Some(fault(410, reference.place, reference.id as u32));
+    }
+    None
+}
+
+/// Whether one of the first so many references of a type has this id.
+fn has_id(bytes: &[u8], entry: TypeEntry, count: usize, id: u16) -> bool
+    requires list { entry.list + 12 * entry.count ≤ length bytes.now }
+    requires count { count ≤ entry.count }
+    ensures { result ≡
+        list_any (λ other. other.id == id) (take count (references bytes.now entry)) }
+{
+    for position in 0..count {
+        if reference_of(bytes, entry, position).id == id {
+            return true;
+        }
+    }
+    false
 }
 
 /// Marks the ids of a type, up to the first that is marked already.

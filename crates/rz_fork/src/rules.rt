@@ -2,7 +2,7 @@
 
 ghost use Rattle.std.specs.Prelude.{◌≡◌, ◌<◌, ◌≤◌, ◌+◌, ◌*◌, ◌^◌, length, IfNone, IfSome};
 ghost use Rattle.rz_fork.specs.Layout.{types_place};
-ghost use Rattle.rz_fork.specs.Admit.{short_header, data_area_outside, map_outside, short_map, type_list_outside, types_outside, references_outside, data_outside, name_outside, IsSayable};
+ghost use Rattle.rz_fork.specs.Admit.{short_header, data_area_outside, map_outside, short_map, type_list_outside, types_outside, references_outside, data_outside, name_outside, HasArea, IsSayable};
 
 use crate::fault::ForkFault;
 use crate::layout::{Header, NO_NAME, Outline, Reference, TypeEntry};
@@ -55,7 +55,7 @@ pub fn data_area_outside(bytes: &[u8], header: Header) -> Option<ForkFault>
     requires small { header.data_at + header.data_length < 2 ^ 33 }
     requires length { header.data_length < 2 ^ 32 }
     ensures rule { result ≡ data_area_outside bytes.now header }
-    ensures within { IfNone result (header.data_at + header.data_length ≤ length bytes.now) }
+    ensures within { IfNone result (HasArea bytes.now header) }
     ensures sayable { IfSome result IsSayable }
 {
     if DATA_END <= header.data_at || bytes.len() < header.data_at + header.data_length {
@@ -134,7 +134,7 @@ pub fn types_outside(outline: Outline) -> Option<ForkFault>
 #[tactic(auto, unfolding(crate::specs::Admit::references_outside))]
 pub fn references_outside(outline: Outline, so_far: usize, entry: TypeEntry) -> Option<ForkFault>
     requires map { outline.header.map_at + outline.header.map_length < 2 ^ 33 }
-    requires so_far { so_far ≤ 16384 }
+    requires so_far { so_far < 2 ^ 30 }
     requires count { entry.count < 2 ^ 16 }
     requires list { entry.list < 2 ^ 35 }
     ensures rule { result ≡ references_outside outline so_far entry }
@@ -152,7 +152,7 @@ pub fn references_outside(outline: Outline, so_far: usize, entry: TypeEntry) -> 
 /// DataOutside.
 #[tactic(auto, unfolding(crate::specs::Admit::data_outside))]
 pub fn data_outside(bytes: &[u8], outline: Outline, reference: Reference) -> Option<ForkFault>
-    requires area { outline.header.data_at + outline.header.data_length ≤ length bytes.now }
+    requires area { HasArea bytes.now outline.header }
     requires short { length bytes.now < 2 ^ 32 }
     ensures rule { result ≡ data_outside bytes.now outline reference }
     ensures sayable { IfSome result IsSayable }

@@ -4,7 +4,7 @@ ghost use Rattle.std.specs.Prelude.{◌≡◌, ◌<◌, ◌≤◌, ◌^◌, [], 
 ghost use Rattle.std.specs.List.{AllByRecursion};
 ghost use Rattle.rz_core.specs.Resources.{KeysDiffer};
 ghost use Rattle.rz_fork.specs.Layout.{entries};
-ghost use Rattle.rz_fork.specs.Admit.{admitted, count_of, data_outside, name_outside, HasTypes, IsSayable};
+ghost use Rattle.rz_fork.specs.Admit.{admitted, count_of, data_outside, name_outside, HasArea, HasTypes, IsSayable};
 ghost use Rattle.rz_fork.specs.Contents.{resource_of, FitsFork};
 ghost use Rattle.rz_fork.specs.View.{lent, GivesFirst};
 
@@ -262,7 +262,8 @@ fn view_of<'a>(
     reference: Reference,
 ) -> ResView<'a>
     requires types { HasTypes bytes.now outline }
-    requires area { data_outside bytes.now outline reference ≡ None }
+    requires area { HasArea bytes.now outline.header }
+    requires data { data_outside bytes.now outline reference ≡ None }
     requires names { name_outside bytes.now outline reference ≡ None }
     ensures { lent result ≡ resource_of bytes.entry.now outline entry reference }
 {

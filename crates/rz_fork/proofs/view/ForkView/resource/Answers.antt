@@ -46,8 +46,11 @@ loop-entry-preserved c =
       there = get_later b o c.loop-entry.entry c.loop-entry.next c.loop-entry.begun c.entry_of-entry.result c.loop-entry-test.true c.entry_of-entry.ensures.entry ∙ c.loop-entry.invariant.there;
     }
 
+pub view_of-requires-clause-data : goal.view_of-requires-clause-data
+view_of-requires-clause-data c = data_within _ _ c.loop-entry.entry c.loop-entry.next _ (c.loop-entry.invariant.can.entry (omega arith)).areas c.reference_of-reference.ensures.reference
+
 pub view_of-requires-clause-area : goal.view_of-requires-clause-area
-view_of-requires-clause-area c = data_within _ _ c.loop-entry.entry c.loop-entry.next _ (c.loop-entry.invariant.can.entry (omega arith)).areas c.reference_of-reference.ensures.reference
+view_of-requires-clause-area c = (c.loop-entry.invariant.can.entry (omega arith)).area
 
 pub view_of-requires-clause-names : goal.view_of-requires-clause-names
 view_of-requires-clause-names c = name_within _ _ c.loop-entry.entry c.loop-entry.next _ (c.loop-entry.invariant.can.entry (omega arith)).name_lists c.reference_of-reference.ensures.reference

@@ -22,8 +22,11 @@ loop-self-preserved c =
       };
     }
 
+pub view_of-requires-clause-data : goal.view_of-requires-clause-data
+view_of-requires-clause-data c = data_within _ _ c.loop-self.self-inside.entry c.loop-self.self-inside.next _ (c.loop-self.invariant.can.entry (omega arith)).areas c.reference_of-reference.ensures.reference
+
 pub view_of-requires-clause-area : goal.view_of-requires-clause-area
-view_of-requires-clause-area c = data_within _ _ c.loop-self.self-inside.entry c.loop-self.self-inside.next _ (c.loop-self.invariant.can.entry (omega arith)).areas c.reference_of-reference.ensures.reference
+view_of-requires-clause-area c = (c.loop-self.invariant.can.entry (omega arith)).area
 
 pub view_of-requires-clause-names : goal.view_of-requires-clause-names
 view_of-requires-clause-names c = name_within _ _ c.loop-self.self-inside.entry c.loop-self.self-inside.next _ (c.loop-self.invariant.can.entry (omega arith)).name_lists c.reference_of-reference.ensures.reference
