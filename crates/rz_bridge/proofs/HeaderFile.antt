@@ -1,20 +1,19 @@
 -- What is read of an AppleDouble header file that was written.
-use Rattle.std.proofs.Common.{◌≡◌, ℕ, ◌+◌, ◌*◌, ◌^◌, ◌<◌, ◌≤◌, ◌==◌, if◌then◌else◌, Bool, true, false, List, [], ◌∷◌, ◌++◌, length, take, replicate, None, Ok, refl, sym, ap, subst, ◌∙◌, arith, length-append}
+use Rattle.std.proofs.Common.{◌≡◌, ℕ, ◌+◌, ◌*◌, ◌^◌, ◌<◌, ◌≤◌, ◌==◌, if◌then◌else◌, Bool, true, false, List, [], ◌∷◌, ◌++◌, length, take, replicate, None, Ok, refl, sym, ap, ◌∙◌, arith, length-append}
 use Rattle.std.proofs.lemmas.Bool.{eqb-true}
 use Rattle.std.proofs.lemmas.List.{length-take, take-take, take_at, nil_from_length}
 use Rattle.std.specs.Int.{cast_unsigned, w16}
-use Rattle.std.specs.List.{find}
+use Rattle.std.specs.List.{AllByRecursion}
 use Rattle.rz_core.specs.Lists.{unless_fault}
 use Rattle.rz_core.specs.Numbers.{be, length-be_2, length-be_4, number}
 use Rattle.rz_bridge.specs.Places.{signed, piece}
 use Rattle.rz_bridge.specs.Ranges.{IsStored}
-use Rattle.rz_bridge.specs.AppleDouble.{entries, entry_bytes, part, double_torn, finder_of, info_of, double_fields, double_content, finder_bytes, short_name, Part, parts_with, bytes_of, image_of, double_image, double_carried}
-use Rattle.rz_bridge.specs.declared.entry.Entry.{Entry}
+use Rattle.rz_bridge.specs.AppleDouble.{part, double_torn, finder_of, info_of, double_fields, double_content, finder_bytes, short_name, Part, parts_of, bytes_of, image_of, double_image, double_carried}
 use Rattle.rz_bridge.specs.declared.file.Finder.{Finder}
 use Rattle.rz_bridge.specs.declared.file.MacFile.{MacFile}
-use Rattle.rz_core.proofs.Placed.{Has, has_all, has_left, has_right, has_at, number_is}
+use Rattle.rz_core.proofs.Placed.{Has, has_all, has_at, number_is}
 use Rattle.rz_bridge.proofs.Standing.{AreAt, all_at, piece_is, signed_is}
-use Rattle.rz_bridge.proofs.Parts.{bytes_at, entries_read, holds, length-image_of}
+use Rattle.rz_bridge.proofs.Parts.{HasId, bytes_with, part_of_image, holds, length-image_of}
 
 -- The Finder's fields.
 
@@ -93,108 +92,44 @@ record AreRead (image name info fork : List ℕ) : Type 0 where
   finder_info : part image 9 ≡ info
   fork_bytes : part image 2 ≡ fork
 
--- the bytes of the entry that is found among these
-found : (image : List ℕ) (all : List Entry) (id : ℕ) → entries image ≡ all → part image id ≡ entry_bytes image (find (λ entry. entry.id == id) all)
-unfolding part
-found image all id is = ap (λ (l : List Entry). entry_bytes image (find (λ entry. entry.id == id) l)) is
-
 module _ (name info fork : List ℕ) (name_small : length name ≤ 255) (info_small : length info ≤ 32) (fork_small : length fork ≤ 33554432) where
-  abbrev name_of : Part
-  name_of = record { id = 3; bytes = name }
-
-  abbrev info_part : Part
-  info_part = record { id = 9; bytes = info }
-
-  abbrev fork_part : Part
-  fork_part = record { id = 2; bytes = fork }
-
-  -- with a name
-  abbrev three : List Part
-  three = name_of ∷ info_part ∷ fork_part ∷ []
-
-  three_ids : (3 < 2 ^ 32) × ((9 < 2 ^ 32) × ((2 < 2 ^ 32) × Unit {0}))
-  three_ids = (omega arith, (omega arith, (omega arith, tt)))
-
-  three_small : 26 + 12 * 3 + length (bytes_of three) < 2 ^ 32
-  three_small = omega (arith, length-append {A = ℕ}, name_small, info_small, fork_small)
-
-  abbrev three_image : List ℕ
-  three_image = image_of three
-
-  three_bytes : Has three_image 62 (name ++ (info ++ (fork ++ [])))
-  three_bytes = bytes_at three three_ids (omega arith) three_small
-
-  three_info : Has three_image (62 + length name) (info ++ (fork ++ []))
-  three_info = has_right three_image 62 (62 + length name) name (info ++ (fork ++ [])) refl three_bytes
-
-  three_fork : Has three_image (62 + length name + length info) (fork ++ [])
-  three_fork = has_right three_image (62 + length name) (62 + length name + length info) info (fork ++ []) refl three_info
-
-  three_read : AreRead three_image name info fork
-  three_read =
-      let all = entries_read three three_ids (omega arith) three_small in
-      record {
-        rules = holds three three_ids (omega arith) three_small;
-        real_name = found three_image _ 3 all ∙ piece_is three_image 62 name (has_left three_image 62 name (info ++ (fork ++ [])) three_bytes);
-        finder_info =
-            found three_image _ 9 all
-            ∙ piece_is three_image _ info (has_at three_image (62 + length name) _ info (omega (arith, length-append {A = ℕ})) (has_left three_image (62 + length name) info (fork ++ []) three_info));
-        fork_bytes =
-            found three_image _ 2 all
-            ∙ piece_is three_image _ fork
-            (has_at three_image (62 + length name + length info) _ fork (omega (arith, length-append {A = ℕ})) (has_left three_image (62 + length name + length info) fork [] three_fork));
-      }
-
-  -- without one
-  abbrev two : List Part
-  two = info_part ∷ fork_part ∷ []
-
-  two_ids : (9 < 2 ^ 32) × ((2 < 2 ^ 32) × Unit {0})
-  two_ids = (omega arith, (omega arith, tt))
-
-  two_small : 26 + 12 * 2 + length (bytes_of two) < 2 ^ 32
-  two_small = omega (arith, length-append {A = ℕ}, info_small, fork_small)
-
-  abbrev two_image : List ℕ
-  two_image = image_of two
-
-  two_bytes : Has two_image 50 (info ++ (fork ++ []))
-  two_bytes = bytes_at two two_ids (omega arith) two_small
-
-  two_fork : Has two_image (50 + length info) (fork ++ [])
-  two_fork = has_right two_image 50 (50 + length info) info (fork ++ []) refl two_bytes
-
-  two_read : AreRead two_image [] info fork
-  two_read =
-      let all = entries_read two two_ids (omega arith) two_small in
-      record {
-        rules = holds two two_ids (omega arith) two_small;
-        real_name = found two_image _ 3 all;
-        finder_info = found two_image _ 9 all ∙ piece_is two_image 50 info (has_left two_image 50 info (fork ++ []) two_bytes);
-        fork_bytes =
-            found two_image _ 2 all
-            ∙ piece_is two_image _ fork
-            (has_at two_image (50 + length info) _ fork (omega (arith, length-append {A = ℕ})) (has_left two_image (50 + length info) fork [] two_fork));
-      }
-
   -- the parts, with or without a name
   abbrev parts_by : Bool → List Part
-  parts_by empty = (if empty then [] else name_of ∷ []) ++ info_part ∷ fork_part ∷ []
+  parts_by empty = (if empty then [] else record { id = 3; bytes = name } ∷ []) ++ record { id = 9; bytes = info } ∷ record { id = 2; bytes = fork } ∷ []
 
-  by_name : (empty : Bool) → (length name == 0) ≡ empty → AreRead (image_of (parts_by empty)) name info fork
-  by_name true is =
-      let none : name ≡ [] = nil_from_length name (eqb-true (length name) 0 is) in subst (λ (l : List ℕ). AreRead two_image l info fork) (sym none) two_read
-  by_name false is = three_read
+  ids_by : (empty : Bool) → AllByRecursion HasId (parts_by empty)
+  ids_by true = (omega arith, (omega arith, tt))
+  ids_by false = (omega arith, (omega arith, (omega arith, tt)))
 
-  parts_read : AreRead (image_of (parts_with name info fork)) name info fork
-  parts_read = by_name (length name == 0) refl
+  few_by : (empty : Bool) → length (parts_by empty) < 2 ^ 16
+  few_by true = omega arith
+  few_by false = omega arith
 
-  short_by : (empty : Bool) → length (image_of (parts_by empty)) < 2 ^ 32
-  short_by true = omega (arith, length-image_of two, two_small)
-  short_by false = omega (arith, length-image_of three, three_small)
+  pub small_by : (empty : Bool) → 26 + 12 * length (parts_by empty) + length (bytes_of (parts_by empty)) < 2 ^ 32
+  small_by true = omega (arith, length-append {A = ℕ}, info_small, fork_small)
+  small_by false = omega (arith, length-append {A = ℕ}, name_small, info_small, fork_small)
 
-  parts_short : length (image_of (parts_with name info fork)) < 2 ^ 32
-  parts_short = short_by (length name == 0)
+  name_by : (empty : Bool) → (length name == 0) ≡ empty → bytes_with 3 (parts_by empty) ≡ name
+  name_by true is = sym (nil_from_length name (eqb-true (length name) 0 is))
+  name_by false is = refl
+
+  info_by : (empty : Bool) → bytes_with 9 (parts_by empty) ≡ info
+  info_by true = refl
+  info_by false = refl
+
+  fork_by : (empty : Bool) → bytes_with 2 (parts_by empty) ≡ fork
+  fork_by true = refl
+  fork_by false = refl
+
+  read_by : (empty : Bool) → (length name == 0) ≡ empty → AreRead (image_of (parts_by empty)) name info fork
+  read_by empty is =
+      let at = part_of_image (parts_by empty) (ids_by empty) (few_by empty) (small_by empty) in
+      record {
+        rules = holds (parts_by empty) (ids_by empty) (few_by empty) (small_by empty);
+        real_name = at 3 ∙ name_by empty is;
+        finder_info = at 9 ∙ info_by empty;
+        fork_bytes = at 2 ∙ fork_by empty;
+      }
 
 module _ (file : MacFile) (stored : IsStored file.finder) (small : length file.res_fork ≤ 33554432) where
   name_small : length (short_name file) ≤ 255
@@ -205,10 +140,15 @@ module _ (file : MacFile) (stored : IsStored file.finder) (small : length file.r
   info_small = omega (arith, length-finder_bytes file.finder stored.extra)
 
   read : AreRead (double_image file) (short_name file) (finder_bytes file.finder) file.res_fork
-  read = parts_read (short_name file) (finder_bytes file.finder) file.res_fork name_small info_small small
+  read = read_by (short_name file) (finder_bytes file.finder) file.res_fork name_small info_small small (length (short_name file) == 0) refl
 
   pub double_short : length (double_image file) < 2 ^ 32
-  double_short = parts_short (short_name file) (finder_bytes file.finder) file.res_fork name_small info_small small
+  double_short =
+      omega (
+        arith,
+        length-image_of (parts_of file),
+        small_by (short_name file) (finder_bytes file.finder) file.res_fork name_small info_small small (length (short_name file) == 0),
+      )
 
   name_is : take 255 (part (double_image file) 3) ≡ take 255 file.name
   unfolding short_name

@@ -1,16 +1,16 @@
 -- The entries of an AppleDouble that was written, and when its rules hold.
-use Rattle.std.proofs.Common.{◌≡◌, ℕ, ◌+◌, ◌*◌, ◌^◌, ◌<◌, ◌≤◌, ◌==◌, ◌&&◌, ◌||◌, nat_lt, not, List, [], ◌∷◌, ◌++◌, length, map, replicate, None, refl, sym, ap, subst, ◌∙◌, arith, append_assoc, length-append}
+use Rattle.std.proofs.Common.{◌≡◌, ℕ, ◌+◌, ◌*◌, ◌^◌, ◌<◌, ◌≤◌, ◌==◌, ◌&&◌, ◌||◌, nat_lt, if◌then◌else◌, not, Bool, true, false, List, [], ◌∷◌, ◌++◌, length, map, replicate, Some, None, refl, sym, ap, subst, ◌∙◌, arith, append_assoc, length-append}
 use Rattle.std.proofs.lemmas.List.{length-replicate}
 use Rattle.std.proofs.lemmas.List.Concat.{flat_map-append}
-use Rattle.std.specs.List.{AllByRecursion}
+use Rattle.std.specs.List.{find, AllByRecursion}
 use Rattle.std.proofs.lemmas.Bool.{le-ltb}
 use Rattle.rz_core.specs.Lists.{with_front, each_with_front, or_else, first_of}
 use Rattle.rz_core.specs.Numbers.{be, length-be_2, length-be_4, number, items_from}
 use Rattle.rz_bridge.specs.Faults.{fault, broken}
-use Rattle.rz_bridge.specs.AppleDouble.{entry_at, entry_count, entries, short_header, bad_magic, newer_version, entries_outside, entry_outside, double_torn, Part, bytes_of, entry_of, part_entry, double_start, image_of}
+use Rattle.rz_bridge.specs.AppleDouble.{entry_at, entry_count, entries, entry_bytes, part, short_header, bad_magic, newer_version, entries_outside, entry_outside, double_torn, Part, bytes_of, entry_of, part_entry, double_start, image_of}
 use Rattle.rz_bridge.specs.declared.entry.Entry.{Entry}
 use Rattle.rz_core.proofs.Placed.{Has, has_all, has_left, has_right, has_at, number_is}
-use Rattle.rz_bridge.proofs.Standing.{AreAt, all_at}
+use Rattle.rz_bridge.proofs.Standing.{AreAt, all_at, piece_is}
 use Rattle.rz_bridge.proofs.Holds.{unbroken, inside}
 
 -- Lengths.
@@ -90,6 +90,31 @@ entries_are bytes count place before (p ∷ ps) has ids small =
     (has_right bytes place (place + 12) own rest (omega (arith, length-entry_of p.id offset (length p.bytes))) has) ids.1 shifted in
     λ i. first i ∷ later i
 
+-- The bytes of a part.
+
+-- the bytes of the first part with an id; where there is none, no bytes
+abbrev pub bytes_with : ℕ → List Part → List ℕ
+bytes_with id [] = []
+bytes_with id (p ∷ ps) = if p.id == id then p.bytes else bytes_with id ps
+
+found : (bytes : List ℕ) (count place id : ℕ) (before parts : List Part) → Has bytes (26 + 12 * count + length (bytes_of before)) (bytes_of parts)
+    → entry_bytes bytes (find (λ entry. entry.id == id) (read_entries count place before parts)) ≡ bytes_with id parts
+found bytes count place id before [] has = refl
+found bytes count place id before (p ∷ ps) has =
+    let at = 26 + 12 * count + length (bytes_of before) in
+    let next = 26 + 12 * count + length (bytes_of (before ++ p ∷ [])) in
+    by_id (p.id == id)
+    (found bytes count (place + 12) id (before ++ p ∷ []) ps (has_right bytes at next p.bytes (bytes_of ps) (omega (arith, bytes_split before p [])) has))
+  where
+    by_id : (same : Bool)
+        → entry_bytes bytes (find (λ entry. entry.id == id) (read_entries count (place + 12) (before ++ p ∷ []) ps)) ≡ bytes_with id ps
+        → entry_bytes bytes (if same then Some (read_entry count place before p) else find (λ entry. entry.id == id) (read_entries count (place + 12) (before ++ p ∷ []) ps))
+        ≡ (if same then p.bytes else bytes_with id ps)
+    by_id true rest =
+        let at = 26 + 12 * count + length (bytes_of before) in
+        piece_is bytes at p.bytes (has_left bytes at p.bytes (bytes_of ps) has)
+    by_id false rest = rest
+
 -- Rules.
 
 within : (bytes : List ℕ) (entry : Entry) → entry.offset + entry.length ≤ length bytes → entry_outside bytes entry ≡ None
@@ -148,6 +173,12 @@ module _ (parts : List Part) (ids : AllByRecursion HasId parts) (few : length pa
   entries_read =
       ap (items_from (entry_at image) 12 26) count_is
       ∙ entries_are image (length parts) 26 [] parts (has_at image _ 26 heads (omega (arith, length-double_start (length parts))) whole.1.0) ids small
+
+  -- what is read of an id: the bytes of its first part
+  pub part_of_image : (id : ℕ) → part image id ≡ bytes_with id parts
+  unfolding part
+  part_of_image id =
+      ap (λ (l : List Entry). entry_bytes image (find (λ entry. entry.id == id) l)) entries_read ∙ found image (length parts) 26 id [] parts (has_at image _ (26 + 12 * length parts + length (bytes_of [])) (bytes_of parts) (omega arith) bytes_at)
 
   long : short_header image ≡ None
   unfolding short_header

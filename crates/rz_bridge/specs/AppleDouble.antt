@@ -12,6 +12,7 @@ use Rattle.rz_bridge.specs.Faults.{fault, broken, forks_refused}
 use Rattle.rz_bridge.specs.Places.{signed, piece}
 use Rattle.rz_bridge.specs.declared.fault.BridgeFault.{BridgeFault}
 use Rattle.rz_bridge.specs.declared.entry.Entry.{Entry}
+use Rattle.rz_bridge.specs.declared.double_out.PartRef.{PartRef}
 use Rattle.rz_bridge.specs.declared.file.Finder.{Finder}
 use Rattle.rz_bridge.specs.declared.file.MacFile.{MacFile}
 
@@ -137,13 +138,17 @@ short_name file = take 255 file.name
 abbrev pub name_part : List ℕ → List Part
 name_part name = if length name == 0 then [] else record { id = 3; bytes = name } ∷ []
 
--- the name, the Finder info and the resource fork
-abbrev pub parts_with : List ℕ → List ℕ → List ℕ → List Part
-parts_with name info fork = name_part name ++ record { id = 9; bytes = info } ∷ record { id = 2; bytes = fork } ∷ []
-
--- the parts of a file
+-- the parts of a file: the name, the Finder info and the resource fork
 abbrev pub parts_of : MacFile → List Part
-parts_of file = parts_with (short_name file) (finder_bytes file.finder) file.res_fork
+parts_of file =
+    name_part (short_name file)
+    ++ record { id = 9; bytes = finder_bytes file.finder }
+    ∷ record { id = 2; bytes = file.res_fork }
+    ∷ []
+
+-- the parts that are lent
+abbrev pub parts_shown : List PartRef → List Part
+parts_shown parts = map (λ p. record { id = p.id; bytes = p.bytes.now }) parts
 
 -- the bytes of parts, one behind the other
 abbrev pub bytes_of : List Part → List ℕ

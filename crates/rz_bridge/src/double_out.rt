@@ -1,10 +1,11 @@
 //! The writer of the header file of AppleDouble; changed only with `specs/AppleDouble`.
 
-ghost use Rattle.std.specs.Prelude.{◌≡◌, ◌≤◌, ◌<◌, ◌^◌, ◌++◌, length, IfOk, OnOk, Ok};
+ghost use Rattle.std.specs.Prelude.{◌≡◌, ◌≤◌, ◌<◌, ◌+◌, ◌*◌, ◌^◌, ◌++◌, length, IfOk, OnOk, Ok};
+ghost use Rattle.rz_core.specs.Lists.{each_with_front};
 ghost use Rattle.rz_core.specs.Stop.{Gives, OnFault};
 ghost use Rattle.rz_bridge.specs.Faults.{IsSayable};
 ghost use Rattle.rz_bridge.specs.Ranges.{IsStored};
-ghost use Rattle.rz_bridge.specs.AppleDouble.{finder_bytes, short_name, entry_of, double_start, parts_with, heads_of, double_image, double_written, double_content, double_carried};
+ghost use Rattle.rz_bridge.specs.AppleDouble.{finder_bytes, short_name, entry_of, parts_shown, bytes_of, part_entry, double_start, image_of, double_image, double_written, double_content, double_carried};
 
 use crate::fault::BridgeFault;
 use crate::file::{Finder, MacFile, finder_is_stored};
@@ -37,6 +38,15 @@ pub fn double_write(alloc: Global, file: &MacFile) -> Result<Bytes, Stop<BridgeF
     Ok(write_image(alloc, file)?)
 }
 
+/// The bytes of an id, lent.
+#[derive(Clone, Copy)]
+pub struct PartRef<'a> {
+    /// What the bytes are.
+    pub id: u32,
+    /// The bytes.
+    pub bytes: &'a [u8],
+}
+
 /// The whole header file.
 #[tactic(auto, unfolding(crate::specs::AppleDouble::short_name, crate::specs::Places::piece))]
 fn write_image(alloc: Global, file: &MacFile) -> Result<Bytes, NoMemory>
@@ -47,34 +57,59 @@ fn write_image(alloc: Global, file: &MacFile) -> Result<Bytes, NoMemory>
     finder_is_stored(&file.finder);
     let name = piece_at(file.name.as_slice(), 0, LONGEST_NAME);
     let info = write_finder(alloc, &file.finder)?;
+    let parts = [
+        PartRef { id: 3, bytes: name },
+        PartRef {
+            id: 9,
+            bytes: info.as_slice(),
+        },
+        PartRef {
+            id: 2,
+            bytes: file.res_fork.as_slice(),
+        },
+    ];
     let mut out = Bytes::new(alloc);
-    append_heads(&mut out, name, info.as_slice(), file.res_fork.as_slice())?;
-    out.append(name)?;
-    out.append(info.as_slice())?;
-    out.append(file.res_fork.as_slice())?;
+    if name.is_empty() {
+        append_image(&mut out, &parts[1..])?;
+    } else {
+        append_image(&mut out, &parts)?;
+    }
     Ok(out)
 }
 
-/// Appends the start and the entries of a name, the Finder's fields and a resource fork.
-fn append_heads(out: &mut Bytes, name: &[u8], info: &[u8], fork: &[u8]) -> Result<(), NoMemory>
-    requires name { length name.now ≤ 255 }
-    requires info { length info.now ≡ 32 }
-    requires fork { length fork.now ≤ 33554432 }
-    ensures { OnOk result (out.new ≡ out.old ++ heads_of (parts_with name.now info.now fork.now)) }
+/// Appends the start, the entries of parts, and their bytes.
+fn append_image(out: &mut Bytes, parts: &[PartRef<'_>]) -> Result<(), NoMemory>
+    requires few { length parts.now < 2 ^ 16 }
+    requires small { 26 + 12 * length parts.now + length (bytes_of (parts_shown parts.now)) < 2 ^ 32 }
+    ensures { OnOk result (out.new ≡ out.old ++ image_of (parts_shown parts.now)) }
 {
-    let name_length = name.len() as u32;
-    let info_length = info.len() as u32;
-    let fork_length = fork.len() as u32;
-    if name.is_empty() {
-        append_start(out, 2)?;
-        append_entry(out, 9, 50, info_length)?;
-        append_entry(out, 2, 50 + info_length, fork_length)?;
-        return Ok(());
+    append_start(out, parts.len() as u16)?;
+    append_entries(out, parts)?;
+    append_bytes(out, parts)?;
+    Ok(())
+}
+
+/// Appends the entries of parts whose bytes stand behind them.
+fn append_entries(out: &mut Bytes, parts: &[PartRef<'_>]) -> Result<(), NoMemory>
+    requires { 26 + 12 * length parts.now + length (bytes_of (parts_shown parts.now)) < 2 ^ 32 }
+    ensures { OnOk result
+        (out.new ≡ out.old ++ each_with_front (part_entry (length parts.now)) (parts_shown parts.now)) }
+{
+    let mut offset = 26 + 12 * parts.len() as u32;
+    for part in parts {
+        append_entry(out, part.id, offset, part.bytes.len() as u32)?;
+        offset += part.bytes.len() as u32;
     }
-    append_start(out, 3)?;
-    append_entry(out, 3, 62, name_length)?;
-    append_entry(out, 9, 62 + name_length, info_length)?;
-    append_entry(out, 2, 62 + name_length + info_length, fork_length)?;
+    Ok(())
+}
+
+/// Appends the bytes of parts.
+fn append_bytes(out: &mut Bytes, parts: &[PartRef<'_>]) -> Result<(), NoMemory>
+    ensures { OnOk result (out.new ≡ out.old ++ bytes_of (parts_shown parts.now)) }
+{
+    for part in parts {
+        out.append(part.bytes)?;
+    }
     Ok(())
 }
 
