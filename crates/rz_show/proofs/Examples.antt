@@ -1,5 +1,5 @@
 -- Numbers and items as they are shown: examples that compute.
-use Rattle.std.proofs.Common.{◌≡◌, refl, ℕ, pos, negsuc, Bool, List, [], ◌∷◌, None, true, false}
+use Rattle.std.proofs.Common.{◌≡◌, refl, ℕ, pos, negsuc, Bool, List, [], ◌∷◌, replicate, None, true, false}
 use Rattle.std.specs.Prelude.{codes, ℤ}
 use Rattle.rz_core.specs.Decimal.{decimal_of}
 use Rattle.std.specs.Fmt.{digits}
@@ -11,9 +11,13 @@ use Rattle.rz_types_fields.specs.declared.field.Radix.{Radix}
 use Rattle.rz_types_fields.specs.declared.field.Radix.TheVariants as radixes
 use Rattle.rz_types_fields.specs.declared.field.Symbol.{Symbol}
 use Rattle.rz_types.specs.Field.{PlainNumber}
+use Rattle.rz_core.specs.declared.facts.Facts.{Facts}
+use Rattle.rz_core.specs.declared.moment.Moment.{Moment}
+use Rattle.rz_show.specs.Head.{head_end, head_front, head_lines}
 use Rattle.rz_show.specs.Number.{by_value, number_shown}
 use Rattle.rz_show.specs.Print.{block, by_name, in_binary, in_decimal, in_group, in_hex, in_literal, in_octal, in_text, list_lines, named_block, no_prints, pieces, print, single, single_written}
 use Rattle.rz_show.specs.Shown.{text_print}
+use Rattle.rz_show.specs.Statement.{data_lines, statement_lines}
 use Rattle.rz_show.specs.Written.{a_hex_text, line_text, lines_text, octal_count, written_text}
 
 abbrev field : NumForm → ℤ → Bool → Radix → List Symbol → PlainNumber
@@ -102,3 +106,32 @@ one_piece = refl
 literal : by_value (field forms.Longint (pos 32) false radixes.Literal []) 1413829460 ≡ in_literal (84 ∷ 69 ∷ 83 ∷ 84 ∷ [])
 unfolding be
 literal = refl
+
+-- Statements.
+
+-- a resource of the type `TEST` with these facts; the moment isn't shown
+abbrev facts : ℤ → List ℕ → ℕ → Moment → Facts
+facts id name attr moment = record { kind = record { code = 1413829460 }; id = id; name = name; attr = attr; moment = moment }
+
+no_bytes : (moment : Moment) → lines_text (data_lines (facts (pos 128) [] 0 moment) []) ≡ codes "data 'TEST' (128) {\n    $\"\"\n};\n\n"
+unfolding statement_lines head_lines head_front head_end be decimal_of digits
+no_bytes moment = refl
+
+named_preload : (moment : Moment) → lines_text (head_lines (codes "resource") 1413829460 (negsuc 0) (codes "Bird") 4) ≡ codes "resource 'TEST' (-1, \"Bird\", preload) {\n"
+unfolding head_lines head_front head_end be decimal_of digits
+named_preload moment = refl
+
+attributes_by_number : lines_text (head_lines (codes "data") 1413829460 (pos 1) [] 129) ≡ codes "data 'TEST' (1, $81) {\n"
+unfolding head_lines head_front head_end be decimal_of digits
+attributes_by_number = refl
+
+long_name : lines_text (head_lines (codes "data") 1413829460 (pos 1) (codes "0123456789012345678901234567890123456789012345678901234567890123AB") 0)
+    ≡ codes "data 'TEST' (1,\n    \"0123456789012345678901234567890123456789012345678901234567890123\"\n    \"AB\") {\n"
+unfolding head_lines head_front head_end be decimal_of digits
+long_name = refl
+
+-- forty bytes: two whole lines, and one of eight bytes
+forty_bytes : (moment : Moment) → lines_text (data_lines (facts (pos 1) [] 0 moment) (replicate 40 170))
+    ≡ codes "data 'TEST' (1) {\n    $\"AAAA AAAA AAAA AAAA AAAA AAAA AAAA AAAA\"\n    $\"AAAA AAAA AAAA AAAA AAAA AAAA AAAA AAAA\"\n    $\"AAAA AAAA AAAA AAAA\"\n};\n\n"
+unfolding statement_lines head_lines head_front head_end be decimal_of digits
+forty_bytes moment = refl

@@ -1,9 +1,10 @@
 -- Fields that keep the rules have widths that they may have.
-use Rattle.std.proofs.Common.{◌≡◌, ℤ, pos, Bool, true, false, ◌&&◌, None, sym, subst, arith}
-use Rattle.std.specs.Prelude.{if◌then◌else◌, nat_le}
+use Rattle.std.proofs.Common.{◌≡◌, ◌<◌, ◌≤◌, ℤ, pos, negsuc, Bool, true, false, ◌&&◌, None, sym, subst, arith}
+use Rattle.std.specs.Prelude.{if◌then◌else◌, nat_abs, nat_le}
 use Rattle.std.specs.List.{list_all}
 use Rattle.std.specs.Ordering.{int_eq}
 use Rattle.std.proofs.lemmas.Bool.Decides.{nat_tests, Decides-int_eq}
+use Rattle.std.proofs.lemmas.Int.{ints}
 use Rattle.rz_core.proofs.Tests.{both}
 use Rattle.rz_types_fields.specs.declared.field.NumForm.{NumForm}
 use Rattle.rz_types_fields.specs.declared.field.NumForm.TheVariants.{Bits, Boolean, Byte, Char, Integer, Longint}
@@ -14,6 +15,14 @@ use Rattle.rz_types.specs.Rules.{bad_width, may_be_width, unless}
 use Rattle.rz_types.specs.Shape.{are_cases_shaped, are_shaped, body_depth, deepest_body, is_fixed_number, is_key_shaped, is_none_or, is_number_shaped, is_own_name, is_own_width, is_shaped, is_symbol_of, is_well_shaped}
 use Rattle.rz_types.specs.Walk.{and_names, around_names, names_of, Own}
 use Rattle.rz_show.specs.Printable.{HasWidth, HasWidths, HaveWidths, IsWidth}
+
+pub width_some : (width : ℤ) → IsWidth width → 0 < nat_abs width
+width_some (pos n) is = omega (arith, ints, is.0)
+width_some (negsuc n) is = absurd (omega (arith, ints, is.0))
+
+pub width_most : (width : ℤ) → IsWidth width → nat_abs width ≤ 32
+width_most (pos n) is = omega (arith, ints, is.1)
+width_most (negsuc n) is = absurd (omega (arith, ints, is.0))
 
 same_width : (width own : ℤ) → int_eq width own ≡ true → IsWidth own → IsWidth width
 same_width width own same is = subst IsWidth (sym ((Decides-int_eq width own).0 same)) is

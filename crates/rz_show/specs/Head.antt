@@ -1,40 +1,46 @@
--- The line that begins a statement. (As MPW DeRez shows it.)
-use Rattle.std.specs.Prelude.{ℕ, ℤ, ◌/◌, ◌%◌, nat_le, ◌==◌, ◌||◌, if◌then◌else◌, List, [], ◌++◌, codes, length}
-use Rattle.rz_core.specs.Decimal.{signed_of}
-use Rattle.rz_core.specs.Lists.{each_with_front}
-use Rattle.rz_core.specs.Quoted.{quoted, shown_byte, hex_byte, literal_text}
-use Rattle.rz_expr.specs.Attribute.{bit_of, setting_word}
-use Rattle.rz_expr.specs.declared.attribute.Attribute.{Attribute}
-use Rattle.rz_expr.specs.declared.attribute.Attribute.TheVariants.{Changed, Locked, Preload, Protected, Purgeable, SystemHeap}
+-- The lines that begin a statement. (As MPW DeRez shows them.)
+use Rattle.std.specs.Prelude.{ℕ, ℤ, ◌/◌, ◌%◌, nat_le, ◌==◌, ◌||◌, if◌then◌else◌, false, List, [], ◌∷◌, ◌++◌, length}
+use Rattle.rz_core.specs.Numbers.{be}
+use Rattle.rz_lex.specs.declared.sign.Sign.TheVariants as signs
+use Rattle.rz_words.specs.Attribute.{bit_of, setting_word}
+use Rattle.rz_words.specs.declared.attribute.Attribute.{Attribute}
+use Rattle.rz_words.specs.declared.attribute.Attribute.TheVariants.{Changed, Locked, Preload, Protected, Purgeable, SystemHeap}
+use Rattle.rz_show.specs.Pieces.{text_pieces}
+use Rattle.rz_show.specs.Print.{piece_lines, signed_written}
+use Rattle.rz_show.specs.Written.{a_blank, a_hex_byte, a_literal, a_sign, a_text, a_word, Written}
 
--- what stands before the byte of a long name at this position: after 64 bytes a new line begins
-unfoldable pub name_gap : ℕ → List ℕ
-name_gap position = if position == 0 then [] else if position % 64 == 0 then codes "\"\n    \"" else []
+-- something more stands behind a comma
+abbrev pub behind_comma : List Written → List Written
+behind_comma more = a_sign signs.Comma ∷ a_blank ∷ more
 
--- a byte of a long name, behind these
-abbrev pub name_byte : List ℕ → ℕ → List ℕ
-name_byte before byte = name_gap (length before) ++ shown_byte 34 byte
-
--- a name behind a comma, where there is one; a long name begins on a line of its own
-unfoldable pub name_text : List ℕ → List ℕ
-name_text name =
-    if length name == 0 then []
-    else if nat_le (length name) 64 then codes ", " ++ quoted 34 name
-    else codes ",\n    \"" ++ each_with_front name_byte name ++ codes "\""
-
--- the word of an attribute behind a comma, where its bit is set
-unfoldable pub word_text : ℕ → Attribute → List ℕ
-word_text attr attribute = if attr / bit_of attribute % 2 == 1 then codes ", " ++ setting_word attribute else []
+-- the word of an attribute, where its bit is set
+abbrev pub word_written : ℕ → Attribute → List Written
+word_written attr attribute = if attr / bit_of attribute % 2 == 1 then behind_comma (a_word (setting_word attribute) ∷ []) else []
 
 -- the attributes that are set: by their words, or as a number where the bit 80 or 01 is set, which have no word
-unfoldable pub attr_text : ℕ → List ℕ
-attr_text attr =
+abbrev pub attr_written : ℕ → List Written
+attr_written attr =
     if attr == 0 then []
-    else if nat_le 128 attr || (attr % 2 == 1) then codes ", $" ++ hex_byte attr
-    else word_text attr SystemHeap ++ word_text attr Purgeable ++ word_text attr Locked
-    ++ word_text attr Protected ++ word_text attr Preload ++ word_text attr Changed
+    else if nat_le 128 attr || (attr % 2 == 1) then behind_comma (a_hex_byte attr ∷ [])
+    else word_written attr SystemHeap ++ word_written attr Purgeable ++ word_written attr Locked
+    ++ word_written attr Protected ++ word_written attr Preload ++ word_written attr Changed
 
--- the line with this word, a type, an id, a name and attributes
-unfoldable pub head_text : (word : List ℕ) → ℕ → ℤ → List ℕ → ℕ → List ℕ
-head_text word code id name attr =
-    word ++ codes " " ++ literal_text code ++ codes " (" ++ signed_of id ++ name_text name ++ attr_text attr ++ codes ") {\n"
+-- the word, the type and the id
+unfoldable pub head_front : (word : List ℕ) → (code : ℕ) → (id : ℤ) → List Written
+head_front word code id = a_word word ∷ a_blank ∷ a_literal (be 4 code) ∷ a_blank ∷ a_sign signs.OpenParen ∷ signed_written id
+
+-- the attributes, and the brace that the items stand in
+unfoldable pub head_end : (attr : ℕ) → List Written
+head_end attr = attr_written attr ++ a_sign signs.CloseParen ∷ a_blank ∷ a_sign signs.OpenBrace ∷ []
+
+-- the pieces of a name that is longer than a line, each on a line of its own, and what stands behind it
+abbrev pub name_lines : (name : List ℕ) → (attr : ℕ) → List (List Written)
+name_lines name attr = piece_lines 1 (head_end attr) false (text_pieces false name).first (text_pieces false name).others
+
+-- the lines with this word, a type, an id, a name where there is one, and attributes: one line, or more where the name has more
+-- than 64 bytes
+unfoldable pub head_lines : (word : List ℕ) → (code : ℕ) → (id : ℤ) → (name : List ℕ) → (attr : ℕ) → List (List Written)
+head_lines word code id name attr =
+    if length name == 0 then (head_front word code id ++ head_end attr) ∷ []
+    else if nat_le (length name) 64 then (head_front word code id ++ behind_comma (a_text name ∷ head_end attr)) ∷ []
+    else (head_front word code id ++ a_sign signs.Comma ∷ []) ∷ name_lines name attr

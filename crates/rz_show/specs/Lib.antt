@@ -1,11 +1,14 @@
 pub mod Written
+pub mod Pieces
 pub mod Print
 pub mod Number
 pub mod Shown
 pub mod Printable
-pub mod Put
 pub mod Hidden
 pub mod Head
-pub mod Data
-pub mod Resource
+pub mod Statement
 pub mod Showing
+pub mod Height
+pub mod Cut
+pub mod Single
+pub mod Lines

@@ -45,6 +45,28 @@ abbrev mutual
   HaveWidths no_cases = Unit {0}
   HaveWidths (case_and name row others) = HasWidths row × HaveWidths others
 
+-- Names.
+
+abbrev mutual
+  -- the names of symbols and cases are words
+  pub HasName : PlainField → Type 0
+  HasName (Number number) = AllByRecursion (λ symbol. IsName symbol.name.bytes) number.symbols
+  HasName (Text text) = Unit {0}
+  HasName (Points points) = Unit {0}
+  HasName (Fill unit count) = Unit {0}
+  HasName (Align unit) = Unit {0}
+  HasName (Label name) = Unit {0}
+  HasName (Array name count row) = HasNames row
+  HasName (Switch cases) = HaveNames cases
+
+  pub HasNames : PlainBody → Type 0
+  HasNames no_fields = Unit {0}
+  HasNames (field_and field fields) = HasName field × HasNames fields
+
+  pub HaveNames : PlainCases → Type 0
+  HaveNames no_cases = Unit {0}
+  HaveNames (case_and name row others) = IsName name.bytes × HasNames row × HaveNames others
+
 -- Rows.
 
 abbrev mutual

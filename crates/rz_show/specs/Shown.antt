@@ -1,40 +1,15 @@
 -- Rows as they are shown. (As MPW DeRez shows them.)
-use Rattle.std.specs.Prelude.{ℕ, zero, suc, ◌-◌, Bool, true, false, ◌||◌, if◌then◌else◌, List, [], ◌∷◌, map, Option}
+use Rattle.std.specs.Prelude.{ℕ, Bool, true, false, ◌||◌, if◌then◌else◌, List, [], ◌∷◌, map, Option}
 use Rattle.std.specs.List.{list_any}
 use Rattle.rz_types_fields.specs.declared.tree.Tree.{Tree}
 use Rattle.rz_types_fields.specs.Laid.{first_value, line_in, number_in, other_values, rows_in, text_in}
 use Rattle.rz_types_fields.specs.Spells.{group_in, is_case}
 use Rattle.rz_types.specs.Field.{case_and, field_and, no_cases, no_fields, takes_value, Align, Array, Fill, Label, Number, PlainBody, PlainCases, PlainField, Points, Switch, Text}
 use Rattle.rz_show.specs.Number.{number_shown, signed_number}
-use Rattle.rz_show.specs.Print.{block, in_group, list_lines, named_block, no_prints, pieces, print, single, Print, Prints}
-use Rattle.rz_show.specs.Written.{lines_text}
+use Rattle.rz_show.specs.Pieces.{text_pieces}
+use Rattle.rz_show.specs.Print.{block, in_group, named_block, no_prints, pieces, print, single, Print, Prints}
 
 -- Texts.
-
--- bytes in pieces, at least one
-pub record Pieces : Type 0 where
-  pub first : List ℕ
-  pub others : List (List ℕ)
-
-abbrev pub in_front : ℕ → Pieces → Pieces
-in_front byte cut = record { first = byte ∷ cut.first; others = cut.others }
-
-abbrev pub new_piece : Pieces → Pieces
-new_piece cut = record { first = []; others = cut.first ∷ cut.others }
-
--- pieces of this size, of which the first has room for so many
-abbrev pub in_pieces : (size room : ℕ) → List ℕ → Pieces
-in_pieces size room [] = record { first = []; others = [] }
-in_pieces size (suc room) (byte ∷ bytes) = in_front byte (in_pieces size room bytes)
-in_pieces size zero (byte ∷ bytes) = new_piece (in_front byte (in_pieces size (size - 1) bytes))
-
--- the bytes of a text that stand on one line: 64, or 16 in hexadecimal
-abbrev pub piece_size : (hex : Bool) → ℕ
-piece_size true = 16
-piece_size false = 64
-
-abbrev pub text_pieces : (hex : Bool) → List ℕ → Pieces
-text_pieces hex bytes = in_pieces (piece_size hex) (piece_size hex) bytes
 
 abbrev pub text_print : (hex : Bool) → List ℕ → Print
 text_print hex bytes = pieces hex (text_pieces hex bytes).first (text_pieces hex bytes).others
@@ -75,10 +50,6 @@ module _ (hidden : List ℕ → Bool) where
     case_print no_cases value = block no_prints
     case_print (case_and name row others) value =
         if is_case name value then named_block name.bytes (row_prints row (line_in value) no_prints) else case_print others value
-
--- the lines of a row's items, at this depth
-abbrev pub row_text : (hidden : List ℕ → Bool) → (depth : ℕ) → PlainBody → List Tree → List ℕ
-row_text hidden depth body row = lines_text (list_lines depth (row_prints hidden body row no_prints))
 
 -- Whether a row can be shown at all.
 

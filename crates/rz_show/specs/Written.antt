@@ -17,6 +17,7 @@ pub data Written : Type 0 where
   a_hex : (digits number : ℕ) → Written  -- `0x` and so many hex digits
   an_octal : (number : ℕ) → Written  -- `0` and octal digits
   a_binary : (digits number : ℕ) → Written  -- `0B` and so many binary digits
+  a_hex_byte : (byte : ℕ) → Written  -- `$` and two hex digits
   a_literal : (bytes : List ℕ) → Written
   a_text : (bytes : List ℕ) → Written
   a_hex_text : (bytes : List ℕ) → Written  -- `$"`, hex digits and `"`
@@ -52,6 +53,7 @@ written_text (a_number number) = decimal_of number
 written_text (a_hex digits number) = 48 ∷ 120 ∷ digits_of 16 digits number
 written_text (an_octal number) = 48 ∷ digits_of 8 (octal_count number) number
 written_text (a_binary digits number) = 48 ∷ 66 ∷ digits_of 2 digits number
+written_text (a_hex_byte byte) = 36 ∷ hex_byte byte
 written_text (a_literal bytes) = quoted 39 bytes
 written_text (a_text bytes) = quoted 34 bytes
 written_text (a_hex_text bytes) = 36 ∷ 34 ∷ (in_groups bytes ++ 34 ∷ [])
@@ -65,6 +67,7 @@ written_shapes (a_number number) = shapes.Number number ∷ []
 written_shapes (a_hex digits number) = shapes.Number number ∷ []
 written_shapes (an_octal number) = shapes.Number number ∷ []
 written_shapes (a_binary digits number) = shapes.Number number ∷ []
+written_shapes (a_hex_byte byte) = shapes.Number byte ∷ []
 written_shapes (a_literal bytes) = shapes.Literal bytes ∷ []
 written_shapes (a_text bytes) = shapes.Text bytes ∷ []
 written_shapes (a_hex_text bytes) = shapes.Text bytes ∷ []
@@ -82,6 +85,10 @@ abbrev pub line_shapes : List Written → List Shape
 line_shapes [] = []
 line_shapes (one ∷ line) = written_shapes one ++ line_shapes line
 
+-- the bytes of a line with its line end
+abbrev pub as_line : List Written → List ℕ
+as_line line = line_text line ++ 10 ∷ []
+
 -- the bytes of lines, each with its line end, and their tokens
 abbrev pub lines_text : List (List Written) → List ℕ
 lines_text [] = []
@@ -97,6 +104,9 @@ lines_shapes (line ∷ lines) = line_shapes line ++ lines_shapes lines
 abbrev pub is_bare : Sign → Bool
 is_bare signs.OpenBrace = true
 is_bare signs.CloseBrace = true
+is_bare signs.OpenParen = true
+is_bare signs.CloseParen = true
+is_bare signs.Semicolon = true
 is_bare signs.Comma = true
 is_bare signs.Minus = true
 is_bare sign = false
@@ -108,6 +118,7 @@ IsWritten (a_number number) = number < 2 ^ 32
 IsWritten (a_hex digits number) = (0 < digits) × (digits ≤ 8) × (number < 16 ^ digits) × (number < 2 ^ 32)
 IsWritten (an_octal number) = number < 2 ^ 32
 IsWritten (a_binary digits number) = (0 < digits) × (digits ≤ 32) × (number < 2 ^ digits) × (number < 2 ^ 32)
+IsWritten (a_hex_byte byte) = byte < 256
 IsWritten (a_literal bytes) = AreBytes bytes × (0 < length bytes) × (length bytes ≤ 4)
 IsWritten (a_text bytes) = AreBytes bytes
 IsWritten (a_hex_text bytes) = AreBytes bytes
@@ -129,6 +140,7 @@ is_wordy (a_number number) = true
 is_wordy (a_hex digits number) = true
 is_wordy (an_octal number) = true
 is_wordy (a_binary digits number) = true
+is_wordy (a_hex_byte byte) = true
 is_wordy one = false
 
 abbrev pub begins_wordy : List Written → Bool

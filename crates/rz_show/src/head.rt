@@ -1,114 +1,72 @@
-//! The line that begins a statement: type, id, name and attributes; changes with `specs/Head`.
+//! The line that begins a statement: type, id and attributes; changes with `specs/Head`.
 
-ghost use Rattle.std.specs.Prelude.{◌≡◌, ◌==◌, ◌<◌, ◌++◌, ◌/◌, ◌%◌, OnOk};
-ghost use Rattle.rz_core.specs.Lists.{each_with_front};
-ghost use Rattle.rz_show.specs.Head.{attr_text, head_text, name_byte, name_gap, name_text, word_text};
+ghost use Rattle.std.specs.Prelude.{◌≡◌, ◌==◌, ◌<◌, ◌++◌, ◌/◌, ◌%◌};
+ghost use Rattle.rz_show.specs.Cut.{cut};
+ghost use Rattle.rz_show.specs.Head.{attr_written, head_end, head_front, word_written};
+ghost use Rattle.rz_show.specs.Written.{line_text};
+ghost use Rattle.rz_words.specs.declared.attribute.Attribute.TheVariants.{Changed, Locked, Preload, Protected, Purgeable, SystemHeap};
 
-use rz_core::{
-    Bytes, Facts, NoMemory, write_hex, write_quoted, write_shown, write_signed, write_type,
-};
-use rz_expr::{Attribute, bit_of, setting_word};
+use crate::line::Line;
+use rz_words::{Attribute, bit_of, setting_word};
 
-/// The bytes of a name that stand on one line.
-const PIECE: usize = 64;
-
-/// Appends the line that begins the statement of a resource with these facts: its word, the type as a literal, and in
-/// parentheses the id in decimal, the name where there is one, and the attributes where there are any;
-/// behind them a brace and a line end. Where memory is refused a part of it may have been appended.
-#[tactic(auto, unfolding(crate::specs::Head::head_text))]
-pub fn append_head(word: &[u8], facts: &Facts, into: &mut Bytes) -> Result<(), NoMemory>
-    ensures { OnOk result (into.new ≡ into.old ++ head_text word.now facts.now.kind.code facts.now.id facts.now.name facts.now.attr) }
-{
-    into.append(word)?;
-    into.append(b" ")?;
-    write_type(facts.kind, into)?;
-    into.append(b" (")?;
-    write_signed(i64::from(facts.id), into)?;
-    append_name(facts.name.as_slice(), into)?;
-    append_attr(facts.attr.byte(), into)?;
-    into.append(b") {\n")?;
-    Ok(())
-}
-
-/// A name of at most 64 bytes stands behind a comma and a blank. A longer one stands behind the comma
-/// in pieces of 64 bytes, each on a line of its own.
-#[tactic(auto, unfolding(crate::specs::Head::name_text))]
-fn append_name(name: &[u8], into: &mut Bytes) -> Result<(), NoMemory>
-    ensures { OnOk result (into.new ≡ into.old ++ name_text name.now) }
-{
-    if name.is_empty() {
-        return Ok(());
+#[tactic(auto, using(crate::proofs::Writes::writes))]
+impl Line {
+    /// Writes the word of a statement, a type as a literal, and behind a parenthesis an id in decimal.
+    #[tactic(auto, using(crate::proofs::Writes::writes), unfolding(crate::specs::Head::head_front))]
+    pub fn head_front(&mut self, word: &[u8], code: u32, id: i16)
+        ensures { self.new ≡ cut (self.old ++ line_text (head_front word.now code id)) }
+    {
+        self.append(word);
+        self.push(b' ');
+        self.literal(4, code);
+        self.append(b" (");
+        self.decimal(i64::from(id));
     }
-    if name.len() <= PIECE {
-        into.append(b", ")?;
-        write_quoted(name, b'"', into)?;
-    } else {
-        into.append(b",\n    \"")?;
-        append_pieces(name, into)?;
-        into.append(b"\"")?;
-    }
-    Ok(())
-}
 
-fn append_pieces(name: &[u8], into: &mut Bytes) -> Result<(), NoMemory>
-    ensures { OnOk result (into.new ≡ into.old ++ each_with_front name_byte name.now) }
-{
-    for k in 0..name.len() {
-        append_name_gap(k, into)?;
-        write_shown(name[k], b'"', into)?;
+    /// Writes the attributes, and behind a parenthesis the brace that the items stand in.
+    #[tactic(auto, using(crate::proofs::Writes::writes), unfolding(crate::specs::Head::head_end))]
+    pub fn head_end(&mut self, attr: u8)
+        ensures { self.new ≡ cut (self.old ++ line_text (head_end attr)) }
+    {
+        self.attributes(attr);
+        self.append(b") {");
     }
-    Ok(())
-}
 
-/// What stands before the name's byte at position `k`.
-#[tactic(auto, unfolding(crate::specs::Head::name_gap))]
-fn append_name_gap(k: usize, into: &mut Bytes) -> Result<(), NoMemory>
-    ensures { OnOk result (into.new ≡ into.old ++ name_gap k) }
-{
-    if k != 0 && k % PIECE == 0 {
-        into.append(b"\"\n    \"")?;
+    /// Writes the attributes, where there are any: by words, or as a number where the bit 80 or 01 is set, which have no word.
+    fn attributes(&mut self, attr: u8)
+        ensures { self.new ≡ cut (self.old ++ line_text (attr_written attr)) }
+    {
+        if attr == 0 {
+            self.append(b"");
+        } else if attr >= 0x80 || attr % 2 == 1 {
+            self.append(b", $");
+            self.hex_byte(attr);
+        } else {
+            self.words(attr);
+        }
     }
-    Ok(())
-}
 
-/// Attributes without the bits 80 and 01, which have no word, are shown by words.
-#[tactic(auto, unfolding(crate::specs::Head::attr_text))]
-fn append_attr(attr: u8, into: &mut Bytes) -> Result<(), NoMemory>
-    ensures { OnOk result (into.new ≡ into.old ++ attr_text attr) }
-{
-    if attr == 0 {
-        return Ok(());
+    /// Writes the words of the attributes that are set.
+    fn words(&mut self, attr: u8)
+        ensures { self.new ≡ cut (self.old ++ line_text (word_written attr SystemHeap ++ word_written attr Purgeable ++ word_written attr Locked ++ word_written attr Protected ++ word_written attr Preload ++ word_written attr Changed)) }
+    {
+        self.word(attr, Attribute::SystemHeap);
+        self.word(attr, Attribute::Purgeable);
+        self.word(attr, Attribute::Locked);
+        self.word(attr, Attribute::Protected);
+        self.word(attr, Attribute::Preload);
+        self.word(attr, Attribute::Changed);
     }
-    if attr >= 0x80 || attr % 2 == 1 {
-        into.append(b", $")?;
-        write_hex(attr, into)?;
-    } else {
-        append_word(attr, Attribute::SystemHeap, into)?;
-        append_word(attr, Attribute::Purgeable, into)?;
-        append_word(attr, Attribute::Locked, into)?;
-        append_word(attr, Attribute::Protected, into)?;
-        append_word(attr, Attribute::Preload, into)?;
-        append_word(attr, Attribute::Changed, into)?;
-    }
-    Ok(())
-}
 
-/// The word of an attribute, where its bit is set.
-#[tactic(auto, unfolding(crate::specs::Head::word_text))]
-fn append_word(attr: u8, attribute: Attribute, into: &mut Bytes) -> Result<(), NoMemory>
-    ensures { OnOk result (into.new ≡ into.old ++ word_text attr attribute) }
-{
-    if has_bit(attr, bit_of(attribute)) {
-        into.append(b", ")?;
-        into.append(setting_word(attribute))?;
+    /// Writes the word of an attribute, where its bit is set.
+    fn word(&mut self, attr: u8, attribute: Attribute)
+        ensures { self.new ≡ cut (self.old ++ line_text (word_written attr attribute)) }
+    {
+        if attr / bit_of(attribute) % 2 == 1 {
+            self.append(b", ");
+            self.append(setting_word(attribute));
+        } else {
+            self.append(b"");
+        }
     }
-    Ok(())
-}
-
-/// Whether a bit is set.
-fn has_bit(attr: u8, bit: u8) -> bool
-    requires { 0 < bit }
-    ensures { result ≡ (attr / bit % 2 == 1) }
-{
-    attr / bit % 2 == 1
 }

@@ -54,10 +54,18 @@ impl Hidden {
         ensures { IfOk result (λ has. has ≡ hides self.now name.now) }
     {
         if name.len() <= SHORT {
-            let mut front = [0; SHORT];
-            return Ok(self.held.contains(lower_short(&mut front, name)));
+            return Ok(self.has_short(name));
         }
         let lower = name.to_ascii_lowercase(alloc)?;
         Ok(self.held.contains(lower.as_slice()))
+    }
+
+    /// Whether a name of at most 255 bytes is one of them. It takes no memory.
+    pub fn has_short(&self, name: &[u8]) -> bool
+        requires { length name.now ≤ 255 }
+        ensures { result ≡ hides self.now name.now }
+    {
+        let mut front = [0; SHORT];
+        self.held.contains(lower_short(&mut front, name))
     }
 }

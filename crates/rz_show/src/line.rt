@@ -1,56 +1,89 @@
-//! Margins, commas and line ends between items; changes with `specs/Put`, the depth with `specs/Print`.
+//! A line that is being written. How much it holds is in `specs/Cut`; changes with `specs/Print` and `specs/Written`.
 
-ghost use Rattle.std.specs.Prelude.{◌≡◌, ◌∷◌, ◌++◌, [], OnOk};
-ghost use Rattle.rz_show.specs.Print.{deeper};
-ghost use Rattle.rz_show.specs.Put.{comma_text, end_text, margin_text};
+ghost use Rattle.std.specs.Prelude.{◌≡◌, ◌≤◌, ◌∷◌, ◌++◌, [], length, if◌then◌else◌};
+ghost use Rattle.rz_show.specs.Cut.{cut};
+ghost use Rattle.rz_show.specs.Print.{margin};
+ghost use Rattle.rz_show.specs.Written.{line_text};
 
-use rz_core::{Bytes, NoMemory};
+use arrayvec::ArrayVec;
+use std::marker::Model;
 
-/// The deepest level that shows: 32 blanks.
+/// The deepest level that shows.
 const DEEPEST: u8 = 8;
 
-/// Four blanks for each level, at most 32.
-pub fn write_margin(depth: u8, into: &mut Bytes) -> Result<(), NoMemory>
-    ensures { OnOk result (into.new ≡ into.old ++ margin_text depth) }
-{
-    for _ in 0..depth.min(DEEPEST) {
-        into.append(b"    ")?;
+/// The margin of the deepest level.
+const MARGIN: [u8; 32] = [b' '; 32];
+
+/// A line that is being written: at most 512 bytes, and what is written behind them is dropped. Contracts see its bytes.
+#[derive(Drop)]
+pub struct Line {
+    bytes: ArrayVec<u8, 512>,
+}
+
+impl Model for Line {
+    ghost use Rattle.std.specs.Prelude.{ℕ, List};
+
+    ghost Value = { List ℕ };
+
+    ghost view = { λ line. line.bytes.items };
+}
+
+impl Line {
+    /// An empty line.
+    pub fn new() -> Line
+        ensures { result ≡ [] }
+    {
+        Line {
+            bytes: ArrayVec::new(),
+        }
     }
-    Ok(())
-}
 
-/// One level deeper, as far as it shows.
-pub fn deeper(depth: u8) -> u8
-    ensures { result ≡ deeper depth }
-{
-    if depth < DEEPEST { depth + 1 } else { DEEPEST }
-}
-
-/// What stands before the next item of a list: a comma behind an item.
-pub fn write_comma(behind: bool, into: &mut Bytes) -> Result<(), NoMemory>
-    ensures { OnOk result (into.new ≡ into.old ++ comma_text behind) }
-{
-    if behind {
-        into.append(b",\n")?;
+    /// Lets go what is written.
+    pub fn clear(&mut self)
+        ensures { self.new ≡ [] }
+    {
+        self.bytes.clear();
     }
-    Ok(())
-}
 
-/// What stands at the end of a list: the line end of its last item, where it has one.
-pub fn write_end(behind: bool, into: &mut Bytes) -> Result<(), NoMemory>
-    ensures { OnOk result (into.new ≡ into.old ++ end_text behind) }
-{
-    if behind {
-        into.push(b'\n')?;
+    /// Writes a byte.
+    #[tactic(auto, using(crate::proofs::Writes::room))]
+    pub fn push(&mut self, byte: u8)
+        ensures { self.new ≡ cut (self.old ++ byte ∷ []) }
+    {
+        if !self.bytes.is_full() {
+            self.bytes.push(byte);
+        }
     }
-    Ok(())
-}
 
-/// The brace behind the items of a list.
-pub fn write_close(depth: u8, into: &mut Bytes) -> Result<(), NoMemory>
-    ensures { OnOk result (into.new ≡ into.old ++ (margin_text depth ++ 125 ∷ [])) }
-{
-    write_margin(depth, into)?;
-    into.push(b'}')?;
-    Ok(())
+    /// Writes bytes.
+    #[tactic(auto, using(crate::proofs::Writes::room))]
+    pub fn append(&mut self, bytes: &[u8])
+        ensures { self.new ≡ cut (self.old ++ bytes.now) }
+    {
+        let room = self.bytes.remaining_capacity();
+        let front = &bytes[..room.min(bytes.len())];
+        let _ = self.bytes.try_extend_from_slice(front);
+    }
+
+    /// Writes four blanks for each level, at most 32.
+    pub fn margin(&mut self, depth: u8)
+        ensures { self.new ≡ cut (self.old ++ line_text (margin depth)) }
+    {
+        let blanks = 4 * depth.min(DEEPEST) as usize;
+        self.append(&MARGIN[..blanks]);
+    }
+
+    /// Writes a comma, where something stands behind.
+    pub fn comma(&mut self, behind: bool)
+        ensures { self.new ≡ cut (self.old ++ (if behind then 44 ∷ [] else [])) }
+    {
+        self.append(if behind { b"," } else { b"" });
+    }
+
+    /// The bytes of the line.
+    pub fn into_bytes(self) -> ArrayVec<u8, 512>
+        ensures { result.items ≡ self }
+    {
+        self.bytes
+    }
 }

@@ -1,40 +1,43 @@
 //! Number fields as they are shown, by symbol or by value; changes with `specs/Number`.
 
-ghost use Rattle.std.specs.Prelude.{◌≡◌, ◌<◌, ◌≤◌, ◌/◌, ◌∷◌, ◌++◌, pos, nat_abs, List, [], map, option_map, true, OnOk};
-ghost use Rattle.rz_core.specs.Numbers.{be};
-ghost use Rattle.rz_show.specs.Hidden.{hides};
-ghost use Rattle.rz_show.specs.Number.{by_decimal, by_hex, by_literal, by_radix, by_truth, by_value, is_literal_width, is_stored, number_shown, signed_number, symbol_for, truth};
-ghost use Rattle.rz_show.specs.Print.{in_binary, in_group, in_hex, in_octal, in_text};
-ghost use Rattle.rz_show.specs.Printable.{IsWidth};
-ghost use Rattle.rz_show.specs.Put.{group_text, more_text, single_text};
+ghost use Rattle.std.specs.Prelude.{◌≡◌, ◌<◌, ◌≤◌, ◌/◌, nat_abs, length, option_map};
+ghost use Rattle.std.specs.List.{AllByRecursion};
+ghost use Rattle.rz_show.specs.Number.{by_decimal, by_literal, by_radix, by_truth, by_value, is_literal_width, is_stored, number_shown, signed_number, symbol_for};
+ghost use Rattle.rz_show.specs.Printable.{IsName, IsWidth};
+ghost use Rattle.rz_show.specs.Single.{hides_in, single_of};
 ghost use Rattle.rz_types.specs.Field.{plain_number};
 ghost use Rattle.rz_types.specs.Value.{symbol_value};
 
 use crate::Hidden;
-use crate::digits::{octal_count, write_digits};
-use crate::text::append_quoted;
-use rz_core::{Bytes, NoMemory, Word, write_signed};
+use crate::single::Single;
+use rz_core::Word;
 use rz_types::{NumField, NumForm, Radix, Symbol, stored_number};
 
-/// Appends a number of a field: the first of its symbols that gives it, unless that is a live macro, and else its value.
-pub fn write_number(
-    field: &NumField,
-    number: u32,
-    hidden: &Hidden,
-    into: &mut Bytes,
-) -> Result<(), NoMemory>
-    requires { IsWidth field.now.width }
-    ensures { OnOk result (into.new ≡ into.old ++ single_text (number_shown (hides hidden.now) (plain_number field.now) number)) }
+/// How a number of a field is shown: by the first of its symbols that gives it, unless that is a live macro, and else by
+/// its value. No macro hides a symbol where none are given.
+pub fn number_shown<'a>(field: &'a NumField, number: u32, hidden: Option<&Hidden>) -> Single<'a>
+    requires width { IsWidth field.now.width }
+    requires names { AllByRecursion (λ symbol. IsName symbol.name.bytes) field.now.symbols }
+    ensures { single_of result ≡ number_shown (hides_in (option_map (λ h. h.now) hidden.entry)) (plain_number field.now) number }
 {
     if let Some(name) = symbol_for(field, field.symbols.as_slice(), number) {
         let name = name.bytes.as_slice();
-        if !hidden.has(into.allocator(), name)? {
-            into.append(name)?;
-            return Ok(());
+        if !is_hidden(hidden, name) {
+            return Single::Name(name);
         }
     }
-    write_by_value(field, number, into)?;
-    Ok(())
+    by_value(field, number)
+}
+
+/// Whether a name is that of a macro, where macros are given.
+fn is_hidden(hidden: Option<&Hidden>, name: &[u8]) -> bool
+    requires { length name.now ≤ 255 }
+    ensures { result ≡ hides_in (option_map (λ h. h.now) hidden.entry) name.now }
+{
+    match hidden {
+        Some(hidden) => hidden.has_short(name),
+        None => false,
+    }
 }
 
 /// The first of the symbols that, looked up by its name, gives a number. Only symbols whose own value is stored so are
@@ -83,98 +86,58 @@ fn is_stored(field: &NumField, number: u32, value: Option<i32>) -> bool
 }
 
 /// A number by its value: a `char` as a text, a `boolean` as a word, and every other in its radix.
-fn write_by_value(field: &NumField, number: u32, into: &mut Bytes) -> Result<(), NoMemory>
+fn by_value(field: &NumField, number: u32) -> Single<'static>
     requires { IsWidth field.now.width }
-    ensures { OnOk result (into.new ≡ into.old ++ single_text (by_value (plain_number field.now) number)) }
+    ensures { single_of result ≡ by_value (plain_number field.now) number }
 {
     match field.form {
-        NumForm::Char => {
-            append_quoted(&[(number % 256) as u8], b'"', into)?;
-            Ok(())
-        }
-        NumForm::Boolean => {
-            write_truth(field.symbols.as_slice(), number, into)?;
-            Ok(())
-        }
-        _ => {
-            let width = field.width as u32;
-            write_by_radix(field.radix, field.unsigned, width, number, into)?;
-            Ok(())
-        }
+        NumForm::Char => Single::Text((number % 256) as u8),
+        NumForm::Boolean => by_truth(field.symbols.as_slice(), number),
+        _ => by_radix(field.radix, field.unsigned, field.width as u32, number),
     }
 }
 
 /// A `boolean`: `false` or `true`, or 0 or 1 where it has symbols.
-fn write_truth(symbols: &[Symbol], number: u32, into: &mut Bytes) -> Result<(), NoMemory>
-    ensures { OnOk result (into.new ≡ into.old ++ single_text (by_truth symbols.now number)) }
+fn by_truth(symbols: &[Symbol], number: u32) -> Single<'static>
+    ensures { single_of result ≡ by_truth symbols.now number }
 {
     if !symbols.is_empty() {
-        write_signed(i64::from(number), into)?;
+        Single::Decimal(i64::from(number))
     } else if number == 0 {
-        into.append(b"false")?;
+        Single::Name(b"false")
     } else {
-        into.append(b"true")?;
+        Single::Name(b"true")
     }
-    Ok(())
 }
 
 /// A number in its radix.
-fn write_by_radix(
-    radix: Radix,
-    unsigned: bool,
-    width: u32,
-    number: u32,
-    into: &mut Bytes,
-) -> Result<(), NoMemory>
+fn by_radix(radix: Radix, unsigned: bool, width: u32, number: u32) -> Single<'static>
     requires { (0 < width) × (width ≤ 32) }
-    ensures { OnOk result (into.new ≡ into.old ++ single_text (by_radix radix unsigned width number)) }
+    ensures { single_of result ≡ by_radix radix unsigned width number }
 {
     match radix {
-        Radix::Plain | Radix::Decimal => {
-            write_by_decimal(unsigned, width, number, into)?;
-            Ok(())
-        }
-        Radix::Hex => {
-            write_by_hex(width, number, into)?;
-            Ok(())
-        }
-        Radix::Octal => {
-            into.push(b'0')?;
-            write_digits(8, octal_count(number), number, into)?;
-            Ok(())
-        }
-        Radix::Binary => {
-            into.append(b"0B")?;
-            write_digits(2, width, number, into)?;
-            Ok(())
-        }
-        Radix::Literal => {
-            write_by_literal(width, number, into)?;
-            Ok(())
-        }
+        Radix::Plain | Radix::Decimal => by_decimal(unsigned, width, number),
+        Radix::Hex => Single::Hex((width + 3) / 4, number),
+        Radix::Octal => Single::Octal(number),
+        Radix::Binary => Single::Binary(width, number),
+        Radix::Literal => by_literal(width, number),
     }
 }
 
 /// A number in decimal, with or without a sign.
-fn write_by_decimal(
-    unsigned: bool,
-    width: u32,
-    number: u32,
-    into: &mut Bytes,
-) -> Result<(), NoMemory>
+fn by_decimal(unsigned: bool, width: u32, number: u32) -> Single<'static>
     requires { (0 < width) × (width ≤ 32) }
-    ensures { OnOk result (into.new ≡ into.old ++ single_text (by_decimal unsigned width number)) }
+    ensures { single_of result ≡ by_decimal unsigned width number }
 {
     if unsigned {
-        write_signed(i64::from(number), into)?;
+        Single::Decimal(i64::from(number))
     } else {
-        write_signed(signed_number(width, number), into)?;
+        Single::Decimal(signed_number(width, number))
     }
-    Ok(())
 }
 
 /// The number that so many bits are in two's complement.
-fn signed_number(width: u32, number: u32) -> i64
+pub fn signed_number(width: u32, number: u32) -> i64
     requires { (0 < width) × (width ≤ 32) }
     ensures { result ≡ signed_number width number }
 {
@@ -186,29 +149,16 @@ fn signed_number(width: u32, number: u32) -> i64
     -1 - below as i64
 }
 
-/// `0x` and a digit for each four bits.
-fn write_by_hex(width: u32, number: u32, into: &mut Bytes) -> Result<(), NoMemory>
+/// A literal of all bytes of a number of 8, 16 or 32 bits, and any other number in hexadecimal.
+fn by_literal(width: u32, number: u32) -> Single<'static>
     requires { width ≤ 32 }
-    ensures { OnOk result (into.new ≡ into.old ++ single_text (by_hex width number)) }
-{
-    into.append(b"0x")?;
-    write_digits(16, (width + 3) / 4, number, into)?;
-    Ok(())
-}
-
-/// A literal of all bytes of a number of 8, 16 or 32 bits, and any other number as `write_by_hex` does.
-fn write_by_literal(width: u32, number: u32, into: &mut Bytes) -> Result<(), NoMemory>
-    requires { width ≤ 32 }
-    ensures { OnOk result (into.new ≡ into.old ++ single_text (by_literal width number)) }
+    ensures { single_of result ≡ by_literal width number }
 {
     if is_literal_width(width) {
-        let bytes = number.to_be_bytes();
-        let first = 4 - (width / 8) as usize;
-        append_quoted(&bytes[first..], b'\'', into)?;
+        Single::Literal(width / 8, number)
     } else {
-        write_by_hex(width, number, into)?;
+        Single::Hex((width + 3) / 4, number)
     }
-    Ok(())
 }
 
 /// Whether it is the width of a literal: one, two or four bytes.
@@ -216,30 +166,4 @@ fn is_literal_width(width: u32) -> bool
     ensures { result ≡ is_literal_width width }
 {
     width == 8 || width == 16 || width == 32
-}
-
-/// The numbers of a point or a rectangle, in braces.
-pub fn write_group(numbers: &[u16], into: &mut Bytes) -> Result<(), NoMemory>
-    ensures { OnOk result (into.new ≡ into.old ++ group_text (map (signed_number 16) numbers.now)) }
-{
-    into.push(b'{')?;
-    if let Some((first, others)) = numbers.split_first() {
-        write_signed(signed_number(16, u32::from(*first)), into)?;
-        write_more(others, into)?;
-    } else {
-        into.push(b'}')?;
-    }
-    Ok(())
-}
-
-/// The numbers behind the first, each behind a comma, and the brace.
-fn write_more(numbers: &[u16], into: &mut Bytes) -> Result<(), NoMemory>
-    ensures { OnOk result (into.new ≡ into.old ++ more_text (map (signed_number 16) numbers.now)) }
-{
-    for number in numbers {
-        into.append(b", ")?;
-        write_signed(signed_number(16, u32::from(*number)), into)?;
-    }
-    into.push(b'}')?;
-    Ok(())
 }

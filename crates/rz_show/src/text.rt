@@ -1,20 +1,34 @@
-//! Texts as they are shown, in pieces on lines; changes with `specs/Shown` and `specs/Written`.
+//! Texts in pieces, of which each stands on a line of its own; changes with `specs/Pieces`.
 
-ghost use Rattle.std.specs.Prelude.{◌≡◌, ◌∷◌, ◌++◌, [], OnOk};
-ghost use Rattle.rz_core.specs.Quoted.{quoted};
-ghost use Rattle.rz_show.specs.Print.{piece_written};
-ghost use Rattle.rz_show.specs.Put.{item_text, margin_text};
-ghost use Rattle.rz_show.specs.Shown.{piece_size, text_print};
-ghost use Rattle.rz_show.specs.Written.{group_gap, in_groups, written_text};
-
-use crate::line::write_margin;
-use rz_core::{Bytes, NoMemory, write_hex, write_shown};
+ghost use Rattle.std.specs.Prelude.{◌≡◌, ℕ, ◌∷◌, ◌++◌, List};
+ghost use Rattle.rz_show.specs.Lines.{behind_piece, pending_lines, text_lines};
+ghost use Rattle.rz_show.specs.Pieces.{piece_size};
+ghost use Rattle.rz_show.specs.Print.{margin, piece_written};
+ghost use Rattle.rz_show.specs.Written.{Written};
 
 /// The bytes of a text that stand on one line.
-const PIECE: usize = 64;
+pub const PIECE: usize = 64;
 
 /// The same, in hexadecimal.
 const HEX_PIECE: usize = 16;
+
+/// A text, or what is left of it.
+#[derive(Clone, Copy)]
+pub struct Text<'a> {
+    /// The bytes.
+    pub bytes: &'a [u8],
+    /// Whether they are shown in hexadecimal.
+    pub hex: bool,
+}
+
+/// The first piece of a text.
+#[derive(Drop)]
+pub struct Front<'a> {
+    /// Its bytes.
+    pub piece: &'a [u8],
+    /// What is left of the text, where something is.
+    pub rest: Option<Text<'a>>,
+}
 
 /// How many bytes of a text stand on one line.
 fn piece_size(hex: bool) -> usize
@@ -23,74 +37,26 @@ fn piece_size(hex: bool) -> usize
     if hex { HEX_PIECE } else { PIECE }
 }
 
-/// Appends a text in pieces, each on a line of its own; an empty one is one piece.
-pub fn write_text(bytes: &[u8], hex: bool, depth: u8, into: &mut Bytes) -> Result<(), NoMemory>
-    ensures { OnOk result (into.new ≡ into.old ++ item_text depth (text_print hex bytes.now)) }
-{
-    let size = piece_size(hex);
-    let mut rest = bytes;
-    'pieces: while rest.len() > size {
-        let (piece, others) = rest.split_at(size);
-        write_piece(piece, hex, depth, into)?;
-        into.push(b'\n')?;
-        rest = others;
+impl<'a> Text<'a> {
+    /// The first piece; an empty text is one piece.
+    pub fn front(self) -> Front<'a>
+        ensures { (depth : ℕ) → (behind : List Written) → text_lines depth behind self.entry.hex self.entry.bytes.now ≡ (margin depth ++ piece_written self.entry.hex result.piece.now ∷ behind_piece result.rest behind) ∷ pending_lines depth behind result.rest }
+    {
+        let size = piece_size(self.hex);
+        if self.bytes.len() <= size {
+            return Front {
+                piece: self.bytes,
+                rest: None,
+            };
+        }
+        let (piece, bytes) = self.bytes.split_at(size);
+        let rest = Text {
+            bytes,
+            hex: self.hex,
+        };
+        Front {
+            piece,
+            rest: Some(rest),
+        }
     }
-    write_piece(rest, hex, depth, into)?;
-    Ok(())
-}
-
-/// A piece of a text behind its margin.
-fn write_piece(bytes: &[u8], hex: bool, depth: u8, into: &mut Bytes) -> Result<(), NoMemory>
-    ensures { OnOk result (into.new ≡ into.old ++ (margin_text depth ++ written_text (piece_written hex bytes.now))) }
-{
-    write_margin(depth, into)?;
-    if hex {
-        append_hex(bytes, into)?;
-    } else {
-        append_quoted(bytes, b'"', into)?;
-    }
-    Ok(())
-}
-
-/// Bytes between two such quote marks.
-pub fn append_quoted(bytes: &[u8], quote: u8, into: &mut Bytes) -> Result<(), NoMemory>
-    ensures { OnOk result (into.new ≡ into.old ++ quoted quote bytes.now) }
-{
-    into.push(quote)?;
-    for &byte in bytes {
-        write_shown(byte, quote, into)?;
-    }
-    into.push(quote)?;
-    Ok(())
-}
-
-/// Bytes in hexadecimal, in groups of two.
-fn append_hex(bytes: &[u8], into: &mut Bytes) -> Result<(), NoMemory>
-    ensures { OnOk result (into.new ≡ into.old ++ 36 ∷ 34 ∷ (in_groups bytes.now ++ 34 ∷ [])) }
-{
-    into.append(b"$\"")?;
-    append_groups(bytes, into)?;
-    into.push(b'"')?;
-    Ok(())
-}
-
-/// The bytes, two digits each, with what stands between them.
-fn append_groups(bytes: &[u8], into: &mut Bytes) -> Result<(), NoMemory>
-    ensures { OnOk result (into.new ≡ into.old ++ in_groups bytes.now) }
-{
-    for k in 0..bytes.len() {
-        append_gap(k, into)?;
-        write_hex(bytes[k], into)?;
-    }
-    Ok(())
-}
-
-/// What stands before the byte at position `k`.
-fn append_gap(k: usize, into: &mut Bytes) -> Result<(), NoMemory>
-    ensures { OnOk result (into.new ≡ into.old ++ group_gap k) }
-{
-    if k != 0 && k % 2 == 0 {
-        into.push(b' ')?;
-    }
-    Ok(())
 }

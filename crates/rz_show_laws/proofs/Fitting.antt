@@ -1,17 +1,12 @@
 -- The items of a row that is shown fit the row.
-use Rattle.std.proofs.Common.{◌≡◌, inl, inr, ℕ, zero, suc, ◌-◌, ◌<◌, Bool, true, false, ◌&&◌, ◌||◌, List, [], ◌∷◌, ◌++◌, length, map, Option, Some, None, Ok, Err, refl, sym, ap, subst, ◌∙◌, arith, append-nil}
+use Rattle.std.proofs.Common.{◌≡◌, inl, inr, ℕ, ◌<◌, Bool, true, false, ◌&&◌, ◌||◌, List, [], ◌∷◌, ◌++◌, length, map, Option, Some, None, Ok, refl, sym, ap, subst, ◌∙◌, arith, append-nil}
 use Rattle.std.specs.Prelude.{if◌then◌else◌, replicate}
 use Rattle.std.specs.List.{AllByRecursion}
 use Rattle.std.specs.Str.{str_eq_ignore_ascii_case}
-use Rattle.std.specs.declared.result.Result.{Result}
 use Rattle.rz_core.proofs.Tests.{both, true_false}
-use Rattle.rz_core.specs.Stop.{◌>>=◌}
 use Rattle.rz_core.specs.declared.facts.Facts.{Facts}
-use Rattle.rz_core.specs.declared.fault.Fault.{Fault}
 use Rattle.rz_core.specs.declared.fault.Mark.{Mark}
 use Rattle.rz_core.specs.declared.resource.Word.{Word}
-use Rattle.rz_types_fields.specs.Text as parts
-use Rattle.rz_types_fields.specs.Text.{bytes_of}
 use Rattle.rz_types_fields.specs.declared.tree.Tree.{Tree}
 use Rattle.rz_types_fields.specs.declared.tree.Tree.TheVariants as trees
 use Rattle.rz_stmt_items.specs.Item as item
@@ -30,8 +25,10 @@ use Rattle.rz_show_laws.proofs.Items.{ArePrintedItems, IsPrintedItem, IsSingleIt
 use Rattle.rz_show.specs.Number.{number_shown, signed_number}
 use Rattle.rz_show.specs.Print.{in_group, named_block, no_prints, Print, Prints}
 use Rattle.rz_show_laws.specs.Short.{AreShortTexts, IsShortCase, IsShortText}
-use Rattle.rz_show.specs.Shown.{case_print, field_print, in_pieces, piece_size, print_if, row_prints, rows_prints, text_print}
-use Rattle.rz_show_laws.proofs.Trees.{choice_chosen, choice_differs, choice_is, fronted, group_is, line_is, number_is, rows_are, same_name, text_is}
+use Rattle.rz_show.specs.Pieces.{piece_size, text_pieces}
+use Rattle.rz_show.specs.Shown.{case_print, field_print, print_if, row_prints, rows_prints, text_print}
+use Rattle.rz_show_laws.proofs.Texts.{all_pieces, pieces_join, pieces_read}
+use Rattle.rz_show.proofs.Trees.{choice_chosen, choice_differs, choice_is, fronted, group_is, line_is, number_is, rows_are, same_name, text_is}
 use Rattle.rz_show.proofs.Widths.{fields_shaped}
 use Rattle.rz_show_laws.proofs.Values.{formed, group_items, number_item}
 
@@ -62,12 +59,6 @@ first_print false here there one is printed = absurd (true_false (sym is))
 later_print : (test : Bool) (here there : Print) (one : PlainItem) → test ≡ false → IsPrintedItem (if test then here else there) one → IsPrintedItem there one
 later_print true here there one is printed = absurd (true_false is)
 later_print false here there one is printed = printed
-
--- a byte more in front of bytes that are answered
-with_byte : (byte : ℕ) (front bytes : List ℕ) (answer : Result (List ℕ) Fault) → (answer >>= λ more. Ok (front ++ more)) ≡ Ok bytes
-    → (answer >>= λ more. Ok ((byte ∷ front) ++ more)) ≡ Ok (byte ∷ bytes)
-with_byte byte front bytes (Ok more) is = ap (λ (r : Result (List ℕ) Fault). r >>= λ all. Ok (byte ∷ all)) is
-with_byte byte front bytes (Err fault) is = ap (λ (r : Result (List ℕ) Fault). r >>= λ all. Ok (byte ∷ all)) is
 
 -- the items in front fit the row, and those behind are those of more
 pub record Front (Fit : List PlainItem → List Tree → Type 0) (row : List Tree) (more : Prints) (items : List PlainItem) : Type 0 where
@@ -136,23 +127,10 @@ module _ (known : Facts) where
 
   -- Texts.
 
-  -- the bytes of a text of these pieces
-  abbrev plain_bytes : Mark → List (List ℕ) → Result (List ℕ) Fault
-  plain_bytes mark pieces = bytes_of mark known (map (λ piece. parts.Plain piece) pieces)
-
-  joined : (mark : Mark) (size room : ℕ) (bytes : List ℕ) → plain_bytes mark ((in_pieces size room bytes).first ∷ (in_pieces size room bytes).others) ≡ Ok bytes
-  joined mark size room [] = refl
-  joined mark size (suc room) (b ∷ bytes) =
-      let pieces = in_pieces size room bytes in
-      with_byte b pieces.first bytes (plain_bytes mark pieces.others) (joined mark size room bytes)
-  joined mark size zero (b ∷ bytes) =
-      let pieces = in_pieces size (size - 1) bytes in
-      ap (λ (answer : Result (List ℕ) Fault). answer >>= λ all. Ok all)
-      (with_byte b pieces.first bytes (plain_bytes mark pieces.others) (joined mark size (size - 1) bytes))
-
   text_fits : (text : PlainText) (bytes : List ℕ) (one : PlainItem) → exceeds text bytes ≡ false → IsPrintedItem (text_print text.hex bytes) one → IsTextOf known text one bytes
   text_fits text bytes one short (mark, is) =
-      subst (λ (x : PlainItem). IsTextOf known text x bytes) (sym is) (joined mark (piece_size text.hex) (piece_size text.hex) bytes, short)
+      subst (λ (x : PlainItem). IsTextOf known text x bytes) (sym is)
+      (pieces_read mark known (all_pieces (text_pieces text.hex bytes)) ∙ ap (λ (x : List ℕ). Ok x) (pieces_join (piece_size text.hex) (piece_size text.hex) bytes), short)
 
   -- Points.
 

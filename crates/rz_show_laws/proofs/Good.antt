@@ -9,6 +9,7 @@ use Rattle.std.proofs.lemmas.Int.{ints}
 use Rattle.std.proofs.lemmas.Nat.{pow-add}
 use Rattle.std.proofs.Math.Nat.{pow-suc}
 use Rattle.std.proofs.Math.Pow.{pow_mono}
+use Rattle.rz_core.proofs.Lists.{all_append}
 use Rattle.rz_core.proofs.Tests.{both, by_test, or_false, true_false}
 use Rattle.rz_core.specs.Numbers.{be, length-be_1, length-be_2, length-be_4}
 use Rattle.rz_core.specs.declared.resource.Word.{Word}
@@ -30,23 +31,15 @@ use Rattle.rz_types.specs.Value.{symbol_value}
 use Rattle.rz_types.specs.Walk.{and_names, around_names, names_of, Own}
 use Rattle.rz_show.specs.Number.{by_decimal, by_form, by_hex, by_literal, by_radix, by_truth, by_value, is_literal_width, is_stored, named_or, number_shown, signed_number, symbol_for, truth}
 use Rattle.rz_show.specs.Print.{group_rest, group_written, no_prints, signed_written, single_written, Print, Prints}
-use Rattle.rz_show.specs.Printable.{AreGood, AreOfBytes, IsCaseOfBytes, IsGood, IsName, IsOfBytes, IsWidth, SparesTruth}
-use Rattle.rz_show.specs.Shown.{case_print, case_uses, field_print, field_uses, in_pieces, print_if, row_prints, row_uses, rows_prints, text_print}
+use Rattle.rz_show.specs.Printable.{AreGood, AreOfBytes, HasName, HasNames, HaveNames, IsCaseOfBytes, IsGood, IsName, IsOfBytes, IsWidth, SparesTruth}
+use Rattle.rz_show.specs.Shown.{case_print, case_uses, field_print, field_uses, print_if, row_prints, row_uses, rows_prints, text_print}
 use Rattle.rz_show.specs.Written.{a_literal, IsPut, IsWritten}
-use Rattle.rz_show_laws.proofs.CutLines.{all_both}
-use Rattle.rz_show_laws.proofs.Names.{shaped_names, HasName, HasNames, HaveNames}
-use Rattle.rz_show_laws.proofs.Trees.{choice_chosen, choice_differs, fronted, group_is, line_is, number_is, rows_are, Takes}
-use Rattle.rz_show.proofs.Widths.{fields_shaped, number_width}
+use Rattle.rz_show.proofs.Names.{shaped_names}
+use Rattle.rz_show_laws.proofs.Texts.{pieces_small}
+use Rattle.rz_show.proofs.Trees.{choice_chosen, choice_differs, fronted, group_is, line_is, number_is, rows_are, taken, Takes}
+use Rattle.rz_show.proofs.Widths.{fields_shaped, number_width, width_most, width_some}
 
 -- Numbers.
-
-width_some : (width : ℤ) → IsWidth width → 0 < nat_abs width
-width_some (pos n) is = omega (arith, ints, is.0)
-width_some (negsuc n) is = absurd (omega (arith, ints, is.0))
-
-width_most : (width : ℤ) → IsWidth width → nat_abs width ≤ 32
-width_most (pos n) is = omega (arith, ints, is.1)
-width_most (negsuc n) is = absurd (omega (arith, ints, is.0))
 
 half : (width : ℕ) → 0 < width → 2 ^ width ≡ 2 * 2 ^ (width - 1)
 half width some =
@@ -151,23 +144,18 @@ module _ (hidden : List ℕ → Bool) where
   rest_good : (ns : List ℕ) → AllByRecursion (λ n. n < 65536) ns → AllByRecursion (IsPut hidden) (group_rest (map (signed_number 16) ns))
   rest_good [] each = ((refl, tt), tt)
   rest_good (n ∷ ns) each =
-      ((refl, tt), ((tt, tt), all_both (IsPut hidden) (signed_written (signed_number 16 n)) (group_rest (map (signed_number 16) ns)) (signed_good 16 n (omega arith) (omega arith) each.0) (rest_good ns each.1)))
+      ((refl, tt), ((tt, tt), all_append (IsPut hidden) (signed_written (signed_number 16 n)) (group_rest (map (signed_number 16) ns)) (signed_good 16 n (omega arith) (omega arith) each.0) (rest_good ns each.1)))
 
   group_good : (ns : List ℕ) → AllByRecursion (λ n. n < 65536) ns → AllByRecursion (IsPut hidden) (group_written (map (signed_number 16) ns))
   group_good [] each = ((refl, tt), ((refl, tt), tt))
   group_good (n ∷ ns) each =
-      ((refl, tt), all_both (IsPut hidden) (signed_written (signed_number 16 n)) (group_rest (map (signed_number 16) ns)) (signed_good 16 n (omega arith) (omega arith) each.0) (rest_good ns each.1))
+      ((refl, tt), all_append (IsPut hidden) (signed_written (signed_number 16 n)) (group_rest (map (signed_number 16) ns)) (signed_good 16 n (omega arith) (omega arith) each.0) (rest_good ns each.1))
 
   -- Texts.
 
-  pieces_good : (size room : ℕ) (bytes : List ℕ) → AreBytes bytes → AllByRecursion AreBytes ((in_pieces size room bytes).first ∷ (in_pieces size room bytes).others)
-  pieces_good size room [] small = (tt, tt)
-  pieces_good size (suc room) (b ∷ bytes) small = let t = pieces_good size room bytes small.1 in ((small.0, t.0), t.1)
-  pieces_good size zero (b ∷ bytes) small = let t = pieces_good size (size - 1) bytes small.1 in (tt, ((small.0, t.0), t.1))
-
-  text_good : (hex : Bool) (bytes : List ℕ) → AreBytes bytes → IsGood hidden (text_print hex bytes)
-  text_good true bytes small = pieces_good 16 16 bytes small
-  text_good false bytes small = pieces_good 64 64 bytes small
+  pub text_good : (hex : Bool) (bytes : List ℕ) → AreBytes bytes → IsGood hidden (text_print hex bytes)
+  text_good true bytes small = pieces_small 16 16 bytes small
+  text_good false bytes small = pieces_small 64 64 bytes small
 
   -- Rows.
 
@@ -192,10 +180,6 @@ all_showable hidden body [] are bytes uses = tt
 all_showable hidden body (row ∷ rows) are bytes uses =
     let each = or_false (row_uses hidden body row) (list_any (row_uses hidden body) rows) uses in
     (record { is = are.0; bytes = bytes.0; uses = each.0 }, all_showable hidden body rows are.1 bytes.1 each.1)
-
-taken : (takes : Bool) (P : Tree → Type 0) (value : Option Tree) → Takes takes P value → takes ≡ true → (v : Tree) × P v × (value ≡ Some v)
-taken true P value has is = has
-taken false P value has is = absurd (true_false (sym is))
 
 chosen : (test : Bool) (A B : Type 0) → By test A B → test ≡ true → A
 chosen true A B has is = has

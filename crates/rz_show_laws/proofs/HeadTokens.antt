@@ -8,9 +8,9 @@ use Rattle.std.proofs.lemmas.List.{append-nil}
 use Rattle.std.proofs.lemmas.List.Concat.{flat_map-cons}
 use Rattle.rz_expr.specs.Grammar.{start_of, Derives, IsExpression, Operand}
 use Rattle.rz_expr.specs.Term.{Constant, Term}
-use Rattle.rz_expr.specs.Attribute.{attribute_word, bit_of, setting_word}
-use Rattle.rz_expr.specs.declared.attribute.Attribute as words
-use Rattle.rz_expr.specs.declared.attribute.Attribute.TheVariants.{Changed, Locked, Preload, Protected, Purgeable, SystemHeap}
+use Rattle.rz_words.specs.Attribute.{attribute_word, bit_of, setting_word}
+use Rattle.rz_words.specs.declared.attribute.Attribute as words
+use Rattle.rz_words.specs.declared.attribute.Attribute.TheVariants.{Changed, Locked, Preload, Protected, Purgeable, SystemHeap}
 use Rattle.rz_lex.specs.Printed.{token_of, word_of}
 use Rattle.rz_lex.specs.declared.sign.Sign.TheVariants as signs
 use Rattle.rz_lex.specs.declared.token.Shape.{Shape}
@@ -25,9 +25,11 @@ use Rattle.rz_stmt_data.specs.Texts.{begins_text, starts_text}
 use Rattle.rz_stmt_data.specs.declared.head.Subject.TheVariants.{New}
 use Rattle.rz_types_fields.specs.declared.place.TextPlace.TheVariants as places
 use Rattle.rz_show_laws.specs.Statement.{attribute_part, attributes_of, id_term, name_part, text_parts}
-use Rattle.rz_show_laws.proofs.Shapes.{behind_commas, id_shapes, name_pieces, text_shapes}
+use Rattle.rz_show_laws.proofs.Shapes.{behind_commas, head_pieces, id_shapes, name_pieces, shape_alone, text_shapes}
 use Rattle.rz_show_laws.proofs.Split.{front_and_back, none_left, one_and_more, shapes_in}
+use Rattle.rz_core.proofs.Lists.{all_append}
 use Rattle.rz_core.proofs.Tests.{by_test}
+use Rattle.rz_core.specs.declared.resource.Resource.{Resource}
 
 -- Shapes that stand inside a piece of a head: no commas, brackets and semicolons; and those that stand in a head.
 
@@ -48,6 +50,9 @@ AreInner tokens = AllByRecursion (λ token. is_inner token.shape ≡ true) token
 abbrev pub AreFlat : List Token → Type 0
 AreFlat tokens = AllByRecursion (λ token. is_flat token.shape ≡ true) tokens
 
+abbrev pub AreFlatShapes : List Shape → Type 0
+AreFlatShapes shapes = AllByRecursion (λ shape. is_flat shape ≡ true) shapes
+
 pub all_of : (P : Shape → Type 0) (tokens : List Token) (shapes : List Shape) → shapes_in tokens ≡ shapes → AllByRecursion P shapes → AllByRecursion (λ (token : Token). P token.shape) tokens
 all_of P tokens shapes is all = go tokens (subst (AllByRecursion P) (sym is) all)
   where
@@ -55,11 +60,7 @@ all_of P tokens shapes is all = go tokens (subst (AllByRecursion P) (sym is) all
     go [] all = tt
     go (t ∷ tokens) all = (all.0, go tokens all.1)
 
-pub all_both : {X : Type 0} (P : X → Type 0) (xs ys : List X) → AllByRecursion P xs → AllByRecursion P ys → AllByRecursion P (xs ++ ys)
-all_both P [] ys front back = back
-all_both P (x ∷ xs) ys front back = (front.0, all_both P xs ys front.1 back)
-
-pub inner_is_flat : (shapes : List Shape) → AllByRecursion (λ shape. is_inner shape ≡ true) shapes → AllByRecursion (λ shape. is_flat shape ≡ true) shapes
+pub inner_is_flat : (shapes : List Shape) → AllByRecursion (λ shape. is_inner shape ≡ true) shapes → AreFlatShapes shapes
 inner_is_flat [] all = tt
 inner_is_flat (shape ∷ shapes) all = (ap (λ b. b || is_comma shape) all.0, inner_is_flat shapes all.1)
 
@@ -83,7 +84,7 @@ pub record AreShownAttributes (attributes : List (Shape × Attribute)) : Type 0 
   pub each : AllByRecursion IsShownAttribute attributes
 
 shown_both : {xs ys : List (Shape × Attribute)} → AreShownAttributes xs → AreShownAttributes ys → AreShownAttributes (xs ++ ys)
-shown_both {xs} {ys} front back = record { each = all_both IsShownAttribute xs ys front.each back.each }
+shown_both {xs} {ys} front back = record { each = all_append IsShownAttribute xs ys front.each back.each }
 
 shown_word : (attr : ℕ) (attribute : words.Attribute) → starts_text (word_of (setting_word attribute)) ≡ false → ((token : Token) → token.shape ≡ word_of (setting_word attribute) → IsAttribute (token ∷ []) (Set (bit_of attribute)))
     → AreShownAttributes (attribute_part attr attribute)
@@ -113,14 +114,14 @@ shown_attributes attr small = by_test (AreShownAttributes (attributes_of attr)) 
 -- The pieces of the head, behind the id.
 
 -- the pieces are these attributes
-attribute_pieces : (attributes : List (Shape × Attribute)) → AllByRecursion IsShownAttribute attributes → (pieces : List (List Token)) → map shapes_in pieces ≡ map (λ a. a.0 ∷ []) attributes
+attribute_pieces : (attributes : List (Shape × Attribute)) → AllByRecursion IsShownAttribute attributes → (pieces : List (List Token)) → map shapes_in pieces ≡ map shape_alone attributes
     → AreAttributes pieces (map (λ a. a.1) attributes)
 attribute_pieces [] shown [] is = refl
 attribute_pieces [] shown (piece ∷ pieces) is = absurd cc
 attribute_pieces (a ∷ attributes) shown [] is = absurd cc
 attribute_pieces (a ∷ attributes) shown (piece ∷ pieces) is =
     let first : shapes_in piece ≡ a.0 ∷ [] = cc in
-    let others : map shapes_in pieces ≡ map (λ a. a.0 ∷ []) attributes = cc in
+    let others : map shapes_in pieces ≡ map shape_alone attributes = cc in
     let one = one_and_more piece a.0 [] first in
     let alone : piece ≡ one.one ∷ [] = one.are ∙ ap (λ (x : List Token). one.one ∷ x) (none_left one.more one.more_are) in (
       a.1,
@@ -136,7 +137,7 @@ no_name_piece a shown piece is =
     ap begins_text one.are ∙ ap starts_text one.one_is ∙ shown.no_text
 
 pub rest_is : (name : List (List ℕ)) (attributes : List (Shape × Attribute)) → AllByRecursion IsShownAttribute attributes → (pieces : List (List Token))
-    → map shapes_in pieces ≡ name_pieces name ++ map (λ a. a.0 ∷ []) attributes → IsRest pieces (name_part name) (map (λ a. a.1) attributes)
+    → map shapes_in pieces ≡ name_pieces name ++ map shape_alone attributes → IsRest pieces (name_part name) (map (λ a. a.1) attributes)
 rest_is [] [] shown [] is = (refl, refl)
 rest_is [] [] shown (piece ∷ pieces) is = absurd cc
 rest_is [] (a ∷ attributes) shown [] is = absurd cc
@@ -146,7 +147,7 @@ rest_is [] (a ∷ attributes) shown (piece ∷ pieces) is =
 rest_is (part ∷ name) attributes shown [] is = absurd cc
 rest_is (part ∷ name) attributes shown (piece ∷ pieces) is =
     let first : shapes_in piece ≡ text_shapes (part ∷ name) = cc in
-    let others : map shapes_in pieces ≡ map (λ a. a.0 ∷ []) attributes = cc in
+    let others : map shapes_in pieces ≡ map shape_alone attributes = cc in
     rw (plain_begins part name piece first) (text_parts (part ∷ name), plain_text places.New part name piece first, attribute_pieces attributes shown pieces others, refl)
 
 -- the id
@@ -205,6 +206,23 @@ flat_of_inner (token ∷ tokens) inner = (ap (λ b. b || is_comma token.shape) i
 
 abbrev pub ArePieces : List (List Shape) → Type 0
 ArePieces pieces = AllByRecursion (λ piece. AllByRecursion (λ shape. is_inner shape ≡ true) piece) pieces
+
+pub pieces_are_inner : (r : Resource) (name : List (List ℕ)) → r.attr < 256 → ArePieces (head_pieces r name)
+pieces_are_inner r name small = all_append (AllByRecursion (λ shape. is_inner shape ≡ true)) (name_pieces name) (map shape_alone (attributes_of r.attr)) (of_name name) (of_attributes (attributes_of r.attr) (shown_attributes r.attr small).each)
+  where
+    of_name : (name : List (List ℕ)) → ArePieces (name_pieces name)
+    of_name [] = tt
+    of_name (piece ∷ name) = (texts_are_inner (piece ∷ name), tt)
+
+    of_attributes : (attributes : List (Shape × Attribute)) → AllByRecursion IsShownAttribute attributes → ArePieces (map shape_alone attributes)
+    of_attributes [] shown = tt
+    of_attributes (a ∷ attributes) shown = ((shown.0.inner, tt), of_attributes attributes shown.1)
+
+pub pieces_are_flat : (pieces : List (List Shape)) → ArePieces pieces → AreFlatShapes (behind_commas pieces)
+pieces_are_flat [] inner = tt
+pieces_are_flat (piece ∷ pieces) inner =
+    subst AreFlatShapes (sym (flat_map-cons (λ (piece : List Shape). shapes.Sign signs.Comma ∷ piece) piece pieces))
+    (refl, all_append (λ shape. is_flat shape ≡ true) piece (behind_commas pieces) (inner_is_flat piece inner.0) (pieces_are_flat pieces inner.1))
 
 -- the tokens of a head are cut at their commas into the first piece and these
 pub record IsHeadOf (first named : List Token) (pieces : List (List Shape)) : Type 0 where

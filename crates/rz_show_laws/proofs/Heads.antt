@@ -1,247 +1,206 @@
--- The line that begins a statement, as it is printed.
-use Rattle.std.proofs.Common.{◌≡◌, ℕ, suc, ◌/◌, ◌%◌, ◌<◌, ◌≤◌, ◌^◌, ℤ, pos, negsuc, Bool, true, false, List, [], ◌∷◌, ◌++◌, map, length, Option, Some, None, refl, sym, ap, subst, ◌∙◌, arith, append_assoc}
-use Rattle.std.specs.Prelude.{◌==◌, ◌||◌, nat_le, codes, decimal, FitsSigned}
+-- The lines that begin a statement are cut into the tokens of its head.
+use Rattle.std.proofs.Common.{◌≡◌, ℕ, ◌/◌, ◌%◌, ◌<◌, ◌≤◌, ℤ, pos, negsuc, Bool, true, false, List, [], ◌∷◌, ◌++◌, map, length, refl, sym, ap, subst, ◌∙◌, arith, append_assoc}
+use Rattle.std.specs.Prelude.{◌==◌, ◌||◌, nat_le, FitsSigned}
 use Rattle.std.specs.Int.{w16}
-use Rattle.std.specs.List.{flat_map}
-use Rattle.std.proofs.lemmas.Bool.{agree_below_at, eqb-true, ne_eqb}
+use Rattle.std.specs.List.{flat_map, AllByRecursion}
+use Rattle.std.proofs.lemmas.Bool.{eqb-true}
 use Rattle.std.proofs.lemmas.Grind.{flat_map-append}
 use Rattle.std.proofs.lemmas.List.{append-nil, map-append}
-use Rattle.rz_core.specs.Decimal.{decimal_of, signed_of}
-use Rattle.rz_core.specs.Lists.{each_with_front}
+use Rattle.rz_core.proofs.Lists.{all_append}
+use Rattle.rz_core.proofs.Tests.{by_test}
 use Rattle.rz_core.specs.Numbers.{be, length-be_4}
-use Rattle.rz_core.specs.Quoted.{hex_byte, hex_digit, literal_text, quoted}
-use Rattle.rz_expr.specs.Attribute.{bit_of, setting_word}
-use Rattle.rz_expr.specs.declared.attribute.Attribute as words
-use Rattle.rz_expr.specs.declared.attribute.Attribute.TheVariants.{Changed, Locked, Preload, Protected, Purgeable, SystemHeap}
-use Rattle.rz_lex.specs.Classes.{is_hex_digit}
-use Rattle.rz_lex.specs.Digits.{number_value}
-use Rattle.rz_lex.specs.Extent.{are_word_bytes}
-use Rattle.rz_lex.specs.Page.{AreInLine}
-use Rattle.rz_lex.specs.Printed.{begins_word, goes_on, is_word, word_of, AreBytes}
-use Rattle.rz_lex.specs.Sign.{is_sign}
+use Rattle.rz_core.specs.declared.resource.Resource.{Resource}
+use Rattle.rz_lex.specs.Printed.{is_word, word_of, AreBytes}
 use Rattle.rz_lex.specs.declared.sign.Sign.TheVariants as signs
 use Rattle.rz_lex.specs.declared.token.Shape.{Shape}
 use Rattle.rz_lex.specs.declared.token.Shape.TheVariants as shapes
-use Rattle.rz_show_laws.proofs.Inside.{are_in_line, decimal_inside, inside, literal_inside, text_inside}
-use Rattle.rz_show.specs.Head.{attr_text, name_byte, name_text, word_text}
+use Rattle.rz_stmt_data.specs.Head.{Attribute}
+use Rattle.rz_words.specs.Attribute.{bit_of, setting_word}
+use Rattle.rz_words.specs.declared.attribute.Attribute as words
+use Rattle.rz_words.specs.declared.attribute.Attribute.TheVariants.{Changed, Locked, Preload, Protected, Purgeable, SystemHeap}
+use Rattle.rz_show.specs.Head.{attr_written, behind_comma, head_end, head_front, head_lines, word_written}
+use Rattle.rz_show.specs.Pieces.{text_pieces}
+use Rattle.rz_show.specs.Print.{signed_written}
+use Rattle.rz_show.specs.Written.{a_blank, a_sign, a_text, line_shapes, lines_shapes, IsPut, Written}
+use Rattle.rz_show_laws.specs.Showable.{IsStored}
 use Rattle.rz_show_laws.specs.Statement.{attribute_part, attributes_of}
-use Rattle.rz_show_laws.proofs.Shapes.{behind_commas, id_shapes, name_pieces, text_shapes}
-use Rattle.rz_expr.specs.Term.{Constant}
-use Rattle.rz_stmt_data.specs.Head.{Attribute, Value}
-use Rattle.rz_show_laws.proofs.Lines.{blank, dollar, line_end, literal, number, quote, sign, whole, word, CutBack, InLine}
-use Rattle.rz_show_laws.proofs.Pieces.{InPieces}
-use Rattle.rz_show_laws.proofs.Texts.{name_lines}
-use Rattle.rz_core.proofs.Tests.{by_test}
+use Rattle.rz_show_laws.proofs.CutLines.{pieces_lines, signed_apart, AreLines, IsBehind, IsLine}
+use Rattle.rz_show_laws.proofs.Shapes.{attribute_tokens, behind_commas, id_shapes, name_pieces, shape_alone, text_shapes}
+use Rattle.rz_show_laws.proofs.Texts.{all_pieces, pieces_join, pieces_small}
+use Rattle.rz_show_laws.proofs.Tokens.{line_both, piece_tokens}
 
--- a byte with which no sign of two bytes begins
-pub alone : (a : ℕ) → (a == 60) ≡ false → (a == 62) ≡ false → (a == 61) ≡ false → (a == 33) ≡ false → (a == 38) ≡ false → (a == 124) ≡ false
-    → (text : List ℕ) → goes_on (a ∷ []) text ≡ false
-alone a p q r s t u [] = refl
-alone a p q r s t u (b ∷ text) = by_test (is_sign (a ∷ b ∷ []) ≡ false) (b == 61)
-    (λ h. rw (h, p, q, r, s) refl)
-    (λ h. by_test (is_sign (a ∷ b ∷ []) ≡ false) (a == b) (λ k. rw (h, k, p, q, t, u) refl) (λ k. rw (h, k) refl))
+-- Words of a head are reserved, so that nothing is said of live macros.
+abbrev pub none_live : List ℕ → Bool
+none_live word = false
 
-abbrev is_same : Option ℕ → ℕ → Bool
-is_same None byte = false
-is_same (Some value) byte = value == byte
+-- what may stand behind a number
+abbrev EndsLine : List Written → Type 0
+EndsLine line = IsBehind none_live line
 
-same_number : (value : Option ℕ) (byte : ℕ) → is_same value byte ≡ true → value ≡ Some byte
-same_number None byte h = absurd cc
-same_number (Some value) byte h = ap (λ (x : ℕ). Some x) (eqb-true value byte h)
+-- Attributes.
 
--- attributes, each behind a comma
-abbrev pub shape_alone : Shape × Attribute → List Shape
-shape_alone a = a.0 ∷ []
+-- what is written of attributes, in front of more
+record IsAttributes (line : List Written) (attributes : List (Shape × Attribute)) : Type 0 where
+  on : (behind : List Written) → EndsLine behind → EndsLine (line ++ behind)
+  tokens : line_shapes line ≡ attribute_tokens attributes
 
-abbrev pub attribute_tokens : List (Shape × Attribute) → List Shape
-attribute_tokens attributes = behind_commas (map shape_alone attributes)
+no_attribute : IsAttributes [] []
+no_attribute = record { on = λ behind ends. ends; tokens = refl }
 
-module _ (law : CutBack) where
-  pub comma : (text : List ℕ) (tokens : List Shape) → InLine text tokens → InLine (44 ∷ text) (shapes.Sign signs.Comma ∷ tokens)
-  comma text tokens p = sign law text tokens p signs.Comma refl (inside (44 ∷ []) refl) (alone 44 refl refl refl refl refl refl text)
+both : {one other : List Written} {front back : List (Shape × Attribute)} → IsAttributes one front → IsAttributes other back → IsAttributes (one ++ other) (front ++ back)
+both {one} {other} {front} {back} first second = record {
+  on = λ behind ends. subst EndsLine (sym (append_assoc one other behind)) (first.on (other ++ behind) (second.on behind ends));
+  tokens = line_both one other ∙ (λ j. first.tokens j ++ second.tokens j)
+      ∙ sym (flat_map-append (λ (piece : List Shape). shapes.Sign signs.Comma ∷ piece) (map shape_alone front) (map shape_alone back))
+      ∙ ap behind_commas (sym (map-append shape_alone front back));
+}
 
-  -- Numbers.
+word_attribute : (attr : ℕ) (attribute : words.Attribute) → is_word (setting_word attribute) ≡ true → length (setting_word attribute) ≤ 255
+    → IsAttributes (word_written attr attribute) (attribute_part attr attribute)
+word_attribute attr attribute is short = by_test (IsAttributes (word_written attr attribute) (attribute_part attr attribute)) (attr / bit_of attribute % 2 == 1)
+    (λ h. rw h (record {
+      on = λ behind ends. record {
+        line = record { put = ((refl, tt), ((tt, tt), (((is, short), refl), ends.line.put))); apart = rw (ends.ends, ends.line.apart) refl };
+        ends = refl;
+      };
+      tokens = refl;
+    }))
+    (λ h. rw h no_attribute)
 
-  decimal_number : (text : List ℕ) (tokens : List Shape) → InLine text tokens → begins_word text ≡ false → (n : ℕ) → n < 2 ^ 32 → InLine (decimal n ++ text) (shapes.Number n ∷ tokens)
-  unfolding decimal_of
-  decimal_number text tokens p clear n below = number law text tokens p n below (decimal_inside n below) clear
+attributes : (attr : ℕ) → attr < 256 → IsAttributes (attr_written attr) (attributes_of attr)
+attributes attr small = by_test (IsAttributes (attr_written attr) (attributes_of attr)) (attr == 0)
+    (λ h. rw h no_attribute)
+    (λ h. by_test (IsAttributes (attr_written attr) (attributes_of attr)) (nat_le 128 attr || (attr % 2 == 1))
+    (λ k. rw (h, k) (record {
+      on = λ behind ends. record { line = record { put = ((refl, tt), ((tt, tt), ((small, tt), ends.line.put))); apart = rw (ends.ends, ends.line.apart) refl }; ends = refl };
+      tokens = refl;
+    }))
+    (λ k. rw (h, k) (both (both (both (both (both (word_attribute attr SystemHeap refl (omega arith)) (word_attribute attr Purgeable refl (omega arith)))
+    (word_attribute attr Locked refl (omega arith))) (word_attribute attr Protected refl (omega arith)))
+    (word_attribute attr Preload refl (omega arith))) (word_attribute attr Changed refl (omega arith)))))
 
-  pub id_line : (text : List ℕ) (tokens : List Shape) → InLine text tokens → begins_word text ≡ false → (id : ℤ) → FitsSigned w16 id → InLine (signed_of id ++ text) (id_shapes id ++ tokens)
-  unfolding signed_of
-  id_line text tokens p clear (pos n) fits = decimal_number text tokens p clear n (omega (arith, fits))
-  id_line text tokens p clear (negsuc n) fits =
-      sign law (decimal (suc n) ++ text) (shapes.Number (suc n) ∷ tokens) (decimal_number text tokens p clear (suc n) (omega (arith, fits))) signs.Minus refl (inside (45 ∷ []) refl)
-      (alone 45 refl refl refl refl refl refl (decimal (suc n) ++ text))
+-- The end of a head.
 
-  -- A name.
+abbrev pub end_shapes : (attr : ℕ) → List Shape
+end_shapes attr = attribute_tokens (attributes_of attr) ++ shapes.Sign signs.CloseParen ∷ shapes.Sign signs.OpenBrace ∷ []
 
-  -- a name in these pieces behind a comma, and these tokens behind it
-  pub record IsNameLine (text name : List ℕ) (tokens : List Shape) : Type 0 where
-    pub pieces : List (List ℕ)
-    pub line : InLine text (behind_commas (name_pieces pieces) ++ tokens)
-    pub clear : begins_word text ≡ false
-    pub are : flat_map (λ piece. piece) pieces ≡ name
-    pub none : name ≡ [] → pieces ≡ []
+end_tokens : (attr : ℕ) → attr < 256 → line_shapes (head_end attr) ≡ end_shapes attr
+unfolding head_end
+end_tokens attr small =
+    line_both (attr_written attr) (a_sign signs.CloseParen ∷ a_blank ∷ a_sign signs.OpenBrace ∷ [])
+    ∙ ap (λ (x : List Shape). x ++ shapes.Sign signs.CloseParen ∷ shapes.Sign signs.OpenBrace ∷ []) (attributes attr small).tokens
 
-  -- the tokens of a name that has pieces
-  named_tokens : (pieces : List (List ℕ)) (tokens : List Shape) (some : 0 < length pieces) → shapes.Sign signs.Comma ∷ (text_shapes pieces ++ tokens) ≡ behind_commas (name_pieces pieces) ++ tokens
-  named_tokens [] tokens some = absurd (omega (arith, some))
-  named_tokens (piece ∷ pieces) tokens some =
-      ap (λ (x : List Shape). shapes.Sign signs.Comma ∷ (x ++ tokens)) (sym (append-nil (text_shapes (piece ∷ pieces))))
+end_ends : (attr : ℕ) → attr < 256 → EndsLine (head_end attr)
+unfolding head_end
+end_ends attr small =
+    (attributes attr small).on (a_sign signs.CloseParen ∷ a_blank ∷ a_sign signs.OpenBrace ∷ [])
+    (record { line = record { put = ((refl, tt), ((tt, tt), ((refl, tt), tt))); apart = refl }; ends = refl })
 
-  name_of_pieces : (text name : List ℕ) (tokens : List Shape) → 0 < length name → InPieces text name tokens → IsNameLine (44 ∷ text) name tokens
-  name_of_pieces text name tokens some p = record {
-    pieces = p.pieces;
-    line = subst (InLine (44 ∷ text)) (named_tokens p.pieces tokens (has p.pieces p.are)) (comma text (text_shapes p.pieces ++ tokens) p.texts);
-    clear = refl;
-    are = p.are;
-    none = λ e. absurd (omega (arith, some, ap length e));
-  }
-    where
-      has : (pieces : List (List ℕ)) → flat_map (λ piece. piece) pieces ≡ name → 0 < length pieces
-      has [] e = absurd (omega (arith, some, ap length e))
-      has (piece ∷ pieces) e = omega arith
+-- The front of a head.
 
-  -- a long name begins on a line of its own
-  long_name : (text : List ℕ) (tokens : List Shape) → InLine text tokens → (name : List ℕ) → 0 < length name → AreBytes name
-      → IsNameLine (codes ",\n    \"" ++ (each_with_front name_byte name ++ 34 ∷ text)) name tokens
-  long_name text tokens p name some small =
-      let lines = name_lines law text tokens p name small in
-      let line = 34 ∷ (each_with_front name_byte name ++ 34 ∷ text) in
-      let shapes_behind = text_shapes lines.pieces ++ tokens in
-      let blanks = blank law _ _ (blank law _ _ (blank law _ _ (blank law line shapes_behind lines.texts))) in
-      name_of_pieces (10 ∷ 32 ∷ 32 ∷ 32 ∷ 32 ∷ line) name tokens some (record {
-        pieces = lines.pieces;
-        texts = line_end law (32 ∷ 32 ∷ 32 ∷ 32 ∷ line) shapes_behind (whole _ _ blanks);
-        are = lines.are;
-      })
+id_tokens : (id : ℤ) (rest : List Written) → line_shapes (signed_written id ++ rest) ≡ id_shapes id ++ line_shapes rest
+id_tokens (pos n) rest = refl
+id_tokens (negsuc n) rest = refl
 
-  pub name_line : (text : List ℕ) (tokens : List Shape) → InLine text tokens → begins_word text ≡ false → (name : List ℕ) → AreBytes name → IsNameLine (name_text name ++ text) name tokens
-  unfolding name_text
-  name_line text tokens p clear [] small = record { pieces = []; line = p; clear = clear; are = refl; none = λ e. refl }
-  name_line text tokens p clear (b ∷ name) small =
-      let all : List ℕ = b ∷ name in
-      let some : (length all == 0) ≡ false = ne_eqb (length all) 0 (λ e. omega (arith, e)) in
-      let lines = each_with_front name_byte all in
-      by_test (IsNameLine (name_text all ++ text) all tokens) (nat_le (length all) 64)
-      (λ h. rw (some, h) (name_of_pieces (32 ∷ (quoted 34 all ++ text)) all tokens (omega arith) (record {
-        pieces = all ∷ [];
-        texts = blank law (quoted 34 all ++ text) (shapes.Text all ∷ tokens) (quote law text tokens p all small (text_inside all small));
-        are = append-nil all;
-      })))
-      (λ h. rw (some, h) (subst (λ (x : List ℕ). IsNameLine (codes ",\n    \"" ++ x) all tokens) (sym (append_assoc lines (34 ∷ []) text))
-      (long_name text tokens p all (omega arith) small)))
+id_put : (id : ℤ) → FitsSigned w16 id → AllByRecursion (IsPut none_live) (signed_written id)
+id_put (pos n) fits = ((omega (arith, fits), tt), tt)
+id_put (negsuc n) fits = ((refl, tt), ((omega (arith, fits), tt), tt))
 
-  -- Attributes.
+four_bytes : (code : ℕ) → AreBytes (be 4 code)
+unfolding be
+four_bytes code = (omega arith, (omega arith, (omega arith, (omega arith, tt))))
 
-  -- this text is these attributes, whatever stands behind that doesn't go on with a word
-  record IsAttributeText (written : List ℕ) (attributes : List (Shape × Attribute)) : Type 0 where
-    on : (text : List ℕ) (tokens : List Shape) → InLine text tokens → begins_word text ≡ false
-        → InLine (written ++ text) (attribute_tokens attributes ++ tokens) × (begins_word (written ++ text) ≡ false)
+abbrev pub front_shapes : (said : List ℕ) → (code : ℕ) → (id : ℤ) → List Shape → List Shape
+front_shapes said code id more = word_of said ∷ shapes.Literal (be 4 code) ∷ shapes.Sign signs.OpenParen ∷ (id_shapes id ++ more)
 
-  no_attribute : IsAttributeText [] []
-  no_attribute = record { on = λ text tokens p clear. (p, clear) }
-
-  tokens_both : (front back : List (Shape × Attribute)) (tokens : List Shape) → attribute_tokens front ++ (attribute_tokens back ++ tokens) ≡ attribute_tokens (front ++ back) ++ tokens
-  tokens_both front back tokens =
-      sym (append_assoc (attribute_tokens front) (attribute_tokens back) tokens)
-      ∙ ap (λ (x : List Shape). x ++ tokens)
-      (sym (flat_map-append (λ (piece : List Shape). shapes.Sign signs.Comma ∷ piece) (map shape_alone front) (map shape_alone back))
-      ∙ ap behind_commas (sym (map-append shape_alone front back)))
-
-  attributes_both : (one other : List ℕ) (front back : List (Shape × Attribute)) → IsAttributeText one front → IsAttributeText other back → IsAttributeText (one ++ other) (front ++ back)
-  attributes_both one other front back first second = record {
-    on = λ text tokens p clear. let behind = second.on text tokens p clear in
-        let all = first.on (other ++ text) (attribute_tokens back ++ tokens) behind.0 behind.1 in (
-          subst (λ (x : List ℕ). InLine x (attribute_tokens (front ++ back) ++ tokens)) (sym (append_assoc one other text))
-              (subst (λ (x : List Shape). InLine (one ++ (other ++ text)) x) (tokens_both front back tokens) all.0),
-          ap begins_word (append_assoc one other text) ∙ all.1,
-        );
+module _ (said : List ℕ) (is : is_word said ≡ true) (short : length said ≤ 255) (code : ℕ) (id : ℤ) (fits : FitsSigned w16 id) where
+  front_line : (rest : List Written) → EndsLine rest → IsLine none_live (head_front said code id ++ rest)
+  unfolding head_front
+  front_line rest ends = record {
+    put = (
+      ((is, short), refl),
+      (
+        (tt, tt),
+        (
+          ((four_bytes code, omega (arith, length-be_4 code), omega (arith, length-be_4 code)), tt),
+          (
+            (tt, tt),
+            (
+              (refl, tt),
+              all_append (IsPut none_live) (signed_written id) rest (id_put id fits) ends.line.put,
+            ),
+          ),
+        ),
+      ),
+    );
+    apart = signed_apart none_live id rest ends.ends ends.line.apart;
   }
 
-  word_attribute_text : (attr : ℕ) (attribute : words.Attribute) → is_word (setting_word attribute) ≡ true → length (setting_word attribute) ≤ 255 → AreInLine (setting_word attribute)
-      → IsAttributeText (word_text attr attribute) (attribute_part attr attribute)
-  unfolding word_text
-  word_attribute_text attr attribute is short at =
-      let bytes : List ℕ = setting_word attribute in
-      by_test (IsAttributeText (word_text attr attribute) (attribute_part attr attribute)) (attr / bit_of attribute % 2 == 1)
+  front_tokens : (rest : List Written) → line_shapes (head_front said code id ++ rest) ≡ front_shapes said code id (line_shapes rest)
+  unfolding head_front
+  front_tokens rest = ap (λ (x : List Shape). word_of said ∷ shapes.Literal (be 4 code) ∷ shapes.Sign signs.OpenParen ∷ x) (id_tokens id rest)
+
+-- The whole head.
+
+-- lines that are cut into the tokens of a head, with the name as a text of these pieces
+pub record IsHead (lines : List (List Written)) (said : List ℕ) (code : ℕ) (id : ℤ) (name : List ℕ) (attr : ℕ) : Type 0 where
+  pub pieces : List (List ℕ)
+  pub are : flat_map (λ piece. piece) pieces ≡ name
+  pub lines_are : AreLines none_live lines
+  pub tokens : lines_shapes lines ≡ front_shapes said code id (behind_commas (name_pieces pieces) ++ end_shapes attr)
+
+no_bytes : (name : List ℕ) → (length name == 0) ≡ true → [] ≡ name
+no_bytes [] is = refl
+no_bytes (b ∷ name) is = absurd (omega (arith, eqb-true (length (b ∷ name)) 0 is))
+
+regroup : (id texts end : List Shape) (comma : Shape) → (id ++ comma ∷ []) ++ (texts ++ end) ≡ id ++ ((comma ∷ (texts ++ [])) ++ end)
+regroup id texts end comma = simp (append_assoc, append-nil)
+
+module _ (said : List ℕ) (is : is_word said ≡ true) (short : length said ≤ 255) (r : Resource) (stored : IsStored r) where
+  abbrev Head : List (List Written) → Type 0
+  Head lines = IsHead lines said r.kind.code r.id r.name r.attr
+
+  line : (rest : List Written) → EndsLine rest → IsLine none_live (head_front said r.kind.code r.id ++ rest)
+  line = front_line said is short r.kind.code r.id stored.id
+
+  tokens_of : (rest : List Written) (tokens : List Shape) → line_shapes rest ≡ tokens → line_shapes (head_front said r.kind.code r.id ++ rest) ≡ front_shapes said r.kind.code r.id tokens
+  tokens_of rest tokens are = front_tokens said is short r.kind.code r.id stored.id rest ∙ ap (front_shapes said r.kind.code r.id) are
+
+  pub head_is : Head (head_lines said r.kind.code r.id r.name r.attr)
+  unfolding head_lines
+  head_is =
+      let ends = end_ends r.attr stored.attr in
+      let end_is = end_tokens r.attr stored.attr in
+      let cut = text_pieces false r.name in
+      let lines : List (List Written) = head_lines said r.kind.code r.id r.name r.attr in
+      by_test (Head lines) (length r.name == 0)
       (λ h. rw h (record {
-        on = λ text tokens p clear. (
-          comma (32 ∷ (bytes ++ text)) (word_of bytes ∷ tokens) (blank law (bytes ++ text) (word_of bytes ∷ tokens) (word law text tokens p bytes is short at clear)),
-          refl,
-        );
+        pieces = [];
+        are = no_bytes r.name h;
+        lines_are = (line (head_end r.attr) ends, tt);
+        tokens = append-nil _ ∙ tokens_of (head_end r.attr) (end_shapes r.attr) end_is;
       }))
-      (λ h. rw h no_attribute)
-
-  -- a number in two hex digits, behind `$`
-  number_attribute_text : (attr : ℕ) (attribute : Attribute) → attr < 256 → IsAttributeText (codes ", $" ++ hex_byte attr) ((shapes.Number attr, attribute) ∷ [])
-  number_attribute_text attr attribute small =
-      let high = hex_digit (attr / 16) in
-      let low = hex_digit (attr % 16) in
-      let first : is_hex_digit high ≡ true = agree_below_at (λ x. is_hex_digit (hex_digit (x / 16))) (λ x. true) 256 attr refl small in
-      let second : are_word_bytes (low ∷ []) ≡ true = agree_below_at (λ x. are_word_bytes (hex_digit (x % 16) ∷ [])) (λ x. true) 256 attr refl small in
-      let at : are_in_line (36 ∷ high ∷ low ∷ []) ≡ true = agree_below_at (λ x. are_in_line (36 ∷ hex_digit (x / 16) ∷ hex_digit (x % 16) ∷ [])) (λ x. true) 256 attr refl small in
-      let value : number_value (36 ∷ high ∷ low ∷ []) ≡ Some attr = same_number (number_value (36 ∷ high ∷ low ∷ [])) attr
-      (agree_below_at (λ x. is_same (number_value (36 ∷ hex_digit (x / 16) ∷ hex_digit (x % 16) ∷ [])) x) (λ x. true) 256 attr refl small) in
-      record {
-        on = λ text tokens p clear. (
-          comma (32 ∷ 36 ∷ high ∷ low ∷ text) (shapes.Number attr ∷ tokens)
-              (blank law (36 ∷ high ∷ low ∷ text) (shapes.Number attr ∷ tokens) (dollar law text tokens p high (low ∷ []) attr first second (omega arith) value (inside (36 ∷ high ∷ low ∷ []) at) clear)),
-          refl,
+      (λ h. by_test (Head lines) (nat_le (length r.name) 64)
+      (λ k. rw (h, k) (record {
+        pieces = r.name ∷ [];
+        are = append-nil r.name;
+        lines_are = (
+          line (behind_comma (a_text r.name ∷ head_end r.attr))
+              (record { line = record { put = ((refl, tt), ((tt, tt), ((stored.name, tt), ends.line.put))); apart = ends.line.apart }; ends = refl }),
+          tt,
         );
-      }
-
-  attribute_text : (attr : ℕ) → attr < 256 → IsAttributeText (attr_text attr) (attributes_of attr)
-  unfolding attr_text
-  attribute_text attr small =
-      by_test (IsAttributeText (attr_text attr) (attributes_of attr)) (attr == 0)
-      (λ h. rw h no_attribute)
-      (λ h. by_test (IsAttributeText (attr_text attr) (attributes_of attr)) (nat_le 128 attr || (attr % 2 == 1))
-      (λ k. rw (h, k) (number_attribute_text attr (Value (Constant (pos attr))) small))
-      (λ k. rw (h, k)
-      (both (both (both (both (both (is SystemHeap refl (omega arith) refl) (is Purgeable refl (omega arith) refl))
-      (is Locked refl (omega arith) refl)) (is Protected refl (omega arith) refl))
-      (is Preload refl (omega arith) refl)) (is Changed refl (omega arith) refl))))
-    where
-      is : (attribute : words.Attribute) → is_word (setting_word attribute) ≡ true → length (setting_word attribute) ≤ 255 → are_in_line (setting_word attribute) ≡ true
-          → IsAttributeText (word_text attr attribute) (attribute_part attr attribute)
-      is attribute spelled short at = word_attribute_text attr attribute spelled short (inside (setting_word attribute) at)
-
-      both : {one other : List ℕ} {front back : List (Shape × Attribute)} → IsAttributeText one front → IsAttributeText other back → IsAttributeText (one ++ other) (front ++ back)
-      both {one} {other} {front} {back} first second = attributes_both one other front back first second
-
-  -- The line.
-
-  four_bytes : (code : ℕ) → AreBytes (be 4 code)
-  unfolding be
-  four_bytes code = (omega arith, (omega arith, (omega arith, (omega arith, tt))))
-
-  pub record IsHeadLine (said text name : List ℕ) (attr code : ℕ) (id : ℤ) (tokens : List Shape) : Type 0 where
-    pub pieces : List (List ℕ)
-    pub are : flat_map (λ piece. piece) pieces ≡ name
-    pub none : name ≡ [] → pieces ≡ []
-    pub line : InLine text (word_of said ∷ shapes.Literal (be 4 code) ∷ shapes.Sign signs.OpenParen
-        ∷ (id_shapes id ++ (behind_commas (name_pieces pieces) ++ (attribute_tokens (attributes_of attr) ++ shapes.Sign signs.CloseParen ∷ shapes.Sign signs.OpenBrace ∷ tokens))))
-
-  pub head_line : (said : List ℕ) → is_word said ≡ true → length said ≤ 255 → AreInLine said → (text : List ℕ) (tokens : List Shape) → InLine text tokens
-      → (code : ℕ) (id : ℤ) → FitsSigned w16 id → (name : List ℕ) → AreBytes name → (attr : ℕ) → attr < 256
-      → IsHeadLine said (said ++ 32 ∷ (literal_text code ++ (codes " (" ++ (signed_of id ++ (name_text name ++ (attr_text attr ++ (codes ") {" ++ text))))))) name attr code id tokens
-  head_line said spelled short at text tokens p code id fits name small attr byte =
-      let brace = sign law text tokens p signs.OpenBrace refl (inside (123 ∷ []) refl) (alone 123 refl refl refl refl refl refl text) in
-      let space = blank law (123 ∷ text) (shapes.Sign signs.OpenBrace ∷ tokens) brace in
-      let close = sign law (32 ∷ 123 ∷ text) (shapes.Sign signs.OpenBrace ∷ tokens) space signs.CloseParen refl (inside (41 ∷ []) refl) (alone 41 refl refl refl refl refl refl (32 ∷ 123 ∷ text)) in
-      let closing : List Shape = shapes.Sign signs.CloseParen ∷ shapes.Sign signs.OpenBrace ∷ tokens in
-      let attributes = (attribute_text attr byte).on (codes ") {" ++ text) closing close refl in
-      let named = name_line (attr_text attr ++ (codes ") {" ++ text)) (attribute_tokens (attributes_of attr) ++ closing) attributes.0 attributes.1 name small in
-      let behind = behind_commas (name_pieces named.pieces) ++ (attribute_tokens (attributes_of attr) ++ closing) in
-      let number = id_line (name_text name ++ (attr_text attr ++ (codes ") {" ++ text))) behind named.line named.clear id fits in
-      let rest = signed_of id ++ (name_text name ++ (attr_text attr ++ (codes ") {" ++ text))) in
-      let paren = sign law rest (id_shapes id ++ behind) number signs.OpenParen refl (inside (40 ∷ []) refl) (alone 40 refl refl refl refl refl refl rest) in
-      let kind = literal law (32 ∷ 40 ∷ rest) (shapes.Sign signs.OpenParen ∷ (id_shapes id ++ behind)) (blank law (40 ∷ rest) _ paren) (be 4 code) (four_bytes code)
-      (omega (arith, length-be_4 code)) (omega (arith, length-be_4 code)) (literal_inside (be 4 code) (four_bytes code)) in
-      record {
-        pieces = named.pieces;
-        are = named.are;
-        none = named.none;
-        line = word law (32 ∷ (literal_text code ++ (codes " (" ++ rest))) _ (blank law (literal_text code ++ (codes " (" ++ rest)) _ kind) said spelled short at refl;
-      }
+        tokens = append-nil _
+            ∙ tokens_of (behind_comma (a_text r.name ∷ head_end r.attr)) _ (ap (λ (x : List Shape). shapes.Sign signs.Comma ∷ shapes.Text r.name ∷ x) end_is);
+      }))
+      (λ k. rw (h, k) (record {
+        pieces = all_pieces cut;
+        are = pieces_join 64 64 r.name;
+        lines_are = (
+          line (a_sign signs.Comma ∷ []) (record { line = record { put = ((refl, tt), tt); apart = refl }; ends = refl }),
+          pieces_lines none_live 1 (head_end r.attr) false cut.first cut.others (pieces_small 64 64 r.name stored.name) ends,
+        );
+        tokens = (λ j. tokens_of (a_sign signs.Comma ∷ []) _ refl j ++ piece_tokens 1 (head_end r.attr) false cut.first cut.others j)
+            ∙ ap (λ (x : List Shape). word_of said ∷ shapes.Literal (be 4 r.kind.code) ∷ shapes.Sign signs.OpenParen ∷ x)
+            (regroup (id_shapes r.id) (text_shapes (all_pieces cut)) (line_shapes (head_end r.attr)) (shapes.Sign signs.Comma)
+            ∙ ap (λ (x : List Shape). id_shapes r.id ++ (behind_commas (name_pieces (all_pieces cut)) ++ x)) end_is);
+      })))

@@ -18,7 +18,7 @@ use Rattle.rz_show.specs.Written.{group_gap, grouped_byte, in_groups}
 abbrev in_line : ℕ → Bool
 in_line byte = not (byte == 10) && not (byte == 13)
 
-abbrev pub are_in_line : List ℕ → Bool
+abbrev are_in_line : List ℕ → Bool
 are_in_line [] = true
 are_in_line (b ∷ bytes) = in_line b && are_in_line bytes
 
@@ -127,7 +127,7 @@ gap_blank k = either AreBlanks (k == 0) _ _ tt (either AreBlanks (k % 2 == 0) _ 
 gap_inside : (k : ℕ) → AreInLine (group_gap k)
 gap_inside k = either AreInLine (k == 0) _ _ tt (either AreInLine (k % 2 == 0) _ _ (inside (32 ∷ []) refl) tt)
 
-byte_inside : (byte : ℕ) → byte < 256 → AreInLine (hex_byte byte)
+pub byte_inside : (byte : ℕ) → byte < 256 → AreInLine (hex_byte byte)
 byte_inside byte small = inside (hex_byte byte) (agree_below_at (λ x. are_in_line (hex_byte x)) (λ x. true) 256 byte refl small)
 
 spells_from : (front bytes : List ℕ) → SpellsBytes (with_front grouped_byte front bytes) bytes

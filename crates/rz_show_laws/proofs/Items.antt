@@ -4,7 +4,7 @@ use Rattle.rz_core.specs.declared.fault.Mark.{Mark}
 use Rattle.rz_expr.specs.Grammar.{bytes_number}
 use Rattle.rz_expr.specs.Term.{Constant, Named, OfOne, Term}
 use Rattle.rz_expr.specs.Value.{reduced}
-use Rattle.rz_expr.specs.Words.{is_name, role_of}
+use Rattle.rz_words.specs.Words.{is_name, role_of}
 use Rattle.rz_expr.specs.declared.expr.UnaryOp.TheVariants as unary
 use Rattle.rz_types_fields.specs.Text.{Plain}
 use Rattle.rz_stmt_items.specs.Item as item

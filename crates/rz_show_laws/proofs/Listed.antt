@@ -10,9 +10,9 @@ use Rattle.rz_stmt_brackets.specs.declared.pieces.Divider.TheVariants.{CloseBrac
 use Rattle.rz_expr.specs.Grammar.{bytes_number, labelled, operand, prefixed, start_of, tighter, word_start, Derives, IsExpression}
 use Rattle.rz_expr.specs.Term.{Constant, Named, Term}
 use Rattle.rz_expr.specs.Value.{reduced}
-use Rattle.rz_expr.specs.Words.{is_name, role_of}
-use Rattle.rz_expr.specs.declared.words.Role.{Role}
-use Rattle.rz_expr.specs.declared.words.Role.TheVariants as roles
+use Rattle.rz_words.specs.Words.{is_name, role_of}
+use Rattle.rz_words.specs.declared.words.Role.{Role}
+use Rattle.rz_words.specs.declared.words.Role.TheVariants as roles
 use Rattle.rz_stmt_data.proofs.OneText.{expression_apart}
 use Rattle.rz_stmt_data.proofs.Plain.{plain_begins, plain_text}
 use Rattle.rz_types_fields.specs.Text.{Plain, PlainPart}

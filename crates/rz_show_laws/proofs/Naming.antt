@@ -5,8 +5,8 @@ use Rattle.std.specs.List.{list_all}
 use Rattle.std.proofs.lemmas.Bool.{and_parts}
 use Rattle.rz_core.proofs.Tests.{by_test}
 use Rattle.rz_core.specs.declared.resource.Word.{Word}
-use Rattle.rz_expr.specs.Attribute.{attribute_word}
-use Rattle.rz_expr.specs.Words.{is_name, role_of}
+use Rattle.rz_words.specs.Attribute.{attribute_word}
+use Rattle.rz_words.specs.Words.{is_name, role_of}
 use Rattle.rz_types_fields.specs.declared.field.NumForm.{NumForm}
 use Rattle.rz_types_fields.specs.declared.field.NumForm.TheVariants.{Boolean, Char}
 use Rattle.rz_types_fields.specs.declared.field.Radix.{Radix}

@@ -1,19 +1,13 @@
 -- The tokens of printed items divide nothing.
-use Rattle.std.proofs.Common.{◌≡◌, ℕ, ℤ, pos, negsuc, List, [], ◌∷◌, ◌++◌, map, refl, sym, subst}
-use Rattle.std.specs.Prelude.{true}
-use Rattle.std.specs.List.{AllByRecursion}
+use Rattle.std.proofs.Common.{ℤ, pos, negsuc, List, [], ◌∷◌, ◌++◌, refl, sym, subst}
 use Rattle.rz_lex.specs.Printed.{word_of}
 use Rattle.rz_lex.specs.declared.token.Shape.TheVariants as shapes
-use Rattle.rz_show_laws.proofs.HeadTokens.{is_inner}
+use Rattle.rz_show_laws.proofs.HeadTokens.{texts_are_inner}
 use Rattle.rz_show_laws.proofs.Items.{braced, list_shapes, print_shapes}
 use Rattle.rz_show.specs.Print.{block, by_name, comma, in_binary, in_decimal, in_group, in_hex, in_literal, in_octal, in_text, named_block, no_prints, pieces, print, single, Print, Prints, Single}
 use Rattle.rz_show.specs.Written.{line_shapes}
 use Rattle.rz_show_laws.proofs.Tokens.{group_tokens, number_prints}
 use Rattle.rz_show_laws.proofs.Walks.{anywhere, braced_passes, comma_passes, inner_passes, inside, passes_both, passes_inside, passes_none, Passes}
-
-pub texts_inner : (texts : List (List ℕ)) → AllByRecursion (λ shape. is_inner shape ≡ true) (map (λ piece. shapes.Text piece) texts)
-texts_inner [] = tt
-texts_inner (text ∷ texts) = (refl, texts_inner texts)
 
 number_passes : (number : ℤ) → Passes anywhere (print_shapes (single (in_decimal number)))
 number_passes (pos number) = inner_passes (shapes.Number number ∷ []) (refl, tt)
@@ -47,7 +41,7 @@ single_passes (in_group numbers) =
 mutual
   pub print_passes : (one : Print) → Passes anywhere (print_shapes one)
   print_passes (single one) = single_passes one
-  print_passes (pieces hex first others) = inner_passes (print_shapes (pieces hex first others)) (texts_inner (first ∷ others))
+  print_passes (pieces hex first others) = inner_passes (print_shapes (pieces hex first others)) (texts_are_inner (first ∷ others))
   print_passes (block prints) = braced_passes (list_shapes prints) (list_passes prints)
   print_passes (named_block name prints) =
       passes_both (word_of name ∷ []) (braced (list_shapes prints)) (inner_passes (word_of name ∷ []) (refl, tt)) (braced_passes (list_shapes prints) (list_passes prints))

@@ -24,7 +24,7 @@ use Rattle.rz_types.specs.Stored.{is_too_long}
 use Rattle.rz_types.specs.Text.{PlainPart}
 use Rattle.rz_show.specs.Printable.{AreOfBytes, IsCaseOfBytes, IsOfBytes}
 use Rattle.rz_show_laws.specs.Short.{AreShortTexts, IsShortCase, IsShortText}
-use Rattle.rz_show_laws.proofs.Trees.{line_is, rows_are, text_is}
+use Rattle.rz_show.proofs.Trees.{line_is, rows_are, text_is}
 
 -- a value where one is taken, and else none
 abbrev Has : Bool → Option Tree → Type 0

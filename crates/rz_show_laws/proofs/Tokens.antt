@@ -9,11 +9,11 @@ use Rattle.rz_show_laws.proofs.Items.{braced, list_shapes, print_shapes}
 use Rattle.rz_show.specs.Print.{blanks, block, comma, deeper, group_rest, group_written, in_decimal, list_lines, margin, named_block, no_prints, piece_lines, piece_written, pieces, print, print_lines, signed_written, single, single_written, Print, Prints}
 use Rattle.rz_show.specs.Written.{a_blank, a_sign, a_word, line_shapes, lines_shapes, written_shapes, Written}
 
-line_both : (xs ys : List Written) → line_shapes (xs ++ ys) ≡ line_shapes xs ++ line_shapes ys
+pub line_both : (xs ys : List Written) → line_shapes (xs ++ ys) ≡ line_shapes xs ++ line_shapes ys
 line_both [] ys = refl
 line_both (x ∷ xs) ys = ap (λ (r : List Shape). written_shapes x ++ r) (line_both xs ys) ∙ sym (append_assoc (written_shapes x) (line_shapes xs) (line_shapes ys))
 
-lines_both : (xs ys : List (List Written)) → lines_shapes (xs ++ ys) ≡ lines_shapes xs ++ lines_shapes ys
+pub lines_both : (xs ys : List (List Written)) → lines_shapes (xs ++ ys) ≡ lines_shapes xs ++ lines_shapes ys
 lines_both [] ys = refl
 lines_both (x ∷ xs) ys = ap (λ (r : List Shape). line_shapes x ++ r) (lines_both xs ys) ∙ sym (append_assoc (line_shapes x) (lines_shapes xs) (lines_shapes ys))
 
@@ -33,7 +33,7 @@ piece_token : (hex : Bool) (piece : List ℕ) (behind : List Written) → line_s
 piece_token true piece behind = refl
 piece_token false piece behind = refl
 
-piece_tokens : (depth : ℕ) (behind : List Written) (hex : Bool) (first : List ℕ) (others : List (List ℕ))
+pub piece_tokens : (depth : ℕ) (behind : List Written) (hex : Bool) (first : List ℕ) (others : List (List ℕ))
     → lines_shapes (piece_lines depth behind hex first others) ≡ print_shapes (pieces hex first others) ++ line_shapes behind
 piece_tokens depth behind hex first [] = line_alone depth (piece_written hex first ∷ behind) ∙ piece_token hex first behind
 piece_tokens depth behind hex first (second ∷ others) =

@@ -4,13 +4,14 @@ use Rattle.std.specs.Prelude.{◌==◌, ◌||◌, ◌/◌, ◌%◌, nat_le, not}
 use Rattle.std.specs.List.{list_any, AllByRecursion}
 use Rattle.std.specs.Str.{bytes_eq}
 use Rattle.std.proofs.lemmas.List.Concat.{flat_map-cons}
+use Rattle.rz_core.proofs.Lists.{all_append}
 use Rattle.rz_core.proofs.Tests.{and_so, by_test}
 use Rattle.rz_core.specs.declared.resource.Resource.{Resource}
 use Rattle.rz_stmt_data.specs.Head.{Attribute}
-use Rattle.rz_expr.specs.Attribute.{bit_of, setting_word}
-use Rattle.rz_expr.specs.Words.{is_name, role_of}
-use Rattle.rz_expr.specs.declared.attribute.Attribute as words
-use Rattle.rz_expr.specs.declared.attribute.Attribute.TheVariants.{Changed, Locked, Preload, Protected, Purgeable, SystemHeap}
+use Rattle.rz_words.specs.Attribute.{bit_of, setting_word}
+use Rattle.rz_words.specs.Words.{is_name, role_of}
+use Rattle.rz_words.specs.declared.attribute.Attribute as words
+use Rattle.rz_words.specs.declared.attribute.Attribute.TheVariants.{Changed, Locked, Preload, Protected, Purgeable, SystemHeap}
 use Rattle.rz_lex.specs.Printed.{word_of}
 use Rattle.rz_lex.specs.declared.sign.Sign.TheVariants as signs
 use Rattle.rz_lex.specs.declared.token.Shape.{Shape}
@@ -19,10 +20,8 @@ use Rattle.rz_show.specs.Print.{block, by_name, comma, in_binary, in_decimal, in
 use Rattle.rz_show.specs.Printable.{AreGood, IsGood}
 use Rattle.rz_show.specs.Written.{line_shapes, IsPut}
 use Rattle.rz_show_laws.specs.Statement.{attribute_part, attributes_of, is_shown, shown_words}
-use Rattle.rz_show_laws.proofs.HeadTokens.{all_both}
-use Rattle.rz_show_laws.proofs.Heads.{shape_alone}
 use Rattle.rz_show_laws.proofs.Items.{braced, list_shapes, print_shapes, AreNamingPrints, IsNaming, IsNamingPrint, IsNamingSingle}
-use Rattle.rz_show_laws.proofs.Shapes.{behind_commas, id_shapes, name_pieces, statement_shapes, text_shapes}
+use Rattle.rz_show_laws.proofs.Shapes.{attribute_tokens, behind_commas, id_shapes, name_pieces, shape_alone, statement_shapes, text_shapes}
 use Rattle.rz_show_laws.proofs.Tokens.{group_tokens, number_prints}
 
 or_so : (a b : Bool) → b ≡ true → (a || b) ≡ true
@@ -34,7 +33,7 @@ module _ (hidden : List ℕ → Bool) where
     pub each : AllByRecursion (λ shape. is_shown hidden shape ≡ true) tokens
 
   pub words_both : {front back : List Shape} → AreWords front → AreWords back → AreWords (front ++ back)
-  words_both {front} {back} first second = record { each = all_both (λ shape. is_shown hidden shape ≡ true) front back first.each second.each }
+  words_both {front} {back} first second = record { each = all_append (λ shape. is_shown hidden shape ≡ true) front back first.each second.each }
 
   words_first : {shape : Shape} {tokens : List Shape} → is_shown hidden shape ≡ true → AreWords tokens → AreWords (shape ∷ tokens)
   words_first is rest = record { each = (is, rest.each) }
@@ -42,7 +41,7 @@ module _ (hidden : List ℕ → Bool) where
   no_words : AreWords []
   no_words = record { each = tt }
 
-  pub text_words : (texts : List (List ℕ)) → AreWords (text_shapes texts)
+  text_words : (texts : List (List ℕ)) → AreWords (text_shapes texts)
   text_words [] = no_words
   text_words (text ∷ texts) = words_first refl (text_words texts)
 
@@ -51,12 +50,12 @@ module _ (hidden : List ℕ → Bool) where
   id_words (negsuc n) = words_first refl (words_first refl no_words)
 
   record AreAttributeWords (attributes : List (Shape × Attribute)) : Type 0 where
-    each : AreWords (behind_commas (map shape_alone attributes))
+    each : AreWords (attribute_tokens attributes)
 
   attribute_words_both : {front back : List (Shape × Attribute)} → AreAttributeWords front → AreAttributeWords back → AreAttributeWords (front ++ back)
   attribute_words_both {front} {back} first second = record { each = go front first.each }
     where
-      go : (front : List (Shape × Attribute)) → AreWords (behind_commas (map shape_alone front)) → AreWords (behind_commas (map shape_alone (front ++ back)))
+      go : (front : List (Shape × Attribute)) → AreWords (attribute_tokens front) → AreWords (attribute_tokens (front ++ back))
       go [] first = second.each
       go (a ∷ front) first = words_first refl (words_first first.each.1.0 (go front (record { each = first.each.1.1 })))
 

@@ -8,11 +8,11 @@ use Rattle.rz_core.specs.declared.facts.Facts.{Facts}
 use Rattle.rz_core.specs.declared.resource.Resource.{Resource}
 use Rattle.rz_stmt_data.specs.Head.{Attribute, Head, Set, Value}
 use Rattle.rz_stmt_data.specs.Raw.{IsRaw, Raw}
-use Rattle.rz_expr.specs.Attribute.{bit_of, setting_word}
+use Rattle.rz_words.specs.Attribute.{bit_of, setting_word}
 use Rattle.rz_expr.specs.Term.{Constant, OfOne, Term}
-use Rattle.rz_expr.specs.Words.{is_name, role_of}
-use Rattle.rz_expr.specs.declared.attribute.Attribute as words
-use Rattle.rz_expr.specs.declared.attribute.Attribute.TheVariants.{Changed, Locked, Preload, Protected, Purgeable, SystemHeap}
+use Rattle.rz_words.specs.Words.{is_name, role_of}
+use Rattle.rz_words.specs.declared.attribute.Attribute as words
+use Rattle.rz_words.specs.declared.attribute.Attribute.TheVariants.{Changed, Locked, Preload, Protected, Purgeable, SystemHeap}
 use Rattle.rz_expr.specs.declared.expr.UnaryOp.TheVariants as one
 use Rattle.rz_types_fields.specs.Text.{Plain, PlainPart}
 use Rattle.rz_types_fields.specs.declared.tree.Tree.{Tree}

@@ -2,11 +2,11 @@
 
 ghost use Rattle.std.specs.Prelude.{◌≡◌, ◌++◌, true, false, ℕ, List, Bool, map};
 ghost use Rattle.rz_lex.specs.declared.token.Shape.{Shape};
-ghost use Rattle.rz_show_laws.specs.Page.{AreCutBack, ArePrinted, IsPage};
+ghost use Rattle.rz_show_laws.specs.Page.{AreCutBack, ArePrinted, IsPage, IsPrinted};
 ghost use Rattle.rz_show.specs.Print.{list_lines, Prints};
 ghost use Rattle.rz_show.specs.Printable.{AreGood, AreOfBytes, SparesTruth};
 ghost use Rattle.rz_show.specs.Shown.{row_prints, row_uses};
-ghost use Rattle.rz_show.specs.Written.{line_shapes, lines_text, Written};
+ghost use Rattle.rz_show.specs.Written.{are_apart, line_shapes, line_text, lines_text, IsWritten, Written};
 ghost use Rattle.rz_types_fields.specs.declared.tree.Tree.{Tree};
 ghost use Rattle.rz_types_fields.specs.Row.{IsRow};
 ghost use Rattle.rz_types.specs.Field.{PlainBody};
@@ -34,12 +34,21 @@ pub fn printed_rows()
     rules_hold_within();
 }
 
+/// A law, with nothing to run: a line of written tokens, of which no two words or numbers stand side by side, is cut into
+/// the tokens that are meant, wherever it stands.
+pub fn printed_line()
+    ensures { (line : List Written) → AllByRecursion IsWritten line → are_apart line ≡ true
+        → IsPrinted (line_text line) (line_shapes line) }
+{
+    cut_back();
+}
+
 /// A law, with nothing to run: the lines of such items are cut into the tokens that are meant, wherever they stand, and
 /// no live macro expands one of them.
 pub fn printed_lines()
     ensures { (hidden : List ℕ → Bool) (depth : ℕ) (items : Prints) → AreGood hidden items → AreCutBack hidden (list_lines depth items) }
 {
-    cut_back();
+    printed_line();
 }
 
 /// A law, with nothing to run: lines that are cut into the tokens that are meant, in front of a page, are a page with it.
@@ -57,10 +66,10 @@ pub fn shown_text()
     ensures { (hidden : List ℕ → Bool) (list : List Showing) → SparesTruth hidden → AllByRecursion (CanBeShown hidden) list
         → IsPrintedAs hidden (showings_text hidden list) list }
 {
-    cut_back();
     lines_of_page();
     rules_hold_within();
     printed_rows();
+    printed_line();
     printed_lines();
     printed_page();
 }

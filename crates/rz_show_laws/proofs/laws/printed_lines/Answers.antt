@@ -2,20 +2,4 @@ use Rattle.rz_show_laws.proofs.CutLines.{cut_lines}
 use Rattle.rz_show_laws.proofs.laws.printed_lines.Goals as goal
 
 pub returns : goal.returns
-returns c =
-    let law = c.cut_back.ensures in
-    cut_lines (record {
-      word = law.word;
-      number = law.number;
-      spelled = law.spelled;
-      literal = law.literal;
-      text = law.text;
-      octal = law.octal;
-      hexadecimal = law.hexadecimal;
-      binary = law.binary;
-      hex_bytes = law.hex_bytes;
-      sign = law.sign;
-      empty = law.empty;
-      token = law.token;
-      blank = law.blank;
-    })
+returns c = cut_lines c.printed_line.ensures
