@@ -2,3 +2,4 @@ pub mod Search
 pub mod Store
 pub mod Reading
 pub mod FolderPart
+pub mod Fronts

@@ -1,6 +1,7 @@
 //! Files by name and places to write to, each with counts of its faults: the two traits, and a folder and a sink
 //! in memory whose contracts are exact. It rests on `rz_core`, `arrayvec` and `itoa`.
-//! `Shelf` holds files in memory that are read and never written, for a command that has its files of its own.
+//! `Shelf` holds files in memory that are read and never written, for a command that has its files of its own, and
+//! `TextSink` has in memory what a call puts.
 //! `RealFolder` and `RealSink` are the host's: what the host's calls do is trusted and tested, not proved.
 //! `replace` writes a regular file so that it is replaced whole or stays as it was; `temporary` names the file
 //! that it fills.
@@ -8,6 +9,7 @@
 #![tactic(auto)]
 
 mod folder;
+mod limit;
 mod mem_folder;
 mod mem_sink;
 mod real_folder;
@@ -16,6 +18,7 @@ mod replace;
 mod shelf;
 mod sink;
 mod temporary;
+mod text_sink;
 
 pub use folder::{Folder, Read, Written};
 pub use mem_folder::MemFolder;
@@ -24,3 +27,4 @@ pub use real_folder::RealFolder;
 pub use real_sink::RealSink;
 pub use shelf::Shelf;
 pub use sink::{Put, Sink};
+pub use text_sink::TextSink;

@@ -58,12 +58,13 @@ impl<R: Files + Drop> Folder for RealFolder<R> {
 
     ghost write_faults = { λ folder. folder.writes };
 
-    /// Reads the host's file of that path. `Missing` is the host's 'not found', and `NoMemory` that
-    /// memory for the contents, or the host's own, was refused. `Failed` is every other error of
-    /// the host's, and a file of 2^32 bytes or more; exactly then the count of read faults rises,
-    /// unless it stands at 2^64 - 1. A regular file that tells such a length is refused before it
-    /// is read, and the memory of the length that it tells is taken at once. A read that a signal
-    /// interrupts is taken again.
+    /// Reads the host's file of that path. `Missing` is the host's 'not found', and that no file can
+    /// stand at the path: a folder stands there, it leads through a file, it is too long for the
+    /// host, or it has a zero byte. `NoMemory` is that memory for the contents, or the host's own,
+    /// was refused. `Failed` is every other error of the host's, and a file of 2^32 bytes or more;
+    /// exactly then the count of read faults rises, unless it stands at 2^64 - 1. A regular file
+    /// that tells such a length is refused before it is read, and the memory of the length that it
+    /// tells is taken at once. A read that a signal interrupts is taken again.
     fn read(&mut self, alloc: Global, name: &str) -> Read
         ensures short { IsShort result }
         ensures counted { self.old.reads ≤ self.new.reads }
@@ -84,16 +85,18 @@ impl<R: Files + Drop> Folder for RealFolder<R> {
         }
     }
 
-    /// Makes the host's file of that path hold these bytes, and waits until they are on its disk.
-    /// `Failed` is every error of the host's; exactly then the count of write faults rises, unless
-    /// it stands at 2^64 - 1.
+    /// Makes the host's file of that path hold these bytes, and waits until they are on its disk, and
+    /// the file's name too, where the host lets its folder be opened and waited for. `Failed` is
+    /// every error of the host's; exactly then the count of write faults rises, unless it stands at
+    /// 2^64 - 1.
     ///
     /// The bytes go to a temporary file `.rezkit-N` in the same folder, where N is the first number
-    /// from 0 to 99 that is free. That file gets the permissions of the old one, and then takes
-    /// its place. So after `Failed` the old file is whole, or there is still none, and nothing else
-    /// is left in the folder, as far as the host does what its calls say. `Failed` is also the
-    /// answer where the path is a folder's, where the file or its folder may not be written, and
-    /// where the temporary name is longer than 4,096 bytes.
+    /// from 0 that is free. That file gets the permissions of the old one, and then takes its
+    /// place. So after `Failed` the old file is whole, or there is still none, or the new one is
+    /// whole and its folder alone could not be brought to the disk; and nothing else is left in the
+    /// folder, as far as the host does what its calls say. `Failed` is also the answer where the
+    /// path is a folder's, where the file or its folder may not be written, where the process may
+    /// not write a file of so many bytes, and where the temporary name is longer than 4,096 bytes.
     ///
     /// A link, a device or a pipe is written in place; after `Failed` what it leads to may be
     /// empty or hold a front of the bytes.
@@ -128,7 +131,7 @@ impl<R: Files + Drop> Folder for RealFolder<R> {
 fn read_file<R: Files>(rt: &R, alloc: Global, name: &str) -> io::Result<Bytes>
     ensures { IfOk result (λ bytes. length bytes < 2 ^ 32) }
 {
-    let mut file = fs::open(rt, name)?;
+    let mut file = open_file(rt, name)?;
     let expected = expected_length(&file)?;
     let Ok(mut bytes) = Bytes::with_capacity(alloc, expected) else {
         return Err(io::Error::from(ErrorKind::OutOfMemory));
@@ -153,11 +156,30 @@ fn read_file<R: Files>(rt: &R, alloc: Global, name: &str) -> io::Result<Bytes>
     Err(io::Error::from(ErrorKind::FileTooLarge))
 }
 
-// The length that a regular file tells, and 0 for what tells none. One that is too long is an error.
+// Opens the file of that path. A path at which no file can stand isn't found, but for that of a folder, which is opened.
+fn open_file<R: Files>(rt: &R, name: &str) -> io::Result<R::File> {
+    match fs::open(rt, name) {
+        Err(error) if is_no_place(error.kind()) => Err(io::Error::from(ErrorKind::NotFound)),
+        opened => opened,
+    }
+}
+
+// Whether this is said of a path at which no file can stand: it leads through a file, is too long, or has a zero byte.
+fn is_no_place(kind: ErrorKind) -> bool {
+    matches!(
+        kind,
+        ErrorKind::NotADirectory | ErrorKind::InvalidFilename | ErrorKind::InvalidInput
+    )
+}
+
+// The length that a regular file tells, and 0 for what tells none. One that is too long is an error, and a folder isn't found.
 fn expected_length<F: OpenFile>(file: &F) -> io::Result<usize>
     ensures { IfOk result (λ expected. expected < 2 ^ 32) }
 {
     let metadata = file.metadata()?;
+    if metadata.is_dir() {
+        return Err(io::Error::from(ErrorKind::NotFound));
+    }
     if !metadata.is_file() {
         return Ok(0);
     }

@@ -1,14 +1,12 @@
 //! How a file of the host's is written: by a temporary file beside it; a link, device or pipe in place.
 
-use crate::temporary::temporary_name;
+use crate::limit::may_have;
+use crate::temporary::{folder_of, temporary_name};
 use std::fs::{OpenFile, OpenOptions, Permissions};
 use std::io::{ErrorKind, Write};
 use std::os::unix::fs::OpenOptionsExt;
 use std::rt::Files;
 use std::{fs, io};
-
-// How many names are tried for a temporary file.
-const NAME_COUNT: u8 = 100;
 
 // What the host has at a path that is to be written.
 #[derive(Drop)]
@@ -25,8 +23,9 @@ enum Target {
 ///
 /// A regular file is replaced: the bytes go to a temporary file beside it, which takes its place
 /// when they are all there. So after an error the old file is whole, or there is still none, and the
-/// temporary file is removed. A link, a device or a pipe is written in place, and after an error
-/// what it leads to may be empty or hold a front of the bytes.
+/// temporary file is removed; or the new file is whole, and its folder could not be brought to the
+/// disk. A link, a device or a pipe is written in place, and after an error what it leads to may be
+/// empty or hold a front of the bytes.
 pub(crate) fn write_file<R: Files>(rt: &R, path: &str, bytes: &[u8]) -> io::Result<()> {
     match target_at(rt, path)? {
         Target::Missing => replace_file(rt, path, bytes, None),
@@ -53,8 +52,12 @@ fn target_at<R: Files>(rt: &R, path: &str) -> io::Result<Target> {
     Ok(Target::Regular(found.permissions()))
 }
 
-// Writes what the path leads to, from its start. A regular file is on its disk after this.
+// Writes what the path leads to, from its start. A regular file is on its disk after this; one that may not have so many
+// bytes stays as it was.
 fn write_in_place<R: Files>(rt: &R, path: &str, bytes: &[u8]) -> io::Result<()> {
+    if !may_have(rt, bytes.len()) && fs::metadata(rt, path)?.is_file() {
+        return Err(io::Error::from(ErrorKind::FileTooLarge));
+    }
     let mut file = fs::create(rt, path)?;
     file.write_all(bytes)?;
     if file.metadata()?.is_file() {
@@ -70,7 +73,10 @@ fn replace_file<R: Files>(
     bytes: &[u8],
     permissions: Option<Permissions>,
 ) -> io::Result<()> {
-    for number in 0..NAME_COUNT {
+    if !may_have(rt, bytes.len()) {
+        return Err(io::Error::from(ErrorKind::FileTooLarge));
+    }
+    for number in 0..u32::MAX {
         let Some(name) = temporary_name(path, number) else {
             return Err(io::Error::from(ErrorKind::InvalidFilename));
         };
@@ -115,9 +121,28 @@ fn settle<R: Files>(rt: &R, filled: io::Result<()>, name: &str, path: &str) -> i
         Ok(()) => fs::rename(rt, name, path),
         Err(error) => Err(error),
     };
-    if moved.is_err() {
-        // The first error is the one to tell.
-        let _ = fs::remove_file(rt, name);
+    match moved {
+        Ok(()) => sync_folder(rt, folder_of(path)),
+        Err(error) => {
+            // The first error is the one to tell.
+            let _ = fs::remove_file(rt, name);
+            Err(error)
+        }
     }
-    moved
+}
+
+// Waits until what a folder names is on its disk. Where the host doesn't open the folder, or has no such call for it,
+// nothing is waited for.
+fn sync_folder<R: Files>(rt: &R, folder: &str) -> io::Result<()> {
+    let Ok(folder) = fs::open(rt, folder) else {
+        return Ok(());
+    };
+    match folder.sync_all() {
+        Err(error)
+            if !matches!(
+                error.kind(),
+                ErrorKind::InvalidInput | ErrorKind::Unsupported
+            ) => { Err(error) }
+        _ => Ok(()),
+    }
 }

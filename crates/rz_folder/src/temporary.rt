@@ -1,4 +1,4 @@
-//! The name of a temporary file beside a path; changed only with `specs/Temporary`.
+//! The name of a temporary file beside a path, and the folder of both; changed only with `specs/Temporary`.
 
 ghost use Rattle.std.specs.Prelude.{◌≡◌, ◌<◌, ◌++◌, ℕ, List, length, codes, decimal, MatchOption};
 ghost use Rattle.rz_folder.specs.Temporary.{IsNameBeside};
@@ -15,7 +15,7 @@ pub(crate) type TemporaryName = ArrayString<NAME_LIMIT>;
 /// The name of the temporary file of that number beside a path: the folder part of the path, which
 /// ends in its last slash, then `.rezkit-` and the number in decimal. It is `None` exactly where
 /// that is longer than 4,096 bytes.
-pub(crate) fn temporary_name(path: &str, number: u8) -> Option<TemporaryName>
+pub(crate) fn temporary_name(path: &str, number: u32) -> Option<TemporaryName>
     ensures { MatchOption result ((name : List ℕ) × IsNameBeside path.now number name × (NAME_LIMIT < length name))
         (λ name. IsNameBeside path.now number name.bytes) }
 {
@@ -26,7 +26,7 @@ pub(crate) fn temporary_name(path: &str, number: u8) -> Option<TemporaryName>
 }
 
 // A folder, a slash or nothing, and the rest of the name, one after the other.
-fn joined(folder: &str, slash: &str, number: u8) -> Option<TemporaryName>
+fn joined(folder: &str, slash: &str, number: u32) -> Option<TemporaryName>
     ensures { MatchOption result (NAME_LIMIT < length (folder.now ++ slash.now ++ codes ".rezkit-" ++ decimal number))
         (λ name. name.bytes ≡ folder.now ++ slash.now ++ codes ".rezkit-" ++ decimal number) }
 {
@@ -37,4 +37,13 @@ fn joined(folder: &str, slash: &str, number: u8) -> Option<TemporaryName>
     name.try_push_str(".rezkit-").ok()?;
     name.try_push_str(digits.format(number)).ok()?;
     Some(name)
+}
+
+/// The folder of a path: what stands before its last slash, `.` where it has none, and `/` where nothing stands before it.
+pub(crate) fn folder_of(path: &str) -> &str {
+    match path.rsplit_once('/') {
+        Some(("", _)) => "/",
+        Some((folder, _)) => folder,
+        None => ".",
+    }
 }

@@ -23,6 +23,8 @@ pub fn show_file_call(rt: HostRuntime, call: &str, came: &mut Text) {
             show_done(symlink(&rt, target, link), came);
         }
         ("allow", rest) => show_allow(rt, rest, came),
+        ("leave", rest) => show_left(rt, rest, true, came),
+        ("take", rest) => show_left(rt, rest, false, came),
         ("read", name) => match fs::read(&rt, name) {
             Ok(bytes) => show_bytes(bytes.as_slice(), came),
             Err(_) => came.put(b"refused"),
@@ -37,6 +39,26 @@ pub fn show_file_call(rt: HostRuntime, call: &str, came: &mut Text) {
         }
         ("exists", name) => show_truth(fs::exists(&rt, name), came),
         _ => came.fail(),
+    }
+}
+
+/// Writes or removes so many files of another's that have the first names of temporary files in a folder.
+fn show_left(rt: HostRuntime, call: &str, is_written: bool, came: &mut Text) {
+    let (count, folder) = in_two(call);
+    let Ok(count) = count.parse::<u32>() else {
+        came.fail();
+        return;
+    };
+    for number in 0..count {
+        let Ok(name) = format!(in rt.alloc(); "{folder}/.rezkit-{number}") else {
+            came.fail();
+            return;
+        };
+        if is_written {
+            show_done(fs::write(&rt, name.as_str(), b"another's"), came);
+        } else {
+            show_done(fs::remove_file(&rt, name.as_str()), came);
+        }
     }
 }
 

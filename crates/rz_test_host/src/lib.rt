@@ -17,4 +17,6 @@ mod replaced;
 #[cfg(test)]
 mod steps;
 #[cfg(test)]
+mod streams;
+#[cfg(test)]
 mod tables;

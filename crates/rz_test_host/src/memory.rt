@@ -41,16 +41,19 @@ shelf read b => Missing
 shelf faults  => 0 18446744073709551615
 ";
 
-/// A stream in memory takes a front of the put that is named.
+/// A stream in memory takes a front of the put that is named, and counts no flush.
 pub const PUTS: &str = "
 sink reserve 6 =>\x20
 sink fail 2 2 =>\x20
 sink put ab => Done
+sink flush  => Done
 sink put cde => Failed
+sink flush  => Done
 sink put 123 => Failed
 sink put 12 => Done
 sink bytes  => abcd12
 sink faults  => 2
+text ab cd => Done Done Done 18446744073709551615 abcd
 ";
 
 /// A fork of one resource.

@@ -5,8 +5,9 @@ ghost use Rattle.std.specs.Prelude.{◌<◌, ◌^◌, length};
 use crate::failing::{Calls, FailingFiles};
 use crate::files::{show_file_call, show_rewrite};
 use crate::forks::show_fork;
+use crate::streams::{show_over, show_unread};
 use rz_folder::{
-    Folder, MemFolder, MemSink, Put, Read, RealFolder, RealSink, Shelf, Sink, Written,
+    Folder, MemFolder, MemSink, Put, Read, RealFolder, RealSink, Shelf, Sink, TextSink, Written,
 };
 use rz_test_tables::Text;
 use std::alloc::Global;
@@ -52,6 +53,9 @@ pub fn show_call(world: &mut World, text: &str, came: &mut Text) {
         "failing" => show_failing(rt, call, came),
         "files" => show_file_call(rt, call, came),
         "stream" => show_stream(rt, call, came),
+        "over" => show_over(rt, call, came),
+        "unread" => show_unread(rt, call, came),
+        "text" => show_text(rt.alloc(), call, came),
         "fork" => show_fork(rt.alloc(), call, came),
         _ => came.fail(),
     }
@@ -64,22 +68,49 @@ pub fn in_two(text: &str) -> (&str, &str) {
 
 /// Shows what a piece on the standard output gives, and the faults after it.
 fn show_stream(rt: HostRuntime, piece: &str, came: &mut Text) {
-    let mut sink = RealSink::new(rt.stdout());
+    let mut sink = RealSink::new(rt.alloc(), rt.stdout());
     show_put(&mut sink, piece, came);
     came.put(b" ");
     came.number(sink.faults());
 }
 
 /// Shows what a piece gives.
-fn show_put<S: Sink>(sink: &mut S, piece: &str, came: &mut Text) {
-    match sink.put(piece.as_bytes()) {
+pub fn show_put<S: Sink>(sink: &mut S, piece: &str, came: &mut Text) {
+    let put = sink.put(piece.as_bytes());
+    show_end(put, came);
+}
+
+/// Shows what a flush gives.
+pub fn show_flush<S: Sink>(sink: &mut S, came: &mut Text) {
+    let flushed = sink.flush();
+    show_end(flushed, came);
+}
+
+/// Shows how a call of a stream ended.
+fn show_end(ended: Put, came: &mut Text) {
+    match ended {
         Put::Done => came.put(b"Done"),
         Put::Failed => came.put(b"Failed"),
     }
 }
 
+/// Shows what two pieces give on a stream over bytes of its own, a flush, the faults, and the bytes.
+fn show_text(alloc: Global, pieces: &str, came: &mut Text) {
+    let (first, second) = in_two(pieces);
+    let mut sink = TextSink::new(alloc);
+    show_put(&mut sink, first, came);
+    came.put(b" ");
+    show_put(&mut sink, second, came);
+    came.put(b" ");
+    show_flush(&mut sink, came);
+    came.put(b" ");
+    came.number(sink.faults());
+    came.put(b" ");
+    show_bytes(sink.into_bytes().as_slice(), came);
+}
+
 /// A number of a call.
-fn number_in(text: &str, came: &mut Text) -> u32 {
+pub fn number_in(text: &str, came: &mut Text) -> u32 {
     match text.parse::<u32>() {
         Ok(number) => number,
         Err(_) => {
@@ -181,6 +212,7 @@ fn show_sink(sink: &mut MemSink, call: &str, came: &mut Text) {
             sink.fail_at(u64::from(call), taken);
         }
         ("put", piece) => show_put(sink, piece, came),
+        ("flush", _) => show_flush(sink, came),
         ("bytes", _) => show_bytes(sink.bytes(), came),
         ("faults", _) => came.number(sink.faults()),
         _ => came.fail(),
@@ -205,11 +237,12 @@ fn show_failing(runtime: HostRuntime, call: &str, came: &mut Text) {
 }
 
 /// The error of a name.
-fn error_of(name: &str, came: &mut Text) -> ErrorKind {
+pub fn error_of(name: &str, came: &mut Text) -> ErrorKind {
     match name {
         "full" => ErrorKind::StorageFull,
         "denied" => ErrorKind::PermissionDenied,
         "interrupted" => ErrorKind::Interrupted,
+        "unable" => ErrorKind::InvalidInput,
         _ => {
             came.fail();
             ErrorKind::Unsupported

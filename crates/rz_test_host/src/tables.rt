@@ -1,11 +1,11 @@
 //! All tables, and the test that makes their calls.
 
 use crate::steps::{World, show_call};
-use crate::{memory, replaced};
+use crate::{memory, replaced, streams};
 use rz_test_tables::{CaseFault, Text, add_if_wrong, cases_of, expanded};
 
 /// All tables.
-fn tables() -> [&'static str; 11] {
+fn tables() -> [&'static str; 14] {
     [
         memory::ROOM,
         memory::NAMED,
@@ -13,11 +13,14 @@ fn tables() -> [&'static str; 11] {
         memory::PUTS,
         memory::FORKS,
         replaced::HOST,
+        replaced::NOWHERE,
         replaced::NEW,
         replaced::OLD,
         replaced::READS,
+        replaced::LEFT,
         replaced::MODES,
         replaced::PLACES,
+        streams::STREAMS,
     ]
 }
 

@@ -12,14 +12,14 @@ mod epoch;
 mod tests;
 
 use crate::epoch::moment_told;
-use rz_core::Moment;
+use rz_core::{Moment, NoMemory};
 use rz_folder::{Folder, RealFolder, RealSink, Sink};
 use rz_tools::run;
 use std::env;
 use std::env::VarError;
 use std::io::ErrorKind;
 use std::process::ExitCode;
-use std::rt::{Clock, Env};
+use std::rt::{Clock, Env, Stdout};
 use std::time::{SystemTime, UNIX_EPOCH};
 
 /// Why no run begins.
@@ -53,12 +53,21 @@ impl Hindrance {
     }
 }
 
-/// Runs the command of the host's arguments over the host's files, streams and clock, and gives the exit status.
+/// Runs the command of the host's arguments over the host's files, streams and clock, and gives the exit status. Standard
+/// output is written in large pieces of whole lines, standard error at once.
 pub fn start(rt: HostRuntime) -> ExitCode {
     let mut folder = RealFolder::new(rt);
-    let mut out = RealSink::new(rt.stdout());
-    let mut err = RealSink::new(rt.stderr());
+    let mut out = output_of(rt);
+    let mut err = RealSink::new(rt.alloc(), rt.stderr());
     ExitCode::from(start_over(&rt, &mut folder, &mut out, &mut err))
+}
+
+/// The host's standard output, with a buffer where there is memory for one.
+fn output_of(rt: HostRuntime) -> RealSink<Stdout> {
+    match RealSink::buffered(rt.alloc(), rt.stdout()) {
+        Ok(out) => out,
+        Err(NoMemory) => RealSink::new(rt.alloc(), rt.stdout()),
+    }
 }
 
 /// Runs the command of a host's arguments at its moment over a folder and two streams, and gives the exit status. If no
