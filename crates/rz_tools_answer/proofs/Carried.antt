@@ -12,22 +12,11 @@ use Rattle.rz_folder.specs.declared.sink.Put.TheVariants as puts
 use Rattle.rz_tools_answer.specs.Answer.{files_after, Answer, Write}
 use Rattle.rz_tools_answer.specs.Message.{write_fault_line}
 use Rattle.rz_tools_answer.specs.Plan.{FailsAt, WritesEach}
-use Rattle.rz_tools_answer.specs.Carried.{at_file, at_text, CarriesOut, IsAnswered, IsUntouched}
+use Rattle.rz_tools_answer.specs.Carried.{at_file, at_text, CarriesOut, IsUntouched}
 use Rattle.rz_tools_answer.specs.World.{Says, World}
 use Rattle.rz_tools_answer.specs.WellFormed.{AreWritable, FitsOutcome}
 use Rattle.rz_tools_answer.specs.declared.outcome.Outcome.{Outcome}
 use Rattle.rz_tools_answer.specs.declared.outcome.Outcome.TheVariants.{Done, Usage, Refused, ReadFault, WriteFault, NoMemory}
-
--- The answer matters only where the run ends with it, or was to write it.
-
-pub carried_too : (before after : World) (done wanted : Answer) (result : Outcome) → (IsAnswered result → done ≡ wanted)
-    → CarriesOut done before after result → CarriesOut wanted before after result
-carried_too before after done wanted Done same carried = subst (λ answer. CarriesOut answer before after Done) (same tt) carried
-carried_too before after done wanted (Usage fault) same carried = subst (λ answer. CarriesOut answer before after (Usage fault)) (same tt) carried
-carried_too before after done wanted (Refused fault) same carried = subst (λ answer. CarriesOut answer before after (Refused fault)) (same tt) carried
-carried_too before after done wanted ReadFault same carried = record { ends = carried.ends; says = carried.says }
-carried_too before after done wanted WriteFault same carried = subst (λ answer. CarriesOut answer before after WriteFault) (same tt) carried
-carried_too before after done wanted NoMemory same carried = record { ends = carried.ends; says = carried.says }
 
 -- How an answer is carried out.
 

@@ -1,7 +1,7 @@
 -- Puts of lines, one behind the other.
-use Rattle.std.proofs.Common.{◌≡◌, ℕ, zero, suc, ◌+◌, ◌≤◌, List, [], ◌∷◌, ◌++◌, length, take, Some, None, refl, sym, ap, subst, ◌∙◌, arith, append_assoc}
+use Rattle.std.proofs.Common.{◌≡◌, ℕ, ◌+◌, ◌≤◌, List, ◌++◌, length, take, Some, None, refl, sym, ap, subst, ◌∙◌, arith, append_assoc}
 use Rattle.std.specs.declared.option.Option.{Option}
-use Rattle.std.proofs.lemmas.List.{take_all}
+use Rattle.rz_folder.proofs.Fronts.{flushed, front_behind, front_of}
 use Rattle.rz_folder.specs.Counts.{Rose}
 use Rattle.rz_folder.specs.Sink.{Puts}
 use Rattle.rz_folder.specs.declared.sink.Put.{Put}
@@ -12,32 +12,10 @@ pub said : (line : List ℕ) (before after : Option (List ℕ)) (faults_before f
     → Puts line before after result → (result ≡ Failed → Rose faults_before faults_after) → Says line before after faults_before faults_after
 said line None after faults_before faults_after result told cause = tt
 said line (Some before) after faults_before faults_after Done told cause =
-    ((length line, told ∙ ap (λ (l : List ℕ). Some (before ++ l)) (sym (take_all (length line) line (omega arith)))), λ _. told)
+    (flushed line (Some before) after after Failed told refl, λ _. told)
 said line (Some before) after faults_before faults_after Failed told cause = (told, λ kept. absurd (kept (cause refl)))
 
-take_none : (n : ℕ) → ◌≡◌ {A = List ℕ} (take n []) []
-take_none zero = refl
-take_none (suc n) = refl
-
--- a front of the first text is one of both
-front_of : (n : ℕ) (xs ys : List ℕ) → (m : ℕ) × (take n xs ≡ take m (xs ++ ys))
-front_of n [] [] = (n, refl)
-front_of n [] (y ∷ ys) = (0, take_none n)
-front_of zero (x ∷ xs) ys = (0, refl)
-front_of (suc n) (x ∷ xs) ys = let more = front_of n xs ys in (suc more.0, ap (λ (l : List ℕ). x ∷ l) more.1)
-
--- the first text and a front of the second is a front of both
-front_behind : (n : ℕ) (xs ys : List ℕ) → xs ++ take n ys ≡ take (length xs + n) (xs ++ ys)
-front_behind n [] ys = ap (λ k. take k ys) same
-  where
-    same : n ≡ 0 + n
-    same = omega arith
-front_behind n (x ∷ xs) ys = ap (λ (l : List ℕ). x ∷ l) (front_behind n xs ys) ∙ ap (λ k. take k (x ∷ (xs ++ ys))) more
-  where
-    more : suc (length xs + n) ≡ length (x ∷ xs) + n
-    more = omega arith
-
-rises : (before mid after : ℕ) → before ≤ mid → Rose mid after → Rose before after
+pub rises : (before mid after : ℕ) → before ≤ mid → Rose mid after → Rose before after
 rises before mid after less rose = omega (arith, less, rose)
 
 module _ (lines line : List ℕ) where

@@ -1,10 +1,15 @@
 -- How a run ends that carries out an answer, and what it leaves.
-use Rattle.std.specs.Prelude.{◌≡◌, ℕ, ◌++◌, List, ◌∷◌, IfSome, IsSomeAnd}
+use Rattle.std.specs.Prelude.{◌≡◌, ◌⊎◌, ℕ, ◌++◌, List, ◌∷◌, IfSome, IsSomeAnd, Ok, Err}
 use Rattle.std.specs.declared.option.Option.TheVariants.{Some}
+use Rattle.std.specs.declared.result.Result.{Result}
 use Rattle.std.specs.FinMap as map
+use Rattle.rz_core.specs.declared.stop.NoMemory.{NoMemory as NoMemoryAlone}
+use Rattle.rz_folder.specs.Sink.{GotFront}
+use Rattle.rz_folder.specs.declared.sink.Put.{Put}
+use Rattle.rz_folder.specs.declared.sink.Put.TheVariants as puts
 use Rattle.rz_tools_answer.specs.Answer.{files_after, Answer, Write}
 use Rattle.rz_tools_answer.specs.Message.{no_memory_line, read_fault_line, write_fault_line}
-use Rattle.rz_tools_answer.specs.World.{GotFront, ReadFailed, Says, World, WriteFailed}
+use Rattle.rz_tools_answer.specs.World.{ReadFailed, Says, SaysText, World, WriteFailed}
 use Rattle.rz_tools_answer.specs.declared.outcome.Outcome.{Outcome}
 use Rattle.rz_tools_answer.specs.declared.outcome.Outcome.TheVariants.{Done, Usage, Refused, ReadFault, WriteFault, NoMemory}
 
@@ -39,20 +44,37 @@ Ends answer before after (Usage fault) = (answer.outcome ≡ Usage fault) × IsU
 Ends answer before after (Refused fault) = (answer.outcome ≡ Refused fault) × IsUntouched before after
 Ends answer before after ReadFault = ReadFailed before after × IsUntouched before after
 Ends answer before after WriteFault = (answer.outcome ≡ Done) × WriteFailed before after × IsPartlyWritten answer.writes answer.out before after
-Ends answer before after NoMemory = IsUntouched before after
+Ends answer before after NoMemory = (after.files ≡ before.files) × IfSome before.out (λ out. GotFront answer.out out after.out)
 
--- what is said: the answer's text, after it the line of a write fault; or the line of a read fault or of no memory alone
-abbrev pub said_of : Answer → Outcome → List ℕ
-said_of answer WriteFault = answer.err ++ write_fault_line
-said_of answer ReadFault = read_fault_line
-said_of answer NoMemory = no_memory_line
-said_of answer other = answer.err
+-- What is said: the answer's text, after it the line of a write fault; or the line of a read fault alone. Where memory was
+-- refused, it is the line of that alone if nothing of the text was put; if the text was being put, the answer's text comes
+-- before the line.
+abbrev pub SaysOf : Answer → World → World → Outcome → Type 0
+SaysOf answer before after WriteFault = SaysText (answer.err ++ write_fault_line) before after
+SaysOf answer before after ReadFault = SaysText read_fault_line before after
+SaysOf answer before after NoMemory =
+    ((after.out ≡ before.out) × SaysText no_memory_line before after) ⊎ ((answer.outcome ≡ Done) × SaysText (answer.err ++ no_memory_line) before after)
+SaysOf answer before after other = SaysText answer.err before after
 
 -- A run that carries out an answer. It ends as the answer does, but for want of memory, a failed read, or a failed write
 -- where the answer is Done.
 pub record CarriesOut (answer : Answer) (before after : World) (result : Outcome) : Type 0 where
   pub ends : Ends answer before after result
-  pub says : Says (said_of answer result) before.err after.err before.err_faults after.err_faults
+  pub says : SaysOf answer before after result
+
+-- A text that is put piece by piece.
+
+-- how a run ends of which the text was put so
+abbrev pub end_of : Result Put NoMemoryAlone → Outcome
+end_of (Ok puts.Done) = Done
+end_of (Ok puts.Failed) = WriteFault
+end_of (Err refused) = NoMemory
+
+-- what it says then: this text, and after it the line of what went wrong
+abbrev pub said_behind : Result Put NoMemoryAlone → List ℕ → List ℕ
+said_behind (Ok puts.Done) said = said
+said_behind (Ok puts.Failed) said = said ++ write_fault_line
+said_behind (Err refused) said = said ++ no_memory_line
 
 -- the run ended as its answer does, or a write of it failed
 abbrev pub IsAnswered : Outcome → Type 0

@@ -1,9 +1,10 @@
 -- What can be seen of the folder and of the sinks of a run.
-use Rattle.std.specs.Prelude.{◌≡◌, ◌⊎◌, ℕ, ◌++◌, take, List}
+use Rattle.std.specs.Prelude.{◌≡◌, ◌⊎◌, ℕ, ◌++◌, List}
 use Rattle.std.specs.declared.option.Option.{Option}
 use Rattle.std.specs.declared.option.Option.TheVariants.{Some, None}
 use Rattle.rz_folder.specs.Counts.{Rose}
 use Rattle.rz_folder.specs.Folder.{Files}
+use Rattle.rz_folder.specs.Sink.{GotFront}
 
 -- What the folder, the output and the sink of messages hold, where they tell it, and how many of their calls failed.
 pub record World : Type 0 where
@@ -33,12 +34,12 @@ ReadFailed before after = Rose before.read_faults after.read_faults
 abbrev pub WriteFailed : World → World → Type 0
 WriteFailed before after = Rose before.write_faults after.write_faults ⊎ Rose before.out_faults after.out_faults
 
--- a sink has got a front of this text
-abbrev pub GotFront : List ℕ → List ℕ → Option (List ℕ) → Type 0
-GotFront text before after = (count : ℕ) × (after ≡ Some (before ++ take count text))
-
 -- a sink that tells what it has got has got a front of the text, and the whole text where none of its calls failed
 abbrev pub Says : List ℕ → Option (List ℕ) → Option (List ℕ) → ℕ → ℕ → Type 0
 Says text None after faults_before faults_after = Unit {0}
 Says text (Some before) after faults_before faults_after =
     GotFront text before after × ((Rose faults_before faults_after → ⊥) → after ≡ Some (before ++ text))
+
+-- the same of the sink of messages of a run
+abbrev pub SaysText : List ℕ → World → World → Type 0
+SaysText text before after = Says text before.err after.err before.err_faults after.err_faults

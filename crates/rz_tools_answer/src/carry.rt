@@ -4,17 +4,19 @@ ghost use Rattle.std.specs.Prelude.{◌≡◌, ◌≤◌, ◌⊎◌, ◌++◌, [
 ghost use Rattle.rz_folder.specs.Counts.{Rose};
 ghost use Rattle.rz_folder.specs.Sink.{Puts};
 ghost use Rattle.rz_tools_answer.specs.Plan.{answer_of, write_of, WritesEach};
-ghost use Rattle.rz_tools_answer.specs.Carried.{CarriesOut};
+ghost use Rattle.rz_tools_answer.specs.Carried.{end_of, said_behind, CarriesOut};
 ghost use Rattle.rz_tools_answer.specs.World.{world, Says};
 ghost use Rattle.rz_tools_answer.specs.Message.{write_fault_line};
 ghost use Rattle.rz_tools_answer.specs.WellFormed.{AreWritable, IsWellFormed};
 
-use crate::message::WRITE_FAULT;
+use crate::message::{NO_MEMORY, WRITE_FAULT};
 use crate::outcome::Outcome;
 use crate::plan::{Plan, Writes};
+use rz_core::NoMemory;
 use rz_folder::{Folder, Put, Sink, Written};
 
-/// Carries out an answer: writes the files, then the text of the output, and says its text.
+/// Carries out an answer: writes the files, then puts the text of the output and sees to it that it is out, and says its
+/// text.
 pub fn carry_out<F: Folder, O: Sink, E: Sink>(
     plan: Plan,
     folder: &mut F,
@@ -42,6 +44,25 @@ pub fn carry_out<F: Folder, O: Sink, E: Sink>(
             Put::Failed => say_write_fault(said.as_slice(), err),
         },
         Written::Failed => say_write_fault(said.as_slice(), err),
+    }
+}
+
+/// Says how a run ends whose text was put so: this text, and after it the line of what went wrong. The text for standard
+/// output is put by then, or a front of it.
+pub fn say_end<E: Sink>(put: Result<Put, NoMemory>, said: &[u8], err: &mut E) -> Outcome
+    ensures outcome { result ≡ end_of put }
+    ensures says { Says (said_behind put said.now) (E.written err.old) (E.written err.new) (E.faults err.old) (E.faults err.new) }
+{
+    match put {
+        Ok(Put::Done) => {
+            put_line(said, err);
+            Outcome::Done
+        }
+        Ok(Put::Failed) => say_write_fault(said, err),
+        Err(NoMemory) => {
+            put_lines(said, NO_MEMORY, err);
+            Outcome::NoMemory
+        }
     }
 }
 
@@ -81,7 +102,18 @@ fn put_text<O: Sink>(text: &[u8], out: &mut O) -> Put
     if text.is_empty() {
         Put::Done
     } else {
-        out.put(text)
+        put_out(text, out)
+    }
+}
+
+/// Puts a text, and sees to it that it is out.
+fn put_out<S: Sink>(text: &[u8], sink: &mut S) -> Put
+    ensures told { Puts text.now (S.written sink.old) (S.written sink.new) result }
+    ensures cause { result ≡ Put.Failed → Rose (S.faults sink.old) (S.faults sink.new) }
+{
+    match sink.put(text) {
+        Put::Done => sink.flush(),
+        Put::Failed => Put::Failed,
     }
 }
 
@@ -100,11 +132,11 @@ fn put_lines<E: Sink>(lines: &[u8], line: &[u8], err: &mut E)
     }
 }
 
-/// Puts a line, where it isn't empty.
+/// Puts a line, where it isn't empty, and sees to it that it is out.
 pub fn put_line<E: Sink>(line: &[u8], err: &mut E)
     ensures { Says line.now (E.written err.old) (E.written err.new) (E.faults err.old) (E.faults err.new) }
 {
     if !line.is_empty() {
-        let _ = err.put(line);
+        let _ = put_out(line, err);
     }
 }

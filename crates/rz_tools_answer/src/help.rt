@@ -60,8 +60,9 @@ the text and the second fork have. The arguments of each command stand in any or
 
 A form is raw (the resource fork alone), double (AppleDouble), macbin (MacBinary II) or
 hqx (BinHex 4.0). With -form double or -to double, -o ._NAME is the header file, and the
-data fork is the file NAME beside it: bridge writes it if it isn't empty, rez doesn't.
--to raw drops the data fork, the type and the creator.
+data fork is the file NAME beside it: bridge writes it first, if it isn't empty, in the
+place of any file NAME, also the one that it reads; rez doesn't. In a new folder, as with
+-o NEW/._NAME, nothing is replaced. -to raw drops the data fork, the type and the creator.
 
 The moment of a run is SOURCE_DATE_EPOCH, if the environment has it: the seconds since
 1970, a decimal number up to 2208988799, the end of 2039. Else it is the clock's.

@@ -2,7 +2,7 @@
 //! out, and `carry_out`, which carries one out exactly as `specs/Carried.antt` says.
 //! It rests on `rz_core`, `rz_folder` and `rz_tools_args`, whose faults of usage are said here. The commands make the
 //! answers, in `rz_tools`.
-//! A new outcome changes `Outcome`, its line in `specs/Message.antt`, and `Ends` and `said_of` of `specs/Carried.antt`;
+//! A new outcome changes `Outcome`, its line in `specs/Message.antt`, and `Ends` and `SaysOf` of `specs/Carried.antt`;
 //! a new option, and what a new command does, the explanation in the help text, whose usage is that of the table of
 //! commands; a new warning its number in `specs/Warning.antt`.
 #![tactic(auto)]
@@ -16,7 +16,7 @@ mod outcome;
 mod plan;
 mod warning;
 
-pub use carry::{carry_out, put_line};
+pub use carry::{carry_out, put_line, say_end};
 pub use help::{help_text, version_text};
 pub use laws::{answers_are_carried_out, no_warning_refuses};
 pub use made::{Failing, Made};
