@@ -3,7 +3,8 @@
 ghost use Rattle.std.specs.Prelude.{◌≡◌};
 
 use crate::made::{declaration, fields_in, fields_of};
-use crate::rows::{Head, show_count, show_read, show_written};
+use crate::rows::{show_count, show_read};
+use crate::statements::{Head, show_data, show_items, show_statement};
 use rz_core::{Bytes, Kept, Stop, Word, Words};
 use rz_show::Hidden;
 use rz_stmt::{Bounds, Made};
@@ -28,8 +29,10 @@ pub enum Call {
     Counted,
     /// The items of such a row, as they stand in a statement, with `¶` for the end of a line.
     Shown,
-    /// The statement of a resource with this head and such a row, behind a line of other text.
+    /// The lines of the statement of a resource with this head and such a row, each in brackets.
     Statement(Head),
+    /// The lines of the statement of a resource with this head and these bytes, which stand in hexadecimal.
+    Data(Head),
     /// Whether a name is a live macro, where `button` is the only one.
     Hidden,
 }
@@ -48,8 +51,9 @@ pub fn show_call(
         Call::Types => show_step(rt, &text, types, came),
         Call::Read => show_read(rt, &text, came),
         Call::Counted => show_count(rt, &text, came),
-        Call::Shown => show_written(rt, &text, None, came),
-        Call::Statement(head) => show_written(rt, &text, Some(head), came),
+        Call::Shown => show_items(rt, &text, came),
+        Call::Statement(head) => show_statement(rt, &text, head, came),
+        Call::Data(head) => show_data(rt, &text, head, came),
         Call::Hidden => show_hidden(rt, &text, came),
     }
 }

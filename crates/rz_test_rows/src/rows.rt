@@ -1,4 +1,4 @@
-//! Rows that are read of bytes, and how they are shown.
+//! Rows that are read of bytes.
 
 ghost use Rattle.std.specs.Prelude.{IfSome};
 ghost use Rattle.rz_types_fields.specs.Row.{IsRow};
@@ -8,7 +8,6 @@ use crate::made::template_of;
 use crate::show::show_row;
 use rz_core::{Attr, Bytes, Facts, Moment, OsType};
 use rz_layout::compile;
-use rz_show::{Hidden, show_row as write_statement, uses_hidden, write_row};
 use rz_test_tables::Text;
 use rz_types::{Template, is_readable};
 use rz_types_fields::{Row, Tree};
@@ -18,24 +17,15 @@ use std::process::Abort;
 /// The most bytes of a resource of a test.
 const MOST: usize = 16_777_212;
 
-/// What a resource has besides its row.
-#[derive(Clone, Copy)]
-pub struct Head {
-    pub kind: u32,
-    pub id: i16,
-    pub name: &'static str,
-    pub attr: u8,
-}
-
 /// The fields of a case, and what stands behind ` @`.
-fn parts_of<'a>(rt: &impl Abort, text: &'a str) -> (&'a str, &'a str) {
+pub fn parts_of<'a>(rt: &impl Abort, text: &'a str) -> (&'a str, &'a str) {
     text.split_once(" @")
         .ok_or("no case")
         .expect(rt, "two parts")
 }
 
 /// The bytes that hexadecimal digits spell, with blanks anywhere.
-fn bytes_of(rt: &(impl Abort + AllocGlobal), digits: &str) -> Bytes {
+pub fn bytes_of(rt: &(impl Abort + AllocGlobal), digits: &str) -> Bytes {
     let mut bytes = Bytes::new(rt.alloc());
     let mut high = None;
     for letter in digits.chars() {
@@ -60,7 +50,7 @@ fn bytes_of(rt: &(impl Abort + AllocGlobal), digits: &str) -> Bytes {
 }
 
 /// What is known of the resource of a test: type 'Test', id 128, name `name`, attributes 0.
-fn facts_of(rt: &(impl Abort + AllocGlobal)) -> Facts {
+pub fn facts_of(rt: &(impl Abort + AllocGlobal)) -> Facts {
     Facts {
         kind: OsType { code: 0x5465_7374 },
         id: 128,
@@ -71,7 +61,7 @@ fn facts_of(rt: &(impl Abort + AllocGlobal)) -> Facts {
 }
 
 /// The row that is read of bytes, where there is one.
-fn row_of(
+pub fn row_of(
     rt: &(impl Abort + AllocGlobal),
     template: &Template,
     bytes: &[u8],
@@ -120,71 +110,5 @@ pub fn show_count(rt: &(impl Abort + AllocGlobal), text: &str, came: &mut Text) 
             _ => came.put(b"no rows"),
         },
         None => came.put(b"none"),
-    }
-}
-
-/// Shows text with `¶` for the end of a line.
-fn show_lines(text: &[u8], came: &mut Text) {
-    for &byte in text {
-        if byte == b'\n' {
-            came.put("¶".as_bytes());
-        } else {
-            came.put(&[byte]);
-        }
-    }
-}
-
-/// Shows the items of the row that is read of bytes under fields, as they stand in a statement, or of a resource with
-/// this head its statement behind a line of other text; `none` where nothing is read.
-pub fn show_written(
-    rt: &(impl Abort + AllocGlobal),
-    text: &str,
-    head: Option<Head>,
-    came: &mut Text,
-) {
-    let (fields, digits) = parts_of(rt, text);
-    let template = template_of(rt.alloc(), fields).expect(rt, "a template");
-    let bytes = bytes_of(rt, digits);
-    match row_of(rt, &template, bytes.as_slice(), &facts_of(rt)) {
-        Some(row) => {
-            let shown = written(rt, &template, row.as_slice(), head);
-            show_lines(shown.as_slice(), came);
-        }
-        None => came.put(b"none"),
-    }
-}
-
-/// The items of a row, or the statement of a resource with this head behind a line of other text.
-fn written(
-    rt: &(impl Abort + AllocGlobal),
-    template: &Template,
-    row: &[Tree],
-    head: Option<Head>,
-) -> Bytes {
-    let fields = template.body().as_slice();
-    let hidden = Hidden::of(rt.alloc(), &[]).expect(rt, "memory");
-    if uses_hidden(rt.alloc(), fields, row, &hidden).expect(rt, "memory") {
-        panic!(rt; "a hidden name");
-    }
-    let mut shown = Bytes::new(rt.alloc());
-    match head {
-        None => write_row(fields, row, 1, &hidden, &mut shown).expect(rt, "memory"),
-        Some(head) => {
-            shown.append(b"first\n").expect(rt, "memory");
-            let facts = facts_under(rt, head);
-            write_statement(&facts, fields, row, &hidden, &mut shown).expect(rt, "memory");
-        }
-    }
-    shown
-}
-
-/// What is known of a resource with this head.
-fn facts_under(rt: &(impl Abort + AllocGlobal), head: Head) -> Facts {
-    Facts {
-        kind: OsType { code: head.kind },
-        id: head.id,
-        name: Bytes::of(rt.alloc(), head.name.as_bytes()).expect(rt, "memory"),
-        attr: Attr::of(head.attr),
-        ..facts_of(rt)
     }
 }

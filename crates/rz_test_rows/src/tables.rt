@@ -2,14 +2,13 @@
 
 use crate::bits::add_bits;
 use crate::calls::{Call, show_call};
-use crate::rows::Head;
-use crate::shown_resources::{add_bytes, add_resource};
+use crate::statements::Head;
 use crate::{reads, shows, types};
 use rz_test_tables::{Text, add_if_wrong, cases_of};
 use rz_types_table::TypeTable;
 use std::process::Abort;
 
-/// A resource with a name and attributes, and one without.
+/// A resource with a name and attributes.
 const GORF: Head = Head {
     kind: 0x676F_7266,
     id: -5,
@@ -17,6 +16,7 @@ const GORF: Head = Head {
     attr: 0x50,
 };
 
+/// One without them.
 const STRINGS: Head = Head {
     kind: 0x5354_5223,
     id: 128,
@@ -24,8 +24,16 @@ const STRINGS: Head = Head {
     attr: 0,
 };
 
+/// One with a name of more than one line, and attributes that have no words.
+const LONG: Head = Head {
+    kind: 0x4C6F_6E67,
+    id: -32768,
+    name: "nnnnnnnnnnnnnnnnnnnnnnnnnnnnnnnnnnnnnnnnnnnnnnnnnnnnnnnnnnnnnnnnmmmmmmmmmmmmmmmmmmmmmmmmmmmmmmmmmmmmmmmmmmmmmmmmmmmmmmmmmmmmmmmml",
+    attr: 0x81,
+};
+
 /// All tables, and what the cases of each call.
-fn tables() -> [(Call, &'static str); 13] {
+fn tables() -> [(Call, &'static str); 17] {
     [
         (Call::Checked, types::CHECKS),
         (Call::Types, types::FINDS),
@@ -38,6 +46,10 @@ fn tables() -> [(Call, &'static str); 13] {
         (Call::Shown, shows::SHOWN),
         (Call::Statement(GORF), shows::NAMED),
         (Call::Statement(STRINGS), shows::LISTS),
+        (Call::Statement(LONG), shows::LONG_ROW),
+        (Call::Data(GORF), shows::NAMED_DATA),
+        (Call::Data(STRINGS), shows::DATA),
+        (Call::Data(LONG), shows::LONG_DATA),
         (Call::Hidden, shows::HIDDEN),
         (Call::Counted, reads::MANY),
     ]
@@ -62,8 +74,6 @@ fn all_wrong(rt: &(impl Abort + AllocGlobal)) -> String {
     for (call, table) in &tables() {
         add_wrong(rt, *call, table, &mut wrong);
     }
-    add_resource(rt, &mut wrong);
-    add_bytes(rt, &mut wrong);
     add_bits(rt, &mut wrong);
     wrong
 }

@@ -1,6 +1,6 @@
 -- The text that is shown of a list means the list again.
 use Rattle.std.proofs.Common.{◌≡◌, ◌≢◌, ◌≤◌, ℕ, Bool, true, false, List, [], ◌∷◌, ◌++◌, map, length, Option, Some, None, Ok, inl, refl, sym, ap, subst, ◌∙◌, append_assoc}
-use Rattle.std.specs.Prelude.{◌==◌, ◌&&◌, ◌||◌, not, is_some}
+use Rattle.std.specs.Prelude.{◌==◌, ◌&&◌, ◌||◌, not, is_some, nat_le, ℤ, codes}
 use Rattle.std.specs.List.{flat_map, list_any, AllByRecursion}
 use Rattle.std.specs.Option.{ok_or}
 use Rattle.std.specs.Str.{bytes_eq, str_to_ascii_lowercase}
@@ -16,7 +16,7 @@ use Rattle.rz_core.specs.declared.fault.Fault.{Fault}
 use Rattle.rz_core.specs.declared.fault.Mark.{Mark}
 use Rattle.rz_core.specs.declared.moment.Moment.{Moment}
 use Rattle.rz_core.specs.declared.resource.Resource.{Resource}
-use Rattle.rz_expr.specs.Words.{is_name, role_of}
+use Rattle.rz_words.specs.Words.{is_name, role_of}
 use Rattle.rz_stmt_data.specs.Texts.{call_in}
 use Rattle.rz_types_fields.specs.declared.tree.Tree.{Tree}
 use Rattle.rz_fork.specs.Contents.{FitsFork}
@@ -32,12 +32,13 @@ use Rattle.rz_pre.specs.declared.condition.Tool.TheVariants as tools
 use Rattle.rz_folder_paths.specs.Names.{file_of}
 use Rattle.rz_pre.specs.Program.{levels_below, IncludedGoes, State}
 use Rattle.rz_show.specs.Printable.{AreOfBytes, SparesTruth}
-use Rattle.rz_show.specs.Data.{statement_text}
-use Rattle.rz_show.specs.Head.{head_text}
+use Rattle.rz_show.specs.Head.{head_front, head_lines}
+use Rattle.rz_show.specs.Print.{list_lines}
 use Rattle.rz_show_laws.specs.Page.{AreCut}
-use Rattle.rz_show.specs.Resource.{row_statement}
 use Rattle.rz_show_laws.specs.Short.{AreShortTexts}
 use Rattle.rz_show.specs.Showing.{by_bytes, by_row, showing_text, showings_text, Showing}
+use Rattle.rz_show.specs.Statement.{close_lines, data_items, row_items, statement_lines}
+use Rattle.rz_show.specs.Written.{lines_text, Written}
 use Rattle.rz_show_laws.specs.Showable.{CanBeShown, IsStored}
 use Rattle.rz_show_laws.specs.Statement.{is_shown, shown_compile, shown_raw, shown_words, AreWhole, IsPrintedAs, IsWholeData, IsWholeOf, IsWholeRow}
 use Rattle.rz_pre_source.specs.Source.{mark, IsTextOf, IsUnmarked}
@@ -360,10 +361,20 @@ begins_mark : List ℕ → Bool
 begins_mark [] = false
 begins_mark (b ∷ bytes) = b == 239
 
+module _ (b : ℕ) (word : List ℕ) (code : ℕ) (id : ℤ) (name : List ℕ) (attr : ℕ) (others : List (List Written)) (rest : List ℕ) where
+  abbrev Begins : Type 0
+  Begins = begins_mark (lines_text (head_lines (b ∷ word) code id name attr ++ others) ++ rest) ≡ (b == 239)
+
+  head_begins : Begins
+  unfolding head_lines head_front begins_mark
+  head_begins = by_test Begins (length name == 0) (λ h. rw h refl) (λ h. by_test Begins (nat_le (length name) 64) (λ k. rw (h, k) refl) (λ k. rw (h, k) refl))
+
 not_marked : (is_macro : List ℕ → Bool) (showing : Showing) (rest utf8 : List ℕ) → showing_text is_macro showing ++ rest ≢ mark ++ utf8
-unfolding statement_text row_statement head_text begins_mark
-not_marked is_macro (by_bytes resource) rest utf8 e = false≢true (ap begins_mark e)
-not_marked is_macro (by_row resource body row) rest utf8 e = false≢true (ap begins_mark e)
+unfolding statement_lines begins_mark
+not_marked is_macro (by_bytes r) rest utf8 e =
+    false≢true (sym (head_begins 100 (codes "ata") r.kind.code r.id r.name r.attr (list_lines 1 (data_items r.bytes) ++ close_lines) rest) ∙ ap begins_mark e)
+not_marked is_macro (by_row r body row) rest utf8 e =
+    false≢true (sym (head_begins 114 (codes "esource") r.kind.code r.id r.name r.attr (list_lines 1 (row_items is_macro body row) ++ close_lines) rest) ∙ ap begins_mark e)
 
 unmarked : (is_macro : List ℕ → Bool) (showings : List Showing) → IsUnmarked (showings_text is_macro showings)
 unmarked is_macro [] utf8 e = cc

@@ -13,13 +13,13 @@ use Rattle.rz_core.specs.declared.fault.Mark.{Mark}
 use Rattle.rz_stmt_data.proofs.Frames.{frame_each}
 use Rattle.rz_stmt_data.specs.Texts.{alone, begins_text, call_in, called, no_part, one_part, part_in, word_call, word_part, AreParts, IsFront}
 use Rattle.rz_stmt_data.specs.declared.texts.TextCall.{TextCall}
-use Rattle.rz_expr.specs.Keyword.{keyword_of}
-use Rattle.rz_expr.specs.Words.{is_name, is_other_name, keyword_role, plain_role, role_of}
-use Rattle.rz_expr.specs.declared.keyword.Keyword.{Keyword}
-use Rattle.rz_expr.specs.declared.keyword.Keyword.TheVariants.{Resource}
-use Rattle.rz_expr.specs.declared.words.Role.{Role}
-use Rattle.rz_expr.specs.declared.words.Role.TheVariants as roles
-use Rattle.rz_expr.specs.declared.words.TextWord.TheVariants as words
+use Rattle.rz_words.specs.Keyword.{keyword_of}
+use Rattle.rz_words.specs.Words.{is_name, is_other_name, keyword_role, plain_role, role_of}
+use Rattle.rz_words.specs.declared.keyword.Keyword.{Keyword}
+use Rattle.rz_words.specs.declared.keyword.Keyword.TheVariants.{Resource}
+use Rattle.rz_words.specs.declared.words.Role.{Role}
+use Rattle.rz_words.specs.declared.words.Role.TheVariants as roles
+use Rattle.rz_words.specs.declared.words.TextWord.TheVariants as words
 use Rattle.rz_types_fields.specs.Text.{Plain, PlainPart}
 use Rattle.rz_folder.specs.Folder.{Files}
 use Rattle.rz_stmt_items.specs.Compile.{Compile, IsCompile}

@@ -24,3 +24,4 @@ pub mod EveryMeaning
 pub mod EveryText
 pub mod EveryAnswer
 pub mod Complete
+pub mod Replied

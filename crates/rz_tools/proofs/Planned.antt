@@ -11,6 +11,7 @@ use Rattle.rz_tools_args.specs.declared.name.CommandName.TheVariants as names
 use Rattle.rz_tools.specs.DeRez.{derez_asked, AnswersDeRez, DeRezAsked, IsDeRez}
 use Rattle.rz_tools.specs.Again.{HoldsFile}
 use Rattle.rz_tools.specs.Program.{command, misplaced, Answers, AnswersItems, AnswersTo}
+use Rattle.rz_tools.specs.Reply.{outcome_of, EachAnswer}
 use Rattle.rz_tools.specs.Rez.{AnswersRez, RezAsked}
 use Rattle.rz_tools.specs.Sample.{AnswersSample}
 use Rattle.rz_tools_output.specs.Bridge.{AnswersBridge, BridgeAsked}
@@ -24,6 +25,9 @@ use Rattle.rz_tools_answer.specs.declared.plan.Plan.{Plan}
 use Rattle.rz_core.specs.declared.stop.Halt.{Halt}
 use Rattle.rz_core.specs.declared.stop.Halt.TheVariants as halts
 use Rattle.rz_core.specs.Stop.{seen, Yields}
+use Rattle.rz_tools.specs.declared.reply.Reply.{Reply}
+use Rattle.rz_tools.specs.declared.reply.Reply.TheVariants as replies
+use Rattle.rz_tools.proofs.Replied.{plan_answered}
 
 module _ (done : Making → Answer) (Makes : Files → Result Making Failing → Type 0) (answer : Answer) where
   pub made : (before : Option Files) (making : Making) → answer ≡ done making → IfSome before (λ files. Makes files (Ok making))
@@ -52,47 +56,47 @@ pub always : (before : Option Files) (P : Files → Type 0) → ((files : Files)
 always None P all = tt
 always (Some files) P all = all files
 
-module _ (words : List (List ℕ)) (moment : Moment) (asked : Asked) (is : IsCommand words asked) where
-  pub as_command : {E : Type 0} (result : Result Plan E) (before : Option Files) → IfSome before (λ files. IfOk result (λ plan. AnswersTo asked files moment (answer_of plan)))
-      → IfSome before (λ files. IfOk result (λ plan. Answers words files moment (answer_of plan)))
-  as_command result None own = tt
-  as_command (Ok plan) (Some files) own = command asked is own
-  as_command (Err unanswered) (Some files) own = tt
-
-  pub as_told : (plan : Plan) (before : Option Files) → ((files : Files) → AnswersTo asked files moment (answer_of plan))
-      → IfSome before (λ files. Answers words files moment (answer_of plan))
-  as_told plan before own = always before (λ files. Answers words files moment (answer_of plan)) (λ files. command asked is (own files))
+pub as_command : {E : Type 0} (words : List (List ℕ)) (moment : Moment) (asked : Asked) → IsCommand words asked → (result : Result Reply E) (before : Option Files)
+    → IfSome before (λ files. IfOk result (λ reply. EachAnswer reply (AnswersTo asked files moment)))
+    → IfSome before (λ files. IfOk result (λ reply. EachAnswer reply (Answers words files moment)))
+as_command words moment asked is result None own = tt
+as_command words moment asked is (Ok reply) (Some files) own = λ answer stands. command asked is (own answer stands)
+as_command words moment asked is (Err unanswered) (Some files) own = tt
 
 pub as_misused : (words : List (List ℕ)) (moment : Moment) (position : ℕ) → IsMisplaced words position → (plan : Plan) (before : Option Files) → answer_of plan ≡ misused position
-    → IfSome before (λ files. Answers words files moment (answer_of plan))
-as_misused words moment position is plan before says = always before (λ files. Answers words files moment (answer_of plan)) (λ files. misplaced position is says)
+    → IfSome before (λ files. EachAnswer (replies.Plan plan) (Answers words files moment))
+as_misused words moment position is plan before says =
+    always before (λ files. EachAnswer (replies.Plan plan) (Answers words files moment)) (λ files answer same. misplaced position is (same ∙ says))
 
 -- A fork's file is as short as one, where the words have one meaning.
 
 pub held_asked : {E : Type 0} (commands : (words : List (List ℕ)) (asked others : Asked) → IsCommand words asked → IsCommand words others → asked ≡ others)
-    (words : List (List ℕ)) (one : Asked) → IsCommand words one → (asked : DeRezAsked) → IsDeRez words asked → (before : Option Files) (result : Result Plan E)
-    → (one.name ≡ names.DeRez → IfSome before (λ files. IfSome (finite.get files (derez_asked one.items).file) (λ bytes. IfOk result (λ plan. plan.outcome ≡ Done → HoldsFile (derez_asked one.items).from bytes))))
-    → IfSome before (λ files. IfSome (finite.get files asked.file) (λ bytes. IfOk result (λ plan. plan.outcome ≡ Done → HoldsFile asked.from bytes)))
+    (words : List (List ℕ)) (one : Asked) → IsCommand words one → (asked : DeRezAsked) → IsDeRez words asked → (before : Option Files) (result : Result Reply E)
+    → (one.name ≡ names.DeRez → IfSome before (λ files. IfSome (finite.get files (derez_asked one.items).file) (λ bytes. IfOk result (λ reply. outcome_of reply ≡ Done → HoldsFile (derez_asked one.items).from bytes))))
+    → IfSome before (λ files. IfSome (finite.get files asked.file) (λ bytes. IfOk result (λ reply. outcome_of reply ≡ Done → HoldsFile asked.from bytes)))
 held_asked commands words one is asked (items, also, same) before result held =
     let e : one ≡ record { name = names.DeRez; items = items } = commands words one (record { name = names.DeRez; items = items }) is also in
-    subst (λ (a : DeRezAsked). IfSome before (λ files. IfSome (finite.get files a.file) (λ bytes. IfOk result (λ plan. plan.outcome ≡ Done → HoldsFile a.from bytes))))
+    subst (λ (a : DeRezAsked). IfSome before (λ files. IfSome (finite.get files a.file) (λ bytes. IfOk result (λ reply. outcome_of reply ≡ Done → HoldsFile a.from bytes))))
     (ap (λ (x : Asked). derez_asked x.items) e ∙ sym same) (held (ap (λ (x : Asked). x.name) e))
 
 -- The answer to a command of some items, by its name.
 
-module _ {E : Type 0} (name other : CommandName) (items : List Item) (moment : Moment) (same : name ≡ other) (before : Option Files) (result : Result Plan E) where
-  pub as_named : IfSome before (λ files. IfOk result (λ plan. AnswersItems other items files moment (answer_of plan)))
-      → IfSome before (λ files. IfOk result (λ plan. AnswersItems name items files moment (answer_of plan)))
-  as_named answers = subst (λ (n : CommandName). IfSome before (λ files. IfOk result (λ plan. AnswersItems n items files moment (answer_of plan)))) (sym same) answers
+module _ {E : Type 0} (name other : CommandName) (items : List Item) (moment : Moment) (same : name ≡ other) (before : Option Files) (result : Result Reply E) where
+  pub as_named : IfSome before (λ files. IfOk result (λ reply. EachAnswer reply (AnswersItems other items files moment)))
+      → IfSome before (λ files. IfOk result (λ reply. EachAnswer reply (AnswersItems name items files moment)))
+  as_named answers = subst (λ (n : CommandName). IfSome before (λ files. IfOk result (λ reply. EachAnswer reply (AnswersItems n items files moment)))) (sym same) answers
+
+-- that of a plan
+module _ {E : Type 0} (name other : CommandName) (items : List Item) (moment : Moment) (same : name ≡ other) (before : Option Files)
+    (plan : Result Plan E) (result : Result Reply E) (is : result ≡ seen (λ plan. replies.Plan plan) plan) where
+  pub plan_named : IfSome before (λ files. IfOk plan (λ plan. AnswersItems other items files moment (answer_of plan)))
+      → IfSome before (λ files. IfOk result (λ reply. EachAnswer reply (AnswersItems name items files moment)))
+  plan_named answers = as_named name other items moment same before result (plan_answered plan result is (λ files. AnswersItems other items files moment) before answers)
 
 module _ {E : Type 0} (moment : Moment) (before : Option Files) (result : Result Plan E) where
   pub as_rez : (asked other : RezAsked) → asked ≡ other → IfSome before (λ files. IfOk result (λ plan. AnswersRez asked files moment (answer_of plan)))
       → IfSome before (λ files. IfOk result (λ plan. AnswersRez other files moment (answer_of plan)))
   as_rez asked other same answers = subst (λ (a : RezAsked). IfSome before (λ files. IfOk result (λ plan. AnswersRez a files moment (answer_of plan)))) same answers
-
-  pub as_derez : (asked other : DeRezAsked) → asked ≡ other → IfSome before (λ files. IfOk result (λ plan. AnswersDeRez asked files moment (answer_of plan)))
-      → IfSome before (λ files. IfOk result (λ plan. AnswersDeRez other files moment (answer_of plan)))
-  as_derez asked other same answers = subst (λ (a : DeRezAsked). IfSome before (λ files. IfOk result (λ plan. AnswersDeRez a files moment (answer_of plan)))) same answers
 
   pub as_bridge : (asked other : BridgeAsked) → asked ≡ other → IfSome before (λ files. IfOk result (λ plan. AnswersBridge asked files (answer_of plan)))
       → IfSome before (λ files. IfOk result (λ plan. AnswersBridge other files (answer_of plan)))
@@ -104,15 +108,20 @@ module _ {E : Type 0} (moment : Moment) (before : Option Files) (result : Result
       always before (λ files. IfOk result (λ plan. AnswersSample others moment (answer_of plan)))
       (λ files. subst (λ (ws : List (List ℕ)). IfOk result (λ plan. AnswersSample ws moment (answer_of plan))) (sym same) answers)
 
-  pub as_held : (asked other : DeRezAsked) → asked ≡ other
-      → IfSome before (λ files. IfSome (finite.get files asked.file) (λ bytes. IfOk result (λ plan. plan.outcome ≡ Done → HoldsFile asked.from bytes)))
-      → IfSome before (λ files. IfSome (finite.get files other.file) (λ bytes. IfOk result (λ plan. plan.outcome ≡ Done → HoldsFile other.from bytes)))
-  as_held asked other same held =
-      subst (λ (a : DeRezAsked). IfSome before (λ files. IfSome (finite.get files a.file) (λ bytes. IfOk result (λ plan. plan.outcome ≡ Done → HoldsFile a.from bytes)))) same held
+-- what `derez` is asked for, in other words
+module _ {E : Type 0} (before : Option Files) (result : Result Reply E) (asked other : DeRezAsked) (same : asked ≡ other) where
+  pub as_derez : (moment : Moment) → IfSome before (λ files. IfOk result (λ reply. EachAnswer reply (AnswersDeRez asked files moment)))
+      → IfSome before (λ files. IfOk result (λ reply. EachAnswer reply (AnswersDeRez other files moment)))
+  as_derez moment answers = subst (λ (a : DeRezAsked). IfSome before (λ files. IfOk result (λ reply. EachAnswer reply (AnswersDeRez a files moment)))) same answers
+
+  pub as_held : IfSome before (λ files. IfSome (finite.get files asked.file) (λ bytes. IfOk result (λ reply. outcome_of reply ≡ Done → HoldsFile asked.from bytes)))
+      → IfSome before (λ files. IfSome (finite.get files other.file) (λ bytes. IfOk result (λ reply. outcome_of reply ≡ Done → HoldsFile other.from bytes)))
+  as_held held =
+      subst (λ (a : DeRezAsked). IfSome before (λ files. IfSome (finite.get files a.file) (λ bytes. IfOk result (λ reply. outcome_of reply ≡ Done → HoldsFile a.from bytes)))) same held
 
 -- a plan that is there whatever the files hold
 pub as_planned : (name other : CommandName) (items : List Item) (moment : Moment) → name ≡ other → (before : Option Files) (plan : Plan)
-    → ((files : Files) → AnswersItems other items files moment (answer_of plan)) → IfSome before (λ files. AnswersItems name items files moment (answer_of plan))
+    → ((files : Files) → AnswersItems other items files moment (answer_of plan)) → IfSome before (λ files. EachAnswer (replies.Plan plan) (AnswersItems name items files moment))
 as_planned name other items moment same before plan answers =
-    always before (λ files. AnswersItems name items files moment (answer_of plan))
-    (λ files. subst (λ (n : CommandName). AnswersItems n items files moment (answer_of plan)) (sym same) (answers files))
+    always before (λ files. EachAnswer (replies.Plan plan) (AnswersItems name items files moment))
+    (λ files answer is. subst (AnswersItems name items files moment) (sym is) (subst (λ (n : CommandName). AnswersItems n items files moment (answer_of plan)) (sym same) (answers files)))

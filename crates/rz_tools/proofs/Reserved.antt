@@ -5,15 +5,15 @@ use Rattle.std.specs.Char.{to_ascii_lowercase}
 use Rattle.std.specs.List.{AllByRecursion}
 use Rattle.std.specs.Str.{bytes_eq, str_eq_ignore_ascii_case, str_to_ascii_lowercase}
 use Rattle.std.proofs.lemmas.Bool.{eqb-true, false≢true}
-use Rattle.rz_expr.specs.Attribute.{attribute_word, bit_of, said_by, IsSaid}
-use Rattle.rz_expr.specs.Keyword.{keyword_of, spelling}
-use Rattle.rz_expr.specs.Words.{dollar_role, is_label, is_other_name, keyword_role, plain_role, role_of}
-use Rattle.rz_expr.specs.declared.attribute.Attribute.{Attribute}
-use Rattle.rz_expr.specs.declared.attribute.Attribute.TheVariants.{SystemHeap, Purgeable, Locked, Protected, Preload, Changed}
-use Rattle.rz_expr.specs.declared.attribute.AttributeWord.{AttributeWord}
-use Rattle.rz_expr.specs.declared.keyword.Keyword.{Keyword}
-use Rattle.rz_expr.specs.declared.keyword.Keyword.TheVariants as keywords
-use Rattle.rz_expr.specs.declared.words.Role.TheVariants.{OtherName}
+use Rattle.rz_words.specs.Attribute.{attribute_word, bit_of, said_by, IsSaid}
+use Rattle.rz_words.specs.Keyword.{keyword_of, spelling}
+use Rattle.rz_words.specs.Words.{dollar_role, is_label, is_other_name, keyword_role, plain_role, role_of}
+use Rattle.rz_words.specs.declared.attribute.Attribute.{Attribute}
+use Rattle.rz_words.specs.declared.attribute.Attribute.TheVariants.{SystemHeap, Purgeable, Locked, Protected, Preload, Changed}
+use Rattle.rz_words.specs.declared.attribute.AttributeWord.{AttributeWord}
+use Rattle.rz_words.specs.declared.keyword.Keyword.{Keyword}
+use Rattle.rz_words.specs.declared.keyword.Keyword.TheVariants as keywords
+use Rattle.rz_words.specs.declared.words.Role.TheVariants.{OtherName}
 use Rattle.rz_pre_laws.specs.Definitions.{IsFree, IsFreeName}
 use Rattle.rz_pre.specs.Live.{Live}
 use Rattle.rz_show_laws.specs.Statement.{shown_words}

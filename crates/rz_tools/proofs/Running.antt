@@ -1,18 +1,19 @@
 -- A run, from the answer that was carried out after files were read.
-use Rattle.std.proofs.Common.{◌≡◌, ◌≤◌, ◌⊎◌, inl, inr, ℕ, List, Some, None, sym, subst, ◌∙◌, arith}
+use Rattle.std.proofs.Common.{◌≡◌, ◌≤◌, ◌⊎◌, inl, inr, ℕ, List, Some, None, sym, ap, subst, ◌∙◌, append-nil, arith}
 use Rattle.std.specs.Prelude.{IfSome}
 use Rattle.std.specs.declared.option.Option.{Option}
 use Rattle.rz_core.specs.declared.moment.Moment.{Moment}
 use Rattle.rz_folder.specs.Counts.{Rose}
 use Rattle.rz_folder.specs.Folder.{Files}
+use Rattle.rz_folder.specs.Sink.{GotFront}
 use Rattle.rz_tools_args.specs.declared.read.UsageFault.{UsageFault}
 use Rattle.rz_tools_answer.specs.Answer.{Answer, Write}
-use Rattle.rz_tools_answer.specs.Carried.{at_file, at_text, CarriesOut, Ends, IsAnswered, IsPartlyWritten, IsUntouched}
+use Rattle.rz_tools_answer.specs.Carried.{at_file, at_text, CarriesOut, Ends, IsPartlyWritten, IsUntouched, SaysOf}
 use Rattle.rz_tools.specs.Program.{Answers}
-use Rattle.rz_tools_answer.specs.World.{World}
+use Rattle.rz_tools_answer.specs.Message.{no_memory_line}
+use Rattle.rz_tools_answer.specs.World.{SaysText, World}
 use Rattle.rz_tools_answer.specs.declared.outcome.Outcome.{Outcome}
 use Rattle.rz_tools_answer.specs.declared.outcome.Outcome.TheVariants.{Done, Usage, Refused, ReadFault, WriteFault, NoMemory}
-use Rattle.rz_tools_answer.proofs.Carried.{carried_too}
 
 -- Files were read before, which may have failed.
 
@@ -39,11 +40,20 @@ module _ (mid after : World) (reads : ℕ) (fewer : reads ≤ mid.read_faults) w
   ends_before answer (Refused fault) ends = (ends.0, untouched ends.1)
   ends_before answer ReadFault ends = (rose_before ends.0, untouched ends.1)
   ends_before answer WriteFault ends = (ends.0, ends.1, partly answer.writes answer.out ends.2)
-  ends_before answer NoMemory ends = untouched ends
+  ends_before answer NoMemory ends = ends
+
+  says_before : (answer : Answer) (result : Outcome) → SaysOf answer mid after result → SaysOf answer before after result
+  unfolding before
+  says_before answer Done says = says
+  says_before answer (Usage fault) says = says
+  says_before answer (Refused fault) says = says
+  says_before answer ReadFault says = says
+  says_before answer WriteFault says = says
+  says_before answer NoMemory says = says
 
   pub carried_before : (answer : Answer) (result : Outcome) → CarriesOut answer mid after result → CarriesOut answer (record mid { read_faults = reads }) after result
   unfolding before
-  carried_before answer result carried = record { ends = ends_before answer result carried.ends; says = carried.says }
+  carried_before answer result carried = record { ends = ends_before answer result carried.ends; says = says_before answer result carried.says }
 
 module _ (answer : Answer) (after : World) (result : Outcome) (files files_mid : Option Files) (out err : Option (List ℕ))
     (reads reads_mid writes writes_mid out_faults err_faults : ℕ) where
@@ -55,23 +65,44 @@ module _ (answer : Answer) (after : World) (result : Outcome) (files files_mid :
       (subst (λ (w : ℕ). CarriesOut answer (record { files = files_mid; out = out; err = err; read_faults = reads; write_faults = w; out_faults = out_faults; err_faults = err_faults }) after result) same_writes
       (carried_before (record { files = files_mid; out = out; err = err; read_faults = reads_mid; write_faults = writes_mid; out_faults = out_faults; err_faults = err_faults }) after reads fewer answer result carried))
 
+-- Memory was refused before anything was put.
+
+no_front : (text : List ℕ) (out left : Option (List ℕ)) → left ≡ out → IfSome out (λ out. GotFront text out left)
+no_front text None left same = tt
+no_front text (Some out) left same = (0, same ∙ ap Some (sym (append-nil out)))
+
+pub nothing_put : (answer : Answer) (before after : World) → after.files ≡ before.files → after.out ≡ before.out → SaysText no_memory_line before after
+    → CarriesOut answer before after NoMemory
+nothing_put answer before after files out says = record { ends = (files, no_front answer.out before.out after.out out); says = inl (out, says) }
+
 -- Each answer is the one that was carried out.
 
 abbrev pub OneAnswer : Type 0
 OneAnswer = (words : List (List ℕ)) (files : Files) (moment : Moment) (answer another : Answer) → Answers words files moment answer → Answers words files moment another → answer ≡ another
 
-module _ (one : OneAnswer) (words : List (List ℕ)) (moment : Moment) (before after : World) (done : Answer) (result : Outcome) (carried : CarriesOut done before after result) where
-  pub every : (files : Option Files) → (IsAnswered result → IfSome files (λ files. Answers words files moment done))
-      → IfSome files (λ files. (wanted : Answer) → Answers words files moment wanted → CarriesOut wanted before after result)
-  every None answers = tt
-  every (Some files) answers = λ wanted meets. carried_too before after done wanted result (λ is. one words files moment done wanted (answers is) meets) carried
+module _ (words : List (List ℕ)) (moment : Moment) (before after : World) (result : Outcome) where
+  -- those to these words are carried out
+  abbrev pub IsEvery : Option Files → Type 0
+  IsEvery files = IfSome files (λ files. (wanted : Answer) → Answers words files moment wanted → CarriesOut wanted before after result)
 
-  pub usage_of : (fault : UsageFault) → result ≡ Usage fault → done.outcome ≡ Usage fault
-  usage_of fault is = (subst (λ r. CarriesOut done before after r) is carried).ends.0
+  pub every_answer : ((wanted : Answer) → CarriesOut wanted before after result) → (files : Option Files) → IsEvery files
+  every_answer all None = tt
+  every_answer all (Some files) = λ wanted meets. all wanted
 
-  pub stays_usage : (fault : UsageFault) → done.outcome ≡ Usage fault → (result ≡ done.outcome) ⊎ (result ≡ WriteFault) → (result ≡ Usage fault) ⊎ (result ≡ NoMemory)
-  stays_usage fault is (inl ended) = inl (ended ∙ is)
-  stays_usage fault is (inr failed) = let ends : done.outcome ≡ Done = (subst (λ r. CarriesOut done before after r) failed carried).ends.0 in let e : Usage fault ≡ Done = sym is ∙ ends in cc
+  module _ (one : OneAnswer) (done : Answer) (carried : CarriesOut done before after result) where
+    pub every : (files : Option Files) → IfSome files (λ files. Answers words files moment done) → IsEvery files
+    every None answers = tt
+    every (Some files) answers = λ wanted meets. subst (λ (a : Answer). CarriesOut a before after result) (one words files moment done wanted answers meets) carried
+
+    pub usage_of : (fault : UsageFault) → result ≡ Usage fault → done.outcome ≡ Usage fault
+    usage_of fault is = (subst (λ r. CarriesOut done before after r) is carried).ends.0
+
+    pub stays_usage : (fault : UsageFault) → done.outcome ≡ Usage fault → (result ≡ done.outcome) ⊎ (result ≡ WriteFault) ⊎ (result ≡ NoMemory)
+        → (result ≡ Usage fault) ⊎ (result ≡ NoMemory)
+    stays_usage fault is (inl ended) = inl (ended ∙ is)
+    stays_usage fault is (inr (inl failed)) =
+        let ends : done.outcome ≡ Done = (subst (λ r. CarriesOut done before after r) failed carried).ends.0 in let e : Usage fault ≡ Done = sym is ∙ ends in cc
+    stays_usage fault is (inr (inr refused)) = inr refused
 
 pub or_else : {A B C : Type 0} → A ⊎ B → (A → C) → (B → C) → C
 or_else (inl a) first second = first a

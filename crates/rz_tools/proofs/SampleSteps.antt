@@ -1,5 +1,5 @@
 -- A sample, from its steps.
-use Rattle.std.proofs.Common.{◌≡◌, ◌<◌, ◌^◌, ℕ, List, [], ◌∷◌, ◌++◌, Ok, Err, inl, refl, ap, sym, subst, ◌∙◌, length}
+use Rattle.std.proofs.Common.{◌≡◌, ◌<◌, ◌^◌, ℕ, List, [], ◌∷◌, ◌++◌, Option, Some, Ok, Err, inl, refl, ap, sym, subst, ◌∙◌, length}
 use Rattle.std.specs.Prelude.{codes, IfOk, IsErrAnd}
 use Rattle.std.specs.FinMap as finite
 use Rattle.std.specs.declared.result.Result.{Result}
@@ -10,6 +10,9 @@ use Rattle.rz_core.specs.declared.moment.Moment.{Moment}
 use Rattle.rz_core.specs.declared.stop.Halt.{Halt}
 use Rattle.rz_core.specs.declared.stop.Halt.TheVariants as halts
 use Rattle.rz_folder.specs.Folder.{Files}
+use Rattle.rz_folder.specs.Sink.{PutsFront}
+use Rattle.rz_folder.specs.declared.sink.Put.{Put}
+use Rattle.rz_folder.specs.declared.sink.Put.TheVariants.{Done}
 use Rattle.rz_tools_answer.specs.Answer.{shown, Answer, Making}
 use Rattle.rz_tools_answer.specs.Made.{making_of}
 use Rattle.rz_tools_answer.specs.Plan.{answer_of, EndsIn}
@@ -46,11 +49,18 @@ compiles_so moment asked other files others same are result yields =
     subst (λ (held : Files). Yields (seen making_of result) (Compiles moment other held)) are
     (subst (λ (one : RezAsked). Yields (seen making_of result) (Compiles moment one files)) same yields)
 
-pub shows_so : (moment : Moment) (asked other : DeRezAsked) (files others : Files) → asked ≡ other → files ≡ others → (result : Result Made (Halt Failing))
-    → Yields (seen making_of result) (Shows moment asked files) → Yields (seen making_of result) (Shows moment other others)
-shows_so moment asked other files others same are result yields =
-    subst (λ (held : Files). Yields (seen making_of result) (Shows moment other held)) are
-    (subst (λ (one : DeRezAsked). Yields (seen making_of result) (Shows moment one files)) same yields)
+pub shows_so : (moment : Moment) (asked other : DeRezAsked) (files others : Files) → asked ≡ other → files ≡ others → (end : Result Making (Halt Failing))
+    → Yields end (Shows moment asked files) → Yields end (Shows moment other others)
+shows_so moment asked other files others same are end yields =
+    subst (λ (held : Files). Yields end (Shows moment other held)) are (subst (λ (one : DeRezAsked). Yields end (Shows moment one files)) same yields)
+
+-- a text that was put on a sink of its own
+pub collected : (held after bytes text : List ℕ) (put : Put) → held ≡ [] → bytes ≡ after → put ≡ Done → PutsFront text (Some held) (Some after) (Ok put) → bytes ≡ text
+collected held after bytes text put empty are is told =
+    are ∙ same_some (subst (λ (p : Put). PutsFront text (Some held) (Some after) (Ok p)) is told ∙ ap (λ (l : List ℕ). Some (l ++ text)) empty)
+  where
+    same_some : ◌≡◌ {A = Option (List ℕ)} (Some after) (Some text) → after ≡ text
+    same_some is = cc is
 
 -- The steps.
 

@@ -10,11 +10,9 @@ use Rattle.rz_folder.specs.Folder.{Files}
 use Rattle.rz_bridge.specs.declared.file.MacFile.{MacFile}
 use Rattle.rz_core.specs.Stop.{◌>>=◌}
 use Rattle.rz_bridge_files.specs.Contents.{admit_fork, file_in, fork_in, IsFile}
-use Rattle.rz_bridge_files.specs.Faults.{or_torn}
 use Rattle.rz_fork.specs.Admit.{admitted}
 use Rattle.rz_bridge_form.specs.declared.form.Form.{Form}
 use Rattle.rz_fork.specs.Contents.{Fork}
-use Rattle.rz_fork.specs.declared.fault.ForkFault.{ForkFault}
 use Rattle.rz_tools_args.specs.Command.{Asked, IsCommand}
 use Rattle.rz_tools_args.specs.declared.name.CommandName.TheVariants as names
 use Rattle.rz_tools_work.specs.Work.{begun, Work}
@@ -36,6 +34,7 @@ use Rattle.rz_tools_answer.specs.World.{World}
 use Rattle.rz_tools_answer.specs.declared.outcome.Outcome.{Outcome}
 use Rattle.rz_tools_answer.specs.declared.outcome.Outcome.TheVariants.{Done, Refused}
 use Rattle.rz_tools.proofs.OneAnswer.{OneCommand}
+use Rattle.rz_tools.proofs.Showing.{admits, same_making}
 
 -- the law of the text of a fork
 abbrev pub ForksAreReadAgain : Type 0
@@ -73,21 +72,14 @@ made_or_not making failing is = cc is
 same_text : (text others : List ℕ) → ◌≡◌ {A = Result (List ℕ) Fault} (Ok text) (Ok others) → text ≡ others
 same_text text others is = cc is
 
-same_making : (one other : Making) → ◌≡◌ {A = Result Making Failing} (Ok one) (Ok other) → one ≡ other
-same_making one other is = cc is
-
 -- the file that holds a fork
 pub fork_parts : (form : Option Form) (bytes : List ℕ) (fork : Fork) → fork_in None form bytes ≡ Ok fork
     → (file : MacFile) × (file_in None form bytes [] ≡ Ok file) × (admitted file.res_fork ≡ Ok fork)
 fork_parts form bytes fork is = by (file_in None form bytes []) refl is
   where
-    admits : (fork_held : Result Fork ForkFault) → or_torn None fork_held ≡ Ok fork → fork_held ≡ Ok fork
-    admits (Ok held) is = let so : ◌≡◌ {A = Result Fork Fault} (Ok held) (Ok fork) = is in cc
-    admits (Err fault) is = cc is
-
     by : (held : Result MacFile Fault) → file_in None form bytes [] ≡ held → (held >>= λ file. admit_fork None file.res_fork) ≡ Ok fork
         → (file : MacFile) × (file_in None form bytes [] ≡ Ok file) × (admitted file.res_fork ≡ Ok fork)
-    by (Ok file) same is = (file, same, admits (admitted file.res_fork) is)
+    by (Ok file) same is = (file, same, admits (admitted file.res_fork) fork is)
     by (Err fault) same is = cc is
 
 -- the text of a fork that a name holds

@@ -110,13 +110,13 @@ beside compiled answers (Err NoMemory) result meets says = subst (λ (r : Result
 -- One part behind another, of calls that give what is made.
 
 module _ {X : Type 0} (First : Files → Result X Failing → Type 0) (Next : Files → X → Result Making Failing → Type 0) where
-  pub then_made : (value : X) (before : Option Files) → IfSome before (λ files. First files (Ok value)) → (result : Result Made (Halt Failing))
-      → IfSome before (λ files. Yields (seen making_of result) (Next files value)) → IfSome before (λ files. Yields (seen making_of result) (Then (First files) (Next files)))
-  then_made value None first result next = tt
-  then_made value (Some files) first result next = made_so (Next files value) (Then (First files) (Next files)) (λ answer is. inl (value, first, is)) result next
+  pub then_made : (value : X) (before : Option Files) → IfSome before (λ files. First files (Ok value)) → (end : Result Making (Halt Failing))
+      → IfSome before (λ files. Yields end (Next files value)) → IfSome before (λ files. Yields end (Then (First files) (Next files)))
+  then_made value None first end next = tt
+  then_made value (Some files) first end next = yields_so (Next files value) (Then (First files) (Next files)) (λ answer is. inl (value, first, is)) end next
 
   pub then_stopped : (before : Option Files) (stop : Halt Failing) → IfSome before (λ files. Yields {X = X} (Err stop) (First files))
-      → IfSome before (λ files. Yields (seen making_of (Err stop)) (Then (First files) (Next files)))
+      → IfSome before (λ files. Yields {X = Making} (Err stop) (Then (First files) (Next files)))
   then_stopped None stop first = tt
   then_stopped (Some files) stop first = then_halts (First files) (Next files) stop first
 

@@ -1,21 +1,21 @@
 -- The values of a statement that is shown are those of its resource.
-use Rattle.std.proofs.Common.{◌≡◌, ℕ, ◌<◌, ◌≤◌, ℤ, pos, negsuc, Bool, true, false, List, [], ◌∷◌, ◌++◌, map, length, Ok, Err, refl, sym, ap, ◌∙◌, arith}
+use Rattle.std.proofs.Common.{◌≡◌, ℕ, ◌<◌, ◌≤◌, ℤ, pos, negsuc, Bool, true, false, List, [], ◌∷◌, ◌++◌, map, length, Ok, Err, refl, ap, ◌∙◌, arith}
 use Rattle.std.specs.Prelude.{◌==◌, FitsSigned}
 use Rattle.std.specs.Int.{w16, w32}
 use Rattle.std.specs.List.{flat_map}
 use Rattle.std.proofs.lemmas.Bool.{agree_below_at, eqb-true, le-leb, le-ltb}
 use Rattle.std.proofs.lemmas.Int.{int_wrap_fits}
-use Rattle.std.proofs.lemmas.List.Concat.{flat_map-cons}
 use Rattle.std.specs.declared.result.Result.{Result}
 use Rattle.rz_core.specs.Stop.{◌>>=◌}
 use Rattle.rz_core.specs.declared.facts.Facts.{Facts}
 use Rattle.rz_core.specs.declared.fault.Fault.{Fault}
 use Rattle.rz_core.specs.declared.fault.Mark.{Mark}
 use Rattle.rz_core.specs.declared.resource.Resource.{Resource}
+use Rattle.rz_show_laws.proofs.Texts.{pieces_read as texts_read}
 use Rattle.rz_show_laws.specs.Showable.{IsStored}
 use Rattle.rz_show_laws.specs.Statement.{attributes_of, id_term, name_part, shown_head, shown_raw, text_parts}
-use Rattle.rz_types_fields.specs.Text.{bytes_of, parts_bytes, parts_of, PlainPart}
-use Rattle.rz_types_fields.specs.Value.{field_sight, number_of}
+use Rattle.rz_types_fields.specs.Text.{bytes_of, PlainPart}
+use Rattle.rz_types_fields.specs.Value.{number_of}
 use Rattle.rz_folder.specs.Folder.{Files}
 use Rattle.rz_tools.proofs.Fileless.{pieces_read}
 use Rattle.rz_tools_values.specs.Around.{Around}
@@ -34,12 +34,7 @@ module _ (mark : Mark) where
   id_inside (negsuc n) fits = rw (le-leb n 32767 (omega (arith, fits))) refl
 
   pieces_again : (known : Facts) (pieces : List (List ℕ)) (whole : List ℕ) → flat_map (λ piece. piece) pieces ≡ whole → bytes_of mark known (text_parts pieces) ≡ Ok whole
-  pieces_again known pieces whole is = by pieces ∙ ap (λ (x : List ℕ). Ok x) is
-    where
-      by : (pieces : List (List ℕ)) → parts_bytes mark known (field_sight known []) (parts_of (text_parts pieces)) ≡ Ok (flat_map (λ piece. piece) pieces)
-      by [] = refl
-      by (piece ∷ pieces) =
-          ap (λ (r : Result (List ℕ) Fault). r >>= λ more. Ok (piece ++ more)) (by pieces) ∙ ap (λ (x : List ℕ). Ok x) (sym (flat_map-cons (λ piece. piece) piece pieces))
+  pieces_again known pieces whole is = texts_read mark known pieces ∙ ap (λ (x : List ℕ). Ok x) is
 
   name_value : (known : Facts) (pieces : List (List ℕ)) (name : List ℕ) → flat_map (λ piece. piece) pieces ≡ name → length name < 256 → name_of mark known (name_part pieces) ≡ Ok name
   name_value known [] name is short = ap (λ (x : List ℕ). Ok x) is

@@ -1,5 +1,5 @@
 -- What `derez` means: under the types that the type files declare, the text of the fork's resources. (MPW DeRez.)
-use Rattle.std.specs.Prelude.{◌≡◌, ℕ, List, drop, get_or, Ok, Err, Option, Some, None, []}
+use Rattle.std.specs.Prelude.{◌≡◌, ◌<◌, ◌^◌, ℕ, List, drop, length, get_or, Ok, Err, Option, Some, None, []}
 use Rattle.std.specs.declared.result.Result.{Result}
 use Rattle.std.specs.FinMap as map
 use Rattle.rz_core.specs.Answers.{Then}
@@ -9,6 +9,7 @@ use Rattle.rz_core.specs.declared.resource.OsType.{OsType}
 use Rattle.rz_folder.specs.Folder.{Files}
 use Rattle.rz_bridge_files.specs.Contents.{fork_in}
 use Rattle.rz_bridge_form.specs.declared.form.Form.{Form}
+use Rattle.rz_fork.specs.Admit.{admitted}
 use Rattle.rz_fork.specs.Contents.{Fork}
 use Rattle.rz_folder_paths.specs.Names.{missing_file}
 use Rattle.rz_tools_answer.specs.Answer.{Answer, Answered, Making, shown}
@@ -66,6 +67,20 @@ HasForkText known asked (Err fault) answer = answer ≡ Err fault
 abbrev pub HasFileText : Known → DeRezAsked → Option (List ℕ) → Result (List ℕ) Fault → Type 0
 HasFileText known asked None answer = answer ≡ Err (missing_file None asked.file)
 HasFileText known asked (Some bytes) answer = HasForkText known asked (fork_in None asked.from bytes) answer
+
+-- bytes that are a fork
+abbrev pub IsFork : List ℕ → Type 0
+IsFork bytes = (length bytes < 2 ^ 32) × ((fork : Fork) × (admitted bytes ≡ Ok fork))
+
+-- the bytes of a fork, or the fault of its file
+abbrev pub IsForkOf : Result Fork Fault → Result (List ℕ) Fault → Type 0
+IsForkOf held (Ok bytes) = (fork : Fork) × (admitted bytes ≡ Ok fork) × (held ≡ Ok fork)
+IsForkOf held (Err fault) = held ≡ Err fault
+
+-- those of the file that this name holds, in the form that is given or that it has; 101 where there is none
+abbrev pub HasFork : Option Form → List ℕ → Option (List ℕ) → Result (List ℕ) Fault → Type 0
+HasFork from name None answer = answer ≡ Err (missing_file None name)
+HasFork from name (Some bytes) answer = IsForkOf (fork_in None from bytes) answer
 
 -- and then the text of the fork, with the lines of the warnings
 abbrev pub HasText : Moment → DeRezAsked → Files → Compiled → Result Making Failing → Type 0

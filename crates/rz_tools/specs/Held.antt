@@ -1,10 +1,13 @@
 -- What the code holds of what words ask for, and of what sources mean.
+use Rattle.std.specs.Prelude.{ℕ, List}
 use Rattle.std.specs.String.{string_bytes}
+use Rattle.rz_tools_answer.specs.Answer.{Making}
 use Rattle.rz_tools.specs.DeRez.{DeRezAsked}
 use Rattle.rz_tools.specs.Rez.{RezAsked}
 use Rattle.rz_tools.specs.Sources as sources
 use Rattle.rz_tools.specs.Types.{TypesAsked}
 use Rattle.rz_tools.specs.declared.derez.DeRezWords.{DeRezWords}
+use Rattle.rz_tools.specs.declared.reply.ForkShown.{ForkShown}
 use Rattle.rz_tools.specs.declared.rez.RezWords.{RezWords}
 use Rattle.rz_tools.specs.declared.sources.Compiled.{Compiled}
 use Rattle.rz_tools.specs.declared.types.TypesWords.{TypesWords}
@@ -32,3 +35,7 @@ derez words = record { file = string_bytes words.file; from = words.from; only =
 
 abbrev pub compiled_of : Compiled → sources.Compiled
 compiled_of compiled = record { work = work_of compiled.work; is_macro = macros_held compiled.macros; files = compiled.files }
+
+-- what is made of a fork that is shown by this text
+abbrev pub making_with : List ℕ → ForkShown → Making
+making_with text fork = record { bytes = text; said = fork.said }

@@ -4,6 +4,7 @@ pub mod Types
 pub mod Held
 pub mod Rez
 pub mod DeRez
+pub mod Reply
 pub mod SampleSource
 pub mod Sample
 pub mod Again

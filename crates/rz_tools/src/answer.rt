@@ -9,15 +9,16 @@ ghost use Rattle.rz_pre.specs.Lexed.{HaveLexedTexts};
 ghost use Rattle.rz_tools.specs.Again.{HoldsFile};
 ghost use Rattle.rz_tools.specs.DeRez.{derez_asked, DeRezAsked, IsDeRez};
 ghost use Rattle.rz_tools.specs.Program.{Answers, AnswersTo};
-ghost use Rattle.rz_tools_answer.specs.Plan.{answer_of, IsNoUsage};
-ghost use Rattle.rz_tools_answer.specs.WellFormed.{AreWritable, IsWellFormed};
+ghost use Rattle.rz_tools.specs.Reply.{outcome_of, EachAnswer, IsSound};
+ghost use Rattle.rz_tools_answer.specs.Plan.{IsNoUsage};
 ghost use Rattle.rz_tools_args.specs.Command.{places_of, ArePlaces, IsMisplaced};
 ghost use Rattle.rz_tools_args.specs.Held.{asked, items_of};
 ghost use Rattle.rz_tools_args.specs.Items.{defs_of};
 ghost use Rattle.rz_tools_args.specs.Syntax.{syntax_of};
 ghost use Rattle.rz_tools_args.specs.declared.name.CommandName.TheVariants.{DeRez};
 
-use crate::derez::{DeRezWords, plan_derez};
+use crate::derez::{DeRezWords, answer_derez};
+use crate::reply::{Reply, planned};
 use crate::rez::{RezWords, plan_rez};
 use crate::sample::plan_sample;
 use rz_core::{Halt, Moment, Stop};
@@ -28,55 +29,63 @@ use rz_tools_output::{BridgeWords, plan_bridge};
 use std::alloc::Global;
 use std::convert::Infallible;
 
-/// The answer to words, with nothing of it carried out. All files that it needs are read, and all memory is taken.
+/// What is to be carried out for words, with nothing of it carried out. All files that it needs are read, and all memory is
+/// taken but that of the text of a fork, which is made line by line while it is put.
 pub fn answer<F: Folder>(
     alloc: Global,
     words: &[String],
     folder: &mut F,
     moment: Moment,
-) -> Result<Plan, Halt<Infallible>>
-    ensures answered { IfSome (F.files folder.old) (λ files. IfOk result (λ plan. Answers (map string_bytes words.now) files moment (answer_of plan))) }
-    ensures well_formed { IfOk result (λ plan. IsWellFormed (answer_of plan)) }
-    ensures writable { IfOk result (λ plan. AreWritable (answer_of plan).writes) }
-    ensures usage { IfOk result (λ plan. (position : ℕ) → plan.outcome ≡ Outcome.Usage (record { position = position }) → IsMisplaced (map string_bytes words.now) position) }
+) -> Result<Reply, Halt<Infallible>>
+    ensures answered { IfSome (F.files folder.old) (λ files. IfOk result (λ reply. EachAnswer reply (Answers (map string_bytes words.now) files moment))) }
+    ensures sound { IfOk result IsSound }
+    ensures usage { IfOk result (λ reply. (position : ℕ) → outcome_of reply ≡ Outcome.Usage (record { position = position }) → IsMisplaced (map string_bytes words.now) position) }
     ensures every_usage { (position : ℕ) → IsMisplaced (map string_bytes words.now) position
-        → (result ≡ Err no_memory) ⊎ IsOkAnd result (λ plan. plan.outcome ≡ Outcome.Usage (record { position = position })) }
+        → (result ≡ Err no_memory) ⊎ IsOkAnd result (λ reply. outcome_of reply ≡ Outcome.Usage (record { position = position })) }
     ensures held { (asked : DeRezAsked) → IsDeRez (map string_bytes words.now) asked
-        → IfSome (F.files folder.old) (λ files. IfSome (finite.get files asked.file) (λ bytes. IfOk result (λ plan. plan.outcome ≡ Outcome.Done → HoldsFile asked.from bytes))) }
+        → IfSome (F.files folder.old) (λ files. IfSome (finite.get files asked.file) (λ bytes. IfOk result (λ reply. outcome_of reply ≡ Outcome.Done → HoldsFile asked.from bytes))) }
     ensures reads { OnlyReads F.files F.read_faults F.write_faults folder.old folder.new (result ≡ Err ReadFault) }
 {
     one_command();
     definitions_are_lexed();
     match read_words(alloc, words) {
         Ok(command) => answer_command(alloc, folder, command, moment),
-        Err(Stop::Refused(fault)) => Ok(Plan::misused(alloc, fault)?),
+        Err(Stop::Refused(fault)) => Ok(Reply::Plan(Plan::misused(alloc, fault)?)),
         Err(Stop::NoMemory) => Err(Halt::NoMemory),
     }
 }
 
-/// The answer to a command.
+/// What is to be carried out for a command.
 fn answer_command<F: Folder>(
     alloc: Global,
     folder: &mut F,
     command: Command<'_>,
     moment: Moment,
-) -> Result<Plan, Halt<Infallible>>
+) -> Result<Reply, Halt<Infallible>>
     requires lexed { HaveLexedTexts (defs_of (items_of command)) }
     requires places { ArePlaces (syntax_of command.name).places (places_of (items_of command)) }
-    ensures answered { IfSome (F.files folder.old) (λ files. IfOk result (λ plan. AnswersTo (asked command.entry) files moment (answer_of plan))) }
-    ensures well_formed { IfOk result (λ plan. IsWellFormed (answer_of plan)) }
-    ensures writable { IfOk result (λ plan. AreWritable (answer_of plan).writes) }
-    ensures no_usage { IfOk result (λ plan. IsNoUsage plan.outcome) }
+    ensures answered { IfSome (F.files folder.old) (λ files. IfOk result (λ reply. EachAnswer reply (AnswersTo (asked command.entry) files moment))) }
+    ensures sound { IfOk result IsSound }
+    ensures no_usage { IfOk result (λ reply. IsNoUsage (outcome_of reply)) }
     ensures held { command.entry.name ≡ DeRez → IfSome (F.files folder.old) (λ files. IfSome (finite.get files (derez_asked (items_of command.entry)).file) (λ bytes.
-        IfOk result (λ plan. plan.outcome ≡ Outcome.Done → HoldsFile (derez_asked (items_of command.entry)).from bytes))) }
+        IfOk result (λ reply. outcome_of reply ≡ Outcome.Done → HoldsFile (derez_asked (items_of command.entry)).from bytes))) }
     ensures reads { OnlyReads F.files F.read_faults F.write_faults folder.old folder.new (result ≡ Err ReadFault) }
 {
     match command.name {
-        CommandName::Rez => plan_rez(alloc, folder, &RezWords::of(alloc, command)?, moment),
-        CommandName::DeRez => plan_derez(alloc, folder, &DeRezWords::of(alloc, command)?, moment),
-        CommandName::Bridge => plan_bridge(alloc, folder, &BridgeWords::of(alloc, &command)?),
-        CommandName::Sample => plan_sample(alloc, command.number(), moment),
-        CommandName::Help => Ok(Plan::text(alloc, help_text(alloc)?.as_slice())?),
-        CommandName::Version => Ok(Plan::text(alloc, version_text())?),
+        CommandName::Rez => {
+            let words = RezWords::of(alloc, command)?;
+            planned(plan_rez(alloc, folder, &words, moment))
+        }
+        CommandName::DeRez => {
+            let words = DeRezWords::of(alloc, command)?;
+            answer_derez(alloc, folder, words, moment)
+        }
+        CommandName::Bridge => {
+            let words = BridgeWords::of(alloc, &command)?;
+            planned(plan_bridge(alloc, folder, &words))
+        }
+        CommandName::Sample => planned(plan_sample(alloc, command.number(), moment)),
+        CommandName::Help => Ok(Reply::Plan(Plan::text(alloc, help_text(alloc)?.as_slice())?)),
+        CommandName::Version => Ok(Reply::Plan(Plan::text(alloc, version_text())?)),
     }
 }

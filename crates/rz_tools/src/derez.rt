@@ -1,6 +1,6 @@
 //! `derez`: the type files, the fork of the file, and the text of its resources. What it answers is in `specs/DeRez`.
 
-ghost use Rattle.std.specs.Prelude.{◌≡◌, ◌≢◌, [], ◌<◌, ◌^◌, drop, Err, ℕ, length, None, IfOk, IfSome};
+ghost use Rattle.std.specs.Prelude.{◌≡◌, ◌≢◌, [], ◌<◌, ◌^◌, drop, Ok, Err, ℕ, List, length, None, IfErr, IfOk, IfSome, OnOk};
 ghost use Rattle.std.specs.FinMap as map;
 ghost use Rattle.std.specs.String.{string_bytes};
 ghost use Rattle.rz_core.specs.Stop.{seen, Meets, OnFault, OnRefusal, Yields};
@@ -8,22 +8,25 @@ ghost use Rattle.rz_core.specs.declared.stop.Halt.TheVariants.{ReadFault};
 ghost use Rattle.rz_core.specs.Message.{IsNameable};
 ghost use Rattle.rz_folder.specs.OnlyReads.{OnlyReads};
 ghost use Rattle.rz_bridge_files.specs.Contents.{admit_fork, fork_in};
+ghost use Rattle.rz_fork.specs.Contents.{Fork};
 ghost use Rattle.rz_pre.specs.Lexed.{HaveLexedTexts};
 ghost use Rattle.rz_folder_paths.specs.Names.{missing_file};
 ghost use Rattle.rz_tools.specs.Again.{HoldsFile};
 ghost use Rattle.rz_core.specs.declared.moment.Moment.{Moment as MomentOf};
-ghost use Rattle.rz_tools.specs.Sources.{Compiled as CompiledOf};
-ghost use Rattle.rz_tools.specs.DeRez.{derez_asked, AnswersDeRez, HasForkText, HasText, Shows};
+ghost use Rattle.rz_tools.specs.Sources.{Compiled as CompiledOf, SaidBeside};
+ghost use Rattle.rz_tools.specs.DeRez.{derez_asked, AnswersDeRez, HasFork, HasText, IsFork, IsForkOf, Shows};
+ghost use Rattle.rz_tools.specs.Reply.{outcome_of, EachAnswer, IsSound};
 ghost use Rattle.rz_tools.specs.Types.{known_by};
-ghost use Rattle.rz_tools.specs.Held.{compiled_of, derez};
+ghost use Rattle.rz_tools.specs.Held.{compiled_of, derez, making_with};
 ghost use Rattle.rz_tools_text.specs.Held.{known_of};
+ghost use Rattle.rz_tools_text.specs.Put.{IsTextOf};
 ghost use Rattle.rz_tools_answer.specs.Made.{making_of, IsSayable};
-ghost use Rattle.rz_tools_answer.specs.Plan.{answer_of, IsNoUsage};
+ghost use Rattle.rz_tools_answer.specs.Plan.{IsNoUsage};
 ghost use Rattle.rz_tools_answer.specs.Warning.{AreWarnings, IsWarningText};
-ghost use Rattle.rz_tools_answer.specs.WellFormed.{AreWritable, IsWellFormed};
 ghost use Rattle.rz_tools_args.specs.Command.{places_of};
 ghost use Rattle.rz_tools_args.specs.Held.{items_of};
 
+use crate::reply::{ForkShown, Reply, planned};
 use crate::sources::Compiled;
 use crate::types::{TypesWords, compile_types};
 use rz_bridge_files::{admit_fork, file_in};
@@ -33,7 +36,7 @@ use rz_folder::{Folder, Read};
 use rz_folder_paths::missing_file;
 use rz_tools_answer::{Failing, Faults, Made, Outcome, Plan, say_beside};
 use rz_tools_args::{Command, Flag, Kinds, Switch};
-use rz_tools_text::{Known, show_fork};
+use rz_tools_text::{ForkText, Known};
 use rz_tools_work::Work;
 use std::alloc::Global;
 use std::convert::Infallible;
@@ -90,26 +93,25 @@ fn names_behind(alloc: Global, names: &FileNames) -> Result<FileNames, NoMemory>
 }
 
 /// The answer to the words of `derez`: under what the type files declare, the text of the resources of the fork whose
-/// types the words choose, which is to be put out. The type files are read first, then their statements, of which
-/// `type` alone takes effect, and then the fork.
-pub fn plan_derez<F: Folder>(
+/// types the words choose, which is to be put out line by line. The type files are read first, then their statements, of
+/// which `type` alone takes effect, and then the fork.
+pub fn answer_derez<F: Folder>(
     alloc: Global,
     folder: &mut F,
-    words: &DeRezWords,
+    words: DeRezWords,
     moment: Moment,
-) -> Result<Plan, Halt<Infallible>>
-    requires { HaveLexedTexts words.now.types.defs }
-    ensures answered { IfSome (F.files folder.old) (λ files. IfOk result (λ plan. AnswersDeRez (derez words.now) files moment (answer_of plan))) }
-    ensures well_formed { IfOk result (λ plan. IsWellFormed (answer_of plan)) }
-    ensures writable { IfOk result (λ plan. AreWritable (answer_of plan).writes) }
-    ensures no_usage { IfOk result (λ plan. IsNoUsage plan.outcome) }
-    ensures held { IfSome (F.files folder.old) (λ files. IfSome (map.get files (string_bytes words.now.file)) (λ bytes.
-        IfOk result (λ plan. plan.outcome ≡ Outcome.Done → HoldsFile words.now.from bytes))) }
+) -> Result<Reply, Halt<Infallible>>
+    requires { HaveLexedTexts words.types.defs }
+    ensures answered { IfSome (F.files folder.old) (λ files. IfOk result (λ reply. EachAnswer reply (AnswersDeRez (derez words) files moment))) }
+    ensures sound { IfOk result IsSound }
+    ensures no_usage { IfOk result (λ reply. IsNoUsage (outcome_of reply)) }
+    ensures held { IfSome (F.files folder.old) (λ files. IfSome (map.get files (string_bytes words.file)) (λ bytes.
+        IfOk result (λ reply. outcome_of reply ≡ Outcome.Done → HoldsFile words.from bytes))) }
     ensures reads { OnlyReads F.files F.read_faults F.write_faults folder.old folder.new (result ≡ Err ReadFault) }
 {
     match read_and_show(alloc, folder, words, moment) {
-        Ok(text) => Ok(Plan::shown(alloc, text)),
-        Err(stop) => Plan::stopped(alloc, stop),
+        Ok(shown) => Ok(Reply::Text(shown)),
+        Err(stop) => planned(Plan::stopped(alloc, stop)),
     }
 }
 
@@ -117,14 +119,16 @@ pub fn plan_derez<F: Folder>(
 pub fn read_and_show<F: Folder>(
     alloc: Global,
     folder: &mut F,
-    words: &DeRezWords,
+    words: DeRezWords,
     moment: Moment,
-) -> Result<Made, Halt<Failing>>
-    requires { HaveLexedTexts words.now.types.defs }
-    ensures text { IfSome (F.files folder.old) (λ files. Yields (seen making_of result) (Shows moment (derez words.now) files)) }
-    ensures held { IfSome (F.files folder.old) (λ files. IfSome (map.get files (string_bytes words.now.file)) (λ bytes. IfOk result (λ _. HoldsFile words.now.from bytes))) }
+) -> Result<ForkShown, Halt<Failing>>
+    requires { HaveLexedTexts words.types.defs }
+    ensures text { (text : List ℕ) → IfOk result (λ shown. IsTextOf shown.text text)
+        → IfSome (F.files folder.old) (λ files. Yields (seen (making_with text) result) (Shows moment (derez words) files)) }
+    ensures held { IfSome (F.files folder.old) (λ files. IfSome (map.get files (string_bytes words.file)) (λ bytes. IfOk result (λ _. HoldsFile words.from bytes))) }
+    ensures fork { IfOk result (λ shown. IsFork shown.text.fork) }
     ensures sayable { OnRefusal result IsSayable }
-    ensures warned { IfOk result (λ made. IsWarningText made.said) }
+    ensures warned { IfOk result (λ shown. IsWarningText shown.said) }
     ensures reads { OnlyReads F.files F.read_faults F.write_faults folder.old folder.new (result ≡ Err ReadFault) }
 {
     match compile_types(alloc, folder, &words.types, moment) {
@@ -137,15 +141,17 @@ pub fn read_and_show<F: Folder>(
 fn show_under<F: Folder>(
     alloc: Global,
     folder: &mut F,
-    words: &DeRezWords,
+    words: DeRezWords,
     compiled: Compiled,
     moment: Moment,
-) -> Result<Made, Halt<Failing>>
+) -> Result<ForkShown, Halt<Failing>>
     requires { AreWarnings (length compiled.files) compiled.work.warnings }
-    ensures text { IfSome (F.files folder.old) (λ files. Yields (seen making_of result) (HasText moment (derez words.now) files (compiled_of compiled))) }
-    ensures held { IfSome (F.files folder.old) (λ files. IfSome (map.get files (string_bytes words.now.file)) (λ bytes. IfOk result (λ _. HoldsFile words.now.from bytes))) }
+    ensures text { (text : List ℕ) → IfOk result (λ shown. IsTextOf shown.text text)
+        → IfSome (F.files folder.old) (λ files. Yields (seen (making_with text) result) (HasText moment (derez words) files (compiled_of compiled))) }
+    ensures held { IfSome (F.files folder.old) (λ files. IfSome (map.get files (string_bytes words.file)) (λ bytes. IfOk result (λ _. HoldsFile words.from bytes))) }
+    ensures fork { IfOk result (λ shown. IsFork shown.text.fork) }
     ensures sayable { OnRefusal result IsSayable }
-    ensures warned { IfOk result (λ made. IsWarningText made.said) }
+    ensures warned { IfOk result (λ shown. IsWarningText shown.said) }
     ensures reads { OnlyReads F.files F.read_faults F.write_faults folder.old folder.new (result ≡ Err ReadFault) }
 {
     let Compiled {
@@ -159,7 +165,7 @@ fn show_under<F: Folder>(
         ..
     } = work;
     match Known::of(alloc, types, &macros, moment) {
-        Ok(known) => show_file(alloc, folder, words, &known, &warnings, files),
+        Ok(known) => show_file(alloc, folder, words, known, &warnings, files),
         Err(NoMemory) => Err(Halt::NoMemory),
     }
 }
@@ -168,27 +174,63 @@ fn show_under<F: Folder>(
 fn show_file<F: Folder>(
     alloc: Global,
     folder: &mut F,
-    words: &DeRezWords,
-    known: &Known,
+    words: DeRezWords,
+    known: Known,
+    warnings: &Faults,
+    files: FileNames,
+) -> Result<ForkShown, Halt<Failing>>
+    requires { AreWarnings (length files) warnings.now }
+    ensures text { (moment : MomentOf) (compiled : CompiledOf) → compiled.files ≡ files → compiled.work.warnings ≡ warnings.now → known_of known ≡ known_by moment compiled
+        → (text : List ℕ) → IfOk result (λ shown. IsTextOf shown.text text)
+        → IfSome (F.files folder.old) (λ held. Yields (seen (making_with text) result) (HasText moment (derez words) held compiled)) }
+    ensures held { IfSome (F.files folder.old) (λ files. IfSome (map.get files (string_bytes words.file)) (λ bytes. IfOk result (λ _. HoldsFile words.from bytes))) }
+    ensures fork { IfOk result (λ shown. IsFork shown.text.fork) }
+    ensures sayable { OnRefusal result IsSayable }
+    ensures warned { IfOk result (λ shown. IsWarningText shown.said) }
+    ensures reads { OnlyReads F.files F.read_faults F.write_faults folder.old folder.new (result ≡ Err ReadFault) }
+{
+    let DeRezWords {
+        file,
+        from,
+        only,
+        skip,
+        ..
+    } = words;
+    match read_fork(alloc, folder, file.as_str(), from, warnings, files) {
+        Ok(made) => {
+            let Made { bytes, said } = made;
+            let text = ForkText {
+                fork: bytes,
+                only,
+                skip,
+                known,
+            };
+            Ok(ForkShown { text, said })
+        }
+        Err(stop) => Err(stop),
+    }
+}
+
+/// The fork of the file of this name, with the lines of these warnings before it.
+fn read_fork<F: Folder>(
+    alloc: Global,
+    folder: &mut F,
+    name: &str,
+    from: Option<Form>,
     warnings: &Faults,
     files: FileNames,
 ) -> Result<Made, Halt<Failing>>
     requires { AreWarnings (length files) warnings.now }
-    ensures text { (moment : MomentOf) (compiled : CompiledOf) → compiled.files ≡ files → compiled.work.warnings ≡ warnings.now → known_of known.now ≡ known_by moment compiled
-        → IfSome (F.files folder.old) (λ held. Yields (seen making_of result) (HasText moment (derez words.now) held compiled)) }
-    ensures held { IfSome (F.files folder.old) (λ files. IfSome (map.get files (string_bytes words.now.file)) (λ bytes. IfOk result (λ _. HoldsFile words.now.from bytes))) }
+    ensures fork { (compiled : CompiledOf) → compiled.files ≡ files → compiled.work.warnings ≡ warnings.now
+        → IfSome (F.files folder.old) (λ held. Yields (seen making_of result) (SaidBeside compiled (HasFork from name.now (map.get held name.now)))) }
+    ensures held { IfSome (F.files folder.old) (λ files. IfSome (map.get files name.now) (λ bytes. IfOk result (λ _. HoldsFile from bytes))) }
+    ensures admitted { IfOk result (λ made. IsFork made.bytes) }
     ensures sayable { OnRefusal result IsSayable }
     ensures warned { IfOk result (λ made. IsWarningText made.said) }
     ensures reads { OnlyReads F.files F.read_faults F.write_faults folder.old folder.new (result ≡ Err ReadFault) }
 {
-    let name = words.file.as_str();
     match folder.read(alloc, name) {
-        Read::Bytes(bytes) => say_beside(
-            alloc,
-            text_of(alloc, bytes, words, known),
-            warnings,
-            files,
-        ),
+        Read::Bytes(bytes) => say_beside(alloc, fork_of(alloc, bytes, from), warnings, files),
         Read::Missing => say_beside(alloc, no_file(alloc, name), warnings, files),
         Read::Failed => Err(Halt::ReadFault),
         Read::NoMemory => Err(Halt::NoMemory),
@@ -198,40 +240,46 @@ fn show_file<F: Folder>(
 /// The refusal of a file that is not there.
 fn no_file(alloc: Global, name: &str) -> Result<Bytes, Stop<Fault>>
     ensures missing { Meets result (λ answer. answer ≡ Err (missing_file None name.now)) }
+    ensures refused { IfOk result (λ _. ⊥) }
     ensures nameable { (files : ℕ) → OnFault result (IsNameable files) }
 {
     Err(Stop::Refused(missing_file(alloc, None, name.as_bytes())?))
 }
 
-/// The text of the resources of the fork in bytes that the words choose, or the fault of their form or their fork.
-fn text_of(
-    alloc: Global,
-    bytes: Bytes,
-    words: &DeRezWords,
-    known: &Known,
-) -> Result<Bytes, Stop<Fault>>
+/// The fork in bytes of a form, or the fault of their form or their fork.
+fn fork_of(alloc: Global, bytes: Bytes, from: Option<Form>) -> Result<Bytes, Stop<Fault>>
     requires { length bytes < 2 ^ 32 }
-    ensures text { Meets result (HasForkText (known_of known.now) (derez words.now) (fork_in None words.now.from bytes)) }
-    ensures held { IfOk result (λ _. HoldsFile words.now.from bytes) }
+    ensures fork { Meets result (IsForkOf (fork_in None from bytes)) }
+    ensures held { IfOk result (λ _. HoldsFile from bytes) }
+    ensures admitted { IfOk result IsFork }
     ensures nameable { (files : ℕ) → OnFault result (IsNameable files) }
 {
-    let file = file_in(alloc, words.from, bytes, Bytes::new(alloc), None)?;
-    text_of_fork(alloc, file.res_fork.as_slice(), words, known)
+    let file = file_in(alloc, from, bytes, Bytes::new(alloc), None)?;
+    admitted_fork(file.res_fork)
 }
 
-/// The text of the resources of a fork that the words choose, or its fault.
-fn text_of_fork(
-    alloc: Global,
-    fork: &[u8],
-    words: &DeRezWords,
-    known: &Known,
-) -> Result<Bytes, Stop<Fault>>
-    requires { length fork.now < 2 ^ 32 }
-    ensures text { Meets result (HasForkText (known_of known.now) (derez words.now) (admit_fork None fork.now)) }
+/// These bytes, if they are a fork, or its fault.
+fn admitted_fork(fork: Bytes) -> Result<Bytes, Stop<Fault>>
+    requires { length fork < 2 ^ 32 }
+    ensures fork { Meets result (IsForkOf (admit_fork None fork)) }
+    ensures admitted { IfOk result IsFork }
     ensures nameable { (files : ℕ) → OnFault result (IsNameable files) }
 {
-    match admit_fork(fork, None) {
-        Ok(fork) => Ok(show_fork(alloc, &fork, &words.only, &words.skip, known)?),
+    match check_fork(fork.as_slice()) {
+        Ok(()) => Ok(fork),
         Err(fault) => Err(Stop::Refused(fault)),
+    }
+}
+
+/// Tests whether bytes are a fork.
+fn check_fork(fork: &[u8]) -> Result<(), Fault>
+    requires { length fork.now < 2 ^ 32 }
+    ensures ok { OnOk result ((held : Fork) × (admit_fork None fork.now ≡ Ok held)) }
+    ensures err { IfErr result (λ fault. admit_fork None fork.now ≡ Err fault) }
+    ensures nameable { (files : ℕ) → IfErr result (IsNameable files) }
+{
+    match admit_fork(fork, None) {
+        Ok(_) => Ok(()),
+        Err(fault) => Err(fault),
     }
 }

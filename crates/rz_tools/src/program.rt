@@ -17,7 +17,7 @@ use crate::laws::{
 };
 use rz_core::{Halt, Moment};
 use rz_folder::{Folder, Sink};
-use rz_tools_answer::{NO_MEMORY, Outcome, READ_FAULT, carry_out, put_line};
+use rz_tools_answer::{NO_MEMORY, Outcome, READ_FAULT, put_line};
 use rz_tools_args::{definitions_are_free, one_command};
 use std::alloc::Global;
 
@@ -27,8 +27,9 @@ use std::alloc::Global;
 ///
 /// Usage comes exactly where the words are no command, and, if the folder tells its files, Refused only with the first
 /// fault. ReadFault and WriteFault come only where a read, or a write of the folder or of `out`, failed in this call.
-/// After Usage, Refused, ReadFault and NoMemory the folder is as before and `out` has got nothing; after WriteFault the
-/// writes before the one that failed are done, and but for that one's file and a front of `out` all else is as before.
+/// After Usage, Refused and ReadFault the folder is as before and `out` has got nothing; after NoMemory the folder is as
+/// before, and `out` has got a front of its text; after WriteFault the writes before the one that failed are done, and but
+/// for that one's file and a front of `out` all else is as before.
 /// After `derez` of a fork, where the resources that are shown have at most 16,777,212 bytes each, the text on `out`
 /// means these resources again to `rez`. What `err` does changes no outcome. NoMemory may come in place of any other
 /// answer.
@@ -82,7 +83,7 @@ pub fn run<F: Folder, O: Sink, E: Sink>(
     reserved_words_are_spared();
     definitions_are_free();
     match answer(alloc, words, folder, moment) {
-        Ok(plan) => carry_out(plan, folder, out, err),
+        Ok(reply) => reply.carry_out(alloc, folder, out, err),
         Err(Halt::ReadFault) => {
             put_line(READ_FAULT, err);
             Outcome::ReadFault

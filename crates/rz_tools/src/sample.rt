@@ -6,22 +6,26 @@ ghost use Rattle.std.specs.FinMap as finite;
 ghost use Rattle.rz_core.specs.Decimal.{decimal_of};
 ghost use Rattle.rz_core.specs.Stop.{seen, OnRefusal, Yields};
 ghost use Rattle.rz_core.specs.declared.stop.Halt.TheVariants.{ReadFault};
+ghost use Rattle.rz_tools.specs.DeRez.{IsFork};
 ghost use Rattle.rz_tools.specs.Held.{derez, rez};
 ghost use Rattle.rz_tools.specs.Sample.{derez_of, number_line, rez_of, sample_lines, AnswersSample, CompilesAgain, CompilesSample, IsSampled, ShowsSample};
 ghost use Rattle.rz_tools_answer.specs.Made.{making_of, IsSayable};
 ghost use Rattle.rz_tools_answer.specs.Plan.{answer_of, IsNoUsage};
 ghost use Rattle.rz_tools_answer.specs.Warning.{IsWarningText};
+ghost use Rattle.rz_tools_text.specs.Put.{IsTextOf};
 ghost use Rattle.rz_tools_answer.specs.WellFormed.{AreWritable, IsWellFormed};
 
 use crate::derez::{DeRezWords, read_and_show};
+use crate::reply::ForkShown;
 use crate::rez::{RezWords, compile};
 use crate::sample_source;
 use crate::types::TypesWords;
 use rz_core::{Bytes, FileNames, Halt, Listing, Moment, NoMemory, write_decimal};
-use rz_folder::Shelf;
+use rz_folder::{Put, Shelf, TextSink};
 use rz_pre::Defs;
 use rz_tools_answer::{Failing, Made, Plan};
 use rz_tools_output::Target;
+use rz_tools_text::every_list_is_shown;
 use std::alloc::Global;
 use std::convert::Infallible;
 
@@ -80,7 +84,27 @@ fn show_fork(alloc: Global, fork: &Bytes, moment: Moment) -> Result<Made, Halt<F
     let mut shelf = Shelf::new(alloc);
     hold(&mut shelf, "fork", fork.as_slice())?;
     hold(&mut shelf, "types", sample_source::types())?;
-    read_and_show(alloc, &mut shelf, &derez_words(alloc)?, moment)
+    match read_and_show(alloc, &mut shelf, derez_words(alloc)?, moment) {
+        Ok(shown) => Ok(whole_text(alloc, shown)?),
+        Err(stop) => Err(stop),
+    }
+}
+
+/// The text of a fork, whole, and what is said beside it.
+fn whole_text(alloc: Global, shown: ForkShown) -> Result<Made, NoMemory>
+    requires { IsFork shown.text.fork }
+    ensures text { IfOk result (λ made. IsTextOf shown.text made.bytes) }
+    ensures said { IfOk result (λ made. made.said ≡ shown.said) }
+{
+    every_list_is_shown();
+    let mut sink = TextSink::new(alloc);
+    match shown.text.put(alloc, &mut sink)? {
+        Put::Done => Ok(Made {
+            bytes: sink.into_bytes(),
+            said: shown.said,
+        }),
+        Put::Failed => Err(NoMemory),
+    }
 }
 
 /// The fork of a text, behind the type of the source.

@@ -1,7 +1,7 @@
--- How a resource is shown: by the row that its bytes tell, or by its bytes.
-use Rattle.std.proofs.Common.{◌≡◌, ◌++◌, ℕ, Bool, true, false, if◌then◌else◌, List, [], ◌∷◌, Option, Some, None, Ok, Err, refl, sym, ap, subst, ◌∙◌}
-use Rattle.std.specs.Prelude.{◌||◌, IfOk, OnOk}
-use Rattle.std.specs.List.{list_any}
+-- How a resource is put: by the row that its bytes tell, or by its bytes.
+use Rattle.std.proofs.Common.{◌≡◌, ◌++◌, ℕ, Bool, true, false, if◌then◌else◌, List, [], ◌∷◌, map, Option, Some, None, Ok, Err, refl, sym, ap, subst, ◌∙◌, append_assoc, append-nil}
+use Rattle.std.specs.Prelude.{◌||◌, IfOk}
+use Rattle.std.specs.List.{concat, list_any}
 use Rattle.std.specs.Str.{bytes_eq, str_to_ascii_lowercase}
 use Rattle.std.specs.declared.result.Result.{Result}
 use Rattle.std.proofs.lemmas.Bool.{false≢true}
@@ -13,16 +13,21 @@ use Rattle.rz_core.specs.declared.resource.Resource.{Resource}
 use Rattle.rz_core.specs.declared.resource.Word.{Word}
 use Rattle.rz_core.specs.declared.stop.NoMemory.{NoMemory}
 use Rattle.rz_types_fields.specs.declared.tree.Tree.{Tree}
+use Rattle.rz_folder.specs.Sink.{Puts, PutsFront}
+use Rattle.rz_folder.specs.declared.sink.Put.{Put}
 use Rattle.rz_pre.specs.Reading.{is_among}
 use Rattle.rz_show.specs.Hidden.{hides}
 use Rattle.rz_show.specs.Shown.{row_uses}
 use Rattle.rz_show.specs.declared.hidden.Hidden.{Hidden}
-use Rattle.rz_show.specs.Data.{data_text, resource_text}
-use Rattle.rz_show.specs.Resource.{facts_row, resource_row}
-use Rattle.rz_show.specs.Showing.{by_bytes, by_row}
+use Rattle.rz_show.specs.Showing.{by_bytes, by_row, showing_text, Showing}
+use Rattle.rz_show.specs.Statement.{data_lines, row_lines}
+use Rattle.rz_show.specs.Written.{as_line, line_text, lines_text, Written}
 use Rattle.rz_tools_text.specs.Held.{macros_held}
-use Rattle.rz_tools_text.specs.Shown.{declared_for, its_bytes, its_row, Known, Shown, TellsRow}
+use Rattle.rz_tools_text.proofs.Lists.{text_put}
+use Rattle.rz_tools_text.specs.Shown.{declared_for, its_bytes, its_row, IsShownBy, Known, Shown, TellsRow}
 use Rattle.rz_types.specs.Field.{PlainBody}
+use Rattle.rz_types_fields.specs.Row.{IsRow}
+use Rattle.rz_types_fields.specs.Spells.{Spells}
 use Rattle.rz_types_table.specs.Table.{Declaration}
 use Rattle.rz_unlay.specs.Reading.{facts_of, IsTree}
 
@@ -47,53 +52,63 @@ known_so types macros moment given names same held = λ i. record {
   moment = moment;
 }
 
--- Facts.
+-- Lines.
 
-module _ (moment : Moment) (r : Resource) (facts : Facts) (are : facts ≡ facts_of moment r) where
-  -- the statements of the facts of a resource are those of the resource
-  facts_text : data_text facts r.bytes ≡ resource_text r
-  facts_text = ap (λ (known : Facts). data_text known r.bytes) are
+lines_bytes : (lines : List (List Written)) → concat (map as_line lines) ≡ lines_text lines
+lines_bytes [] = refl
+lines_bytes (line ∷ lines) = append_assoc (line_text line) (10 ∷ []) (concat (map as_line lines)) ∙ ap (λ (t : List ℕ). line_text line ++ 10 ∷ t) (lines_bytes lines)
 
-  facts_row_text : (hidden : List ℕ → Bool) (body : PlainBody) (row : List Tree) → facts_row hidden facts body row ≡ resource_row hidden r body row
-  facts_row_text hidden body row = ap (λ (known : Facts). facts_row hidden known body row) are
+-- a resource is shown in one way at most
+abbrev pub OneShowing : Type 0
+OneShowing = (known : Known) (r : Resource) (one other : Showing) → IsShownBy known r one → IsShownBy known r other → one ≡ other
 
--- Rows.
+-- memory was refused before anything was put
+pub nothing_put : (text : List ℕ) (before : Option (List ℕ)) (refused : NoMemory) → PutsFront text before before (Err refused)
+nothing_put text None refused = tt
+nothing_put text (Some before) refused = (0, ap Some (sym (append-nil before)))
 
-module _ (known : Known) (r : Resource) (facts : Facts) (are : facts ≡ facts_of known.moment r) where
-  -- the text of the facts shows the resource if it is that of its bytes
-  text_shown : Shown known r (resource_text r) → (before after : List ℕ) (result : Result (Unit {0}) NoMemory)
-      → OnOk result (after ≡ before ++ data_text facts r.bytes) → OnOk result ((text : List ℕ) × (after ≡ before ++ text) × Shown known r text)
-  text_shown shown before after (Ok nothing) is = (resource_text r, is ∙ ap (λ (t : List ℕ). before ++ t) (facts_text known.moment r facts are), shown)
-  text_shown shown before after (Err refused) is = tt
+module _ (one : OneShowing) (known : Known) (r : Resource) (facts : Facts) (are : facts ≡ facts_of known.moment r)
+    (before after : Option (List ℕ)) (result : Put) (text : List ℕ) (shown : Shown known r text) where
+  -- the lines of a resource are its text, in which way ever it is shown
+  showing_put : (showing : Showing) → IsShownBy known r showing → (lines : List (List ℕ)) → concat lines ≡ showing_text known.is_macro showing
+      → Puts (concat lines) before after result → PutsFront text before after (Ok result)
+  showing_put showing by lines same told =
+      text_put text before after result (
+      subst (λ (t : List ℕ). Puts t before after result)
+      (same ∙ ap (showing_text known.is_macro) (one known r showing shown.0 by shown.1) ∙ sym shown.2) told)
+
+  bytes_put : IsShownBy known r (by_bytes r) → (lines : List (List ℕ)) → lines ≡ map as_line (data_lines facts r.bytes)
+      → Puts (concat lines) before after result → PutsFront text before after (Ok result)
+  bytes_put by lines are_lines =
+      showing_put (by_bytes r) by lines
+      (ap concat are_lines ∙ lines_bytes (data_lines facts r.bytes) ∙ ap (λ (known : Facts). lines_text (data_lines known r.bytes)) are)
 
   -- a resource for which nothing is declared
-  pub undeclared_shown : declared_for known r ≡ None → (before after : List ℕ) (result : Result (Unit {0}) NoMemory)
-      → OnOk result (after ≡ before ++ data_text facts r.bytes) → OnOk result ((text : List ℕ) × (after ≡ before ++ text) × Shown known r text)
-  undeclared_shown none = text_shown (by_bytes r, its_bytes (λ body row tells. none-some body (sym none ∙ tells.tree.declared)) refl, refl)
+  pub undeclared_put : declared_for known r ≡ None → (lines : List (List ℕ)) → lines ≡ map as_line (data_lines facts r.bytes)
+      → Puts (concat lines) before after result → PutsFront text before after (Ok result)
+  undeclared_put none = bytes_put (its_bytes (λ body row tells. none-some body (sym none ∙ tells.tree.declared)) refl)
+
+  module _ (body : PlainBody) (declared : declared_for known r ≡ Some body) where
+    -- a resource whose bytes tell no row that is shown
+    pub untold_put : ((row : List Tree) → TellsRow known r body row → ⊥) → (lines : List (List ℕ)) → lines ≡ map as_line (data_lines facts r.bytes)
+        → Puts (concat lines) before after result → PutsFront text before after (Ok result)
+    untold_put none =
+        bytes_put (its_bytes (λ other row tells. none row (subst (λ (b : PlainBody). TellsRow known r b row) (sym (same_Some body other (sym declared ∙ tells.tree.declared))) tells)) refl)
+
+    -- a resource whose bytes tell a row
+    pub row_put : (row given : List Tree) (own : PlainBody) → given ≡ row → own ≡ body → TellsRow known r body row
+        → (lines : List (List ℕ)) → lines ≡ map as_line (row_lines known.is_macro facts own given)
+        → Puts (concat lines) before after result → PutsFront text before after (Ok result)
+    row_put row given own same is_own tells lines are_lines =
+        showing_put (by_row r body row) (its_row body row tells refl) lines
+        (ap concat are_lines ∙ lines_bytes (row_lines known.is_macro facts own given)
+        ∙ (λ i. lines_text (row_lines known.is_macro (are i) (is_own i) (same i))))
+
+-- What is told.
 
 module _ (known : Known) (r : Resource) (facts : Facts) (are : facts ≡ facts_of known.moment r) (body : PlainBody) (declared : declared_for known r ≡ Some body) where
   abbrev Tells : List Tree → Type 0
   Tells row = TellsRow known r body row
-
-  pub bytes_shown : ((row : List Tree) → Tells row → ⊥) → (before after : List ℕ) (result : Result (Unit {0}) NoMemory)
-      → OnOk result (after ≡ before ++ data_text facts r.bytes) → OnOk result ((text : List ℕ) × (after ≡ before ++ text) × Shown known r text)
-  bytes_shown none =
-      text_shown known r facts are (
-        by_bytes r,
-        its_bytes (λ other row tells. none row (subst (λ (b : PlainBody). TellsRow known r b row) (sym (same_Some body other (sym declared ∙ tells.tree.declared))) tells)) refl,
-        refl,
-      )
-
-  pub row_shown : (row given : List Tree) (own : PlainBody) → given ≡ row → own ≡ body → Tells row → (before after : List ℕ) (result : Result (Unit {0}) NoMemory)
-      → OnOk result (after ≡ before ++ facts_row known.is_macro facts own given) → OnOk result ((text : List ℕ) × (after ≡ before ++ text) × Shown known r text)
-  row_shown row given own same is_own tells before after (Ok nothing) is = (
-    resource_row known.is_macro r body row,
-    is ∙ ap (λ (t : List ℕ). before ++ t) (facts_row_text known.moment r facts are known.is_macro own given) ∙ (λ i. before ++ resource_row known.is_macro r (is_own i) (same i)),
-    (by_row r body row, its_row body row tells refl, refl),
-  )
-  row_shown row given own same is_own tells before after (Err refused) is = tt
-
-  -- What is told.
 
   module _ (found : Option (List Tree)) (told : Decided (λ row. (own : PlainBody) × IsTree (Some body) facts r.bytes own row) found)
       (every : (own : PlainBody) (row : List Tree) → IsTree (Some body) facts r.bytes own row → found ≡ Some row) where
@@ -131,3 +146,10 @@ module _ (known : Known) (r : Resource) (facts : Facts) (are : facts ≡ facts_o
         (sym (answer ∙ ap (λ (b : PlainBody). if row_uses known.is_macro b row then None else Some row) is_own))
         (row_decided row is (row_uses known.is_macro body row) refl)
     row_told row own is is_own (Err refused) answer = tt
+
+-- a row that is told is one of its fields
+pub told_is_row : ((plain : Bool) (known : Facts) (body : PlainBody) (row : List Tree) (bytes : List ℕ) → Spells plain known body row bytes → IsRow body row)
+    → (known : Known) (r : Resource) (body own : PlainBody) (row given : List Tree) → own ≡ body → given ≡ row → TellsRow known r body row → IsRow own given
+told_is_row rows known r body own row given is_own same tells =
+    subst (λ (b : PlainBody). IsRow b given) (sym is_own)
+    (subst (IsRow body) (sym same) (rows true (facts_of known.moment r) body row r.bytes tells.tree.told.1))

@@ -1,7 +1,10 @@
-//! One resource as text: by a row of its type if there is one, else by its bytes, as `specs/Shown` says.
+//! One resource, put line by line: by a row of its type if there is one, else by its bytes, as `specs/Shown` says.
 
-ghost use Rattle.std.specs.Prelude.{◌≡◌, ◌++◌, ℕ, if◌then◌else◌, List, Some, None, option_map, IfOk, OnOk};
+ghost use Rattle.std.specs.Prelude.{◌≡◌, ◌≤◌, ℕ, if◌then◌else◌, List, Some, None, Ok, option_map, IfOk};
+ghost use Rattle.std.specs.List.{concat};
 ghost use Rattle.rz_core.specs.Decided.{Decided};
+ghost use Rattle.rz_folder.specs.Counts.{Rose};
+ghost use Rattle.rz_folder.specs.Sink.{Puts, PutsFront};
 ghost use Rattle.rz_fork.specs.View.{lent};
 ghost use Rattle.rz_show.specs.Hidden.{hides};
 ghost use Rattle.rz_show.specs.Shown.{row_uses};
@@ -12,13 +15,15 @@ ghost use Rattle.rz_types.specs.Template.{template_of};
 ghost use Rattle.rz_types_table.specs.TypeTable.{table_of};
 ghost use Rattle.rz_unlay.specs.Reading.{facts_of};
 
+use crate::laws::one_shown_text;
 use rz_core::{Bytes, Facts, Moment, NoMemory, Words};
+use rz_folder::{Put, Sink};
 use rz_fork::ResView;
-use rz_show::{Hidden, append_bytes, show_row, uses_hidden};
+use rz_show::{Hidden, ShowLines, uses_hidden};
 use rz_types::{Body, Template};
 use rz_types_fields::Row;
 use rz_types_table::TypeTable;
-use rz_unlay::tree_under;
+use rz_unlay::{spelled_rows_are_rows, tree_under};
 use std::alloc::Global;
 
 /// What is known where resources are shown.
@@ -58,23 +63,42 @@ impl Known {
     }
 }
 
-/// Appends the text of a resource that is lent: the `resource` statement with the row that its bytes tell under the type
+/// Puts the lines of a resource that is lent: the `resource` statement with the row that its bytes tell under the type
 /// that is declared for it, unless the row chooses a case whose name is a macro; and where there is no such row its `data`
-/// statement. Of the resource its name alone is copied. Every resource can be shown: `NoMemory` is the only refusal. (MPW
-/// DeRez.)
-pub fn show(
+/// statement. Of the resource its name alone is copied. Every resource can be shown: `NoMemory` is the only refusal, and
+/// then nothing is put. (MPW DeRez.)
+pub fn put_resource<O: Sink>(
     alloc: Global,
     view: &ResView<'_>,
     known: &Known,
-    into: &mut Bytes,
-) -> Result<(), NoMemory>
-    ensures { OnOk result ((text : List ℕ) × (into.new ≡ into.old ++ text) × Shown (known_of known.now) (lent view.now) text) }
+    out: &mut O,
+) -> Result<Put, NoMemory>
+    ensures told { (text : List ℕ) → Shown (known_of known.now) (lent view.now) text → PutsFront text (O.written out.old) (O.written out.new) result }
+    ensures counted { O.faults out.old ≤ O.faults out.new }
+    ensures cause { result ≡ Ok Put.Failed → Rose (O.faults out.old) (O.faults out.new) }
 {
+    one_shown_text();
     let facts = facts_of(alloc, view, known.moment)?;
     match known.template_for(view) {
-        Some(template) => show_under(alloc, view, &facts, template, known, into),
-        None => append_bytes(&facts, view.bytes, into),
+        Some(template) => put_under(alloc, view, &facts, template, known, out),
+        None => Ok(put_lines(ShowLines::of_bytes(&facts, view.bytes), out)),
     }
+}
+
+/// Puts lines, up to one whose put fails.
+fn put_lines<O: Sink>(lines: ShowLines<'_>, out: &mut O) -> Put
+    ensures told { Puts (concat lines.entry) (O.written out.old) (O.written out.new) result }
+    ensures counted { O.faults out.old ≤ O.faults out.new }
+    ensures cause { result ≡ Put.Failed → Rose (O.faults out.old) (O.faults out.new) }
+{
+    let mut left = lines;
+    while let Some(line) = left.next() {
+        match out.put(line.as_slice()) {
+            Put::Done => {}
+            Put::Failed => return Put::Failed,
+        }
+    }
+    Put::Done
 }
 
 /// What is known of a resource that is lent beside its bytes.
@@ -90,30 +114,31 @@ fn facts_of(alloc: Global, view: &ResView<'_>, moment: Moment) -> Result<Facts, 
     })
 }
 
-/// Appends the text of a resource with these facts under the template that is declared for it.
-fn show_under(
+/// Puts the lines of a resource with these facts under the template that is declared for it.
+fn put_under<O: Sink>(
     alloc: Global,
     view: &ResView<'_>,
     facts: &Facts,
     template: &Template,
     known: &Known,
-    into: &mut Bytes,
-) -> Result<(), NoMemory>
+    out: &mut O,
+) -> Result<Put, NoMemory>
     requires facts { facts.now ≡ facts_of known.now.moment (lent view.now) }
     requires declared { declared_for (known_of known.now) (lent view.now) ≡ Some (template_of template.now) }
-    ensures { OnOk result ((text : List ℕ) × (into.new ≡ into.old ++ text) × Shown (known_of known.now) (lent view.now) text) }
+    ensures told { (text : List ℕ) → Shown (known_of known.now) (lent view.now) text → PutsFront text (O.written out.old) (O.written out.new) result }
+    ensures counted { O.faults out.old ≤ O.faults out.new }
+    ensures cause { result ≡ Ok Put.Failed → Rose (O.faults out.old) (O.faults out.new) }
 {
+    one_shown_text();
+    spelled_rows_are_rows();
     let row = row_told(alloc, view, facts, template, known)?;
     let fields = template.body();
     match row {
-        Some(row) => show_row(
-            facts,
-            fields.as_slice(),
-            row.as_slice(),
-            &known.macros,
-            into,
-        ),
-        None => append_bytes(facts, view.bytes, into),
+        Some(row) => Ok(put_lines(
+            ShowLines::of_tree(facts, fields.as_slice(), row.as_slice(), &known.macros),
+            out,
+        )),
+        None => Ok(put_lines(ShowLines::of_bytes(facts, view.bytes), out)),
     }
 }
 

@@ -1,52 +1,96 @@
-//! The resources of a fork as text: those that are chosen, in order. What is shown is in `specs/Text`.
+//! The text of a fork, which is put line by line: of the resources that are chosen, in order. What it is is in `specs/Put`.
 
-ghost use Rattle.std.specs.Prelude.{◌≡◌, ◌++◌, ◌∷◌, [], ℕ, List, IfOk, OnOk};
+ghost use Rattle.std.specs.Prelude.{◌≡◌, ◌≤◌, ◌<◌, ◌^◌, ◌∷◌, [], ℕ, List, length, Ok};
+ghost use Rattle.rz_folder.specs.Counts.{Rose};
+ghost use Rattle.rz_folder.specs.Sink.{PutsFront};
+ghost use Rattle.rz_fork.specs.Admit.{admitted};
+ghost use Rattle.rz_fork.specs.Contents.{Fork};
 ghost use Rattle.rz_fork.specs.View.{lent};
 ghost use Rattle.rz_tools_text.specs.Chosen.{chosen};
 ghost use Rattle.rz_tools_text.specs.Held.{known_of};
+ghost use Rattle.rz_tools_text.specs.Put.{IsTextOf};
 ghost use Rattle.rz_tools_text.specs.Text.{ShowsEach};
 
 use crate::chosen::is_chosen;
-use crate::shown::{Known, show};
+use crate::shown::{Known, put_resource};
 use rz_core::{Bytes, Listing, NoMemory, OsType};
+use rz_folder::{Put, Sink};
 use rz_fork::{ForkView, ResView};
 use std::alloc::Global;
 
-/// The text of the resources of a fork, in the order of its map: of those whose types are among `only`, where there are any,
-/// and not among `skip`. The resources are shown where they lie: no more than the name of one is copied at a time. Every
-/// fork can be shown: `NoMemory` is the only refusal. (MPW DeRez.)
-pub fn show_fork(
-    alloc: Global,
-    fork: &ForkView<'_>,
-    only: &Listing<OsType>,
-    skip: &Listing<OsType>,
-    known: &Known,
-) -> Result<Bytes, NoMemory>
-    ensures { IfOk result (ShowsEach (known_of known.now) (chosen only.now skip.now fork.now.list)) }
-{
-    let mut text = Bytes::new(alloc);
-    let mut walk = fork.walk();
-    while let Some(one) = walk.next() {
-        show_chosen(alloc, &one, only, skip, known, &mut text)?;
-    }
-    Ok(text)
+/// The text of a fork: of the resources whose types are among `only`, where there are any, and not among `skip`, in the
+/// order of the fork's map. It is made line by line, while it is put. (MPW DeRez.)
+#[derive(Drop)]
+pub struct ForkText {
+    /// The bytes of the fork.
+    pub fork: Bytes,
+    /// The types that alone are shown, where there are any.
+    pub only: Listing<OsType>,
+    /// The types that aren't shown.
+    pub skip: Listing<OsType>,
+    /// What is known of types and macros.
+    pub known: Known,
 }
 
-/// Appends the text of a resource that is lent, if its type is chosen.
-fn show_chosen(
-    alloc: Global,
-    view: &ResView<'_>,
-    only: &Listing<OsType>,
-    skip: &Listing<OsType>,
-    known: &Known,
-    into: &mut Bytes,
-) -> Result<(), NoMemory>
-    ensures { OnOk result ((text : List ℕ) × (into.new ≡ into.old ++ text)
-        × ShowsEach (known_of known.now) (chosen only.now skip.now (lent view.now ∷ [])) text) }
-{
-    if is_chosen(only, skip, view.kind) {
-        show(alloc, view, known, into)
-    } else {
-        Ok(())
+impl ForkText {
+    /// Puts the text, one line after the other, and flushes the sink. Beside the bytes of the fork it holds, of one resource
+    /// at a time, the name and, under a template, the row. `Failed` is that of the first put that failed, or of the flush:
+    /// nothing is put behind a put that failed. Every fork can be shown: `NoMemory` is the only refusal, and what was put
+    /// till then stays. (MPW DeRez.)
+    pub fn put<O: Sink>(&self, alloc: Global, out: &mut O) -> Result<Put, NoMemory>
+        requires short { length self.now.fork < 2 ^ 32 }
+        requires admitted { (fork : Fork) × (admitted self.now.fork ≡ Ok fork) }
+        ensures told { (text : List ℕ) → IsTextOf self.now text → PutsFront text (O.written out.old) (O.written out.new) result }
+        ensures counted { O.faults out.old ≤ O.faults out.new }
+        ensures cause { result ≡ Ok Put.Failed → Rose (O.faults out.old) (O.faults out.new) }
+    {
+        match ForkView::admit(self.fork.as_slice()) {
+            Ok(fork) => match self.put_each(alloc, &fork, out)? {
+                Put::Done => Ok(out.flush()),
+                Put::Failed => Ok(Put::Failed),
+            },
+            Err(_) => Ok(Put::Done),
+        }
+    }
+
+    /// Puts the lines of the resources of a fork that are chosen.
+    fn put_each<O: Sink>(
+        &self,
+        alloc: Global,
+        fork: &ForkView<'_>,
+        out: &mut O,
+    ) -> Result<Put, NoMemory>
+        ensures told { (text : List ℕ) → ShowsEach (known_of self.now.known) (chosen self.now.only self.now.skip fork.now.list) text
+            → PutsFront text (O.written out.old) (O.written out.new) result }
+        ensures counted { O.faults out.old ≤ O.faults out.new }
+        ensures cause { result ≡ Ok Put.Failed → Rose (O.faults out.old) (O.faults out.new) }
+    {
+        let mut walk = fork.walk();
+        while let Some(one) = walk.next() {
+            match self.put_chosen(alloc, &one, out)? {
+                Put::Done => {}
+                Put::Failed => return Ok(Put::Failed),
+            }
+        }
+        Ok(Put::Done)
+    }
+
+    /// Puts the lines of a resource that is lent, if it is chosen.
+    fn put_chosen<O: Sink>(
+        &self,
+        alloc: Global,
+        view: &ResView<'_>,
+        out: &mut O,
+    ) -> Result<Put, NoMemory>
+        ensures told { (text : List ℕ) → ShowsEach (known_of self.now.known) (chosen self.now.only self.now.skip (lent view.now ∷ [])) text
+            → PutsFront text (O.written out.old) (O.written out.new) result }
+        ensures counted { O.faults out.old ≤ O.faults out.new }
+        ensures cause { result ≡ Ok Put.Failed → Rose (O.faults out.old) (O.faults out.new) }
+    {
+        if is_chosen(&self.only, &self.skip, view.kind) {
+            put_resource(alloc, view, &self.known, out)
+        } else {
+            Ok(Put::Done)
+        }
     }
 }

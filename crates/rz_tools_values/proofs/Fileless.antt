@@ -8,7 +8,7 @@ use Rattle.rz_core.specs.declared.fault.Mark.{Mark}
 use Rattle.rz_folder.specs.Folder.{Files}
 use Rattle.rz_tools_values.specs.Named.{argument_names, arguments_name, part_names, parts_name, texts_name}
 use Rattle.rz_tools_values.specs.Texts.{argument_read, arguments_read, part_read, parts_read, texts_read}
-use Rattle.rz_types_fields.specs.Text.{argument_and, no_arguments, no_parts, part_and, parts_of, DateFact, FileBytes, FileResource, Format, NameFact, Number, Plain, PlainArgument, PlainArguments, PlainPart, PlainParts, Text, TimeFact, VersionFact}
+use Rattle.rz_types_fields.specs.Text.{argument_and, no_arguments, no_parts, part_and, DateFact, FileBytes, FileResource, Format, NameFact, Number, Plain, PlainArgument, PlainArguments, PlainPart, PlainParts, Text, TimeFact, VersionFact}
 
 pub neither : (a b : Bool) → (a || b) ≡ false → (a ≡ false) × (b ≡ false)
 neither false b is = (refl, is)

@@ -5,12 +5,12 @@ use Rattle.std.specs.Char.{to_ascii_lowercase}
 use Rattle.std.specs.Str.{bytes_eq, str_eq_ignore_ascii_case, str_to_ascii_lowercase}
 use Rattle.std.proofs.lemmas.Bool.{eqb-true, false≢true}
 use Rattle.std.proofs.lemmas.Slice.Eq.{bytes_eq-Decides}
-use Rattle.rz_expr.specs.Attribute.{attribute_among, attribute_word, bit_of, clearing_word, every_attribute, setting_word}
-use Rattle.rz_expr.specs.Keyword.{every_keyword, keyword_of, spelled_among, spelling}
-use Rattle.rz_expr.specs.Words.{dollar_role, is_name, keyword_role, plain_role, role_of}
-use Rattle.rz_expr.specs.declared.attribute.Attribute.{Attribute}
-use Rattle.rz_expr.specs.declared.keyword.Keyword.{Keyword}
-use Rattle.rz_expr.specs.declared.words.Role.TheVariants.{OtherName}
+use Rattle.rz_words.specs.Attribute.{attribute_among, attribute_word, bit_of, clearing_word, every_attribute, setting_word}
+use Rattle.rz_words.specs.Keyword.{every_keyword, keyword_of, spelled_among, spelling}
+use Rattle.rz_words.specs.Words.{dollar_role, is_name, keyword_role, plain_role, role_of}
+use Rattle.rz_words.specs.declared.attribute.Attribute.{Attribute}
+use Rattle.rz_words.specs.declared.keyword.Keyword.{Keyword}
+use Rattle.rz_words.specs.declared.words.Role.TheVariants.{OtherName}
 use Rattle.rz_lex.specs.Printed.{word_of}
 use Rattle.rz_tools_work.specs.ToolWords.{tool_in}
 

@@ -1,4 +1,5 @@
-use Rattle.std.proofs.Common.{ℕ, List, [], sym, ap, subst, ◌∙◌}
+use Rattle.std.proofs.Common.{ℕ, List, [], rules, sym, ap, subst, ◌∙◌}
+use Rattle.rz_core.specs.declared.stop.Halt.TheVariants.{ReadFault}
 use Rattle.rz_pre.specs.Lexed.{HaveLexedTexts}
 use Rattle.rz_tools_answer.proofs.Warnings.{no_lines}
 use Rattle.rz_tools_answer.specs.Answer.{shown}
@@ -10,42 +11,80 @@ use Rattle.rz_tools.specs.DeRez.{derez_asked, DeRezAsked}
 use Rattle.rz_tools.specs.Held.{derez, rez}
 use Rattle.rz_tools.specs.Rez.{rez_asked, RezAsked}
 use Rattle.rz_tools_output.specs.Bridge.{bridge, bridge_asked}
-use Rattle.rz_tools.proofs.Planned.{as_bridge, as_derez, as_held, as_named, as_planned, as_rez, as_sample}
+use Rattle.rz_tools.proofs.Planned.{as_bridge, as_derez, as_held, as_named, as_planned, as_rez, as_sample, plan_named}
+use Rattle.rz_tools.proofs.Replied.{plan_end, plan_no_usage, plan_sound, reads_as}
 use Rattle.rz_tools.proofs.answer.answer_command.Goals as goal
 
 pub plan_rez-requires : goal.plan_rez-requires
-plan_rez-requires g c = subst HaveLexedTexts (sym (ap (λ (a : RezAsked). a.defs) c.in_ok-of-in-Rez.ensures)) c.requires.lexed
+plan_rez-requires g c = subst HaveLexedTexts (sym (ap (λ (a : RezAsked). a.defs) c.in_ok-words-in-Rez.ensures)) c.requires.lexed
 
-pub returns-in_ok-of-in-Rez-clause-answered : goal.returns-in_ok-of-in-Rez-clause-answered
-returns-in_ok-of-in-Rez-clause-answered g c =
-    as_named c.args.command.name names.Rez (items_of c.args.command) c.args.moment c.in-Rez.is (g.F.Folder.files c.args.folder.now) c.plan_rez.result
-    (as_rez c.args.moment (g.F.Folder.files c.args.folder.now) c.plan_rez.result (rez c.in_ok-of-in-Rez.field-0) (rez_asked (items_of c.args.command)) c.in_ok-of-in-Rez.ensures
+pub answer_derez-requires : goal.answer_derez-requires
+answer_derez-requires g c = subst HaveLexedTexts (sym (ap (λ (a : DeRezAsked). a.types.defs) c.in_ok-words-in-DeRez.ensures)) c.requires.lexed
+
+-- Plans.
+
+pub returns-in_ok-words-in-Rez-clause-answered : goal.returns-in_ok-words-in-Rez-clause-answered
+returns-in_ok-words-in-Rez-clause-answered g c =
+    plan_named c.args.command.name names.Rez (items_of c.args.command) c.args.moment c.in-Rez.is (g.F.Folder.files c.args.folder.now)
+    c.plan_rez.result c.planned.result c.planned.ensures
+    (as_rez c.args.moment (g.F.Folder.files c.args.folder.now) c.plan_rez.result (rez c.in_ok-words-in-Rez.words) (rez_asked (items_of c.args.command)) c.in_ok-words-in-Rez.ensures
     c.plan_rez.ensures.answered)
 
-pub plan_derez-requires : goal.plan_derez-requires
-plan_derez-requires g c = subst HaveLexedTexts (sym (ap (λ (a : DeRezAsked). a.types.defs) c.in_ok-of-in-DeRez.ensures)) c.requires.lexed
+pub returns-in_ok-words-in-Rez-clause-sound : goal.returns-in_ok-words-in-Rez-clause-sound
+returns-in_ok-words-in-Rez-clause-sound g c = plan_sound c.plan_rez.result c.planned.result c.planned.ensures c.plan_rez.ensures.well_formed c.plan_rez.ensures.writable
 
-pub returns-in_ok-of-in-DeRez-clause-answered : goal.returns-in_ok-of-in-DeRez-clause-answered
-returns-in_ok-of-in-DeRez-clause-answered g c =
-    as_named c.args.command.name names.DeRez (items_of c.args.command) c.args.moment c.in-DeRez.is (g.F.Folder.files c.args.folder.now) c.plan_derez.result
-    (as_derez c.args.moment (g.F.Folder.files c.args.folder.now) c.plan_derez.result (derez c.in_ok-of-in-DeRez.field-0) (derez_asked (items_of c.args.command)) c.in_ok-of-in-DeRez.ensures
-    c.plan_derez.ensures.answered)
+pub returns-in_ok-words-in-Rez-clause-no_usage : goal.returns-in_ok-words-in-Rez-clause-no_usage
+returns-in_ok-words-in-Rez-clause-no_usage g c = plan_no_usage c.plan_rez.result c.planned.result c.planned.ensures c.plan_rez.ensures.no_usage
 
-pub returns-in_ok-of-in-DeRez-clause-held : goal.returns-in_ok-of-in-DeRez-clause-held
-returns-in_ok-of-in-DeRez-clause-held g c is =
-    as_held c.args.moment (g.F.Folder.files c.args.folder.now) c.plan_derez.result (derez c.in_ok-of-in-DeRez.field-0) (derez_asked (items_of c.args.command)) c.in_ok-of-in-DeRez.ensures
-    c.plan_derez.ensures.held
+pub returns-in_ok-words-in-Rez-clause-reads : goal.returns-in_ok-words-in-Rez-clause-reads
+returns-in_ok-words-in-Rez-clause-reads g c =
+    reads_as g.F.Folder.files g.F.Folder.read_faults g.F.Folder.write_faults c.args.folder.now c.plan_rez.new.folder
+    (plan_end c.plan_rez.result c.planned.result c.planned.ensures ReadFault) c.plan_rez.ensures.reads
 
-pub returns-in_ok-of-in-Bridge-clause-answered : goal.returns-in_ok-of-in-Bridge-clause-answered
-returns-in_ok-of-in-Bridge-clause-answered g c =
-    as_named c.args.command.name names.Bridge (items_of c.args.command) c.args.moment c.in-Bridge.is (g.F.Folder.files c.args.folder.now) c.plan_bridge.result
-    (as_bridge c.args.moment (g.F.Folder.files c.args.folder.now) c.plan_bridge.result (bridge c.in_ok-of-in-Bridge.field-0) (bridge_asked (items_of c.args.command)) c.in_ok-of-in-Bridge.ensures
+pub returns-in_ok-words-in-Bridge-clause-answered : goal.returns-in_ok-words-in-Bridge-clause-answered
+returns-in_ok-words-in-Bridge-clause-answered g c =
+    plan_named c.args.command.name names.Bridge (items_of c.args.command) c.args.moment c.in-Bridge.is (g.F.Folder.files c.args.folder.now)
+    c.plan_bridge.result c.planned-in-Bridge.result c.planned-in-Bridge.ensures
+    (as_bridge c.args.moment (g.F.Folder.files c.args.folder.now) c.plan_bridge.result (bridge c.in_ok-words-in-Bridge.words) (bridge_asked (items_of c.args.command)) c.in_ok-words-in-Bridge.ensures
     c.plan_bridge.ensures.answered)
+
+pub returns-in_ok-words-in-Bridge-clause-sound : goal.returns-in_ok-words-in-Bridge-clause-sound
+returns-in_ok-words-in-Bridge-clause-sound g c = plan_sound c.plan_bridge.result c.planned-in-Bridge.result c.planned-in-Bridge.ensures c.plan_bridge.ensures.well_formed c.plan_bridge.ensures.writable
+
+pub returns-in_ok-words-in-Bridge-clause-no_usage : goal.returns-in_ok-words-in-Bridge-clause-no_usage
+returns-in_ok-words-in-Bridge-clause-no_usage g c = plan_no_usage c.plan_bridge.result c.planned-in-Bridge.result c.planned-in-Bridge.ensures c.plan_bridge.ensures.no_usage
+
+pub returns-in_ok-words-in-Bridge-clause-reads : goal.returns-in_ok-words-in-Bridge-clause-reads
+returns-in_ok-words-in-Bridge-clause-reads g c =
+    reads_as g.F.Folder.files g.F.Folder.read_faults g.F.Folder.write_faults c.args.folder.now c.plan_bridge.new.folder
+    (plan_end c.plan_bridge.result c.planned-in-Bridge.result c.planned-in-Bridge.ensures ReadFault) c.plan_bridge.ensures.reads
 
 pub returns-in-Sample-clause-answered : goal.returns-in-Sample-clause-answered
 returns-in-Sample-clause-answered g c =
-    as_named c.args.command.name names.Sample (items_of c.args.command) c.args.moment c.in-Sample.is (g.F.Folder.files c.args.folder.now) c.plan_sample.result
+    plan_named c.args.command.name names.Sample (items_of c.args.command) c.args.moment c.in-Sample.is (g.F.Folder.files c.args.folder.now)
+    c.plan_sample.result c.planned-in-Sample.result c.planned-in-Sample.ensures
     (as_sample c.args.moment (g.F.Folder.files c.args.folder.now) c.plan_sample.result _ (places_of (items_of c.args.command)) c.number.ensures c.plan_sample.ensures.answered)
+
+pub returns-in-Sample-clause-sound : goal.returns-in-Sample-clause-sound
+returns-in-Sample-clause-sound g c = plan_sound c.plan_sample.result c.planned-in-Sample.result c.planned-in-Sample.ensures c.plan_sample.ensures.well_formed c.plan_sample.ensures.writable
+
+pub returns-in-Sample-clause-no_usage : goal.returns-in-Sample-clause-no_usage
+returns-in-Sample-clause-no_usage g c = plan_no_usage c.plan_sample.result c.planned-in-Sample.result c.planned-in-Sample.ensures c.plan_sample.ensures.no_usage
+
+-- The text of a fork.
+
+pub returns-in_ok-words-in-DeRez-clause-answered : goal.returns-in_ok-words-in-DeRez-clause-answered
+returns-in_ok-words-in-DeRez-clause-answered g c =
+    as_named c.args.command.name names.DeRez (items_of c.args.command) c.args.moment c.in-DeRez.is (g.F.Folder.files c.args.folder.now) c.answer_derez.result
+    (as_derez (g.F.Folder.files c.args.folder.now) c.answer_derez.result (derez c.in_ok-words-in-DeRez.words) (derez_asked (items_of c.args.command)) c.in_ok-words-in-DeRez.ensures
+    c.args.moment c.answer_derez.ensures.answered)
+
+pub returns-in_ok-words-in-DeRez-clause-held : goal.returns-in_ok-words-in-DeRez-clause-held
+returns-in_ok-words-in-DeRez-clause-held g c is =
+    as_held (g.F.Folder.files c.args.folder.now) c.answer_derez.result (derez c.in_ok-words-in-DeRez.words) (derez_asked (items_of c.args.command)) c.in_ok-words-in-DeRez.ensures
+    c.answer_derez.ensures.held
+
+-- Texts that are there.
 
 pub returns-in_ok-text-in-Help-clause-answered : goal.returns-in_ok-text-in-Help-clause-answered
 returns-in_ok-text-in-Help-clause-answered g c =
@@ -58,8 +97,8 @@ returns-in_ok-text-in-Version-clause-answered g c =
     as_planned c.args.command.name names.Version (items_of c.args.command) c.args.moment c.in-Version.is (g.F.Folder.files c.args.folder.now) c.in_ok-text-in-Version.field-0
     (λ files. c.in_ok-text-in-Version.ensures ∙ ap (λ (text : List ℕ). shown (record { bytes = text; said = [] })) c.version_text.ensures)
 
-pub returns-in_ok-text-in-Help-clause-well_formed : goal.returns-in_ok-text-in-Help-clause-well_formed
-returns-in_ok-text-in-Help-clause-well_formed g c = subst IsWellFormed (sym c.in_ok-text-in-Help.ensures) no_lines
+pub returns-in_ok-text-in-Help-clause-sound : goal.returns-in_ok-text-in-Help-clause-sound
+returns-in_ok-text-in-Help-clause-sound g c = (subst IsWellFormed (sym c.in_ok-text-in-Help.ensures) no_lines, search rules)
 
-pub returns-in_ok-text-in-Version-clause-well_formed : goal.returns-in_ok-text-in-Version-clause-well_formed
-returns-in_ok-text-in-Version-clause-well_formed g c = subst IsWellFormed (sym c.in_ok-text-in-Version.ensures) no_lines
+pub returns-in_ok-text-in-Version-clause-sound : goal.returns-in_ok-text-in-Version-clause-sound
+returns-in_ok-text-in-Version-clause-sound g c = (subst IsWellFormed (sym c.in_ok-text-in-Version.ensures) no_lines, search rules)

@@ -1,0 +1,12 @@
+use Rattle.std.proofs.Common.{◌≤◌, length}
+use Rattle.rz_tools_text.proofs.Lists.{ArePut}
+use Rattle.rz_tools_text.proofs.shown.put_lines.Given as goal
+
+abbrev pub invariant-loop-line : goal.invariant-loop-line
+invariant-loop-line g l = record {
+  put : ArePut l.fn.lines l.left (g.O.Sink.written l.fn.out) (g.O.Sink.written l.out);
+  counted : g.O.Sink.faults l.fn.out ≤ g.O.Sink.faults l.out;
+}
+
+abbrev pub decreases-loop-line : goal.decreases-loop-line
+decreases-loop-line g l = length l.left
