@@ -49,6 +49,8 @@ def from_form_to_form():
     case("BinHex as a fork", "bridge One -to raw -o back", [("One", hqx(RAW.but(name=b"One")))], leaves=[("back", ONE)])
     case("both forks as AppleDouble: the data fork is a file of its own", "bridge T.bin -to double -o ._T",
          [("T.bin", macbin(T))], leaves=[("T", b"a"), ("._T", double(T))])
+    case("both forks as AppleDouble over old files", "bridge T.bin -to double -o ._T",
+         [("T.bin", macbin(T)), ("T", "an old one\n"), ("._T", "another\n")], leaves=[("T", b"a"), ("._T", double(T))])
     case("AppleDouble beside its data file", "bridge ._T -to macbin -o again.bin", [("._T", double(T)), ("T", b"a")],
          leaves=[("again.bin", macbin(BARE))])
     case("AppleDouble without its data file", "bridge ._T -to macbin -o again.bin", [("._T", double(T))],
@@ -85,6 +87,33 @@ def from_form_to_form():
          [("T.bin", macbin(T))], leaves=[("t.rsrc", ONE)], gone=["u"])
     case("a file may be written over itself", "bridge one.rsrc -to hqx -o one.rsrc", [("one.rsrc", ONE)],
          leaves=[("one.rsrc", hqx(RAW.but(name=b"one.rsrc")))])
+
+
+def data_files():
+    BOOK.say("What -to double does to the file that has the data file's name: it is written first, and nothing asks.")
+    both = macbin(T.but(name=b"App"))
+    header = double(T.but(name=b"App"))
+    case("the data file is the file that is read", "bridge App -to double -o ._App", [("App", both)],
+         leaves=[("App", b"a"), ("._App", header)])
+    case("and the header can't be written: its resources are gone", "bridge App -to double -o ._App", [("App", both)],
+         ["fail folder 3"], status=3, leaves=[("App", b"a")], gone=["._App"], err="rezkit: write fault\n")
+    case("into a folder of its own it is kept, also then", "bridge App -to double -o out/._App", [("App", both)],
+         ["fail folder 3"], status=3, leaves=[("App", both), ("out/App", b"a")], gone=["out/._App"],
+         err="rezkit: write fault\n")
+    case("into a folder of its own", "bridge App -to double -o out/._App", [("App", both)],
+         leaves=[("App", both), ("out/App", b"a"), ("out/._App", header)])
+    empty = T.but(data=b"")
+    case("an empty data fork beside an old file, which stays", "bridge T.bin -to double -o ._T",
+         [("T.bin", macbin(empty)), ("T", b"old")], leaves=[("T", b"old"), ("._T", double(empty))])
+    case("and is the data fork from then on", "bridge ._T -to macbin -o again.bin", [("._T", double(empty)), ("T", b"old")],
+         leaves=[("again.bin", macbin(BARE.but(data=b"old")))])
+    case("an empty data fork whose data file is the file that is read", "bridge App -to double -o ._App",
+         [("App", macbin(empty.but(name=b"App")))], leaves=[("._App", double(empty.but(name=b"App")))])
+    case("and that file is the data fork from then on", "bridge ._App -to macbin -o again.bin",
+         [("._App", double(empty.but(name=b"App"))), ("App", macbin(empty.but(name=b"App")))],
+         leaves=[("again.bin", macbin(BARE.but(name=b"App", data=macbin(empty.but(name=b"App")))))])
+    case("the file that is read is the header's", "bridge ._T -from macbin -to double -o ._T", [("._T", macbin(T))],
+         leaves=[("T", b"a"), ("._T", double(T))])
 
 
 def turned():
@@ -164,6 +193,7 @@ def rez_and_derez():
 if __name__ == "__main__":
     checks()
     from_form_to_form()
+    data_files()
     refusals()
     words()
     rez_and_derez()

@@ -19,6 +19,14 @@ TWICE = "the case states this twice"
 PLACE = "a place is none of status, out, err, file NAME and fail PLACE"
 TARGET = "what is named is none of folder, out and err"
 NUMBER = "a number is missing, wrong or too great"
+DIGITS = "hexadecimal digits are wrong or odd in number"
+SIZE = "numbers that count up have not one to four bytes, or not as many"
+DOWN = "numbers that count up go down, or are too many"
+CALLS = "a sweep of no calls, or of more than 100,000"
+SWEPT = "a sweep names no other call that fails, and isn't wrong on purpose"
+SOURCE = ["case a source", "words rez s.r -o x", "file open s.r", "| ;", "status 0", "leaves bytes x"]
+NONE = ["| 0000 0100 0000 0100 0000 0000 0000 001E 00*240", "| 0000 0100 0000 0100 0000 0000 0000 001E",
+        "| 0000 0000 0000 0000 001C 001E FFFF"]
 
 # Lines behind those of a case, the line at which the file breaks, and what is said of it. A line that is stated again
 # stands in line 7.
@@ -56,9 +64,31 @@ BROKEN = [
     (["gone x", "leaves text x"], 7, TWICE),
     (["file text x", "file open x"], 7, TWICE),
     (["file words x"], 6, "the kind of content is none of text, open and bytes"),
-    (["file bytes x", "| 0"], 6, "hexadecimal digits are wrong or odd in number"),
+    (["file bytes x", "| 0"], 6, DIGITS),
+    (["file bytes x", "| 00..0"], 6, DIGITS),
+    (["file bytes x", "| 0x..01"], 6, DIGITS),
+    (["file bytes x", "| 00..01..02"], 6, DIGITS),
+    (["file bytes x", "| 00..01:0"], 6, DIGITS),
+    (["file bytes x", "| 00..01*2"], 6, DIGITS),
+    (["file bytes x", "| .."], 6, SIZE),
+    (["file bytes x", "| 00..0100"], 6, SIZE),
+    (["file bytes x", "| 0000000000..0000000001"], 6, SIZE),
+    (["file bytes x", "| 02..01"], 6, DOWN),
+    (["file bytes x", "| 00000000..01312D00"], 6, DOWN),
+    (["file bytes x", "| 00*20000001"], 6, "a wrong number of times"),
     (["gone x", "| y"], 6, "this key takes no content"),
     (["says x"], 6, "there is no such key"),
+    (["sweep folder 1 0", "sweep out 1 0"], 7, TWICE),
+    (["sweep folder 0 0"], 6, CALLS),
+    (["sweep out 0 1"], 6, CALLS),
+    (["sweep err 100001 0"], 6, CALLS),
+    (["sweep folder 1"], 6, NUMBER),
+    (["sweep folder 1 x"], 6, NUMBER),
+    (["sweep out 1 2 3"], 6, "the argument has too many parts"),
+    (["sweep in 1 0"], 6, TARGET),
+    (["sweep folder 1 0", "fail out 1 0"], 1, SWEPT),
+    (["sweep folder 1 0", "fail folder 2", "fails never"], 1, SWEPT),
+    (["sweep folder 1 0", "differs out"], 1, SWEPT),
     (["case another case"], 6, "the case states no status"),
 ]
 
@@ -85,9 +115,48 @@ PRINTED = [
      "./one.cases:1: a text: the piece of out that fails differs\n  wanted: it comes\n  came:   it never comes\n"
      "./one.cases:1: a text: the piece of err that fails differs\n  wanted: it comes\n  came:   it never comes\n"
      "1 cases, 1 differ", 1),
+    (["case numbers", "words --help", "room out 0", "status 3", "out bytes", "| 31..33:2C2E 41..41 00FE..0101 25*2", "differs err"],
+     "./one.cases:1: numbers: out differs\n"
+     '  wanted: 20 bytes, from 0 on "1,.2,.3,.A\\x00\\xfe\\x00\\xff\\x01\\x00\\x01\\x01%%"\n  came:   0 bytes, from 0 on ""\n'
+     "1 cases, 1 differ", 1),
     (["case a source", "words rez s.r", "file open s.r", "| ;", "fail folder 1", "fails never", "status 3", "differs err"],
      "./one.cases:1: a source: the call of the folder that fails differs\n  wanted: it never comes\n  came:   it comes\n"
      "1 cases, 1 differ", 1),
+    (RUN + ["sweep folder 1 0"], "1 sweeps, 2 runs\n1 cases, 0 differ", 0),
+    (SOURCE + NONE + ["sweep folder 1 1"], "1 sweeps, 3 runs\n1 cases, 0 differ", 0),
+    (SOURCE + NONE + ["sweep folder 1 2"],
+     "./one.cases:1: a source: run 3: the status differs\n  wanted: 3\n  came:   0\n"
+     './one.cases:1: a source: run 3: err differs\n  wanted: 20 bytes, from 0 on "rezkit: write fault\\n"\n'
+     '  came:   0 bytes, from 0 on ""\n'
+     "./one.cases:1: a source: run 3: the call of the folder that fails differs\n  wanted: it comes\n  came:   it never comes\n"
+     "1 sweeps, 4 runs\n1 cases, 1 differ", 1),
+    (SOURCE + NONE + ["sweep folder 1 0"],
+     "./one.cases:1: a source: run 2: the status differs\n  wanted: 0\n  came:   3\n"
+     './one.cases:1: a source: run 2: the file "x" differs\n  wanted: 286 bytes, from 0 on "'
+     + "\\x00\\x00\\x01\\x00" * 2 + "\\x00" * 7 + "\\x1e" + "\\x00" * 64 + '"\n  came:   no file\n'
+     './one.cases:1: a source: run 2: err differs\n  wanted: 0 bytes, from 0 on ""\n'
+     '  came:   20 bytes, from 0 on "rezkit: write fault\\n"\n'
+     "./one.cases:1: a source: run 2: the call of the folder that fails differs\n  wanted: it never comes\n  came:   it comes\n"
+     "1 sweeps, 2 runs\n1 cases, 1 differ", 1),
+    (SOURCE + NONE + ["sweep folder 0 2"],
+     "./one.cases:1: a source: run 1: err differs\n"
+     '  wanted: 20 bytes, from 0 on "rezkit: write fault\\n"\n  came:   19 bytes, from 0 on "rezkit: read fault\\n"\n'
+     "1 sweeps, 3 runs\n1 cases, 1 differ", 1),
+    (SOURCE + ["| 00"] + ["sweep folder 1 1"],
+     './one.cases:1: a source: run 3: the file "x" differs\n  wanted: 1 bytes, from 0 on "\\x00"\n'
+     '  came:   286 bytes, from 0 on "' + "\\x00\\x00\\x01\\x00" * 2 + "\\x00" * 7 + "\\x1e" + "\\x00" * 64 + '"\n'
+     "1 sweeps, 3 runs\n1 cases, 1 differ", 1),
+    (["case a text", "words --version", "sweep out 1 3", "status 0", "out text", "| rezkit 0.1.0"], "1 sweeps, 2 runs\n1 cases, 0 differ", 0),
+    (["case a text", "words --version", "sweep out 1 3", "status 0", "out text", "| rez"],
+     './one.cases:1: a text: run 2: out differs\n  wanted: 4 bytes, from 0 on "rez\\n"\n  came:   13 bytes, from 0 on "rezkit 0.1.0\\n"\n'
+     "1 sweeps, 2 runs\n1 cases, 1 differ", 1),
+    (["case a text", "words --version", "sweep out 1 3", "status 0", "out text", "| kit"],
+     './one.cases:1: a text: run 1: out differs\n  wanted: 4 bytes, from 0 on "kit\\n"\n  came:   3 bytes, from 0 on "rez"\n'
+     "1 sweeps, 2 runs\n1 cases, 1 differ", 1),
+    (RUN[:-1] + ["| rezkit: error 102"] + ["sweep err 1 17"],
+     './one.cases:1: a case: run 1: err differs\n  wanted: 18 bytes, from 0 on "rezkit: error 102\\n"\n'
+     '  came:   17 bytes, from 0 on "rezkit: error 101"\n'
+     "1 sweeps, 2 runs\n1 cases, 1 differ", 1),
     (["case a folder", "words rez s.r", "file open s.r", "| ;", "status 0", "differs status"],
      './one.cases:1: a folder: the file "Rez.Out" differs\n  wanted: no file\n'
      '  came:   286 bytes, from 0 on "' + "\\x00\\x00\\x01\\x00" * 2 + "\\x00" * 7 + "\\x1e" + "\\x00" * 64 + '"\n'

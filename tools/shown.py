@@ -867,18 +867,25 @@ def derez(words, files, moment=0):
 
 # Cases of commands.
 
+def counted(first, rest):
+    """The numbers up to another one of as many digits, each with what stands behind a colon."""
+    last, _, behind = rest.partition(":")
+    return b"".join(number.to_bytes(len(first) // 2, "big") + bytes.fromhex(behind) for number in range(int(first, 16), int(last, 16) + 1))
+
+
 def content_of(kind, lines):
     if kind == "bytes":
         out = b""
-        for piece in re.findall(r'"[^"]*"|[0-9A-Fa-f]+(?:\*\d+)?', " ".join(lines)):
+        for piece in re.findall(r'"[^"]*"|[0-9A-Fa-f]+(?:\*\d+|\.\.[0-9A-Fa-f:]+)?', " ".join(lines)):
             digits, _, times = piece.partition("*")
-            out += piece[1:-1].encode() if piece[0] == '"' else bytes.fromhex(digits) * int(times or 1)
+            out += (piece[1:-1].encode() if piece[0] == '"' else counted(*piece.split("..")) if ".." in piece
+                    else bytes.fromhex(digits) * int(times or 1))
         return out
     return ("\n".join(lines) + ("\n" if kind == "text" and lines else "")).encode()
 
 
 def cases_of(text):
-    """The cases of a file: name, words, files, moment, out and status."""
+    """The cases of a file: name, words, files, moment, out, err, status and the files that a run leaves."""
     out, content = [], None
     for line in text.split("\n"):
         if line.startswith("|"):
@@ -886,7 +893,8 @@ def cases_of(text):
             continue
         key, _, rest = line.partition(" ")
         if key == "case":
-            out.append({"name": rest, "words": [], "files": {}, "moment": 0, "out": ("text", []), "status": "0"})
+            out.append({"name": rest, "words": [], "files": {}, "moment": 0, "out": ("text", []), "err": ("text", []),
+                        "leaves": {}, "status": "0"})
         elif key == "words":
             out[-1]["words"] += rest.split()
         elif key in ("word", "word-bytes"):
@@ -895,11 +903,13 @@ def cases_of(text):
             kind, _, name = rest.partition(" ")
             content = []
             out[-1]["files"][name] = (kind, content)
-        elif key == "out":
+        elif key == "leaves":
+            kind, _, name = rest.partition(" ")
             content = []
-            out[-1]["out"] = (rest, content)
-        elif key in ("leaves", "err"):
+            out[-1]["leaves"][name] = (kind, content)
+        elif key in ("out", "err"):
             content = []
+            out[-1][key] = (rest, content)
         elif key == "moment":
             out[-1]["moment"] = int(rest)
         elif key == "status":
@@ -917,10 +927,10 @@ def main():
         with open(name, encoding="utf-8") as file:
             cases = cases_of(file.read())
         for case in cases:
-            files = {name: content_of(*content) for name, content in case["files"].items()}
             if case["words"][:1] != ["derez"] or case["status"] != "0":
                 passed += 1
                 continue
+            files = {name: content_of(*content) for name, content in case["files"].items()}
             try:
                 came = derez(case["words"][1:], files, case["moment"])
             except NotImplementedError:

@@ -1,6 +1,7 @@
 //! One case: what a run is given, and what it must leave.
 
 use crate::difference::What;
+use crate::sweep::Sweep;
 use std::alloc::Global;
 
 /// One run of a command: what it is given, and what it must leave.
@@ -17,6 +18,8 @@ pub struct Case {
     pub files: Vec<Stored>,
     pub room: Room,
     pub failures: Failures,
+    /// The calls that fail in turn, where the case is run once for each of them.
+    pub sweep: Option<Sweep>,
     /// The exit status that is wanted. Each case states it.
     pub status: Option<u8>,
     /// The files that are wanted after the run, where they aren't those before it.
@@ -125,6 +128,7 @@ impl Case {
             files: Vec::new(alloc),
             room: Room::default(),
             failures: Failures::default(),
+            sweep: None,
             status: None,
             left: Vec::new(alloc),
             out: None,
@@ -143,6 +147,11 @@ impl Case {
                 };
             }
         }
+        self.before(name)
+    }
+
+    /// What the name holds before the run.
+    pub fn before(&self, name: &str) -> Option<&[u8]> {
         for stored in &self.files {
             if stored.name.as_str() == name {
                 return Some(stored.bytes.as_slice());

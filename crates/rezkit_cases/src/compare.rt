@@ -30,12 +30,12 @@ pub fn differences<'a>(
     add_difference(&mut found, What::Out, stream_of(&case.out), out)?;
     let err = Found::Bytes(ran.err.sink.bytes());
     add_difference(&mut found, What::Err, stream_of(&case.err), err)?;
-    add_calls(&mut found, case, ran)?;
+    add_calls(&mut found, ran)?;
     Ok(found)
 }
 
 /// The names of the files that are looked at, each once.
-fn names_of<'a>(alloc: Global, case: &'a Case, ran: &'a Ran) -> Result<Vec<&'a str>, Trouble> {
+pub fn names_of<'a>(alloc: Global, case: &'a Case, ran: &'a Ran) -> Result<Vec<&'a str>, Trouble> {
     let mut names = Vec::new(alloc);
     for stored in &case.files {
         add_name(&mut names, stored.name.as_str())?;
@@ -56,7 +56,8 @@ fn add_name<'a>(names: &mut Vec<&'a str>, name: &'a str) -> Result<(), Trouble> 
     Ok(())
 }
 
-fn add_difference<'a>(
+/// Adds a place where what came isn't what is wanted.
+pub fn add_difference<'a>(
     found: &mut Vec<Difference<'a>>,
     what: What<'a>,
     wanted: Found<'a>,
@@ -74,10 +75,10 @@ fn add_difference<'a>(
 }
 
 /// Adds the calls that are to fail and that the run didn't make, or made where it was to make none of them.
-fn add_calls(found: &mut Vec<Difference<'_>>, case: &Case, ran: &Ran) -> Result<(), Trouble> {
-    let wanted = !case.failures.never;
+pub fn add_calls(found: &mut Vec<Difference<'_>>, ran: &Ran) -> Result<(), Trouble> {
+    let wanted = !ran.failures.never;
     for target in Target::ALL {
-        if let Some(call) = case.failures.call(target) {
+        if let Some(call) = ran.failures.call(target) {
             let comes = call <= ran.calls(target);
             if comes != wanted {
                 found.push(Difference {
@@ -91,7 +92,8 @@ fn add_calls(found: &mut Vec<Difference<'_>>, case: &Case, ran: &Ran) -> Result<
     Ok(())
 }
 
-fn found_in(bytes: Option<&[u8]>) -> Found<'_> {
+/// What a name holds.
+pub fn found_in(bytes: Option<&[u8]>) -> Found<'_> {
     match bytes {
         Some(bytes) => Found::Bytes(bytes),
         None => Found::NoFile,
@@ -99,7 +101,7 @@ fn found_in(bytes: Option<&[u8]>) -> Found<'_> {
 }
 
 /// The status that is wanted.
-fn status_of(stated: Option<u8>) -> Found<'static> {
+pub fn status_of(stated: Option<u8>) -> Found<'static> {
     match stated {
         Some(status) => Found::Number(status),
         None => Found::NoFile,

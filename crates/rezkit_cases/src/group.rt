@@ -5,6 +5,7 @@ use crate::compare::differences;
 use crate::difference::{Difference, What};
 use crate::reader::read_cases;
 use crate::runner::run_case;
+use crate::swept::sweep_differs;
 use crate::tally::Tally;
 use crate::trouble::Trouble;
 use anyhow::Result;
@@ -51,6 +52,9 @@ pub fn run_group<R: Files + AllocGlobal + Print>(
             }
         };
         tally.add(differs);
+        if let Some(sweep) = &case.sweep {
+            tally.add_sweep(sweep);
+        }
     }
     Ok(())
 }
@@ -64,8 +68,11 @@ fn cases_in<R: Files + AllocGlobal>(rt: &R, name: &str) -> Result<Vec<Case>, Tro
 }
 
 /// Runs a case, and says whether it differs: in a place in which it isn't wrong on purpose, or not in one in which it is.
-/// Both are printed.
+/// Both are printed. A sweep differs where one of its runs does.
 fn print_differences<R: AllocGlobal + Print>(rt: &R, name: &str, case: &Case) -> Result<bool> {
+    if let Some(sweep) = &case.sweep {
+        return sweep_differs(rt, name, case, sweep);
+    }
     let ran = run_case(rt.alloc(), case)?;
     let found = differences(rt.alloc(), case, &ran)?;
     let differs = print_unmeant(rt, name, case, &found)?;

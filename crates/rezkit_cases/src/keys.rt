@@ -4,6 +4,7 @@ use crate::case::{Case, FolderRoom, Left, Piece, Place, Stored, Target};
 use crate::content::{append_bytes, content_of};
 use crate::difference::What;
 use crate::entry::Entry;
+use crate::sweep::Sweep;
 use crate::trouble::Trouble;
 use std::alloc::Global;
 
@@ -43,6 +44,7 @@ fn add_plain(alloc: Global, case: &mut Case, entry: &Entry<'_>) -> Result<(), Tr
         }
         "fail" => add_failure(case, entry),
         "fails" => set_never(case, entry),
+        "sweep" => set_sweep(case, entry),
         "room" => add_room(case, entry),
         "status" => {
             let status = given(entry.argument.parse::<u8>().ok(), entry)?;
@@ -141,6 +143,29 @@ fn add_failure(case: &mut Case, entry: &Entry<'_>) -> Result<(), Trouble> {
     } else {
         set_once(&mut case.failures.err, piece, entry)
     }
+}
+
+/// The calls that fail in turn: `folder READS WRITES`, `out PIECES TAKEN` or `err PIECES TAKEN`.
+fn set_sweep(case: &mut Case, entry: &Entry<'_>) -> Result<(), Trouble> {
+    let mut parts = entry.argument.split_whitespace();
+    let target = target_of(parts.next().unwrap_or(""), entry)?;
+    let first = next_number(parts.next(), entry)?;
+    let second = next_number(parts.next(), entry)?;
+    nothing_more(parts.next(), entry)?;
+    let (reads, puts, taken) = match target {
+        Target::Folder => (first, second, 0),
+        Target::Out | Target::Err => (0, first, second),
+    };
+    let sweep = Sweep {
+        target,
+        reads,
+        puts,
+        taken,
+    };
+    if sweep.calls() == 0 || !sweep.is_short() {
+        return Err(entry.flaw("a sweep of no calls, or of more than 100,000"));
+    }
+    set_once(&mut case.sweep, sweep, entry)
 }
 
 /// That the calls that are to fail never come.

@@ -1,5 +1,6 @@
 //! Runs cases of commands: each is the words of a command, the files that are there, and what the run must leave.
-//! What differs is printed with what was wanted and what came, then the number of cases and of those that differ.
+//! What differs is printed with what was wanted and what came, then the number of cases and of those that differ. A sweep
+//! is a case that is run once for each call that fails in turn.
 //! The status is 1 if one differs or a case file can't be read. The cases are the files `*.cases` of the folder
 //! that is the one argument, else of the current one; README.md has their format.
 //! It rests on `rz_tools` and the folder in memory of `rz_folder`, and is not handed out. A case that is added
@@ -15,6 +16,8 @@ mod group;
 mod keys;
 mod reader;
 mod runner;
+mod sweep;
+mod swept;
 mod tally;
 mod trouble;
 mod watched;

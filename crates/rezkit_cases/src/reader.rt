@@ -34,14 +34,15 @@ pub fn read_cases(alloc: Global, text: &str) -> Result<Vec<Case>, Trouble> {
 /// What a case leaves out, or says for nothing.
 fn flaw_of(case: &Case) -> Option<&'static str> {
     let failures = &case.failures;
+    let names_none = Target::ALL
+        .iter()
+        .all(|target| failures.call(*target).is_none());
     if case.status.is_none() {
         Some("the case states no status")
-    } else if failures.never
-        && Target::ALL
-            .iter()
-            .all(|target| failures.call(*target).is_none())
-    {
+    } else if failures.never && names_none {
         Some("no call is named that never comes")
+    } else if case.sweep.is_some() && !(names_none && case.wrong.is_empty()) {
+        Some("a sweep names no other call that fails, and isn't wrong on purpose")
     } else {
         None
     }

@@ -1,6 +1,6 @@
 //! A case is run over a folder and streams in memory.
 
-use crate::case::{Case, FolderRoom, Piece, Target};
+use crate::case::{Case, Failures, FolderRoom, Piece, Target};
 use crate::trouble::Trouble;
 use crate::watched::{WatchedFolder, WatchedSink};
 use rz_core::Moment;
@@ -26,6 +26,8 @@ const AMPLE_ERR: u32 = 100_000;
 /// What a run left.
 #[derive(Drop)]
 pub struct Ran {
+    /// The calls that were to fail.
+    pub failures: Failures,
     pub status: u8,
     pub folder: WatchedFolder,
     pub out: WatchedSink,
@@ -43,13 +45,17 @@ impl Ran {
     }
 }
 
-/// Runs the command of a case over a folder and two streams in memory.
+/// Runs the command of a case over a folder and two streams in memory, where the calls fail that the case names.
 pub fn run_case(alloc: Global, case: &Case) -> Result<Ran, Trouble> {
+    run_with(alloc, case, case.failures)
+}
+
+/// Runs the command of a case over a folder and two streams in memory, where these calls fail.
+pub fn run_with(alloc: Global, case: &Case, failures: Failures) -> Result<Ran, Trouble> {
     let Some(moment) = Moment::of_unix(case.moment.unwrap_or(0)) else {
         return Err(flaw(case, "the moment is outside 1904 to 2039"));
     };
-    let mut folder = WatchedFolder::over(alloc, folder_of(alloc, case)?);
-    let failures = &case.failures;
+    let mut folder = WatchedFolder::over(alloc, folder_of(alloc, case, failures.folder)?);
     let mut out = sink_of(alloc, case.room.out.unwrap_or(AMPLE_OUT), failures.out)?;
     let mut err = sink_of(alloc, case.room.err.unwrap_or(AMPLE_ERR), failures.err)?;
     let outcome = run(alloc, &case.words, &mut folder, &mut out, &mut err, moment);
@@ -57,6 +63,7 @@ pub fn run_case(alloc: Global, case: &Case) -> Result<Ran, Trouble> {
         return Err(Trouble::NoMemory);
     }
     Ok(Ran {
+        failures,
         status: outcome.status(),
         folder,
         out,
@@ -65,11 +72,11 @@ pub fn run_case(alloc: Global, case: &Case) -> Result<Ran, Trouble> {
 }
 
 /// The folder before the run.
-fn folder_of(alloc: Global, case: &Case) -> Result<MemFolder, Trouble> {
+fn folder_of(alloc: Global, case: &Case, failing: Option<u64>) -> Result<MemFolder, Trouble> {
     let mut folder = MemFolder::new(alloc);
     let room = case.room.folder.unwrap_or(AMPLE_FOLDER);
     folder.reserve(room.writes, room.bytes)?;
-    if let Some(call) = case.failures.folder {
+    if let Some(call) = failing {
         folder.fail_at(call);
     }
     for stored in &case.files {

@@ -92,6 +92,10 @@ impl Sink for WatchedSink {
         self.sink.put(bytes)
     }
 
+    fn flush(&mut self) -> Put {
+        self.sink.flush()
+    }
+
     fn faults(&self) -> u64 {
         self.sink.faults()
     }

@@ -1,0 +1,156 @@
+//! A sweep: a case that is run once for each call that fails in turn, and once more, where none does.
+
+ghost use Rattle.std.specs.Prelude.{◌<◌, ◌^◌};
+
+use crate::case::{Case, Failures, Piece, Target};
+use crate::trouble::Trouble;
+use std::alloc::Global;
+
+/// The most reads of a sweep, and the most writes or pieces.
+const MOST_CALLS: u32 = 100_000;
+
+/// What is said of a read that failed.
+const READ_FAULT: &[u8] = b"rezkit: read fault\n";
+
+/// What is said of a write that failed, or of a piece of the output.
+const WRITE_FAULT: &[u8] = b"rezkit: write fault\n";
+
+/// The status of a run of which a read, a write or a piece of the output failed.
+const FAULT: u8 = 3;
+
+/// The calls of the folder or of a stream that fail in turn, one in each run.
+#[derive(Clone, Copy)]
+pub struct Sweep {
+    pub target: Target,
+    /// The number of reads of the folder, which come before its writes; 0 for a stream.
+    pub reads: u32,
+    /// The number of writes of the folder, or of pieces of the stream.
+    pub puts: u32,
+    /// How many bytes a piece takes that fails.
+    pub taken: u32,
+}
+
+/// Which files a run must leave.
+#[derive(Clone, Copy, PartialEq, Eq)]
+pub enum Files {
+    /// All as before the run.
+    Before,
+    /// Those that were written as the case wants them, and all others as before.
+    Written,
+    /// All as the case wants them.
+    Wanted,
+}
+
+/// What a stream must hold.
+#[derive(Drop)]
+pub struct Held {
+    pub bytes: Vec<u8>,
+    /// Whether a front of the bytes will do.
+    pub is_front: bool,
+}
+
+/// What a run must leave of which a call failed.
+#[derive(Drop)]
+pub struct Demand {
+    pub status: Option<u8>,
+    pub files: Files,
+    pub out: Held,
+    pub err: Held,
+}
+
+impl Sweep {
+    /// Whether it has few enough calls to be run.
+    pub fn is_short(&self) -> bool {
+        self.reads <= MOST_CALLS && self.puts <= MOST_CALLS
+    }
+
+    /// The number of calls that fail in turn.
+    pub fn calls(&self) -> u64
+        ensures { result < 2 ^ 33 }
+    {
+        u64::from(self.reads) + u64::from(self.puts)
+    }
+
+    /// The failures of the run of this number, from 1. In the run after all calls the one that is named never comes.
+    pub fn failures(&self, run: u64) -> Failures {
+        let mut failures = Failures::default();
+        failures.never = run > self.calls();
+        let piece = Piece {
+            call: run,
+            taken: self.taken,
+        };
+        match self.target {
+            Target::Folder => failures.folder = Some(run),
+            Target::Out => failures.out = Some(piece),
+            Target::Err => failures.err = Some(piece),
+        }
+        failures
+    }
+
+    /// What the run of this number must leave, whose call of this number failed: after a read all files as before, no
+    /// output, and the line of a read fault alone; after a write the files before it, all that the command says, and the
+    /// line of a write fault; after a piece of the output a front of it, and that line too; and after a piece of what is
+    /// said only a front of it.
+    pub fn demand(&self, alloc: Global, case: &Case, run: u64) -> Result<Demand, Trouble> {
+        let out = stated(alloc, &case.out)?;
+        let mut err = stated(alloc, &case.err)?;
+        if self.target == Target::Err {
+            return Ok(Demand {
+                status: case.status,
+                files: Files::Wanted,
+                out: whole(out),
+                err: front(err),
+            });
+        }
+        if run <= u64::from(self.reads) {
+            return Ok(Demand {
+                status: Some(FAULT),
+                files: Files::Before,
+                out: whole(Vec::new(alloc)),
+                err: whole(bytes_of(alloc, READ_FAULT)?),
+            });
+        }
+        err.extend_from_slice(WRITE_FAULT)?;
+        Ok(Demand {
+            status: Some(FAULT),
+            files: if self.target == Target::Folder {
+                Files::Written
+            } else {
+                Files::Wanted
+            },
+            out: front(out),
+            err: whole(err),
+        })
+    }
+}
+
+/// What a stream must hold, whole.
+fn whole(bytes: Vec<u8>) -> Held {
+    Held {
+        bytes,
+        is_front: false,
+    }
+}
+
+/// What a stream must hold, or a front of it.
+fn front(bytes: Vec<u8>) -> Held {
+    Held {
+        bytes,
+        is_front: true,
+    }
+}
+
+/// What a case states of a stream: nothing, unless it says more.
+fn stated(alloc: Global, stream: &Option<Vec<u8>>) -> Result<Vec<u8>, Trouble> {
+    match stream {
+        Some(bytes) => bytes_of(alloc, bytes.as_slice()),
+        None => Ok(Vec::new(alloc)),
+    }
+}
+
+/// A copy of these bytes.
+fn bytes_of(alloc: Global, bytes: &[u8]) -> Result<Vec<u8>, Trouble> {
+    let mut copy = Vec::new(alloc);
+    copy.extend_from_slice(bytes)?;
+    Ok(copy)
+}

@@ -1,0 +1,104 @@
+//! The runs of a sweep, and what each left otherwise than it must.
+
+use crate::case::Case;
+use crate::compare::{add_calls, add_difference, differences, found_in, names_of, status_of};
+use crate::difference::{Difference, Found, What};
+use crate::runner::{Ran, run_with};
+use crate::sweep::{Demand, Files, Held, Sweep};
+use crate::trouble::Trouble;
+use anyhow::Result;
+use std::alloc::Global;
+
+/// Runs a case once for each call that fails in turn, and once more, where none does. Prints what the first run that
+/// differs left otherwise, and says whether there is one.
+pub fn sweep_differs<R: AllocGlobal + Print>(
+    rt: &R,
+    name: &str,
+    case: &Case,
+    sweep: &Sweep,
+) -> Result<bool> {
+    for failed in 0..sweep.calls() {
+        if run_differs(rt, name, case, sweep, failed + 1)? {
+            return Ok(true);
+        }
+    }
+    run_differs(rt, name, case, sweep, sweep.calls() + 1)
+}
+
+/// Prints what the run of this number left otherwise than it must, and says whether there is anything.
+fn run_differs<R: AllocGlobal + Print>(
+    rt: &R,
+    name: &str,
+    case: &Case,
+    sweep: &Sweep,
+    run: u64,
+) -> Result<bool> {
+    let alloc = rt.alloc();
+    let ran = run_with(alloc, case, sweep.failures(run))?;
+    let demand = sweep.demand(alloc, case, run)?;
+    let found = if run > sweep.calls() {
+        differences(alloc, case, &ran)?
+    } else {
+        unmet(alloc, case, &ran, &demand)?
+    };
+    let line = case.line;
+    let title = case.name.as_str();
+    for difference in &found {
+        println!(rt; "{name}:{line}: {title}: run {run}: {difference}")?;
+    }
+    Ok(!found.is_empty())
+}
+
+/// What a run of which a call failed left otherwise than is demanded.
+fn unmet<'a>(
+    alloc: Global,
+    case: &'a Case,
+    ran: &'a Ran,
+    demand: &'a Demand,
+) -> Result<Vec<Difference<'a>>, Trouble> {
+    let mut found = Vec::new(alloc);
+    if demand.status != Some(ran.status) {
+        found.push(Difference {
+            what: What::Status,
+            wanted: status_of(demand.status),
+            came: Found::Number(ran.status),
+        })?;
+    }
+    for name in &names_of(alloc, case, ran)? {
+        let wanted = found_in(demanded_file(case, ran, demand.files, name));
+        let came = found_in(ran.folder.folder.bytes(name));
+        add_difference(&mut found, What::File(name), wanted, came)?;
+    }
+    add_stream(&mut found, What::Out, &demand.out, ran.out.sink.bytes())?;
+    add_stream(&mut found, What::Err, &demand.err, ran.err.sink.bytes())?;
+    add_calls(&mut found, ran)?;
+    Ok(found)
+}
+
+/// What the name must hold after a run of which a call failed.
+fn demanded_file<'a>(case: &'a Case, ran: &Ran, files: Files, name: &str) -> Option<&'a [u8]> {
+    let is_written = ran
+        .folder
+        .written
+        .iter()
+        .any(|written| written.as_str() == name);
+    if files == Files::Wanted || files == Files::Written && is_written {
+        case.wanted(name)
+    } else {
+        case.before(name)
+    }
+}
+
+/// Adds what a stream holds otherwise than it must.
+fn add_stream<'a>(
+    found: &mut Vec<Difference<'a>>,
+    what: What<'a>,
+    held: &'a Held,
+    came: &'a [u8],
+) -> Result<(), Trouble> {
+    if held.is_front && held.bytes.starts_with(came) {
+        return Ok(());
+    }
+    let wanted = Found::Bytes(held.bytes.as_slice());
+    add_difference(found, what, wanted, Found::Bytes(came))
+}
