@@ -45,6 +45,17 @@ def seconds_of_children():
     return usage.ru_utime + usage.ru_stime
 
 
+def limits_of(addresses):
+    """What gives a run so many bytes of addresses."""
+    return lambda: resource.setrlimit(resource.RLIMIT_AS, (addresses, addresses))
+
+
+def peak_in(told):
+    """The peak memory in bytes that is told in this file."""
+    with open(told) as lines:
+        return 1024 * int(re.search(r"Maximum resident set size \(kbytes\): (\d+)", lines.read())[1])
+
+
 class Bench:
     """A program, and whether all of its runs so far are as wanted."""
 
@@ -54,16 +65,12 @@ class Bench:
 
     def run(self, folder, words, addresses, quiet):
         """The seconds of the processor, the peak memory in bytes, and the status of a run in a folder."""
-        def limited():
-            resource.setrlimit(resource.RLIMIT_AS, (addresses, addresses))
         command = [TIME, "-v", "-o", "told", "timeout", "-s", "KILL", str(SECONDS), self.program] + words
         with open(os.path.join(folder, "out"), "wb") as out:
             before = seconds_of_children()
-            status = subprocess.run(command, cwd=folder, stdout=out, stderr=quiet, preexec_fn=limited).returncode
+            status = subprocess.run(command, cwd=folder, stdout=out, stderr=quiet, preexec_fn=limits_of(addresses)).returncode
             took = seconds_of_children() - before
-        with open(os.path.join(folder, "told")) as lines:
-            found = re.search(r"Maximum resident set size \(kbytes\): (\d+)", lines.read())
-        return took, 1024 * int(found[1]), status
+        return took, peak_in(os.path.join(folder, "told")), status
 
     def measure(self, name, files, words, made, wanted, seconds=None, memory=None, status=0):
         """Measures runs over these files, with this status, and compares what they leave in a file (None: there is none); they
