@@ -31,7 +31,7 @@ pub use fault::{Fault, Kept, Mark};
 pub use file_names::FileNames;
 pub use laws::one_date;
 pub use list::{Bytes, Listing};
-pub use message::write_fault;
+pub use message::{fault_name, write_fault};
 pub use moment::Moment;
 pub use number::{
     append_u16, append_u24, append_u32, append_zeros, rest_at, u8_at, u16_at, u24_at, u32_at,

@@ -57,7 +57,7 @@ fn append_rule(number: u16, line: &mut Bytes) -> Result<(), NoMemory>
     line.append(severity(number))?;
     write_decimal(u64::from(number), line)?;
     line.append(b" ")?;
-    line.append(fault_name(number).unwrap())?;
+    line.append(fault_name(number).unwrap().as_bytes())?;
     Ok(())
 }
 
@@ -105,8 +105,9 @@ fn append_kept(kept: &Kept, line: &mut Bytes) -> Result<(), NoMemory>
     Ok(())
 }
 
-/// The name of a fault in messages.
-fn fault_name(number: u16) -> Option<&'static [u8]>
+/// The name that messages give the fault of a number, as `MissingFile` for 101; it is `None` exactly for a number that is no
+/// fault's. It takes no memory.
+pub fn fault_name(number: u16) -> Option<&'static str>
     ensures { option_copied result ≡ fault_name number }
 {
     match number {
@@ -118,120 +119,120 @@ fn fault_name(number: u16) -> Option<&'static [u8]>
     }
 }
 
-fn source_fault(number: u16) -> Option<&'static [u8]>
+fn source_fault(number: u16) -> Option<&'static str>
     ensures { option_copied result ≡ source_fault number }
 {
     match number {
-        101 => Some(b"MissingFile"),
-        102 => Some(b"BadText"),
-        103 => Some(b"IncludeDepth"),
-        104 => Some(b"BadDirective"),
-        105 => Some(b"OpenIf"),
-        106 => Some(b"StrayElse"),
-        107 => Some(b"OpenComment"),
-        108 => Some(b"OpenString"),
-        109 => Some(b"BadEscape"),
-        110 => Some(b"BadNumber"),
-        111 => Some(b"BadCharacter"),
-        112 => Some(b"ExpansionTooLong"),
-        113 => Some(b"BadHex"),
-        114 => Some(b"BadCondition"),
-        115 => Some(b"WordTooLong"),
+        101 => Some("MissingFile"),
+        102 => Some("BadText"),
+        103 => Some("IncludeDepth"),
+        104 => Some("BadDirective"),
+        105 => Some("OpenIf"),
+        106 => Some("StrayElse"),
+        107 => Some("OpenComment"),
+        108 => Some("OpenString"),
+        109 => Some("BadEscape"),
+        110 => Some("BadNumber"),
+        111 => Some("BadCharacter"),
+        112 => Some("ExpansionTooLong"),
+        113 => Some("BadHex"),
+        114 => Some("BadCondition"),
+        115 => Some("WordTooLong"),
         _ => None,
     }
 }
 
-fn statement_fault(number: u16) -> Option<&'static [u8]>
+fn statement_fault(number: u16) -> Option<&'static str>
     ensures { option_copied result ≡ statement_fault number }
 {
     match number {
-        201 => Some(b"Syntax"),
-        202 => Some(b"NoType"),
-        203 => Some(b"UnknownName"),
-        204 => Some(b"BadId"),
-        205 => Some(b"NeedsAppend"),
-        206 => Some(b"WrongKind"),
-        207 => Some(b"OutOfRange"),
-        208 => Some(b"TooFew"),
-        209 => Some(b"TooMany"),
-        210 => Some(b"NoCase"),
-        211 => Some(b"ZeroDivisor"),
-        212 => Some(b"UnknownLabel"),
-        213 => Some(b"LaterData"),
-        214 => Some(b"SizeLater"),
-        215 => Some(b"BadShift"),
-        216 => Some(b"TextTooLong"),
-        217 => Some(b"ArrayCount"),
-        218 => Some(b"NoSuchResource"),
-        219 => Some(b"Protected"),
-        220 => Some(b"ReadOnlyMap"),
-        221 => Some(b"TooDeep"),
-        222 => Some(b"BadFormat"),
-        223 => Some(b"BadIndex"),
+        201 => Some("Syntax"),
+        202 => Some("NoType"),
+        203 => Some("UnknownName"),
+        204 => Some("BadId"),
+        205 => Some("NeedsAppend"),
+        206 => Some("WrongKind"),
+        207 => Some("OutOfRange"),
+        208 => Some("TooFew"),
+        209 => Some("TooMany"),
+        210 => Some("NoCase"),
+        211 => Some("ZeroDivisor"),
+        212 => Some("UnknownLabel"),
+        213 => Some("LaterData"),
+        214 => Some("SizeLater"),
+        215 => Some("BadShift"),
+        216 => Some("TextTooLong"),
+        217 => Some("ArrayCount"),
+        218 => Some("NoSuchResource"),
+        219 => Some("Protected"),
+        220 => Some("ReadOnlyMap"),
+        221 => Some("TooDeep"),
+        222 => Some("BadFormat"),
+        223 => Some("BadIndex"),
         _ => None,
     }
 }
 
-fn declaration_fault(number: u16) -> Option<&'static [u8]>
+fn declaration_fault(number: u16) -> Option<&'static str>
     ensures { option_copied result ≡ declaration_fault number }
 {
     match number {
-        230 => Some(b"LabelTwice"),
-        231 => Some(b"ArrayTwice"),
-        232 => Some(b"CaseTwice"),
-        233 => Some(b"KeyMissing"),
-        234 => Some(b"KeyWidth"),
-        235 => Some(b"KeyDistance"),
-        236 => Some(b"KeyTwice"),
-        237 => Some(b"ElementWithoutValues"),
-        238 => Some(b"BadWidth"),
-        239 => Some(b"NoSuchType"),
-        240 => Some(b"Redeclared"),
+        230 => Some("LabelTwice"),
+        231 => Some("ArrayTwice"),
+        232 => Some("CaseTwice"),
+        233 => Some("KeyMissing"),
+        234 => Some("KeyWidth"),
+        235 => Some("KeyDistance"),
+        236 => Some("KeyTwice"),
+        237 => Some("ElementWithoutValues"),
+        238 => Some("BadWidth"),
+        239 => Some("NoSuchType"),
+        240 => Some("Redeclared"),
         _ => None,
     }
 }
 
-fn fork_fault(number: u16) -> Option<&'static [u8]>
+fn fork_fault(number: u16) -> Option<&'static str>
     ensures { option_copied result ≡ fork_fault number }
 {
     match number {
-        301 => Some(b"ResourceTooLong"),
-        302 => Some(b"DataFull"),
-        303 => Some(b"MapFull"),
-        304 => Some(b"NamesFull"),
-        401 => Some(b"ShortHeader"),
-        402 => Some(b"DataAreaOutside"),
-        403 => Some(b"MapOutside"),
-        404 => Some(b"ShortMap"),
-        405 => Some(b"TypeListOutside"),
-        406 => Some(b"TypesOutside"),
-        407 => Some(b"ReferencesOutside"),
-        408 => Some(b"DataOutside"),
-        409 => Some(b"NameOutside"),
-        410 => Some(b"Repeated"),
+        301 => Some("ResourceTooLong"),
+        302 => Some("DataFull"),
+        303 => Some("MapFull"),
+        304 => Some("NamesFull"),
+        401 => Some("ShortHeader"),
+        402 => Some("DataAreaOutside"),
+        403 => Some("MapOutside"),
+        404 => Some("ShortMap"),
+        405 => Some("TypeListOutside"),
+        406 => Some("TypesOutside"),
+        407 => Some("ReferencesOutside"),
+        408 => Some("DataOutside"),
+        409 => Some("NameOutside"),
+        410 => Some("Repeated"),
         _ => None,
     }
 }
 
-fn bridge_fault(number: u16) -> Option<&'static [u8]>
+fn bridge_fault(number: u16) -> Option<&'static str>
     ensures { option_copied result ≡ bridge_fault number }
 {
     match number {
-        421 => Some(b"ShortHeader"),
-        422 => Some(b"BadMagic"),
-        423 => Some(b"EntryOutside"),
-        424 => Some(b"BadCrc"),
-        425 => Some(b"BadName"),
-        426 => Some(b"Truncated"),
-        427 => Some(b"NewerVersion"),
-        428 => Some(b"ForkTooLong"),
-        441 => Some(b"NoStart"),
-        442 => Some(b"BadLetter"),
-        443 => Some(b"NoEnd"),
-        444 => Some(b"BadCrc"),
-        445 => Some(b"Truncated"),
-        446 => Some(b"RunAtStart"),
-        447 => Some(b"BadName"),
+        421 => Some("ShortHeader"),
+        422 => Some("BadMagic"),
+        423 => Some("EntryOutside"),
+        424 => Some("BadCrc"),
+        425 => Some("BadName"),
+        426 => Some("Truncated"),
+        427 => Some("NewerVersion"),
+        428 => Some("ForkTooLong"),
+        441 => Some("NoStart"),
+        442 => Some("BadLetter"),
+        443 => Some("NoEnd"),
+        444 => Some("BadCrc"),
+        445 => Some("Truncated"),
+        446 => Some("RunAtStart"),
+        447 => Some("BadName"),
         _ => None,
     }
 }
