@@ -19,9 +19,10 @@ pub zero_holds : (bytes : List ℕ) (place : ℕ) → number 1 bytes place ≡ 0
 unfolding not_zero
 zero_holds bytes place is = ap (λ (byte : ℕ). broken (nat_lt 0 byte) (fault 422 place byte)) is
 
-pub version_holds : (bytes : List ℕ) (place : ℕ) → number 1 bytes place ≡ 129 → below_129 bytes place ≡ None
+pub version_holds : (bytes : List ℕ) (place : ℕ) → 129 ≤ number 1 bytes place → below_129 bytes place ≡ None
 unfolding below_129
-version_holds bytes place is = ap (λ (byte : ℕ). broken (nat_lt byte 129) (fault 422 place byte)) is
+version_holds bytes place most =
+    unbroken (nat_lt (number 1 bytes place) 129) (fault 422 place (number 1 bytes place)) (le-ltb (number 1 bytes place) 129 most)
 
 pub known_holds : (bytes : List ℕ) → number 1 bytes 123 ≡ 129 → newer_version bytes ≡ None
 unfolding newer_version

@@ -7,11 +7,11 @@ use Rattle.rz_core.specs.Numbers.{be, length-be_2, length-be_4, number}
 use Rattle.rz_bridge.specs.Check.{crc_of}
 use Rattle.rz_bridge.specs.Places.{signed, piece, filled, with_filler}
 use Rattle.rz_bridge.specs.Ranges.{IsStored, AreDates}
-use Rattle.rz_bridge.specs.MacBinary.{data_place, data_length, resource_place, resource_length, header_torn, truncated, macbin_torn, macbin_finder, macbin_fields, macbin_content, macbin_names, macbin_place, macbin_lengths, macbin_versions, macbin_header, macbin_image, macbin_carried}
+use Rattle.rz_bridge.specs.MacBinary.{data_place, data_length, resource_place, resource_length, header_torn, truncated, macbin_torn, around, macbin_extra, macbin_finder, macbin_fields, macbin_content, macbin_names, macbin_place, macbin_lengths, macbin_versions, macbin_header, macbin_image, macbin_carried}
 use Rattle.rz_bridge.specs.declared.file.MacFile.{MacFile}
 use Rattle.rz_core.proofs.Placed.{Has, has_all, has_left, has_at, number_is, byte_is, has_within}
 use Rattle.rz_bridge.proofs.Standing.{AreAt, all_at, piece_is, signed_is}
-use Rattle.rz_bridge.proofs.Sizes.{length-macbin_names, length-macbin_place, length-macbin_lengths, length-macbin_header, length-with_filler, filled_most}
+use Rattle.rz_bridge.proofs.Sizes.{length-piece, length-macbin_names, length-macbin_place, length-macbin_lengths, length-macbin_header, length-with_filler, filled_most}
 use Rattle.rz_bridge.proofs.Holds.{long_holds, zero_holds, version_holds, known_holds, check_holds, name_holds, fork_holds}
 
 -- what can be written, with the numbers as the code holds them
@@ -37,7 +37,7 @@ module _ (file : MacFile) (writable : IsWritable file) where
       all_at image 0 (macbin_header file) (be 2 (crc_of 0 (macbin_header file)) ∷ be 2 0 ∷ with_filler file.data_fork ∷ with_filler file.res_fork ∷ []) (has_all image)
 
   header_size : length (macbin_header file) ≡ 124
-  header_size = length-macbin_header file writable.name
+  header_size = length-macbin_header file writable.name writable.stored.extra
 
   header : Has image 0 (macbin_names file) × AreAt image (0 + length (macbin_names file)) (macbin_place file ∷ macbin_lengths file ∷ macbin_versions file ∷ [])
   header = all_at image 0 (macbin_names file) (macbin_place file ∷ macbin_lengths file ∷ macbin_versions file ∷ []) whole.0
@@ -160,21 +160,41 @@ module _ (file : MacFile) (writable : IsWritable file) where
 
   -- The versions.
 
-  versions : Has image 101 ((file.finder.flags % 256) ∷ []) × AreAt image 102 (replicate 18 0 ∷ be 2 0 ∷ (129 ∷ []) ∷ (129 ∷ []) ∷ [])
+  versions : Has image 101 ((file.finder.flags % 256) ∷ []) × AreAt image 102 (be 4 1833060686 ∷ piece file.finder.extra 8 2 ∷ replicate 12 0 ∷ be 2 0 ∷ (130 ∷ []) ∷ (129 ∷ []) ∷ [])
   unfolding macbin_versions
-  versions = all_at image 101 ((file.finder.flags % 256) ∷ []) (replicate 18 0 ∷ be 2 0 ∷ (129 ∷ []) ∷ (129 ∷ []) ∷ []) versions_at
+  versions =
+      all_at image 101 ((file.finder.flags % 256) ∷ []) (be 4 1833060686 ∷ piece file.finder.extra 8 2 ∷ replicate 12 0 ∷ be 2 0 ∷ (130 ∷ []) ∷ (129 ∷ []) ∷ []) versions_at
 
   low_is : number 1 image 101 ≡ file.finder.flags % 256
   low_is = byte_is image 101 (file.finder.flags % 256) versions.0
 
-  secondary_is : number 2 image 120 ≡ 0
-  secondary_is = number_is image 2 120 0 versions.1.1.0 (omega arith)
+  two_size : length (piece file.finder.extra 8 2) ≡ 2
+  two_size = length-piece file.finder.extra 8 2 (omega (arith, writable.stored.extra))
 
-  version_is : number 1 image 122 ≡ 129
-  version_is = byte_is image 122 129 (has_at image _ 122 (129 ∷ []) (omega (arith, length-be_2)) versions.1.1.1.0)
+  secondary_is : number 2 image 120 ≡ 0
+  secondary_is =
+      number_is image 2 120 0 (has_at image _ 120 (be 2 0) (omega (arith, length-be_4, two_size, length-replicate {A = ℕ})) versions.1.1.1.1.0) (omega arith)
+
+  version_is : number 1 image 122 ≡ 130
+  version_is =
+      byte_is image 122 130 (has_at image _ 122 (130 ∷ []) (omega (arith, length-be_4, two_size, length-replicate {A = ℕ}, length-be_2)) versions.1.1.1.1.1.0)
 
   least_is : number 1 image 123 ≡ 129
-  least_is = byte_is image 123 129 (has_at image _ 123 (129 ∷ []) (omega (arith, length-be_2)) versions.1.1.1.1.0)
+  least_is =
+      byte_is image 123 129 (has_at image _ 123 (129 ∷ []) (omega (arith, length-be_4, two_size, length-replicate {A = ℕ}, length-be_2)) versions.1.1.1.1.1.1.0)
+
+  -- the two bytes of the last 16
+  signature_is : number 4 image 102 ≡ 1833060686
+  signature_is = number_is image 4 102 1833060686 versions.1.0 (omega arith)
+
+  two_is : piece image 106 2 ≡ piece file.finder.extra 8 2
+  two_is =
+      ap (piece image 106) (sym two_size)
+      ∙ piece_is image 106 (piece file.finder.extra 8 2) (has_at image _ 106 (piece file.finder.extra 8 2) (omega (arith, length-be_4)) versions.1.1.0)
+
+  extra_is : macbin_extra image ≡ around (piece file.finder.extra 8 2)
+  unfolding macbin_extra
+  extra_is = λ i. if signature_is i == 1833060686 then around (two_is i) else replicate 16 0
 
   -- The check.
 
@@ -233,8 +253,8 @@ module _ (file : MacFile) (writable : IsWritable file) where
       let b = zero_holds image 0 first_is in
       let c = zero_holds image 74 second_is in
       let d = zero_holds image 82 third_is in
-      let e = version_holds image 122 version_is in
-      let f = version_holds image 123 least_is in
+      let e = version_holds image 122 (omega (arith, version_is)) in
+      let f = version_holds image 123 (omega (arith, least_is)) in
       let g = known_holds image least_is in
       let h = check_holds image check_is in
       let j = name_holds image (length file.name) name_length_is writable.some writable.name in
@@ -265,7 +285,7 @@ module _ (file : MacFile) (writable : IsWritable file) where
       vertical = vertical_is i;
       horizontal = horizontal_is i;
       folder = folder_is i;
-      extra = replicate 16 0;
+      extra = extra_is i;
     };
     locked = locked_is i;
     created = created_is i;

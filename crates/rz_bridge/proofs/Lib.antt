@@ -1,4 +1,4 @@
-pub mod HeaderFile
+pub mod Again
 pub mod Holds
 pub mod Image
 pub mod Loops

@@ -4,7 +4,7 @@ use Rattle.std.proofs.lemmas.Bool.{eq-eqb, ne_eqb}
 use Rattle.std.specs.List.{find}
 use Rattle.rz_core.specs.Lists.{or_else, first_of}
 use Rattle.rz_core.specs.Numbers.{items_from}
-use Rattle.rz_bridge.specs.AppleDouble.{entry_at, entry_count, entries}
+use Rattle.rz_bridge.specs.Apple.{entry_at, entry_count, entries}
 use Rattle.rz_bridge.specs.declared.entry.Entry.{Entry}
 
 -- the entries from a position on

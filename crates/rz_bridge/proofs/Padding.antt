@@ -3,7 +3,7 @@ use Rattle.std.proofs.Common.{◌≡◌, ℕ, ◌+◌, ◌-◌, ◌≤◌, ◌<�
 use Rattle.std.proofs.lemmas.Bool.{cases_lt}
 use Rattle.std.proofs.lemmas.List.{take_all, drop-replicate, take-replicate, take-append-le, append-nil, length-take-le}
 use Rattle.std.proofs.Math.Seq.{take-append-add}
-use Rattle.rz_bridge.specs.AppleDouble.{info_of}
+use Rattle.rz_bridge.specs.Apple.{info_of}
 
 -- few bytes are filled
 pub filled_info : (bytes : List ℕ) → length bytes ≤ 32 → bytes ++ drop (length bytes) (replicate 32 0) ≡ info_of bytes

@@ -1,13 +1,15 @@
--- The entries of an AppleDouble that was written, and when its rules hold.
+-- The entries of a file that was written, and when its rules hold.
 use Rattle.std.proofs.Common.{◌≡◌, ℕ, ◌+◌, ◌*◌, ◌^◌, ◌<◌, ◌≤◌, ◌==◌, ◌&&◌, ◌||◌, nat_lt, if◌then◌else◌, not, Bool, true, false, List, [], ◌∷◌, ◌++◌, length, map, replicate, Some, None, refl, sym, ap, subst, ◌∙◌, arith, append_assoc, length-append}
 use Rattle.std.proofs.lemmas.List.{length-replicate}
 use Rattle.std.proofs.lemmas.List.Concat.{flat_map-append}
 use Rattle.std.specs.List.{find, AllByRecursion}
-use Rattle.std.proofs.lemmas.Bool.{le-ltb}
+use Rattle.std.proofs.lemmas.Bool.{eq-eqb, le-ltb}
 use Rattle.rz_core.specs.Lists.{with_front, each_with_front, or_else, first_of}
 use Rattle.rz_core.specs.Numbers.{be, length-be_2, length-be_4, number, items_from}
 use Rattle.rz_bridge.specs.Faults.{fault, broken}
-use Rattle.rz_bridge.specs.AppleDouble.{entry_at, entry_count, entries, entry_bytes, part, short_header, bad_magic, newer_version, entries_outside, entry_outside, double_torn, Part, bytes_of, entry_of, part_entry, double_start, image_of}
+use Rattle.rz_bridge.specs.Apple.{entry_at, entry_count, entries, entry_bytes, part, short_header, magic_of, bad_magic, newer_version, entries_outside, entry_outside, apple_torn, Part, bytes_of, entry_of, part_entry, apple_start, image_of}
+use Rattle.rz_bridge.specs.declared.apple.AppleForm.{AppleForm}
+use Rattle.rz_bridge.specs.declared.apple.AppleForm.TheVariants.{Double, Single}
 use Rattle.rz_bridge.specs.declared.entry.Entry.{Entry}
 use Rattle.rz_core.proofs.Placed.{Has, has_all, has_left, has_right, has_at, number_is}
 use Rattle.rz_bridge.proofs.Standing.{AreAt, all_at, piece_is}
@@ -19,9 +21,9 @@ pub length-entry_of : (id offset count : ℕ) → length (entry_of id offset cou
 unfolding entry_of
 length-entry_of id offset count = omega (arith, length-append {A = ℕ}, length-be_4)
 
-pub length-double_start : (count : ℕ) → length (double_start count) ≡ 26
-unfolding double_start
-length-double_start count = omega (arith, length-append {A = ℕ}, length-replicate {A = ℕ}, length-be_2, length-be_4)
+pub length-apple_start : (form : AppleForm) (count : ℕ) → length (apple_start form count) ≡ 26
+unfolding apple_start
+length-apple_start form count = omega (arith, length-append {A = ℕ}, length-replicate {A = ℕ}, length-be_2, length-be_4)
 
 length-entries : (count : ℕ) (before parts : List Part) → length (with_front (part_entry count) before parts) ≡ 12 * length parts
 length-entries count before [] = omega arith
@@ -36,14 +38,14 @@ bytes_append before parts = ap length (flat_map-append (λ (p : Part). p.bytes) 
 bytes_split : (before : List Part) (p : Part) (after : List Part) → length (bytes_of (before ++ p ∷ after)) ≡ length (bytes_of before) + length p.bytes + length (bytes_of after)
 bytes_split before p after = omega (arith, bytes_append before (p ∷ after), length-append p.bytes (bytes_of after))
 
-pub length-image_of : (parts : List Part) → length (image_of parts) ≡ 26 + 12 * length parts + length (bytes_of parts)
-length-image_of parts =
+pub length-image_of : (form : AppleForm) (parts : List Part) → length (image_of form parts) ≡ 26 + 12 * length parts + length (bytes_of parts)
+length-image_of form parts =
     let heads = each_with_front (part_entry (length parts)) parts in
     omega (
       arith,
-      length-append (double_start (length parts) ++ heads) (bytes_of parts),
-      length-append (double_start (length parts)) heads,
-      length-double_start (length parts),
+      length-append (apple_start form (length parts) ++ heads) (bytes_of parts),
+      length-append (apple_start form (length parts)) heads,
+      length-apple_start form (length parts),
       length-entries (length parts) [] parts,
     )
 
@@ -90,6 +92,10 @@ entries_are bytes count place before (p ∷ ps) has ids small =
     (has_right bytes place (place + 12) own rest (omega (arith, length-entry_of p.id offset (length p.bytes))) has) ids.1 shifted in
     λ i. first i ∷ later i
 
+magic_fits : (form : AppleForm) → magic_of form < 2 ^ 32
+magic_fits Double = omega arith
+magic_fits Single = omega arith
+
 -- The bytes of a part.
 
 -- the bytes of the first part with an id; where there is none, no bytes
@@ -134,9 +140,9 @@ all_within bytes count place before (p ∷ ps) ends =
     let later = all_within bytes count (place + 12) (before ++ p ∷ []) ps shifted in
     λ i. or_else (first i) (later i)
 
-module _ (parts : List Part) (ids : AllByRecursion HasId parts) (few : length parts < 2 ^ 16) (small : 26 + 12 * length parts + length (bytes_of parts) < 2 ^ 32) where
+module _ (form : AppleForm) (parts : List Part) (ids : AllByRecursion HasId parts) (few : length parts < 2 ^ 16) (small : 26 + 12 * length parts + length (bytes_of parts) < 2 ^ 32) where
   abbrev image : List ℕ
-  image = image_of parts
+  image = image_of form parts
 
   count : ℕ
   count = length parts
@@ -144,15 +150,15 @@ module _ (parts : List Part) (ids : AllByRecursion HasId parts) (few : length pa
   abbrev heads : List ℕ
   heads = each_with_front (part_entry (length parts)) parts
 
-  whole : Has image 0 (double_start (length parts)) × AreAt image (0 + length (double_start (length parts))) (heads ∷ bytes_of parts ∷ [])
-  whole = all_at image 0 (double_start (length parts)) (heads ∷ bytes_of parts ∷ []) (has_all image)
+  whole : Has image 0 (apple_start form (length parts)) × AreAt image (0 + length (apple_start form (length parts))) (heads ∷ bytes_of parts ∷ [])
+  whole = all_at image 0 (apple_start form (length parts)) (heads ∷ bytes_of parts ∷ []) (has_all image)
 
-  start : Has image 0 (be 4 333319) × AreAt image (0 + length (be 4 333319)) (be 4 131072 ∷ replicate 16 0 ∷ be 2 (length parts) ∷ [])
-  unfolding double_start
-  start = all_at image 0 (be 4 333319) (be 4 131072 ∷ replicate 16 0 ∷ be 2 (length parts) ∷ []) whole.0
+  start : Has image 0 (be 4 (magic_of form)) × AreAt image (0 + length (be 4 (magic_of form))) (be 4 131072 ∷ replicate 16 0 ∷ be 2 (length parts) ∷ [])
+  unfolding apple_start
+  start = all_at image 0 (be 4 (magic_of form)) (be 4 131072 ∷ replicate 16 0 ∷ be 2 (length parts) ∷ []) whole.0
 
-  magic_is : number 4 image 0 ≡ 333319
-  magic_is = number_is image 4 0 333319 start.0 (omega arith)
+  magic_is : number 4 image 0 ≡ magic_of form
+  magic_is = number_is image 4 0 (magic_of form) start.0 (magic_fits form)
 
   version_is : number 4 image 4 ≡ 131072
   version_is = number_is image 4 4 131072 (has_at image _ 4 (be 4 131072) (omega (arith, length-be_4)) start.1.0) (omega arith)
@@ -166,13 +172,13 @@ module _ (parts : List Part) (ids : AllByRecursion HasId parts) (few : length pa
   -- where the bytes of the parts begin
   pub bytes_at : Has image (26 + 12 * length parts) (bytes_of parts)
   bytes_at =
-      has_at image _ (26 + 12 * length parts) (bytes_of parts) (omega (arith, length-double_start (length parts), length-entries (length parts) [] parts)) whole.1.1.0
+      has_at image _ (26 + 12 * length parts) (bytes_of parts) (omega (arith, length-apple_start form (length parts), length-entries (length parts) [] parts)) whole.1.1.0
 
   pub entries_read : entries image ≡ read_entries (length parts) 26 [] parts
   unfolding entries
   entries_read =
       ap (items_from (entry_at image) 12 26) count_is
-      ∙ entries_are image (length parts) 26 [] parts (has_at image _ 26 heads (omega (arith, length-double_start (length parts))) whole.1.0) ids small
+      ∙ entries_are image (length parts) 26 [] parts (has_at image _ 26 heads (omega (arith, length-apple_start form (length parts))) whole.1.0) ids small
 
   -- what is read of an id: the bytes of its first part
   pub part_of_image : (id : ℕ) → part image id ≡ bytes_with id parts
@@ -183,11 +189,13 @@ module _ (parts : List Part) (ids : AllByRecursion HasId parts) (few : length pa
   long : short_header image ≡ None
   unfolding short_header
   long =
-      unbroken (nat_lt (length image) 26) (fault 421 0 (length image)) (le-ltb (length image) 26 (omega (arith, length-image_of parts)))
+      unbroken (nat_lt (length image) 26) (fault 421 0 (length image)) (le-ltb (length image) 26 (omega (arith, length-image_of form parts)))
 
-  magic_holds : bad_magic image ≡ None
+  magic_holds : bad_magic form image ≡ None
   unfolding bad_magic
-  magic_holds = ap (λ (magic : ℕ). broken (not (magic == 333319)) (fault 422 0 magic)) magic_is
+  magic_holds =
+      unbroken (not (number 4 image 0 == magic_of form)) (fault 422 0 (number 4 image 0))
+      (ap not (eq-eqb (number 4 image 0) (magic_of form) magic_is))
 
   version_holds : newer_version image ≡ None
   unfolding newer_version
@@ -197,11 +205,11 @@ module _ (parts : List Part) (ids : AllByRecursion HasId parts) (few : length pa
   unfolding entries_outside
   entries_hold =
       unbroken (nat_lt (length image) (26 + 12 * entry_count image)) (fault 423 24 (entry_count image))
-      (le-ltb (length image) (26 + 12 * entry_count image) (omega (arith, length-image_of parts, count_is)))
+      (le-ltb (length image) (26 + 12 * entry_count image) (omega (arith, length-image_of form parts, count_is)))
 
-  pub holds : double_torn image ≡ None
-  unfolding double_torn
+  pub holds : apple_torn form image ≡ None
+  unfolding apple_torn
   holds =
       let each = ap (λ (l : List Entry). first_of (map (entry_outside image) l)) entries_read
-      ∙ all_within image (length parts) 26 [] parts (omega (arith, length-image_of parts)) in
+      ∙ all_within image (length parts) 26 [] parts (omega (arith, length-image_of form parts)) in
       λ i. or_else (long i) (or_else (magic_holds i) (or_else (version_holds i) (or_else (entries_hold i) (or_else (each i) None))))

@@ -1,8 +1,8 @@
 -- The lengths of the parts of a MacBinary.
-use Rattle.std.proofs.Common.{◌≡◌, ℕ, ◌+◌, ◌≤◌, List, length, arith, length-append}
-use Rattle.std.proofs.lemmas.List.{length-replicate}
+use Rattle.std.proofs.Common.{◌≡◌, ℕ, ◌+◌, ◌≤◌, List, length, drop, arith, length-append}
+use Rattle.std.proofs.lemmas.List.{length-replicate, length-take, length-drop}
 use Rattle.rz_core.specs.Numbers.{length-be_2, length-be_4}
-use Rattle.rz_bridge.specs.Places.{filled, with_filler}
+use Rattle.rz_bridge.specs.Places.{piece, filled, with_filler}
 use Rattle.rz_bridge.specs.MacBinary.{macbin_names, macbin_place, macbin_lengths, macbin_versions, macbin_header}
 use Rattle.rz_bridge.specs.declared.file.MacFile.{MacFile}
 
@@ -18,13 +18,18 @@ pub length-macbin_lengths : (file : MacFile) → length (macbin_lengths file) �
 unfolding macbin_lengths
 length-macbin_lengths file = simp (length-append, length-be_2, length-be_4)
 
-pub length-macbin_versions : (file : MacFile) → length (macbin_versions file) ≡ 23
-unfolding macbin_versions
-length-macbin_versions file = simp (length-append, length-replicate, length-be_2)
+pub length-piece : (bytes : List ℕ) (place count : ℕ) → place + count ≤ length bytes → length (piece bytes place count) ≡ count
+unfolding piece
+length-piece bytes place count within = omega (arith, length-take count (drop place bytes), length-drop place bytes)
 
-pub length-macbin_header : (file : MacFile) → length file.name ≤ 63 → length (macbin_header file) ≡ 124
-length-macbin_header file small =
-    simp length-append (omega (arith, length-macbin_names file small, length-macbin_place file, length-macbin_lengths file, length-macbin_versions file))
+pub length-macbin_versions : (file : MacFile) → length file.finder.extra ≡ 16 → length (macbin_versions file) ≡ 23
+unfolding macbin_versions
+length-macbin_versions file extra =
+    simp (length-append, length-replicate, length-be_2, length-be_4) (omega (arith, length-piece file.finder.extra 8 2 (omega (arith, extra))))
+
+pub length-macbin_header : (file : MacFile) → length file.name ≤ 63 → length file.finder.extra ≡ 16 → length (macbin_header file) ≡ 124
+length-macbin_header file small extra =
+    simp length-append (omega (arith, length-macbin_names file small, length-macbin_place file, length-macbin_lengths file, length-macbin_versions file extra))
 
 pub length-with_filler : (bytes : List ℕ) → length (with_filler bytes) ≡ filled (length bytes)
 unfolding with_filler filled

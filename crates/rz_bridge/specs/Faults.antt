@@ -1,4 +1,4 @@
--- The faults of AppleDouble and MacBinary, and what the writers refuse.
+-- The faults of AppleDouble, AppleSingle and MacBinary, and what the writers refuse.
 use Rattle.std.specs.Prelude.{◌≡◌, true, ℕ, pos, ◌||◌, nat_lt, Bool, if◌then◌else◌, List, [], ◌∷◌, length}
 use Rattle.std.specs.declared.option.Option.{Option}
 use Rattle.std.specs.declared.option.Option.TheVariants.{Some, None}

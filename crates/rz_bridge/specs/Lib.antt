@@ -3,4 +3,4 @@ pub mod Places
 pub mod Faults
 pub mod Ranges
 pub mod MacBinary
-pub mod AppleDouble
+pub mod Apple

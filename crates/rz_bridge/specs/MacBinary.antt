@@ -1,5 +1,6 @@
--- The form MacBinary II: the rules of a file, what its fields say, and the one file that is written. A header of 128
--- bytes, a secondary header that is skipped, the data fork and the resource fork each begin at a multiple of 128.
+-- The form MacBinary: the rules of a file of version II or III, what its fields say, and the one file of version III
+-- that is written. A header of 128 bytes, a secondary header that is skipped, the data fork and the resource fork each
+-- begin at a multiple of 128.
 use Rattle.std.specs.Prelude.{ℕ, ◌+◌, ◌-◌, ◌*◌, ◌/◌, ◌%◌, ◌==◌, ◌&&◌, ◌||◌, not, nat_lt, if◌then◌else◌, List, [], ◌∷◌, ◌++◌, length, take, replicate}
 use Rattle.std.specs.Int.{cast_unsigned, w16}
 use Rattle.std.specs.declared.option.Option.{Option}
@@ -92,8 +93,16 @@ macbin_torn bytes = first_of (
 
 -- The fields.
 
--- the Finder's fields of a header: the high byte of the flags stands at 73 and the low one at 101, and the 16 bytes
--- that the form doesn't have are zeros
+-- 16 bytes of which the form has only two, the script and further flags; zeros stand around them
+unfoldable pub around : List ℕ → List ℕ
+around two = replicate 8 0 ++ two ++ replicate 6 0
+
+-- the last 16 bytes of the Finder's fields: where "mBIN" stands at 102 the form is of version III and has two of them at
+-- 106, else all are zeros
+unfoldable pub macbin_extra : List ℕ → List ℕ
+macbin_extra bytes = if number 4 bytes 102 == 1833060686 then around (piece bytes 106 2) else replicate 16 0
+
+-- the Finder's fields of a header: the high byte of the flags stands at 73 and the low one at 101
 unfoldable pub macbin_finder : List ℕ → Finder
 macbin_finder bytes = record {
   kind = record { code = number 4 bytes 65 };
@@ -102,7 +111,7 @@ macbin_finder bytes = record {
   vertical = signed bytes 75;
   horizontal = signed bytes 77;
   folder = signed bytes 79;
-  extra = replicate 16 0;
+  extra = macbin_extra bytes;
 }
 
 -- the file that the fields make; its lock is the lowest bit at 81
@@ -141,9 +150,12 @@ unfoldable pub macbin_lengths : MacFile → List ℕ
 macbin_lengths file =
     be 4 (length file.data_fork) ++ be 4 (length file.res_fork) ++ be 4 file.created ++ be 4 file.modified ++ be 2 0
 
--- bytes 101 to 123: the low byte of the flags, 18 zeros, the length of a secondary header, which is 0, and the versions
+-- bytes 101 to 123: the low byte of the flags, "mBIN", the script and further flags, 12 zeros, the length of a secondary
+-- header, which is 0, and the versions: III, and II, which a reader must know
 unfoldable pub macbin_versions : MacFile → List ℕ
-macbin_versions file = (file.finder.flags % 256) ∷ [] ++ replicate 18 0 ++ be 2 0 ++ 129 ∷ [] ++ 129 ∷ []
+macbin_versions file =
+    (file.finder.flags % 256) ∷ [] ++ be 4 1833060686 ++ piece file.finder.extra 8 2 ++ replicate 12 0 ++ be 2 0
+    ++ 130 ∷ [] ++ 129 ∷ []
 
 -- the header without its check
 abbrev pub macbin_header : MacFile → List ℕ
@@ -159,11 +171,11 @@ macbin_image file =
 abbrev pub macbin_written : MacFile → Result (List ℕ) BridgeFault
 macbin_written file = unless_fault (file_refused file) (macbin_image file)
 
--- what the form carries of a file: all but the last 16 bytes of the Finder's fields
+-- what the form carries of a file: all, but of the last 16 bytes of the Finder's fields only two
 abbrev pub macbin_carried : MacFile → MacFile
 macbin_carried file = record {
   name = file.name;
-  finder = record file.finder { extra = replicate 16 0 };
+  finder = record file.finder { extra = around (piece file.finder.extra 8 2) };
   locked = file.locked;
   created = file.created;
   modified = file.modified;

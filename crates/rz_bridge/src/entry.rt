@@ -1,13 +1,13 @@
-//! The entries of AppleDouble and their bytes. What they are is in `specs/AppleDouble`.
+//! The entries of AppleDouble and AppleSingle, and their bytes. What they are is in `specs/Apple`.
 
 ghost use Rattle.std.specs.Prelude.{◌≡◌, ◌<◌, ◌≤◌, ◌+◌, ◌*◌, ◌==◌, ◌^◌, length};
 ghost use Rattle.std.specs.List.{find};
-ghost use Rattle.rz_bridge.specs.AppleDouble.{entry_at, entry_count, entries, part};
+ghost use Rattle.rz_bridge.specs.Apple.{entry_at, entry_count, entries, part};
 
 use crate::place::piece_at;
 use rz_core::{u16_at, u32_at};
 
-/// An entry of AppleDouble. (RFC 1740.)
+/// An entry of AppleDouble or AppleSingle. (RFC 1740.)
 #[derive(Clone, Copy)]
 pub struct Entry {
     /// Where the entry stands, in bytes from the start of the file.
@@ -21,7 +21,7 @@ pub struct Entry {
 }
 
 /// How many entries there are.
-#[tactic(auto, unfolding(crate::specs::AppleDouble::entry_count))]
+#[tactic(auto, unfolding(crate::specs::Apple::entry_count))]
 pub fn entry_count(bytes: &[u8]) -> usize
     requires { 26 ≤ length bytes.now }
     ensures count { result ≡ entry_count bytes.now }
@@ -31,7 +31,7 @@ pub fn entry_count(bytes: &[u8]) -> usize
 }
 
 /// The entry at a place.
-#[tactic(auto, unfolding(crate::specs::AppleDouble::entry_at))]
+#[tactic(auto, unfolding(crate::specs::Apple::entry_at))]
 pub fn entry_at(bytes: &[u8], place: usize) -> Entry
     requires { place + 12 ≤ length bytes.now }
     ensures entry { result ≡ entry_at bytes.now place }
@@ -62,7 +62,7 @@ fn find_entry(bytes: &[u8], id: u32) -> Option<Entry>
 }
 
 /// The bytes of the first entry with an id; where there is none, no bytes.
-#[tactic(auto, unfolding(crate::specs::AppleDouble::part))]
+#[tactic(auto, unfolding(crate::specs::Apple::part))]
 pub fn part(bytes: &[u8], id: u32) -> &[u8]
     requires start { 26 ≤ length bytes.now }
     requires entries { 26 + 12 * entry_count bytes.now ≤ length bytes.now }

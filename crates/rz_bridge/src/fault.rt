@@ -9,12 +9,12 @@ use rz_core::Kept;
 ///
 /// | Number | Rule | Broken where | Offset | Kept |
 /// |---|---|---|---|---|
-/// | 421 | ShortHeader | AppleDouble has fewer than 26 bytes, MacBinary fewer than 128 | 0 | how many |
-/// | 422 | BadMagic | AppleDouble doesn't begin with 00051607 | 0 | the number there |
+/// | 421 | ShortHeader | AppleDouble and AppleSingle have fewer than 26 bytes, MacBinary fewer than 128 | 0 | how many |
+/// | 422 | BadMagic | AppleDouble doesn't begin with 00051607, AppleSingle doesn't with 00051600 | 0 | the number there |
 /// | 422 | BadMagic | MacBinary's byte 0, 74 or 82 isn't zero, or its byte 122 or 123 is below 129 | of the byte | the byte |
-/// | 427 | NewerVersion | AppleDouble's version is neither 00020000 nor 00010000 | 4 | the version |
+/// | 427 | NewerVersion | the version of AppleDouble or AppleSingle is neither 00020000 nor 00010000 | 4 | the version |
 /// | 427 | NewerVersion | MacBinary's byte 123 is above 129 | 123 | the byte |
-/// | 423 | EntryOutside | the entries of AppleDouble end after the file | 24 | how many entries |
+/// | 423 | EntryOutside | the entries of AppleDouble or AppleSingle end after the file | 24 | how many entries |
 /// | 423 | EntryOutside | the bytes of an entry end after the file | of the entry | its id |
 /// | 424 | BadCrc | MacBinary's check isn't that of its bytes 0 to 123 | 124 | 0, the stored check and the computed one |
 /// | 425 | BadName | the length of a name isn't 1 to 63 | 1; written: 0 | the length |

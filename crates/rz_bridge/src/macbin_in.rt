@@ -1,9 +1,9 @@
-//! The reader of MacBinary II; changed only with `specs/MacBinary`.
+//! The reader of MacBinary II and III; changed only with `specs/MacBinary`.
 
 ghost use Rattle.std.specs.Prelude.{◌≡◌, ◌≤◌, ◌<◌, ◌^◌, length, IfOk};
 ghost use Rattle.rz_core.specs.Stop.{Gives, OnFault};
 ghost use Rattle.rz_bridge.specs.Faults.{IsSayable};
-ghost use Rattle.rz_bridge.specs.MacBinary.{macbin_finder, macbin_fields, macbin_content};
+ghost use Rattle.rz_bridge.specs.MacBinary.{macbin_extra, macbin_finder, macbin_fields, macbin_content};
 
 use crate::fault::BridgeFault;
 use crate::file::{Finder, MacFile};
@@ -12,13 +12,16 @@ use crate::place::piece_at;
 use rz_core::{Bytes, NoMemory, OsType, Stop, u8_at, u16_at, u32_at};
 use std::alloc::Global;
 
-/// The file of a MacBinary II: name, type, creator, flags, position, folder, lock, dates and both forks. A secondary
-/// header is skipped and a comment passes unread; the 16 bytes of the Finder's fields that the form doesn't have are
-/// zeros. Filler that is missing behind the last fork is no fault, nor is an empty fork that lies behind the file.
-/// There are fewer than 2^32 bytes.
+/// The four characters `mBIN`, which version III has and version II hasn't.
+const SIGNATURE: u32 = 0x6D42_494E;
+
+/// The file of a MacBinary II or III: name, type, creator, flags, position, folder, lock, dates and both forks. Of the
+/// last 16 bytes of the Finder's fields version III has the bytes 8 and 9, the script and further flags; those that the
+/// form doesn't have are zeros. A secondary header is skipped and a comment passes unread. Filler that is missing behind
+/// the last fork is no fault, nor is an empty fork that lies behind the file. There are fewer than 2^32 bytes.
 ///
-/// Refused with the first broken rule, in the order 421, 422, 427, 424, 425, 426 (see [`BridgeFault`]). (MacBinary
-/// II.)
+/// Refused with the first broken rule, in the order 421, 422, 427, 424, 425, 426 (see [`BridgeFault`]). (MacBinary II
+/// and III.)
 pub fn macbin_read(alloc: Global, bytes: &[u8]) -> Result<MacFile, Stop<BridgeFault>>
     requires { length bytes.now < 2 ^ 32 }
     ensures file { Gives (macbin_content bytes.now) result }
@@ -71,6 +74,19 @@ fn read_finder(bytes: &[u8]) -> Finder
         vertical: u16_at(bytes, 75).cast_signed(),
         horizontal: u16_at(bytes, 77).cast_signed(),
         folder: u16_at(bytes, 79).cast_signed(),
-        extra: [0; 16],
+        extra: read_extra(bytes),
     }
+}
+
+/// The last 16 bytes of the Finder's fields.
+#[tactic(auto, unfolding(crate::specs::MacBinary::macbin_extra, crate::specs::MacBinary::around, crate::specs::Places::piece))]
+fn read_extra(bytes: &[u8]) -> [u8; 16]
+    requires { 128 ≤ length bytes.now }
+    ensures { result ≡ macbin_extra bytes.now }
+{
+    let mut extra = [0; 16];
+    if u32_at(bytes, 102) == SIGNATURE {
+        extra[8..10].copy_from_slice(&bytes[106..108]);
+    }
+    extra
 }

@@ -1,4 +1,4 @@
-//! The writer of MacBinary II, header and forks; changed only with `specs/MacBinary`.
+//! The writer of MacBinary III, header and forks; changed only with `specs/MacBinary`.
 
 ghost use Rattle.std.specs.Prelude.{◌≡◌, ◌≤◌, ◌<◌, ◌^◌, ◌++◌, if◌then◌else◌, length, IfOk, OnOk, Ok};
 ghost use Rattle.std.specs.Int.{cast_unsigned, w16};
@@ -17,12 +17,22 @@ use crate::refuse::file_refused;
 use rz_core::{Bytes, NoMemory, Stop, append_u16, append_u32, append_zeros};
 use std::alloc::Global;
 
-/// The one MacBinary II of a file: without a secondary header and without a comment, both forks filled with zeros to a
-/// multiple of 128 bytes. [`macbin_read`](crate::macbin_read) of it gives the file again, with zeros in the 16 bytes
-/// of the Finder's fields that the form doesn't have. The time is linear in the forks.
+/// The four characters `mBIN`, which version III has.
+const SIGNATURE: u32 = 0x6D42_494E;
+
+/// The version of MacBinary III.
+const VERSION: u8 = 130;
+
+/// The version that a reader must know, that of MacBinary II.
+const LEAST_VERSION: u8 = 129;
+
+/// The one MacBinary III of a file, which readers of MacBinary II can read too: without a secondary header and without a
+/// comment, both forks filled with zeros to a multiple of 128 bytes. [`macbin_read`](crate::macbin_read) of it gives the
+/// file again, with zeros in the last 16 bytes of the Finder's fields but for the bytes 8 and 9. The time is linear in
+/// the forks.
 ///
 /// Refused with 425 where the name doesn't have 1 to 63 bytes, and then with 428 where a fork has more than 33,554,432
-/// bytes, the data fork first; each keeps the length in bytes. (MacBinary II.)
+/// bytes, the data fork first; each keeps the length in bytes. (MacBinary III.)
 pub fn macbin_write(alloc: Global, file: &MacFile) -> Result<Bytes, Stop<BridgeFault>>
     ensures file { Gives (macbin_written file.now) result }
     ensures again { IfOk result (λ bytes. macbin_content bytes ≡ Ok (macbin_carried file.now)) }
@@ -125,14 +135,16 @@ fn append_lengths(out: &mut Bytes, file: &MacFile) -> Result<(), NoMemory>
 }
 
 /// Appends bytes 101 to 123.
-#[tactic(auto, unfolding(crate::specs::MacBinary::macbin_versions))]
+#[tactic(auto, unfolding(crate::specs::MacBinary::macbin_versions, crate::specs::Places::piece))]
 fn append_versions(out: &mut Bytes, file: &MacFile) -> Result<(), NoMemory>
     ensures { OnOk result (out.new ≡ out.old ++ macbin_versions file.now) }
 {
     out.push((file.finder.flags % 256) as u8)?;
-    append_zeros(out, 18)?;
+    append_u32(out, SIGNATURE)?;
+    out.append(&file.finder.extra[8..10])?;
+    append_zeros(out, 12)?;
     append_u16(out, 0)?;
-    out.push(129)?;
-    out.push(129)?;
+    out.push(VERSION)?;
+    out.push(LEAST_VERSION)?;
     Ok(())
 }

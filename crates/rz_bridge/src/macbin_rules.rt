@@ -12,7 +12,7 @@ use rz_core::{Kept, u8_at, u16_at, u32_at};
 /// The length of the header, in bytes.
 const HEADER_LENGTH: usize = 128;
 
-/// The version of MacBinary II.
+/// The version of MacBinary II, below which none is read and which is the most that a file may ask of a reader.
 const VERSION: u8 = 129;
 
 /// Where the data fork begins.

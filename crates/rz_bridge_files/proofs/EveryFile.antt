@@ -6,7 +6,7 @@ use Rattle.rz_folder.specs.Temporary.{IsParted}
 use Rattle.rz_pre_source.specs.Source.{mark, IsBadAt, IsTextOf}
 use Rattle.rz_bridge.specs.declared.file.MacFile.{MacFile}
 use Rattle.rz_bridge_form.specs.declared.form.Form.{Form}
-use Rattle.rz_bridge_form.specs.declared.form.Form.TheVariants.{Raw, AppleDouble, MacBinary, BinHex}
+use Rattle.rz_bridge_form.specs.declared.form.Form.TheVariants.{Raw, AppleDouble, AppleSingle, MacBinary, BinHex}
 use Rattle.rz_bridge_files.specs.Names.{bad_name, Named, TakesName}
 use Rattle.rz_bridge_files.specs.Names.Named.{own, raw, taken}
 use Rattle.rz_bridge_files.specs.Names.TakesName.{foreign, roman}
@@ -34,5 +34,6 @@ module _ (names : (path : List ℕ) → Has (TakesName path)) where
   pub every_file : (form : Form) (path : List ℕ) (file : MacFile) → Has (Named form path file)
   every_file Raw path file = (Ok file, raw refl refl)
   every_file AppleDouble path file = unless_raw AppleDouble path file (λ is. cc is) (is_nothing file.name)
+  every_file AppleSingle path file = unless_raw AppleSingle path file (λ is. cc is) (is_nothing file.name)
   every_file MacBinary path file = unless_raw MacBinary path file (λ is. cc is) (is_nothing file.name)
   every_file BinHex path file = unless_raw BinHex path file (λ is. cc is) (is_nothing file.name)

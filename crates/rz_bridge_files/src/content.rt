@@ -22,8 +22,8 @@ use std::alloc::Global;
 /// the form that is given, else in the one that [`form_of`] tells. A raw file is all of the bytes as they are, which
 /// takes no memory for them.
 ///
-/// Refused at the mark with the first rule of its form that the file breaks: 421 to 427 of AppleDouble and MacBinary,
-/// 441 to 447 of BinHex. (RFC 1740, 1741; MacBinary II.)
+/// Refused at the mark with the first rule of its form that the file breaks: 421 to 427 of AppleDouble, AppleSingle and
+/// MacBinary, 441 to 447 of BinHex. (RFC 1740, 1741; MacBinary II and III.)
 pub fn file_in(
     alloc: Global,
     form: Option<Form>,

@@ -16,7 +16,7 @@ use std::alloc::Global;
 /// data fork are read as what the form carries.
 ///
 /// Refused, without a mark, with 425 where the name hasn't a length that the form takes, and with 428 where a fork is
-/// too long for it, as [`write_form`] says; a raw file is never refused. (RFC 1740, 1741; MacBinary II.)
+/// too long for it, as [`write_form`] says; a raw file is never refused. (RFC 1740, 1741; MacBinary III.)
 pub fn write_as(alloc: Global, form: Form, file: &MacFile) -> Result<Bytes, Stop<Fault>>
     ensures bytes { Gives (written_as form file.now) result }
     ensures again { IfOk result (λ bytes.

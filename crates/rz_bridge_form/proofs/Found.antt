@@ -5,25 +5,32 @@ use Rattle.std.specs.List.{starts_with}
 use Rattle.rz_core.specs.Lists.{or_else, unless_fault}
 use Rattle.rz_core.proofs.Tests.{or_false}
 use Rattle.rz_core.specs.Numbers.{be, number}
-use Rattle.rz_bridge.specs.AppleDouble.{double_start, double_image}
+use Rattle.rz_bridge.specs.Apple.{apple_start, apple_image}
 use Rattle.rz_bridge.specs.Faults.{fault, broken}
 use Rattle.rz_bridge.specs.MacBinary.{short_header, not_zero, below_129, newer_version, bad_crc, bad_length, header_torn, macbin_torn, macbin_fields, macbin_content}
+use Rattle.rz_bridge.specs.declared.apple.AppleForm.TheVariants.{Double, Single}
 use Rattle.rz_bridge.specs.declared.fault.BridgeFault.{BridgeFault}
 use Rattle.rz_bridge.specs.declared.file.MacFile.{MacFile}
 use Rattle.rz_hqx.specs.Text.{text_of}
-use Rattle.rz_bridge_form.specs.Forms.{double_magic, is_header, form_of}
-use Rattle.rz_bridge_form.specs.declared.form.Form.TheVariants.{Raw, AppleDouble, MacBinary, BinHex}
+use Rattle.rz_bridge_form.specs.Forms.{double_magic, single_magic, is_header, form_of}
+use Rattle.rz_bridge_form.specs.declared.form.Form.TheVariants.{Raw, AppleDouble, AppleSingle, MacBinary, BinHex}
 
 -- bytes that begin with some are not none
 are_some : (bytes : List ℕ) (first : ℕ) (rest : List ℕ) → starts_with nat_eq bytes (first ∷ rest) ≡ true → (length bytes == 0) ≡ false
 are_some [] first rest begins = absurd cc
 are_some (b ∷ bs) first rest begins = ne_eqb (length (b ∷ bs)) 0 (omega arith)
 
-pub double_found : (file : MacFile) → form_of (double_image file) ≡ AppleDouble
-unfolding double_start be
+pub double_found : (file : MacFile) → form_of (apple_image Double file) ≡ AppleDouble
+unfolding apple_start be
 double_found file =
-    let some = are_some (double_image file) 0 (5 ∷ 22 ∷ 7 ∷ []) refl in
+    let some = are_some (apple_image Double file) 0 (5 ∷ 22 ∷ 7 ∷ []) refl in
     λ i. if some i then Raw else AppleDouble
+
+pub single_found : (file : MacFile) → form_of (apple_image Single file) ≡ AppleSingle
+unfolding apple_start be
+single_found file =
+    let some = are_some (apple_image Single file) 0 (5 ∷ 22 ∷ 0 ∷ []) refl in
+    λ i. if some i then Raw else AppleSingle
 
 pub hqx_found : (bytes : List ℕ) → form_of (text_of bytes) ≡ BinHex
 unfolding number
@@ -97,15 +104,17 @@ header_is bytes is =
     let least = le-leb 129 (number 1 bytes 123) (ltb-false (number 1 bytes 123) 129 is.least) in
     λ i. some i && few i && middle i && last i && version i && least i
 
-found : (bytes : List ℕ) → IsTaken bytes → starts_with nat_eq bytes double_magic ≡ false → form_of bytes ≡ MacBinary
-found bytes is other =
+found : (bytes : List ℕ) → IsTaken bytes → starts_with nat_eq bytes double_magic ≡ false → starts_with nat_eq bytes single_magic ≡ false
+    → form_of bytes ≡ MacBinary
+found bytes is double single =
     let long = ltb-false (length bytes) 128 is.long in
     let some : (length bytes == 0) ≡ false = ne_eqb (length bytes) 0 (omega arith) in
     let first = is_zero (number 1 bytes 0) is.first in
     let whole = le-leb 128 (length bytes) long in
     let header = header_is bytes is in
-    λ i. if some i then Raw else if other i then AppleDouble else if not (first i) then BinHex else if whole i && header i then MacBinary else Raw
+    λ i. if some i then Raw else if double i then AppleDouble else if single i then AppleSingle else if not (first i) then BinHex else if whole i && header i then MacBinary else Raw
 
-pub macbin_found : (bytes : List ℕ) (file : MacFile) → macbin_content bytes ≡ Ok file → starts_with nat_eq bytes double_magic ≡ false → form_of bytes ≡ MacBinary
-macbin_found bytes file content other =
-    found bytes (taken bytes (header_untorn bytes (none_torn (macbin_torn bytes) (macbin_fields bytes) file content))) other
+pub macbin_found : (bytes : List ℕ) (file : MacFile) → macbin_content bytes ≡ Ok file → starts_with nat_eq bytes double_magic ≡ false
+    → starts_with nat_eq bytes single_magic ≡ false → form_of bytes ≡ MacBinary
+macbin_found bytes file content double single =
+    found bytes (taken bytes (header_untorn bytes (none_torn (macbin_torn bytes) (macbin_fields bytes) file content))) double single

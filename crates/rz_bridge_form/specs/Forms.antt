@@ -2,21 +2,26 @@
 use Rattle.std.specs.Prelude.{ℕ, pos, false, ◌==◌, ◌&&◌, not, nat_eq, nat_le, Bool, if◌then◌else◌, List, [], ◌∷◌, length, replicate, Ok}
 use Rattle.std.specs.List.{starts_with}
 use Rattle.std.specs.declared.result.Result.{Result}
-use Rattle.rz_bridge.specs.AppleDouble.{double_content, double_written, double_carried}
+use Rattle.rz_bridge.specs.Apple.{double_content, single_content, apple_written, apple_carried}
 use Rattle.rz_bridge.specs.MacBinary.{macbin_content, macbin_written, macbin_carried}
 use Rattle.rz_core.specs.Numbers.{number}
+use Rattle.rz_bridge.specs.declared.apple.AppleForm.TheVariants.{Double, Single}
 use Rattle.rz_bridge.specs.declared.fault.BridgeFault.{BridgeFault}
 use Rattle.rz_bridge.specs.declared.file.Finder.{Finder}
 use Rattle.rz_bridge.specs.declared.file.MacFile.{MacFile}
 use Rattle.rz_hqx.specs.BinHex.{hqx_content, hqx_written, hqx_carried}
 use Rattle.rz_bridge_form.specs.declared.form.Form.{Form}
-use Rattle.rz_bridge_form.specs.declared.form.Form.TheVariants.{Raw, AppleDouble, MacBinary, BinHex}
+use Rattle.rz_bridge_form.specs.declared.form.Form.TheVariants.{Raw, AppleDouble, AppleSingle, MacBinary, BinHex}
 
 -- Which form.
 
 -- the first four bytes of AppleDouble, 00051607
 abbrev pub double_magic : List ℕ
 double_magic = 0 ∷ 5 ∷ 22 ∷ 7 ∷ []
+
+-- the first four bytes of AppleSingle, 00051600
+abbrev pub single_magic : List ℕ
+single_magic = 0 ∷ 5 ∷ 22 ∷ 0 ∷ []
 
 -- a header of MacBinary: a name of 1 to 63 bytes, the bytes 74 and 82 zero, and the versions at 122 and 123 at least 129
 abbrev pub is_header : List ℕ → Bool
@@ -29,6 +34,7 @@ abbrev pub form_of : List ℕ → Form
 form_of bytes =
     if length bytes == 0 then Raw
     else if starts_with nat_eq bytes double_magic then AppleDouble
+    else if starts_with nat_eq bytes single_magic then AppleSingle
     else if not (number 1 bytes 0 == 0) then BinHex
     else if nat_le 128 (length bytes) && is_header bytes then MacBinary
     else Raw
@@ -63,6 +69,7 @@ raw_file bytes = record {
 abbrev pub content_of : Form → List ℕ → List ℕ → Result MacFile BridgeFault
 content_of Raw bytes data_file = Ok (raw_file bytes)
 content_of AppleDouble bytes data_file = double_content bytes data_file
+content_of AppleSingle bytes data_file = single_content bytes
 content_of MacBinary bytes data_file = macbin_content bytes
 content_of BinHex bytes data_file = hqx_content bytes
 
@@ -71,13 +78,15 @@ content_of BinHex bytes data_file = hqx_content bytes
 -- the one file of a form that is written, or why it is refused; of AppleDouble the header file
 abbrev pub written_of : Form → MacFile → Result (List ℕ) BridgeFault
 written_of Raw file = Ok file.res_fork
-written_of AppleDouble file = double_written file
+written_of AppleDouble file = apple_written Double file
+written_of AppleSingle file = apple_written Single file
 written_of MacBinary file = macbin_written file
 written_of BinHex file = hqx_written file
 
 -- what a form carries of a file
 abbrev pub carried_of : Form → MacFile → MacFile
 carried_of Raw file = raw_file file.res_fork
-carried_of AppleDouble file = double_carried file
+carried_of AppleDouble file = apple_carried file
+carried_of AppleSingle file = apple_carried file
 carried_of MacBinary file = macbin_carried file
 carried_of BinHex file = hqx_carried file

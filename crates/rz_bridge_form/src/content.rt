@@ -8,6 +8,7 @@ ghost use Rattle.rz_bridge_form.specs.Forms.{raw_file, content_of, written_of, c
 use crate::form::Form;
 use rz_bridge::{
     BridgeFault, Finder, MacFile, double_read, double_write, macbin_read, macbin_write,
+    single_read, single_write,
 };
 use rz_core::{Bytes, NoMemory, OsType, Stop};
 use rz_hqx::{hqx_read, hqx_write};
@@ -19,7 +20,8 @@ const UNKNOWN: OsType = OsType { code: 0x3F3F_3F3F };
 /// The file of bytes in a form, and of the data file beside them, which AppleDouble alone has. A raw file has an empty
 /// name, type and creator `????`, no data fork, and all other fields zero. There are fewer than 2^32 bytes.
 ///
-/// Refused as by the form's own reader: [`double_read`], [`macbin_read`] and [`hqx_read`]; a raw file is never refused.
+/// Refused as by the form's own reader: [`double_read`], [`single_read`], [`macbin_read`] and [`hqx_read`]; a raw file is
+/// never refused.
 pub fn read_form(
     alloc: Global,
     form: Form,
@@ -34,6 +36,7 @@ pub fn read_form(
     match form {
         Form::Raw => Ok(read_raw(alloc, bytes)?),
         Form::AppleDouble => double_read(alloc, bytes, data_file),
+        Form::AppleSingle => single_read(alloc, bytes),
         Form::MacBinary => macbin_read(alloc, bytes),
         Form::BinHex => hqx_read(alloc, bytes),
     }
@@ -65,8 +68,8 @@ fn read_raw(alloc: Global, bytes: &[u8]) -> Result<MacFile, NoMemory>
 /// The one file of a form; of AppleDouble the header file, beside which the data fork is a file of its own. Of a raw
 /// file the resource fork is written alone. [`read_form`] of it and of the data fork gives what the form carries again.
 ///
-/// Refused as by the form's own writer: [`double_write`], [`macbin_write`] and [`hqx_write`]; a raw file is never
-/// refused.
+/// Refused as by the form's own writer: [`double_write`], [`single_write`], [`macbin_write`] and [`hqx_write`]; a raw
+/// file is never refused.
 pub fn write_form(alloc: Global, form: Form, file: &MacFile) -> Result<Bytes, Stop<BridgeFault>>
     ensures file { Gives (written_of form file.now) result }
     ensures again { IfOk result (λ bytes.
@@ -78,6 +81,7 @@ pub fn write_form(alloc: Global, form: Form, file: &MacFile) -> Result<Bytes, St
     match form {
         Form::Raw => Ok(Bytes::of(alloc, file.res_fork.as_slice())?),
         Form::AppleDouble => double_write(alloc, file),
+        Form::AppleSingle => single_write(alloc, file),
         Form::MacBinary => macbin_write(alloc, file),
         Form::BinHex => hqx_write(alloc, file),
     }

@@ -1,4 +1,4 @@
-//! The four forms, and which of them bytes have; changed only with `specs/Forms`.
+//! The five forms, and which of them bytes have; changed only with `specs/Forms`.
 
 ghost use Rattle.std.specs.Prelude.{◌≡◌, ◌≤◌, length};
 ghost use Rattle.rz_bridge_form.specs.Forms.{is_header, form_of};
@@ -12,7 +12,9 @@ pub enum Form {
     Raw,
     /// The header file of AppleDouble, beside which the data fork is a file of its own.
     AppleDouble,
-    /// MacBinary II.
+    /// AppleSingle.
+    AppleSingle,
+    /// MacBinary III, which is written, and MacBinary II, which is read too.
     MacBinary,
     /// BinHex 4.0.
     BinHex,
@@ -21,12 +23,15 @@ pub enum Form {
 /// The first bytes of AppleDouble.
 const DOUBLE_MAGIC: &[u8] = &[0x00, 0x05, 0x16, 0x07];
 
+/// The first bytes of AppleSingle.
+const SINGLE_MAGIC: &[u8] = &[0x00, 0x05, 0x16, 0x00];
+
 /// The length of a header of MacBinary.
 const HEADER_LENGTH: usize = 128;
 
-/// The form of a file's bytes. No bytes are raw; the first four bytes 00051607 are AppleDouble; another first byte than
-/// 00 is BinHex; at least 128 bytes with byte 1 from 1 to 63, bytes 74 and 82 zero, and bytes 122 and 123 at least 129
-/// are MacBinary; all else is raw. It takes no memory.
+/// The form of a file's bytes. No bytes are raw; the first four bytes 00051607 are AppleDouble, and 00051600 are
+/// AppleSingle; another first byte than 00 is BinHex; at least 128 bytes with byte 1 from 1 to 63, bytes 74 and 82 zero,
+/// and bytes 122 and 123 at least 129 are MacBinary; all else is raw. It takes no memory.
 pub fn form_of(bytes: &[u8]) -> Form
     ensures { result ≡ form_of bytes.now }
 {
@@ -35,6 +40,9 @@ pub fn form_of(bytes: &[u8]) -> Form
     }
     if bytes.starts_with(DOUBLE_MAGIC) {
         return Form::AppleDouble;
+    }
+    if bytes.starts_with(SINGLE_MAGIC) {
+        return Form::AppleSingle;
     }
     if u8_at(bytes, 0) != 0 {
         return Form::BinHex;

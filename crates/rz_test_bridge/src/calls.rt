@@ -31,8 +31,8 @@ pub enum Call {
     /// The form that is found of the bytes of a file in a form, how many there are, and the file that is read of them; or
     /// the fault.
     Again(Form),
-    /// The file of bytes in a form, or the fault. For MacBinary and AppleDouble the text is a file and edits of its
-    /// bytes; for BinHex `~` stands for the line that says what a text is.
+    /// The file of bytes in a form, or the fault. For BinHex `~` stands for the line that says what a text
+    /// is; for the forms without letters the text is a file and edits of its bytes.
     Read(Form),
     /// The fault of bytes in a form, or `none`, where the text is as for `Read`.
     Told(Form),
@@ -144,6 +144,7 @@ fn form_name(form: Form) -> &'static [u8] {
     match form {
         Form::Raw => b"Raw",
         Form::AppleDouble => b"AppleDouble",
+        Form::AppleSingle => b"AppleSingle",
         Form::MacBinary => b"MacBinary",
         Form::BinHex => b"BinHex",
     }
@@ -154,7 +155,7 @@ fn bytes_in(rt: &(impl Abort + AllocGlobal), form: Form, text: &str) -> Bytes {
     match form {
         Form::Raw => spelled(rt, text),
         Form::BinHex => in_letters(rt, text),
-        Form::MacBinary | Form::AppleDouble => {
+        Form::MacBinary | Form::AppleDouble | Form::AppleSingle => {
             let (file, edits) = text.split_once(' ').unwrap_or((text, ""));
             match write_form(rt.alloc(), form, &file_of(rt, file)) {
                 Ok(bytes) => edited(rt, bytes, edits),

@@ -27,6 +27,9 @@ pub const EDGES: &str = r#"
 1=5 2=22 3=7 ..4 => AppleDouble
 1=5 2=22 3=7 ..3 => Raw
 1=5 2=22 3=6 ..4 => Raw
+1=5 2=22 3=0 ..128 => AppleSingle
+1=5 2=22 3=0 ..4 => AppleSingle
+1=5 2=22 3=0 ..3 => Raw
 1=5 2=21 3=7 ..128 => MacBinary
 1=4 2=22 3=7 ..128 => MacBinary
 "#;

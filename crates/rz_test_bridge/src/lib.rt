@@ -22,6 +22,8 @@ mod outcome;
 #[cfg(test)]
 mod runs;
 #[cfg(test)]
+mod singles;
+#[cfg(test)]
 mod spelled;
 #[cfg(test)]
 mod tables;

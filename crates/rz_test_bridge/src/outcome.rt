@@ -40,10 +40,10 @@ fn kept_in(form: Form) -> &'static str {
     match form {
         Form::Raw =>
             "false 0 0 Finder { kind: OsType { code: 1061109567 }, creator: OsType { code: 1061109567 }, flags: 0, vertical: 0, horizontal: 0, folder: 0, extra: [0, 0, 0, 0, 0, 0, 0, 0, 0, 0, 0, 0, 0, 0, 0, 0] }",
-        Form::AppleDouble =>
-            "false 0 0 Finder { kind: OsType { code: 1413830740 }, creator: OsType { code: 1953790068 }, flags: 8576, vertical: -2, horizontal: 300, folder: -1, extra: [1, 2, 3, 4, 5, 6, 7, 8, 9, 10, 11, 12, 13, 14, 15, 16] }",
+        Form::AppleDouble | Form::AppleSingle =>
+            "false 2147483649 4294967294 Finder { kind: OsType { code: 1413830740 }, creator: OsType { code: 1953790068 }, flags: 8576, vertical: -2, horizontal: 300, folder: -1, extra: [1, 2, 3, 4, 5, 6, 7, 8, 9, 10, 11, 12, 13, 14, 15, 16] }",
         Form::MacBinary =>
-            "true 2147483649 4294967294 Finder { kind: OsType { code: 1413830740 }, creator: OsType { code: 1953790068 }, flags: 8576, vertical: -2, horizontal: 300, folder: -1, extra: [0, 0, 0, 0, 0, 0, 0, 0, 0, 0, 0, 0, 0, 0, 0, 0] }",
+            "true 2147483649 4294967294 Finder { kind: OsType { code: 1413830740 }, creator: OsType { code: 1953790068 }, flags: 8576, vertical: -2, horizontal: 300, folder: -1, extra: [0, 0, 0, 0, 0, 0, 0, 0, 9, 10, 0, 0, 0, 0, 0, 0] }",
         Form::BinHex =>
             "false 0 0 Finder { kind: OsType { code: 1413830740 }, creator: OsType { code: 1953790068 }, flags: 8576, vertical: 0, horizontal: 0, folder: 0, extra: [0, 0, 0, 0, 0, 0, 0, 0, 0, 0, 0, 0, 0, 0, 0, 0] }",
     }

@@ -2,13 +2,13 @@
 
 use crate::calls::{Call, show_call};
 use crate::spelled::spelled;
-use crate::{binhex, checks, forms, headers, macbinary, runs};
+use crate::{binhex, checks, forms, headers, macbinary, runs, singles};
 use rz_bridge_form::Form;
 use rz_test_tables::{Case, Text, add_if_wrong, cases_of};
 use std::process::Abort;
 
 /// All tables, and what the cases of each call.
-fn tables() -> [(Call, &'static str); 20] {
+fn tables() -> [(Call, &'static str); 24] {
     [
         (Call::Check, checks::CHECKS),
         (Call::RunsWritten, runs::WRITTEN),
@@ -22,6 +22,10 @@ fn tables() -> [(Call, &'static str); 20] {
         (Call::Again(Form::AppleDouble), headers::AGAIN),
         (Call::Told(Form::AppleDouble), headers::TOLD),
         (Call::Read(Form::AppleDouble), headers::READ),
+        (Call::Written(Form::AppleSingle), singles::WRITTEN),
+        (Call::Again(Form::AppleSingle), singles::AGAIN),
+        (Call::Told(Form::AppleSingle), singles::TOLD),
+        (Call::Read(Form::AppleSingle), singles::READ),
         (Call::Written(Form::MacBinary), macbinary::WRITTEN),
         (Call::Again(Form::MacBinary), macbinary::AGAIN),
         (Call::Told(Form::MacBinary), macbinary::TOLD),

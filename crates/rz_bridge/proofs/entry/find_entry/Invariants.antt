@@ -1,6 +1,6 @@
 use Rattle.std.proofs.Common.{◌≡◌, ◌==◌}
 use Rattle.std.specs.List.{find}
-use Rattle.rz_bridge.specs.AppleDouble.{entries}
+use Rattle.rz_bridge.specs.Apple.{entries}
 use Rattle.rz_bridge.proofs.Loops.{entries_left}
 use Rattle.rz_bridge.proofs.entry.find_entry.Given as goal
 

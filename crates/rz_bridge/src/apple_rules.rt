@@ -1,16 +1,14 @@
-//! The rules of a header file of AppleDouble, and the first broken one. See `specs/AppleDouble`.
+//! The rules of AppleDouble and AppleSingle, and the first broken one. See `specs/Apple`.
 
 ghost use Rattle.std.specs.Prelude.{◌≡◌, ◌≤◌, ◌<◌, ◌+◌, ◌*◌, ◌^◌, length, map, IfNone, IfSome};
 ghost use Rattle.rz_core.specs.Lists.{first_of};
 ghost use Rattle.rz_bridge.specs.Faults.{IsSayable};
-ghost use Rattle.rz_bridge.specs.AppleDouble.{entry_count, entries, short_header, bad_magic, newer_version, entries_outside, entry_outside, double_torn};
+ghost use Rattle.rz_bridge.specs.Apple.{entry_count, entries, short_header, bad_magic, newer_version, entries_outside, entry_outside, apple_torn};
 
+use crate::apple::{AppleForm, magic_of};
 use crate::entry::{Entry, entry_at, entry_count};
 use crate::fault::{BridgeFault, fault_at};
 use rz_core::u32_at;
-
-/// The first number of AppleDouble.
-const MAGIC: u32 = 0x0005_1607;
 
 /// The version that is written.
 const VERSION: u32 = 0x0002_0000;
@@ -22,7 +20,7 @@ const OLD_VERSION: u32 = 0x0001_0000;
 const ENTRIES_AT: usize = 26;
 
 /// ShortHeader.
-#[tactic(auto, unfolding(crate::specs::AppleDouble::short_header))]
+#[tactic(auto, unfolding(crate::specs::Apple::short_header))]
 fn short_header(bytes: &[u8]) -> Option<BridgeFault>
     ensures rule { result ≡ short_header bytes.now }
     ensures within { IfNone result (26 ≤ length bytes.now) }
@@ -35,21 +33,21 @@ fn short_header(bytes: &[u8]) -> Option<BridgeFault>
 }
 
 /// BadMagic.
-#[tactic(auto, unfolding(crate::specs::AppleDouble::bad_magic))]
-fn bad_magic(bytes: &[u8]) -> Option<BridgeFault>
+#[tactic(auto, unfolding(crate::specs::Apple::bad_magic))]
+fn bad_magic(form: AppleForm, bytes: &[u8]) -> Option<BridgeFault>
     requires { 26 ≤ length bytes.now }
-    ensures rule { result ≡ bad_magic bytes.now }
+    ensures rule { result ≡ bad_magic form bytes.now }
     ensures sayable { IfSome result IsSayable }
 {
     let magic = u32_at(bytes, 0);
-    if magic != MAGIC {
+    if magic != magic_of(form) {
         return Some(fault_at(422, 0, u64::from(magic)));
     }
     None
 }
 
 /// NewerVersion.
-#[tactic(auto, unfolding(crate::specs::AppleDouble::newer_version))]
+#[tactic(auto, unfolding(crate::specs::Apple::newer_version))]
 fn newer_version(bytes: &[u8]) -> Option<BridgeFault>
     requires { 26 ≤ length bytes.now }
     ensures rule { result ≡ newer_version bytes.now }
@@ -63,7 +61,7 @@ fn newer_version(bytes: &[u8]) -> Option<BridgeFault>
 }
 
 /// EntryOutside, of all entries.
-#[tactic(auto, unfolding(crate::specs::AppleDouble::entries_outside))]
+#[tactic(auto, unfolding(crate::specs::Apple::entries_outside))]
 fn entries_outside(bytes: &[u8]) -> Option<BridgeFault>
     requires { 26 ≤ length bytes.now }
     ensures rule { result ≡ entries_outside bytes.now }
@@ -78,7 +76,7 @@ fn entries_outside(bytes: &[u8]) -> Option<BridgeFault>
 }
 
 /// EntryOutside, of an entry.
-#[tactic(auto, unfolding(crate::specs::AppleDouble::entry_outside))]
+#[tactic(auto, unfolding(crate::specs::Apple::entry_outside))]
 fn entry_outside(bytes: &[u8], entry: Entry) -> Option<BridgeFault>
     requires offset { entry.offset < 2 ^ 32 }
     requires length { entry.length < 2 ^ 32 }
@@ -107,9 +105,9 @@ fn first_outside(bytes: &[u8]) -> Option<BridgeFault>
 }
 
 /// The first broken rule.
-#[tactic(auto, unfolding(crate::specs::AppleDouble::double_torn))]
-pub fn double_torn(bytes: &[u8]) -> Option<BridgeFault>
-    ensures first { result ≡ double_torn bytes.now }
+#[tactic(auto, unfolding(crate::specs::Apple::apple_torn))]
+pub fn apple_torn(form: AppleForm, bytes: &[u8]) -> Option<BridgeFault>
+    ensures first { result ≡ apple_torn form bytes.now }
     ensures within { IfNone result (26 ≤ length bytes.now) }
     ensures entries { IfNone result (26 + 12 * entry_count bytes.now ≤ length bytes.now) }
     ensures sayable { IfSome result IsSayable }
@@ -117,7 +115,7 @@ pub fn double_torn(bytes: &[u8]) -> Option<BridgeFault>
     if let Some(fault) = short_header(bytes) {
         return Some(fault);
     }
-    if let Some(fault) = bad_magic(bytes) {
+    if let Some(fault) = bad_magic(form, bytes) {
         return Some(fault);
     }
     if let Some(fault) = newer_version(bytes) {

@@ -1,7 +1,7 @@
 use Rattle.std.proofs.Common.{◌≡◌, ◌++◌, ◌<◌, ◌^◌, ◌*◌, ◌+◌, take, drop, length}
 use Rattle.rz_core.specs.Lists.{with_front, each_with_front}
-use Rattle.rz_bridge.specs.AppleDouble.{parts_shown, bytes_of, part_entry}
-use Rattle.rz_bridge.proofs.double_out.append_entries.Given as goal
+use Rattle.rz_bridge.specs.Apple.{parts_shown, bytes_of, part_entry}
+use Rattle.rz_bridge.proofs.apple_out.append_entries.Given as goal
 
 abbrev pub invariant-loop-part : goal.invariant-loop-part
 invariant-loop-part l = record {

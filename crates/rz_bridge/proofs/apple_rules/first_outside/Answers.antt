@@ -1,8 +1,8 @@
 use Rattle.std.proofs.Common.{ap, map, arith}
 use Rattle.rz_core.specs.Lists.{first_of}
-use Rattle.rz_bridge.specs.AppleDouble.{entry_outside}
+use Rattle.rz_bridge.specs.Apple.{entry_outside}
 use Rattle.rz_bridge.proofs.Loops.{entries_first, fault_stops, fault_more, fault_ends}
-use Rattle.rz_bridge.proofs.double_rules.first_outside.Goals as goal
+use Rattle.rz_bridge.proofs.apple_rules.first_outside.Goals as goal
 
 pub loop-position-init : goal.loop-position-init
 loop-position-init c = ap (λ l. first_of (map (entry_outside c.args.bytes.now) l)) (entries_first c.args.bytes.now)

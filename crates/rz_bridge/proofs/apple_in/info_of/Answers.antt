@@ -1,7 +1,7 @@
 use Rattle.std.proofs.Common.{◌++◌, ◌∙◌, ap, drop, length, replicate}
 use Rattle.rz_bridge.specs.Places.{piece}
 use Rattle.rz_bridge.proofs.Padding.{info_is}
-use Rattle.rz_bridge.proofs.double_in.info_of.Goals as goal
+use Rattle.rz_bridge.proofs.apple_in.info_of.Goals as goal
 
 pub returns : goal.returns
 unfolding piece
