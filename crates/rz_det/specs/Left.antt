@@ -11,6 +11,7 @@ use Rattle.rz_fork.specs.declared.layout.Reference.{Reference}
 use Rattle.rz_fork.specs.Layout.{entries, references}
 use Rattle.rz_fork.specs.Admit.{data_outside, name_outside, list_rule, type_rule, id_rule, count_of, HasArea, HasTypes, IsSayable}
 use Rattle.rz_fork.specs.Admit as admit
+use Rattle.rz_fork.specs.Code.{AreMarked}
 use Rattle.rz_fork.specs.Breaks.{listed, all_in, whole_faults}
 use Rattle.rz_det.specs.declared.heads.Heads.{Heads}
 use Rattle.rz_det.specs.declared.lists.Cursor.{Cursor}
@@ -81,11 +82,16 @@ pub record IsAt (bytes : List ℕ) (o : Outline) (at : Cursor) : Type 0 where
   pub so_far : at.so_far ≡ count_of (take at.begun (entries bytes o))
   pub few : at.so_far ≤ 65536 * at.begun
 
+-- where the rule on ids is tested, the ids of the references so far of a type are marked, while there are more
+abbrev pub Marked : Pass → List ℕ → List Bool → TypeEntry → ℕ → Type 0
+Marked pass bytes marks t next = pass ≡ Ids → next < t.count → AreMarked marks (take next (references bytes t))
+
 -- what is still to be given can be
-pub record CanGive (bytes : List ℕ) (heads : Heads) (k : ℕ) (pass : Pass) (cursor : Cursor) : Type 0 where
+pub record CanGive (bytes : List ℕ) (heads : Heads) (k : ℕ) (pass : Pass) (cursor : Cursor) (marks : List Bool) : Type 0 where
   pub begun : k ≤ 6
   pub sayable : AllByRecursion (λ fault. IfSome fault IsSayable) heads.faults
   pub types : IfSome heads.outline (HasTypes bytes)
   pub area : IfSome heads.outline (λ o. heads.area ≡ true → HasArea bytes o.header)
   pub tested : pass ≡ Data → heads.area ≡ true
   pub at : IfSome heads.outline (λ o. IsAt bytes o cursor)
+  pub marked : Marked pass bytes marks cursor.entry cursor.next

@@ -8,7 +8,7 @@ ghost use Rattle.rz_fork.specs.View.{GivesFirst};
 
 use crate::heads::{HEAD_RULES, Heads, read_heads};
 use crate::lists::{Cursor, Pass, START, next_in_lists};
-use rz_fork::ForkFault;
+use rz_fork::{ForkFault, IDS, Marks};
 use std::marker::Model;
 
 /// The broken rules of a fork that are still to be given: by rule, and within a rule in map order.
@@ -19,6 +19,7 @@ pub struct Det<'a> {
     begun: usize,
     pass: Pass,
     cursor: Cursor,
+    marks: Marks,
 }
 
 impl<'a> Model for Det<'a> {
@@ -30,7 +31,7 @@ impl<'a> Model for Det<'a> {
 
     ghost view = { λ det. left det.bytes.now det.heads det.begun det.pass det.cursor };
 
-    ghost invariant = { λ det. CanGive det.bytes.now det.heads det.begun det.pass det.cursor };
+    ghost invariant = { λ det. CanGive det.bytes.now det.heads det.begun det.pass det.cursor det.marks };
 }
 
 /// What no bytes break.
@@ -60,12 +61,12 @@ impl<'a> Det<'a> {
             begun: 0,
             pass: Pass::Lists,
             cursor: START,
+            marks: [false; IDS],
         }
     }
 
     /// The first of the broken rules that are still to come; `None` exactly where none is. It takes no memory. The time
-    /// of all calls is linear in the map, but that each type's code is compared with those before it, and each id
-    /// with those of its type before it.
+    /// of all calls is linear in the map, but that each type's code is compared with those before it.
     pub fn next(&mut self) -> Option<ForkFault>
         ensures first { GivesFirst result self.old self.new }
         ensures sayable { IfSome result IsSayable }
@@ -80,6 +81,7 @@ impl<'a> Det<'a> {
             self.heads.area,
             &mut self.pass,
             &mut self.cursor,
+            &mut self.marks,
         )
     }
 }

@@ -1,15 +1,16 @@
 //! The rules on types and references, each tested over all of them before the next.
 
-ghost use Rattle.std.specs.Prelude.{◌≡◌, ◌<◌, ◌≤◌, ◌+◌, ◌*◌, ◌^◌, ◌++◌, ◌∷◌, [], true, length, take, slice_get, IfNone, IfSome, MatchOption};
+ghost use Rattle.std.specs.Prelude.{◌≡◌, ◌<◌, ◌≤◌, ◌+◌, ◌*◌, ◌^◌, ◌++◌, ◌∷◌, List, [], true, length, IfNone, IfSome, MatchOption};
 ghost use Rattle.rz_fork.specs.Admit.{HasArea, HasTypes, IsSayable};
 ghost use Rattle.rz_fork.specs.Breaks.{listed};
-ghost use Rattle.rz_fork.specs.Layout.{entries, references};
-ghost use Rattle.rz_det.specs.Left.{behind, in_type, left_here, left_in, references_left, IsAt};
+ghost use Rattle.rz_fork.specs.Code.{AreMarked};
+ghost use Rattle.rz_fork.specs.declared.layout.Reference.{Reference};
+ghost use Rattle.rz_det.specs.Left.{behind, in_type, left_here, left_in, references_left, IsAt, Marked};
 ghost use Rattle.rz_det.specs.declared.lists.Pass.TheVariants as passes;
 
 use rz_fork::{
-    ForkFault, Outline, Reference, TypeEntry, data_outside, entry_of, id_repeats, name_outside,
-    reference_of, references_outside, type_repeats,
+    ForkFault, IDS, Marks, Outline, Reference, TypeEntry, data_outside, entry_of, id_repeats,
+    name_outside, reference_of, references_outside, type_repeats,
 };
 
 /// A rule on types and references.
@@ -67,28 +68,26 @@ fn after(pass: Pass, area: bool) -> Option<Pass>
     }
 }
 
-/// What the rule finds at a reference.
+/// What the rule finds at a reference; that on ids looks at those that are marked, and marks its own.
 fn reference_fault(
     pass: Pass,
     bytes: &[u8],
     outline: Outline,
-    entry: TypeEntry,
-    position: usize,
     reference: Reference,
+    marks: &mut Marks,
 ) -> Option<ForkFault>
     requires types { HasTypes bytes.now outline }
     requires area { pass ≡ passes.Data → HasArea bytes.now outline.header }
-    requires list { entry.list + 12 * entry.count ≤ length bytes.now }
-    requires position { position < entry.count }
     requires place { reference.place < 2 ^ 32 }
-    ensures rule { result ≡ in_type pass bytes.now outline (take position (references bytes.now entry)) reference }
+    ensures rule { (before : List Reference) → (pass ≡ passes.Ids → AreMarked marks.old before) → result ≡ in_type pass bytes.now outline before reference }
+    ensures marked { (before : List Reference) → pass ≡ passes.Ids → AreMarked marks.old before → AreMarked marks.new (before ++ reference ∷ []) }
     ensures sayable { IfSome result IsSayable }
 {
     match pass {
         Pass::Lists | Pass::Codes => None,
         Pass::Data => data_outside(bytes, outline, reference),
         Pass::Names => name_outside(bytes, outline, reference),
-        Pass::Ids => id_repeats(bytes, entry, position, reference),
+        Pass::Ids => id_repeats(marks, reference),
     }
 }
 
@@ -99,18 +98,21 @@ fn next_reference(
     outline: Outline,
     entry: TypeEntry,
     next: &mut usize,
+    marks: &mut Marks,
 ) -> Option<ForkFault>
     requires types { HasTypes bytes.now outline }
     requires area { pass ≡ passes.Data → HasArea bytes.now outline.header }
     requires list { next.old < entry.count → entry.list + 12 * entry.count ≤ length bytes.now }
+    requires marked { Marked pass bytes.now marks.old entry next.old }
     ensures gives { references_left pass bytes.now outline entry next.old ≡ listed result ++ references_left pass bytes.now outline entry next.new }
     ensures onward { next.old ≤ next.new }
     ensures all { IfNone result (entry.count ≤ next.new) }
+    ensures marked { Marked pass bytes.now marks.new entry next.new }
     ensures sayable { IfSome result IsSayable }
 {
     while *next < entry.count {
         let reference = reference_of(bytes, entry, *next);
-        let fault = reference_fault(pass, bytes, outline, entry, *next, reference);
+        let fault = reference_fault(pass, bytes, outline, reference, marks);
         *next += 1;
         if fault.is_some() {
             return fault;
@@ -119,8 +121,25 @@ fn next_reference(
     None
 }
 
+/// Clears the marks where the rule is that on ids.
+fn clear(pass: Pass, marks: &mut Marks)
+    ensures { pass ≡ passes.Ids → AreMarked marks.new [] }
+{
+    if let Pass::Ids = pass {
+        for id in 0..IDS {
+            marks[id] = false;
+        }
+    }
+}
+
 /// Begins the next type, and gives what the rule finds at the type itself.
-fn begin_type(pass: Pass, bytes: &[u8], outline: Outline, cursor: &mut Cursor) -> Option<ForkFault>
+fn begin_type(
+    pass: Pass,
+    bytes: &[u8],
+    outline: Outline,
+    cursor: &mut Cursor,
+    marks: &mut Marks,
+) -> Option<ForkFault>
     requires types { HasTypes bytes.now outline }
     requires at { IsAt bytes.now outline cursor.old }
     requires done { cursor.old.entry.count ≤ cursor.old.next }
@@ -128,6 +147,7 @@ fn begin_type(pass: Pass, bytes: &[u8], outline: Outline, cursor: &mut Cursor) -
     ensures gives { left_here pass bytes.now outline cursor.old ≡ listed result ++ left_here pass bytes.now outline cursor.new }
     ensures at { IsAt bytes.now outline cursor.new }
     ensures begun { cursor.new.begun ≡ cursor.old.begun + 1 }
+    ensures marked { Marked pass bytes.now marks.new cursor.new.entry cursor.new.next }
     ensures sayable { IfSome result IsSayable }
 {
     let entry = entry_of(bytes, outline, cursor.begun);
@@ -139,6 +159,7 @@ fn begin_type(pass: Pass, bytes: &[u8], outline: Outline, cursor: &mut Cursor) -
             if outside.is_none() {
                 cursor.entry = entry;
                 cursor.next = 0;
+                clear(pass, marks);
             }
             None
         }
@@ -154,21 +175,24 @@ fn next_in_pass(
     bytes: &[u8],
     outline: Outline,
     cursor: &mut Cursor,
+    marks: &mut Marks,
 ) -> Option<ForkFault>
     requires types { HasTypes bytes.now outline }
     requires area { pass ≡ passes.Data → HasArea bytes.now outline.header }
     requires at { IsAt bytes.now outline cursor.old }
+    requires marked { Marked pass bytes.now marks.old cursor.old.entry cursor.old.next }
     ensures gives { left_here pass bytes.now outline cursor.old ≡ listed result ++ left_here pass bytes.now outline cursor.new }
     ensures none { IfNone result (left_here pass bytes.now outline cursor.new ≡ []) }
     ensures at { IsAt bytes.now outline cursor.new }
+    ensures marked { Marked pass bytes.now marks.new cursor.new.entry cursor.new.next }
     ensures sayable { IfSome result IsSayable }
 {
     loop {
-        let fault = next_reference(pass, bytes, outline, cursor.entry, &mut cursor.next);
+        let fault = next_reference(pass, bytes, outline, cursor.entry, &mut cursor.next, marks);
         if fault.is_some() || cursor.begun >= outline.count {
             return fault;
         }
-        let fault = begin_type(pass, bytes, outline, cursor);
+        let fault = begin_type(pass, bytes, outline, cursor, marks);
         if fault.is_some() {
             return fault;
         }
@@ -182,19 +206,22 @@ pub fn next_in_lists(
     area: bool,
     pass: &mut Pass,
     cursor: &mut Cursor,
+    marks: &mut Marks,
 ) -> Option<ForkFault>
     requires types { HasTypes bytes.now outline }
     requires area { area ≡ true → HasArea bytes.now outline.header }
     requires tested { pass.old ≡ passes.Data → area ≡ true }
     requires at { IsAt bytes.now outline cursor.old }
+    requires marked { Marked pass.old bytes.now marks.old cursor.old.entry cursor.old.next }
     ensures gives { left_in area pass.old bytes.now outline cursor.old ≡ listed result ++ left_in area pass.new bytes.now outline cursor.new }
     ensures none { IfNone result (left_in area pass.new bytes.now outline cursor.new ≡ []) }
     ensures tested { pass.new ≡ passes.Data → area ≡ true }
     ensures at { IsAt bytes.now outline cursor.new }
+    ensures marked { Marked pass.new bytes.now marks.new cursor.new.entry cursor.new.next }
     ensures sayable { IfSome result IsSayable }
 {
     loop {
-        let fault = next_in_pass(*pass, bytes, outline, cursor);
+        let fault = next_in_pass(*pass, bytes, outline, cursor, marks);
         if fault.is_some() {
             return fault;
         }

@@ -1,23 +1,19 @@
 -- Marks of ids, and codes of types that differ.
-use Rattle.std.proofs.Common.{◌≡◌, ◌≢◌, ◌==◌, ◌||◌, Bool, true, false, ℕ, zero, suc, ◌+◌, ◌<◌, List, [], ◌∷◌, ◌++◌, Some, None, drop, take, map, set, replicate, length, get_or, slice_get, eqb, ap, sym, refl, subst, ◌∙◌, append_assoc, add-one, arith}
-use Rattle.std.proofs.Math.Bool.{or-false}
+use Rattle.std.proofs.Common.{◌≡◌, ◌≢◌, ◌==◌, ◌||◌, Bool, true, false, ℕ, zero, suc, ◌+◌, ◌<◌, List, [], ◌∷◌, ◌++◌, Some, None, drop, map, set, replicate, length, get_or, slice_get, eqb, ap, sym, refl, subst, ◌∙◌, append_assoc, add-one, arith}
 use Rattle.std.proofs.lemmas.Bool.{eq-eqb, ne_eqb, true≢false}
 use Rattle.std.proofs.lemmas.Bool.Decides.{nat_tests}
 use Rattle.std.proofs.lemmas.List.{get_or-set_same, get_or-set_other, at_drop_more}
-use Rattle.std.proofs.lemmas.List.Folds.{list_any-append}
 use Rattle.std.proofs.lemmas.Option.{slice_get_within, get_or_from_slice_get}
 use Rattle.std.specs.List.{list_any, IsDistinct, AllByRecursion}
 use Rattle.std.proofs.lemmas.List.Sorted.{IsPermutation-sym}
 use Rattle.std.proofs.lemmas.Map.Keys.{IsDistinct-IsPermutation}
 use Rattle.std.specs.List.Sorted.{IsPermutation, IsStrictlyIncreasing}
-use Rattle.rz_core.proofs.Lists.{take_at_more}
 use Rattle.rz_core.specs.Lists.{or_else, first_in}
 use Rattle.rz_fork.specs.declared.layout.Reference.{Reference}
 use Rattle.rz_fork.specs.declared.layout.TypeEntry.{TypeEntry}
 use Rattle.rz_fork.specs.declared.layout.Outline.{Outline}
 use Rattle.rz_fork.specs.Layout.{references}
 use Rattle.rz_fork.specs.Admit.{id_rule, in_type, type_rule, broken, fault, Id}
-use Rattle.rz_fork.specs.Code.{AreMarked}
 
 -- no marks
 pub unmarked : (n id : ℕ) → get_or (replicate n false) id false ≡ false
@@ -31,25 +27,6 @@ module _ (seen : List Bool) (r : Reference) (within : r.id < length seen) where
 
   other_id : (id : ℕ) → (r.id == id) ≡ false → id ≢ r.id
   other_id id other is = true≢false (sym (eq-eqb r.id id (sym is)) ∙ other)
-
-  -- the id of one reference more is marked
-  mark_by : (before : List Reference) (id : ℕ) (b : Bool) → (r.id == id) ≡ b → get_or seen id false ≡ list_any (λ x. x.id == id) before
-      → get_or (set seen r.id true) id false ≡ (list_any (λ x. x.id == id) before || b)
-  mark_by before id true same marked =
-      ap (λ (i : ℕ). get_or (set seen r.id true) i false) (same_id id same) ∙ get_or-set_same seen r.id true false within
-      ∙ sym (or_with_true (list_any (λ x. x.id == id) before))
-    where
-      or_with_true : (b : Bool) → (b || true) ≡ true
-      or_with_true true = refl
-      or_with_true false = refl
-  mark_by before id false other marked =
-      get_or-set_other seen r.id id true false (other_id id other) ∙ marked ∙ sym (or-false (list_any (λ x. x.id == id) before))
-
-  pub mark_more : (rs : List Reference) (k : ℕ) → slice_get rs k ≡ Some r → AreMarked seen (take k rs) → AreMarked (set seen r.id true) (take (k + 1) rs)
-  mark_more rs k is marked id =
-      mark_by (take k rs) id (r.id == id) refl (marked id)
-      ∙ ap (λ b. list_any (λ x. x.id == id) (take k rs) || b) (sym (or-false (r.id == id)))
-      ∙ sym (ap (list_any (λ x. x.id == id)) (take_at_more rs k r is) ∙ list_any-append (λ x. x.id == id) (take k rs) (r ∷ []))
 
   -- the id of one reference more is clear, or one that follows has it
   clear_by : (later : List Reference) (id : ℕ) (b : Bool) → (r.id == id) ≡ b → list_any (λ x. x.id == id) later ≡ false

@@ -25,7 +25,7 @@ pub use fault::{ForkFault, LimitFault};
 pub use laws::{admitted_forks_fit, breaks_begin};
 pub use layout::{Header, Outline, Reference, TypeEntry, read_header, read_outline, type_list_at};
 pub use numbers::{long_at, word_at};
-pub use repeats::{id_repeats, type_repeats};
+pub use repeats::{IDS, Marks, id_repeats, type_repeats};
 pub use rules::{
     data_area_outside, data_outside, map_outside, name_outside, references_outside, short_header,
     short_map, type_list_outside, types_outside,

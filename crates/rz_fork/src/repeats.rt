@@ -1,21 +1,26 @@
 //! The rule on repeated types and ids, without a look back over all that stands before each: codes of types are sorted,
 //! and ids are marked in a table. See `specs/Admit`.
 
-ghost use Rattle.std.specs.Prelude.{◌≡◌, ◌+◌, ◌*◌, ◌≤◌, ◌<◌, ◌^◌, ◌==◌, [], length, map, take, eqb, true, None, IfNone, IfSome};
+ghost use Rattle.std.specs.Prelude.{◌≡◌, ◌+◌, ◌*◌, ◌≤◌, ◌<◌, ◌^◌, ◌==◌, List, [], ◌∷◌, ◌++◌, length, map, take, eqb, true, None, IfNone, IfSome};
 ghost use Rattle.std.specs.List.{list_any, IsDistinct};
 ghost use Rattle.std.specs.List.Sorted.{IsStrictlyIncreasing};
 ghost use Rattle.rz_core.specs.Lists.{first_in};
 ghost use Rattle.rz_fork.specs.Layout.{entries, references};
 ghost use Rattle.rz_fork.specs.Admit.{id_rule, in_types, list_rule, type_rule, HasTypes, Id, IsSayable};
 ghost use Rattle.rz_fork.specs.Code.{AreMarked};
+ghost use Rattle.rz_fork.specs.declared.layout.Reference.{Reference};
 
 use crate::admit::{entry_of, reference_of};
 use crate::fault::ForkFault;
 use crate::layout::{Outline, Reference, TypeEntry};
 use crate::rules::{MAX_TYPES, fault};
+use rz_core::u32_at;
 
 /// How many ids there are.
-const IDS: usize = 65_536;
+pub const IDS: usize = 65_536;
+
+/// Which ids are marked.
+pub type Marks = [bool; IDS];
 
 /// The first type that an entry before has.
 pub fn type_repeated(bytes: &[u8], outline: Outline) -> Option<ForkFault>
@@ -105,8 +110,9 @@ fn has_code(bytes: &[u8], outline: Outline, count: usize, code: u32) -> bool
     ensures { result ≡
         list_any (λ other. other.code == code) (take count (entries bytes.now outline)) }
 {
+    let first = outline.header.map_at + outline.types + 2;
     for position in 0..count {
-        if entry_of(bytes, outline, position).code == code {
+        if u32_at(bytes, first + 8 * position) == code {
             return true;
         }
     }
@@ -131,42 +137,25 @@ pub fn id_repeated(bytes: &[u8], outline: Outline) -> Option<ForkFault>
     None
 }
 
-/// Repeated, of a reference behind so many of its type: whether one of them has its id.
-pub fn id_repeats(
-    bytes: &[u8],
-    entry: TypeEntry,
-    count: usize,
-    reference: Reference,
-) -> Option<ForkFault>
-    requires list { entry.list + 12 * entry.count ≤ length bytes.now }
-    requires count { count ≤ entry.count }
+/// Repeated, of a reference: whether its id is marked, as those of the references of its type before it are. From then on
+/// it is.
+pub fn id_repeats(seen: &mut Marks, reference: Reference) -> Option<ForkFault>
     requires place { reference.place < 2 ^ 32 }
-    ensures rule { result ≡ id_rule (take count (references bytes.now entry)) reference }
+    ensures rule { (before : List Reference) → AreMarked seen.old before → result ≡ id_rule before reference }
+    ensures marked { (before : List Reference) → AreMarked seen.old before → AreMarked seen.new (before ++ reference ∷ []) }
     ensures sayable { IfSome result IsSayable }
 {
-    if has_id(bytes, entry, count, reference.id) {
+    let id = reference.id as usize;
+    let repeats = seen[id];
+    seen[id] = true;
+    if repeats {
         return Some(fault(410, reference.place, reference.id as u32));
     }
     None
 }
 
-/// Whether one of the first so many references of a type has this id.
-fn has_id(bytes: &[u8], entry: TypeEntry, count: usize, id: u16) -> bool
-    requires list { entry.list + 12 * entry.count ≤ length bytes.now }
-    requires count { count ≤ entry.count }
-    ensures { result ≡
-        list_any (λ other. other.id == id) (take count (references bytes.now entry)) }
-{
-    for position in 0..count {
-        if reference_of(bytes, entry, position).id == id {
-            return true;
-        }
-    }
-    false
-}
-
 /// Marks the ids of a type, up to the first that is marked already.
-fn mark_ids(seen: &mut [bool; IDS], bytes: &[u8], entry: TypeEntry) -> Option<ForkFault>
+fn mark_ids(seen: &mut Marks, bytes: &[u8], entry: TypeEntry) -> Option<ForkFault>
     requires list { entry.list + 12 * entry.count ≤ length bytes.now }
     requires short { length bytes.now < 2 ^ 32 }
     requires clear { AreMarked seen.now [] }
@@ -175,18 +164,15 @@ fn mark_ids(seen: &mut [bool; IDS], bytes: &[u8], entry: TypeEntry) -> Option<Fo
     ensures sayable { IfSome result IsSayable }
 {
     for position in 0..entry.count {
-        let reference = reference_of(bytes, entry, position);
-        let id = reference.id as usize;
-        if seen[id] {
-            return Some(fault(410, reference.place, reference.id as u32));
+        if let Some(fault) = id_repeats(seen, reference_of(bytes, entry, position)) {
+            return Some(fault);
         }
-        seen[id] = true;
     }
     None
 }
 
 /// Clears the marks of the ids of a type, so that the time goes by its references alone.
-fn clear_ids(seen: &mut [bool; IDS], bytes: &[u8], entry: TypeEntry)
+fn clear_ids(seen: &mut Marks, bytes: &[u8], entry: TypeEntry)
     requires list { entry.list + 12 * entry.count ≤ length bytes.now }
     requires marked { AreMarked seen.now (references bytes.now entry) }
     ensures { AreMarked seen.new [] }

@@ -44,3 +44,12 @@ returns-clause-at c =
           rw w.cursor-is (at_begun b o at t c.entry_of-entry.ensures.entry c.requires.at c.requires.more c.entry_of-entry.ensures.count (omega (arith, list, c.requires.types.map)))
       | in-Data+else-is_none w ↦ rw w.cursor-is past
     ]
+
+pub returns-clause-marked : goal.returns-clause-marked
+returns-clause-marked c =
+    elim c.match-pass.branch [
+      | in-Lists w ↦ rw w.cursor-is (λ ids more. absurd (omega (arith, c.requires.done, more)))
+      | in-Codes w ↦ rw w.cursor-is (λ ids more. absurd (omega (arith, c.requires.done, more)))
+      | in-Data+then-is_none w ↦ rw (w.cursor-is, w.marks-is) (λ ids more. w.clear.ensures ids)
+      | in-Data+else-is_none w ↦ rw w.cursor-is (λ ids more. absurd (omega (arith, c.requires.done, more)))
+    ]

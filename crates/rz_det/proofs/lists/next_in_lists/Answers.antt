@@ -1,4 +1,4 @@
-use Rattle.std.proofs.Common.{refl, sym, ◌∙◌}
+use Rattle.std.proofs.Common.{refl, sym, ◌∙◌, arith}
 use Rattle.rz_det.specs.Left.{left_here}
 use Rattle.rz_det.proofs.Onward.{next_rule, finds_none, at_start}
 use Rattle.rz_det.proofs.lists.next_in_lists.Goals as goal
@@ -15,4 +15,5 @@ loop-outline-preserved c =
       same = c.loop-outline.invariant.same ∙ next_rule b o c.args.area pass c.in-Some.next at none c.in-Some.ensures.passes;
       tested = c.in-Some.ensures.tested;
       at = at_start b o (record { place = 0; code = 0; count = 0; list = 0 }) refl;
+      marked = λ ids more. absurd (omega (arith, more));
     }

@@ -1,5 +1,5 @@
 use Rattle.std.proofs.Common.{◌≡◌, true, length}
-use Rattle.rz_det.specs.Left.{behind, left_in, IsAt}
+use Rattle.rz_det.specs.Left.{behind, left_in, IsAt, Marked}
 use Rattle.rz_det.specs.declared.lists.Pass.TheVariants as passes
 use Rattle.rz_det.proofs.lists.next_in_lists.Given as goal
 
@@ -8,6 +8,7 @@ invariant-loop-outline l = record {
   same : left_in l.area l.initial.pass l.bytes l.outline l.initial.cursor ≡ left_in l.area l.pass l.bytes l.outline l.cursor;
   tested : l.pass ≡ passes.Data → l.area ≡ true;
   at : IsAt l.bytes l.outline l.cursor;
+  marked : Marked l.pass l.bytes l.marks l.cursor.entry l.cursor.next;
 }
 
 abbrev pub decreases-loop-outline : goal.decreases-loop-outline

@@ -1,31 +1,30 @@
-use Rattle.std.proofs.Common.{rules, ◌≡◌, ◌<◌, ◌==◌, Bool, length, sym, ap, ◌∙◌, arith, take, Some, None}
+use Rattle.std.proofs.Common.{◌==◌, List, sym, ap, subst, ◌∙◌, arith, take}
 use Rattle.std.proofs.lemmas.List.{take_all}
 use Rattle.std.specs.List.{list_any}
-use Rattle.rz_core.proofs.Lists.{first_in_more, first_in_stop, first_in_end}
+use Rattle.rz_core.proofs.Lists.{take_at_more, first_in_more, first_in_stop, first_in_end}
+use Rattle.rz_fork.specs.declared.layout.Reference.{Reference}
 use Rattle.rz_fork.specs.Layout.{references}
-use Rattle.rz_fork.specs.Admit.{id_rule, broken, fault}
+use Rattle.rz_fork.specs.Admit.{id_rule}
+use Rattle.rz_fork.specs.Code.{AreMarked}
 use Rattle.rz_fork.proofs.Items.{length-references}
-use Rattle.rz_fork.proofs.Marks.{mark_more}
 use Rattle.rz_fork.proofs.repeats.mark_ids.Goals as goal
 
-pub returns-then-seen-id-clause-rule : goal.returns-then-seen-id-clause-rule
-returns-then-seen-id-clause-rule c =
+pub returns-in-Some-clause-rule : goal.returns-in-Some-clause-rule
+returns-in-Some-clause-rule c =
     let rs = references c.args.bytes.now c.args.entry in
-    let r = c.reference_of-reference.result in
-    let breaks : id_rule (take c.loop-position.position rs) r ≡ Some (fault 410 r.place r.id) =
-    ap (λ (b : Bool). broken b (fault 410 r.place r.id)) (sym (c.loop-position.invariant.marked r.id) ∙ c.if-seen-id.true) in
-    ap (λ f. Some f) c.fault.ensures ∙ sym (first_in_stop id_rule rs c.loop-position.position r c.reference_of-reference.ensures.reference (fault 410 r.place r.id) breaks) ∙ c.loop-position.invariant.rest
+    let breaks = c.in-Some.ensures.rule (take c.loop-position.position rs) c.loop-position.invariant.marked in
+    sym (first_in_stop id_rule rs c.loop-position.position c.reference_of.result c.reference_of.ensures.reference c.in-Some.fault (sym breaks)) ∙ c.loop-position.invariant.rest
 
 pub loop-position-preserved : goal.loop-position-preserved
 loop-position-preserved c =
     let rs = references c.args.bytes.now c.args.entry in
-    let r = c.reference_of-reference.result in
-    let within : r.id < length c.loop-position.seen = search rules in
-    let holds : id_rule (take c.loop-position.position rs) r ≡ None =
-    ap (λ (b : Bool). broken b (fault 410 r.place r.id)) (sym (c.loop-position.invariant.marked r.id) ∙ c.if-seen-id.false) in
+    let place = c.loop-position.position in
+    let r = c.reference_of.result in
+    let is = c.reference_of.ensures.reference in
+    let marked = c.loop-position.invariant.marked in
     record {
-      marked = mark_more c.loop-position.seen r within rs c.loop-position.position c.reference_of-reference.ensures.reference c.loop-position.invariant.marked;
-      rest = first_in_more id_rule rs c.loop-position.position r c.reference_of-reference.ensures.reference holds ∙ c.loop-position.invariant.rest;
+      marked = subst (λ (l : List Reference). AreMarked c.id_repeats.new.seen l) (sym (take_at_more rs place r is)) (c.in_default.ensures.marked (take place rs) marked);
+      rest = first_in_more id_rule rs place r is (sym (c.in_default.ensures.rule (take place rs) marked)) ∙ c.loop-position.invariant.rest;
     }
 
 pub returns-clause-rule : goal.returns-clause-rule

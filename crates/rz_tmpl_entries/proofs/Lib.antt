@@ -1,0 +1,7 @@
+pub mod Places
+pub mod Faults
+pub mod Shown
+pub mod Cuts
+pub mod Fronts
+pub mod First
+pub mod Numbers

@@ -1,0 +1,61 @@
+-- The place behind an entry, and what the code keeps of a place.
+use Rattle.std.specs.Prelude.{◌≡◌, ℕ, ◌<◌, ◌≤◌, ◌+◌, ◌==◌, Bool, false, List, [], ◌∷◌, length, take, drop, Option, Some, None, option_map}
+use Rattle.rz_tmpl_entries.specs.Cut.{entry_fault, most_open, next_fault}
+use Rattle.rz_tmpl_entries.specs.Entry.{entry_of}
+use Rattle.rz_tmpl_entries.specs.Items.{at, count, has_value, innermost, inside, list, none, one, waiting_outside, waits, Items, Place}
+use Rattle.rz_tmpl_entries.specs.declared.entry.Entry.{Entry}
+use Rattle.rz_tmpl_entries.specs.declared.entry.Entry.TheVariants.{Count, End, One, Start}
+use Rattle.rz_tmpl_entries.specs.declared.bodies.Next.{Next}
+use Rattle.rz_tmpl_entries.specs.declared.bodies.Bodies.{Bodies}
+
+-- a body behind another
+abbrev pub append : Items → Items → Items
+append none more = more
+append (one plain rest) more = one plain (append rest more)
+append (count less rest) more = count less (append rest more)
+append (list counted row rest) more = list counted row (append rest more)
+
+-- the place behind the end of the innermost list, where the inner place that is open ends so
+abbrev pub close : Items → Bool → Place → Option Place → Option Place
+close before counted (at items) closed = Some (at (append before (list counted items none)))
+close before counted (inside more other place) closed = option_map (inside before counted) closed
+
+-- the place behind an entry; the end of a list has one in a list alone
+abbrev pub behind : Place → Entry → Option Place
+behind (at items) (One plain) = Some (at (append items (one plain none)))
+behind (at items) (Count less) = Some (at (append items (count less none)))
+behind (at items) (Start counted) = Some (inside items counted (at none))
+behind (at items) End = None
+behind (inside before counted place) (One plain) = option_map (inside before counted) (behind place (One plain))
+behind (inside before counted place) (Count less) = option_map (inside before counted) (behind place (Count less))
+behind (inside before counted place) (Start other) = option_map (inside before counted) (behind place (Start other))
+behind (inside before counted place) End = close before counted place (behind place End)
+
+-- what is kept is so at this place
+pub record Shows (place : Place) (bodies : Bodies) : Type 0 where
+  pub waiting : bodies.waiting ≡ waits false (innermost place)
+  pub valued : bodies.valued ≡ has_value (innermost place)
+  pub outside : bodies.outside.items ≡ waiting_outside place
+
+-- the fault of bytes with their first entry, or at their end, where so much stands open
+abbrev pub fault_at : Bodies → List ℕ → Option ℕ
+fault_at bodies bytes = next_fault (length bodies.outside.items) bodies.waiting bodies.valued bytes
+
+-- that of an entry
+abbrev pub fault_of : Bodies → Entry → Option ℕ
+fault_of bodies entry = entry_fault (length bodies.outside.items == most_open) (length bodies.outside.items == 0) bodies.waiting bodies.valued entry
+
+-- the bytes begin with this entry
+pub record IsNext (bytes : List ℕ) (next : Next) : Type 0 where
+  pub label : ℕ
+  pub more : List ℕ
+  pub whole : bytes ≡ label ∷ more
+  pub small : label < 256
+  pub fits : label + 4 ≤ length more
+  pub known : entry_of (take 4 (drop label more)) ≡ Some next.entry
+  pub length : next.length ≡ label + 5
+
+-- the bytes have ended, or begin with this entry, without a fault
+abbrev pub GoesOn : Bodies → List ℕ → Option Next → Type 0
+GoesOn bodies bytes None = (bytes ≡ []) × (fault_at bodies bytes ≡ None)
+GoesOn bodies bytes (Some next) = IsNext bytes next × (fault_of bodies next.entry ≡ None)

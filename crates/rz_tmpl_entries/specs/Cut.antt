@@ -1,0 +1,81 @@
+-- How the bytes of a template are cut into entries, and where that ends at a fault.
+use Rattle.std.specs.Prelude.{◌≡◌, ℕ, ◌<◌, ◌+◌, ◌-◌, ◌==◌, nat_lt, Bool, true, false, if◌then◌else◌, List, [], ◌∷◌, ◌++◌, length, map, take, drop, Option, Some, None, Ok, Err}
+use Rattle.std.specs.List.{flat_map, AllByRecursion}
+use Rattle.std.specs.declared.result.Result.{Result}
+use Rattle.rz_tmpl_entries.specs.Entry.{entry_of}
+use Rattle.rz_tmpl_entries.specs.Items.{at, entries_before, entries_of, has_value, innermost, is_place_kept, may_start, waiting_outside, waits, Items, Place}
+use Rattle.rz_tmpl_entries.specs.declared.entry.Entry.{Entry}
+use Rattle.rz_tmpl_entries.specs.declared.entry.Entry.TheVariants.{Count, End, One, Start}
+use Rattle.rz_tmpl_entries.specs.declared.fault.TmplFault.{TmplFault}
+
+-- so many lists may be open in one another
+abbrev pub most_open : ℕ
+most_open = 60
+
+-- an entry as it stands in the bytes: a label, which nothing reads, and a code of four bytes
+pub record Labelled : Type 0 where
+  pub label : List ℕ
+  pub code : List ℕ
+
+pub record IsLabelled (entry : Labelled) : Type 0 where
+  pub label : length entry.label < 256
+  pub code : length entry.code ≡ 4
+
+abbrev pub entry_bytes : Labelled → List ℕ
+entry_bytes entry = length entry.label ∷ (entry.label ++ entry.code)
+
+-- Faults.
+
+-- the fault of an entry behind which no list more may be open, or one may, in no list or in one, in a body where a count waits or
+-- none does, and that has a value or none
+abbrev pub entry_fault : (full outermost waiting valued : Bool) → Entry → Option ℕ
+entry_fault full outermost waiting valued (One plain) = None
+entry_fault full outermost waiting valued (Count less) = if waiting then Some 454 else None
+entry_fault full outermost waiting valued (Start counted) = if may_start counted waiting then (if full then Some 456 else None) else Some 454
+entry_fault full outermost waiting valued End =
+    if outermost then Some 453 else if waiting then Some 454 else if valued then None else Some 455
+
+-- the fault at the end of the bytes
+abbrev pub end_fault : (outermost waiting : Bool) → Option ℕ
+end_fault outermost waiting = if outermost then (if waiting then Some 454 else None) else Some 453
+
+-- that of an entry of this code
+abbrev pub code_fault : (full outermost waiting valued : Bool) → Option Entry → Option ℕ
+code_fault full outermost waiting valued None = Some 452
+code_fault full outermost waiting valued (Some entry) = entry_fault full outermost waiting valued entry
+
+-- that of the next entry of these bytes, where so many lists are open
+abbrev pub next_fault : (lists : ℕ) (waiting valued : Bool) → List ℕ → Option ℕ
+next_fault lists waiting valued [] = end_fault (lists == 0) waiting
+next_fault lists waiting valued (label ∷ bytes) =
+    if nat_lt (length bytes) (label + 4) then Some 451
+    else code_fault (lists == most_open) (lists == 0) waiting valued (entry_of (take 4 (drop label bytes)))
+
+-- the fault of the bytes behind a place at their first entry, or at their end
+abbrev pub fault_behind : Place → List ℕ → Option ℕ
+fault_behind place bytes = next_fault (length (waiting_outside place)) (waits false (innermost place)) (has_value (innermost place)) bytes
+
+-- Cuts.
+
+-- in front of these bytes stand whole entries without a fault, which lead to this place
+pub record Stands (bytes : List ℕ) (place : Place) (rest : List ℕ) : Type 0 where
+  pub front : List Labelled
+  pub whole : AllByRecursion IsLabelled front
+  pub cut : bytes ≡ flat_map entry_bytes front ++ rest
+  pub known : map (λ entry. entry_of entry.code) front ≡ map Some (entries_before place)
+  pub kept : is_place_kept most_open place ≡ true
+
+-- the bytes are the entries of a body, or they have this fault first, at the offset of an entry or at their end
+pub data IsCut (bytes : List ℕ) : Result Items TmplFault → Type 0 where
+  whole : (items : Items) → Stands bytes (at items) [] → waits false items ≡ false → IsCut bytes (Ok items)
+  broken : (place : Place) (rest : List ℕ) (number : ℕ) → Stands bytes place rest → fault_behind place rest ≡ Some number
+      → IsCut bytes (Err (record { number = number; offset = length bytes - length rest }))
+
+-- the entries of a body that was cut, or the fault
+abbrev pub entries_in : Result Items TmplFault → Result (List Entry) TmplFault
+entries_in (Ok items) = Ok (entries_of items)
+entries_in (Err fault) = Err fault
+
+-- the bytes have these entries, or this fault
+abbrev pub Reads : List ℕ → Result (List Entry) TmplFault → Type 0
+Reads bytes answer = (cut : Result Items TmplFault) × IsCut bytes cut × (entries_in cut ≡ answer)

@@ -1,0 +1,5 @@
+pub mod Entry
+pub mod Items
+pub mod Cut
+pub mod Bodies
+pub mod Faults
