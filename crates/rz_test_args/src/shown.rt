@@ -103,6 +103,7 @@ fn show_form(word: &[u8], form: Option<Form>, text: &mut Text) {
         text.put(match form {
             Form::Raw => b"raw",
             Form::AppleDouble => b"double",
+            Form::AppleSingle => b"single",
             Form::MacBinary => b"macbin",
             Form::BinHex => b"hqx",
         });

@@ -26,6 +26,7 @@ use Rattle.rz_tools.proofs.EveryMeaning.{has_beside, has_unsaid}
 use Rattle.rz_tools.proofs.EveryText.{has_file_text}
 use Rattle.rz_tools_output.specs.Base.{attributes_asked, base_of, or_empty, Base}
 use Rattle.rz_tools_output.specs.Bridge.{bridge_asked, bridged, BridgeAsked, one, two, AreWrites, Bridges, HasBeside, IsRead, IsWrittenAs}
+use Rattle.rz_tools_output.specs.Det.{breaks_of, det_asked, told}
 use Rattle.rz_tools.specs.DeRez.{derez_asked, DeRezAsked, HasFileText, HasText, Shows}
 use Rattle.rz_tools.specs.Types.{known_by, types_around, TypesAre, TypesAsked}
 use Rattle.rz_tools_output.specs.Output.{file_of, form_asked, list_fork, IsFileOf, IsOutput, Target}
@@ -58,6 +59,7 @@ module _ (name : (form : Form) (path : List ℕ) (file : MacFile) → Has (Named
     has_data : (form : Form) (header : List ℕ) → (bytes : List ℕ) × HasBeside form header files bytes
     has_data forms.AppleDouble header = let beside = data_file header in (or_empty (finite.get files beside.0), (beside.0, beside.1, refl))
     has_data forms.Raw header = ([], refl)
+    has_data forms.AppleSingle header = ([], refl)
     has_data forms.MacBinary header = ([], refl)
     has_data forms.BinHex header = ([], refl)
 
@@ -70,6 +72,7 @@ module _ (name : (form : Form) (path : List ℕ) (file : MacFile) → Has (Named
     is_double : (form : Form) → Dec (form ≡ forms.AppleDouble)
     is_double forms.AppleDouble = yes refl
     is_double forms.Raw = no (λ is. cc is)
+    is_double forms.AppleSingle = no (λ is. cc is)
     is_double forms.MacBinary = no (λ is. cc is)
     is_double forms.BinHex = no (λ is. cc is)
 
@@ -145,6 +148,7 @@ module _ (name : (form : Form) (path : List ℕ) (file : MacFile) → Has (Named
       has_answer names.Bridge items files moment places =
           let made = has_bridged data_file (bridge_asked items) files in
           (bridged made.0, (made.0, made.1, refl))
+      has_answer names.Det items files moment places = let asked = det_asked items in (told (breaks_of asked (finite.get files asked.file)), refl)
       has_answer names.Sample items files moment places = has_sample has_rez has_shows (places_of items) moment places
       has_answer names.Help items files moment places = (shown (record { bytes = help_text; said = [] }), refl)
       has_answer names.Version items files moment places = (shown (record { bytes = version_text; said = [] }), refl)

@@ -159,6 +159,7 @@ once_read beside asked files (Some bytes) a b is also =
     one_beside forms.AppleDouble x y (name, is, so) (other, also, too) =
         so ∙ ap (λ (n : List ℕ). or_empty (finite.get files n)) (beside asked.file name other is also) ∙ sym too
     one_beside forms.Raw x y so too = so ∙ sym too
+    one_beside forms.AppleSingle x y so too = so ∙ sym too
     one_beside forms.MacBinary x y so too = so ∙ sym too
     one_beside forms.BinHex x y so too = so ∙ sym too
 
@@ -245,6 +246,7 @@ module _ (cutting : OneCutting) (statement_law : OneStatement) (matching : OneMa
         is.2 ∙ ap (or_refused shown) (once_shows moment (derez_asked items) files is.0 also.0 is.1 also.1) ∙ sym also.2
     one_to names.Bridge items files moment a b is also =
         is.2 ∙ ap bridged (once_bridges named data_file (bridge_asked items) files is.0 also.0 is.1 also.1) ∙ sym also.2
+    one_to names.Det items files moment a b is also = is ∙ sym also
     one_to names.Sample items files moment a b is also = one_sample once_rez once_shows (places_of items) moment a b is also
     one_to names.Help items files moment a b is also = is ∙ sym also
     one_to names.Version items files moment a b is also = is ∙ sym also

@@ -15,6 +15,7 @@ use Rattle.rz_tools.specs.Reply.{outcome_of, EachAnswer}
 use Rattle.rz_tools.specs.Rez.{AnswersRez, RezAsked}
 use Rattle.rz_tools.specs.Sample.{AnswersSample}
 use Rattle.rz_tools_output.specs.Bridge.{AnswersBridge, BridgeAsked}
+use Rattle.rz_tools_output.specs.Det.{AnswersDet, DetAsked}
 use Rattle.rz_tools_args.specs.declared.name.CommandName.{CommandName}
 use Rattle.rz_tools_answer.specs.Answer.{misused, Answer, Answered, Making}
 use Rattle.rz_tools_answer.specs.declared.made.Failing.{Failing}
@@ -101,6 +102,10 @@ module _ {E : Type 0} (moment : Moment) (before : Option Files) (result : Result
   pub as_bridge : (asked other : BridgeAsked) → asked ≡ other → IfSome before (λ files. IfOk result (λ plan. AnswersBridge asked files (answer_of plan)))
       → IfSome before (λ files. IfOk result (λ plan. AnswersBridge other files (answer_of plan)))
   as_bridge asked other same answers = subst (λ (a : BridgeAsked). IfSome before (λ files. IfOk result (λ plan. AnswersBridge a files (answer_of plan)))) same answers
+
+  pub as_det : (asked other : DetAsked) → asked ≡ other → IfSome before (λ files. IfOk result (λ plan. AnswersDet asked files (answer_of plan)))
+      → IfSome before (λ files. IfOk result (λ plan. AnswersDet other files (answer_of plan)))
+  as_det asked other same answers = subst (λ (a : DetAsked). IfSome before (λ files. IfOk result (λ plan. AnswersDet a files (answer_of plan)))) same answers
 
   pub as_sample : (words others : List (List ℕ)) → others ≡ words → IfOk result (λ plan. AnswersSample words moment (answer_of plan))
       → IfSome before (λ files. IfOk result (λ plan. AnswersSample others moment (answer_of plan)))

@@ -7,6 +7,7 @@ use Rattle.rz_tools_args.specs.declared.name.CommandName.{CommandName}
 use Rattle.rz_tools_args.specs.declared.name.CommandName.TheVariants as names
 use Rattle.rz_tools_answer.specs.Answer.{misused, shown, Answer}
 use Rattle.rz_tools_output.specs.Bridge.{bridge_asked, AnswersBridge}
+use Rattle.rz_tools_output.specs.Det.{det_asked, AnswersDet}
 use Rattle.rz_tools.specs.DeRez.{derez_asked, AnswersDeRez}
 use Rattle.rz_tools_answer.specs.Help.{help_text, version_text}
 use Rattle.rz_tools.specs.Rez.{rez_asked, AnswersRez}
@@ -17,6 +18,7 @@ abbrev pub AnswersItems : CommandName → List Item → Files → Moment → Ans
 AnswersItems names.Rez items files moment answer = AnswersRez (rez_asked items) files moment answer
 AnswersItems names.DeRez items files moment answer = AnswersDeRez (derez_asked items) files moment answer
 AnswersItems names.Bridge items files moment answer = AnswersBridge (bridge_asked items) files answer
+AnswersItems names.Det items files moment answer = AnswersDet (det_asked items) files answer
 AnswersItems names.Sample items files moment answer = AnswersSample (places_of items) moment answer
 AnswersItems names.Help items files moment answer = answer ≡ shown (record { bytes = help_text; said = [] })
 AnswersItems names.Version items files moment answer = answer ≡ shown (record { bytes = version_text; said = [] })

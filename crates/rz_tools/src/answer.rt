@@ -25,7 +25,7 @@ use rz_core::{Halt, Moment, Stop};
 use rz_folder::Folder;
 use rz_tools_answer::{Outcome, Plan, help_text, version_text};
 use rz_tools_args::{Command, CommandName, definitions_are_lexed, one_command, read_words};
-use rz_tools_output::{BridgeWords, plan_bridge};
+use rz_tools_output::{BridgeWords, DetWords, plan_bridge, plan_det};
 use std::alloc::Global;
 use std::convert::Infallible;
 
@@ -83,6 +83,10 @@ fn answer_command<F: Folder>(
         CommandName::Bridge => {
             let words = BridgeWords::of(alloc, &command)?;
             planned(plan_bridge(alloc, folder, &words))
+        }
+        CommandName::Det => {
+            let words = DetWords::of(alloc, &command)?;
+            planned(plan_det(alloc, folder, &words))
         }
         CommandName::Sample => planned(plan_sample(alloc, command.number(), moment)),
         CommandName::Help => Ok(Reply::Plan(Plan::text(alloc, help_text(alloc)?.as_slice())?)),

@@ -4,8 +4,9 @@
 //! It rests on all crates below it: of `rz_tools_answer` it has how an answer is carried out, of `rz_tools_resource` and
 //! `rz_tools_work` what single statements give and do, of `rz_tools_output` what is written, and of `rz_tools_text` how
 //! resources are shown. The folder, the streams and the moment are arguments of `run`.
-//! A new command is a module beside `rez` and `derez`, or in `rz_tools_output` as `bridge` is, and a case of `answer` and of
-//! the answers in `specs`, and of `Reply` if its text is to be put line by line; a new statement is a case of `step`.
+//! A new command is a module beside `rez` and `derez`, or in `rz_tools_output` as `bridge` and `det` are, and a case of
+//! `answer` and of the answers in `specs`, and of `Reply` if its text is to be put line by line; a new statement is a case
+//! of `step`.
 //! docs/PROOFS.md lists the promises.
 #![tactic(auto)]
 

@@ -37,9 +37,10 @@ fn explanation() -> &'static [u8]
     b"
 rez compiles the sources into one resource fork. derez writes the resources of a fork as
 text to standard output; the files after the fork declare types. bridge writes a file in
-another form. sample compiles a source of its own with COUNT resources, 1 to 5000, shows
-them as text and compiles the text again; it prints COUNT and how many bytes the fork,
-the text and the second fork have. The arguments of each command stand in any order:
+another form. det prints a line for each rule that a fork breaks, and last how many there
+are. sample compiles a source of its own with COUNT resources, 1 to 5000, shows them as
+text and compiles the text again; it prints COUNT and how many bytes the fork, the text
+and the second fork have. The arguments of each command stand in any order:
   -o NAME         the file that rez or bridge writes; of rez Rez.Out if none is named
   -a              rez starts from the file that has this name, and adds to it
   -ov             protected resources may be replaced, changed and deleted
@@ -47,7 +48,7 @@ the text and the second fork have. The arguments of each command stand in any or
   -form FORM      the form in which rez writes; else that of -a's file, else raw
   -t TYPE, -c CREATOR
                   the type and creator of the file that rez writes, if it isn't raw
-  -from FORM      the form of the file that derez or bridge reads; else it is found
+  -from FORM      the form of the file that derez, bridge or det reads; else it is found
   -to FORM        the form in which bridge writes
   -i PATH         a folder in which included sources are looked for
   -s PATH         a folder in which files of include and read statements are looked for
@@ -58,18 +59,19 @@ the text and the second fork have. The arguments of each command stand in any or
   -skip TYPE, and of derez -s TYPE
                   derez doesn't show the resources of these types
 
-A form is raw (the resource fork alone), double (AppleDouble), macbin (MacBinary II) or
-hqx (BinHex 4.0). With -form double or -to double, -o ._NAME is the header file, and the
-data fork is the file NAME beside it: bridge writes it first, if it isn't empty, in the
-place of any file NAME, also the one that it reads; rez doesn't. In a new folder, as with
--o NEW/._NAME, nothing is replaced. -to raw drops the data fork, the type and the creator.
+A form is raw (the resource fork alone), double (AppleDouble), single (AppleSingle),
+macbin (MacBinary III) or hqx (BinHex 4.0). With -form double or -to double, -o ._NAME
+is the header file, and the data fork is the file NAME beside it: bridge writes it first,
+if it isn't empty, in the place of any file NAME, also the one that it reads; rez doesn't.
+In a new folder, as with -o NEW/._NAME, nothing is replaced. -to raw drops the data fork,
+the type and the creator.
 
 The moment of a run is SOURCE_DATE_EPOCH, if the environment has it: the seconds since
 1970, a decimal number up to 2208988799, the end of 2039. Else it is the clock's.
 
-exit status: 0 done, 1 the arguments are no command, 2 refused, 3 a file can't be read
-or written, 4 out of memory, 5 the host gives no arguments, or SOURCE_DATE_EPOCH is no
-moment
+exit status: 0 done, of det also where rules are broken, 1 the arguments are no command,
+2 refused, 3 a file can't be read or written, 4 out of memory, 5 the host gives no
+arguments, or SOURCE_DATE_EPOCH is no moment
 "
 }
 

@@ -46,6 +46,7 @@ pub each_sound : (command : CommandName) → is_sound (syntax_of command) ≡ tr
 each_sound names.Rez = refl
 each_sound names.DeRez = refl
 each_sound names.Bridge = refl
+each_sound names.Det = refl
 each_sound names.Sample = refl
 each_sound names.Help = refl
 each_sound names.Version = refl
@@ -54,6 +55,7 @@ pub each_named : (command : CommandName) → command_named (syntax_of command).n
 each_named names.Rez = refl
 each_named names.DeRez = refl
 each_named names.Bridge = refl
+each_named names.Det = refl
 each_named names.Sample = refl
 each_named names.Help = refl
 each_named names.Version = refl

@@ -44,6 +44,7 @@ abbrev pub form_named : List ℕ → Option form.Form
 form_named word =
     if bytes_eq word (codes "raw") then Some forms.Raw
     else if bytes_eq word (codes "double") then Some forms.AppleDouble
+    else if bytes_eq word (codes "single") then Some forms.AppleSingle
     else if bytes_eq word (codes "macbin") then Some forms.MacBinary
     else if bytes_eq word (codes "hqx") then Some forms.BinHex
     else None

@@ -38,7 +38,7 @@ pub record Syntax : Type 0 where
 
 -- the commands, in the order in which help tells them
 abbrev pub commands : List CommandName
-commands = names.Rez ∷ names.DeRez ∷ names.Bridge ∷ names.Sample ∷ names.Help ∷ names.Version ∷ []
+commands = names.Rez ∷ names.DeRez ∷ names.Bridge ∷ names.Det ∷ names.Sample ∷ names.Help ∷ names.Version ∷ []
 
 abbrev pub syntax_of : CommandName → Syntax
 syntax_of names.Rez = record {
@@ -68,6 +68,14 @@ syntax_of names.Bridge = record {
   places = places.Exactly 1;
   needs = flags.Into ∷ flags.Output ∷ [];
   usage = codes "bridge FILE -to FORM -o NAME [-from FORM]\n";
+}
+syntax_of names.Det = record {
+  name = codes "det";
+  flags = (codes "-from", flags.From) ∷ [];
+  switches = [];
+  places = places.Exactly 1;
+  needs = [];
+  usage = codes "det FORK [-from FORM]\n";
 }
 syntax_of names.Sample = record {
   name = codes "sample";

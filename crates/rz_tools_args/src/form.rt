@@ -13,6 +13,8 @@ pub fn form_named(word: &str) -> Option<Form>
         Some(Form::Raw)
     } else if word == "double" {
         Some(Form::AppleDouble)
+    } else if word == "single" {
+        Some(Form::AppleSingle)
     } else if word == "macbin" {
         Some(Form::MacBinary)
     } else if word == "hqx" {

@@ -9,6 +9,8 @@ pub enum CommandName {
     DeRez,
     /// `bridge`.
     Bridge,
+    /// `det`.
+    Det,
     /// `sample`.
     Sample,
     /// `--help`.

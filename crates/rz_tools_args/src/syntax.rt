@@ -70,10 +70,11 @@ pub struct Syntax {
 }
 
 /// The commands, in the order in which help tells them.
-pub const COMMANDS: [CommandName; 6] = [
+pub const COMMANDS: [CommandName; 7] = [
     CommandName::Rez,
     CommandName::DeRez,
     CommandName::Bridge,
+    CommandName::Det,
     CommandName::Sample,
     CommandName::Help,
     CommandName::Version,
@@ -137,6 +138,14 @@ pub fn syntax_of(command: CommandName) -> Syntax
             places: Places::Exactly(1),
             needs: &[Flag::Into, Flag::Output],
             usage: "bridge FILE -to FORM -o NAME [-from FORM]\n",
+        },
+        CommandName::Det => Syntax {
+            name: "det",
+            flags: &[("-from", Flag::From)],
+            switches: &[],
+            places: Places::Exactly(1),
+            needs: &[],
+            usage: "det FORK [-from FORM]\n",
         },
         CommandName::Sample => Syntax {
             name: "sample",

@@ -1,12 +1,10 @@
 -- What `bridge` reads and writes, from what its calls gave.
 use Rattle.std.proofs.Common.{◌≡◌, ◌≢◌, inl, ℕ, List, [], ◌∷◌, ◌++◌, map, Option, Some, None, Ok, Err, refl, sym, ap, subst, ◌∙◌}
-use Rattle.std.specs.Prelude.{IfOk, IfSome}
+use Rattle.std.specs.Prelude.{IfSome}
 use Rattle.std.specs.String.{string_bytes}
 use Rattle.std.specs.declared.result.Result.{Result}
-use Rattle.rz_tools_answer.specs.Answer.{refused, Answer, Write}
-use Rattle.rz_tools_answer.specs.Plan.{answer_of, write_of, EndsIn}
-use Rattle.rz_core.specs.declared.stop.Halt.TheVariants as halts
-use Rattle.rz_tools_answer.specs.declared.plan.Plan.{Plan}
+use Rattle.rz_tools_answer.specs.Answer.{Answer, Write}
+use Rattle.rz_tools_answer.specs.Plan.{write_of}
 use Rattle.rz_tools_answer.specs.declared.plan.Write as code
 use Rattle.rz_bridge.specs.declared.file.MacFile.{MacFile}
 use Rattle.rz_core.specs.Answers.{Then}
@@ -36,21 +34,6 @@ module _ (asked : BridgeAsked) (before : Option Files) where
       → IfSome before (λ files. AnswersBridge asked files answer)
   answers_writes writes answer is makes =
       told_so before (λ files. Bridges asked files (Ok writes)) (λ files. AnswersBridge asked files answer) (λ files so. (Ok writes, so, is)) makes
-
-  pub answers_fault : {E : Type 0} (fault : Fault) (names : List (List ℕ)) (said : List ℕ) → names ≡ [] → said ≡ [] → (result : Result Plan E)
-      → IfOk result (λ plan. EndsIn (halts.Refused (record { fault = fault; files = names; said = said })) (answer_of plan)) → IfSome before (λ files. Bridges asked files (Err fault))
-      → IfSome before (λ files. IfOk result (λ plan. AnswersBridge asked files (answer_of plan)))
-  answers_fault fault names said no_names unsaid (Ok plan) is makes =
-      told_so before (λ files. Bridges asked files (Err fault)) (λ files. AnswersBridge asked files (answer_of plan))
-      (λ files so. (
-        Err fault,
-        so,
-        is ∙ ap (λ (n : List (List ℕ)). refused (record { fault = fault; files = n; said = said })) no_names
-            ∙ ap (λ (s : List ℕ). refused (record { fault = fault; files = []; said = s })) unsaid,
-      ))
-      makes
-  answers_fault fault names said no_names unsaid (Err unanswered) is makes =
-      told_so before (λ files. Bridges asked files (Err fault)) (λ files. Unit {0}) (λ files so. tt) makes
 
 -- What is read.
 

@@ -3,7 +3,7 @@ use Rattle.std.specs.Prelude.{◌≡◌, ◌≢◌, ◌⊎◌, ℕ, List, [], �
 use Rattle.std.specs.FinMap as finite
 use Rattle.std.specs.String.{string_bytes}
 use Rattle.std.specs.declared.result.Result.{Result}
-use Rattle.rz_tools_answer.specs.Answer.{refused, Answer, Write}
+use Rattle.rz_tools_answer.specs.Answer.{Answer, Write}
 use Rattle.rz_tools_answer.specs.Plan.{write_of}
 use Rattle.rz_tools_answer.specs.declared.outcome.Outcome.TheVariants.{Done}
 use Rattle.rz_tools_answer.specs.declared.plan.Write as code
@@ -19,6 +19,7 @@ use Rattle.rz_bridge_form.specs.declared.form.Form.{Form}
 use Rattle.rz_bridge_form.specs.declared.form.Form.TheVariants as forms
 use Rattle.rz_folder_paths.specs.Names.{missing_file}
 use Rattle.rz_tools_output.specs.Base.{or_empty}
+use Rattle.rz_tools_output.specs.Halted.{refused_alone}
 use Rattle.rz_tools_args.specs.Command.{places_of, IsCommand, Item}
 use Rattle.rz_tools_args.specs.Items.{forms_of, last, names_of}
 use Rattle.rz_tools_args.specs.declared.flag.Flag.TheVariants as flags
@@ -90,7 +91,7 @@ Bridges asked files =
 -- the files are written, or the fault ends the run
 abbrev pub bridged : Result (List Write) Fault → Answer
 bridged (Ok writes) = record { outcome = Done; writes = writes; out = []; err = [] }
-bridged (Err fault) = refused (record { fault = fault; files = []; said = [] })
+bridged (Err fault) = refused_alone fault
 
 abbrev pub AnswersBridge : BridgeAsked → Files → Answer → Type 0
 AnswersBridge asked files answer = (made : Result (List Write) Fault) × Bridges asked files made × (answer ≡ bridged made)

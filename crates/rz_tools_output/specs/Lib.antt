@@ -1,3 +1,5 @@
 pub mod Base
 pub mod Output
+pub mod Halted
 pub mod Bridge
+pub mod Det

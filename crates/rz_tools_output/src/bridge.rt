@@ -15,13 +15,14 @@ ghost use Rattle.rz_tools_args.specs.Held.{items_of};
 ghost use Rattle.rz_tools_output.specs.Bridge.{bridge, bridge_asked, writes_of, AnswersBridge, AreWrites, Bridges, HasBeside, IsHeld, IsRead, IsWrittenAs};
 
 use crate::base::form_or;
+use crate::halted::halted;
 use rz_bridge::MacFile;
 use rz_bridge_files::{file_in, named, write_as};
 use rz_bridge_form::{Form, data_file_name};
 use rz_core::{Bytes, Fault, FileNames, Halt, NoMemory, Stop};
 use rz_folder::{Folder, Read};
 use rz_folder_paths::missing_file;
-use rz_tools_answer::{Failing, Plan, Write, Writes};
+use rz_tools_answer::{Plan, Write, Writes};
 use rz_tools_args::{Command, Flag};
 use std::alloc::Global;
 use std::convert::Infallible;
@@ -56,7 +57,7 @@ impl<'a> BridgeWords<'a> {
 }
 
 /// The first name; that of no names is empty.
-fn first_of(alloc: Global, names: &FileNames) -> Result<String, NoMemory>
+pub fn first_of(alloc: Global, names: &FileNames) -> Result<String, NoMemory>
     ensures { IfOk result (λ name. string_bytes name ≡ get_or names.now 0 []) }
 {
     if names.len() == 0 {
@@ -86,16 +87,7 @@ pub fn plan_bridge<F: Folder>(
 {
     match bridge_file(alloc, folder, words) {
         Ok(writes) => Ok(Plan::writing(alloc, writes)),
-        Err(Halt::Refused(fault)) => Plan::stopped(
-            alloc,
-            Halt::Refused(Failing {
-                fault,
-                files: FileNames::new(alloc),
-                said: Bytes::new(alloc),
-            }),
-        ),
-        Err(Halt::ReadFault) => Err(Halt::ReadFault),
-        Err(Halt::NoMemory) => Err(Halt::NoMemory),
+        Err(halt) => halted(alloc, halt),
     }
 }
 

@@ -11,7 +11,8 @@ use Rattle.rz_tools.specs.DeRez.{derez_asked, DeRezAsked}
 use Rattle.rz_tools.specs.Held.{derez, rez}
 use Rattle.rz_tools.specs.Rez.{rez_asked, RezAsked}
 use Rattle.rz_tools_output.specs.Bridge.{bridge, bridge_asked}
-use Rattle.rz_tools.proofs.Planned.{as_bridge, as_derez, as_held, as_named, as_planned, as_rez, as_sample, plan_named}
+use Rattle.rz_tools_output.specs.Det.{det, det_asked}
+use Rattle.rz_tools.proofs.Planned.{as_bridge, as_derez, as_det, as_held, as_named, as_planned, as_rez, as_sample, plan_named}
 use Rattle.rz_tools.proofs.Replied.{plan_end, plan_no_usage, plan_sound, reads_as}
 use Rattle.rz_tools.proofs.answer.answer_command.Goals as goal
 
@@ -58,6 +59,24 @@ pub returns-in_ok-words-in-Bridge-clause-reads : goal.returns-in_ok-words-in-Bri
 returns-in_ok-words-in-Bridge-clause-reads g c =
     reads_as g.F.Folder.files g.F.Folder.read_faults g.F.Folder.write_faults c.args.folder.now c.plan_bridge.new.folder
     (plan_end c.plan_bridge.result c.planned-in-Bridge.result c.planned-in-Bridge.ensures ReadFault) c.plan_bridge.ensures.reads
+
+pub returns-in_ok-words-in-Det-clause-answered : goal.returns-in_ok-words-in-Det-clause-answered
+returns-in_ok-words-in-Det-clause-answered g c =
+    plan_named c.args.command.name names.Det (items_of c.args.command) c.args.moment c.in-Det.is (g.F.Folder.files c.args.folder.now)
+    c.plan_det.result c.planned-in-Det.result c.planned-in-Det.ensures
+    (as_det c.args.moment (g.F.Folder.files c.args.folder.now) c.plan_det.result (det c.in_ok-words-in-Det.words) (det_asked (items_of c.args.command)) c.in_ok-words-in-Det.ensures
+    c.plan_det.ensures.answered)
+
+pub returns-in_ok-words-in-Det-clause-sound : goal.returns-in_ok-words-in-Det-clause-sound
+returns-in_ok-words-in-Det-clause-sound g c = plan_sound c.plan_det.result c.planned-in-Det.result c.planned-in-Det.ensures c.plan_det.ensures.well_formed c.plan_det.ensures.writable
+
+pub returns-in_ok-words-in-Det-clause-no_usage : goal.returns-in_ok-words-in-Det-clause-no_usage
+returns-in_ok-words-in-Det-clause-no_usage g c = plan_no_usage c.plan_det.result c.planned-in-Det.result c.planned-in-Det.ensures c.plan_det.ensures.no_usage
+
+pub returns-in_ok-words-in-Det-clause-reads : goal.returns-in_ok-words-in-Det-clause-reads
+returns-in_ok-words-in-Det-clause-reads g c =
+    reads_as g.F.Folder.files g.F.Folder.read_faults g.F.Folder.write_faults c.args.folder.now c.plan_det.new.folder
+    (plan_end c.plan_det.result c.planned-in-Det.result c.planned-in-Det.ensures ReadFault) c.plan_det.ensures.reads
 
 pub returns-in-Sample-clause-answered : goal.returns-in-Sample-clause-answered
 returns-in-Sample-clause-answered g c =

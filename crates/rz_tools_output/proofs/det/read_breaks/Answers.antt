@@ -1,0 +1,8 @@
+use Rattle.rz_tools_output.specs.Det.{det}
+use Rattle.rz_tools_output.proofs.Breaking.{breaks_read}
+use Rattle.rz_tools_output.proofs.det.read_breaks.Goals as goal
+
+pub returns-in-Bytes-clause-text : goal.returns-in-Bytes-clause-text
+returns-in-Bytes-clause-text g c =
+    breaks_read (det c.args.words.now) c.as_str-name.result.now c.as_str-name.ensures.value c.breaks_in.result c.in-Bytes.bytes
+    (g.F.Folder.files c.args.folder.now) c.in-Bytes.ensures.told c.breaks_in.ensures.text
