@@ -9,11 +9,11 @@ where the file would change.
 import sys
 
 from casefile import Book, image
-from forms import File, crc, double, hqx, macbin, runs
+from forms import File, crc, dated, double, hqx, macbin, runs, single
 
 MOMENT = 2082844800  # the first second of 1970, counted from 1904
 BOOK = Book("bridge.cases",
-            "Files in the forms raw, AppleDouble, MacBinary and BinHex, from one to another, and forms of rez and derez.",
+            "Files in the forms raw, AppleDouble, AppleSingle, MacBinary and BinHex, from one to another, and forms of rez and derez.",
             "Written by tools/bridge_cases.py, every byte by tools/forms.py.")
 ONE = image([(b"Test", 128, b"", 0, bytes.fromhex("0102"))])
 SHOWN = "data 'Test' (128) {\n    $\"0102\"\n};\n\n"
@@ -39,7 +39,7 @@ def checks():
     assert len(ONE) == 312 and ONE[:16].hex() == "00000100000001060000000600000032", ONE[:16].hex()
     assert runs(bytes.fromhex("9090909090")).hex() == "90009005" and runs(b"A" * 300).hex() == "4190ff41902d"
     assert crc(b"123456789") == 0x31C3
-    assert len(double(APP)) == 394 and len(macbin(APP.but(name=b"App.bin"))) == 512 and len(macbin(N)) == 256
+    assert len(dated(APP)) == 394 and len(double(APP)) == 422 and len(macbin(APP.but(name=b"App.bin"))) == 512 and len(macbin(N)) == 256
 
 
 def from_form_to_form():
@@ -57,6 +57,13 @@ def from_form_to_form():
          leaves=[("again.bin", macbin(BARE.but(data=b"")))])
     case("in a folder", "bridge d/._T -to macbin -o e/again.bin", [("d/._T", double(T)), ("d/T", b"a")],
          leaves=[("e/again.bin", macbin(BARE))])
+    case("both forks as AppleSingle: one file", "bridge T.bin -to single -o T", [("T.bin", macbin(T))],
+         leaves=[("T", single(T))], gone=["T.data"])
+    case("AppleSingle as MacBinary", "bridge T -to macbin -o again.bin", [("T", single(T))], leaves=[("again.bin", macbin(BARE))])
+    case("AppleDouble as AppleSingle", "bridge ._T -to single -o one", [("._T", double(T)), ("T", b"a")], leaves=[("one", single(T))])
+    case("AppleSingle as AppleDouble", "bridge one -to double -o ._T", [("one", single(T))], leaves=[("T", b"a"), ("._T", double(T))])
+    case("a fork as AppleSingle", "bridge one.rsrc -to single -o One", [("one.rsrc", ONE)], leaves=[("One", single(RAW.but(name=b"One")))])
+    case("AppleSingle as a fork", "bridge One -to raw -o back", [("One", single(RAW.but(name=b"One")))], leaves=[("back", ONE)])
     case("any other name has a data file with .data behind it", "bridge T.bin -to double -o d/T", [("T.bin", macbin(T))],
          leaves=[("d/T.data", b"a"), ("d/T", double(T))])
     case("and so has the name ._ itself", "bridge T.bin -to double -o d/._", [("T.bin", macbin(T))],
@@ -65,7 +72,7 @@ def from_form_to_form():
          leaves=[("._T", double(T.but(data=b"")))], gone=["T", "._T.data"])
     case("the name is taken where there is none", "bridge one.rsrc -to macbin -o d/App.bin", [("one.rsrc", ONE)],
          leaves=[("d/App.bin", macbin(RAW.but(name=b"App.bin")))])
-    case("an AppleDouble header of 394 bytes", "bridge ._App -to macbin -o App.bin", [("._App", double(APP))],
+    case("an AppleDouble header of 394 bytes", "bridge ._App -to macbin -o App.bin", [("._App", dated(APP))],
          leaves=[("App.bin", macbin(APP.but(name=b"App.bin")))])
     case("in Mac Roman", "bridge one.rsrc -to macbin -o é", [("one.rsrc", ONE)],
          leaves=[("é", macbin(RAW.but(name=b"\x8e")))])
@@ -133,6 +140,8 @@ def refusals():
     refused("a newer version", "bridge h -to raw -o x", "427 NewerVersion: 196608",
             [("h", double(APP)[:4] + bytes.fromhex("00030000") + double(APP)[8:])])
     refused("another magic number", "bridge h -from double -to raw -o x", "422 BadMagic: 256", [("h", ONE)])
+    refused("another magic number of AppleSingle", "bridge h -from single -to raw -o x", "422 BadMagic: 256", [("h", ONE)])
+    refused("an entry of AppleSingle outside", "bridge h -to raw -o x", "423 EntryOutside: 2", [("h", single(T)[:-1])])
     refused("MacBinary of 127 bytes", "bridge h -from macbin -to raw -o x", "421 ShortHeader: 127", [("h", macbin(N)[:127])])
     refused("a fork of MacBinary outside", "bridge a.bin -to raw -o x", "426 Truncated: 1", [("a.bin", macbin(A)[:128])])
     text = hqx(A)
@@ -152,6 +161,31 @@ def refusals():
     case("nor does a file that has one", "bridge T.bin -to hqx -o 語", [("T.bin", macbin(T))], leaves=[("語", hqx(T))])
 
 
+def dates():
+    BOOK.say("Dates of AppleDouble.")
+    first, last = T.but(created=882045953, modified=4294967295), T.but(created=3029529599, modified=3029529600)
+    for name, file in [("at both ends", first), ("on both sides of 2000", last)]:
+        case("dates " + name, "bridge T.bin -to double -o ._T", [("T.bin", macbin(file))],
+             leaves=[("T", b"a"), ("._T", double(file))])
+        case("dates %s, read" % name, "bridge ._T -to macbin -o again.bin", [("._T", double(file)), ("T", b"a")],
+             leaves=[("again.bin", macbin(file.but(locked=False)))])
+    early = T.but(created=882045952, modified=1)
+    case("dates that are too early are written as none", "bridge T.bin -to double -o ._T", [("T.bin", macbin(early))],
+         leaves=[("T", b"a"), ("._T", dated(T, bytes.fromhex("80000000") * 4))])
+    end = bytes.fromhex("4b6d0bff4b6d0bff")
+    for name, stored, created, modified in [
+            ("80000000 is no date", bytes.fromhex("8000000080000001"), 0, 882045953),
+            ("a negative date", bytes.fromhex("ffffffff00000000"), 3029529599, 3029529600),
+            ("the last date and the second after it", bytes.fromhex("4b6d0bff4b6d0c00"), 4294967295, 0),
+            ("the latest stored date", bytes.fromhex("7fffffff00000001"), 0, 3029529601),
+            ("dates of 7 bytes", end[:7], 0, 0), ("dates of 8 bytes", end, 4294967295, 4294967295),
+            ("no bytes of dates", b"", 0, 0)]:
+        case("dates: " + name, "bridge ._T -to macbin -o again.bin", [("._T", dated(T, stored)), ("T", b"a")],
+             leaves=[("again.bin", macbin(T.but(locked=False, created=created, modified=modified)))])
+    case("dates: the first entry counts", "bridge ._T -to macbin -o again.bin", [("._T", dated(T, end, bytes(16)))],
+         leaves=[("again.bin", macbin(T.but(locked=False, created=4294967295, modified=4294967295, data=b"")))])
+
+
 def words():
     BOOK.say("Words.")
     for name, given, position in [
@@ -159,7 +193,8 @@ def words():
             ("neither", "bridge a", 3),
             ("no file at all", "bridge -to raw -o b", 6), ("two files", "bridge a b -to raw -o c", 3),
             ("the second file behind options", "bridge a -to raw b -o c", 5), ("no such form", "bridge a -to bin -o b", 4),
-            ("no such form to read", "bridge a -from RAW -to raw -o b", 4), ("a word is missing", "bridge a -to", 4),
+            ("no such form to read", "bridge a -from RAW -to raw -o b", 4), ("no form in capitals", "bridge a -to Single -o b", 4),
+            ("nor cut", "rez a -form singl", 4), ("a word is missing", "bridge a -to", 4),
             ("no option of rez", "bridge a -to raw -o b -t APPL", 7), ("no -rd", "bridge a -rd", 3),
             ("rez takes no -from", "rez a -from raw", 3), ("derez takes no -form", "derez f -form raw", 3),
             ("rez takes no -to", "rez a -to raw", 3), ("a type of three characters", "rez a -t abc", 4),
@@ -171,13 +206,14 @@ def rez_and_derez():
     BOOK.say("Forms of derez and rez.")
     for name, given, data in [
             ("MacBinary", "derez f", macbin(T)), ("BinHex", "derez f", hqx(T)), ("AppleDouble", "derez f", double(T)),
+            ("AppleSingle", "derez f", single(T)), ("AppleSingle that is given", "derez f -from single", single(T)),
             ("a form that is given", "derez f -from macbin", macbin(T)), ("raw that is given", "derez -from raw f", ONE)]:
         case("derez shows " + name, given, [("f", data)], out=SHOWN)
     refused("derez takes the form that is given", "derez f -from raw", "402 DataAreaOutside: 0 0", [("f", macbin(T))], ())
     wrong, kept = turned()
     refused("derez refuses what the form refuses", "derez n.bin", "424 BadCrc: " + kept, [("n.bin", wrong)], ())
     new = File(kind=b"APPL", creator=b"????", created=MOMENT, modified=MOMENT, res=ONE)
-    for form, write in [("macbin", macbin), ("hqx", hqx), ("double", double)]:
+    for form, write in [("macbin", macbin), ("hqx", hqx), ("double", double), ("single", single)]:
         case("rez writes " + form, "rez one.r -o d/One -form " + form, SOURCE,
              leaves=[("d/One", write(new.but(name=b"One")))],
              gone=["d/One.data"])
@@ -194,6 +230,7 @@ if __name__ == "__main__":
     checks()
     from_form_to_form()
     data_files()
+    dates()
     refusals()
     words()
     rez_and_derez()

@@ -9,7 +9,7 @@ written, and the status is 1 where the file would change.
 import sys
 
 from casefile import Book, admitted, image
-from forms import File, Refused, double, form_of, hqx, macbin, read_form
+from forms import File, Refused, dated, form_of, hqx, macbin, read_form, single
 
 BOOK = Book("broken.cases", "A fork and files of other forms with one thing broken.",
             "Written by tools/broken_cases.py, each answer by hand and by the second readings of casefile.py and forms.py.")
@@ -18,7 +18,8 @@ TWO = image([(b"Test", 128, b"", 0, bytes.fromhex("0102")), (b"Test", 129, b"", 
 SHOWN = "data 'Test' (128) {\n    $\"0102\"\n};\n\n"
 SAME = "data 'Test' (129) {\n    $\"0102\"\n};\n\n"
 N63 = macbin(File(name=b"n" * 63, res=bytes(128)))
-APP = double(File(res=ONE))
+APP = dated(File(res=ONE))
+BOTH = single(File(name=b"a", data=b"\0", res=ONE))
 A = hqx(File(name=b"a", data=b"\0"))
 NAMES = {402: "DataAreaOutside", 403: "MapOutside", 404: "ShortMap", 405: "TypeListOutside", 406: "TypesOutside",
          407: "ReferencesOutside", 408: "DataOutside", 410: "Repeated", 421: "ShortHeader", 422: "BadMagic",
@@ -58,6 +59,10 @@ FORMS = [
     ("AppleDouble with another magic number", put(APP, 3, "06"), "double", False, (422, 333318)),
     ("AppleDouble of a later version", put(APP, 4, "00030000"), "double", True, (427, 196608)),
     ("AppleDouble with an entry one byte longer than the file", put(APP, 49, "39"), "double", True, (423, 2)),
+    ("AppleSingle with the number of AppleDouble", put(BOTH, 3, "07"), "single", False, (422, 333319)),
+    ("AppleSingle of a later version", put(BOTH, 4, "00030000"), "single", True, (427, 196608)),
+    ("AppleSingle with a data fork one byte longer than the file", put(BOTH, 70, "0000013A"), "single", True, (423, 1)),
+    ("AppleSingle with one more entry than it has room for", put(BOTH, 24, "0024"), "single", True, (423, 36)),
     ("BinHex with a letter that it hasn't", A.replace(b"\n:" + A[47:48], b"\n:7"), "hqx", True, (442, 55)),
 ]
 

@@ -168,7 +168,7 @@ def form_lines(data):
         resources, attributes, _ = admitted(file.res)
     except Refused:
         return []
-    name = {"double": "AppleDouble", "macbin": "MacBinary", "hqx": "BinHex", "raw": "another layout,"}[form]
+    name = {"double": "AppleDouble", "single": "AppleSingle", "macbin": "MacBinary", "hqx": "BinHex", "raw": "another layout,"}[form]
     lines = [resource_line(each) for each in resources]
     return (["# %s with no resources" % name] if not lines else
             ["# %s with %s" % (name, line) for line in lines if line]

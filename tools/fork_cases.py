@@ -20,7 +20,7 @@ from lists import (All, Bad, Head, Id, Name, Range, Resource, change, data, dele
 FORKS = Cases(Book("forks.cases", "Forks that share bytes, names and lists, types without references, and repeated keys.",
                    "Written by tools/fork_cases.py. What each run leaves is told by tools/lists.py."))
 NOTHING = (";", None)
-FORMS = ("raw", "double", "macbin", "hqx")
+FORMS = ("raw", "double", "single", "macbin", "hqx")
 
 
 def patched():

@@ -256,7 +256,7 @@ def resources():
     data("resource: in a format", "$$Format(\"%s!\", $$Resource(\"one.rsrc\", 'Test', 129))", b"b!", files=file)
     data("resource: behind a path", "$$Resource(\"one.rsrc\", 'Test', 129)", b"b", files=[("lib/one.rsrc", fork)], words="rez s.r -o x -s lib")
     rez("item: a resource", "type 'Test' { pstring; };\nresource 'Test' (1) { $$Resource(\"one.rsrc\", 'Test', 129) };\n", one(b"\1b"), files=file)
-    for form in ("double", "macbin", "hqx"):
+    for form in ("double", "single", "macbin", "hqx"):
         other = written(form, File(name=b"n", res=fork))
         data("resource: of %s" % form, "$$Resource(\"one.rsrc\", 'Test', 129)", b"b", files=[("one.rsrc", other)])
     for name, text, says in [("no such id", "$$Resource(\"one.rsrc\", 'Test', 127)", "218 NoSuchResource: 'Test' 127"),

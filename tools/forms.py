@@ -1,7 +1,7 @@
-"""Files in the forms raw, AppleDouble, MacBinary and BinHex, written and read by the layouts of docs/FORMATS.md alone.
+"""Files in the forms raw, AppleDouble, AppleSingle, MacBinary and BinHex, written and read by the layouts of docs/FORMATS.md alone.
 
 It knows nothing of the code. The CRC is that of Python's binascii; the fields, the run codes and the letters of BinHex
-are written and read here a second time. bridge_cases.py and lists.py stand on it.
+are written and read here a second time. bridge_cases.py, carried_cases.py and lists.py stand on it.
 """
 import binascii
 import re
@@ -46,7 +46,7 @@ def crc(data):
 
 
 def macbin(f):
-    """The file as MacBinary II."""
+    """The file as MacBinary III."""
     head = bytearray(128)
     head[1] = len(f.name)
     head[2:2 + len(f.name)] = f.name
@@ -55,20 +55,58 @@ def macbin(f):
     head[75:81] = struct.pack(">hhh", f.vertical, f.horizontal, f.folder)
     head[81] = int(f.locked)
     head[83:99] = struct.pack(">IIII", len(f.data), len(f.res), f.created, f.modified)
-    head[122] = head[123] = 129
+    head[102:108] = b"mBIN" + f.extra[8:10]
+    head[122:124] = bytes([130, 129])
     head[124:126] = struct.pack(">H", crc(bytes(head[:124])))
     return bytes(head) + padded(f.data) + padded(f.res)
 
 
+NO_DATE = 1 << 31
+FIRST_DATE = 882045953
+FIRST_OF_2000 = 3029529600
+MAGICS = {"double": 0x00051607, "single": 0x00051600}
+
+
+def stored_date(seconds):
+    """A date of AppleDouble and AppleSingle: seconds since the first of 2000, with a sign."""
+    return struct.pack(">i", seconds - FIRST_OF_2000 if FIRST_DATE <= seconds else -NO_DATE)
+
+
+def mac_date(stored):
+    """The seconds since the first of 1904 of such a date; 0 where it is none or doesn't fit."""
+    seconds = struct.unpack(">i", stored)[0] + FIRST_OF_2000
+    return seconds if FIRST_DATE <= seconds < 1 << 32 else 0
+
+
 def double(f):
     """The header file of AppleDouble, without the data fork."""
+    return entries_of("double", parts_of("double", f))
+
+
+def single(f):
+    """The file as AppleSingle, with both forks."""
+    return entries_of("single", parts_of("single", f))
+
+
+def dated(f, *dates, form="double"):
+    """The same with other bytes as its dates, or without any."""
+    return entries_of(form, [part for each in parts_of(form, f) for part in ([each] if each[0] != 8 else [(8, d) for d in dates])])
+
+
+def parts_of(form, f):
+    """What AppleDouble or AppleSingle keeps of a file, by the ids of its entries."""
     info = f.kind + f.creator + struct.pack(">Hhhh", f.flags, f.vertical, f.horizontal, f.folder) + f.extra
-    parts = ([(3, f.name[:255])] if f.name else []) + [(9, info), (2, f.res)]
+    dates = stored_date(f.created) + stored_date(f.modified) + 2 * stored_date(0)
+    return ([(3, f.name[:255])] if f.name else []) + [(8, dates), (9, info)] + [(1, f.data)] * (form == "single") + [(2, f.res)]
+
+
+def entries_of(form, parts, version=0x00020000, filler=bytes(16)):
+    """A file of AppleDouble or AppleSingle with these entries, their bytes in the same order."""
     place, entries = 26 + 12 * len(parts), b""
     for ident, content in parts:
         entries += struct.pack(">III", ident, place, len(content))
         place += len(content)
-    return (bytes.fromhex("0005160700020000") + bytes(16) + struct.pack(">H", len(parts)) + entries
+    return (struct.pack(">II", MAGICS[form], version) + filler + struct.pack(">H", len(parts)) + entries
             + b"".join(content for _, content in parts))
 
 
@@ -118,15 +156,16 @@ def written(form, f):
     for part in (f.data, f.res):
         if len(part) > MOST:
             raise Refused(428, len(part))
-    return {"macbin": macbin, "hqx": hqx, "double": double}[form](f)
+    return {"macbin": macbin, "hqx": hqx, "double": double, "single": single}[form](f)
 
 
 def form_of(data):
     """The form that the first bytes tell."""
     if not data:
         return "raw"
-    if data[:4] == b"\0\5\x16\7":
-        return "double"
+    for form, magic in MAGICS.items():
+        if data[:4] == struct.pack(">I", magic):
+            return form
     if data[0] != 0:
         return "hqx"
     if len(data) >= 128 and 1 <= data[1] <= 63 and data[74] == data[82] == 0 and data[122] >= 129 and data[123] >= 129:
@@ -134,12 +173,12 @@ def form_of(data):
     return "raw"
 
 
-def read_double(data):
-    """The file of a header file of AppleDouble, with an empty data fork."""
+def read_entries(form, data):
+    """The file of AppleDouble, whose header file has no data fork, or of AppleSingle."""
     if len(data) < 26:
         raise Refused(421, len(data))
     magic, version = struct.unpack(">II", data[:8])
-    if magic != 0x00051607:
+    if magic != MAGICS[form]:
         raise Refused(422, magic)
     if version not in (0x00010000, 0x00020000):
         raise Refused(427, version)
@@ -153,9 +192,12 @@ def read_double(data):
             raise Refused(423, ident)
         parts.setdefault(ident, data[place:place + length])
     info = parts.get(9, b"")[:32].ljust(32, b"\0")
+    dates = parts.get(8, b"")
+    created, modified = (mac_date(dates[:4]), mac_date(dates[4:8])) if len(dates) >= 8 else (0, 0)
     flags, vertical, horizontal, folder = struct.unpack(">Hhhh", info[8:16])
     return File(name=parts.get(3, b"")[:255], kind=info[:4], creator=info[4:8], flags=flags, vertical=vertical,
-                horizontal=horizontal, folder=folder, extra=info[16:], res=parts.get(2, b""))
+                horizontal=horizontal, folder=folder, extra=info[16:], created=created, modified=modified,
+                data=parts.get(1, b"") if form == "single" else b"", res=parts.get(2, b""))
 
 
 def read_macbin(data):
@@ -180,9 +222,10 @@ def read_macbin(data):
         forks.append(data[place:place + length])
         place += length + -length % 128
     vertical, horizontal, folder = struct.unpack(">hhh", data[75:81])
+    two = data[106:108] if data[102:106] == b"mBIN" else bytes(2)
     return File(name=data[2:2 + data[1]], kind=data[65:69], creator=data[69:73], flags=data[73] << 8 | data[101],
-                vertical=vertical, horizontal=horizontal, folder=folder, locked=bool(data[81] & 1), created=lengths[2],
-                modified=lengths[3], data=forks[0], res=forks[1])
+                vertical=vertical, horizontal=horizontal, folder=folder, extra=bytes(8) + two + bytes(6), locked=bool(data[81] & 1),
+                created=lengths[2], modified=lengths[3], data=forks[0], res=forks[1])
 
 
 def read_letters(data):
@@ -255,4 +298,6 @@ def read_form(form, data):
     """The file that the bytes are in a form."""
     if form == "raw":
         return File(res=data)
-    return {"double": read_double, "macbin": read_macbin, "hqx": read_hqx}[form](data)
+    if form in MAGICS:
+        return read_entries(form, data)
+    return {"macbin": read_macbin, "hqx": read_hqx}[form](data)

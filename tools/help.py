@@ -84,7 +84,7 @@ class Help:
             given |= found
         # The short name of an option of derez stands in a row alone.
         more = set(self.described) - given - {("-s", "TYPE")}
-        if more or set(self.forms) != {*self.commands, *ALONE} or len(self.statuses) != 6 or len(self.kinds) != 4:
+        if more or set(self.forms) != {*self.commands, *ALONE} or len(self.statuses) != 6 or len(self.kinds) != 5:
             sys.exit("help: the help text isn't as this script reads it: %s" % (more or "its parts"))
 
 

@@ -10,7 +10,7 @@ import sys
 
 from casefile import Book, image
 from fork import number
-from forms import File, checked, crc, double, hqx, hqx_head, hqx_text, macbin
+from forms import MAGICS, File, checked, crc, dated, double, hqx, hqx_head, hqx_text, macbin, single
 from list_book import Cases, resource
 from lists import All, Bad, Head, Id, Name, Range, Source, Stray, change, data, delete, include, read, wrong
 
@@ -20,7 +20,7 @@ APPEND = Book("append.cases",
               "Changes of a file that is there: `-a` with `change`, `delete` and all others; `-ov` and `-ro`.",
               "Written by tools/list_cases.py. What each run leaves is told by tools/lists.py.")
 FORMS = Book("forms.cases",
-             "Statements, `rez` and `derez` over files in the forms raw, AppleDouble, MacBinary and BinHex.",
+             "Statements, `rez` and `derez` over files in the forms raw, AppleDouble, AppleSingle, MacBinary and BinHex.",
              "Written by tools/list_cases.py. What each run leaves is told by tools/lists.py and tools/forms.py.")
 
 
@@ -763,7 +763,7 @@ T = File(name=b"T", data=b"data of T", kind=b"TEXT", creator=b"ttxt", flags=0x01
          locked=True, created=1000, modified=2000, res=SOME)
 D = T.but(extra=bytes(range(16)), data=b"")
 WRITERS = [("MacBinary", "macbin", macbin, "T.bin"), ("AppleDouble", "double", double, "._T"),
-           ("BinHex", "hqx", hqx, "T.hqx")]
+           ("AppleSingle", "single", single, "T.single"), ("BinHex", "hqx", hqx, "T.hqx")]
 
 
 def parted(f):
@@ -774,14 +774,13 @@ def parted(f):
     return bytes(held[:128]) + b"s" * 130 + bytes(126) + bytes(held[128:]) + b"a com" + bytes(123)
 
 
-def entries(version, *parts):
-    """AppleDouble with entries of one's own, their bytes in the other order."""
+def entries(version, *parts, form="double"):
+    """AppleDouble or AppleSingle with entries of one's own, their bytes in the other order."""
     place, head, body = 26 + 12 * len(parts), b"", b""
     for ident, held in reversed(parts):
         head = number(ident, 4) + number(place, 4) + number(len(held), 4) + head
         body, place = body + held, place + len(held)
-    return bytes.fromhex("00051607") + number(version, 4) + b"filler".ljust(16, b"!") + number(len(parts),
-                                                                                               2) + head + body
+    return number(MAGICS[form], 4) + number(version, 4) + b"filler".ljust(16, b"!") + number(len(parts), 2) + head + body
 
 
 def included_forms():
@@ -797,7 +796,7 @@ def included_forms():
     formed.rez("include from MacBinary without a resource fork", "rez s.r -o x", ('include "f";', include("f")),
                files={"f": macbin(T.but(res=b""))})
     formed.rez("include from AppleDouble without a name, 394 bytes", "rez s.r -o x",
-               ('include "._App";', include("._App")), files={"._App": double(File(res=ONE))})
+               ('include "._App";', include("._App")), files={"._App": dated(File(res=ONE))})
     formed.rez("include from AppleDouble of the first version with other entries", "rez s.r -o x",
                ('include "f";', include("f")),
                files={"f": entries(0x00010000, (1, b"data"), (2, ONE), (8, b"dates"), (2, b"second"))})
@@ -806,6 +805,12 @@ def included_forms():
     formed.rez("include from AppleDouble reads the header file alone", "rez s.r -o x",
                ('include "._T";', include("._T")), files={"._T": double(T.but(res=ONE)), "T": b"data"},
                fails=4)
+    formed.rez("include from AppleSingle of the first version with other entries", "rez s.r -o x", ('include "f";', include("f")),
+               files={"f": entries(0x00010000, (1, b"data"), (2, ONE), (8, b"dates"), (2, b"second"), form="single")})
+    formed.rez("include from AppleSingle without a resource fork", "rez s.r -o x", ('include "f";', include("f")),
+               files={"f": entries(0x00020000, (1, ONE), form="single")})
+    formed.rez("a map that is read-only within AppleSingle that is included", "rez s.r -o x", ('include "f";', include("f")),
+               files={"f": single(T.but(res=image([TEST], 0x0080)))})
     formed.rez("include from BinHex behind other lines", "rez s.r -o x", ('include "f";', include("f")),
                files={"f": b"From: someone\n\n" + hqx(T.but(res=ONE)).replace(b"\n:", b"\n \t\n:") + b"Bye!\n"})
     formed.rez("include from BinHex whose lines end in CR and in CR LF", "rez s.r -o x", ('include "f";', include("f")),
@@ -829,8 +834,13 @@ def broken_forms():
     refused("a text", "441 NoStart: 0", b"no fork\n")
     refused("AppleDouble of 20 bytes", "421 ShortHeader: 20", double(T)[:20])
     refused("AppleDouble of a later version", "427 NewerVersion: 196608", entries(0x00030000, (3, b"T")))
-    refused("AppleDouble whose entries end after the file", "423 EntryOutside: 2", double(T.but(name=b""))[:49])
+    refused("AppleDouble whose entries end after the file", "423 EntryOutside: 2", dated(T.but(name=b""))[:49])
     refused("AppleDouble with an entry outside", "423 EntryOutside: 3", name[:-1])
+    refused("AppleSingle of 20 bytes", "421 ShortHeader: 20", single(T)[:20])
+    refused("AppleSingle of a later version", "427 NewerVersion: 196608", entries(0x00030000, (2, ONE), form="single"))
+    refused("AppleSingle whose entries end after the file", "423 EntryOutside: 5", single(T)[:85])
+    refused("AppleSingle with an entry outside", "423 EntryOutside: 1", entries(0x00020000, (1, b"data"), (2, ONE), form="single")[:-1])
+    refused("AppleSingle with a broken fork", "407 ReferencesOutside: 300 1", single(T.but(res=cut_fork())))
     refused("MacBinary with a wrong CRC", "424 BadCrc: 0 %d %d" % (crc(whole[:124]),
                                                                    crc(whole[:65] + b"t" + whole[66:124])),
                                                                    whole[:65] + b"t" + whole[66:])
@@ -876,6 +886,11 @@ def added_forms():
           fails=4)
     added("AppleDouble without a name", "-o d/._App", double(D.but(name=b"")), "d/._App", gone=["d/App"])
     added("AppleDouble with nothing but a name", "-o x", entries(0x00010000, (3, b"T")))
+    added("AppleSingle", "-o x", single(T), fails=4, gone=["x.data"])
+    added("AppleSingle without a name", "-o d/._App", single(D.but(name=b"")), "d/._App", gone=["d/App"])
+    added("AppleSingle with nothing but a data fork", "-o x", entries(0x00010000, (1, b"data"), form="single"))
+    added("AppleSingle whose creation isn't known", "-o x", single(T.but(created=0)))
+    added("AppleSingle with a map that becomes read-only, and a type and a creator", "-ro -o x -t APPL -c rzkt", single(T))
     added("BinHex", "-o x", hqx(T))
     added("a raw file with a type", "-o x -t APPL -c rzkt", SOME)
     formed.say("-a and -form: the fields of the file that is there in another form.")
@@ -884,6 +899,14 @@ def added_forms():
     added("MacBinary as BinHex", "-o x -form raw -form hqx", macbin(T))
     added("AppleDouble as MacBinary", "-form macbin -o x -c éabc", double(D), others={"x.data": b"data"})
     added("BinHex as MacBinary", "-form macbin -o x", hqx(T))
+    added("MacBinary as AppleSingle", "-o x -form single", macbin(T))
+    added("AppleSingle as MacBinary", "-o x -form macbin", single(T))
+    added("AppleSingle as AppleDouble: its data fork is lost", "-o ._T -form double", single(T), "._T", gone=["T"])
+    added("AppleDouble as AppleSingle: the data file isn't read", "-o ._T -form single", double(T), "._T", {"T": b"data"}, fails=4)
+    added("AppleSingle as BinHex", "-o x -form hqx", single(T))
+    added("BinHex as AppleSingle", "-o x -form double -form single", hqx(T))
+    added("AppleSingle as raw", "-o x -form raw", single(T))
+    added("a raw file as AppleSingle", "-form single -o d/One", SOME, "d/One")
     added("a raw file as MacBinary", "-form macbin -o d/One", SOME, "d/One")
     added("a raw file as AppleDouble with a type", "-form double -o x -t TEXT", SOME)
     formed.rez("add to a file that is missing as MacBinary", "rez s.r -a -form macbin -o One", item)
@@ -902,6 +925,8 @@ def broken_form_bases():
     refused("a text", "441 NoStart: 0", b"no fork\n")
     refused("MacBinary with a wrong CRC", "424 BadCrc: 0 0 %d" % crc(whole[:124]), whole[:124] + b"\0\0" + whole[126:])
     refused("AppleDouble with an entry outside", "423 EntryOutside: 2", double(T)[:-1])
+    refused("AppleSingle with an entry outside", "423 EntryOutside: 2", single(T)[:-1])
+    refused("AppleSingle with a map that is read-only", "220 ReadOnlyMap: 128", single(T.but(res=image(FOUR, 0x0080))))
     refused("BinHex without its end", "443 NoEnd: %d" % (len(hqx(T)) - 2), hqx(T)[:-2])
     refused("MacBinary with a broken fork", "407 ReferencesOutside: 300 1", macbin(T.but(res=cut_fork())))
     refused("MacBinary with a map that is read-only", "220 ReadOnlyMap: 128", macbin(T.but(res=image(FOUR, 0x0080))))
@@ -914,6 +939,12 @@ def names():
     formed.rez("a name of 63 bytes in Mac Roman", "rez s.r -form macbin -o d/é" + long[2:], item)
     formed.rez("a name of 64 bytes", "rez s.r -form macbin -o d/" + long, item, err="error 425 BadName: 64")
     formed.rez("a name of 64 bytes as AppleDouble", "rez s.r -form double -o d/" + long, item)
+    formed.rez("a name of 64 bytes as AppleSingle", "rez s.r -form single -o d/" + long, item)
+    formed.rez("no name behind the last folder as AppleSingle", "rez s.r -form single -o d/", item)
+    formed.rez("a name that Mac Roman hasn't, as AppleSingle", "rez s.r -form single -o d/語", item, err="error 425 BadName: 1")
+    formed.rez("a name that Mac Roman hasn't, of an AppleSingle that has one", "rez s.r -a -o 語", item, files={"語": single(T)})
+    formed.rez("a name of 64 bytes that AppleSingle has", "rez s.r -a -form macbin -o x", item,
+               files={"x": single(D.but(name=b"n" * 64))}, err="error 425 BadName: 64")
     formed.rez("no name behind the last folder", "rez s.r -form macbin -o d/", item, err="error 425 BadName: 0")
     formed.rez("no name behind the last folder as AppleDouble", "rez s.r -form double -o d/", item)
     formed.rez("a name of 70 characters that Mac Roman hasn't", "rez s.r -form macbin -o 語/" + long + "語12345", item,
@@ -935,6 +966,9 @@ def names():
     formed.rez("a name comes before a write that fails", "rez s.r -form hqx -o d/", item, fails=2,
                err="error 425 BadName: 0")
     formed.rez("the write of a form fails", "rez s.r -form hqx -o d/n", item, fails=2, err="write fault")
+    formed.rez("the write of AppleSingle fails", "rez s.r -form single -o d/n", item, fails=2, err="write fault")
+    formed.rez("a data fork of AppleSingle that is too long", "rez s.r -a -o x", item,
+               files={"x": single(T.but(data=bytes(33554433)))}, err="error 428 ForkTooLong: 33554433")
     formed.rez("a data fork that is too long for a form", "rez s.r -a -o x", item,
                files={"x": macbin(T.but(data=bytes(33554433)))}, err="error 428 ForkTooLong: 33554433")
 
@@ -946,6 +980,7 @@ def shown_forms():
     formed.derez("the last of two forms counts", "derez -from hqx f -from macbin", {"f": macbin(T)}, form="macbin")
     formed.derez("AppleDouble is shown by its header file alone", "derez ._T", {"._T": double(T), "T": b"data"},
                  fails=2)
+    formed.derez("AppleSingle is shown by itself alone", "derez ._T", {"._T": single(T), "T": b"data"}, fails=2)
     formed.derez("a file of no bytes has no resources", "derez f", {"f": b""})
 
     def refused(name, says, words, held, form=None, **more):
@@ -955,6 +990,12 @@ def shown_forms():
     refused("no bytes as MacBinary", "421 ShortHeader: 0", "derez f -from macbin", b"", "macbin")
     refused("no bytes as AppleDouble", "421 ShortHeader: 0", "derez f -from double", b"", "double")
     refused("no bytes as BinHex", "441 NoStart: 0", "derez f -from hqx", b"", "hqx")
+    refused("no bytes as AppleSingle", "421 ShortHeader: 0", "derez f -from single", b"", "single")
+    refused("a raw file as AppleSingle", "422 BadMagic: 256", "derez f -from single", ONE, "single")
+    refused("AppleSingle as AppleDouble", "422 BadMagic: 333312", "derez f -from double", single(T), "double")
+    refused("AppleDouble as AppleSingle", "422 BadMagic: 333319", "derez f -from single", double(T), "single")
+    refused("AppleSingle as raw", "402 DataAreaOutside: 0 0", "derez f -from raw", single(T), "raw")
+    refused("AppleSingle with a broken fork", "407 ReferencesOutside: 300 1", "derez f", single(T.but(res=cut_fork())))
     refused("a raw file as MacBinary", "422 BadMagic: 0", "derez f -from macbin", ONE, "macbin")
     refused("a raw file as AppleDouble", "422 BadMagic: 256", "derez f -from double", ONE, "double")
     refused("a raw file as BinHex", "441 NoStart: 0", "derez f -from hqx", ONE, "hqx")

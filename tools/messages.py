@@ -31,7 +31,7 @@ def refusals():
 
 
 def main():
-    named = set(re.findall(r'(\d{3}) => Some\(b"(\w+)"\)', text_of("crates/rz_core/src/message.rt")))
+    named = set(re.findall(r'(\d{3}) => Some\("(\w+)"\)', text_of("crates/rz_core/src/message.rt")))
     text = text_of("docs/MESSAGES.md")
     rows = re.findall(r"^\| (\d{3}) (\w+)", text, re.M)
     lines = set(re.findall(r"^rezkit: .*?(?:error|warning) (\d{3}) (\w+)", text, re.M))

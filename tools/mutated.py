@@ -4,12 +4,12 @@
     python3 tools/mutated.py [PROGRAM [COUNT [SEED]]]
 
 PROGRAM is crates/rezkit/out/rezkit, COUNT 4,000 and SEED 1 unless others are named. Each file is a fork of resources of the
-cases in crates/rezkit_cases/data, in one of the forms raw, AppleDouble, MacBinary and BinHex, of which something is changed:
+cases in crates/rezkit_cases/data, in one of the forms raw, AppleDouble, AppleSingle, MacBinary and BinHex, of which something is changed:
 fields of the fork, bits, bytes, or how long it is, before or after it is put into its form, with check sums that are
-computed again or not. `derez` shows it, and `bridge` carries it to a form. What comes has to be what casefile.py and
-forms.py say, which know the layouts of docs/FORMATS.md and nothing of the code: the first broken rule, or each byte of the
-text and of the files. Printed is how often each answer came. The status is 1 if another came, or the program ended in
-another way. This is no part of the gate.
+computed again or not. `derez` shows it, `det` tells what is broken, and `bridge` carries it to a form. What comes has to be
+what casefile.py, breaks.py and forms.py say, which know the layouts of docs/FORMATS.md and nothing of the code: the first
+broken rule, or each byte of the text and of the files. Printed is how often each answer came. The status is 1 if another
+came, or the program ended in another way. This is no part of the gate.
 """
 import collections
 import glob
@@ -21,12 +21,13 @@ import subprocess
 import sys
 import tempfile
 
+from breaks import breaks, text_of
 from casefile import DATA, admitted, image
-from forms import ALPHABET, File, Refused, checked, crc, double, form_of, hqx_head, hqx_text, macbin, read_form, written
+from forms import ALPHABET, MAGICS, File, Refused, checked, crc, form_of, hqx_head, hqx_text, macbin, read_form, written
 from shown import cases_of, content_of, resource_text
 
 TOP = os.path.join(os.path.dirname(os.path.abspath(__file__)), "..")
-FORMS = ("raw", "double", "macbin", "hqx")
+FORMS = ("raw", "double", "single", "macbin", "hqx")
 MOST = 60_000  # the bytes of a resource that is taken
 SECONDS = 60
 
@@ -130,9 +131,9 @@ class Maker:
         is_changed = self.some(False, False, True)
         if form == "raw":
             return self.changed(file.res) if is_changed else file.res
-        if form == "double":
-            data = double(file)
-            return self.field(data, *self.some(*DOUBLE_FIELDS)) if is_changed and self.some(0, 1, 1) else self.changed(data) if is_changed else data
+        if form in MAGICS:
+            data = written(form, file)
+            return self.field(data, *self.some(*ENTRY_FIELDS)) if is_changed and self.some(0, 1, 1) else self.changed(data) if is_changed else data
         file = file.but(name=file.name[:63] or b"none")
         if form == "macbin":
             data = macbin(file)
@@ -161,14 +162,19 @@ class Maker:
 
 
 RUN_FIRST = ("\n:" + ALPHABET[0x90 >> 2] + ALPHABET[0] + ALPHABET[5 << 2] + ALPHABET[0]).encode()  # the bytes 90 05 00
-DOUBLE_FIELDS = [(0, 4), (4, 4), (24, 2)] + [(26 + 12 * k + 4 * j, 4) for k in range(3) for j in range(3)]
-MACBIN_FIELDS = [(0, 1), (1, 1), (2, 1), (65, 4), (73, 1), (74, 1), (81, 1), (82, 1), (83, 4), (87, 4), (99, 2), (120, 2), (122, 1), (123, 1), (124, 2)]
+ENTRY_FIELDS = [(0, 4), (4, 4), (24, 2)] + [(26 + 12 * k + 4 * j, 4) for k in range(5) for j in range(3)]
+MACBIN_FIELDS = [(0, 1), (1, 1), (2, 1), (65, 4), (73, 1), (74, 1), (81, 1), (82, 1), (83, 4), (87, 4), (99, 2), (102, 4), (106, 2), (120, 2), (122, 1), (123, 1), (124, 2)]
 
 
 def shown(data, form):
     """What `derez` shows of a file."""
     resources = admitted(read_form(form or form_of(data), data).res)[0]
     return "".join(resource_text(each, [], set(), 0) for each in resources).encode(), {}
+
+
+def told(data, form):
+    """What `det` tells of a file."""
+    return text_of(breaks(read_form(form or form_of(data), data).res)).encode(), {}
 
 
 def carried(data, own, form, to):
@@ -183,6 +189,12 @@ def carried(data, own, form, to):
     if to == "double" and file.data:
         files["x.data"] = file.data
     return b"", files
+
+
+def answer_of_det(out):
+    """How many rules `det` says are broken."""
+    count = out.split()[-1].decode()
+    return "broken " + (count if len(count) == 1 else "10 or more")
 
 
 class Runs:
@@ -200,7 +212,8 @@ class Runs:
                 file.write(data)
         try:
             out, made = expected()
-            wanted, answer = (0, out, b"", {**files, **made}), "done"
+            wanted = (0, out, b"", {**files, **made})
+            answer = "done" if words[0] != "det" else answer_of_det(out)
         except Refused as refused:
             says = "rezkit: error %d %s%s\n" % (refused.number, self.names[refused.number], ": " + refused.kept if refused.kept else "")
             wanted, answer = (2, b"", says.encode(), files), "%d %s" % (refused.number, self.names[refused.number])
@@ -224,12 +237,13 @@ def main():
     with tempfile.TemporaryDirectory(prefix="rezkit-mutated-") as folder:
         runs = Runs(program, folder)
         for number in range(count):
-            form = FORMS[number % 4]
+            form = FORMS[number % len(FORMS)]
             data = maker.in_form(form, maker.file(maker.changed_fork(maker.fork())))
             given = maker.some(None, None, form)
             behind = ["-from", given] if given else []
             files = {"f": data}
             runs.run(number, ["derez", "f", *behind], files, lambda: shown(data, given))
+            runs.run(number, ["det", "f", *behind], files, lambda: told(data, given))
             own, to = maker.some(None, b"its data fork"), maker.some(*FORMS)
             files = {**files, "f.data": own} if own else files
             runs.run(number, ["bridge", "f", *behind, "-to", to, "-o", "x"], files, lambda: carried(data, own, given, to))

@@ -26,6 +26,7 @@ SWEEPS = [
         ("options", "an included file", "folder", 2, 1),
         ("forms", "include from MacBinary", "folder", 2, 1),
         ("forms", "include from AppleDouble", "folder", 2, 1),
+        ("forms", "include from AppleSingle", "folder", 2, 1),
         ("forms", "include from BinHex", "folder", 2, 1),
     ]),
     ("rez -a: a read of the file that is added to, too", [
@@ -34,11 +35,13 @@ SWEEPS = [
         ("append", "a file to which nothing is added is kept whole", "folder", 2, 1),
         ("forms", "add to MacBinary", "folder", 2, 1),
         ("forms", "add to AppleDouble", "folder", 2, 1),
+        ("forms", "add to AppleSingle without a name", "folder", 2, 1),
     ]),
     ("rez in other forms", [
         ("bridge", "rez writes macbin", "folder", 1, 1),
         ("bridge", "rez writes hqx", "folder", 1, 1),
         ("bridge", "rez writes double", "folder", 1, 1),
+        ("bridge", "rez writes single", "folder", 1, 1),
     ]),
     ("bridge: the data fork is read and written as a file of its own, the data file first", [
         ("bridge", "a fork as BinHex", "folder", 1, 1),
@@ -48,6 +51,9 @@ SWEEPS = [
         ("bridge", "the data file is the file that is read", "folder", 1, 2),
         ("bridge", "AppleDouble beside its data file", "folder", 2, 1),
         ("bridge", "AppleDouble without its data file", "folder", 2, 1),
+        ("bridge", "both forks as AppleSingle: one file", "folder", 1, 1),
+        ("bridge", "AppleSingle as AppleDouble", "folder", 1, 2),
+        ("bridge", "AppleDouble as AppleSingle", "folder", 2, 1),
         ("bridge", "a file may be written over itself", "folder", 1, 1),
     ]),
     ("derez: reads alone", [
@@ -55,6 +61,16 @@ SWEEPS = [
         ("typefiles", "two warnings, the second of a range", "folder", 2, 0),
         ("bridge", "derez shows MacBinary", "folder", 1, 0),
         ("bridge", "derez shows AppleDouble", "folder", 1, 0),
+        ("bridge", "derez shows AppleSingle", "folder", 1, 0),
+    ]),
+    ("det: one read, and one piece of its output", [
+        ("det", "a length of 3 and a name at the end of the map", "folder", 1, 0),
+        ("det", "in double", "folder", 1, 0),
+        ("det", "a text", "folder", 1, 0),
+        ("det", "a hundred faults", "out", 1, 0),
+        ("det", "a hundred faults", "out", 1, 20),
+        ("det", "a fork that is whole", "out", 1, 8),
+        ("det", "BinHex without its last colon", "err", 1, 12),
     ]),
     ("warnings: after a read none is said, after a write all are", [
         ("types", "a declaration again is warned of", "folder", 1, 1),
