@@ -16,8 +16,7 @@ far         one reference to data that lie outside, behind a data area of 16 MB
 Each fork is told twenty times. Counted are the least seconds of the processor, without those that a fork of no bytes takes, and
 the most memory. The text is compared byte by byte with that of tools/breaks.py. The status is 1 where it differs, where eight
 times as much takes more than sixteen times the time, but for types of different codes, where a fork takes more than 0.2
-seconds, or one of such types more than a second, or where more memory is taken than the fork, its text twice, and 8 MB. Memory
-is told by `/usr/bin/time -v`.
+seconds, or where more memory is taken than the fork, its text twice, and 8 MB. Memory is told by `/usr/bin/time -v`.
 """
 import os
 import subprocess
@@ -63,7 +62,7 @@ IDS, CODES = (2_048, 4_096, 8_192, 16_384), (1_024, 2_048, 4_096, 8_192)
 # Each kind: its name, what makes its forks, how many there are of each, and how many times the time and how long it may take.
 KINDS = [("references", references, IDS, MOST_GROWTH, MOST_SECONDS), ("ids", ids, IDS, MOST_GROWTH, MOST_SECONDS),
          ("shared", shared, IDS, MOST_GROWTH, MOST_SECONDS),
-         ("codes", codes, CODES, MOST_GROWTH, MOST_SECONDS), ("types", types, CODES, None, 1.0),
+         ("codes", codes, CODES, MOST_GROWTH, MOST_SECONDS), ("types", types, CODES, None, MOST_SECONDS),
          ("far", far, (16 * MB,), None, MOST_SECONDS)]
 
 
