@@ -1,0 +1,6 @@
+pub mod Names
+pub mod Kept
+pub mod Shape
+pub mod Ends
+pub mod Whole
+pub mod Closed

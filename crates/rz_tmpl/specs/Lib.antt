@@ -1,0 +1,4 @@
+pub mod Body
+pub mod Closed
+pub mod Parts
+pub mod Template

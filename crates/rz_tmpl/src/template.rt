@@ -1,0 +1,72 @@
+//! The template of the bytes of a 'TMPL' resource. See `specs/Template`.
+
+ghost use Rattle.std.specs.Prelude.{◌≡◌, ◌≤◌, ◌+◌, ◌^◌, IfOk, length};
+ghost use Rattle.rz_core.specs.Stop.{seen, Meets};
+ghost use Rattle.rz_tmpl.specs.Body.{tmpl_body};
+ghost use Rattle.rz_tmpl.specs.Parts.{starts, starts_in};
+ghost use Rattle.rz_tmpl.specs.Template.{HasBody};
+ghost use Rattle.rz_tmpl_entries.specs.Items.{entries_of, Items};
+ghost use Rattle.rz_types.specs.Template.{template_of};
+ghost use Rattle.rz_types_fields.specs.Field.{plain_body};
+
+use crate::laws::tmpl_bodies_are_templates;
+use crate::parts::Parts;
+use rz_core::{NoMemory, Stop};
+use rz_tmpl_entries::{Entry, TmplFault, entries};
+use rz_types::{Body, Template, is_body_readable};
+use std::alloc::Global;
+
+/// The template that the bytes of a 'TMPL' resource are. Its fields are those of a declaration: each entry is one, and
+/// counted lists are arrays `L1`, `L2` and so on, in the order in which they begin. Memory is linear in the bytes, and so is
+/// time but for the test whether it can be read, which is quadratic in counted lists.
+///
+/// Refused is the first fault of the entries, 451 to 456, as by [`entries`]. (ResEdit Reference, 'TMPL' resources.)
+pub fn template_of(alloc: Global, bytes: &[u8]) -> Result<Template, Stop<TmplFault>>
+    ensures { Meets (seen template_of result) (HasBody bytes.now) }
+{
+    tmpl_bodies_are_templates();
+    let body = match entries(alloc, bytes) {
+        Ok(entries) => body_of(alloc, entries.as_slice())?,
+        Err(stop) => return Err(stop),
+    };
+    let readable = is_body_readable(alloc, body.as_slice())?;
+    Ok(Template::of(body, readable))
+}
+
+/// The fields of the entries of a body. They are read from the last to the first, so that a count is met behind its list.
+fn body_of(alloc: Global, entries: &[Entry]) -> Result<Body, NoMemory>
+    requires { (items : Items) × (entries.now ≡ entries_of items) }
+    ensures few { 1 + starts_in entries.now ≤ 2 ^ 64 }
+    ensures body { (items : Items) → entries.now ≡ entries_of items → IfOk result (λ body. plain_body body ≡ tmpl_body items) }
+{
+    let mut parts = Parts::new(alloc, counted_lists(entries) + 1);
+    let mut left = entries;
+    while let Some((entry, front)) = left.split_last() {
+        parts = parts.with(alloc, *entry)?;
+        left = front;
+    }
+    Ok(parts.inner.into_body())
+}
+
+/// How many counted lists begin at these entries.
+fn counted_lists(entries: &[Entry]) -> u64
+    ensures lists { result ≡ starts_in entries.now }
+    ensures few { result ≤ length entries.now }
+{
+    let mut lists = 0;
+    for entry in entries {
+        lists += starts(*entry);
+    }
+    lists
+}
+
+/// How many begin at one.
+fn starts(entry: Entry) -> u64
+    ensures lists { result ≡ starts entry }
+    ensures few { result ≤ 1 }
+{
+    match entry {
+        Entry::Start(counted) => u64::from(counted),
+        Entry::One(_) | Entry::Count(_) | Entry::End => 0,
+    }
+}
