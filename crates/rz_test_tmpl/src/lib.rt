@@ -1,5 +1,5 @@
-//! Tests of the entries of 'TMPL' resources, worked out by another program. It rests on `rz_core`, `rz_tmpl_entries` and
-//! `rz_test_tables`, and has no code that ships. It changes with what `rz_tmpl_entries` promises.
+//! Tests of 'TMPL' resources, worked out by another program. It rests on `rz_core`, `rz_tmpl_entries`, `rz_tmpl` and
+//! `rz_test_tables`, and has no code that ships. It changes with what `rz_tmpl_entries` and `rz_tmpl` promise.
 #![tactic(auto)]
 
 #[cfg(test)]

@@ -1,13 +1,23 @@
-//! Entries of templates, or their first fault.
+//! Entries of templates and the fields that they are, or their first fault.
 
 use rz_core::{Bytes, Stop};
 use rz_test_tables::{Case, Text, add_if_wrong, cases_of};
-use rz_tmpl_entries::entries;
+use rz_tmpl::template_of;
+use rz_tmpl_entries::{TmplFault, entries};
 use std::process::Abort;
+
+/// What the cases of a table call.
+#[derive(Clone, Copy)]
+enum Call {
+    /// How many entries there are.
+    Entries,
+    /// How many fields the template has.
+    Template,
+}
 
 /// Each word is a code behind a label of one byte, and one that begins with `+` is bytes as they stand behind it: how many
 /// entries there are, or the number and the offset of the fault.
-const READ: &str = "
+const ENTRIES: &str = "
 OCNT LSTC PSTR LSTE => 4
  => 0
 DBYT DWRD DLNG HBYT HWRD HLNG FBYT FWRD FLNG AWRD ALNG PSTR CSTR CHAR TNAM RECT HEXD => 17
@@ -22,6 +32,17 @@ LSTB LSTE => 455 6
 LSTB FBYT ALNG LSTE => 455 18
 DBYT BOOL LSTE => 452 6
 LSTE BOOL => 453 0
+LSTB +\x02 => 451 6
+";
+
+/// The same, but how many fields the template has: one for each entry that stands in no list.
+const TEMPLATES: &str = "
+ => 0
+OCNT LSTC PSTR LSTE => 2
+DBYT DWRD DLNG HBYT HWRD HLNG FBYT FWRD FLNG AWRD ALNG PSTR CSTR CHAR TNAM RECT HEXD => 17
+ZCNT LSTB OCNT LSTC DBYT LSTE LSTE LSTC DBYT LSTE => 3
+LSTB RECT LSTE DBYT => 2
+LSTE => 453 0
 LSTB +\x02 => 451 6
 ";
 
@@ -40,9 +61,21 @@ fn bytes_of(rt: &(impl Abort + AllocGlobal), words: &str) -> Bytes {
 }
 
 /// Shows what the entries that words say give.
-fn show_entries(rt: &(impl Abort + AllocGlobal), words: &str, came: &mut Text) {
-    match entries(rt.alloc(), bytes_of(rt, words).as_slice()) {
-        Ok(entries) => came.number(entries.len() as u64),
+fn show_call(rt: &(impl Abort + AllocGlobal), call: Call, words: &str, came: &mut Text) {
+    let bytes = bytes_of(rt, words);
+    let count = match call {
+        Call::Entries => entries(rt.alloc(), bytes.as_slice()).map(|entries| entries.len()),
+        Call::Template => {
+            template_of(rt.alloc(), bytes.as_slice()).map(|template| template.body().len())
+        }
+    };
+    show_count(count, came);
+}
+
+/// Shows a count, or the number and the offset of a fault.
+fn show_count(count: Result<u64, Stop<TmplFault>>, came: &mut Text) {
+    match count {
+        Ok(count) => came.number(count),
         Err(Stop::Refused(fault)) => {
             came.number(u64::from(fault.number));
             came.put(b" ");
@@ -53,23 +86,29 @@ fn show_entries(rt: &(impl Abort + AllocGlobal), words: &str, came: &mut Text) {
 }
 
 /// Adds a case that comes out otherwise, with what came.
-fn add_case(rt: &(impl Abort + AllocGlobal), case: &Case<'_>, wrong: &mut String) {
+fn add_case(rt: &(impl Abort + AllocGlobal), call: Call, case: &Case<'_>, wrong: &mut String) {
     let mut came = Text::new(rt.alloc());
-    show_entries(rt, case.text, &mut came);
+    show_call(rt, call, case.text, &mut came);
     add_if_wrong(case.line, case.wanted.as_bytes(), came.as_slice(), wrong).expect(rt, "memory");
+}
+
+/// Adds the cases of a table that come out otherwise.
+fn add_wrong(rt: &(impl Abort + AllocGlobal), call: Call, table: &str, wrong: &mut String) {
+    for case in &cases_of(rt.alloc(), table, "//").expect(rt, "cases") {
+        add_case(rt, call, case, wrong);
+    }
 }
 
 /// All cases that come out otherwise.
 fn all_wrong(rt: &(impl Abort + AllocGlobal)) -> String {
     let mut wrong = String::new(rt.alloc());
-    for case in &cases_of(rt.alloc(), READ, "//").expect(rt, "cases") {
-        add_case(rt, case, &mut wrong);
-    }
+    add_wrong(rt, Call::Entries, ENTRIES, &mut wrong);
+    add_wrong(rt, Call::Template, TEMPLATES, &mut wrong);
     wrong
 }
 
 #[test]
-fn entries_and_faults_are_those_of_the_table(rt: HostRuntime) {
+fn entries_fields_and_faults_are_those_of_the_tables(rt: HostRuntime) {
     let wrong = all_wrong(&rt);
     assert_eq!(rt; wrong.as_str(), "");
 }
