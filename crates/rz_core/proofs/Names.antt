@@ -1,4 +1,4 @@
--- Each number of the table of faults has a name: a test of the numbers below 448. So there is a line for each fault that
+-- Each number of the table of faults has a name: a test of the numbers below 465. So there is a line for each fault that
 -- refuses.
 use Rattle.std.proofs.Common.{◌≡◌, ℕ, ◌<◌, Bool, true, false, ◌||◌, not, List, Option, Some, None, refl, arith}
 use Rattle.std.specs.Prelude.{◌==◌, IsSome}
@@ -9,10 +9,10 @@ use Rattle.std.proofs.lemmas.Bool.Decides.{nat_tests}
 use Rattle.rz_core.specs.Message.{fault_name, is_named, HasLine, IsNameable}
 use Rattle.rz_core.specs.declared.fault.Fault.{Fault}
 
-table : (number : ℕ) → number < 448 → (not (is_named number) || is_some (fault_name number)) ≡ true
-table number below = agree_below_at (λ k. not (is_named k) || is_some (fault_name k)) (λ k. true) 448 number refl below
+table : (number : ℕ) → number < 465 → (not (is_named number) || is_some (fault_name number)) ≡ true
+table number below = agree_below_at (λ k. not (is_named k) || is_some (fault_name k)) (λ k. true) 465 number refl below
 
-is_below : (number : ℕ) → is_named number ≡ true → number < 448
+is_below : (number : ℕ) → is_named number ≡ true → number < 465
 is_below number is = grind (arith, nat_tests)
 
 implied : (b c : Bool) → (not b || c) ≡ true → b ≡ true → c ≡ true

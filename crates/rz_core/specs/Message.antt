@@ -94,7 +94,7 @@ fork_fault number =
     else if number == 410 then Some (codes "Repeated")
     else None
 
--- faults of AppleDouble and MacBinary, 421 to 428, and of BinHex, 441 to 447
+-- faults of AppleDouble, AppleSingle and MacBinary, 421 to 428, and of BinHex, 441 to 447
 abbrev pub bridge_fault : ℕ → Option (List ℕ)
 bridge_fault number =
     if number == 421 then Some (codes "ShortHeader")
@@ -114,6 +114,21 @@ bridge_fault number =
     else if number == 447 then Some (codes "BadName")
     else None
 
+-- faults of 'TMPL' resources, 451 to 456, and of catalogues of texts, 461 to 464
+abbrev pub entry_fault : ℕ → Option (List ℕ)
+entry_fault number =
+    if number == 451 then Some (codes "TornEntry")
+    else if number == 452 then Some (codes "UnknownCode")
+    else if number == 453 then Some (codes "ListUnbalanced")
+    else if number == 454 then Some (codes "CountUnpaired")
+    else if number == 455 then Some (codes "EmptyElement")
+    else if number == 456 then Some (codes "ListTooDeep")
+    else if number == 461 then Some (codes "BadEntry")
+    else if number == 462 then Some (codes "NoLeaf")
+    else if number == 463 then Some (codes "EntryTwice")
+    else if number == 464 then Some (codes "TextRefused")
+    else None
+
 -- each number's name
 abbrev pub fault_name : ℕ → Option (List ℕ)
 fault_name number =
@@ -121,7 +136,8 @@ fault_name number =
     else if nat_lt number 230 then statement_fault number
     else if nat_lt number 300 then declaration_fault number
     else if nat_lt number 420 then fork_fault number
-    else bridge_fault number
+    else if nat_lt number 450 then bridge_fault number
+    else entry_fault number
 
 -- the numbers of the faults that refuse
 abbrev pub is_between : ℕ → ℕ → ℕ → Bool
@@ -131,6 +147,7 @@ abbrev pub is_fault : ℕ → Bool
 is_fault number =
     is_between 101 115 number || is_between 201 223 number || is_between 230 239 number || is_between 301 304 number
     || is_between 401 410 number || is_between 421 428 number || is_between 441 447 number
+    || is_between 451 456 number || is_between 461 464 number
 
 -- the numbers that have a name: those of faults that refuse, and that of the one warning
 abbrev pub is_named : ℕ → Bool

@@ -1,8 +1,14 @@
--- Lists of resources and the keys of resources.
-use Rattle.std.specs.Prelude.{◌≡◌, ℕ, ◌==◌, ◌&&◌, Bool, false, if◌then◌else◌, List, [], ◌∷◌, ◌++◌, fold}
+-- Types, lists of resources and the keys of resources. (Inside Macintosh: More Macintosh Toolbox, Resource Manager.)
+use Rattle.std.specs.Prelude.{◌≡◌, ℕ, ◌==◌, ◌&&◌, Bool, false, if◌then◌else◌, List, [], ◌∷◌, ◌++◌, fold, Option, Some, None}
 use Rattle.std.specs.List.{list_any}
-use Rattle.std.specs.Int.{cast_unsigned, w16}
+use Rattle.std.specs.Int.{cast_unsigned, from_be_bytes, w16, w32}
+use Rattle.rz_core.specs.declared.resource.OsType.{OsType}
 use Rattle.rz_core.specs.declared.resource.Resource.{Resource}
+
+-- four bytes as a type, the first byte highest
+abbrev pub kind_of : List ℕ → Option OsType
+kind_of (a ∷ b ∷ c ∷ d ∷ []) = Some (record { code = from_be_bytes w32 (a ∷ b ∷ c ∷ d ∷ []) })
+kind_of bytes = None
 
 -- the 16 bits of a resource's id
 abbrev pub id_bits : Resource → ℕ

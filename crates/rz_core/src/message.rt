@@ -2,7 +2,7 @@
 
 ghost use Rattle.std.specs.Prelude.{◌≡◌, ◌++◌, length, true, OnOk, OnErr};
 ghost use Rattle.std.specs.Option.{option_copied};
-ghost use Rattle.rz_core.specs.Message.{is_named, fault_name, source_fault, statement_fault, declaration_fault, fork_fault, bridge_fault, severity, place_text, kept_text, rule_text, fault_line, IsMarked, HasLine};
+ghost use Rattle.rz_core.specs.Message.{is_named, fault_name, source_fault, statement_fault, declaration_fault, fork_fault, bridge_fault, entry_fault, severity, place_text, kept_text, rule_text, fault_line, IsMarked, HasLine};
 
 use crate::{
     Bytes, Fault, FileNames, Kept, Mark, NoMemory, write_decimal, write_quoted, write_signed,
@@ -115,7 +115,8 @@ pub fn fault_name(number: u16) -> Option<&'static str>
         200..=229 => statement_fault(number),
         230..=299 => declaration_fault(number),
         300..=419 => fork_fault(number),
-        _ => bridge_fault(number),
+        420..=449 => bridge_fault(number),
+        _ => entry_fault(number),
     }
 }
 
@@ -233,6 +234,24 @@ fn bridge_fault(number: u16) -> Option<&'static str>
         445 => Some("Truncated"),
         446 => Some("RunAtStart"),
         447 => Some("BadName"),
+        _ => None,
+    }
+}
+
+fn entry_fault(number: u16) -> Option<&'static str>
+    ensures { option_copied result ≡ entry_fault number }
+{
+    match number {
+        451 => Some("TornEntry"),
+        452 => Some("UnknownCode"),
+        453 => Some("ListUnbalanced"),
+        454 => Some("CountUnpaired"),
+        455 => Some("EmptyElement"),
+        456 => Some("ListTooDeep"),
+        461 => Some("BadEntry"),
+        462 => Some("NoLeaf"),
+        463 => Some("EntryTwice"),
+        464 => Some("TextRefused"),
         _ => None,
     }
 }

@@ -1,5 +1,8 @@
 //! A resource and its type, lists of resources, and names of the language.
 
+ghost use Rattle.std.specs.Prelude.{◌≡◌};
+ghost use Rattle.rz_core.specs.Resources.{kind_of};
+
 use crate::{Attr, Bytes, Listing};
 
 /// The type of a resource: four bytes in Mac Roman, as one number with the first byte highest.
@@ -9,8 +12,21 @@ pub struct OsType {
     pub code: u32,
 }
 
-/// A resource. (Inside Macintosh: More
-/// Macintosh Toolbox, Resource Manager.)
+impl OsType {
+    /// The type of four bytes, the first byte highest. `None` comes exactly for bytes that aren't four.
+    pub fn of_bytes(bytes: &[u8]) -> Option<OsType>
+        ensures { result ≡ kind_of bytes.now }
+    {
+        match bytes {
+            [a, b, c, d] => Some(OsType {
+                code: u32::from_be_bytes([*a, *b, *c, *d]),
+            }),
+            _ => None,
+        }
+    }
+}
+
+/// A resource. (Inside Macintosh: More Macintosh Toolbox, Resource Manager.)
 #[derive(Drop)]
 pub struct Resource {
     /// The type.

@@ -7,7 +7,8 @@ use Rattle.rz_core.specs.declared.resource.Resource.{Resource}
 use Rattle.rz_show.specs.Shown.{row_uses}
 use Rattle.rz_show.specs.Showing.{by_bytes, by_row, showing_text, Showing}
 use Rattle.rz_tools_text.proofs.OneText.{OneTree}
-use Rattle.rz_tools_text.specs.Shown.{declared_for, its_bytes, its_row, IsShownBy, Known, Shown, TellsRow}
+use Rattle.rz_types_table.specs.Table.{declared_for}
+use Rattle.rz_tools_text.specs.Shown.{its_bytes, its_row, IsShownBy, Known, Shown, TellsRow}
 use Rattle.rz_tools_text.specs.Text.{ShowsEach}
 use Rattle.rz_types.specs.Field.{PlainBody}
 use Rattle.rz_types_fields.specs.declared.tree.Tree.{Tree}
@@ -27,14 +28,14 @@ module _ (decided : TreesAreDecided) (one : OneTree) (known : Known) where
     bytes_shown none = (by_bytes r, its_bytes none refl)
 
     abbrev IsOwn : PlainBody → List Tree → Type 0
-    IsOwn body row = IsTree (declared_for known r) (facts_of known.moment r) r.bytes body row
+    IsOwn body row = IsTree (declared_for known.types r) (facts_of known.moment r) r.bytes body row
 
     -- by a row that its bytes tell, if no case that it chooses has the name of a macro
     tree_shown : (body : PlainBody) (row : List Tree) → IsOwn body row → IsBy
     tree_shown body row tree =
         by_test IsBy (row_uses known.is_macro body row)
         (λ uses. bytes_shown (λ another other tells.
-        let same = one (declared_for known r) (facts_of known.moment r) r.bytes body another row other tree tells.tree in
+        let same = one (declared_for known.types r) (facts_of known.moment r) r.bytes body another row other tree tells.tree in
         true_false (sym uses ∙ (λ i. row_uses known.is_macro (same.0 i) (same.1 i)) ∙ tells.bare)))
         (λ bare. (by_row r body row, its_row body row (record { tree = tree; bare = bare }) refl))
 
@@ -44,7 +45,7 @@ module _ (decided : TreesAreDecided) (one : OneTree) (known : Known) where
 
     has_shown : (text : List ℕ) × Shown known r text
     has_shown =
-        let by : IsBy = decided_shown (decided (declared_for known r) (facts_of known.moment r) r.bytes) in
+        let by : IsBy = decided_shown (decided (declared_for known.types r) (facts_of known.moment r) r.bytes) in
         (showing_text known.is_macro by.0, (by.0, by.1, refl))
 
   pub has_each : (list : List Resource) → (text : List ℕ) × ShowsEach known list text

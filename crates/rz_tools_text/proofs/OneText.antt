@@ -4,7 +4,8 @@ use Rattle.rz_core.specs.declared.facts.Facts.{Facts}
 use Rattle.rz_core.specs.declared.resource.Resource.{Resource}
 use Rattle.rz_types_fields.specs.declared.tree.Tree.{Tree}
 use Rattle.rz_show.specs.Showing.{by_row, showing_text, Showing}
-use Rattle.rz_tools_text.specs.Shown.{declared_for, its_bytes, its_row, IsShownBy, Known, Shown, TellsRow}
+use Rattle.rz_types_table.specs.Table.{declared_for}
+use Rattle.rz_tools_text.specs.Shown.{its_bytes, its_row, IsShownBy, Known, Shown, TellsRow}
 use Rattle.rz_tools_text.specs.Text.{ShowsEach}
 use Rattle.rz_types.specs.Field.{PlainBody}
 use Rattle.rz_unlay.specs.Reading.{facts_of, IsTree}
@@ -17,7 +18,7 @@ OneTree =
 
 module _ (one : OneTree) (known : Known) where
   pub same_tree : (r : Resource) (body another : PlainBody) (row other : List Tree) → TellsRow known r body row → TellsRow known r another other → (body ≡ another) × (row ≡ other)
-  same_tree r body another row other tells also = one (declared_for known r) (facts_of known.moment r) r.bytes body another row other tells.tree also.tree
+  same_tree r body another row other tells also = one (declared_for known.types r) (facts_of known.moment r) r.bytes body another row other tells.tree also.tree
 
   one_row : (r : Resource) (body another : PlainBody) (row other : List Tree) → TellsRow known r body row → TellsRow known r another other → by_row r body row ≡ by_row r another other
   one_row r body another row other tells also = let same = same_tree r body another row other tells also in λ i. by_row r (same.0 i) (same.1 i)

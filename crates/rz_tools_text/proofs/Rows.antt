@@ -24,7 +24,8 @@ use Rattle.rz_show.specs.Statement.{data_lines, row_lines}
 use Rattle.rz_show.specs.Written.{as_line, line_text, lines_text, Written}
 use Rattle.rz_tools_text.specs.Held.{macros_held}
 use Rattle.rz_tools_text.proofs.Lists.{text_put}
-use Rattle.rz_tools_text.specs.Shown.{declared_for, its_bytes, its_row, IsShownBy, Known, Shown, TellsRow}
+use Rattle.rz_types_table.specs.Table.{declared_for}
+use Rattle.rz_tools_text.specs.Shown.{its_bytes, its_row, IsShownBy, Known, Shown, TellsRow}
 use Rattle.rz_types.specs.Field.{PlainBody}
 use Rattle.rz_types_fields.specs.Row.{IsRow}
 use Rattle.rz_types_fields.specs.Spells.{Spells}
@@ -84,11 +85,11 @@ module _ (one : OneShowing) (known : Known) (r : Resource) (facts : Facts) (are 
       (ap concat are_lines ∙ lines_bytes (data_lines facts r.bytes) ∙ ap (λ (known : Facts). lines_text (data_lines known r.bytes)) are)
 
   -- a resource for which nothing is declared
-  pub undeclared_put : declared_for known r ≡ None → (lines : List (List ℕ)) → lines ≡ map as_line (data_lines facts r.bytes)
+  pub undeclared_put : declared_for known.types r ≡ None → (lines : List (List ℕ)) → lines ≡ map as_line (data_lines facts r.bytes)
       → Puts (concat lines) before after result → PutsFront text before after (Ok result)
   undeclared_put none = bytes_put (its_bytes (λ body row tells. none-some body (sym none ∙ tells.tree.declared)) refl)
 
-  module _ (body : PlainBody) (declared : declared_for known r ≡ Some body) where
+  module _ (body : PlainBody) (declared : declared_for known.types r ≡ Some body) where
     -- a resource whose bytes tell no row that is shown
     pub untold_put : ((row : List Tree) → TellsRow known r body row → ⊥) → (lines : List (List ℕ)) → lines ≡ map as_line (data_lines facts r.bytes)
         → Puts (concat lines) before after result → PutsFront text before after (Ok result)
@@ -106,18 +107,18 @@ module _ (one : OneShowing) (known : Known) (r : Resource) (facts : Facts) (are 
 
 -- What is told.
 
-module _ (known : Known) (r : Resource) (facts : Facts) (are : facts ≡ facts_of known.moment r) (body : PlainBody) (declared : declared_for known r ≡ Some body) where
+module _ (known : Known) (r : Resource) (facts : Facts) (are : facts ≡ facts_of known.moment r) (body : PlainBody) (declared : declared_for known.types r ≡ Some body) where
   abbrev Tells : List Tree → Type 0
   Tells row = TellsRow known r body row
 
   module _ (found : Option (List Tree)) (told : Decided (λ row. (own : PlainBody) × IsTree (Some body) facts r.bytes own row) found)
       (every : (own : PlainBody) (row : List Tree) → IsTree (Some body) facts r.bytes own row → found ≡ Some row) where
-    there : (own : PlainBody) (row : List Tree) → IsTree (Some body) facts r.bytes own row → IsTree (declared_for known r) (facts_of known.moment r) r.bytes own row
+    there : (own : PlainBody) (row : List Tree) → IsTree (Some body) facts r.bytes own row → IsTree (declared_for known.types r) (facts_of known.moment r) r.bytes own row
     there own row is =
         subst (λ (fields : Option PlainBody). IsTree fields (facts_of known.moment r) r.bytes own row) (sym declared)
         (subst (λ (f : Facts). IsTree (Some body) f r.bytes own row) are is)
 
-    here : (own : PlainBody) (row : List Tree) → IsTree (declared_for known r) (facts_of known.moment r) r.bytes own row → IsTree (Some body) facts r.bytes own row
+    here : (own : PlainBody) (row : List Tree) → IsTree (declared_for known.types r) (facts_of known.moment r) r.bytes own row → IsTree (Some body) facts r.bytes own row
     here own row is =
         subst (λ (f : Facts). IsTree (Some body) f r.bytes own row) (sym are)
         (subst (λ (fields : Option PlainBody). IsTree fields (facts_of known.moment r) r.bytes own row) declared is)

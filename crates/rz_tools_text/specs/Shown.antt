@@ -1,13 +1,12 @@
 -- How a resource is shown, under the types that are declared. (As MPW DeRez shows it.)
-use Rattle.std.specs.Prelude.{◌≡◌, ℕ, Bool, false, List, option_map}
-use Rattle.std.specs.declared.option.Option.{Option}
+use Rattle.std.specs.Prelude.{◌≡◌, ℕ, Bool, false, List}
 use Rattle.rz_core.specs.declared.moment.Moment.{Moment}
 use Rattle.rz_core.specs.declared.resource.Resource.{Resource}
 use Rattle.rz_types_fields.specs.declared.tree.Tree.{Tree}
 use Rattle.rz_show.specs.Shown.{row_uses}
 use Rattle.rz_show.specs.Showing.{by_bytes, by_row, showing_text, Showing}
 use Rattle.rz_types.specs.Field.{PlainBody}
-use Rattle.rz_types_table.specs.Table.{found, Declaration}
+use Rattle.rz_types_table.specs.Table.{declared_for, Declaration}
 use Rattle.rz_unlay.specs.Reading.{facts_of, IsTree}
 
 -- what is known where resources are shown: the declarations, which names, in whatever case, are macros, and the moment
@@ -16,14 +15,10 @@ pub record Known : Type 0 where
   pub is_macro : List ℕ → Bool
   pub moment : Moment
 
--- the fields that are declared there for a resource
-abbrev pub declared_for : Known → Resource → Option PlainBody
-declared_for known r = option_map (λ one. one.template) (found r.kind r.id known.types)
-
 -- The bytes of a resource tell this row as a tree of the fields that are declared for it, and no case that the row chooses
 -- has the name of a macro.
 pub record TellsRow (known : Known) (r : Resource) (body : PlainBody) (row : List Tree) : Type 0 where
-  pub tree : IsTree (declared_for known r) (facts_of known.moment r) r.bytes body row
+  pub tree : IsTree (declared_for known.types r) (facts_of known.moment r) r.bytes body row
   pub bare : row_uses known.is_macro body row ≡ false
 
 -- a resource is shown by such a row, and where there is none by its bytes

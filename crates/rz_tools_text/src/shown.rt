@@ -9,7 +9,8 @@ ghost use Rattle.rz_fork.specs.View.{lent};
 ghost use Rattle.rz_show.specs.Hidden.{hides};
 ghost use Rattle.rz_show.specs.Shown.{row_uses};
 ghost use Rattle.rz_tools_text.specs.Held.{known_of, macros_held};
-ghost use Rattle.rz_tools_text.specs.Shown.{declared_for, Shown, TellsRow};
+ghost use Rattle.rz_types_table.specs.Table.{declared_for};
+ghost use Rattle.rz_tools_text.specs.Shown.{Shown, TellsRow};
 ghost use Rattle.rz_types.specs.Field.{plain_body};
 ghost use Rattle.rz_types.specs.Template.{template_of};
 ghost use Rattle.rz_types_table.specs.TypeTable.{table_of};
@@ -57,7 +58,7 @@ impl Known {
 
     /// The template that is declared for a resource.
     fn template_for(&self, view: &ResView<'_>) -> Option<&Template>
-        ensures { option_map (λ template. template_of template.now) result ≡ declared_for (known_of self.now) (lent view.now) }
+        ensures { option_map (λ template. template_of template.now) result ≡ declared_for (table_of self.now.types) (lent view.now) }
     {
         self.types.find(view.kind, view.id)
     }
@@ -124,7 +125,7 @@ fn put_under<O: Sink>(
     out: &mut O,
 ) -> Result<Put, NoMemory>
     requires facts { facts.now ≡ facts_of known.now.moment (lent view.now) }
-    requires declared { declared_for (known_of known.now) (lent view.now) ≡ Some (template_of template.now) }
+    requires declared { declared_for (table_of known.now.types) (lent view.now) ≡ Some (template_of template.now) }
     ensures told { (text : List ℕ) → Shown (known_of known.now) (lent view.now) text → PutsFront text (O.written out.old) (O.written out.new) result }
     ensures counted { O.faults out.old ≤ O.faults out.new }
     ensures cause { result ≡ Ok Put.Failed → Rose (O.faults out.old) (O.faults out.new) }
@@ -152,7 +153,7 @@ fn row_told(
     known: &Known,
 ) -> Result<Option<Row>, NoMemory>
     requires facts { facts.now ≡ facts_of known.now.moment (lent view.now) }
-    requires declared { declared_for (known_of known.now) (lent view.now) ≡ Some (template_of template.now) }
+    requires declared { declared_for (table_of known.now.types) (lent view.now) ≡ Some (template_of template.now) }
     ensures { IfOk result (Decided (TellsRow (known_of known.now) (lent view.now) (template_of template.now))) }
 {
     match tree_under(alloc, Some(template), view.bytes, facts)? {

@@ -7,6 +7,7 @@ use Rattle.std.specs.declared.result.Result.{Result}
 use Rattle.rz_core.specs.Lists.{or_else}
 use Rattle.rz_core.specs.declared.fault.Kept.TheVariants.{Key}
 use Rattle.rz_core.specs.declared.resource.OsType.{OsType}
+use Rattle.rz_core.specs.declared.resource.Resource.{Resource}
 use Rattle.rz_types_fields.specs.Field.{PlainBody}
 use Rattle.rz_types.specs.declared.rules.TypeFault.{TypeFault}
 use Rattle.rz_types_table.specs.declared.table.Scope.{Scope}
@@ -70,6 +71,10 @@ abbrev pub found : OsType → ℤ → List Declaration → Option Declaration
 found kind id table =
     or_else (last_such (is_for kind (is_id id)) table)
     (or_else (last_such (is_for kind (is_range_of id)) table) (last_such (is_for kind is_any) table))
+
+-- the fields that are declared there for a resource
+abbrev pub declared_for : List Declaration → Resource → Option PlainBody
+declared_for table r = option_map (λ one. one.template) (found r.kind r.id table)
 
 -- with an id what is found for it, and without one the last declaration for any id
 abbrev pub asked : OsType → Option ℤ → List Declaration → Option Declaration
