@@ -21,7 +21,7 @@ use Rattle.rz_types.specs.Readable.{are_read, ends_at_label, is_number_read, is_
 
 -- Bools.
 
-and_false : (a : Bool) → (a && false) ≡ false
+pub and_false : (a : Bool) → (a && false) ≡ false
 and_false true = refl
 and_false false = refl
 
@@ -67,7 +67,7 @@ unfixed zero k (list counted row rest) kept ends = no kept
 unfixed (suc left) k (list true row rest) kept ends = refl
 unfixed (suc left) k (list false row rest) kept ends = refl
 
-fixed_is : (left k : ℕ) (w : Bool) (items : Items) → is_kept left w items ≡ true → waits w items ≡ false → is_some (fixed_widths (body_from k items)) ≡ is_fixed items
+pub fixed_is : (left k : ℕ) (w : Bool) (items : Items) → is_kept left w items ≡ true → waits w items ≡ false → is_some (fixed_widths (body_from k items)) ≡ is_fixed items
 fixed_is left k w none kept ends = refl
 fixed_is left k w (one plain rest) kept ends =
     plus_some (fixed_width (field_of plain)) (fixed_widths (body_from k rest)) ∙ ap (λ (t : Bool). is_some (fixed_width (field_of plain)) && t) (fixed_is left k w rest kept ends)
@@ -78,7 +78,7 @@ fixed_is zero k w (list counted row rest) kept ends = no kept
 fixed_is (suc left) k w (list true row rest) kept ends = refl
 fixed_is (suc left) k w (list false row rest) kept ends = refl
 
-fixed_closed : (items : Items) → is_fixed items ≡ true → is_closed items ≡ true
+pub fixed_closed : (items : Items) → is_fixed items ≡ true → is_closed items ≡ true
 fixed_closed none is = refl
 fixed_closed (one (Number size hex) rest) is = fixed_closed rest is
 fixed_closed (one Character rest) is = fixed_closed rest is
@@ -112,7 +112,7 @@ thirty_two = omega arith
 sixty_four : 8 ≤ 64
 sixty_four = omega arith
 
-wide : (left k : ℕ) (items : Items) → is_kept left false items ≡ true → is_inner items ≡ true → has_value items ≡ true → 8 ≤ least_widths (body_from k items)
+pub wide : (left k : ℕ) (items : Items) → is_kept left false items ≡ true → is_inner items ≡ true → has_value items ≡ true → 8 ≤ least_widths (body_from k items)
 wide left k none kept inner value = no value
 wide left k (one (Number Byte hex) rest) kept inner value = at_least 8 (least_widths (body_from k rest)) eight
 wide left k (one (Number Word hex) rest) kept inner value = at_least 16 (least_widths (body_from k rest)) sixteen
@@ -146,7 +146,7 @@ label_plain Pascal told = refl
 label_plain ZeroEnded told = refl
 label_plain Rest told = refl
 
-no_label : (k : ℕ) (items : Items) (told : Names) → ends_at_label (body_from k items) told ≡ false
+pub no_label : (k : ℕ) (items : Items) (told : Names) → ends_at_label (body_from k items) told ≡ false
 no_label k none told = refl
 no_label k (one plain rest) told =
     ap (λ (t : Bool). t || (is_some (fixed_width (field_of plain)) && ends_at_label (body_from k rest) told)) (label_plain plain told)
@@ -155,7 +155,7 @@ no_label k (count less rest) told = no_label k rest told
 no_label k (list true row rest) told = refl
 no_label k (list false row rest) told = refl
 
-near_plain : (plain : Plain) (key : Key) → is_label (field_of plain) key ≡ false
+pub near_plain : (plain : Plain) (key : Key) → is_label (field_of plain) key ≡ false
 near_plain (Number size hex) key = refl
 near_plain Character key = refl
 near_plain TypeName key = refl
@@ -166,7 +166,7 @@ near_plain Pascal key = refl
 near_plain ZeroEnded key = refl
 near_plain Rest key = refl
 
-no_near : (k : ℕ) (items : Items) (key : Key) → is_near (body_from k items) key ≡ false
+pub no_near : (k : ℕ) (items : Items) (key : Key) → is_near (body_from k items) key ≡ false
 no_near k none key = refl
 no_near k (one plain rest) key =
     ap (λ (t : Bool). t || (is_measured (field_of plain) && is_near (body_from k rest) key)) (near_plain plain key)
@@ -177,13 +177,13 @@ no_near k (list false row rest) key = refl
 
 -- Counts.
 
-abbrev list_key : ℕ → Key
+abbrev pub list_key : ℕ → Key
 list_key n = count_key (list_name n).bytes
 
-same_list : (n : ℕ) → is_same_key (list_key n) (list_key n) ≡ true
+pub same_list : (n : ℕ) → is_same_key (list_key n) (list_key n) ≡ true
 same_list n = key_itself (list_key n)
 
-gives_plain : (plain : Plain) (key : Key) → gives_key (field_of plain) key ≡ false
+pub gives_plain : (plain : Plain) (key : Key) → gives_key (field_of plain) key ≡ false
 gives_plain (Number size hex) key = refl
 gives_plain Character key = refl
 gives_plain TypeName key = refl
@@ -194,7 +194,7 @@ gives_plain Pascal key = refl
 gives_plain ZeroEnded key = refl
 gives_plain Rest key = refl
 
-declared : (left k : ℕ) (items : Items) → is_kept left true items ≡ true → waits true items ≡ false → declares (body_from k items) (list_key (next_named k items)) ≡ true
+pub declared : (left k : ℕ) (items : Items) → is_kept left true items ≡ true → waits true items ≡ false → declares (body_from k items) (list_key (next_named k items)) ≡ true
 declared left k none kept ends = no_more ends
 declared left k (one plain rest) kept ends =
     ap (λ (t : Bool). t || declares (body_from k rest) (list_key (next_named k rest))) (gives_plain plain (list_key (next_named k rest))) ∙ declared left k rest kept ends
@@ -203,7 +203,7 @@ declared zero k (list counted row rest) kept ends = no kept
 declared (suc left) k (list true row rest) kept ends = or_left _ _ (or_left _ _ (same_list k))
 declared (suc left) k (list false row rest) kept ends = declared (suc left) (k + lists_of row) rest (listed left false true row rest kept).others ends
 
-has_rows : (less : Bool) (n : ℕ) → has_key (list_key n) (rows_term less n) ≡ true
+pub has_rows : (less : Bool) (n : ℕ) → has_key (list_key n) (rows_term less n) ≡ true
 has_rows true n = or_left _ _ (same_list n)
 has_rows false n = same_list n
 
@@ -217,12 +217,12 @@ told_either true told near has no_near is = refl
 told_either false true near has no_near is = or_right _ true refl
 told_either false false near has no_near is = ap (λ (t : Bool). (t && not (near || false)) || false) is ∙ ap (λ (t : Bool). not (t || false) || false) no_near
 
-told : (k : ℕ) (rest : Items) (passed : Passed) (less : Bool) (n : ℕ)
+pub told : (k : ℕ) (rest : Items) (passed : Passed) (less : Bool) (n : ℕ)
     → is_held (behind (count_field less n) (at_field (field_and (count_field less n) (body_from k rest)) passed)) (list_key n) ≡ true
 told k rest passed less n =
     told_either (passed.met (list_key n)) (passed.told (list_key n)) (is_near (body_from k rest) (list_key n)) (has_key (list_key n) (rows_term less n)) (no_near k rest (list_key n)) (has_rows less n)
 
-plain_held : (plain : Plain) (body : PlainBody) (passed : Passed) (key : Key) → is_held (behind (field_of plain) (at_field body passed)) key ≡ is_held passed key
+pub plain_held : (plain : Plain) (body : PlainBody) (passed : Passed) (key : Key) → is_held (behind (field_of plain) (at_field body passed)) key ≡ is_held passed key
 plain_held (Number size hex) body passed key = refl
 plain_held Character body passed key = refl
 plain_held TypeName body passed key = refl

@@ -6,9 +6,10 @@ use Rattle.rz_tmpl_entries.specs.Bodies.{append}
 use Rattle.rz_tmpl_entries.specs.Items.{count, entries_of, list, none, one, Items}
 use Rattle.rz_tmpl_entries.specs.declared.entry.Entry.{Entry}
 use Rattle.rz_tmpl_entries.specs.declared.entry.Entry.TheVariants.{Count, End, One, Start}
+use Rattle.rz_tmpl_entries.proofs.Places.{append_none}
 use Rattle.rz_tmpl_entries.proofs.Shown.{some_same}
-use Rattle.rz_tmpl.specs.Body.{body_from, lists_of, tmpl_body}
-use Rattle.rz_tmpl.specs.Parts.{body_in, nothing, starts, starts_in, with_entry, Ends, Goes, Holds}
+use Rattle.rz_tmpl.specs.Body.{lists_of}
+use Rattle.rz_tmpl.specs.Parts.{nothing, starts, starts_in, with_entry, Ends, Goes, Holds, IsPart}
 use Rattle.rz_tmpl.specs.declared.parts.Parts.{Parts}
 
 abbrev pub ends_of : Items → List Items → Ends
@@ -31,12 +32,6 @@ and_twice f g (Some next) = refl
 with_both : (a b : List Entry) (ends : Ends) → with_all (a ++ b) ends ≡ option_and_then (λ next. with_all a next) (with_all b ends)
 with_both [] b ends = and_some (with_all b ends)
 with_both (entry ∷ a) b ends = ap (option_and_then (with_entry entry)) (with_both a b ends) ∙ and_twice (λ next. with_all a next) (with_entry entry) (with_all b ends)
-
-append_none : (items : Items) → append items none ≡ items
-append_none none = refl
-append_none (one plain rest) = ap (one plain) (append_none rest)
-append_none (count less rest) = ap (count less) (append_none rest)
-append_none (list counted row rest) = ap (list counted row) (append_none rest)
 
 items_end : (items inner : Items) (outer : List Items) → with_all (entries_of items) (ends_of inner outer) ≡ Some (ends_of (append items inner) outer)
 items_end none inner outer = refl
@@ -103,8 +98,8 @@ goes_on entries left front entry old new are read is goes =
       holds = goes (starts_in front) read.ends next.0 (subst (λ (n : ℕ). Holds n read.ends old) (ap starts_in is ∙ starts_last front entry) read.holds) next.1;
     }
 
-pub ends_whole : (entries left : List Entry) (parts : Parts) (items : Items) → Read entries left parts → length left ≡ 0 → entries ≡ entries_of items → body_in parts.inner ≡ tmpl_body items
+pub ends_whole : (entries left : List Entry) (parts : Parts) (items : Items) → Read entries left parts → length left ≡ 0 → entries ≡ entries_of items → IsPart 1 items parts.inner
 ends_whole entries [] parts items read is are =
     let same : Some read.ends ≡ Some (ends_of items []) = sym read.made ∙ ap (λ (l : List Entry). with_all l nothing) (sym read.whole ∙ are) ∙ whole_end items in
-    read.holds.inner.body ∙ ap (λ (e : Ends). body_from 1 e.inner) (some_same read.ends (ends_of items []) same)
+    subst (λ (e : Ends). IsPart 1 e.inner parts.inner) (some_same read.ends (ends_of items []) same) read.holds.inner
 ends_whole entries (entry ∷ left) parts items read is are = absurd (omega arith)

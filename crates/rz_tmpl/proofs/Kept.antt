@@ -23,15 +23,15 @@ no is = absurd cc
 pub no_more : {P : Type 0} → true ≡ false → P
 no_more is = absurd cc
 
-back : (a b : Bool) → (a && b) ≡ true → b ≡ true
+pub back : (a b : Bool) → (a && b) ≡ true → b ≡ true
 back true b is = is
 back false b is = no is
 
-front : (a b : Bool) → (a && b) ≡ true → a ≡ true
+pub front : (a b : Bool) → (a && b) ≡ true → a ≡ true
 front true b is = refl
 front false b is = no is
 
-un_not : (a : Bool) → not a ≡ true → a ≡ false
+pub un_not : (a : Bool) → not a ≡ true → a ≡ false
 un_not true is = no is
 un_not false is = refl
 
@@ -200,7 +200,7 @@ next_among zero k (list counted inner rest) kept ends = no kept
 next_among (suc left) k (list true inner rest) kept ends = or_left _ _ (itself k)
 next_among (suc left) k (list false inner rest) kept ends = next_among (suc left) (k + lists_of inner) rest (listed left false true inner rest kept).others ends
 
-takes_is : (plain : Plain) → takes_value (field_of plain) ≡ takes plain
+pub takes_is : (plain : Plain) → takes_value (field_of plain) ≡ takes plain
 takes_is (Number size hex) = refl
 takes_is Character = refl
 takes_is TypeName = refl
@@ -211,7 +211,7 @@ takes_is Pascal = refl
 takes_is ZeroEnded = refl
 takes_is Rest = refl
 
-values_are : (k : ℕ) (items : Items) → has_value items ≡ true → has_values (body_from k items) ≡ true
+pub values_are : (k : ℕ) (items : Items) → has_value items ≡ true → has_values (body_from k items) ≡ true
 values_are k none value = no value
 values_are k (one plain rest) value =
     ap (λ (t : Bool). t || has_values (body_from k rest)) (takes_is plain) ∙ or_either (takes plain) (has_value rest) (has_values (body_from k rest)) value (values_are k rest)

@@ -31,7 +31,7 @@ lower_digits (d ∷ digits) are =
 
 -- Names.
 
-untrue : (b : Bool) → (b ≡ true → ⊥) → b ≡ false
+pub untrue : (b : Bool) → (b ≡ true → ⊥) → b ≡ false
 untrue true so = absurd (so refl)
 untrue false so = refl
 

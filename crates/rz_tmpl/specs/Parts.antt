@@ -4,6 +4,8 @@ use Rattle.rz_tmpl_entries.specs.Items.{count, list, none, one, Items}
 use Rattle.rz_tmpl_entries.specs.declared.entry.Entry.{Entry}
 use Rattle.rz_tmpl_entries.specs.declared.entry.Entry.TheVariants.{Count, End, One, Start}
 use Rattle.rz_tmpl.specs.Body.{body_from, lists_of, next_named}
+use Rattle.rz_tmpl.specs.Closed.{is_closed, is_fixed, is_inner}
+use Rattle.rz_tmpl.specs.declared.closing.Closing.{Closing}
 use Rattle.rz_tmpl.specs.declared.parts.Part.{Part}
 use Rattle.rz_tmpl.specs.declared.parts.Parts.{Parts}
 use Rattle.rz_types_fields.specs.Field.{plain_body, PlainBody}
@@ -43,10 +45,15 @@ starts_in (entry ∷ entries) = starts entry + starts_in entries
 abbrev pub body_in : Part → PlainBody
 body_in part = plain_body (reverse part.fields.items)
 
--- they are those of the end of a body whose first counted list, or the next one behind, has this number
+-- where the bytes of a body end
+abbrev pub closing_of : Items → Closing
+closing_of items = record { fixed = is_fixed items; inner = is_inner items; closed = is_closed items }
+
+-- it is the end of a body whose first counted list, or the next one behind, has this number
 pub record IsPart (number : ℕ) (items : Items) (part : Part) : Type 0 where
   pub body : body_in part ≡ body_from number items
   pub next : part.next ≡ next_named number items
+  pub closing : part.closing ≡ closing_of items
 
 -- the same of bodies from the inside out
 abbrev pub AreParts : ℕ → List Items → List Part → Type 0

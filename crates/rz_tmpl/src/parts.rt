@@ -1,9 +1,12 @@
 //! The fields of bodies whose entries are read from the last to the first; changed only with `specs/Parts`.
 
-ghost use Rattle.std.specs.Prelude.{◌≡◌, ℕ, ◌+◌, ◌<◌, [], ◌∷◌, ◌++◌, IfOk, List, reverse};
-ghost use Rattle.rz_tmpl.specs.Parts.{body_in, nothing, Goes, Holds};
+ghost use Rattle.std.specs.Prelude.{◌≡◌, ℕ, ◌+◌, ◌<◌, [], ◌∷◌, ◌++◌, IfOk, List, reverse, true, false};
+ghost use Rattle.rz_tmpl.specs.Body.{lists_of};
+ghost use Rattle.rz_tmpl.specs.Parts.{body_in, closing_of, nothing, Goes, Holds, IsPart};
+ghost use Rattle.rz_tmpl_entries.specs.Items.{list, none, Items};
 ghost use Rattle.rz_types_fields.specs.Field.{field_and, plain_body, plain_field};
 
+use crate::closing::Closing;
 use crate::field::{count_field, field_of, list_field};
 use rz_core::NoMemory;
 use rz_tmpl_entries::Entry;
@@ -17,6 +20,8 @@ pub struct Part {
     pub fields: Vec<Field>,
     /// The number of the first counted list of the body itself among them, or that of the next one behind.
     pub next: u64,
+    /// Where the bytes of the fields end.
+    pub closing: Closing,
 }
 
 /// What the last entries make.
@@ -35,21 +40,61 @@ impl Part {
     fn new(alloc: Global, next: u64) -> Part
         ensures fields { result.fields.items ≡ [] }
         ensures next { result.next ≡ next }
+        ensures closing { result.closing ≡ closing_of none }
     {
         Part {
             fields: Vec::new(alloc),
             next,
+            closing: Closing::new(),
         }
     }
 
-    /// The fields with one before them.
-    fn with(self, field: Field) -> Result<Part, NoMemory>
+    /// The fields with one before them, which end so then.
+    fn with(self, field: Field, closing: Closing) -> Result<Part, NoMemory>
         ensures body { IfOk result (λ part. body_in part ≡ field_and (plain_field field) (body_in self)) }
         ensures next { IfOk result (λ part. part.next ≡ self.next) }
+        ensures closing { IfOk result (λ part. part.closing ≡ closing) }
     {
-        let Part { mut fields, next } = self;
+        let Part {
+            mut fields,
+            next,
+            closing: _,
+        } = self;
         fields.push(field)?;
-        Ok(Part { fields, next })
+        Ok(Part {
+            fields,
+            next,
+            closing,
+        })
+    }
+
+    /// With the counted list of this number before them, which has this row.
+    fn with_counted(self, alloc: Global, number: u64, row: Part) -> Result<Part, NoMemory>
+        ensures { (lists : ℕ) (items rest : Items) → number ≡ lists + 1 → IsPart (lists + 1 + 1) items row → IsPart (lists + 1 + 1 + lists_of items) rest self
+            → IfOk result (IsPart (lists + 1) (list true items rest)) }
+    {
+        let closing = self.closing.with_list(true, row.closing);
+        let list = list_field(alloc, Some(number), row.into_body())?;
+        let Part {
+            fields,
+            next: _,
+            closing: _,
+        } = self.with(list, closing)?;
+        Ok(Part {
+            fields,
+            next: number,
+            closing,
+        })
+    }
+
+    /// With a list without a count before them, which has this row.
+    fn with_list(self, alloc: Global, row: Part) -> Result<Part, NoMemory>
+        ensures { (number : ℕ) (items rest : Items) → IsPart number items row → IsPart (number + lists_of items) rest self
+            → IfOk result (IsPart number (list false items rest)) }
+    {
+        let closing = self.closing.with_list(false, row.closing);
+        let list = list_field(alloc, None, row.into_body())?;
+        self.with(list, closing)
     }
 
     /// The fields in order.
@@ -59,6 +104,7 @@ impl Part {
         let Part {
             mut fields,
             next: _,
+            closing: _,
         } = self;
         fields.reverse();
         Body::from_vec(fields)
@@ -83,20 +129,25 @@ impl Parts {
         ensures { IfOk result (λ parts. Goes self entry parts) }
     {
         match entry {
-            Entry::One(plain) => self.with_field(field_of(alloc, plain)),
+            Entry::One(plain) => {
+                let closing = self.inner.closing.with_plain(plain);
+                self.with_field(field_of(alloc, plain), closing)
+            }
             Entry::Count(less) => {
                 let field = count_field(alloc, less, self.inner.next)?;
-                self.with_field(field)
+                let closing = self.inner.closing.with_count();
+                self.with_field(field, closing)
             }
             Entry::Start(counted) => self.around_list(alloc, counted),
             Entry::End => self.in_list(alloc),
         }
     }
 
-    /// The same with a field before them.
-    fn with_field(self, field: Field) -> Result<Parts, NoMemory>
+    /// The same with a field before them, and where the bytes of the innermost body end then.
+    fn with_field(self, field: Field, closing: Closing) -> Result<Parts, NoMemory>
         ensures body { IfOk result (λ parts. body_in parts.inner ≡ field_and (plain_field field) (body_in self.inner)) }
         ensures next { IfOk result (λ parts. parts.inner.next ≡ self.inner.next) }
+        ensures closing { IfOk result (λ parts. parts.inner.closing ≡ closing) }
         ensures outer { IfOk result (λ parts. parts.outer.items ≡ self.outer.items) }
         ensures number { IfOk result (λ parts. parts.number ≡ self.number) }
     {
@@ -106,7 +157,7 @@ impl Parts {
             number,
         } = self;
         Ok(Parts {
-            inner: inner.with(field)?,
+            inner: inner.with(field, closing)?,
             outer,
             number,
         })
@@ -116,6 +167,7 @@ impl Parts {
     fn in_list(self, alloc: Global) -> Result<Parts, NoMemory>
         ensures fields { IfOk result (λ parts. parts.inner.fields.items ≡ []) }
         ensures next { IfOk result (λ parts. parts.inner.next ≡ self.number) }
+        ensures closing { IfOk result (λ parts. parts.inner.closing ≡ closing_of none) }
         ensures outer { IfOk result (λ parts. parts.outer.items ≡ self.outer.items ++ self.inner ∷ []) }
         ensures number { IfOk result (λ parts. parts.number ≡ self.number) }
     {
@@ -143,20 +195,16 @@ impl Parts {
             number,
         } = self;
         let around = last_of(alloc, &mut outer, number);
-        let row = inner.into_body();
         if counted {
             let number = number - 1;
-            let Part { fields, next: _ } = around.with(list_field(alloc, Some(number), row)?)?;
+            let inner = around.with_counted(alloc, number, inner)?;
             return Ok(Parts {
-                inner: Part {
-                    fields,
-                    next: number,
-                },
+                inner,
                 outer,
                 number,
             });
         }
-        let inner = around.with(list_field(alloc, None, row)?)?;
+        let inner = around.with_list(alloc, inner)?;
         Ok(Parts {
             inner,
             outer,

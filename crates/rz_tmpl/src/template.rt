@@ -2,42 +2,40 @@
 
 ghost use Rattle.std.specs.Prelude.{◌≡◌, ◌≤◌, ◌+◌, ◌^◌, IfOk, length};
 ghost use Rattle.rz_core.specs.Stop.{seen, Meets};
-ghost use Rattle.rz_tmpl.specs.Body.{tmpl_body};
-ghost use Rattle.rz_tmpl.specs.Parts.{starts, starts_in};
+ghost use Rattle.rz_tmpl.specs.Parts.{starts, starts_in, IsPart};
 ghost use Rattle.rz_tmpl.specs.Template.{HasBody};
 ghost use Rattle.rz_tmpl_entries.specs.Items.{entries_of, Items};
 ghost use Rattle.rz_types.specs.Template.{template_of};
-ghost use Rattle.rz_types_fields.specs.Field.{plain_body};
 
-use crate::laws::tmpl_bodies_are_templates;
-use crate::parts::Parts;
+use crate::laws::{closed_templates_are_readable, tmpl_bodies_are_templates};
+use crate::parts::{Part, Parts};
 use rz_core::{NoMemory, Stop};
 use rz_tmpl_entries::{Entry, TmplFault, entries};
-use rz_types::{Body, Template, is_body_readable};
+use rz_types::Template;
 use std::alloc::Global;
 
 /// The template that the bytes of a 'TMPL' resource are. Its fields are those of a declaration: each entry is one, and
-/// counted lists are arrays `L1`, `L2` and so on, in the order in which they begin. Memory is linear in the bytes, and so is
-/// time but for the test whether it can be read, which is quadratic in counted lists.
+/// counted lists are arrays `L1`, `L2` and so on, in the order in which they begin. Time and memory are linear in the bytes.
 ///
 /// Refused is the first fault of the entries, 451 to 456, as by [`entries`]. (ResEdit Reference, 'TMPL' resources.)
 pub fn template_of(alloc: Global, bytes: &[u8]) -> Result<Template, Stop<TmplFault>>
     ensures { Meets (seen template_of result) (HasBody bytes.now) }
 {
     tmpl_bodies_are_templates();
-    let body = match entries(alloc, bytes) {
-        Ok(entries) => body_of(alloc, entries.as_slice())?,
+    closed_templates_are_readable();
+    let part = match entries(alloc, bytes) {
+        Ok(entries) => part_of(alloc, entries.as_slice())?,
         Err(stop) => return Err(stop),
     };
-    let readable = is_body_readable(alloc, body.as_slice())?;
-    Ok(Template::of(body, readable))
+    let readable = part.closing.closed;
+    Ok(Template::of(part.into_body(), readable))
 }
 
 /// The fields of the entries of a body. They are read from the last to the first, so that a count is met behind its list.
-fn body_of(alloc: Global, entries: &[Entry]) -> Result<Body, NoMemory>
+fn part_of(alloc: Global, entries: &[Entry]) -> Result<Part, NoMemory>
     requires { (items : Items) × (entries.now ≡ entries_of items) }
     ensures few { 1 + starts_in entries.now ≤ 2 ^ 64 }
-    ensures body { (items : Items) → entries.now ≡ entries_of items → IfOk result (λ body. plain_body body ≡ tmpl_body items) }
+    ensures part { (items : Items) → entries.now ≡ entries_of items → IfOk result (IsPart 1 items) }
 {
     let mut parts = Parts::new(alloc, counted_lists(entries) + 1);
     let mut left = entries;
@@ -45,7 +43,7 @@ fn body_of(alloc: Global, entries: &[Entry]) -> Result<Body, NoMemory>
         parts = parts.with(alloc, *entry)?;
         left = front;
     }
-    Ok(parts.inner.into_body())
+    Ok(parts.inner)
 }
 
 /// How many counted lists begin at these entries.

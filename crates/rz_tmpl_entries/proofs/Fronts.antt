@@ -55,7 +55,7 @@ not_waiting false is = refl
 not_open : (w : Bool) {P : Type 0} → end_fault false w ≡ None → P
 not_open w is = absurd cc
 
-closed : (place : Place) → fault_behind place [] ≡ None → (items : Items) × (place ≡ at items) × (waits false items ≡ false)
+pub closed : (place : Place) → fault_behind place [] ≡ None → (items : Items) × (place ≡ at items) × (waits false items ≡ false)
 closed (at items) is = (items, refl, not_waiting (waits false items) is)
 closed (inside before counted place) is =
     not_open (waits false (innermost place)) (ap (λ (t : Bool). end_fault t (waits false (innermost place))) (sym (not_none (length (waiting_outside place)))) ∙ is)
@@ -69,7 +69,7 @@ ends bytes rest bodies entries front on =
 -- The next entry.
 
 -- it is a label and a code, with the rest behind them
-record Whole (rest : List ℕ) (next : Next) : Type 0 where
+pub record Whole (rest : List ℕ) (next : Next) : Type 0 where
   pub one : Labelled
   pub is : IsLabelled one
   pub known : entry_of one.code ≡ Some next.entry
@@ -80,7 +80,7 @@ cut_off n more =
     sym (take-append-drop n more) ∙ ap (λ (l : List ℕ). take n more ++ l) (sym (take-append-drop 4 (drop n more)) ∙ ap (λ (l : List ℕ). take 4 (drop n more) ++ l) (drop-drop 4 n more))
     ∙ sym (append_assoc (take n more) (take 4 (drop n more)) (drop (n + 4) more))
 
-whole_next : (rest : List ℕ) (next : Next) → IsNext rest next → Whole rest next
+pub whole_next : (rest : List ℕ) (next : Next) → IsNext rest next → Whole rest next
 whole_next rest next is =
     let n = is.label in
     let more = is.more in
@@ -91,7 +91,7 @@ whole_next rest next is =
     let five : next.length ≡ suc (n + 4) = omega (arith, is.length) in
     record {
       one = record { label = take n more; code = take 4 (drop n more) };
-      is = record { label = let small = is.small in omega (arith, size); code = length-take-le 4 (drop n more) four };
+      is = record { code = length-take-le 4 (drop n more) four };
       known = is.known;
       cut = is.whole ∙ ap (λ (l : List ℕ). n ∷ l) (cut_off n more) ∙ ap (λ (k : ℕ). k ∷ ((take n more ++ take 4 (drop n more)) ++ drop (n + 4) more)) (sym size)
           ∙ ap (λ (l : List ℕ). length (take n more) ∷ ((take n more ++ take 4 (drop n more)) ++ l)) (sym (ap (drop next.length) is.whole ∙ ap (λ (k : ℕ). drop k (n ∷ more)) five));
@@ -109,7 +109,7 @@ none_more : {A : Type 0} (xs : List A) → xs ++ [] ≡ xs
 none_more [] = refl
 none_more (x ∷ xs) = ap (λ (l : List _). x ∷ l) (none_more xs)
 
-stands_next : (bytes rest more : List ℕ) (place next : Place) (entry : Entry) (one : Labelled) → Stands bytes place rest → IsLabelled one → rest ≡ entry_bytes one ++ more
+pub stands_next : (bytes rest more : List ℕ) (place next : Place) (entry : Entry) (one : Labelled) → Stands bytes place rest → IsLabelled one → rest ≡ entry_bytes one ++ more
     → entry_of one.code ≡ Some entry → behind place entry ≡ Some next → place_fault most_open true place entry ≡ None → Stands bytes next more
 stands_next bytes rest more place next entry one stands is cut known goes sound = record {
   front = stands.front ++ one ∷ [];

@@ -12,7 +12,7 @@ abbrev pub behind_all : Place → List Entry → Option Place
 behind_all place [] = Some place
 behind_all place (entry ∷ entries) = option_and_then (λ next. behind_all next entries) (behind place entry)
 
-append_none : (a : Items) → append a none ≡ a
+pub append_none : (a : Items) → append a none ≡ a
 append_none none = refl
 append_none (one plain rest) = ap (one plain) (append_none rest)
 append_none (count less rest) = ap (count less) (append_none rest)

@@ -1,5 +1,5 @@
 -- The place behind an entry, and what the code keeps of a place.
-use Rattle.std.specs.Prelude.{◌≡◌, ℕ, ◌<◌, ◌≤◌, ◌+◌, ◌==◌, Bool, false, List, [], ◌∷◌, length, take, drop, Option, Some, None, option_map}
+use Rattle.std.specs.Prelude.{◌≡◌, ℕ, ◌≤◌, ◌+◌, ◌==◌, Bool, false, List, [], ◌∷◌, length, take, drop, Option, Some, None, option_map}
 use Rattle.rz_tmpl_entries.specs.Cut.{entry_fault, most_open, next_fault}
 use Rattle.rz_tmpl_entries.specs.Entry.{entry_of}
 use Rattle.rz_tmpl_entries.specs.Items.{at, count, has_value, innermost, inside, list, none, one, waiting_outside, waits, Items, Place}
@@ -50,7 +50,6 @@ pub record IsNext (bytes : List ℕ) (next : Next) : Type 0 where
   pub label : ℕ
   pub more : List ℕ
   pub whole : bytes ≡ label ∷ more
-  pub small : label < 256
   pub fits : label + 4 ≤ length more
   pub known : entry_of (take 4 (drop label more)) ≡ Some next.entry
   pub length : next.length ≡ label + 5

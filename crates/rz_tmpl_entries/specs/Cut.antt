@@ -1,5 +1,5 @@
 -- How the bytes of a template are cut into entries, and where that ends at a fault.
-use Rattle.std.specs.Prelude.{◌≡◌, ℕ, ◌<◌, ◌+◌, ◌-◌, ◌==◌, nat_lt, Bool, true, false, if◌then◌else◌, List, [], ◌∷◌, ◌++◌, length, map, take, drop, Option, Some, None, Ok, Err}
+use Rattle.std.specs.Prelude.{◌≡◌, ℕ, ◌+◌, ◌-◌, ◌==◌, nat_lt, Bool, true, false, if◌then◌else◌, List, [], ◌∷◌, ◌++◌, length, map, take, drop, Option, Some, None, Ok, Err}
 use Rattle.std.specs.List.{flat_map, AllByRecursion}
 use Rattle.std.specs.declared.result.Result.{Result}
 use Rattle.rz_tmpl_entries.specs.Entry.{entry_of}
@@ -12,13 +12,12 @@ use Rattle.rz_tmpl_entries.specs.declared.fault.TmplFault.{TmplFault}
 abbrev pub most_open : ℕ
 most_open = 60
 
--- an entry as it stands in the bytes: a label, which nothing reads, and a code of four bytes
+-- an entry as it stands in the bytes: a label behind its length, which nothing reads, and a code of four bytes
 pub record Labelled : Type 0 where
   pub label : List ℕ
   pub code : List ℕ
 
 pub record IsLabelled (entry : Labelled) : Type 0 where
-  pub label : length entry.label < 256
   pub code : length entry.code ≡ 4
 
 abbrev pub entry_bytes : Labelled → List ℕ

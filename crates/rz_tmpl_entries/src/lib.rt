@@ -13,5 +13,5 @@ mod read;
 
 pub use entry::{Entry, Plain, Size};
 pub use fault::TmplFault;
-pub use laws::{one_cut, tmpl_faults_are_sayable};
+pub use laws::{every_tmpl_is_cut, one_cut, tmpl_faults_are_sayable};
 pub use read::{Entries, entries};

@@ -1,0 +1,5 @@
+use Rattle.rz_tmpl.proofs.Bodies.{once}
+use Rattle.rz_tmpl.proofs.laws.one_body.Goals as goal
+
+pub returns : goal.returns
+returns c = once c.one_cut.ensures

@@ -1,0 +1,10 @@
+pub mod Bytes
+pub mod Counts
+pub mod Pieces
+pub mod Counted
+pub mod Names
+pub mod Said
+pub mod Spelled
+pub mod Whole
+pub mod Few
+pub mod Readings
