@@ -2,9 +2,9 @@
 
 /// Words with a blank between them, and what they ask for; `~` is the empty word. A command shows its name, its files or
 /// its number, and then what its items say, of several that don't add up the last: the file to write, its paths for
-/// included files and for the files of statements, its definitions, each text by the number of its tokens, `-rd`, `-a`,
-/// `-ov`, `-ro`, its types, and the type and the creator, each by its number, and its forms. `word` shows the position of
-/// the first word that can't stand where it stands.
+/// included files and for the files of statements, the file of templates, its definitions, each text by the number of its
+/// tokens, `-rd`, `-a`, `-ov`, `-ro`, its types, and the type and the creator, each by its number, and its forms. `word`
+/// shows the position of the first word that can't stand where it stands.
 pub const CASES: &str = r#"
 // no command
  => word 1
@@ -52,6 +52,16 @@ rez -o -rd a => rez a -o -rd
 rez -rd => word 3
 rez a -RD => word 3
 rez -r d a => word 2
+// the file of templates: the last counts
+rez -tmpl t a => rez a -tmpl t
+rez a -tmpl t b -tmpl u => rez a b -tmpl u
+rez a -tmpl => word 4
+rez a -TMPL t => word 3
+derez f -tmpl t g => derez f g -tmpl t
+derez -tmpl t -tmpl f g => derez g -tmpl f
+bridge f -to raw -o x -tmpl t => word 7
+det f -tmpl t => word 3
+sample 5 -tmpl t => word 3
 // a word after an option is its value, whatever it begins with
 rez -o -o a => rez a -o -o
 rez -o -d a => rez a -o -d

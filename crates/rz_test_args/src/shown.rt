@@ -28,6 +28,10 @@ fn show_files(alloc: Global, command: &Command<'_>, text: &mut Text) -> Result<(
     }
     show_names(b" -i ", &command.names(alloc, Flag::Path)?, text);
     show_names(b" -s ", &command.names(alloc, Flag::Search)?, text);
+    if let Some(templates) = command.name(Flag::Templates) {
+        text.put(b" -tmpl ");
+        text.put(templates.as_bytes());
+    }
     Ok(())
 }
 

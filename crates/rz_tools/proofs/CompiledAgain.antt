@@ -1,5 +1,5 @@
 -- The text that is shown of resources, as the one source of rez.
-use Rattle.std.proofs.Common.{◌≡◌, inl, ℕ, Bool, false, if◌then◌else◌, List, [], ◌∷◌, None, Some, Ok, refl, sym, subst}
+use Rattle.std.proofs.Common.{◌≡◌, inl, ℕ, Bool, false, if◌then◌else◌, List, [], ◌∷◌, None, Option, Some, Ok, refl, sym, ap, subst}
 use Rattle.std.specs.Prelude.{is_some}
 use Rattle.std.specs.Str.{str_to_ascii_lowercase}
 use Rattle.std.specs.FinMap as finite
@@ -18,7 +18,8 @@ use Rattle.rz_tools.specs.Program.{command, Answers}
 use Rattle.rz_tools_args.specs.declared.name.CommandName.TheVariants as names
 use Rattle.rz_tools_output.specs.Base.{base_in, base_of, new_base, or_empty}
 use Rattle.rz_tools_output.specs.Output.{IsOutput}
-use Rattle.rz_tools.specs.Rez.{around_of, AnswersRez, BeginsWith, Compiles, IsRez, RezAsked}
+use Rattle.rz_tools.specs.Rez.{around_of, AnswersRez, Compiles, IsRez, RezAsked}
+use Rattle.rz_tools_tmpl.specs.Templates.{TypesOf}
 use Rattle.rz_tools.specs.Sources.{compiled}
 use Rattle.rz_tools_answer.specs.Warning.{said_beside}
 use Rattle.rz_tools_work.specs.Work.{Work}
@@ -27,7 +28,7 @@ use Rattle.rz_tools_work.specs.Work.{Work}
 abbrev pub bare_known : Live → Moment → Known
 bare_known live moment = record { types = []; is_macro = λ name. is_some (live (str_to_ascii_lowercase name)); moment = moment }
 
-module _ (text : List ℕ) (list : List Resource) (asked : RezAsked) (files : Files) (moment : Moment) (name : List ℕ) (new : asked.append ≡ false)
+module _ (text : List ℕ) (list : List Resource) (asked : RezAsked) (files : Files) (moment : Moment) (name : List ℕ) (new : asked.append ≡ false) (bare : asked.tmpl ≡ None)
     (again : MeansAgain (bare_known (start asked.defs).live moment) text list) (held : finite.get files name ≡ Some text)
     (output : Result (List ℕ) Fault) (is_output : IsOutput asked.target moment new_base list output) where
   after : State
@@ -41,8 +42,11 @@ module _ (text : List ℕ) (list : List Resource) (asked : RezAsked) (files : Fi
   goes = inl (_, (again.read files name asked.paths (start asked.defs) held (λ word. refl)).1, refl)
 
   -- the program begins with nothing
-  begins : BeginsWith after (base_of asked.append asked.target.name files) (Ok new_base)
-  begins = subst (λ (append : Bool). BeginsWith after (if append then base_in None (or_empty (finite.get files asked.target.name)) else Ok new_base) (Ok new_base)) (sym new) refl
+  declares : TypesOf asked.tmpl files (Ok [])
+  declares = subst (λ (name : Option (List ℕ)). TypesOf name files (Ok [])) (sym bare) refl
+
+  begins : base_of asked.append asked.target.name files ≡ Ok new_base
+  begins = ap (λ (append : Bool). if append then base_in None (or_empty (finite.get files asked.target.name)) else Ok new_base) new
 
   compiles : asked.files ≡ name ∷ [] → Compiles moment asked files (said_beside (name ∷ []) [] output)
   unfolding after work
@@ -52,12 +56,16 @@ module _ (text : List ℕ) (list : List Resource) (asked : RezAsked) (files : Fi
         after,
         subst (λ (names : List (List ℕ)). NamesGo tools.Rez files asked.paths names (start asked.defs) (Ok after)) (sym sole) goes,
         inl (
-          new_base,
-          begins,
+          [],
+          declares,
           inl (
-            compiled after work,
-            (read.2.0, read.2.1, (work, read.2.2 (around_of moment asked files) [] refl refl, refl)),
-            (output, is_output, refl),
+            new_base,
+            begins,
+            inl (
+              compiled after work,
+              (read.2.0, read.2.1, (work, read.2.2 (around_of moment asked files) [] refl refl, refl)),
+              (output, is_output, refl),
+            ),
           ),
         ),
       )

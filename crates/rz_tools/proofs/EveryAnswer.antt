@@ -28,11 +28,13 @@ use Rattle.rz_tools_output.specs.Base.{attributes_asked, base_of, or_empty, Base
 use Rattle.rz_tools_output.specs.Bridge.{bridge_asked, bridged, BridgeAsked, one, two, AreWrites, Bridges, HasBeside, IsRead, IsWrittenAs}
 use Rattle.rz_tools_output.specs.Det.{breaks_of, det_asked, told}
 use Rattle.rz_tools.specs.DeRez.{derez_asked, DeRezAsked, HasFileText, HasText, Shows}
-use Rattle.rz_tools.specs.Types.{known_by, types_around, TypesAre, TypesAsked}
+use Rattle.rz_tools.specs.Types.{known_by, types_around, AreTyped, TypesAre, TypesAsked}
 use Rattle.rz_tools_output.specs.Output.{file_of, form_asked, list_fork, IsFileOf, IsOutput, Target}
 use Rattle.rz_tools.specs.Program.{command, misplaced, Answers, AnswersItems}
-use Rattle.rz_tools.specs.Rez.{around_of, rez_asked, BeginsWith, Compiles, HasOutput, IsMadeBehind, IsMadeOf, RezAsked}
-use Rattle.rz_tools.specs.Sources.{HasWork, IsProgramOf}
+use Rattle.rz_tools.specs.Rez.{around_of, rez_asked, Compiles, HasOutput, IsMadeBehind, IsMadeOf, IsMadeUnder, RezAsked}
+use Rattle.rz_tools.specs.Sources.{unsaid, Begins, HasWork, IsProgramOf}
+use Rattle.rz_tools_tmpl.specs.Templates.{TypesOf}
+use Rattle.rz_types_table.specs.Table.{Declaration}
 use Rattle.rz_tools_text.specs.Shown.{Known}
 use Rattle.rz_tools_text.specs.Text.{ShowsEach}
 use Rattle.rz_tools_values.specs.Around.{Around}
@@ -102,22 +104,27 @@ module _ (name : (form : Form) (path : List ℕ) (file : MacFile) → Has (Named
   -- What `rez` and `derez` mean.
 
   module _ (programs : (files : Files) (tool : Tool) (names paths : List (List ℕ)) (defs : List Def) → Has (ProgramGoes files tool names paths defs))
-      (works : (around : Around) (list : List Resource) (program : State) → Has (HasWork around (begun list) program))
+      (types : (name : Option (List ℕ)) (files : Files) → Has (TypesOf name files))
+      (works : (around : Around) (name : Option (List ℕ)) (files : Files) (types : List Declaration) → TypesOf name files (Ok types) → (list : List Resource) (program : State)
+      → Has (HasWork around (begun types list) program))
       (texts : (known : Known) (list : List Resource) → (text : List ℕ) × ShowsEach known list text) where
     has_program : (around : Around) (names paths : List (List ℕ)) (defs : List Def) → Has (IsProgramOf around names paths defs)
     has_program around names paths defs =
         has_unsaid (ProgramGoes around.files around.setting.tool names paths defs) (programs around.files around.setting.tool names paths defs)
 
-    has_begun : (program : State) (base : Result Base Fault) → Has (BeginsWith program base)
-    has_begun program (Ok base) = has_is (Ok base)
-    has_begun program (Err fault) = has_is (Err (record { fault = fault; files = program.files; said = [] }))
+    has_begun : {X : Type 0} (program : State) (answers : Result X Fault → Type 0) → Has answers → Has (Begins program answers)
+    has_begun program answers (Ok begun, is) = (Ok begun, is)
+    has_begun program answers (Err fault, is) = (Err (unsaid program.files fault), (is, refl))
 
     has_made_of : (moment : Moment) (asked : RezAsked) (files : Files) (program : State) → Has (IsMadeOf moment asked files program)
     has_made_of moment asked files program =
-        has_then (BeginsWith program (base_of asked.append asked.target.name files)) (IsMadeBehind moment asked files program) (has_begun program (base_of asked.append asked.target.name files))
-        (λ base is. has_then (HasWork (around_of moment asked files) (begun base.fork.list) program) (HasOutput moment asked.target base)
-        (works (around_of moment asked files) base.fork.list program)
-        (λ made so. has_beside made (IsOutput asked.target moment base made.work.list) (has_output asked.target moment base made.work.list)))
+        let base_is = λ (base : Result Base Fault). base_of asked.append asked.target.name files ≡ base in
+        has_then (Begins program (TypesOf asked.tmpl files)) (IsMadeUnder moment asked files program) (has_begun program (TypesOf asked.tmpl files) (types asked.tmpl files))
+        (λ declared are. has_then (Begins program base_is) (IsMadeBehind moment asked files program declared)
+        (has_begun program base_is (base_of asked.append asked.target.name files, refl))
+        (λ base is. has_then (HasWork (around_of moment asked files) (begun declared base.fork.list) program) (HasOutput moment asked.target base)
+        (works (around_of moment asked files) asked.tmpl files declared are base.fork.list program)
+        (λ made so. has_beside made (IsOutput asked.target moment base made.work.list) (has_output asked.target moment base made.work.list))))
 
     has_rez : (moment : Moment) (asked : RezAsked) (files : Files) → Has (Compiles moment asked files)
     has_rez moment asked files =
@@ -126,8 +133,10 @@ module _ (name : (form : Form) (path : List ℕ) (file : MacFile) → Has (Named
 
     has_types : (moment : Moment) (asked : TypesAsked) (files : Files) → Has (TypesAre moment asked files)
     has_types moment asked files =
-        has_then (IsProgramOf (types_around moment asked files) asked.files asked.paths asked.defs) (HasWork (types_around moment asked files) (begun []))
-        (has_program (types_around moment asked files) asked.files asked.paths asked.defs) (λ program is. works (types_around moment asked files) [] program)
+        let around = types_around moment asked files in
+        has_then (IsProgramOf around asked.files asked.paths asked.defs) (AreTyped moment asked files) (has_program around asked.files asked.paths asked.defs)
+        (λ program is. has_then (Begins program (TypesOf asked.tmpl files)) (λ declared. HasWork around (begun declared []) program)
+        (has_begun program (TypesOf asked.tmpl files) (types asked.tmpl files)) (λ declared are. works around asked.tmpl files declared are [] program))
 
     has_shows : (moment : Moment) (asked : DeRezAsked) (files : Files) → Has (Shows moment asked files)
     has_shows moment asked files =

@@ -1,6 +1,6 @@
 -- A `resource` statement has a resource or a fault, where the fields of all declarations keep the rules, and a `type`
 -- statement leaves them so.
-use Rattle.std.proofs.Common.{◌≡◌, ℤ, Bool, true, false, List, [], ◌∷◌, ◌++◌, Option, Some, None, Ok, Err, refl, sym, ap, subst}
+use Rattle.std.proofs.Common.{◌≡◌, ℤ, Bool, true, false, List, [], ◌∷◌, Option, Some, None, Ok, Err, refl, sym, ap, subst}
 use Rattle.std.specs.Prelude.{if◌then◌else◌, option_map, IfSome}
 use Rattle.std.specs.List.{AllByRecursion}
 use Rattle.std.specs.Option.{is_none, ok_or}
@@ -21,10 +21,12 @@ use Rattle.rz_layout.specs.Compiled.{IsCompiled}
 use Rattle.rz_stmt_items.specs.Match.{IsMatch}
 use Rattle.rz_types_fields.specs.Row.{IsRow}
 use Rattle.rz_types_fields.specs.declared.tree.Tree.{Tree}
-use Rattle.rz_types_table.specs.Table.{asked, copied, found, is_any, is_for, is_id, is_range_of, last_such, no_such_type, stands_at, without, Declaration}
+use Rattle.rz_types_table.specs.Table.{asked, copied, found, is_any, is_for, is_id, is_range_of, last_such, no_such_type, Declaration}
 use Rattle.rz_tools_resource.specs.Items.{items_read}
 use Rattle.rz_tools_resource.specs.Resource.{fields_for, no_type, row_fault, AreBytes, AreItemBytes, AreReadBytes, IsMade, IsResource, IsSpelled}
 use Rattle.rz_tools.specs.Step.{IsListBehind}
+use Rattle.rz_tools_tmpl.proofs.Files.{declared_all}
+use Rattle.rz_tools_tmpl.specs.Templates.{AreTemplates}
 use Rattle.rz_types.specs.Field.{PlainBody}
 use Rattle.rz_types.specs.Rules.{broken, checked, keeps_rules}
 use Rattle.rz_types.specs.declared.rules.TypeFault.{TypeFault}
@@ -47,6 +49,11 @@ IsKept body = keeps_rules body ≡ true
 abbrev pub AreKept : List Declaration → Type 0
 AreKept types = AreSo IsKept types
 
+-- those of templates do
+pub templates_kept : (types : List Declaration) → AreTemplates types → AreKept types
+templates_kept [] all = tt
+templates_kept (one ∷ types) all = (all.0.kept, templates_kept types all.1)
+
 -- What is found.
 
 module _ {A : Type 0} (P : A → Type 0) where
@@ -62,18 +69,6 @@ module _ {A : Type 0} (P : A → Type 0) where
   either_so : (one other : Option A) → IfSome one P → IfSome other P → IfSome (or_else one other) P
   either_so None other is also = also
   either_so (Some x) other is also = is
-
-  without_so : (test : A → Bool) (xs : List A) → AllByRecursion P xs → AllByRecursion P (without test xs)
-  without_so test [] all = tt
-  without_so test (x ∷ xs) all = by (test x) (without_so test xs all.1)
-    where
-      by : (passes : Bool) → AllByRecursion P (without test xs) → AllByRecursion P (if passes then xs else x ∷ without test xs)
-      by true others = all.1
-      by false others = (all.0, others)
-
-  behind_so : (xs : List A) (x : A) → AllByRecursion P xs → P x → AllByRecursion P (xs ++ x ∷ [])
-  behind_so [] x all is = (is, tt)
-  behind_so (y ∷ ys) x all is = (all.0, behind_so ys x all.1 is)
 
 module _ (Q : PlainBody → Type 0) where
   abbrev pub IsSo : Declaration → Type 0
@@ -174,5 +169,4 @@ module _ (Q : PlainBody → Type 0) where
       (λ scope. template_of mark work.types one.made >>= (λ template. Ok (with_type setting mark work (record { code = one.kind }) scope template))) next is in
       let made = bound (template_of mark work.types one.made) (λ template. Ok (with_type setting mark work (record { code = one.kind }) scoped.0 template)) next scoped.2 in
       subst (λ (w : Work). AreSo Q w.types) (same_ok {F = Fault} (with_type setting mark work (record { code = one.kind }) scoped.0 made.0) next made.2)
-      (behind_so (IsSo Q) (without (stands_at (record { code = one.kind }) scoped.0) work.types) (record { kind = record { code = one.kind }; scope = scoped.0; template = made.0 })
-      (without_so (IsSo Q) (stands_at (record { code = one.kind }) scoped.0) work.types so) (made_so mark work.types so one.made holds made.0 made.1))
+      (declared_all (IsSo Q) work.types (record { kind = record { code = one.kind }; scope = scoped.0; template = made.0 }) so (made_so mark work.types so one.made holds made.0 made.1))

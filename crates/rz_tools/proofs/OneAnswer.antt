@@ -31,14 +31,16 @@ use Rattle.rz_bridge_form.specs.declared.form.Form.TheVariants as forms
 use Rattle.rz_fork.specs.Contents.{Fork}
 use Rattle.rz_tools_text.specs.Chosen.{chosen}
 use Rattle.rz_tools.specs.DeRez.{derez_asked, DeRezAsked, HasFileText, HasForkText, HasText, Shows}
-use Rattle.rz_tools.specs.Types.{known_by, types_around, TypesAre}
+use Rattle.rz_tools.specs.Types.{known_by, types_around, AreTyped, TypesAre, TypesAsked}
 use Rattle.rz_tools_text.specs.Text.{ShowsEach}
 use Rattle.rz_tools_output.specs.Base.{attributes_asked, base_of, or_empty, Base}
 use Rattle.rz_tools_output.specs.Bridge.{bridge_asked, bridged, BridgeAsked, one as one_write, two as two_writes, AreWrites, Bridges, HasBeside, IsRead, IsWrittenAs}
 use Rattle.rz_tools_output.specs.Output.{file_of, form_asked, list_fork, IsFileOf, IsOutput, Target}
-use Rattle.rz_tools.specs.Rez.{around_of, rez_asked, BeginsWith, Compiles, HasOutput, IsMadeBehind, IsMadeOf, RezAsked}
+use Rattle.rz_tools.specs.Rez.{around_of, rez_asked, Compiles, HasOutput, IsMadeBehind, IsMadeOf, IsMadeUnder, RezAsked}
 use Rattle.rz_tools_text.specs.Shown.{Known}
-use Rattle.rz_tools.specs.Sources.{compiled, AreCompiled, Compiled, HasWork, InProgram, IsProgramOf, SaidBeside, Unsaid}
+use Rattle.rz_tools.specs.Sources.{compiled, unsaid, Begins, Compiled, HasWork, InProgram, IsProgramOf, SaidBeside, Unsaid}
+use Rattle.rz_tools_tmpl.specs.Templates.{TypesOf}
+use Rattle.rz_types_table.specs.Table.{Declaration}
 use Rattle.rz_tools_answer.specs.Warning.{said_beside, warning_lines}
 use Rattle.rz_tools_values.specs.Around.{Around}
 use Rattle.rz_tools_work.specs.Lists.{list_after}
@@ -137,9 +139,18 @@ OneNamed = (form : Form) (path : List ℕ) (file : MacFile) (one other : Result 
 abbrev pub OneDataFile : Type 0
 OneDataFile = (header name also : List ℕ) → IsDataFile header name → IsDataFile header also → name ≡ also
 
-once_begins : (program : State) (base : Result Base Fault) → Once (BeginsWith program base)
-once_begins program (Ok base) = once_is (Ok base)
-once_begins program (Err fault) = once_is (Err (record { fault = fault; files = program.files; said = [] }))
+abbrev pub OneTypes : Type 0
+OneTypes = (name : Option (List ℕ)) (files : Files) (one other : Result (List Declaration) Fault) → TypesOf name files one → TypesOf name files other → one ≡ other
+
+once_begins : {X : Type 0} (program : State) (answers : Result X Fault → Type 0) → Once answers → Once (Begins program answers)
+once_begins program answers once (Ok a) (Ok b) is also = ap ok (same_ok {F = Fault} a b (once (Ok a) (Ok b) is also))
+once_begins program answers once (Ok a) (Err b) is also = absurd (ok_or_err a b.fault (once (Ok a) (Err b.fault) is also.0))
+once_begins program answers once (Err a) (Ok b) is also = absurd (ok_or_err b a.fault (once (Ok b) (Err a.fault) also is.0))
+once_begins {X} program answers once (Err a) (Err b) is also =
+    ap err (is.1 ∙ ap (unsaid program.files) (same_err {X = X} a.fault b.fault (once (Err a.fault) (Err b.fault) is.0 also.0)) ∙ sym also.1)
+
+once_given : {X : Type 0} (given : Result X Fault) → Once (λ answer. given ≡ answer)
+once_given given a b is also = sym is ∙ also
 
 once_output : OneNamed → (asked : Target) (moment : Moment) (base : Base) (list : List Resource) → Once (IsOutput asked moment base list)
 once_output named asked moment base list =
@@ -209,21 +220,27 @@ module _ (cutting : OneCutting) (statement_law : OneStatement) (matching : OneMa
       once_in program (Means around start is.0) (one_meaning around start is.0) a b is.2
       (subst (λ (ss : List (List Token)). InProgram program (Means around start ss) b) (sym (cutting program.tokens is.0 also.0 is.1 also.1)) also.2)
 
-  module _ (program : OneProgram) (named : OneNamed) (data_file : OneDataFile) where
+  module _ (program : OneProgram) (named : OneNamed) (data_file : OneDataFile) (types : OneTypes) where
     once_program : (around : Around) (names paths : List (List ℕ)) (defs : List Def) → Once (IsProgramOf around names paths defs)
     once_program around names paths defs =
         once_unsaid (ProgramGoes around.files around.setting.tool names paths defs) (program around.files around.setting.tool names paths defs)
 
-    once_compiled : (around : Around) (start : Work) (names paths : List (List ℕ)) (defs : List Def) → Once (AreCompiled around start names paths defs)
-    once_compiled around start names paths defs =
-        once_then (IsProgramOf around names paths defs) (HasWork around start) (once_program around names paths defs) (once_work around start)
+    once_types : (moment : Moment) (asked : TypesAsked) (files : Files) → Once (TypesAre moment asked files)
+    once_types moment asked files =
+        let around = types_around moment asked files in
+        once_then (IsProgramOf around asked.files asked.paths asked.defs) (AreTyped moment asked files) (once_program around asked.files asked.paths asked.defs)
+        (λ state. once_then (Begins state (TypesOf asked.tmpl files)) (λ declared. HasWork around (begun declared []) state)
+        (once_begins state (TypesOf asked.tmpl files) (types asked.tmpl files)) (λ declared. once_work around (begun declared []) state))
 
     once_made_of : (moment : Moment) (asked : RezAsked) (files : Files) (state : State) → Once (IsMadeOf moment asked files state)
     once_made_of moment asked files state =
-        once_then (BeginsWith state (base_of asked.append asked.target.name files)) (IsMadeBehind moment asked files state) (once_begins state (base_of asked.append asked.target.name files))
-        (λ base. once_then (HasWork (around_of moment asked files) (begun base.fork.list) state) (HasOutput moment asked.target base)
-        (once_work (around_of moment asked files) (begun base.fork.list) state)
-        (λ made. once_beside made (IsOutput asked.target moment base made.work.list) (once_output named asked.target moment base made.work.list)))
+        let base_is = λ (base : Result Base Fault). base_of asked.append asked.target.name files ≡ base in
+        once_then (Begins state (TypesOf asked.tmpl files)) (IsMadeUnder moment asked files state) (once_begins state (TypesOf asked.tmpl files) (types asked.tmpl files))
+        (λ declared. once_then (Begins state base_is) (IsMadeBehind moment asked files state declared)
+        (once_begins state base_is (once_given (base_of asked.append asked.target.name files)))
+        (λ base. once_then (HasWork (around_of moment asked files) (begun declared base.fork.list) state) (HasOutput moment asked.target base)
+        (once_work (around_of moment asked files) (begun declared base.fork.list) state)
+        (λ made. once_beside made (IsOutput asked.target moment base made.work.list) (once_output named asked.target moment base made.work.list))))
 
     once_rez : (moment : Moment) (asked : RezAsked) (files : Files) → Once (Compiles moment asked files)
     once_rez moment asked files =
@@ -233,7 +250,7 @@ module _ (cutting : OneCutting) (statement_law : OneStatement) (matching : OneMa
     once_shows : (moment : Moment) (asked : DeRezAsked) (files : Files) → Once (Shows moment asked files)
     once_shows moment asked files =
         once_then (TypesAre moment asked.types files) (HasText moment asked files)
-        (once_compiled (types_around moment asked.types files) (begun []) asked.types.files asked.types.paths asked.types.defs)
+        (once_types moment asked.types files)
         (λ made. once_beside made (HasFileText (known_by moment made) asked (finite.get files asked.file))
         (once_file_text texts (known_by moment made) asked (finite.get files asked.file)))
 

@@ -35,6 +35,7 @@ use Rattle.rz_tools_answer.specs.declared.outcome.Outcome.{Outcome}
 use Rattle.rz_tools_answer.specs.declared.outcome.Outcome.TheVariants.{Done, Refused}
 use Rattle.rz_tools.proofs.OneAnswer.{OneCommand}
 use Rattle.rz_tools.proofs.Showing.{admits, same_making}
+use Rattle.rz_tools.proofs.Typing.{types_behind}
 
 -- the law of the text of a fork
 abbrev pub ForksAreReadAgain : Type 0
@@ -131,5 +132,6 @@ module _ (commands : OneCommand) (law : ForksAreReadAgain) (spared : WordsAreSpa
             law parts.0.res_fork
                 (at_some (λ bytes. done.outcome ≡ Done → HoldsFile asked.from bytes) (finite.get files asked.file) bytes there held ended parts.0 parts.1)
                 fork parts.2 asked.only asked.skip short (known_by moment shows.0)
-                (spared (types_around moment asked.types files) (begun []) asked.types.files asked.types.paths asked.types.defs shows.0 free shows.1) done.out shows.2,
+                (let typed = types_behind moment asked.types files shows.0 shows.1 in
+                spared (types_around moment asked.types files) (begun typed.types []) asked.types.files asked.types.paths asked.types.defs shows.0 free typed.compiled) done.out shows.2,
           )

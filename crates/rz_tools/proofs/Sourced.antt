@@ -1,12 +1,13 @@
 -- What sources make, and what is made of it.
-use Rattle.std.proofs.Common.{◌≡◌, inl, inr, ℕ, List, [], Ok, Err, Some, None, refl, sym, subst}
+use Rattle.std.proofs.Common.{◌≡◌, inl, inr, ℕ, List, [], length, Ok, Err, Some, None, refl, sym, subst}
 use Rattle.std.specs.Prelude.{IfSome}
 use Rattle.std.specs.Str.{str_to_ascii_lowercase}
 use Rattle.std.specs.declared.option.Option.{Option}
 use Rattle.std.specs.declared.result.Result.{Result}
 use Rattle.rz_core.proofs.Stops.{halt_so, then_halts, yields_so}
 use Rattle.rz_core.specs.Answers.{Then}
-use Rattle.rz_core.specs.Stop.{seen, Meets, Yields}
+use Rattle.rz_core.specs.Message.{IsNameable}
+use Rattle.rz_core.specs.Stop.{seen, IsReadFault, Meets, OnRefusal, Yields}
 use Rattle.rz_core.specs.declared.fault.Fault.{Fault}
 use Rattle.rz_core.specs.declared.stop.Stop.{Stop}
 use Rattle.rz_core.specs.declared.stop.Stop.TheVariants.{Refused, NoMemory}
@@ -20,17 +21,17 @@ use Rattle.rz_stmt.specs.Statements.{AreStatements}
 use Rattle.rz_tools_answer.specs.Answer.{Making}
 use Rattle.rz_tools_answer.specs.declared.made.Failing.{Failing}
 use Rattle.rz_tools_text.specs.Held.{macros_held}
-use Rattle.rz_tools_answer.specs.Made.{making_of, SaysBeside}
+use Rattle.rz_tools_answer.specs.Made.{making_of, IsSayable, SaysBeside}
 use Rattle.rz_tools.specs.Sources as sources
-use Rattle.rz_tools_answer.specs.Warning.{said_beside, warning_lines, AreWarnings}
-use Rattle.rz_tools.specs.Sources.{HasWork, SaidBeside, Unsaid}
-use Rattle.rz_core.specs.declared.resource.Resource.{Resource}
+use Rattle.rz_tools_answer.specs.Warning.{said_beside, warning_lines}
+use Rattle.rz_tools.specs.Held.{halt_unsaid}
+use Rattle.rz_tools.specs.Sources.{unsaid, Begins, HasWork, SaidBeside, Unsaid}
 use Rattle.rz_pre.specs.declared.condition.Tool.{Tool}
 use Rattle.rz_core.specs.declared.stop.Halt.{Halt}
 use Rattle.rz_core.specs.declared.stop.Halt.TheVariants as halts
 use Rattle.rz_tools_values.specs.Around.{around, Around}
 use Rattle.rz_tools_values.specs.declared.setting.Setting.{Setting}
-use Rattle.rz_tools_work.specs.Work.{begun, Work}
+use Rattle.rz_tools_work.specs.Work.{Work}
 use Rattle.rz_tools.specs.Step.{Means, with_work}
 use Rattle.rz_tools_answer.specs.declared.made.Made.{Made}
 
@@ -63,10 +64,6 @@ module _ (around : Around) (start : Work) (cut : List (List Token)) (program : P
       subst (λ (f : List (List ℕ)). failing ≡ record { fault = fault; files = f; said = warning_lines f warnings }) is.files refuses,
     ),
   )
-
--- before the first statement nothing is warned of
-pub none_warned : (files : ℕ) (list : List Resource) (start : Work) → start ≡ begun list → AreWarnings files start.warnings
-none_warned files list start begins = subst (λ (w : Work). AreWarnings files w.warnings) (sym begins) tt
 
 -- The same where the files are told.
 
@@ -121,16 +118,44 @@ module _ {X : Type 0} (First : Files → Result X Failing → Type 0) (Next : Fi
   then_stopped (Some files) stop first = then_halts (First files) (Next files) stop first
 
 -- nothing is made where the program was not read
-pub read_stopped : (First : Files → Result State Failing → Type 0) (Next : Files → State → Result Making Failing → Type 0) (before : Option Files) (stop : Halt Failing)
-    → IfSome before (λ files. Yields (Err stop) (OfProgram (First files))) → IfSome before (λ files. Yields (seen making_of (Err stop)) (Then (First files) (Next files)))
+pub read_stopped : {Y : Type 0} (First : Files → Result State Failing → Type 0) (Next : Files → State → Result Y Failing → Type 0) (before : Option Files) (stop : Halt Failing)
+    → IfSome before (λ files. Yields (Err stop) (OfProgram (First files))) → IfSome before (λ files. Yields {X = Y} (Err stop) (Then (First files) (Next files)))
 read_stopped First Next None stop read = tt
 read_stopped First Next (Some files) stop read =
     halt_so stop (OfProgram (First files)) (Then (First files) (Next files)) (λ failing is. inr (failing, is, refl)) read
 
 -- what is made behind a program that was read, whose state is not told
-pub read_made : (First : Files → Result State Failing → Type 0) (Next : Files → State → Result Making Failing → Type 0) (program : Program) (before : Option Files)
-    → IfSome before (λ files. Yields (Ok program) (OfProgram (First files))) → (result : Result Made (Halt Failing))
-    → IfSome before (λ files. (s : State) → IsProgram program s → Yields (seen making_of result) (Next files s)) → IfSome before (λ files. Yields (seen making_of result) (Then (First files) (Next files)))
-read_made First Next program None read result next = tt
-read_made First Next program (Some files) read result next =
-    made_so (Next files read.0) (Then (First files) (Next files)) (λ answer is. inl (read.0, read.2, is)) result (next read.0 read.1)
+pub read_made : {Y : Type 0} (First : Files → Result State Failing → Type 0) (Next : Files → State → Result Y Failing → Type 0) (program : Program) (before : Option Files)
+    → IfSome before (λ files. Yields (Ok program) (OfProgram (First files))) → (end : Result Y (Halt Failing))
+    → IfSome before (λ files. (s : State) → IsProgram program s → Yields end (Next files s)) → IfSome before (λ files. Yields end (Then (First files) (Next files)))
+read_made First Next program None read end next = tt
+read_made First Next program (Some files) read end next =
+    yields_so (Next files read.0) (Then (First files) (Next files)) (λ answer is. inl (read.0, read.2, is)) end (next read.0 read.1)
+
+-- What there is to begin with behind a program, and what is made of it.
+
+module _ {X Y : Type 0} (Answers : Files → Result X Fault → Type 0) (Next : Files → State → X → Result Y Failing → Type 0) (program : Program) where
+  pub begun_made : (begun : X) (before : Option Files) → IfSome before (λ files. Answers files (Ok begun)) → (end : Result Y (Halt Failing))
+      → IfSome before (λ files. (s : State) → IsProgram program s → Yields end (Next files s begun))
+      → IfSome before (λ files. (s : State) → IsProgram program s → Yields end (Then (Begins s (Answers files)) (Next files s)))
+  begun_made begun None is end next = tt
+  begun_made begun (Some files) is end next = λ s reads.
+      yields_so (Next files s begun) (Then (Begins s (Answers files)) (Next files s)) (λ answer so. inl (begun, is, so)) end (next s reads)
+
+  pub not_begun : (halt : Halt Fault) (before : Option Files) → IfSome before (λ files. Yields {X = X} (Err halt) (Answers files))
+      → IfSome before (λ files. (s : State) → IsProgram program s → Yields {X = Y} (Err (halt_unsaid program.files halt)) (Then (Begins s (Answers files)) (Next files s)))
+  not_begun halt None is = tt
+  not_begun (halts.Refused fault) (Some files) is = λ s reads. inr (unsaid program.files fault, (is, λ i. unsaid (reads.files i) fault), refl)
+  not_begun halts.ReadFault (Some files) is = λ s reads. tt
+  not_begun halts.NoMemory (Some files) is = λ s reads. tt
+
+pub unsaid_sayable : (X Y : Type 0) (files : List (List ℕ)) (halt : Halt Fault) → OnRefusal {X = X} (Err halt) (IsNameable (length files))
+    → OnRefusal {X = Y} (Err (halt_unsaid files halt)) IsSayable
+unsaid_sayable X Y files (halts.Refused fault) nameable = record { nameable = nameable; warned = ([], [], tt, refl) }
+unsaid_sayable X Y files halts.ReadFault nameable = tt
+unsaid_sayable X Y files halts.NoMemory nameable = tt
+
+pub unsaid_read : (X Y : Type 0) (files : List (List ℕ)) (halt : Halt Fault) → ◌≡◌ {A = Result Y (Halt Failing)} (Err (halt_unsaid files halt)) (Err halts.ReadFault) → IsReadFault {X = X} (Err halt)
+unsaid_read X Y files (halts.Refused fault) is = absurd cc
+unsaid_read X Y files halts.ReadFault is = tt
+unsaid_read X Y files halts.NoMemory is = absurd cc

@@ -65,11 +65,11 @@ abbrev pub AreShort : List Resource → Type 0
 AreShort list = AllByRecursion (λ r. length r.bytes ≤ most_bytes) list
 
 -- the answer to words that are `rez` with a file of this text as the one source, whatever else they ask for but to begin
--- with a file: the file of the same resources, or the fault of what such a file may hold
+-- with a file or with its templates: the file of the same resources, or the fault of what such a file may hold
 abbrev pub CompilesAlone : List ℕ → List Resource → Type 0
 CompilesAlone text list =
     (words : List (List ℕ)) (asked : RezAsked) (files : Files) (moment : Moment) (name : List ℕ) (output : Result (List ℕ) Fault)
-    → IsRez words asked → asked.append ≡ false → asked.files ≡ name ∷ [] → finite.get files name ≡ Some text
+    → IsRez words asked → asked.append ≡ false → asked.tmpl ≡ None → asked.files ≡ name ∷ [] → finite.get files name ≡ Some text
     → IsOutput asked.target moment new_base list output
     → Answers words files moment (or_refused (written asked.target.name) (said_beside (name ∷ []) [] output))
 

@@ -47,6 +47,7 @@ derez_asked items = record {
     files = drop 1 (places_of items);
     paths = names_of flags.Path items;
     defs = defs_of items;
+    tmpl = last (names_of flags.Templates items);
     redeclare = has switches.Redeclare items;
   };
 }

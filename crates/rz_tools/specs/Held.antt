@@ -1,10 +1,15 @@
 -- What the code holds of what words ask for, and of what sources mean.
-use Rattle.std.specs.Prelude.{ℕ, List}
+use Rattle.std.specs.Prelude.{ℕ, List, option_map}
 use Rattle.std.specs.String.{string_bytes}
+use Rattle.rz_core.specs.declared.fault.Fault.{Fault}
+use Rattle.rz_core.specs.declared.stop.Halt.{Halt}
+use Rattle.rz_core.specs.declared.stop.Halt.TheVariants as halts
 use Rattle.rz_tools_answer.specs.Answer.{Making}
+use Rattle.rz_tools_answer.specs.declared.made.Failing.{Failing}
 use Rattle.rz_tools.specs.DeRez.{DeRezAsked}
 use Rattle.rz_tools.specs.Rez.{RezAsked}
 use Rattle.rz_tools.specs.Sources as sources
+use Rattle.rz_tools.specs.Sources.{unsaid}
 use Rattle.rz_tools.specs.Types.{TypesAsked}
 use Rattle.rz_tools.specs.declared.derez.DeRezWords.{DeRezWords}
 use Rattle.rz_tools.specs.declared.reply.ForkShown.{ForkShown}
@@ -21,6 +26,7 @@ rez words = record {
   paths = words.paths;
   searches = words.searches;
   defs = words.defs;
+  tmpl = option_map (λ name. name.now) words.tmpl;
   redeclare = words.redeclare;
   append = words.append;
   over = words.over;
@@ -28,13 +34,25 @@ rez words = record {
 }
 
 abbrev pub types_asked : TypesWords → TypesAsked
-types_asked words = record { files = words.files; paths = words.paths; defs = words.defs; redeclare = words.redeclare }
+types_asked words = record {
+  files = words.files;
+  paths = words.paths;
+  defs = words.defs;
+  tmpl = option_map (λ name. name.now) words.tmpl;
+  redeclare = words.redeclare;
+}
 
 abbrev pub derez : DeRezWords → DeRezAsked
 derez words = record { file = string_bytes words.file; from = words.from; only = words.only; skip = words.skip; types = types_asked words.types }
 
 abbrev pub compiled_of : Compiled → sources.Compiled
 compiled_of compiled = record { work = work_of compiled.work; is_macro = macros_held compiled.macros; files = compiled.files }
+
+-- what stopped a command before its first statement, where these files were opened
+abbrev pub halt_unsaid : List (List ℕ) → Halt Fault → Halt Failing
+halt_unsaid files (halts.Refused fault) = halts.Refused (unsaid files fault)
+halt_unsaid files halts.ReadFault = halts.ReadFault
+halt_unsaid files halts.NoMemory = halts.NoMemory
 
 -- what is made of a fork that is shown by this text
 abbrev pub making_with : List ℕ → ForkShown → Making

@@ -1,8 +1,7 @@
 -- What `rez` means: the file of the resources that the sources make. (MPW Rez.)
-use Rattle.std.specs.Prelude.{◌≡◌, ℕ, Bool, List, [], unwrap_or, codes, Ok, Err}
+use Rattle.std.specs.Prelude.{◌≡◌, ℕ, Bool, List, Option, unwrap_or, codes}
 use Rattle.std.specs.declared.result.Result.{Result}
 use Rattle.rz_core.specs.Answers.{Then}
-use Rattle.rz_core.specs.declared.fault.Fault.{Fault}
 use Rattle.rz_core.specs.declared.moment.Moment.{Moment}
 use Rattle.rz_folder.specs.Folder.{Files}
 use Rattle.rz_pre.specs.Program.{State}
@@ -20,18 +19,21 @@ use Rattle.rz_tools_values.specs.declared.setting.Setting.{Setting}
 use Rattle.rz_tools_output.specs.Base.{base_of, Base}
 use Rattle.rz_tools_output.specs.Output.{IsOutput, Target}
 use Rattle.rz_tools_work.specs.Work.{begun}
-use Rattle.rz_tools.specs.Sources.{Compiled, HasWork, IsProgramOf, SaidBeside}
+use Rattle.rz_tools_tmpl.specs.Templates.{TypesOf}
+use Rattle.rz_types_table.specs.Table.{Declaration}
+use Rattle.rz_tools.specs.Sources.{Begins, Compiled, HasWork, IsProgramOf, SaidBeside}
 
 -- What it is asked for.
 
--- The sources, the paths for included files and for the files of statements, and the definitions; whether types may be
--- declared again, whether the fork starts from the file that has the name of the file to write, whether protected resources may be
--- replaced, changed and removed; and the file to write.
+-- The sources, the paths for included files and for the files of statements, and the definitions; the file of templates, where
+-- one is given; whether types may be declared again, whether the fork starts from the file that has the name of the file to
+-- write, whether protected resources may be replaced, changed and removed; and the file to write.
 pub record RezAsked : Type 0 where
   pub files : List (List ℕ)
   pub paths : List (List ℕ)
   pub searches : List (List ℕ)
   pub defs : List Def
+  pub tmpl : Option (List ℕ)
   pub redeclare : Bool
   pub append : Bool
   pub over : Bool
@@ -53,6 +55,7 @@ rez_asked items = record {
   paths = names_of flags.Path items;
   searches = names_of flags.Search items;
   defs = defs_of items;
+  tmpl = last (names_of flags.Templates items);
   redeclare = has switches.Redeclare items;
   append = has switches.Append items;
   over = has switches.Over items;
@@ -72,27 +75,26 @@ setting_of moment asked = record { tool = tools.Rez; redeclare = asked.redeclare
 abbrev pub around_of : Moment → RezAsked → Files → Around
 around_of moment asked files = record { setting = setting_of moment asked; paths = asked.searches; files = files }
 
--- what there is to begin with, or its fault, before which nothing was said
-abbrev pub BeginsWith : State → Result Base Fault → Result Base Failing → Type 0
-BeginsWith program (Ok base) answer = answer ≡ Ok base
-BeginsWith program (Err fault) answer = answer ≡ Err (record { fault = fault; files = program.files; said = [] })
-
 -- the file of what the statements made, with the lines of the warnings
 abbrev pub HasOutput : Moment → Target → Base → Compiled → Result Making Failing → Type 0
 HasOutput moment target base compiled = SaidBeside compiled (IsOutput target moment base compiled.work.list)
 
--- the file of what the statements of a program make, behind the resources to begin with
-abbrev pub IsMadeBehind : Moment → RezAsked → Files → State → Base → Result Making Failing → Type 0
-IsMadeBehind moment asked files program base =
-    Then (HasWork (around_of moment asked files) (begun base.fork.list) program) (HasOutput moment asked.target base)
+-- the file of what the statements of a program make, behind the types and the resources to begin with
+abbrev pub IsMadeBehind : Moment → RezAsked → Files → State → List Declaration → Base → Result Making Failing → Type 0
+IsMadeBehind moment asked files program types base =
+    Then (HasWork (around_of moment asked files) (begun types base.fork.list) program) (HasOutput moment asked.target base)
 
--- and what there is to begin with: with `-a` the file of the output's name
+-- these resources: with `-a` those of the file of the output's name
+abbrev pub IsMadeUnder : Moment → RezAsked → Files → State → List Declaration → Result Making Failing → Type 0
+IsMadeUnder moment asked files program types =
+    Then (Begins program (λ base. base_of asked.append asked.target.name files ≡ base)) (IsMadeBehind moment asked files program types)
+
+-- and these types: those that the file of templates declares
 abbrev pub IsMadeOf : Moment → RezAsked → Files → State → Result Making Failing → Type 0
-IsMadeOf moment asked files program =
-    Then (BeginsWith program (base_of asked.append asked.target.name files)) (IsMadeBehind moment asked files program)
+IsMadeOf moment asked files program = Then (Begins program (TypesOf asked.tmpl files)) (IsMadeUnder moment asked files program)
 
--- The file that the sources mean: their program, what there is to begin with, what the statements make of it, and the file of
--- that; or the first fault of these, in this order.
+-- The file that the sources mean: their program, the types of the file of templates, what else there is to begin with, what the
+-- statements make of it, and the file of that; or the first fault of these, in this order.
 abbrev pub Compiles : Moment → RezAsked → Files → Result Making Failing → Type 0
 Compiles moment asked files =
     Then (IsProgramOf (around_of moment asked files) asked.files asked.paths asked.defs) (IsMadeOf moment asked files)

@@ -24,6 +24,7 @@ rez_of files = record {
   paths = [];
   searches = [];
   defs = [];
+  tmpl = None;
   redeclare = false;
   append = false;
   over = false;
@@ -37,7 +38,7 @@ derez_of fork types = record {
   from = None;
   only = [];
   skip = [];
-  types = record { files = types ∷ []; paths = []; defs = []; redeclare = false };
+  types = record { files = types ∷ []; paths = []; defs = []; tmpl = None; redeclare = false };
 }
 
 -- the source is compiled

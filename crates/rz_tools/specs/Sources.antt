@@ -30,6 +30,15 @@ abbrev pub Unsaid : {X : Type 0} → (Result X Failure → Type 0) → Result X 
 Unsaid answers (Ok value) = answers (Ok value)
 Unsaid answers (Err failing) = answers (Err (record { fault = failing.fault; files = failing.files })) × (failing.said ≡ [])
 
+-- a fault before which nothing was said
+abbrev pub unsaid : List (List ℕ) → Fault → Failing
+unsaid files fault = record { fault = fault; files = files; said = [] }
+
+-- what there is to begin with behind a program, or its fault, before which nothing was said
+abbrev pub Begins : {X : Type 0} → State → (Result X Fault → Type 0) → Result X Failing → Type 0
+Begins program answers (Ok begun) = answers (Ok begun)
+Begins program answers (Err failing) = answers (Err failing.fault) × (failing ≡ unsaid program.files failing.fault)
+
 -- what the statements of a program made, or the fault with the lines of what was warned of before
 abbrev pub InProgram : State → (Result Work WarnedFault → Type 0) → Result Compiled Failing → Type 0
 InProgram program answers (Ok made) = (work : Work) × answers (Ok work) × (made ≡ compiled program work)

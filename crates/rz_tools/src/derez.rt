@@ -43,7 +43,7 @@ use std::convert::Infallible;
 
 /// What `derez` is asked for.
 #[derive(Drop)]
-pub struct DeRezWords {
+pub struct DeRezWords<'a> {
     /// The name of the fork.
     pub file: String,
     /// The form of the fork's file.
@@ -53,12 +53,12 @@ pub struct DeRezWords {
     /// The types that aren't shown.
     pub skip: Kinds,
     /// The type files.
-    pub types: TypesWords,
+    pub types: TypesWords<'a>,
 }
 
-impl DeRezWords {
+impl<'a> DeRezWords<'a> {
     /// What these items ask for: the first file is the fork, and the others are type files.
-    pub fn of(alloc: Global, command: Command<'_>) -> Result<DeRezWords, NoMemory>
+    pub fn of(alloc: Global, command: Command<'a>) -> Result<DeRezWords<'a>, NoMemory>
         requires { places_of (items_of command) ≢ [] }
         ensures { IfOk result (λ words. derez words ≡ derez_asked (items_of command.entry)) }
     {
@@ -71,6 +71,7 @@ impl DeRezWords {
             types: TypesWords {
                 files: names_behind(alloc, &files)?,
                 paths: command.names(alloc, Flag::Path)?,
+                tmpl: command.name(Flag::Templates),
                 redeclare: command.has(Switch::Redeclare),
                 defs: command.into_defs(alloc)?,
             },
@@ -93,20 +94,20 @@ fn names_behind(alloc: Global, names: &FileNames) -> Result<FileNames, NoMemory>
 }
 
 /// The answer to the words of `derez`: under what the type files declare, the text of the resources of the fork whose
-/// types the words choose, which is to be put out line by line. The type files are read first, then their statements, of
-/// which `type` alone takes effect, and then the fork.
+/// types the words choose, which is to be put out line by line. The type files are read first, then the file of
+/// templates, then the statements of the type files, of which `type` alone takes effect, and then the fork.
 pub fn answer_derez<F: Folder>(
     alloc: Global,
     folder: &mut F,
-    words: DeRezWords,
+    words: DeRezWords<'_>,
     moment: Moment,
 ) -> Result<Reply, Halt<Infallible>>
     requires { HaveLexedTexts words.types.defs }
-    ensures answered { IfSome (F.files folder.old) (λ files. IfOk result (λ reply. EachAnswer reply (AnswersDeRez (derez words) files moment))) }
+    ensures answered { IfSome (F.files folder.old) (λ files. IfOk result (λ reply. EachAnswer reply (AnswersDeRez (derez words.entry) files moment))) }
     ensures sound { IfOk result IsSound }
     ensures no_usage { IfOk result (λ reply. IsNoUsage (outcome_of reply)) }
-    ensures held { IfSome (F.files folder.old) (λ files. IfSome (map.get files (string_bytes words.file)) (λ bytes.
-        IfOk result (λ reply. outcome_of reply ≡ Outcome.Done → HoldsFile words.from bytes))) }
+    ensures held { IfSome (F.files folder.old) (λ files. IfSome (map.get files (string_bytes words.entry.file)) (λ bytes.
+        IfOk result (λ reply. outcome_of reply ≡ Outcome.Done → HoldsFile words.entry.from bytes))) }
     ensures reads { OnlyReads F.files F.read_faults F.write_faults folder.old folder.new (result ≡ Err ReadFault) }
 {
     match read_and_show(alloc, folder, words, moment) {
@@ -119,13 +120,13 @@ pub fn answer_derez<F: Folder>(
 pub fn read_and_show<F: Folder>(
     alloc: Global,
     folder: &mut F,
-    words: DeRezWords,
+    words: DeRezWords<'_>,
     moment: Moment,
 ) -> Result<ForkShown, Halt<Failing>>
     requires { HaveLexedTexts words.types.defs }
     ensures text { (text : List ℕ) → IfOk result (λ shown. IsTextOf shown.text text)
-        → IfSome (F.files folder.old) (λ files. Yields (seen (making_with text) result) (Shows moment (derez words) files)) }
-    ensures held { IfSome (F.files folder.old) (λ files. IfSome (map.get files (string_bytes words.file)) (λ bytes. IfOk result (λ _. HoldsFile words.from bytes))) }
+        → IfSome (F.files folder.old) (λ files. Yields (seen (making_with text) result) (Shows moment (derez words.entry) files)) }
+    ensures held { IfSome (F.files folder.old) (λ files. IfSome (map.get files (string_bytes words.entry.file)) (λ bytes. IfOk result (λ _. HoldsFile words.entry.from bytes))) }
     ensures fork { IfOk result (λ shown. IsFork shown.text.fork) }
     ensures sayable { OnRefusal result IsSayable }
     ensures warned { IfOk result (λ shown. IsWarningText shown.said) }
@@ -141,14 +142,14 @@ pub fn read_and_show<F: Folder>(
 fn show_under<F: Folder>(
     alloc: Global,
     folder: &mut F,
-    words: DeRezWords,
+    words: DeRezWords<'_>,
     compiled: Compiled,
     moment: Moment,
 ) -> Result<ForkShown, Halt<Failing>>
     requires { AreWarnings (length compiled.files) compiled.work.warnings }
     ensures text { (text : List ℕ) → IfOk result (λ shown. IsTextOf shown.text text)
-        → IfSome (F.files folder.old) (λ files. Yields (seen (making_with text) result) (HasText moment (derez words) files (compiled_of compiled))) }
-    ensures held { IfSome (F.files folder.old) (λ files. IfSome (map.get files (string_bytes words.file)) (λ bytes. IfOk result (λ _. HoldsFile words.from bytes))) }
+        → IfSome (F.files folder.old) (λ files. Yields (seen (making_with text) result) (HasText moment (derez words.entry) files (compiled_of compiled))) }
+    ensures held { IfSome (F.files folder.old) (λ files. IfSome (map.get files (string_bytes words.entry.file)) (λ bytes. IfOk result (λ _. HoldsFile words.entry.from bytes))) }
     ensures fork { IfOk result (λ shown. IsFork shown.text.fork) }
     ensures sayable { OnRefusal result IsSayable }
     ensures warned { IfOk result (λ shown. IsWarningText shown.said) }
@@ -174,7 +175,7 @@ fn show_under<F: Folder>(
 fn show_file<F: Folder>(
     alloc: Global,
     folder: &mut F,
-    words: DeRezWords,
+    words: DeRezWords<'_>,
     known: Known,
     warnings: &Faults,
     files: FileNames,
@@ -182,8 +183,8 @@ fn show_file<F: Folder>(
     requires { AreWarnings (length files) warnings.now }
     ensures text { (moment : MomentOf) (compiled : CompiledOf) → compiled.files ≡ files → compiled.work.warnings ≡ warnings.now → known_of known ≡ known_by moment compiled
         → (text : List ℕ) → IfOk result (λ shown. IsTextOf shown.text text)
-        → IfSome (F.files folder.old) (λ held. Yields (seen (making_with text) result) (HasText moment (derez words) held compiled)) }
-    ensures held { IfSome (F.files folder.old) (λ files. IfSome (map.get files (string_bytes words.file)) (λ bytes. IfOk result (λ _. HoldsFile words.from bytes))) }
+        → IfSome (F.files folder.old) (λ held. Yields (seen (making_with text) result) (HasText moment (derez words.entry) held compiled)) }
+    ensures held { IfSome (F.files folder.old) (λ files. IfSome (map.get files (string_bytes words.entry.file)) (λ bytes. IfOk result (λ _. HoldsFile words.entry.from bytes))) }
     ensures fork { IfOk result (λ shown. IsFork shown.text.fork) }
     ensures sayable { OnRefusal result IsSayable }
     ensures warned { IfOk result (λ shown. IsWarningText shown.said) }

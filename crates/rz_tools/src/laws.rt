@@ -32,6 +32,7 @@ use rz_stmt_brackets::all_tokens_are_statements;
 use rz_stmt_items::{matched_rows_are_rows, one_match};
 use rz_tools_args::{definitions_are_free, every_list_of_words_is_read, one_command};
 use rz_tools_text::{every_list_is_shown, one_shown_text};
+use rz_tools_tmpl::{every_types, one_types, types_are_templates};
 use rz_unlay::{plain_rows_are_spelled, spelled_rows_are_rows};
 
 /// A law, with nothing to run: words have one answer at most, where each name holds the same and at the same
@@ -48,6 +49,7 @@ pub fn one_answer()
     one_shown_text();
     one_named_file();
     one_data_file();
+    one_types();
     one_command();
 }
 
@@ -58,6 +60,8 @@ pub fn every_answer()
 {
     every_list_of_words_is_read();
     every_program_has_an_answer();
+    every_types();
+    types_are_templates();
     all_tokens_are_statements();
     every_statement_is_parsed();
     one_match();
@@ -96,8 +100,8 @@ pub fn shown_forks_are_read_again()
 
 /// A law, with nothing to run: as the one source of `rez` the text that is shown of a fork where no types are declared,
 /// and each resource that is shown has at most 16,777,212 bytes, is compiled to the file of the same resources, or to the
-/// first fault of such a file, whatever else the words ask for but `-a`: no definition of theirs makes a reserved word a
-/// macro.
+/// first fault of such a file, whatever else the words ask for but `-a` and `-tmpl`: no definition of theirs makes a reserved
+/// word a macro.
 pub fn shown_forks_are_compiled_again()
     ensures { (bytes : List ℕ) → IsFile bytes → (fork : Fork) → admitted bytes ≡ Ok fork → (only skip : List OsType) → AreShort (chosen only skip fork.list)
         → (known : Known) → known.types ≡ [] → (text : List ℕ) → ShowsEach known (chosen only skip fork.list) text

@@ -20,17 +20,20 @@ ghost use Rattle.rz_core.specs.declared.resource.Resource.{Resource};
 ghost use Rattle.rz_tools_output.specs.Base.{base_with, begun_of};
 ghost use Rattle.rz_tools_output.specs.Output.{target};
 ghost use Rattle.rz_tools.specs.Held.{compiled_of, rez};
-ghost use Rattle.rz_tools.specs.Rez.{rez_asked, target_asked, AnswersRez, Compiles, HasOutput, IsMadeBehind, IsMadeOf};
+ghost use Rattle.rz_tools.specs.Rez.{rez_asked, target_asked, AnswersRez, Compiles, HasOutput, IsMadeBehind, IsMadeOf, IsMadeUnder};
+ghost use Rattle.rz_types_table.specs.TypeTable.{table_of};
 
-use crate::sources::{Compiled, compile_program, read_program};
-use rz_core::{Bytes, FileNames, Halt, Moment, NoMemory};
+use crate::sources::{Compiled, compile_program, read_program, unsaid};
+use rz_core::{FileNames, Halt, Moment, NoMemory};
 use rz_folder::Folder;
 use rz_pre::{Defs, Program, Tool};
 use rz_tools_answer::{Failing, Made, Plan, say_beside};
 use rz_tools_args::{Command, Flag, Switch};
 use rz_tools_output::{Base, Beginning, Target, read_base, write_output};
+use rz_tools_tmpl::read_templates;
 use rz_tools_values::Setting;
 use rz_tools_work::Work;
+use rz_types_table::TypeTable;
 use std::alloc::Global;
 use std::convert::Infallible;
 
@@ -45,6 +48,8 @@ pub struct RezWords<'a> {
     pub searches: FileNames,
     /// The definitions.
     pub defs: Defs,
+    /// The name of the file of templates, where one is given.
+    pub tmpl: Option<&'a str>,
     /// Types may be declared again without a warning.
     pub redeclare: bool,
     /// The fork starts from the file that has the output's name.
@@ -64,6 +69,7 @@ impl<'a> RezWords<'a> {
             files: command.files(alloc)?,
             paths: command.names(alloc, Flag::Path)?,
             searches: command.names(alloc, Flag::Search)?,
+            tmpl: command.name(Flag::Templates),
             redeclare: command.has(Switch::Redeclare),
             append: command.has(Switch::Append),
             over: command.has(Switch::Over),
@@ -87,8 +93,8 @@ fn target_of<'a>(command: &Command<'a>) -> Target<'a>
 }
 
 /// The answer to the words of `rez`: the sources that they name are compiled into a resource fork, behind what there is to begin
-/// with, and its file is to be written. The sources are read first, then the file to begin with, then the files of
-/// statements.
+/// with, and its file is to be written. The sources are read first, then the file of templates, then the file to
+/// begin with, then the files of statements.
 pub fn plan_rez<F: Folder>(
     alloc: Global,
     folder: &mut F,
@@ -130,13 +136,13 @@ pub fn compile<F: Folder>(
         &words.paths,
         &words.defs,
     ) {
-        Ok(program) => compile_from_base(alloc, folder, words, program, moment),
+        Ok(program) => compile_under(alloc, folder, words, program, moment),
         Err(stop) => Err(stop),
     }
 }
 
-/// The file that a program means, behind what there is to begin with.
-fn compile_from_base<F: Folder>(
+/// The file that a program means, behind the types of the file of templates.
+fn compile_under<F: Folder>(
     alloc: Global,
     folder: &mut F,
     words: &RezWords<'_>,
@@ -151,15 +157,32 @@ fn compile_from_base<F: Folder>(
     ensures short { IfOk result (λ made. length made.bytes < 2 ^ 32) }
     ensures reads { OnlyReads F.files F.read_faults F.write_faults folder.old folder.new (result ≡ Err ReadFault) }
 {
+    match read_templates(alloc, folder, words.tmpl) {
+        Ok(types) => compile_from_base(alloc, folder, words, program, types, moment),
+        Err(halt) => Err(unsaid(alloc, halt, program.files)),
+    }
+}
+
+/// The file that a program means, behind these types and what else there is to begin with.
+fn compile_from_base<F: Folder>(
+    alloc: Global,
+    folder: &mut F,
+    words: &RezWords<'_>,
+    program: Program,
+    types: TypeTable,
+    moment: Moment,
+) -> Result<Made, Halt<Failing>>
+    requires within { AreWithin (length program.files) program.tokens }
+    requires lexed { AreLexed program.tokens }
+    ensures made { IfSome (F.files folder.old) (λ files. (s : State) → IsProgram program s → Yields (seen making_of result) (IsMadeUnder moment (rez words.now) files s (table_of types))) }
+    ensures sayable { OnRefusal result IsSayable }
+    ensures warned { IfOk result (λ made. IsWarningText made.said) }
+    ensures short { IfOk result (λ made. length made.bytes < 2 ^ 32) }
+    ensures reads { OnlyReads F.files F.read_faults F.write_faults folder.old folder.new (result ≡ Err ReadFault) }
+{
     match read_base(alloc, folder, words.append, words.target.name) {
-        Ok(begun) => compile_behind(alloc, folder, words, program, begun, moment),
-        Err(Halt::Refused(fault)) => Err(Halt::Refused(Failing {
-            fault,
-            files: program.files,
-            said: Bytes::new(alloc),
-        })),
-        Err(Halt::ReadFault) => Err(Halt::ReadFault),
-        Err(Halt::NoMemory) => Err(Halt::NoMemory),
+        Ok(begun) => compile_behind(alloc, folder, words, program, types, begun, moment),
+        Err(halt) => Err(unsaid(alloc, halt, program.files)),
     }
 }
 
@@ -169,6 +192,7 @@ fn compile_behind<F: Folder>(
     folder: &mut F,
     words: &RezWords<'_>,
     program: Program,
+    types: TypeTable,
     begun: Beginning,
     moment: Moment,
 ) -> Result<Made, Halt<Failing>>
@@ -177,7 +201,7 @@ fn compile_behind<F: Folder>(
     requires keys { KeysDiffer [] begun.list }
     requires named { AreNamed begun.list }
     requires room { length begun.base.reserved ≤ 240 }
-    ensures made { IfSome (F.files folder.old) (λ files. (s : State) → IsProgram program s → Yields (seen making_of result) (IsMadeBehind moment (rez words.now) files s (begun_of begun))) }
+    ensures made { IfSome (F.files folder.old) (λ files. (s : State) → IsProgram program s → Yields (seen making_of result) (IsMadeBehind moment (rez words.now) files s (table_of types) (begun_of begun))) }
     ensures sayable { OnRefusal result IsSayable }
     ensures warned { IfOk result (λ made. IsWarningText made.said) }
     ensures short { IfOk result (λ made. length made.bytes < 2 ^ 32) }
@@ -191,7 +215,7 @@ fn compile_behind<F: Folder>(
         moment,
     };
     let Beginning { base, list } = begun;
-    let start = Work::begun(alloc, list)?;
+    let start = Work::begun(alloc, types, list)?;
     match compile_program(alloc, folder, &words.searches, program, start, setting) {
         Ok(compiled) => write_compiled(alloc, &words.target, base, compiled, moment),
         Err(stop) => Err(stop),

@@ -142,6 +142,7 @@ fn rez_words(alloc: Global, files: FileNames) -> RezWords<'static>
         paths: FileNames::new(alloc),
         searches: FileNames::new(alloc),
         defs: Defs::new(alloc),
+        tmpl: None,
         redeclare: false,
         append: false,
         over: false,
@@ -156,7 +157,7 @@ fn rez_words(alloc: Global, files: FileNames) -> RezWords<'static>
 }
 
 /// What `derez` is asked for by the names of the fork and of the file of its type.
-fn derez_words(alloc: Global) -> Result<DeRezWords, NoMemory>
+fn derez_words(alloc: Global) -> Result<DeRezWords<'static>, NoMemory>
     ensures asked { IfOk result (λ words. derez words ≡ derez_of (codes "fork") (codes "types")) }
     ensures defs { IfOk result (λ words. words.types.defs ≡ []) }
 {
@@ -171,6 +172,7 @@ fn derez_words(alloc: Global) -> Result<DeRezWords, NoMemory>
             files,
             paths: FileNames::new(alloc),
             defs: Defs::new(alloc),
+            tmpl: None,
             redeclare: false,
         },
     })

@@ -13,11 +13,11 @@ ghost use Rattle.rz_pre.specs.Program.{ProgramGoes, State};
 ghost use Rattle.rz_pre.specs.Reading.{IsProgram, OfProgram};
 ghost use Rattle.rz_tools_work.specs.Held.{work_of};
 ghost use Rattle.rz_tools_values.specs.Around.{around};
-ghost use Rattle.rz_tools.specs.Held.{compiled_of};
+ghost use Rattle.rz_tools.specs.Held.{compiled_of, halt_unsaid};
 ghost use Rattle.rz_tools.specs.Sources.{HasWork, Unsaid};
 
 use crate::step::compile_statements;
-use rz_core::{Bytes, FileNames, Halt, Words};
+use rz_core::{Bytes, Fault, FileNames, Halt, Words};
 use rz_folder::Folder;
 use rz_pre::{Defs, Failure, Program, Tool, preprocess};
 use rz_stmt::all_tokens_are_statements;
@@ -35,6 +35,21 @@ pub struct Compiled {
     pub macros: Words,
     /// The names under which files were opened.
     pub files: FileNames,
+}
+
+/// What stopped a command before the first statement of a program, where these files were opened.
+pub fn unsaid(alloc: Global, halt: Halt<Fault>, files: FileNames) -> Halt<Failing>
+    ensures { result ≡ halt_unsaid files halt }
+{
+    match halt {
+        Halt::Refused(fault) => Halt::Refused(Failing {
+            fault,
+            files,
+            said: Bytes::new(alloc),
+        }),
+        Halt::ReadFault => Halt::ReadFault,
+        Halt::NoMemory => Halt::NoMemory,
+    }
 }
 
 /// The program of the sources of these names, as the tool reads it, or what stopped the command. No file changes.

@@ -4,43 +4,78 @@ ghost use Rattle.std.specs.Prelude.{◌≡◌, [], length, Err, IfOk, IfSome};
 ghost use Rattle.rz_core.specs.Stop.{seen, OnRefusal, Yields};
 ghost use Rattle.rz_core.specs.declared.stop.Halt.TheVariants.{ReadFault};
 ghost use Rattle.rz_folder.specs.OnlyReads.{OnlyReads};
+ghost use Rattle.rz_lex.specs.Lexeme.{AreLexed};
+ghost use Rattle.rz_lex.specs.Within.{AreWithin};
 ghost use Rattle.rz_pre.specs.Lexed.{HaveLexedTexts};
+ghost use Rattle.rz_pre.specs.Program.{State};
+ghost use Rattle.rz_pre.specs.Reading.{IsProgram};
 ghost use Rattle.rz_tools.specs.Held.{compiled_of, types_asked};
-ghost use Rattle.rz_tools.specs.Types.{TypesAre};
+ghost use Rattle.rz_tools.specs.Types.{AreTyped, TypesAre};
 ghost use Rattle.rz_tools_answer.specs.Made.{IsSayable};
 ghost use Rattle.rz_tools_answer.specs.Warning.{AreWarnings};
 
-use crate::sources::{Compiled, compile_program, read_program};
+use crate::sources::{Compiled, compile_program, read_program, unsaid};
 use rz_core::{FileNames, Halt, Moment, Resources};
 use rz_folder::Folder;
-use rz_pre::{Defs, Tool};
+use rz_pre::{Defs, Program, Tool};
 use rz_tools_answer::Failing;
+use rz_tools_tmpl::read_templates;
 use rz_tools_values::Setting;
 use rz_tools_work::Work;
 use std::alloc::Global;
 
 /// The type files that a command is asked for.
 #[derive(Drop)]
-pub struct TypesWords {
+pub struct TypesWords<'a> {
     /// Their names.
     pub files: FileNames,
     /// The paths for included files.
     pub paths: FileNames,
     /// The definitions.
     pub defs: Defs,
+    /// The name of the file of templates, where one is given.
+    pub tmpl: Option<&'a str>,
     /// Types may be declared again without a warning.
     pub redeclare: bool,
 }
 
-/// What the type files mean.
+/// What the type files mean. They are read first, and then the file of templates.
 pub fn compile_types<F: Folder>(
     alloc: Global,
     folder: &mut F,
-    words: &TypesWords,
+    words: &TypesWords<'_>,
     moment: Moment,
 ) -> Result<Compiled, Halt<Failing>>
     requires { HaveLexedTexts words.now.defs }
     ensures compiled { IfSome (F.files folder.old) (λ files. Yields (seen compiled_of result) (TypesAre moment (types_asked words.now) files)) }
+    ensures warned { IfOk result (λ compiled. AreWarnings (length compiled.files) compiled.work.warnings) }
+    ensures sayable { OnRefusal result IsSayable }
+    ensures reads { OnlyReads F.files F.read_faults F.write_faults folder.old folder.new (result ≡ Err ReadFault) }
+{
+    match read_program(
+        alloc,
+        folder,
+        Tool::DeRez,
+        &words.files,
+        &words.paths,
+        &words.defs,
+    ) {
+        Ok(program) => compile_under(alloc, folder, words, program, moment),
+        Err(stop) => Err(stop),
+    }
+}
+
+/// What a program means, behind the types of the file of templates.
+fn compile_under<F: Folder>(
+    alloc: Global,
+    folder: &mut F,
+    words: &TypesWords<'_>,
+    program: Program,
+    moment: Moment,
+) -> Result<Compiled, Halt<Failing>>
+    requires within { AreWithin (length program.files) program.tokens }
+    requires lexed { AreLexed program.tokens }
+    ensures compiled { IfSome (F.files folder.old) (λ files. (s : State) → IsProgram program s → Yields (seen compiled_of result) (AreTyped moment (types_asked words.now) files s)) }
     ensures warned { IfOk result (λ compiled. AreWarnings (length compiled.files) compiled.work.warnings) }
     ensures sayable { OnRefusal result IsSayable }
     ensures reads { OnlyReads F.files F.read_faults F.write_faults folder.old folder.new (result ≡ Err ReadFault) }
@@ -52,19 +87,12 @@ pub fn compile_types<F: Folder>(
         over: false,
         moment,
     };
-    match read_program(
-        alloc,
-        folder,
-        Tool::DeRez,
-        &words.files,
-        &words.paths,
-        &words.defs,
-    ) {
-        Ok(program) => {
-            let start = Work::begun(alloc, Resources::new(alloc))?;
+    match read_templates(alloc, folder, words.tmpl) {
+        Ok(types) => {
+            let start = Work::begun(alloc, types, Resources::new(alloc))?;
             let paths = FileNames::new(alloc);
             compile_program(alloc, folder, &paths, program, start, setting)
         }
-        Err(stop) => Err(stop),
+        Err(halt) => Err(unsaid(alloc, halt, program.files)),
     }
 }

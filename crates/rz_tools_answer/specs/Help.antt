@@ -32,6 +32,7 @@ explanation =
     ++ codes "  -d NAME[=TEXT]  a macro that stands for the text, or for nothing\n"
     ++ codes "  -u NAME         a macro that is undefined again\n"
     ++ codes "  -rd             types may be declared again without a warning\n"
+    ++ codes "  -tmpl FILE      a file whose 'TMPL' resources declare types, before the sources do\n"
     ++ codes "  -only TYPE      derez shows the resources of these types alone\n"
     ++ codes "  -skip TYPE, and of derez -s TYPE\n"
     ++ codes "                  derez doesn't show the resources of these types\n"

@@ -55,6 +55,7 @@ and the second fork have. The arguments of each command stand in any order:
   -d NAME[=TEXT]  a macro that stands for the text, or for nothing
   -u NAME         a macro that is undefined again
   -rd             types may be declared again without a warning
+  -tmpl FILE      a file whose 'TMPL' resources declare types, before the sources do
   -only TYPE      derez shows the resources of these types alone
   -skip TYPE, and of derez -s TYPE
                   derez doesn't show the resources of these types

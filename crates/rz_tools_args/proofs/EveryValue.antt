@@ -18,7 +18,8 @@ use Rattle.rz_pre_source.specs.Source.{mark, IsBadAt, IsTextOf}
 use Rattle.rz_tools_args.specs.Command.{form_named, Define, Form, IsValue, Kind, Name, Value}
 use Rattle.rz_tools_args.specs.Definition.{nowhere, Defines, HasNoSign, IsName, IsText, Undefines}
 use Rattle.rz_tools_args.specs.Definition.Defines.{alone, with_text}
-use Rattle.rz_tools_args.specs.Kind.{kind_of, IsKind}
+use Rattle.rz_core.specs.Resources.{kind_of}
+use Rattle.rz_tools_args.specs.Kind.{IsKind}
 use Rattle.rz_tools_args.specs.Line.{is_one_word}
 use Rattle.rz_tools_args.specs.declared.flag.Sort.{Sort}
 use Rattle.rz_tools_args.specs.declared.flag.Sort.TheVariants as sorts

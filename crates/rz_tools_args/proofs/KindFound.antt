@@ -3,7 +3,8 @@ use Rattle.std.proofs.Common.{◌≡◌, ℕ, List, ◌++◌, Option, Some, None
 use Rattle.rz_core.specs.Decided.{Decided}
 use Rattle.rz_core.specs.declared.resource.OsType.{OsType}
 use Rattle.rz_pre_source.specs.Source.{mark, IsTextOf}
-use Rattle.rz_tools_args.specs.Kind.{kind_of, IsKind}
+use Rattle.rz_core.specs.Resources.{kind_of}
+use Rattle.rz_tools_args.specs.Kind.{IsKind}
 
 pub decided_kind : (word bytes : List ℕ) → IsTextOf (mark ++ word) bytes → ((others : List ℕ) → IsTextOf (mark ++ word) others → others ≡ bytes)
     → (found : Option OsType) → found ≡ kind_of bytes → Decided (IsKind word) found

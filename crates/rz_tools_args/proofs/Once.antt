@@ -19,7 +19,8 @@ use Rattle.rz_tools_args.specs.Command.{is_place, place_item, switch_item, value
 use Rattle.rz_tools_args.specs.Definition.{nowhere, Defines, IsName, IsText, Undefines}
 use Rattle.rz_tools_args.specs.Definition.Defines.{alone, with_text}
 use Rattle.rz_tools_args.specs.Held.{asked, position_of}
-use Rattle.rz_tools_args.specs.Kind.{kind_of, IsKind}
+use Rattle.rz_core.specs.Resources.{kind_of}
+use Rattle.rz_tools_args.specs.Kind.{IsKind}
 use Rattle.rz_tools_args.specs.Syntax.{named, sort_of, syntax_of, Syntax}
 use Rattle.rz_tools_args.specs.declared.command.Command.{Command}
 use Rattle.rz_tools_args.specs.declared.flag.Flag.{Flag}

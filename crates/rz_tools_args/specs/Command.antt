@@ -92,6 +92,7 @@ flag_number flags.Kind = 7
 flag_number flags.Creator = 8
 flag_number flags.Into = 9
 flag_number flags.From = 10
+flag_number flags.Templates = 11
 
 abbrev pub is_flag : Flag → Flag → Bool
 is_flag one other = flag_number one == flag_number other

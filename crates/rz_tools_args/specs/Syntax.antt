@@ -25,6 +25,7 @@ sort_of flags.Kind = sorts.Kind
 sort_of flags.Creator = sorts.Kind
 sort_of flags.Into = sorts.Form
 sort_of flags.From = sorts.Form
+sort_of flags.Templates = sorts.Name
 
 -- What a command takes: its name, the options behind which a value stands, the options without a value, what stands outside
 -- options, and the options that must be there; and how its usage is told, behind the program's name.
@@ -44,22 +45,24 @@ abbrev pub syntax_of : CommandName → Syntax
 syntax_of names.Rez = record {
   name = codes "rez";
   flags = (codes "-o", flags.Output) ∷ (codes "-t", flags.Kind) ∷ (codes "-c", flags.Creator) ∷ (codes "-form", flags.Into)
-      ∷ (codes "-i", flags.Path) ∷ (codes "-s", flags.Search) ∷ (codes "-d", flags.Define) ∷ (codes "-u", flags.Undefine) ∷ [];
+      ∷ (codes "-i", flags.Path) ∷ (codes "-s", flags.Search) ∷ (codes "-d", flags.Define) ∷ (codes "-u", flags.Undefine)
+      ∷ (codes "-tmpl", flags.Templates) ∷ [];
   switches = (codes "-a", switches.Append) ∷ (codes "-ov", switches.Over) ∷ (codes "-ro", switches.ReadOnly) ∷ (codes "-rd", switches.Redeclare) ∷ [];
   places = places.AtLeast 1;
   needs = [];
   usage = codes "rez FILE... [-o NAME] [-a] [-ov] [-ro] [-form FORM] [-t TYPE] [-c CREATOR]\n"
-      ++ codes "             [-i PATH]... [-s PATH]... [-d NAME[=TEXT]]... [-u NAME]... [-rd]\n";
+      ++ codes "             [-i PATH]... [-s PATH]... [-d NAME[=TEXT]]... [-u NAME]... [-rd]\n"
+      ++ codes "             [-tmpl FILE]\n";
 }
 syntax_of names.DeRez = record {
   name = codes "derez";
   flags = (codes "-only", flags.Only) ∷ (codes "-skip", flags.Skip) ∷ (codes "-s", flags.Skip) ∷ (codes "-from", flags.From)
-      ∷ (codes "-i", flags.Path) ∷ (codes "-d", flags.Define) ∷ (codes "-u", flags.Undefine) ∷ [];
+      ∷ (codes "-i", flags.Path) ∷ (codes "-d", flags.Define) ∷ (codes "-u", flags.Undefine) ∷ (codes "-tmpl", flags.Templates) ∷ [];
   switches = (codes "-rd", switches.Redeclare) ∷ [];
   places = places.AtLeast 1;
   needs = [];
   usage = codes "derez FORK [FILE]... [-from FORM] [-i PATH]... [-d NAME[=TEXT]]... [-u NAME]...\n"
-      ++ codes "               [-rd] [-only TYPE]... [-skip TYPE]...\n";
+      ++ codes "               [-rd] [-tmpl FILE] [-only TYPE]... [-skip TYPE]...\n";
 }
 syntax_of names.Bridge = record {
   name = codes "bridge";

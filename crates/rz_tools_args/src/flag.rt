@@ -28,6 +28,8 @@ pub enum Flag {
     Into,
     /// `-from`: the form of the file that is read.
     From,
+    /// `-tmpl`: the file whose 'TMPL' resources declare types.
+    Templates,
 }
 
 /// What the value behind an option is.
@@ -64,7 +66,7 @@ impl Flag {
         ensures { result ≡ sort_of self }
     {
         match self {
-            Flag::Output | Flag::Path | Flag::Search => Sort::Name,
+            Flag::Output | Flag::Path | Flag::Search | Flag::Templates => Sort::Name,
             Flag::Define => Sort::Definition,
             Flag::Undefine => Sort::Undefinition,
             Flag::Only | Flag::Skip | Flag::Kind | Flag::Creator => Sort::Kind,

@@ -1,8 +1,8 @@
 //! A resource type as an argument, as `specs/Kind` says.
 
-ghost use Rattle.std.specs.Prelude.{◌≡◌, IfOk};
+ghost use Rattle.std.specs.Prelude.{IfOk};
 ghost use Rattle.rz_core.specs.Decided.{Decided};
-ghost use Rattle.rz_tools_args.specs.Kind.{kind_of, IsKind};
+ghost use Rattle.rz_tools_args.specs.Kind.{IsKind};
 
 use crate::roman::roman_of;
 use rz_core::{NoMemory, OsType};
@@ -15,19 +15,7 @@ pub fn kind_in(alloc: Global, word: &str) -> Result<Option<OsType>, NoMemory>
 {
     one_text();
     match roman_of(alloc, word)? {
-        Some(bytes) => Ok(kind_of(bytes.as_slice())),
+        Some(bytes) => Ok(OsType::of_bytes(bytes.as_slice())),
         None => Ok(None),
-    }
-}
-
-/// Four bytes as a type, the first byte highest.
-fn kind_of(bytes: &[u8]) -> Option<OsType>
-    ensures { result ≡ kind_of bytes.now }
-{
-    match bytes {
-        [a, b, c, d] => Some(OsType {
-            code: u32::from_be_bytes([*a, *b, *c, *d]),
-        }),
-        _ => None,
     }
 }

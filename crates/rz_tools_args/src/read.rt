@@ -30,12 +30,12 @@ pub struct UsageFault {
 /// The command that the words behind the program's name are, or the position of the first word that can't
 /// stand where it stands. `syntax_of` has the table of all that may stand where:
 /// - `rez` with sources, at least one, and in whatever order `-o name`, `-t type`, `-c creator`, `-form form`,
-///   `-i path`, `-s path`, `-d name[=text]`, `-u name`, `-rd`, `-a`, `-ov` and `-ro`, each as often as may be; of
-///   several of the first four the last counts, one of the last four counts once however often it stands, and the
+///   `-tmpl file`, `-i path`, `-s path`, `-d name[=text]`, `-u name`, `-rd`, `-a`, `-ov` and `-ro`, each as often as may
+///   be; of several of the first five the last counts, one of the last four counts once however often it stands, and the
 ///   others add up; a type or creator is four characters that have bytes in Mac Roman, and a form is `raw`, `double`,
 ///   `macbin` or `hqx`;
 /// - `derez` with files, of which the first is the fork and the others are type files, and in whatever order `-i`,
-///   `-d`, `-u` and `-rd` as above, `-only type`, `-skip type` or `-s type`, which add up, and `-from form`, of which
+///   `-d`, `-u`, `-rd` and `-tmpl` as above, `-only type`, `-skip type` or `-s type`, which add up, and `-from form`, of which
 ///   the last counts;
 /// - `bridge` with one file, and in whatever order `-to form` and `-o name`, each at least once, and `-from form`; of
 ///   several the last counts;

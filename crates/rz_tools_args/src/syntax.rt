@@ -96,6 +96,7 @@ pub fn syntax_of(command: CommandName) -> Syntax
                 ("-s", Flag::Search),
                 ("-d", Flag::Define),
                 ("-u", Flag::Undefine),
+                ("-tmpl", Flag::Templates),
             ],
             switches: &[
                 ("-a", Switch::Append),
@@ -107,6 +108,7 @@ pub fn syntax_of(command: CommandName) -> Syntax
             needs: &[],
             usage: "rez FILE... [-o NAME] [-a] [-ov] [-ro] [-form FORM] [-t TYPE] [-c CREATOR]
              [-i PATH]... [-s PATH]... [-d NAME[=TEXT]]... [-u NAME]... [-rd]
+             [-tmpl FILE]
 ",
         },
         CommandName::DeRez => Syntax {
@@ -119,12 +121,13 @@ pub fn syntax_of(command: CommandName) -> Syntax
                 ("-i", Flag::Path),
                 ("-d", Flag::Define),
                 ("-u", Flag::Undefine),
+                ("-tmpl", Flag::Templates),
             ],
             switches: &[("-rd", Switch::Redeclare)],
             places: Places::AtLeast(1),
             needs: &[],
             usage: "derez FORK [FILE]... [-from FORM] [-i PATH]... [-d NAME[=TEXT]]... [-u NAME]...
-               [-rd] [-only TYPE]... [-skip TYPE]...
+               [-rd] [-tmpl FILE] [-only TYPE]... [-skip TYPE]...
 ",
         },
         CommandName::Bridge => Syntax {

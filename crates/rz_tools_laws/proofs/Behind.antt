@@ -18,7 +18,9 @@ use Rattle.rz_stmt.specs.Statements.{AreStatements}
 use Rattle.rz_stmt_brackets.specs.Statements.{has_end}
 use Rattle.rz_tools.specs.Again.{MeansAgain}
 use Rattle.rz_tools.specs.Program.{command, Answers}
-use Rattle.rz_tools.specs.Rez.{around_of, AnswersRez, BeginsWith, IsRez, RezAsked}
+use Rattle.rz_tools.specs.Rez.{around_of, AnswersRez, IsRez, RezAsked}
+use Rattle.rz_tools_tmpl.specs.Templates.{TypesOf}
+use Rattle.rz_types_table.specs.Table.{Declaration}
 use Rattle.rz_tools_text.specs.Shown.{Known}
 use Rattle.rz_tools.specs.Sources.{compiled, AreCompiled, Compiled}
 use Rattle.rz_tools.specs.Step.{Means}
@@ -82,23 +84,22 @@ module _ (ended : EndsParsed) (on : GoOn) (around : Around) (first : Work) (type
 
 -- The answer of rez.
 
-begins_new : (program : State) (asked : RezAsked) (files : Files) → asked.append ≡ false → BeginsWith program (base_of asked.append asked.target.name files) (Ok new_base)
-begins_new program asked files new =
-    subst (λ (append : Bool). BeginsWith program (if append then base_in None (or_empty (finite.get files asked.target.name)) else Ok new_base) (Ok new_base)) (sym new) refl
+begins_new : (asked : RezAsked) (files : Files) → asked.append ≡ false → base_of asked.append asked.target.name files ≡ Ok new_base
+begins_new asked files new = ap (λ (append : Bool). if append then base_in None (or_empty (finite.get files asked.target.name)) else Ok new_base) new
 
-pub answers_made : (words : List (List ℕ)) (asked : RezAsked) (files : Files) (moment : Moment) (made : Compiled) (output : Result (List ℕ) Fault)
-    → IsRez words asked → asked.append ≡ false → AreCompiled (around_of moment asked files) (begun []) asked.files asked.paths asked.defs (Ok made)
+pub answers_made : (words : List (List ℕ)) (asked : RezAsked) (files : Files) (moment : Moment) (types : List Declaration) (made : Compiled) (output : Result (List ℕ) Fault)
+    → IsRez words asked → asked.append ≡ false → TypesOf asked.tmpl files (Ok types) → AreCompiled (around_of moment asked files) (begun types []) asked.files asked.paths asked.defs (Ok made)
     → IsOutput asked.target moment new_base made.work.list output
     → Answers words files moment (or_refused (written asked.target.name) (said_beside made.files made.work.warnings output))
-answers_made words asked files moment made output (items, is, same) new (inl (program, goes, has)) is_output =
+answers_made words asked files moment types made output (items, is, same) new declares (inl (program, goes, has)) is_output =
     let answer = or_refused (written asked.target.name) (said_beside made.files made.work.warnings output) in
     command (record { name = names.Rez; items = items }) is
     (subst (λ (a : RezAsked). AnswersRez a files moment answer) same (
       said_beside made.files made.work.warnings output,
-      inl (program, goes, inl (new_base, begins_new program asked files new, inl (made, has, (output, is_output, refl)))),
+      inl (program, goes, inl (types, declares, inl (new_base, begins_new asked files new, inl (made, has, (output, is_output, refl))))),
       refl,
     ))
-answers_made words asked files moment made output is new (inr (failing, goes, so)) is_output = absurd (ok_or_err made failing so)
+answers_made words asked files moment types made output is new declares (inr (failing, goes, so)) is_output = absurd (ok_or_err made failing so)
 
 -- what is spared by macros is spared by the same macros
 pub spared_too : (one other : List ℕ → Bool) → ((name : List ℕ) → one name ≡ other name) → (words : List (List ℕ))

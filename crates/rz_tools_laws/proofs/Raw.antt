@@ -1,5 +1,5 @@
 -- What `rez` writes raw is the fork of the resources, which is found to be raw.
-use Rattle.std.proofs.Common.{◌≡◌, inl, inr, ℕ, List, [], Option, Some, None, Ok, Err, refl, sym, ap, subst, ◌∙◌}
+use Rattle.std.proofs.Common.{◌≡◌, inl, inr, ℕ, List, [], Option, Some, None, Ok, ap, subst, ◌∙◌}
 use Rattle.std.specs.declared.result.Result.{Result}
 use Rattle.rz_core.proofs.Once.{ok_or_err, same_ok}
 use Rattle.rz_core.specs.Lists.{unless_fault}

@@ -1,5 +1,5 @@
 -- How a resource is shown where all declarations are templates.
-use Rattle.std.proofs.Common.{◌≡◌, ◌↔◌, true, List, Some, refl, sym, ap, subst, ◌∙◌}
+use Rattle.std.proofs.Common.{◌≡◌, ◌↔◌, List, Some, refl, subst}
 use Rattle.std.specs.Prelude.{option_map, IfSome}
 use Rattle.std.specs.declared.option.Option.{Option}
 use Rattle.std.specs.declared.option.Option.TheVariants.{None}
@@ -11,7 +11,8 @@ use Rattle.rz_types_fields.specs.declared.tree.Tree.{Tree}
 use Rattle.rz_types_table.specs.Table.{found, Declaration}
 use Rattle.rz_tools.proofs.EveryResource.{found_so}
 use Rattle.rz_tools_text.specs.Shown.{its_bytes, its_row, IsShownBy, Known, TellsRow}
-use Rattle.rz_tools_laws.specs.Templates.{AreTemplates, IsTemplate, TellsDeclared}
+use Rattle.rz_tools_laws.specs.Templates.{TellsDeclared}
+use Rattle.rz_tools_tmpl.specs.Templates.{AreTemplates, IsTemplate}
 
 -- fields that are declared for a resource are a template
 declared_template : (one : Option Declaration) (body : PlainBody) → IfSome one (λ one. IsTemplate one.template) → option_map (λ one. one.template) one ≡ Some body → IsTemplate body

@@ -1,5 +1,5 @@
 -- What statements declare is a template.
-use Rattle.std.proofs.Common.{◌≡◌, inl, inr, ℕ, true, List, [], ◌∷◌, ◌++◌, map, Ok, Err, refl, sym, subst}
+use Rattle.std.proofs.Common.{◌≡◌, inl, inr, ℕ, true, List, [], ◌∷◌, map, Option, Ok, Err, refl, sym, subst}
 use Rattle.std.specs.List.{AllByRecursion}
 use Rattle.std.specs.declared.result.Result.{Result}
 use Rattle.rz_core.proofs.Once.{ok_or_err, same_ok}
@@ -26,16 +26,16 @@ use Rattle.rz_types.specs.Field.{PlainBody}
 use Rattle.rz_tools.proofs.EveryMeaning.{steps_so, HoldsOf}
 use Rattle.rz_tools.proofs.EveryResource.{IsKept}
 use Rattle.rz_tools.proofs.Stepping.{lexed_parts}
-use Rattle.rz_tools.specs.DeRez.{derez_asked, DeRezAsked, IsDeRez}
-use Rattle.rz_tools.specs.Rez.{around_of, rez_asked, IsRez, RezAsked}
+use Rattle.rz_tools.specs.DeRez.{DeRezAsked, IsDeRez}
+use Rattle.rz_tools.specs.Rez.{around_of, IsRez, RezAsked}
 use Rattle.rz_tools.specs.Types.{types_around, TypesAre}
-use Rattle.rz_tools.specs.Sources.{compiled, Compiled, HasWork, IsProgramOf}
-use Rattle.rz_tools.specs.Step.{Means, Steps, WarnedFault}
-use Rattle.rz_tools_answer.specs.declared.made.Failing.{Failing}
+use Rattle.rz_tools.specs.Sources.{Compiled, HasWork, IsProgramOf}
+use Rattle.rz_tools.specs.Step.{Means, WarnedFault}
 use Rattle.rz_tools_args.specs.Command.{Asked, IsCommand}
 use Rattle.rz_tools_args.specs.Items.{defs_of}
 use Rattle.rz_tools_args.specs.declared.name.CommandName.TheVariants as names
-use Rattle.rz_tools_laws.specs.Templates.{AreTemplates, IsTemplate}
+use Rattle.rz_tools_tmpl.specs.Templates.{AreTemplates, IsTemplate, TypesOf}
+use Rattle.rz_types_table.specs.Table.{Declaration}
 use Rattle.rz_tools_work.proofs.Numbered.{still_lexed}
 use Rattle.rz_tools_values.specs.Around.{Around}
 use Rattle.rz_tools_work.specs.ToolWords.{numbered}
@@ -55,6 +55,9 @@ ProgramsAreLexed =
 
 abbrev DefinitionsAreLexed : Type 0
 DefinitionsAreLexed = (words : List (List ℕ)) (asked : Asked) → IsCommand words asked → HaveLexedTexts (defs_of asked.items)
+
+abbrev TypesAreTemplates : Type 0
+TypesAreTemplates = (name : Option (List ℕ)) (files : Files) (types : List Declaration) → TypesOf name files (Ok types) → AreTemplates types
 
 -- A statement.
 
@@ -109,9 +112,9 @@ module _ (law : DeclarationsAreShaped) where
       means
   meaning_templates around (tokens ∷ statements) start work lexed all (inr (stopped, steps, is)) = absurd (not_both work stopped is)
 
-  pub statements_templates : (around : Around) (list : List Resource) (statements : List (List Token)) (work : Work) → AllByRecursion AreLexed statements
-      → Means around (begun list) statements (Ok work) → AreTemplates work.types
-  statements_templates around list statements work lexed means = meaning_templates around statements (begun list) work lexed tt means
+  pub statements_templates : (around : Around) (types : List Declaration) (list : List Resource) (statements : List (List Token)) (work : Work) → AreTemplates types
+      → AllByRecursion AreLexed statements → Means around (begun types list) statements (Ok work) → AreTemplates work.types
+  statements_templates around types list statements work before lexed means = meaning_templates around statements (begun types list) work lexed before means
 
   -- each statement of lexed tokens is lexed
   statements_lexed : (tokens : List Token) (statements : List (List Token)) → AreStatements tokens statements → AreLexed tokens → AllByRecursion AreLexed statements
@@ -123,29 +126,32 @@ module _ (law : DeclarationsAreShaped) where
       let parts = lexed_parts one behind (subst AreLexed are lexed) in
       (parts.0, subst (λ (ss : List (List Token)). AllByRecursion AreLexed ss) (sym last) tt)
 
-  work_templates : (around : Around) (program : State) (list : List Resource) (made : Compiled) → AreLexed program.tokens → HasWork around (begun list) program (Ok made)
-      → AreTemplates made.work.types
-  work_templates around program list made lexed (statements, are, (work, means, is)) =
+  work_templates : (around : Around) (program : State) (types : List Declaration) (list : List Resource) (made : Compiled) → AreTemplates types → AreLexed program.tokens
+      → HasWork around (begun types list) program (Ok made) → AreTemplates made.work.types
+  work_templates around program types list made before lexed (statements, are, (work, means, is)) =
       subst (λ (c : Compiled). AreTemplates c.work.types) (sym is)
-      (statements_templates around list statements work (statements_lexed program.tokens statements are lexed) means)
+      (statements_templates around types list statements work before (statements_lexed program.tokens statements are lexed) means)
 
-  pub sources_templates : ProgramsAreLexed → (around : Around) (names paths : List (List ℕ)) (defs : List Def) (program : State) (list : List Resource) (made : Compiled)
-      → HaveLexedTexts defs → IsProgramOf around names paths defs (Ok program) → HasWork around (begun list) program (Ok made) → AreTemplates made.work.types
-  sources_templates programs around names paths defs program list made lexed goes has =
-      work_templates around program list made (programs around.files around.setting.tool names paths defs program lexed goes) has
-
-  pub rez_templates : ProgramsAreLexed → DefinitionsAreLexed
-      → (words : List (List ℕ)) (asked : RezAsked) (files : Files) (moment : Moment) (program : State) (list : List Resource) (made : Compiled) → IsRez words asked
-      → IsProgramOf (around_of moment asked files) asked.files asked.paths asked.defs (Ok program) → HasWork (around_of moment asked files) (begun list) program (Ok made)
+  pub sources_templates : ProgramsAreLexed → (around : Around) (names paths : List (List ℕ)) (defs : List Def) (program : State) (types : List Declaration) (list : List Resource)
+      (made : Compiled) → AreTemplates types → HaveLexedTexts defs → IsProgramOf around names paths defs (Ok program) → HasWork around (begun types list) program (Ok made)
       → AreTemplates made.work.types
-  rez_templates programs definitions words asked files moment program list made command goes has =
-      sources_templates programs (around_of moment asked files) asked.files asked.paths asked.defs program list made
+  sources_templates programs around names paths defs program types list made before lexed goes has =
+      work_templates around program types list made before (programs around.files around.setting.tool names paths defs program lexed goes) has
+
+  pub rez_templates : ProgramsAreLexed → DefinitionsAreLexed → TypesAreTemplates
+      → (words : List (List ℕ)) (asked : RezAsked) (files : Files) (moment : Moment) (program : State) (types : List Declaration) (list : List Resource) (made : Compiled)
+      → IsRez words asked → IsProgramOf (around_of moment asked files) asked.files asked.paths asked.defs (Ok program) → TypesOf asked.tmpl files (Ok types)
+      → HasWork (around_of moment asked files) (begun types list) program (Ok made) → AreTemplates made.work.types
+  rez_templates programs definitions templates words asked files moment program types list made command goes declares has =
+      sources_templates programs (around_of moment asked files) asked.files asked.paths asked.defs program types list made (templates asked.tmpl files types declares)
       (subst (λ (a : RezAsked). HaveLexedTexts a.defs) (sym command.2) (definitions words (record { name = names.Rez; items = command.0 }) command.1)) goes has
 
-  pub derez_templates : ProgramsAreLexed → DefinitionsAreLexed
+  pub derez_templates : ProgramsAreLexed → DefinitionsAreLexed → TypesAreTemplates
       → (words : List (List ℕ)) (asked : DeRezAsked) (files : Files) (moment : Moment) (made : Compiled) → IsDeRez words asked
       → TypesAre moment asked.types files (Ok made) → AreTemplates made.work.types
-  derez_templates programs definitions words asked files moment made command (inl (program, goes, has)) =
-      sources_templates programs (types_around moment asked.types files) asked.types.files asked.types.paths asked.types.defs program [] made
+  derez_templates programs definitions templates words asked files moment made command (inl (program, goes, inl (types, declares, has))) =
+      sources_templates programs (types_around moment asked.types files) asked.types.files asked.types.paths asked.types.defs program types [] made
+      (templates asked.types.tmpl files types declares)
       (subst (λ (a : DeRezAsked). HaveLexedTexts a.types.defs) (sym command.2) (definitions words (record { name = names.DeRez; items = command.0 }) command.1)) goes has
-  derez_templates programs definitions words asked files moment made command (inr (failing, goes, is)) = absurd (not_both made failing is)
+  derez_templates programs definitions templates words asked files moment made command (inl (program, goes, inr (failing, begins, is))) = absurd (not_both made failing is)
+  derez_templates programs definitions templates words asked files moment made command (inr (failing, goes, is)) = absurd (not_both made failing is)

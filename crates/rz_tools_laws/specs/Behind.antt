@@ -24,7 +24,9 @@ use Rattle.rz_tools_answer.specs.Answer.{or_refused, written}
 use Rattle.rz_tools_answer.specs.Warning.{said_beside}
 use Rattle.rz_tools_output.specs.Base.{new_base}
 use Rattle.rz_tools_output.specs.Output.{IsOutput}
+use Rattle.rz_tools_tmpl.specs.Templates.{TypesOf}
 use Rattle.rz_tools_work.specs.Work.{begun}
+use Rattle.rz_types_table.specs.Table.{Declaration}
 
 -- Sources that a text stands behind.
 
@@ -48,13 +50,13 @@ IsAnswerBehind words asked files moment name compiled list =
     (output : Result (List ℕ) Fault) → IsOutput asked.target moment new_base list output
     → Answers words files moment (or_refused (written asked.target.name) (said_beside (compiled.files ++ name ∷ []) compiled.work.warnings output))
 
--- so it is for a file of this text, behind whatever sources declare the types that are known and make no resource, where
--- the same names are macros behind them and the moment is the same
+-- so it is for a file of this text, behind whatever sources declare the types that are known, with those of a file of templates
+-- or without, and make no resource, where the same names are macros behind them and the moment is the same
 abbrev pub CompilesBehind : Known → List ℕ → List Resource → Type 0
 CompilesBehind known text list =
-    (words : List (List ℕ)) (asked : RezAsked) (files : Files) (types : List (List ℕ)) (name : List ℕ) (compiled : Compiled)
-    → IsRez words asked → asked.append ≡ false → asked.files ≡ types ++ name ∷ [] → finite.get files name ≡ Some text
-    → AreCompiled (around_of known.moment asked files) (begun []) types asked.paths asked.defs (Ok compiled) → compiled.work.list ≡ [] → IsKnown compiled known
+    (words : List (List ℕ)) (asked : RezAsked) (files : Files) (declared : List Declaration) (types : List (List ℕ)) (name : List ℕ) (compiled : Compiled)
+    → IsRez words asked → asked.append ≡ false → TypesOf asked.tmpl files (Ok declared) → asked.files ≡ types ++ name ∷ [] → finite.get files name ≡ Some text
+    → AreCompiled (around_of known.moment asked files) (begun declared []) types asked.paths asked.defs (Ok compiled) → compiled.work.list ≡ [] → IsKnown compiled known
     → IsAnswerBehind words asked files known.moment name compiled list
 
 -- Sources that mean the same to both tools.
@@ -92,9 +94,10 @@ abbrev pub TypesStay : Moment → TypesAsked → Files → Files → Type 0
 TypesStay moment asked files others =
     (compiled : Compiled) → TypesAre moment asked files (Ok compiled) → TypesAre moment asked others (Ok compiled)
 
--- The same type files, paths and definitions for `derez` and for `rez`, and behind the type files of `rez` a file of this name.
+-- The same type files, paths, definitions and file of templates for `derez` and for `rez`, and behind the type files of `rez` a file of this name.
 pub record ReadsBehind (shown : DeRezAsked) (asked : RezAsked) (name : List ℕ) : Type 0 where
   pub new : asked.append ≡ false
   pub files : asked.files ≡ shown.types.files ++ name ∷ []
   pub paths : asked.paths ≡ shown.types.paths
   pub defs : asked.defs ≡ shown.types.defs
+  pub tmpl : asked.tmpl ≡ shown.types.tmpl

@@ -29,6 +29,7 @@ ghost use Rattle.rz_pre.specs.Program.{State};
 ghost use Rattle.rz_pre.specs.declared.program.Def.{Def};
 ghost use Rattle.rz_show.specs.Showing.{by_bytes, by_row, Showing};
 ghost use Rattle.rz_types.specs.Field.{PlainBody};
+ghost use Rattle.rz_types_table.specs.Table.{Declaration};
 ghost use Rattle.rz_types_fields.specs.declared.tree.Tree.{Tree};
 ghost use Rattle.rz_tools.specs.DeRez.{DeRezAsked, IsDeRez};
 ghost use Rattle.rz_tools.specs.Rez.{around_of, IsRez, RezAsked};
@@ -39,7 +40,8 @@ ghost use Rattle.rz_tools.specs.Step.{Means};
 ghost use Rattle.rz_tools_args.specs.Command.{IsCommand, Item};
 ghost use Rattle.rz_tools_args.specs.declared.name.CommandName.TheVariants.{Bridge};
 ghost use Rattle.rz_tools_laws.specs.Bridge.{SayAll};
-ghost use Rattle.rz_tools_laws.specs.Templates.{AreTemplates, TellsDeclared};
+ghost use Rattle.rz_tools_laws.specs.Templates.{TellsDeclared};
+ghost use Rattle.rz_tools_tmpl.specs.Templates.{AreTemplates, TypesOf};
 ghost use Rattle.rz_tools_output.specs.Base.{Base};
 ghost use Rattle.rz_tools_output.specs.Bridge.{bridge_asked, BridgeAsked, IsBridge};
 ghost use Rattle.rz_tools_output.specs.Output.{form_asked, IsOutput, Target};
@@ -54,24 +56,28 @@ use rz_stmt_type::declarations_are_shaped;
 use rz_tools::shown_forks_are_read_again;
 use rz_tools_args::{definitions_are_free, definitions_are_lexed, one_command};
 use rz_tools_text::one_shown_text;
+use rz_tools_tmpl::types_are_templates;
 
 /// A law, with nothing to run: what statements declare that are read without a fault is a template: the fields of each
-/// declaration are well shaped and keep the rules, where the tokens are such as lines can be cut into. So it is behind
-/// sources whose definitions are, and so behind all sources of `rez` and all type files of `derez`.
+/// declaration are well shaped and keep the rules, where so are those before the first statement, and the tokens are such as
+/// lines can be cut into. So it is behind sources whose definitions are, and so, with a file of templates or without, behind
+/// all sources of `rez` and all type files of `derez`.
 pub fn declared_types_are_templates()
-    ensures statements { (around : Around) (list : List Resource) (statements : List (List Token)) (work : Work) → AllByRecursion AreLexed statements
-        → Means around (begun list) statements (Ok work) → AreTemplates work.types }
-    ensures sources { (around : Around) (names paths : List (List ℕ)) (defs : List Def) (program : State) (list : List Resource) (compiled : Compiled)
-        → HaveLexedTexts defs → IsProgramOf around names paths defs (Ok program) → HasWork around (begun list) program (Ok compiled) → AreTemplates compiled.work.types }
-    ensures rez { (words : List (List ℕ)) (asked : RezAsked) (files : Files) (moment : Moment) (program : State) (list : List Resource) (compiled : Compiled)
-        → IsRez words asked → IsProgramOf (around_of moment asked files) asked.files asked.paths asked.defs (Ok program)
-        → HasWork (around_of moment asked files) (begun list) program (Ok compiled) → AreTemplates compiled.work.types }
+    ensures statements { (around : Around) (types : List Declaration) (list : List Resource) (statements : List (List Token)) (work : Work) → AreTemplates types
+        → AllByRecursion AreLexed statements → Means around (begun types list) statements (Ok work) → AreTemplates work.types }
+    ensures sources { (around : Around) (names paths : List (List ℕ)) (defs : List Def) (program : State) (types : List Declaration) (list : List Resource) (compiled : Compiled)
+        → AreTemplates types → HaveLexedTexts defs → IsProgramOf around names paths defs (Ok program) → HasWork around (begun types list) program (Ok compiled)
+        → AreTemplates compiled.work.types }
+    ensures rez { (words : List (List ℕ)) (asked : RezAsked) (files : Files) (moment : Moment) (program : State) (types : List Declaration) (list : List Resource) (compiled : Compiled)
+        → IsRez words asked → IsProgramOf (around_of moment asked files) asked.files asked.paths asked.defs (Ok program) → TypesOf asked.tmpl files (Ok types)
+        → HasWork (around_of moment asked files) (begun types list) program (Ok compiled) → AreTemplates compiled.work.types }
     ensures derez { (words : List (List ℕ)) (asked : DeRezAsked) (files : Files) (moment : Moment) (compiled : Compiled)
         → IsDeRez words asked → TypesAre moment asked.types files (Ok compiled) → AreTemplates compiled.work.types }
 {
     declarations_are_shaped();
     programs_are_lexed();
     definitions_are_lexed();
+    types_are_templates();
 }
 
 /// A law, with nothing to run: behind type files that `derez` reads without a fault, a resource is shown in a `resource`
@@ -137,14 +143,15 @@ pub fn type_files_agree()
 /// A law, with nothing to run: what `derez` answers for a fork under type files, in a file behind the same type files, is
 /// compiled by `rez` without `-a` to the file of the resources that were shown, or to the first fault of such a file: if the type files
 /// mean the same where that file stands, have no statements but `type` and don't ask which tool reads them, the words have
-/// the same paths and definitions, the moment is the same, and each resource that is shown has at most 16,777,212 bytes.
+/// the same paths, definitions and file of templates, the moment is the same, and each resource that is shown has at most 16,777,212 bytes.
 pub fn shown_forks_are_read_back()
     ensures { (words others : List (List ℕ)) (shown : DeRezAsked) (asked : RezAsked) (files after : Files) (moment : Moment) (name bytes : List ℕ) (fork : Fork) (answer : Answer)
         → IsDeRez words shown → Answers words files moment answer → answer.outcome ≡ Done
         → finite.get files shown.file ≡ Some bytes → HoldsFile shown.from bytes → fork_in None shown.from bytes ≡ Ok fork → AreShort (chosen shown.only shown.skip fork.list)
         → TypesStay moment shown.types files after → AreTypesAlone after tools.DeRez shown.types.files shown.types.paths shown.types.defs
         → IsRez others asked → ReadsBehind shown asked name → finite.get after name ≡ Some answer.out
-        → (compiled : Compiled) × AreCompiled (around_of moment asked after) (begun []) shown.types.files asked.paths asked.defs (Ok compiled)
+        → (types : List Declaration) × TypesOf asked.tmpl after (Ok types)
+        × (compiled : Compiled) × AreCompiled (around_of moment asked after) (begun types []) shown.types.files asked.paths asked.defs (Ok compiled)
         × IsAnswerBehind others asked after moment name compiled (chosen shown.only shown.skip fork.list) }
 {
     statements_go_on();

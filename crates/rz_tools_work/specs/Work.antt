@@ -19,9 +19,9 @@ pub record Work : Type 0 where
   pub list : List Resource
   pub warnings : List Fault
 
--- before the first statement there are resources to begin with, and nothing else
-abbrev pub begun : List Resource → Work
-begun list = record { types = []; list = list; warnings = [] }
+-- before the first statement there are types and resources to begin with, and nothing else
+abbrev pub begun : List Declaration → List Resource → Work
+begun types list = record { types = types; list = list; warnings = [] }
 
 -- with a resource list
 abbrev pub with_list : Work → Result (List Resource) Fault → Result Work Fault

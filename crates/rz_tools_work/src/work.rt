@@ -5,6 +5,7 @@ ghost use Rattle.rz_core.specs.Resources.{KeysDiffer};
 ghost use Rattle.rz_set.specs.ResSet.{AreNamed};
 ghost use Rattle.rz_tools_work.specs.Held.{work_of};
 ghost use Rattle.rz_tools_work.specs.Work.{begun};
+ghost use Rattle.rz_types_table.specs.TypeTable.{table_of};
 
 use rz_core::{NoMemory, Resources};
 use rz_set::ResSet;
@@ -24,14 +25,15 @@ pub struct Work {
 }
 
 impl Work {
-    /// What there is before the first statement: these resources, and nothing else. Their pairs of type and id differ.
-    pub fn begun(alloc: Global, list: Resources) -> Result<Work, NoMemory>
+    /// What there is before the first statement: these types and resources, and nothing to be warned of. The pairs of type
+    /// and id of the resources differ.
+    pub fn begun(alloc: Global, types: TypeTable, list: Resources) -> Result<Work, NoMemory>
         requires keys { KeysDiffer [] list }
         requires named { AreNamed list }
-        ensures { IfOk result (λ work. work_of work ≡ begun list) }
+        ensures { IfOk result (λ work. work_of work ≡ begun (table_of types) list) }
     {
         Ok(Work {
-            types: TypeTable::new(alloc),
+            types,
             resources: ResSet::of_list(alloc, list)?,
             warnings: Faults::new(alloc),
         })

@@ -13,9 +13,9 @@ pub returns-in-Ok-clause-made : goal.returns-in-Ok-clause-made
 returns-in-Ok-clause-made g c =
     let asked = rez c.args.words.now in
     read_made (λ files. IsProgramOf (around_of c.args.moment asked files) asked.files asked.paths asked.defs) (IsMadeOf c.args.moment asked) c.in-Ok.program
-    (g.F.Folder.files c.args.folder.now) c.in-Ok.ensures.read c.compile_from_base.result
+    (g.F.Folder.files c.args.folder.now) c.in-Ok.ensures.read (seen making_of c.compile_under.result)
     (still_told (g.F.Folder.files c.args.folder.now) (g.F.Folder.files c.read_program.new.folder) c.in-Ok.ensures.reads.unchanged
-    (λ files. (s : State) → IsProgram c.in-Ok.program s → Yields (seen making_of c.compile_from_base.result) (IsMadeOf c.args.moment asked files s)) c.compile_from_base.ensures.made)
+    (λ files. (s : State) → IsProgram c.in-Ok.program s → Yields (seen making_of c.compile_under.result) (IsMadeOf c.args.moment asked files s)) c.compile_under.ensures.made)
 
 pub returns-in-Err-clause-made : goal.returns-in-Err-clause-made
 returns-in-Err-clause-made g c =

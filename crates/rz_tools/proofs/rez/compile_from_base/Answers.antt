@@ -1,35 +1,45 @@
-use Rattle.std.proofs.Common.{◌≡◌, [], length, Err, sym, subst}
+use Rattle.std.proofs.Common.{◌≡◌, length, Err, sym, subst}
 use Rattle.std.specs.Prelude.{IfSome}
 use Rattle.rz_core.specs.declared.stop.Halt.{Halt}
 use Rattle.rz_pre.specs.Program.{State}
 use Rattle.rz_pre.specs.Reading.{IsProgram}
 use Rattle.rz_tools.specs.Held.{rez}
-use Rattle.rz_core.specs.Stop.{seen, Yields}
-use Rattle.rz_core.specs.declared.stop.Halt.TheVariants.{Refused}
-use Rattle.rz_tools_answer.specs.Made.{making_of}
-use Rattle.rz_core.specs.declared.fault.Fault.{Fault}
+use Rattle.rz_core.specs.Stop.{seen, OnRefusal, Yields}
+use Rattle.rz_tools_answer.specs.Made.{making_of, IsSayable}
+use Rattle.rz_tools_answer.specs.declared.made.Failing.{Failing}
+use Rattle.rz_tools_answer.specs.declared.made.Made.{Made}
 use Rattle.rz_tools_output.specs.Base.{base_of, begun_of}
-use Rattle.rz_tools.specs.Rez.{IsMadeBehind, IsMadeOf}
-use Rattle.rz_tools.proofs.Compiling.{begun_made, not_begun, still_told}
+use Rattle.rz_tools.specs.Rez.{IsMadeBehind, IsMadeUnder}
+use Rattle.rz_tools.proofs.Compiling.{still_told}
+use Rattle.rz_tools.proofs.Replied.{reads_as}
+use Rattle.rz_tools.proofs.Sourced.{begun_made, not_begun, unsaid_read, unsaid_sayable}
 use Rattle.rz_tools.proofs.rez.compile_from_base.Goals as goal
+use Rattle.rz_types_table.specs.TypeTable.{table_of}
+use Rattle.rz_tools_output.specs.declared.base.Beginning.{Beginning}
 
 pub returns-in-Ok-clause-made : goal.returns-in-Ok-clause-made
 returns-in-Ok-clause-made g c =
     let asked = rez c.args.words.now in
-    begun_made c.args.moment asked c.args.program (g.F.Folder.files c.args.folder.now) (begun_of c.in-Ok.begun) c.in-Ok.ensures.base c.compile_behind.result
+    begun_made (λ files base. base_of asked.append asked.target.name files ≡ base) (λ files s. IsMadeBehind c.args.moment asked files s (table_of c.args.types)) c.args.program
+    (begun_of c.in-Ok.begun) (g.F.Folder.files c.args.folder.now) c.in-Ok.ensures.base (seen making_of c.compile_behind.result)
     (still_told (g.F.Folder.files c.args.folder.now) (g.F.Folder.files c.read_base.new.folder) c.in-Ok.ensures.reads.unchanged
-    (λ files. (s : State) → IsProgram c.args.program s → Yields (seen making_of c.compile_behind.result) (IsMadeBehind c.args.moment asked files s (begun_of c.in-Ok.begun))) c.compile_behind.ensures.made)
+    (λ files. (s : State) → IsProgram c.args.program s → Yields (seen making_of c.compile_behind.result) (IsMadeBehind c.args.moment asked files s (table_of c.args.types) (begun_of c.in-Ok.begun)))
+    c.compile_behind.ensures.made)
 
-pub returns-in-Err-Refused-clause-made : goal.returns-in-Err-Refused-clause-made
-returns-in-Err-Refused-clause-made g c =
+pub returns-in-Err-clause-made : goal.returns-in-Err-clause-made
+returns-in-Err-clause-made g c =
     let asked = rez c.args.words.now in
-    subst (λ (fault : Fault). IfSome (g.F.Folder.files c.args.folder.now) (λ files. (s : State) → IsProgram c.args.program s
-    → Yields (seen making_of (Err (Refused (record { fault = fault; files = c.args.program.files; said = c.new.result })))) (IsMadeOf c.args.moment asked files s))) (sym c.in-Err-Refused.fault-is)
-    (not_begun c.args.moment asked c.args.program (g.F.Folder.files c.args.folder.now) c.in-Err-Refused.fault c.new.result c.new.ensures
-    (subst (λ (h : Halt Fault). IfSome (g.F.Folder.files c.args.folder.now) (λ files. Yields (seen begun_of (Err h)) (λ answer. base_of asked.append asked.target.name files ≡ answer))) c.in-Err-Refused.field-0-is c.in-Err-Refused.ensures.base))
+    subst (λ (h : Halt Failing). IfSome (g.F.Folder.files c.args.folder.now) (λ files. (s : State) → IsProgram c.args.program s
+    → Yields (seen making_of (Err h)) (IsMadeUnder c.args.moment asked files s (table_of c.args.types)))) (sym c.unsaid.ensures)
+    (not_begun (λ files base. base_of asked.append asked.target.name files ≡ base) (λ files s. IsMadeBehind c.args.moment asked files s (table_of c.args.types)) c.args.program
+    c.in-Err.halt (g.F.Folder.files c.args.folder.now) c.in-Err.ensures.base)
 
-pub returns-in-Err-Refused-clause-sayable : goal.returns-in-Err-Refused-clause-sayable
-returns-in-Err-Refused-clause-sayable g c = record {
-  nameable = rw c.in-Err-Refused.fault-is (rw c.in-Err-Refused.field-0-is at (c.in-Err-Refused.ensures.nameable (length c.args.program.files)));
-  warned = ([], [], tt, c.new.ensures);
-}
+pub returns-in-Err-clause-sayable : goal.returns-in-Err-clause-sayable
+returns-in-Err-clause-sayable g c =
+    subst (λ (h : Halt Failing). OnRefusal {X = Made} (Err h) IsSayable) (sym c.unsaid.ensures)
+    (unsaid_sayable Beginning Made c.args.program.files c.in-Err.halt (c.in-Err.ensures.nameable (length c.args.program.files)))
+
+pub returns-in-Err-clause-reads : goal.returns-in-Err-clause-reads
+returns-in-Err-clause-reads g c =
+    reads_as g.F.Folder.files g.F.Folder.read_faults g.F.Folder.write_faults c.args.folder.now c.read_base.new.folder
+    (λ is. unsaid_read Beginning Made c.args.program.files c.in-Err.halt (rw c.unsaid.ensures at is)) c.in-Err.ensures.reads

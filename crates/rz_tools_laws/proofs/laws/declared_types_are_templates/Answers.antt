@@ -8,7 +8,7 @@ pub returns-clause-sources : goal.returns-clause-sources
 returns-clause-sources c = sources_templates c.declarations_are_shaped.ensures c.programs_are_lexed.ensures
 
 pub returns-clause-rez : goal.returns-clause-rez
-returns-clause-rez c = rez_templates c.declarations_are_shaped.ensures c.programs_are_lexed.ensures c.definitions_are_lexed.ensures
+returns-clause-rez c = rez_templates c.declarations_are_shaped.ensures c.programs_are_lexed.ensures c.definitions_are_lexed.ensures c.types_are_templates.ensures
 
 pub returns-clause-derez : goal.returns-clause-derez
-returns-clause-derez c = derez_templates c.declarations_are_shaped.ensures c.programs_are_lexed.ensures c.definitions_are_lexed.ensures
+returns-clause-derez c = derez_templates c.declarations_are_shaped.ensures c.programs_are_lexed.ensures c.definitions_are_lexed.ensures c.types_are_templates.ensures
