@@ -1,11 +1,10 @@
-//! Tests of the edge over a host that gives what it is told: which moment a run has, and how a run begins and ends.
+//! Tests of the edge over a host that gives what it is told: which arguments and which moment a run has, or why it doesn't
+//! begin.
 
 ghost use Rattle.std.specs.Io.{WritesAtMost};
 
-use super::{moment_at, moment_of, start_over};
-use rz_core::NoMemory;
-use rz_folder::{MemFolder, MemSink};
-use std::alloc::{Alloc, Global};
+use super::{given, moment_at, moment_of};
+use std::alloc::{Alloc, AllocError, Global};
 use std::env::FillError;
 use std::io;
 use std::io::ErrorKind;
@@ -166,97 +165,63 @@ fn seconds_outside_the_range_are_the_first_second(rt: HostRuntime) {
     }
 }
 
-/// What a run leaves.
-#[derive(Drop)]
-struct Ended {
-    status: u8,
-    folder: MemFolder,
-    out: MemSink,
-    err: MemSink,
-}
-
-/// Runs the command of the host's arguments over a folder that has one source.
-fn run_over(host: &Host<'_>) -> Result<Ended, NoMemory> {
-    let alloc = host.alloc;
-    let mut folder = MemFolder::new(alloc);
-    folder.reserve(10, 10_000)?;
-    folder.insert("one.r", b"data 'Date' (128) { $$Date };\n")?;
-    let mut out = MemSink::new(alloc);
-    out.reserve(10_000)?;
-    let mut err = MemSink::new(alloc);
-    err.reserve(10_000)?;
-    let status = start_over(host, &mut folder, &mut out, &mut err);
-    Ok(Ended {
-        status,
-        folder,
-        out,
-        err,
-    })
-}
-
-/// The name of the program and six words.
-const SIX_WORDS: &[&[u8]] = &[
-    b"rezkit", b"rez", b"one.r", b"-o", b"x", b"-form", b"macbin",
-];
-
-#[test]
-fn a_run_has_the_words_and_the_moment_of_its_host(rt: HostRuntime) {
-    let host = Host::of(rt.alloc(), SIX_WORDS, Some(b"951827696"), None);
-    let ended = run_over(&host).expect(&rt, "memory");
-    assert_eq!(rt; ended.status, 0);
-    assert!(rt; ended.out.bytes().is_empty());
-    assert!(rt; ended.err.bytes().is_empty());
-    let file = ended.folder.bytes("x").unwrap_or(&[]);
-    let dates = b"\xB4\xE1\x6D\x70\xB4\xE1\x6D\x70";
-    assert_eq!(rt; file.get(91..99), Some(dates.as_slice()));
-    let content = b"\x00\x00\x00\x0A2000-02-29";
-    assert_eq!(rt; file.get(384..398), Some(content.as_slice()));
-}
-
-#[test]
-fn a_run_that_begins_ends_with_the_status_of_its_command(rt: HostRuntime) {
-    let told: [(&[&[u8]], u8, &[u8], &[u8]); 5] = [
-        (&[], 1, b"", b"rezkit: usage: word 1\n"),
-        (&[b"rezkit"], 1, b"", b"rezkit: usage: word 1\n"),
-        (&[b"rez", b"--version"], 0, b"rezkit 0.1.0\n", b""),
-        (
-            &[b"rezkit", b"rez", b"-o"],
-            1,
-            b"",
-            b"rezkit: usage: word 3\n",
-        ),
-        (
-            &[b"rezkit", b"rez", b"no.r"],
-            2,
-            b"",
-            b"rezkit: error 101 MissingFile: \"no.r\"\n",
-        ),
-    ];
-    for (args, status, out, err) in told {
-        let host = Host::of(rt.alloc(), args, None, None);
-        let ended = run_over(&host).expect(&rt, "memory");
-        assert_eq!(rt; ended.status, status);
-        assert_eq!(rt; ended.out.bytes(), out);
-        assert_eq!(rt; ended.err.bytes(), err);
+/// The arguments, each with a line end behind it.
+fn lines_of(alloc: Global, args: &[String]) -> Result<String, AllocError> {
+    let mut lines = String::new(alloc);
+    for arg in args {
+        lines.push_str(arg.as_str())?;
+        lines.push('\n')?;
     }
+    Ok(lines)
+}
+
+#[test]
+fn the_arguments_are_those_behind_the_name(rt: HostRuntime) {
+    let told: [(&[&[u8]], &str); 6] = [
+        (&[], ""),
+        (&[b"rezkit"], ""),
+        (&[b"rez", b"--version"], "--version\n"),
+        (&[b"rezkit", b"rez", b"-o"], "rez\n-o\n"),
+        (&[b"", b"rez", b"", b"rezkit"], "rez\n\nrezkit\n"),
+        (&[b"rezkit", b"rez", b"\xC3\xA9.r"], "rez\n\u{e9}.r\n"),
+    ];
+    for (words, wanted) in told {
+        let now = Duration::from_secs(7);
+        let host = Host::of(rt.alloc(), words, None, Some(now));
+        let (args, moment) = given(&host).ok().expect(&rt, "a run begins");
+        let lines = lines_of(rt.alloc(), args.as_slice()).expect(&rt, "memory");
+        assert_eq!(rt; lines.as_str(), wanted);
+        assert_eq!(rt; moment.unix, 7);
+    }
+}
+
+#[test]
+fn arguments_come_with_the_moment_of_the_environment(rt: HostRuntime) {
+    let words: &[&[u8]] = &[b"rezkit", b"rez", b"one.r"];
+    let host = Host::of(rt.alloc(), words, Some(b"951827696"), None);
+    let (args, moment) = given(&host).ok().expect(&rt, "a run begins");
+    let lines = lines_of(rt.alloc(), args.as_slice()).expect(&rt, "memory");
+    assert_eq!(rt; lines.as_str(), "rez\none.r\n");
+    assert_eq!(rt; moment.unix, 951_827_696);
 }
 
 #[test]
 fn no_run_begins_without_its_words_or_its_moment(rt: HostRuntime) {
     let no_moment: &[u8] =
         b"rezkit: SOURCE_DATE_EPOCH isn't a decimal number from 0 to 2208988799\n";
-    let told: [(&[&[u8]], &[u8], &[u8]); 3] = [
+    let no_words: &[u8] = b"rezkit: no words\n";
+    let told: [(&[&[u8]], &[u8], &[u8]); 5] = [
         (&[b"rezkit", b"rez", b"one.r"], b"2208988800", no_moment),
         (&[b"rezkit", b"--version"], b"", no_moment),
-        (&[b"rezkit", b"rez", b"\xFF"], b"0", b"rezkit: no words\n"),
+        (&[b"rezkit", b"rez", b"\xFF"], b"0", no_words),
+        (&[b"\xFF", b"rez", b"one.r"], b"0", no_words),
+        (&[b"rezkit", b"rez", b"\xFF"], b"", no_words),
     ];
     for (args, epoch, line) in told {
         let now = Duration::from_secs(7);
         let host = Host::of(rt.alloc(), args, Some(epoch), Some(now));
-        let ended = run_over(&host).expect(&rt, "memory");
-        assert_eq!(rt; ended.status, 5);
-        assert!(rt; ended.out.bytes().is_empty());
-        assert_eq!(rt; ended.err.bytes(), line);
-        assert!(rt; ended.folder.bytes("Rez.Out").is_none());
+        let hindrance = given(&host).err().expect(&rt, "no run begins");
+        assert_eq!(rt; hindrance.line(), line);
+        assert_eq!(rt; hindrance.status(), 5);
     }
 }
