@@ -1,0 +1,114 @@
+-- A list of resources with the texts of entries in place of its leaves, or why an entry is refused.
+use Rattle.std.specs.Prelude.{◌≡◌, ℕ, ◌==◌, nat_lt, Bool, true, false, not, ◌&&◌, ◌||◌, if◌then◌else◌, List, [], ◌∷◌, bit_and, filter, length, Option, Some, None, option_map, Ok, Err}
+use Rattle.std.specs.Int.{cast_unsigned, w16}
+use Rattle.std.specs.List.{list_any}
+use Rattle.std.specs.Option.{ok_or, unwrap_or}
+use Rattle.std.specs.declared.result.Result.{Result}
+use Rattle.rz_core.specs.Decided.{Decided}
+use Rattle.rz_core.specs.Lists.{each_with_front, first_in, first_of}
+use Rattle.rz_core.specs.Resources.{id_bits}
+use Rattle.rz_core.specs.declared.fault.Fault.{Fault}
+use Rattle.rz_core.specs.declared.fault.Kept.TheVariants.{Key}
+use Rattle.rz_core.specs.declared.moment.Moment.{Moment}
+use Rattle.rz_core.specs.declared.resource.Resource.{Resource}
+use Rattle.rz_catalog_entries.specs.InOrder.{EachInOrder}
+use Rattle.rz_catalog_entries.specs.declared.entry.Entry.{Entry}
+use Rattle.rz_types_fields.specs.declared.tree.Tree.{Tree}
+use Rattle.rz_types_table.specs.Table.{Declaration}
+use Rattle.rz_catalog.specs.Leaves.{leaves, HasTexts}
+use Rattle.rz_catalog.specs.Stock.{texts_of, AreStocked, HasTree, Stocked}
+
+-- the first item that passes
+abbrev pub first_such : {A : Type 0} → (A → Bool) → List A → Option A
+first_such test [] = None
+first_such test (x ∷ xs) = if test x then Some x else first_such test xs
+
+-- Entries and resources.
+
+-- the 16 bits of an entry's id
+abbrev pub id_bits_of : Entry → ℕ
+id_bits_of e = cast_unsigned w16 e.id
+
+-- the entry is for this resource: it has its type and id
+abbrev pub is_entry_for : Resource → Entry → Bool
+is_entry_for r e = (r.kind.code == e.kind.code) && (id_bits r == id_bits_of e)
+
+-- the two entries have the same type, id and leaf
+abbrev pub same_leaf : Entry → Entry → Bool
+same_leaf a b = ((a.kind.code == b.kind.code) && (id_bits_of a == id_bits_of b)) && (a.leaf == b.leaf)
+
+-- the texts with those of entries in place: of several entries with a leaf the first one counts
+abbrev pub text_for : List Entry → ℕ → List ℕ → List ℕ
+text_for entries leaf own = unwrap_or (option_map (λ e. e.text) (first_such (λ e. leaf == e.leaf) entries)) own
+
+abbrev pub placed : List Entry → List (List ℕ) → List (List ℕ)
+placed entries texts = each_with_front (λ before own. text_for entries (length before) own ∷ []) texts
+
+-- Refusals.
+
+-- a fault of an entry keeps its type and id
+abbrev pub fault_of : ℕ → Entry → Fault
+fault_of number e = record { number = number; mark = Some e.mark; kept = Key e.kind e.id }
+
+abbrev pub unless : Bool → Fault → Option Fault
+unless true fault = None
+unless false fault = Some fault
+
+abbrev pub has_leaf : ℕ → Option Stocked → Bool
+has_leaf leaf None = false
+has_leaf leaf (Some s) = nat_lt leaf (length (texts_of s))
+
+-- the bit 08 of the attributes is that of a protected resource
+abbrev pub is_protected : Option Stocked → Bool
+is_protected None = false
+is_protected (Some s) = not (bit_and s.resource.attr 8 == 0)
+
+-- why an entry is refused, for a resource or for none, and where one before it has the same leaf or not: 462 where there is
+-- no such leaf, 219 for a protected resource, 463 for a leaf that is there twice
+abbrev pub fault_for : Bool → Option Stocked → Bool → Entry → Option Fault
+fault_for over found twice e =
+    first_of (
+    unless (has_leaf e.leaf found) (fault_of 462 e)
+    ∷ unless (over || not (is_protected found)) (fault_of 219 e)
+    ∷ unless (not twice) (fault_of 463 e)
+    ∷ [])
+
+-- an entry behind others is for the first resource that has its type and id
+abbrev pub entry_fault : Bool → List Stocked → List Entry → Entry → Option Fault
+entry_fault over stock before e = fault_for over (first_such (λ s. is_entry_for s.resource e) stock) (list_any (same_leaf e) before) e
+
+abbrev pub first_refused : Bool → List Stocked → List Entry → Option Fault
+first_refused over stock entries = first_in (entry_fault over stock) [] entries
+
+-- Resources.
+
+abbrev pub with_bytes : Resource → List ℕ → Resource
+with_bytes r bytes = record { kind = r.kind; id = r.id; name = r.name; attr = r.attr; bytes = bytes }
+
+-- a resource whose bytes tell a row, and its entries, of which there is a first one: with other bytes it has the row with
+-- the texts in place as its tree, or else there are no such bytes, which is 464
+abbrev pub IsChanged : List Declaration → Moment → Resource → List Tree → List Entry → Entry → Result Resource Fault → Type 0
+IsChanged types moment r row entries first answer =
+    (new : List Tree) × HasTexts (placed entries (leaves row)) row new
+    × (found : Option (List ℕ)) × Decided (λ bytes. HasTree types moment (with_bytes r bytes) new) found
+    × (answer ≡ ok_or (option_map (with_bytes r) found) (fault_of 464 first))
+
+-- a resource without an entry, or without a tree, stays
+abbrev pub IsPut : List Declaration → Moment → Resource → Option (List Tree) → List Entry → Result Resource Fault → Type 0
+IsPut types moment r tree [] answer = answer ≡ Ok r
+IsPut types moment r None (first ∷ others) answer = answer ≡ Ok r
+IsPut types moment r (Some row) (first ∷ others) answer = IsChanged types moment r row (first ∷ others) first answer
+
+abbrev pub IsRestrung : List Declaration → Moment → List Entry → Stocked → Result Resource Fault → Type 0
+IsRestrung types moment entries s answer = IsPut types moment s.resource s.tree (filter (is_entry_for s.resource) entries) answer
+
+-- the first fault of an entry, or else each resource with the texts in place
+abbrev pub IsAppliedTo : List Declaration → Moment → List Stocked → List Entry → Option Fault → Result (List Resource) Fault → Type 0
+IsAppliedTo types moment stock entries (Some fault) answer = answer ≡ Err fault
+IsAppliedTo types moment stock entries None answer = EachInOrder (IsRestrung types moment entries) stock answer
+
+pub record Applied (types : List Declaration) (moment : Moment) (over : Bool) (list : List Resource) (entries : List Entry)
+    (answer : Result (List Resource) Fault) : Type 0 where
+  pub stock : List Stocked
+  pub stocked : AreStocked types moment list stock
+  pub is : IsAppliedTo types moment stock entries (first_refused over stock entries) answer

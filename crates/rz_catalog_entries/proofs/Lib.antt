@@ -1,0 +1,4 @@
+pub mod Chunks
+pub mod Parts
+pub mod Decides
+pub mod Answered

@@ -1,0 +1,5 @@
+pub mod Pairs
+pub mod Numbered
+pub mod Changes
+pub mod Lookups
+pub mod Own
