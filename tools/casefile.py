@@ -176,8 +176,10 @@ def form_lines(data):
 
 
 def content(key, name, data):
-    """The lines of a key with a file or a stream: a str is text, bytes are spelled."""
+    """The lines of a key with a file or a stream: a str is text, bytes are spelled, and a list has pieces that spell bytes."""
     key_line = ("%s %%s %s" % (key, name)).rstrip()
+    if isinstance(data, list):
+        return [key_line % "bytes"] + ["| " + piece for piece in data]
     if isinstance(data, str):
         kind = "text" if data.endswith("\n") or not data else "open"
         lines = data.split("\n")

@@ -1,12 +1,12 @@
 #!/usr/bin/env python3
-"""Runs the built program where the host's files are unlike those of a folder in memory.
+"""Runs the built program where the host's words and files are unlike those of a run in memory.
 
     python3 tools/edge.py [PROGRAM]
 
-PROGRAM is crates/rezkit/out/rezkit unless another is named. Names at which no file can stand are missing files; files that
-have the names of temporary ones hinder no write; and a file that is longer than the process may write is a write fault
-that leaves what was there. What comes otherwise than it stands here, by hand, is printed. The status is 1 if anything
-does. The gate runs it after `rt ci`.
+PROGRAM is crates/rezkit/out/rezkit unless another is named. A run has the words after the program's name, and none begins
+if one of them isn't UTF-8. Names at which no file can stand are missing files; files that have the names of temporary ones
+hinder no write; and a file that is longer than the process may write is a write fault that leaves what was there. What
+comes otherwise than it stands here, by hand, is printed. The status is 1 if anything does. The gate runs it after `rt ci`.
 """
 import os
 import resource
@@ -100,6 +100,19 @@ def found(folder, links):
     return files
 
 
+def words(edge):
+    """The words that the host gives."""
+    files = {"one.r": SOURCE}
+    usage = "rezkit: usage: word %d\n"
+    edge.run("no words", [], files, 1, usage % 1)
+    edge.run("the program's name is no word", ["rezkit"], files, 1, usage % 1)
+    edge.run("one word", ["--version"], files, out=b"rezkit 0.1.0\n")
+    edge.run("a value is missing", ["rez", "-o"], files, 1, usage % 3)
+    edge.run("a name that isn't ASCII", ["rez", "one.r", "-o", "\u00e9"], files, leaves=[("\u00e9", ONE)])
+    for none in ([b"\xff"], ["rez", "one.r", b"\xc3"], ["rez", b"\xed\xa0\x80", "-o", "x"], ["--version", b"\xff"]):
+        edge.run("a word that isn't UTF-8", none, files, 5, "rezkit: no words\n")
+
+
 def places(edge):
     """Names at which no file can stand."""
     files = {"one.r": SOURCE, "f": ONE, "d": None}
@@ -153,6 +166,7 @@ def limits(edge):
 
 def main():
     edge = Edge(os.path.abspath(sys.argv[1] if len(sys.argv) > 1 else os.path.join(TOP, "crates", "rezkit", "out", "rezkit")))
+    words(edge)
     places(edge)
     leftovers(edge)
     limits(edge)

@@ -28,6 +28,7 @@ from datetime import datetime, timedelta
 
 from forms import form_of, read_form
 from label_forms import FACTS, has_name_or_format, row_by_labels
+from templates import types_of
 
 WORDS = set("""type resource data include read change delete as to not array wide switch case key fill align bit nibble
 byte word long integer longint bitstring boolean char string pstring wstring cstring point rect hex decimal octal binary
@@ -294,9 +295,9 @@ class Reader:
         return {"is": "switch", "cases": cases}
 
 
-def declarations_of(tokens):
-    """The declarations of a program, in their order: type, first id, last id (none for one id), fields."""
-    table, reader = [], Reader([{"derez": "1", "rez": "0"}.get(token.lower(), token) for token in tokens])
+def declarations_of(tokens, first=()):
+    """The declarations of a program behind the first ones, in their order: type, first id, last id (none for one id), fields."""
+    table, reader = list(first), Reader([{"derez": "1", "rez": "0"}.get(token.lower(), token) for token in tokens])
     while reader.peek():
         if not reader.take("type"):
             depth = 0
@@ -323,6 +324,14 @@ def declarations_of(tokens):
             reader.want("}")
         reader.want(";")
         table = [each for each in table if each[:3] != (kind, first, last)] + [(kind, first, last, fields)]
+    return table
+
+
+def templates_of(file):
+    """The declarations of a file with templates, in their order."""
+    table = []
+    for kind, fields in types_of(file):
+        table = [each for each in table if each[0] != kind] + [(kind, None, None, Reader(tokens_of(fields + "}")).fields())]
     return table
 
 
@@ -840,7 +849,7 @@ def resources_of(fork):
 
 def derez(words, files, moment=0):
     """What `derez` with these words shows, so many seconds after the first one of 1970."""
-    names, macros, paths, only, skip, form = [], {}, [], [], [], None
+    names, macros, paths, only, skip, form, templates = [], {}, [], [], [], None, None
     words = list(words)
     while words:
         word = words.pop(0)
@@ -851,14 +860,16 @@ def derez(words, files, moment=0):
             macros.pop(words.pop(0).lower(), None)
         elif word == "-from":
             form = words.pop(0)
+        elif word == "-tmpl":
+            templates = words.pop(0)
         elif word in ("-i", "-only", "-skip", "-s"):
             value = words.pop(0)
             (paths if word == "-i" else only if word == "-only" else skip).append(value)
         elif word != "-rd":
             names.append(word)
-    texts = {name: content.decode() for name, content in files.items() if name != names[0]}
+    texts = {name: content.decode() for name, content in files.items() if name not in (names[0], templates)}
     tokens = [token for name in names[1:] for token in program_of(name, texts, paths, macros)]
-    table = declarations_of(tokens)
+    table = declarations_of(tokens, templates_of(files[templates]) if templates else ())
     only, skip = [[each.encode("mac_roman") for each in kinds] for kinds in (only, skip)]
     fork = read_form(form or form_of(files[names[0]]), files[names[0]]).res
     chosen = [each for each in resources_of(fork) if (not only or each[0] in only) and each[0] not in skip]

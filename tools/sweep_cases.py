@@ -63,6 +63,18 @@ SWEEPS = [
         ("bridge", "derez shows AppleDouble", "folder", 1, 0),
         ("bridge", "derez shows AppleSingle", "folder", 1, 0),
     ]),
+    ("templates: their file is read behind the sources, and before the file that is added to and the fork", [
+        ("tmpl", "strings behind their number are compiled", "folder", 2, 1),
+        ("tmpl", "rez: templates, and a file that is added to", "folder", 3, 1),
+        ("tmpl", "rez: the file of templates is the file that is added to", "folder", 3, 1),
+        ("tmpl", "rez: a broken template, and a read-only file that is added to", "folder", 2, 0),
+        ("tmpl", "strings behind their number", "folder", 2, 0),
+        ("tmpl", "a type in place of a template", "folder", 3, 0),
+        ("tmpl", "templates in macbin", "folder", 2, 0),
+        ("tmpl", "derez: a broken template, and no fork", "folder", 1, 0),
+        ("tmpl", "strings behind their number", "out", LINES, 0),
+        ("tmpl", "a type in place of a template", "err", 1, 30),
+    ]),
     ("det: one read, and one piece of its output", [
         ("det", "a length of 3 and a name at the end of the map", "folder", 1, 0),
         ("det", "in double", "folder", 1, 0),

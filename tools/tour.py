@@ -18,7 +18,7 @@ import sys
 import tempfile
 
 TOP = os.path.abspath(os.path.join(os.path.dirname(os.path.abspath(__file__)), ".."))
-WALKS = (("README.md", "docs/TOUR.md"), ("docs/MESSAGES.md",), ("docs/DAMAGED.md",), ("docs/PORTING.md",))
+WALKS = (("README.md", "docs/TOUR.md"), ("docs/MESSAGES.md",), ("docs/DAMAGED.md",), ("docs/TEMPLATES.md",), ("docs/PORTING.md",))
 TOOLS = ("cpp", "git", "make", "xxd")
 
 
