@@ -22,5 +22,5 @@ mod stock;
 
 pub use applying::apply;
 pub use laws::{every_application, every_catalogue, one_application, one_catalogue};
-pub use listed::{append_entries, catalogue};
+pub use listed::catalogue;
 pub use stays::{entry_faults_are_told, resources_stay};

@@ -99,9 +99,8 @@ pub fn facts_of(alloc: Global, resource: &Resource, moment: Moment) -> Result<Fa
     })
 }
 
-/// Appends the entries for the texts of one resource, of which so much is known, where this template is declared for it, as
-/// `catalogue` does. So resources that are lent can be listed too.
-pub fn append_entries(
+/// Appends the entries for the texts of one resource, of which so much is known, where this template is declared for it.
+fn append_entries(
     alloc: Global,
     template: Option<&Template>,
     facts: &Facts,
