@@ -3,38 +3,34 @@
 //! is a case that is run once for each call that fails in turn.
 //! The status is 1 if one differs or a case file can't be read. The cases are the files `*.cases` of the folder
 //! that is the one argument, else of the current one; README.md has their format.
-//! It rests on `rz_tools` and the folder in memory of `rz_folder`, and is not handed out. A case that is added
-//! changes the file `stdout`.
+//! It rests on `rz_tools`, whose `run` it calls, and on `rz_test_cases`, which has all that doesn't call it, and is not
+//! handed out. A case that is added changes the file `stdout`.
 #![tactic(auto)]
 
-mod case;
-mod compare;
-mod content;
-mod difference;
-mod entry;
-mod group;
-mod keys;
-mod reader;
-mod runner;
-mod sweep;
-mod swept;
-mod tally;
-mod trouble;
-mod watched;
-
-use crate::group::{case_files, run_group};
-use crate::tally::Tally;
 use anyhow::Result;
+use rz_test_cases::{Command, World, run_cases};
+use rz_tools::run;
+use std::alloc::Global;
 use std::env;
 use std::process::ExitCode;
+
+/// The commands of rezkit.
+struct Rezkit;
+
+impl Command for Rezkit {
+    fn run(&self, alloc: Global, words: &[String], world: &mut World) -> u8 {
+        let World {
+            folder,
+            out,
+            err,
+            moment,
+        } = world;
+        run(alloc, words, folder, out, err, *moment).status()
+    }
+}
 
 fn main(rt: HostRuntime) -> Result<ExitCode> {
     let folder = env::args(&rt)?.nth(1);
     let folder = folder.as_ref().map_or(".", |word| word.as_str());
-    let mut tally = Tally::default();
-    for file in &case_files(&rt, folder)? {
-        run_group(&rt, file.as_str(), &mut tally)?;
-    }
-    println!(rt; "{tally}")?;
-    Ok(tally.exit_code())
+    run_cases(&rt, folder, &Rezkit)
 }

@@ -4,19 +4,35 @@ use crate::case::Case;
 use crate::compare::differences;
 use crate::difference::{Difference, What};
 use crate::reader::read_cases;
-use crate::runner::run_case;
+use crate::runner::{Command, run_with};
 use crate::swept::sweep_differs;
 use crate::tally::Tally;
 use crate::trouble::Trouble;
 use anyhow::Result;
 use std::fs;
+use std::process::ExitCode;
 use std::rt::Files;
 
-/// The paths of the case files in a folder, in order.
-pub fn case_files<R: Files + AllocGlobal + Clone + Drop>(
+/// Runs the cases of a folder by this command: those of its files `*.cases`, in the order of their names. It prints each
+/// place in which a run left something else than its case wants, then how many cases there are and how many differ.
+/// It is a success exactly where there are cases and none differs; a case that can't be run counts as one that differs, and
+/// so does a file that isn't one of cases. An error comes where the folder can't be read, nothing can be printed, or memory
+/// for the names of the files is refused.
+pub fn run_cases<R: Files + AllocGlobal + Print + Clone + Drop, C: Command>(
     rt: &R,
     folder: &str,
-) -> Result<Vec<String>> {
+    command: &C,
+) -> Result<ExitCode> {
+    let mut tally = Tally::default();
+    for file in &case_files(rt, folder)? {
+        run_group(rt, command, file.as_str(), &mut tally)?;
+    }
+    println!(rt; "{tally}")?;
+    Ok(tally.exit_code())
+}
+
+/// The paths of the case files in a folder, in order.
+fn case_files<R: Files + AllocGlobal + Clone + Drop>(rt: &R, folder: &str) -> Result<Vec<String>> {
     let mut names = Vec::new(rt.alloc());
     for entry in fs::read_dir(rt, folder)? {
         let entry = entry?;
@@ -30,8 +46,9 @@ pub fn case_files<R: Files + AllocGlobal + Clone + Drop>(
 }
 
 /// Runs the cases of a file, prints what differs, and counts the cases.
-pub fn run_group<R: Files + AllocGlobal + Print>(
+fn run_group<R: Files + AllocGlobal + Print, C: Command>(
     rt: &R,
+    command: &C,
     name: &str,
     tally: &mut Tally,
 ) -> Result<()> {
@@ -44,7 +61,7 @@ pub fn run_group<R: Files + AllocGlobal + Print>(
         }
     };
     for case in &cases {
-        let differs = match print_differences(rt, name, case) {
+        let differs = match print_differences(rt, command, name, case) {
             Ok(differs) => differs,
             Err(error) => {
                 println!(rt; "{name}:{error}")?;
@@ -69,11 +86,16 @@ fn cases_in<R: Files + AllocGlobal>(rt: &R, name: &str) -> Result<Vec<Case>, Tro
 
 /// Runs a case, and says whether it differs: in a place in which it isn't wrong on purpose, or not in one in which it is.
 /// Both are printed. A sweep differs where one of its runs does.
-fn print_differences<R: AllocGlobal + Print>(rt: &R, name: &str, case: &Case) -> Result<bool> {
+fn print_differences<R: AllocGlobal + Print, C: Command>(
+    rt: &R,
+    command: &C,
+    name: &str,
+    case: &Case,
+) -> Result<bool> {
     if let Some(sweep) = &case.sweep {
-        return sweep_differs(rt, name, case, sweep);
+        return sweep_differs(rt, command, name, case, sweep);
     }
-    let ran = run_case(rt.alloc(), case)?;
+    let ran = run_with(rt.alloc(), command, case, case.failures)?;
     let found = differences(rt.alloc(), case, &ran)?;
     let differs = print_unmeant(rt, name, case, &found)?;
     Ok(print_missing(rt, name, case, &found)? || differs)

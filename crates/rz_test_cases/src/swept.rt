@@ -3,7 +3,7 @@
 use crate::case::Case;
 use crate::compare::{add_calls, add_difference, differences, found_in, names_of, status_of};
 use crate::difference::{Difference, Found, What};
-use crate::runner::{Ran, run_with};
+use crate::runner::{Command, Ran, run_with};
 use crate::sweep::{Demand, Files, Held, Sweep};
 use crate::trouble::Trouble;
 use anyhow::Result;
@@ -11,32 +11,34 @@ use std::alloc::Global;
 
 /// Runs a case once for each call that fails in turn, and once more, where none does. Prints what the first run that
 /// differs left otherwise, and says whether there is one.
-pub fn sweep_differs<R: AllocGlobal + Print>(
+pub fn sweep_differs<R: AllocGlobal + Print, C: Command>(
     rt: &R,
+    command: &C,
     name: &str,
     case: &Case,
     sweep: &Sweep,
 ) -> Result<bool> {
     for failed in 0..sweep.calls() {
-        if run_differs(rt, name, case, sweep, failed + 1)? {
+        if run_differs(rt, command, name, case, sweep, failed + 1)? {
             return Ok(true);
         }
     }
-    run_differs(rt, name, case, sweep, sweep.calls() + 1)
+    run_differs(rt, command, name, case, sweep, sweep.calls() + 1)
 }
 
 /// Prints what the run of this number left otherwise than it must, and says whether there is anything.
-fn run_differs<R: AllocGlobal + Print>(
+fn run_differs<R: AllocGlobal + Print, C: Command>(
     rt: &R,
+    command: &C,
     name: &str,
     case: &Case,
     sweep: &Sweep,
     run: u64,
 ) -> Result<bool> {
     let alloc = rt.alloc();
-    let ran = run_with(alloc, case, sweep.failures(run))?;
+    let ran = run_with(alloc, command, case, sweep.failures(run))?;
     let demand = sweep.demand(alloc, case, run)?;
-    let found = if run > sweep.calls() {
+    let found = if sweep.is_last(run) {
         differences(alloc, case, &ran)?
     } else {
         unmet(alloc, case, &ran, &demand)?
@@ -66,11 +68,21 @@ fn unmet<'a>(
     }
     for name in &names_of(alloc, case, ran)? {
         let wanted = found_in(demanded_file(case, ran, demand.files, name));
-        let came = found_in(ran.folder.folder.bytes(name));
+        let came = found_in(ran.world.folder.folder.bytes(name));
         add_difference(&mut found, What::File(name), wanted, came)?;
     }
-    add_stream(&mut found, What::Out, &demand.out, ran.out.sink.bytes())?;
-    add_stream(&mut found, What::Err, &demand.err, ran.err.sink.bytes())?;
+    add_stream(
+        &mut found,
+        What::Out,
+        &demand.out,
+        ran.world.out.sink.bytes(),
+    )?;
+    add_stream(
+        &mut found,
+        What::Err,
+        &demand.err,
+        ran.world.err.sink.bytes(),
+    )?;
     add_calls(&mut found, ran)?;
     Ok(found)
 }
@@ -78,6 +90,7 @@ fn unmet<'a>(
 /// What the name must hold after a run of which a call failed.
 fn demanded_file<'a>(case: &'a Case, ran: &Ran, files: Files, name: &str) -> Option<&'a [u8]> {
     let is_written = ran
+        .world
         .folder
         .written
         .iter()

@@ -1,11 +1,10 @@
-//! A case is run over a folder and streams in memory.
+//! What a run of a case is given: a folder and two streams in memory, and the moment.
 
 use crate::case::{Case, Failures, FolderRoom, Piece, Target};
 use crate::trouble::Trouble;
 use crate::watched::{WatchedFolder, WatchedSink};
 use rz_core::Moment;
 use rz_folder::{MemFolder, MemSink};
-use rz_tools::run;
 use std::alloc::Global;
 
 /// The most bytes of a file.
@@ -23,52 +22,39 @@ const AMPLE_OUT: u32 = 1_000_000;
 /// The room of the stream of messages where a case says nothing of it.
 const AMPLE_ERR: u32 = 100_000;
 
-/// What a run left.
+/// What a run is given, and afterwards what it left.
 #[derive(Drop)]
-pub struct Ran {
-    /// The calls that were to fail.
-    pub failures: Failures,
-    pub status: u8,
+pub struct World {
     pub folder: WatchedFolder,
     pub out: WatchedSink,
     pub err: WatchedSink,
+    /// The moment of the run, which counts as the date of what it writes.
+    pub moment: Moment,
 }
 
-impl Ran {
-    /// How many calls the run made there.
-    pub fn calls(&self, target: Target) -> u64 {
+impl World {
+    /// The world of a case before its run, in which these calls are to fail. `Malformed` comes where the moment is outside
+    /// 1904 to 2039, or a file is too long.
+    pub(crate) fn before(alloc: Global, case: &Case, failures: Failures) -> Result<World, Trouble> {
+        let Some(moment) = Moment::of_unix(case.moment.unwrap_or(0)) else {
+            return Err(flaw(case, "the moment is outside 1904 to 2039"));
+        };
+        Ok(World {
+            folder: WatchedFolder::over(alloc, folder_of(alloc, case, failures.folder)?),
+            out: sink_of(alloc, case.room.out.unwrap_or(AMPLE_OUT), failures.out)?,
+            err: sink_of(alloc, case.room.err.unwrap_or(AMPLE_ERR), failures.err)?,
+            moment,
+        })
+    }
+
+    /// How many calls there were so far of the folder or of a stream.
+    pub(crate) fn calls(&self, target: Target) -> u64 {
         match target {
             Target::Folder => self.folder.calls,
             Target::Out => self.out.calls,
             Target::Err => self.err.calls,
         }
     }
-}
-
-/// Runs the command of a case over a folder and two streams in memory, where the calls fail that the case names.
-pub fn run_case(alloc: Global, case: &Case) -> Result<Ran, Trouble> {
-    run_with(alloc, case, case.failures)
-}
-
-/// Runs the command of a case over a folder and two streams in memory, where these calls fail.
-pub fn run_with(alloc: Global, case: &Case, failures: Failures) -> Result<Ran, Trouble> {
-    let Some(moment) = Moment::of_unix(case.moment.unwrap_or(0)) else {
-        return Err(flaw(case, "the moment is outside 1904 to 2039"));
-    };
-    let mut folder = WatchedFolder::over(alloc, folder_of(alloc, case, failures.folder)?);
-    let mut out = sink_of(alloc, case.room.out.unwrap_or(AMPLE_OUT), failures.out)?;
-    let mut err = sink_of(alloc, case.room.err.unwrap_or(AMPLE_ERR), failures.err)?;
-    let outcome = run(alloc, &case.words, &mut folder, &mut out, &mut err, moment);
-    if folder.is_short {
-        return Err(Trouble::NoMemory);
-    }
-    Ok(Ran {
-        failures,
-        status: outcome.status(),
-        folder,
-        out,
-        err,
-    })
 }
 
 /// The folder before the run.

@@ -71,20 +71,23 @@ impl Sweep {
         u64::from(self.reads) + u64::from(self.puts)
     }
 
-    /// The failures of the run of this number, from 1. In the run after all calls the one that is named never comes.
+    /// Whether the run of this number, from 1, is the one after all calls, in which none fails.
+    pub fn is_last(&self, run: u64) -> bool {
+        run > self.calls()
+    }
+
+    /// The failures of the run of this number, from 1. In the last one the call that is named never comes.
     pub fn failures(&self, run: u64) -> Failures {
-        let mut failures = Failures::default();
-        failures.never = run > self.calls();
         let piece = Piece {
             call: run,
             taken: self.taken,
         };
-        match self.target {
-            Target::Folder => failures.folder = Some(run),
-            Target::Out => failures.out = Some(piece),
-            Target::Err => failures.err = Some(piece),
+        Failures {
+            folder: (self.target == Target::Folder).then_some(run),
+            out: (self.target == Target::Out).then_some(piece),
+            err: (self.target == Target::Err).then_some(piece),
+            never: self.is_last(run),
         }
-        failures
     }
 
     /// What the run of this number must leave, whose call of this number failed: after a read all files as before, no

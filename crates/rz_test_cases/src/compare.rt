@@ -23,12 +23,12 @@ pub fn differences<'a>(
     }
     for name in &names_of(alloc, case, ran)? {
         let wanted = found_in(case.wanted(name));
-        let came = found_in(ran.folder.folder.bytes(name));
+        let came = found_in(ran.world.folder.folder.bytes(name));
         add_difference(&mut found, What::File(name), wanted, came)?;
     }
-    let out = Found::Bytes(ran.out.sink.bytes());
+    let out = Found::Bytes(ran.world.out.sink.bytes());
     add_difference(&mut found, What::Out, stream_of(&case.out), out)?;
-    let err = Found::Bytes(ran.err.sink.bytes());
+    let err = Found::Bytes(ran.world.err.sink.bytes());
     add_difference(&mut found, What::Err, stream_of(&case.err), err)?;
     add_calls(&mut found, ran)?;
     Ok(found)
@@ -43,7 +43,7 @@ pub fn names_of<'a>(alloc: Global, case: &'a Case, ran: &'a Ran) -> Result<Vec<&
     for left in &case.left {
         add_name(&mut names, left.name.as_str())?;
     }
-    for name in &ran.folder.written {
+    for name in &ran.world.folder.written {
         add_name(&mut names, name.as_str())?;
     }
     Ok(names)
@@ -79,7 +79,7 @@ pub fn add_calls(found: &mut Vec<Difference<'_>>, ran: &Ran) -> Result<(), Troub
     let wanted = !ran.failures.never;
     for target in Target::ALL {
         if let Some(call) = ran.failures.call(target) {
-            let comes = call <= ran.calls(target);
+            let comes = call <= ran.world.calls(target);
             if comes != wanted {
                 found.push(Difference {
                     what: What::Call(target),

@@ -19,7 +19,7 @@ pub struct WatchedFolder {
 
 impl WatchedFolder {
     /// The folder, before its first call.
-    pub fn over(alloc: Global, folder: MemFolder) -> WatchedFolder {
+    pub(crate) fn over(alloc: Global, folder: MemFolder) -> WatchedFolder {
         WatchedFolder {
             folder,
             calls: 0,
@@ -77,7 +77,7 @@ pub struct WatchedSink {
 
 impl WatchedSink {
     /// The stream, before its first piece.
-    pub fn over(sink: MemSink) -> WatchedSink {
+    pub(crate) fn over(sink: MemSink) -> WatchedSink {
         WatchedSink { sink, calls: 0 }
     }
 }
